@@ -1,2 +1,4 @@
+pub mod Fields
+pub mod Reciprocal
 pub mod Sets
 pub mod Shape

@@ -1,0 +1,2 @@
+mod ReciprocalLemmas
+pub mod ShapeLemmas

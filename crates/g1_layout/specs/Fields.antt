@@ -1,0 +1,9 @@
+-- What the fields of a layout keep.
+use Rattle.std.specs.Prelude.{◌≡◌, ◌*◌}
+use Rattle.g1_layout.specs.declared.layout.Layout.TheInside.{Inside}
+use Rattle.g1_layout.specs.Shape.{Shape, IsShape}
+
+-- the counts are within the limits, and the slots a region are those of its cards
+pub record AreFields (a : Inside) : Type 0 where
+  pub shape : IsShape (record { regions = a.regions; cards = a.cards; slots = a.slots })
+  pub region_slots : a.region_slots ≡ a.cards * a.slots

@@ -1,0 +1,154 @@
+//! The counts of a heap, and where its slots and cards lie.
+
+ghost use Rattle.std.specs.Prelude.{◌≡◌, ◌*◌, ◌+◌, ◌<◌, ◌≤◌};
+ghost use Rattle.std.specs.Option.{SomeIff};
+ghost use Rattle.g1_layout.specs.Shape.{Shape, IsShape, slot_count, card_count, card_of, region_of, region_of_card};
+
+use crate::numbers::{Card, Region, Slot};
+use crate::reciprocal::Reciprocal;
+use std::marker::Model;
+
+const MAX_REGIONS: u32 = 256;
+const MAX_CARDS: u32 = 256;
+const MAX_SLOTS: u32 = 64;
+const MAX_PLACES: u32 = 1_048_576;
+
+/// How many regions, cards a region and slots a card a heap has, within the limits (docs/PROFILE.md, Limits).
+///
+/// Seven words that are copied freely. Every call is a few instructions, and none divides.
+#[derive(Clone, Copy, Debug)]
+pub struct Layout {
+    regions: u32,
+    cards: Reciprocal,
+    slots: Reciprocal,
+    region_slots: Reciprocal,
+}
+
+impl Model for Layout {
+    ghost use Rattle.std.specs.Prelude.{◌*◌};
+    ghost use Rattle.g1_layout.specs.Shape.{Shape, IsShape};
+
+    ghost Value = { Shape };
+
+    ghost view = { λ a. record { regions = a.regions; cards = a.cards; slots = a.slots } };
+
+    ghost use Rattle.g1_layout.specs.Fields.{AreFields};
+
+    ghost invariant = { AreFields };
+
+    ghost inverse = { λ l. record { regions = l.regions; cards = l.cards; slots = l.slots; region_slots = l.cards * l.slots } };
+
+    ghost use Rattle.std.proofs.Common.{sym};
+
+    ghost inverse_ok = { λ a h. λ i. record { regions = a.regions; cards = a.cards; slots = a.slots; region_slots = sym h.region_slots i } };
+}
+
+impl Layout {
+    /// A layout of so many regions, cards a region and slots a card.
+    ///
+    /// `None` exactly outside the limits: a count of 0, more than 256 regions, 256 cards a region or 64 slots a card,
+    /// or more than 1,048,576 slots in all.
+    pub fn new(regions: u32, cards: u32, slots: u32) -> Option<Layout>
+        ensures { let l : Shape = record { regions = regions; cards = cards; slots = slots } in SomeIff result (IsShape l) l }
+    {
+        if regions < 1 || regions > MAX_REGIONS || cards < 1 || cards > MAX_CARDS || slots < 1 || slots > MAX_SLOTS {
+            return None;
+        }
+        if regions * cards * slots > MAX_PLACES {
+            return None;
+        }
+        Some(Layout {
+            regions,
+            cards: Reciprocal::new(cards),
+            slots: Reciprocal::new(slots),
+            region_slots: Reciprocal::new(cards * slots),
+        })
+    }
+
+    /// The counts that the layout was made with: regions, cards a region, slots a card. They are within the limits.
+    pub fn counts(&self) -> (u32, u32, u32)
+        ensures regions { result.0 ≡ self.now.regions }
+        ensures cards { result.1 ≡ self.now.cards }
+        ensures slots { result.2 ≡ self.now.slots }
+        ensures shape { IsShape self.now }
+    {
+        (self.regions, self.cards.divisor(), self.slots.divisor())
+    }
+
+    /// The slot of this number. `None` exactly where the heap has no such slot.
+    pub fn slot(&self, number: u32) -> Option<Slot>
+        ensures { SomeIff result (number < slot_count self.now) number }
+    {
+        if number < self.regions * self.cards.divisor() * self.slots.divisor() {
+            Some(Slot { number })
+        } else {
+            None
+        }
+    }
+
+    /// The card of this number. `None` exactly where the heap has no such card.
+    pub fn card(&self, number: u32) -> Option<Card>
+        ensures { SomeIff result (number < card_count self.now) number }
+    {
+        if number < self.regions * self.cards.divisor() {
+            Some(Card { number })
+        } else {
+            None
+        }
+    }
+
+    /// The region of this number. `None` exactly where the heap has no such region.
+    pub fn region(&self, number: u32) -> Option<Region>
+        ensures { SomeIff result (number < self.now.regions) number }
+    {
+        if number < self.regions {
+            Some(Region { number })
+        } else {
+            None
+        }
+    }
+
+    /// The card that a slot of this heap lies on: the slot's number by the slots a card, rounded down.
+    pub fn card_of(&self, slot: Slot) -> Card
+        requires { slot < slot_count self.now }
+        ensures quotient { result ≡ card_of self.now slot }
+        ensures within { result < card_count self.now }
+    {
+        Card {
+            number: self.slots.quotient(slot.number),
+        }
+    }
+
+    /// The region that a slot of this heap lies in: the slot's number by the slots a region, rounded down.
+    pub fn region_of(&self, slot: Slot) -> Region
+        requires { slot < slot_count self.now }
+        ensures quotient { result ≡ region_of self.now slot }
+        ensures within { result < self.now.regions }
+    {
+        Region {
+            number: self.region_slots.quotient(slot.number),
+        }
+    }
+
+    /// The region that a card of this heap lies in: the card's number by the cards a region, rounded down.
+    pub fn region_of_card(&self, card: Card) -> Region
+        requires { card < card_count self.now }
+        ensures quotient { result ≡ region_of_card self.now card }
+        ensures within { result < self.now.regions }
+    {
+        Region {
+            number: self.cards.quotient(card.number),
+        }
+    }
+
+    /// The first slot of a card of this heap. All the slots of the card follow it, and the heap has them all.
+    pub fn first_slot(&self, card: Card) -> Slot
+        requires { card < card_count self.now }
+        ensures first { result ≡ card * self.now.slots }
+        ensures room { result + self.now.slots ≤ slot_count self.now }
+    {
+        Slot {
+            number: card.number * self.slots.divisor(),
+        }
+    }
+}

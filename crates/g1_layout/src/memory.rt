@@ -1,0 +1,24 @@
+//! The one error of want of memory, for every crate of the machinery.
+
+use std::alloc::{AllocError, AllocFailed};
+use thiserror::Error;
+
+/// A growth was refused (docs/PROFILE.md, No memory). It is answered for no other reason.
+///
+/// `?` makes it of the allocator's own errors. A call that answers it says what it left unchanged.
+#[derive(Clone, Copy, Debug, PartialEq, Eq, Error)]
+#[error("no memory")]
+pub struct NoMemory;
+
+impl From<AllocError> for NoMemory {
+    fn from(_: AllocError) -> Self {
+        NoMemory
+    }
+}
+
+/// The value that found no room is let go.
+impl<T: Drop> From<AllocFailed<T>> for NoMemory {
+    fn from(_: AllocFailed<T>) -> Self {
+        NoMemory
+    }
+}
