@@ -9,8 +9,11 @@ use crate::reciprocal::Reciprocal;
 use std::marker::Model;
 
 const MAX_REGIONS: u32 = 256;
+
 const MAX_CARDS: u32 = 256;
+
 const MAX_SLOTS: u32 = 64;
+
 const MAX_PLACES: u32 = 1_048_576;
 
 /// How many regions, cards a region and slots a card a heap has, within the limits (docs/PROFILE.md, Limits).
@@ -51,7 +54,13 @@ impl Layout {
     pub fn new(regions: u32, cards: u32, slots: u32) -> Option<Layout>
         ensures { let l : Shape = record { regions = regions; cards = cards; slots = slots } in SomeIff result (IsShape l) l }
     {
-        if regions < 1 || regions > MAX_REGIONS || cards < 1 || cards > MAX_CARDS || slots < 1 || slots > MAX_SLOTS {
+        if regions < 1
+            || regions > MAX_REGIONS
+            || cards < 1
+            || cards > MAX_CARDS
+            || slots < 1
+            || slots > MAX_SLOTS
+        {
             return None;
         }
         if regions * cards * slots > MAX_PLACES {
