@@ -4,8 +4,10 @@ ghost use Rattle.std.specs.Prelude.{◌≡◌, ◌*◌, ◌+◌, ◌<◌, ◌≤
 ghost use Rattle.std.specs.Option.{SomeIff};
 ghost use Rattle.g1_layout.specs.Shape.{Shape, IsShape, slot_count, card_count, card_of, region_of, region_of_card};
 
-use crate::numbers::{Card, Region, Slot};
+use crate::card::Card;
 use crate::reciprocal::Reciprocal;
+use crate::region::Region;
+use crate::slot::Slot;
 use std::marker::Model;
 
 const MAX_REGIONS: u32 = 256;
@@ -54,16 +56,10 @@ impl Layout {
     pub fn new(regions: u32, cards: u32, slots: u32) -> Option<Layout>
         ensures { let l : Shape = record { regions = regions; cards = cards; slots = slots } in SomeIff result (IsShape l) l }
     {
-        if regions < 1
-            || regions > MAX_REGIONS
-            || cards < 1
-            || cards > MAX_CARDS
-            || slots < 1
-            || slots > MAX_SLOTS
-        {
-            return None;
-        }
-        if regions * cards * slots > MAX_PLACES {
+        let counts_within = (1..=MAX_REGIONS).contains(&regions)
+            && (1..=MAX_CARDS).contains(&cards)
+            && (1..=MAX_SLOTS).contains(&slots);
+        if !counts_within || regions * cards * slots > MAX_PLACES {
             return None;
         }
         Some(Layout {

@@ -7,16 +7,20 @@
 //! Nothing here takes memory, and no call waits for anybody.
 #![tactic(auto)]
 
+mod card;
 mod kind;
 mod layout;
 mod memory;
-mod numbers;
 mod reciprocal;
+mod region;
+mod slot;
 
+pub use card::Card;
 pub use kind::Kind;
 pub use layout::Layout;
 pub use memory::NoMemory;
-pub use numbers::{Card, Region, Slot};
+pub use region::Region;
+pub use slot::Slot;
 
 #[cfg(test)]
 mod tests;

@@ -1,0 +1,32 @@
+//! The number of a card.
+
+ghost use Rattle.std.specs.Prelude.{◌≡◌};
+
+use std::marker::Model;
+
+/// A card: some slots in a row, with one entry in the card table.
+///
+/// A layout makes it ([`Layout::card`](crate::Layout::card)); the default is number 0, which every layout has.
+#[derive(Clone, Copy, Debug, Default, PartialEq, Eq, PartialOrd, Ord, Hash)]
+pub struct Card {
+    pub(crate) number: u32,
+}
+
+impl Model for Card {
+    ghost use Rattle.std.specs.Prelude.{ℕ};
+
+    ghost Value = { ℕ };
+
+    ghost view = { λ c. c.number };
+
+    ghost inverse = { λ n. record { number = n } };
+}
+
+impl Card {
+    /// The number among the cards of the heap, from 0 in the order of the heap.
+    pub fn number(self) -> u32
+        ensures { result ≡ self }
+    {
+        self.number
+    }
+}

@@ -1,0 +1,32 @@
+//! The number of a region.
+
+ghost use Rattle.std.specs.Prelude.{◌≡◌};
+
+use std::marker::Model;
+
+/// A region: some cards in a row, with one remembered set.
+///
+/// A layout makes it ([`Layout::region`](crate::Layout::region)); the default is number 0, which every layout has.
+#[derive(Clone, Copy, Debug, Default, PartialEq, Eq, PartialOrd, Ord, Hash)]
+pub struct Region {
+    pub(crate) number: u32,
+}
+
+impl Model for Region {
+    ghost use Rattle.std.specs.Prelude.{ℕ};
+
+    ghost Value = { ℕ };
+
+    ghost view = { λ r. r.number };
+
+    ghost inverse = { λ n. record { number = n } };
+}
+
+impl Region {
+    /// The number among the regions of the heap, from 0 in the order of the heap.
+    pub fn number(self) -> u32
+        ensures { result ≡ self }
+    {
+        self.number
+    }
+}

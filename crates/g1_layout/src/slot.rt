@@ -1,0 +1,32 @@
+//! The number of a slot.
+
+ghost use Rattle.std.specs.Prelude.{◌≡◌};
+
+use std::marker::Model;
+
+/// A slot of the heap, which holds one reference or null. As the target of a reference it is a place.
+///
+/// A layout makes it ([`Layout::slot`](crate::Layout::slot)); the default is number 0, which every layout has.
+#[derive(Clone, Copy, Debug, Default, PartialEq, Eq, PartialOrd, Ord, Hash)]
+pub struct Slot {
+    pub(crate) number: u32,
+}
+
+impl Model for Slot {
+    ghost use Rattle.std.specs.Prelude.{ℕ};
+
+    ghost Value = { ℕ };
+
+    ghost view = { λ s. s.number };
+
+    ghost inverse = { λ n. record { number = n } };
+}
+
+impl Slot {
+    /// The number among the slots of the heap, from 0 in the order of the heap.
+    pub fn number(self) -> u32
+        ensures { result ≡ self }
+    {
+        self.number
+    }
+}
