@@ -81,6 +81,9 @@ same_offset_below l to place some less =
     let rest : place % (l.cards * l.slots) < l.cards * l.slots = omega arith in
     omega (arith, rest, region_ends_within l to less)
 
--- no heap has more cards than slots
+-- how many cards there are
 pub card_count_le : (l : Shape) → IsShape l → card_count l ≤ slot_count l
 card_count_le l shape = omega (arith, mul-le-mul_left (card_count l) shape.slots_low)
+
+pub card_count_limit : (l : Shape) → IsShape l → card_count l ≤ 65536
+card_count_limit l shape = mul-le l.regions l.cards 256 256 shape.regions_high shape.cards_high

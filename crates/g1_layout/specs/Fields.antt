@@ -1,7 +1,7 @@
 -- What the fields of a layout keep.
 use Rattle.std.specs.Prelude.{◌≡◌, ◌*◌}
 use Rattle.g1_layout.specs.declared.layout.Layout.TheInside.{Inside}
-use Rattle.g1_layout.specs.Shape.{Shape, IsShape}
+use Rattle.g1_layout.specs.Shape.{IsShape}
 
 -- the counts are within the limits, and the slots a region are those of its cards
 pub record AreFields (a : Inside) : Type 0 where

@@ -18,9 +18,10 @@ const MAX_SLOTS: u32 = 64;
 
 const MAX_PLACES: u32 = 1_048_576;
 
-/// How many regions, cards a region and slots a card a heap has, within the limits (docs/PROFILE.md, Limits).
+/// How many regions, cards a region and slots a card a heap has (docs/PROFILE.md, Limits), and so where each slot and
+/// card lies (docs/PROFILE.md, Geometry; regions of equal size are those of the ISMM 2004 paper, section 2.1).
 ///
-/// Seven words that are copied freely. Every call is a few instructions, and none divides.
+/// Seven words that are copied freely. Every call is a few instructions and takes no memory; none but `new` divides.
 #[derive(Clone, Copy, Debug)]
 pub struct Layout {
     regions: u32,
@@ -70,7 +71,7 @@ impl Layout {
         })
     }
 
-    /// The counts that the layout was made with: regions, cards a region, slots a card. They are within the limits.
+    /// The counts that the layout was made with, which are within the limits: regions, cards a region, slots a card.
     pub fn counts(&self) -> (u32, u32, u32)
         ensures regions { result.0 ≡ self.now.regions }
         ensures cards { result.1 ≡ self.now.cards }
@@ -80,7 +81,7 @@ impl Layout {
         (self.regions, self.cards.divisor(), self.slots.divisor())
     }
 
-    /// The slot of this number. `None` exactly where the heap has no such slot.
+    /// The slot of this number, from 0. `None` exactly where the heap has no such slot.
     pub fn slot(&self, number: u32) -> Option<Slot>
         ensures { SomeIff result (number < slot_count self.now) number }
     {
@@ -91,7 +92,7 @@ impl Layout {
         }
     }
 
-    /// The card of this number. `None` exactly where the heap has no such card.
+    /// The card of this number, from 0. `None` exactly where the heap has no such card.
     pub fn card(&self, number: u32) -> Option<Card>
         ensures { SomeIff result (number < card_count self.now) number }
     {
@@ -102,7 +103,7 @@ impl Layout {
         }
     }
 
-    /// The region of this number. `None` exactly where the heap has no such region.
+    /// The region of this number, from 0. `None` exactly where the heap has no such region.
     pub fn region(&self, number: u32) -> Option<Region>
         ensures { SomeIff result (number < self.now.regions) number }
     {

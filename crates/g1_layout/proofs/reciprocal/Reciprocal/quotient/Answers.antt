@@ -1,4 +1,4 @@
-use Rattle.std.proofs.Common.{◌∙◌, ap, ◌*◌, ◌/◌, ◌<◌, ℕ, sym}
+use Rattle.std.proofs.Common.{◌∙◌, ap, ◌*◌, ◌/◌, ℕ}
 use Rattle.g1_layout.proofs.ReciprocalLemmas.{quotient_is}
 use Rattle.g1_layout.proofs.reciprocal.Reciprocal.quotient.Goals as goal
 
