@@ -11,7 +11,7 @@ use Rattle.g1_layout.specs.Shape.{Shape, slot_count, card_count, region_of_card}
 use Rattle.g1_heap.specs.declared.mark.Mark.{Mark}
 use Rattle.g1_heap.specs.declared.mark.Mark.TheVariants.{Clean}
 use Rattle.g1_heap.specs.Cells.{AreCells, Cells, HoldsIn, new_cells, with_ref, with_mark}
-use Rattle.g1_heap.specs.Stored.{AreStored, ref_of, mark_of, RefersInto, Adds}
+use Rattle.g1_heap.specs.Stored.{AreStored, ref_of, mark_of}
 
 map_replicate : {A B : Type 0} (f : A → B) (n : ℕ) (x : A) → map f (replicate n x) ≡ replicate n (f x)
 map_replicate f zero x = refl
@@ -78,66 +78,3 @@ marked l words bytes reads card at byte mark c is e made =
 pub read_ref : (l : Shape) (words bytes : List ℕ) (reads slot at : ℕ) (target : Option ℕ) (c : Cells) → ◌≡◌ {A = Cells} (record { layout = l; refs = map (ref_of l) words; marks = map mark_of bytes; reads = reads }) c → at ≡ slot → at < length words → SomeIff target (get_or words at 0 < slot_count l) (get_or words at 0) → target ≡ get_or c.refs slot None
 read_ref l words bytes reads slot at target c is e below h =
     ref_of-slot l (get_or words at 0) target h ∙ sym (get_or-map (ref_of l) words at 0 None below) ∙ (λ i. get_or (is i).refs (e i) None)
-
--- the regions of a card after its first i slots, which row has
-pub record IsCollectedUpTo (l : Shape) (own i : ℕ) (row regions : List ℕ) : Type 0 where
-  pub only : (r : ℕ) → Contains regions r → (k : ℕ) × (k < length row) × RefersInto l own (ref_of l (get_or row k 0)) r
-  pub gained : (r k : ℕ) → k < i → RefersInto l own (ref_of l (get_or row k 0)) r → Contains regions r
-
-pub collected_none : (l : Shape) (own : ℕ) (row regions : List ℕ) → regions ≡ [] → IsCollectedUpTo l own 0 row regions
-collected_none l own row regions none = subst (IsCollectedUpTo l own 0 row) (sym none) (record { only = λ r (k, lt, e). absurd (omega arith); gained = λ r k lt m. absurd (omega arith) })
-
-pub collected_more : (l : Shape) (own i : ℕ) (row old new : List ℕ) (word : ℕ) (target : Option ℕ) → i < length row → word ≡ get_or row i 0 → target ≡ ref_of l word → IsCollectedUpTo l own i row old → Adds l own target old new → IsCollectedUpTo l own (i + 1) row new
-collected_more l own i row old new word target below read made h r =
-    let is : target ≡ ref_of l (get_or row i 0) = made ∙ ap (ref_of l) read in
-    record {
-      only = λ q c. elim ((r q).0 c) [
-        | inl c' ↦ h.only q c'
-        | inr m ↦ (i, below, subst (λ o. RefersInto l own o q) is m)
-      ];
-      gained = λ q k lt m. elim (cases_lt k i) [
-        | inl before ↦ (r q).1 (inl (h.gained q k before m))
-        | inr at ↦ let e : k ≡ i = omega arith in
-            (r q).1 (inr (subst (λ o. RefersInto l own o q) (sym is) (subst (λ k. RefersInto l own (ref_of l (get_or row k 0)) q) e m)))
-      ];
-    }
-
--- the slots of a card
-module _ (l : Shape) (words : List ℕ) (card own first n : ℕ) (home : own ≡ region_of_card l card) (starts : first ≡ card * l.slots) (many : n ≡ l.slots) (some : 0 < l.slots) (room : first + n ≤ length words) where
-  abbrev row_of : List ℕ
-  row_of = take (first + n - first) (drop first words)
-
-  row_length : length row_of ≡ n
-  row_length = omega (arith, length-take (first + n - first) (drop first words), length-drop first words)
-
-  row_at : (k : ℕ) → k < n → ref_of l (get_or row_of k 0) ≡ get_or (map (ref_of l) words) (first + k) None
-  row_at k lt =
-      let few : k < first + n - first = omega arith in
-      let inside : first + k < length words = omega arith in
-      ap (ref_of l) (get_or-take (first + n - first) (drop first words) k 0 few ∙ get_or-drop first words k 0) ∙ sym (get_or-map (ref_of l) words (first + k) 0 None inside)
-
-  holds_from_row : (region k : ℕ) → k < n → RefersInto l own (ref_of l (get_or row_of k 0)) region → HoldsIn l (map (ref_of l) words) card region
-  holds_from_row region k lt m =
-      let few : k < l.slots = omega arith in
-      record {
-        slot = first + k;
-        place = m.place;
-        on_card = ap (λ (f : ℕ). (f + k) / l.slots) starts ∙ div-mul-add card l.slots k few;
-        refers = sym (row_at k lt) ∙ m.refers;
-        into = m.into;
-        outside = λ e. m.outside (home ∙ e);
-      }
-
-  row_from_holds : (region : ℕ) → HoldsIn l (map (ref_of l) words) card region → (k : ℕ) × (k < n) × RefersInto l own (ref_of l (get_or row_of k 0)) region
-  row_from_holds region h =
-      let low : card * l.slots ≤ h.slot = subst (λ c. c * l.slots ≤ h.slot) h.on_card (div-mul-le_self h.slot l.slots) in
-      let high : h.slot < card * l.slots + l.slots = subst (λ c. h.slot < c * l.slots + l.slots) h.on_card (lt-div-mul-add {a = h.slot} some) in
-      let lt : h.slot - first < n = omega arith in
-      let at : first + (h.slot - first) ≡ h.slot = omega arith in
-      (h.slot - first, lt, record { place = h.place; refers = row_at (h.slot - first) lt ∙ ap (λ s. get_or (map (ref_of l) words) s None) at ∙ h.refers; into = h.into; outside = λ e. h.outside (sym home ∙ e) })
-
-  pub collected_all : (i : ℕ) (regions : List ℕ) → length row_of ≤ i → IsCollectedUpTo l own i row_of regions → (r : ℕ) → Contains regions r ↔ HoldsIn l (map (ref_of l) words) card r
-  collected_all i regions all h r = (
-    λ c. let m = h.only r c in holds_from_row r m.0 (omega (arith, m.1, row_length)) m.2,
-    λ m. let k = row_from_holds r m in h.gained r k.0 (omega (arith, k.1, row_length)) k.2,
-  )

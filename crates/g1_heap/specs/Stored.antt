@@ -1,6 +1,6 @@
 -- How a heap is kept: a word a slot and a byte a card, and what they stand for.
-use Rattle.std.specs.Prelude.{◌≡◌, ◌≢◌, ℕ, zero, suc, List, Option, Some, None, length, if◌then◌else◌, nat_lt, Contains, ◌⊎◌, ◌↔◌}
-use Rattle.g1_layout.specs.Shape.{Shape, IsShape, slot_count, card_count, region_of}
+use Rattle.std.specs.Prelude.{◌≡◌, ℕ, zero, suc, List, Option, Some, None, length, if◌then◌else◌, nat_lt}
+use Rattle.g1_layout.specs.Shape.{Shape, IsShape, slot_count, card_count}
 use Rattle.g1_heap.specs.declared.mark.Mark.{Mark}
 use Rattle.g1_heap.specs.declared.mark.Mark.TheVariants.{Clean, Dirty, Held}
 
@@ -18,14 +18,3 @@ pub record AreStored (l : Shape) (words bytes : List ℕ) : Type 0 where
   pub shape : IsShape l
   pub slots : length words ≡ slot_count l
   pub cards : length bytes ≡ card_count l
-
--- a slot with this target refers into the region, which is another than the card's
-pub record RefersInto (l : Shape) (own : ℕ) (target : Option ℕ) (region : ℕ) : Type 0 where
-  pub place : ℕ
-  pub refers : target ≡ Some place
-  pub into : region_of l place ≡ region
-  pub outside : own ≢ region
-
--- the regions are those from before, and the one that the target makes
-abbrev pub Adds : Shape → ℕ → Option ℕ → List ℕ → List ℕ → Type 0
-Adds l own target old new = (r : ℕ) → Contains new r ↔ (Contains old r ⊎ RefersInto l own target r)

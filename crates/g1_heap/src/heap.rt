@@ -2,6 +2,7 @@
 ghost use Rattle.std.specs.Prelude.{◌≡◌, ◌<◌, ◌≤◌, ◌↔◌, ℕ, None, Contains, IfSome, IfOk, MatchOption, slice_index_or};
 ghost use Rattle.g1_layout.specs.Shape.{slot_count, card_count};
 ghost use Rattle.g1_heap.specs.Cells.{AreCells, with_ref, with_mark, with_reads, new_cells, HoldsIn, HasNoDirty, IsFirstDirty};
+ghost use Rattle.g1_heap.specs.Targets.{AreTargets};
 
 use crate::mark::{CLEAN, DIRTY, Mark};
 use crate::targets::targets_of;
@@ -85,6 +86,7 @@ impl Heap {
     /// The other regions into which the card's slots refer.
     pub fn targets(&mut self, card: Card) -> ArrayVec<Region, 64>
         requires { card < card_count self.old.layout }
+        ensures regions { AreTargets self.old.layout self.old.refs card result.items }
         ensures holds { (region : ℕ) → Contains result.items region ↔ HoldsIn self.old.layout self.old.refs card region }
         ensures reads { self.new ≡ with_reads self.old self.old.layout.slots }
     {

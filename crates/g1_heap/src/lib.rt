@@ -5,6 +5,7 @@
 
 mod heap;
 mod mark;
+mod region_set;
 mod targets;
 
 pub use heap::Heap;
