@@ -1,0 +1,7 @@
+use Rattle.std.proofs.Common.{subst}
+use Rattle.g1_heap.specs.Cells.{AreCells}
+use Rattle.g1_heap.proofs.CellLemmas.{cells_from}
+use Rattle.g1_heap.proofs.heap.Heap.layout.Goals as goal
+
+pub returns-clause-cells : goal.returns-clause-cells
+returns-clause-cells c = subst AreCells c.self.view_is (cells_from c.self.inside.layout c.self.inside.words.items c.self.inside.bytes.items c.self.inside.reads c.self.invariant)

@@ -1,0 +1,14 @@
+use Rattle.std.proofs.Common.{ap, ◌∙◌, arith, map}
+use Rattle.g1_layout.specs.Shape.{card_count}
+use Rattle.g1_heap.specs.Cells.{Cells}
+use Rattle.g1_heap.specs.Stored.{mark_of}
+use Rattle.g1_heap.proofs.DirtyLemmas.{none_next, some_next}
+use Rattle.g1_heap.proofs.heap.Heap.next_dirty.Goals as goal
+
+pub returns-in_err-clean : goal.returns-in_err-clean
+returns-in_err-clean c = none_next c.args.self.now.marks c.deref.result.now c.args.from c.from_residual.result c.from_residual.ensures
+    (ap (map mark_of) c.deref.ensures.value ∙ ap (λ (d : Cells). d.marks) c.self.view_is) c.in_err-clean.ensures
+
+pub returns : goal.returns
+returns c = some_next c.args.self.now.marks c.deref.result.now c.args.from c.in_ok-clean.clean (card_count c.self.inside.layout) c.card.result c.card.ensures (omega arith)
+    (ap (map mark_of) c.deref.ensures.value ∙ ap (λ (d : Cells). d.marks) c.self.view_is) c.in_ok-clean.ensures

@@ -1,0 +1,4 @@
+pub mod Cells
+pub mod Regions
+pub mod Stored
+pub mod Targets
