@@ -1,5 +1,5 @@
 //! The counts and the ring.
-ghost use Rattle.std.specs.Prelude.{◌≡◌, ◌<◌, ◌≤◌, ◌==◌, Contains, IfOk, length, slice_get};
+ghost use Rattle.std.specs.Prelude.{◌≡◌, ◌<◌, ◌≤◌, ◌==◌, ◌↔◌, Contains, IfOk, IsTrue, length, slice_get};
 ghost use Rattle.g1_hot.specs.Ring.{answer, offered, popped, reset, new_ring, IsRing};
 
 use crate::offer::Offer;
@@ -17,6 +17,9 @@ pub struct Hot {
     ring: HeapCircularBuffer<Card>,
     limit: u8,
 }
+
+#[cfg(test)]
+mod tests;
 
 impl Model for Hot {
     ghost use Rattle.g1_hot.specs.Ring.{Ring, ring_code, ring_of, IsRing};
@@ -104,6 +107,13 @@ impl Hot {
         ensures ring { self.new ≡ popped self.old }
     {
         self.ring.pop_front()
+    }
+
+    /// Whether the card stands in the ring. Time in the number of cards in the ring.
+    pub fn contains(&self, card: Card) -> bool
+        ensures { IsTrue result ↔ Contains self.now.cards card }
+    {
+        self.ring.iter().any(|kept| *kept == card)
     }
 
     /// How many cards stand in the ring, at most its capacity. Constant time.
