@@ -1,0 +1,141 @@
+//! The counts and the ring.
+ghost use Rattle.std.specs.Prelude.{◌≡◌, ◌<◌, ◌≤◌, ◌==◌, ◌↔◌, Contains, IfOk, IsTrue, length, slice_get};
+ghost use Rattle.g1_hot.specs.Ring.{answer, offered, popped, reset, new_ring, IsRing};
+
+use crate::offer::Offer;
+use circular_buffer::HeapCircularBuffer;
+use g1_layout::{Card, Layout, NoMemory};
+use std::alloc::Global;
+use std::marker::Model;
+
+/// How often each card was refined, up to the hot limit, and the ring of hot cards.
+///
+/// A count takes one byte a card. After `new` no call takes memory.
+#[derive(Drop)]
+pub struct Hot {
+    counts: Vec<u8>,
+    ring: HeapCircularBuffer<Card>,
+    limit: u8,
+}
+
+#[cfg(test)]
+mod tests;
+
+impl Model for Hot {
+    ghost use Rattle.g1_hot.specs.Ring.{Ring, ring_code, ring_of, IsRing};
+
+    ghost Value = { Ring };
+
+    ghost coded = { ring_code };
+
+    ghost view = { λ a. ring_of a.counts.items a.ring a.limit };
+
+    ghost invariant = { λ a. IsRing (ring_of a.counts.items a.ring a.limit) };
+}
+
+impl Hot {
+    /// Every card of the layout with count 0, and an empty ring.
+    ///
+    /// `limit` is the count from which on a card is hot (0 makes every card hot), and `capacity` is how many cards the
+    /// ring holds at most (docs/PROFILE.md, Hotness). `NoMemory` where the room for the counts or the ring was refused;
+    /// what was taken is given back. Takes one byte a card and the room of the whole ring; time in the number of cards.
+    pub fn new(alloc: Global, layout: Layout, limit: u32, capacity: u32) -> Result<Hot, NoMemory>
+        requires limit { limit ≤ 255 }
+        requires some { 1 ≤ capacity }
+        requires most { capacity ≤ 4096 }
+        ensures { IfOk result (λ hot. hot ≡ new_ring layout limit capacity) }
+    {
+        let (regions, cards, _) = layout.counts();
+        let counts = vec![in alloc; 0; (regions * cards) as usize]?;
+        let ring = HeapCircularBuffer::with_capacity(alloc, capacity as usize)?;
+        Ok(Hot {
+            counts,
+            ring,
+            limit: limit as u8,
+        })
+    }
+
+    /// What `offer` would answer to the card. Nothing changes. Constant time.
+    pub fn would(&self, card: Card) -> Offer
+        requires { card < length self.now.counts }
+        ensures answer { result ≡ answer self.now card }
+        ensures kept { IsRing self.now }
+    {
+        if self.counts[card.number() as usize] < self.limit {
+            return Offer::Cold;
+        }
+        match self.ring.front() {
+            Some(oldest) if self.ring.is_full() => Offer::Out(*oldest),
+            _ => Offer::Kept,
+        }
+    }
+
+    /// Counts a refinement of the card, and where the card is hot puts it last into the ring.
+    ///
+    /// A card is hot where it was refined `limit` times before this time. Its count rises by one, and stops at the limit.
+    /// Where the ring was full, its oldest card leaves it and is handed out (docs/PROFILE.md, Hotness). The card must not
+    /// stand in the ring. Constant time.
+    pub fn offer(&mut self, card: Card) -> Offer
+        requires within { card < length self.old.counts }
+        requires absent { Contains self.old.cards card → ⊥ }
+        ensures answer { result ≡ answer self.old card }
+        ensures ring { self.new ≡ offered self.old card }
+    {
+        let count = &mut self.counts[card.number() as usize];
+        if *count < self.limit {
+            *count += 1;
+            return Offer::Cold;
+        }
+        match self.ring.push_back(card) {
+            None => Offer::Kept,
+            Some(oldest) => Offer::Out(oldest),
+        }
+    }
+
+    /// The card that has stood in the ring the longest, `None` exactly where the ring is empty. Constant time.
+    pub fn oldest(&self) -> Option<Card>
+        ensures card { result ≡ slice_get self.now.cards 0 }
+        ensures kept { IsRing self.now }
+    {
+        self.ring.front().copied()
+    }
+
+    /// Takes the card out of the ring that has stood there the longest, `None` exactly where the ring is empty. The counts
+    /// stay. Constant time.
+    pub fn pop_oldest(&mut self) -> Option<Card>
+        ensures card { result ≡ slice_get self.old.cards 0 }
+        ensures ring { self.new ≡ popped self.old }
+    {
+        self.ring.pop_front()
+    }
+
+    /// Whether the card stands in the ring. Time in the number of cards in the ring.
+    pub fn contains(&self, card: Card) -> bool
+        ensures { IsTrue result ↔ Contains self.now.cards card }
+    {
+        self.ring.iter().any(|kept| *kept == card)
+    }
+
+    /// How many cards stand in the ring, at most its capacity. Constant time.
+    pub fn len(&self) -> usize
+        ensures len { result ≡ length self.now.cards }
+        ensures kept { IsRing self.now }
+    {
+        self.ring.len()
+    }
+
+    /// Whether no card stands in the ring. Constant time.
+    pub fn is_empty(&self) -> bool
+        ensures { result ≡ (length self.now.cards == 0) }
+    {
+        self.ring.is_empty()
+    }
+
+    /// Sets the count of every card to 0, as at the end of a pause's drain (docs/PROFILE.md, Hotness). The ring stays. One
+    /// pass over the counts.
+    pub fn reset_counts(&mut self)
+        ensures { self.new ≡ reset self.old }
+    {
+        self.counts.fill(0);
+    }
+}
