@@ -7,6 +7,8 @@
 mod buffer;
 mod done;
 mod log;
+#[cfg(test)]
+mod samples;
 
 pub use buffer::Buffer;
 pub use done::{Done, Why};
