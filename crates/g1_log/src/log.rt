@@ -71,7 +71,8 @@ impl Log {
 
     /// Appends a card. Where that fills the log its cards are handed out as a completed buffer, and it is empty.
     ///
-    /// Otherwise it is a store into a fixed array and a compare. The hand-over moves 1,032 bytes.
+    /// A push is a store into a fixed array and a compare. A hand-over also moves 1,032 bytes out and fills the log's
+    /// places anew.
     pub fn push(&mut self, card: Card) -> Option<Buffer>
         ensures buffer { result ≡ handed self.old card }
         ensures log { self.new ≡ pushed self.old card }
@@ -80,7 +81,8 @@ impl Log {
         if self.cards.len() < self.size {
             return None;
         }
-        Some(Buffer::of(self.cards.take()))
+        let filled = self.cards.take();
+        Some(Buffer::of(filled))
     }
 
     /// Hands out the cards as a completed buffer, where there are any. The log is then empty.
