@@ -1,0 +1,49 @@
+//! Completed buffers.
+ghost use Rattle.std.specs.Prelude.{◌≡◌, ◌≤◌, length, drop};
+
+use arrayvec::ArrayVec;
+use g1_layout::Card;
+use std::marker::Model;
+use std::mem;
+
+/// A completed buffer: the cards of a log, oldest first, at most 256 of them and possibly none.
+///
+/// Contracts see the list of the cards' numbers. The cards lie in the value itself: a move copies 1,032 bytes, and
+/// no call takes memory (ISMM 2004, section 2.2, Remembered Set Maintenance).
+#[derive(Debug, Drop)]
+pub struct Buffer {
+    cards: ArrayVec<Card, 256>,
+}
+
+impl Model for Buffer {
+    ghost use Rattle.std.specs.Prelude.{List, ℕ, ◌≤◌, length};
+
+    ghost Value = { List ℕ };
+
+    ghost view = { λ b. b.cards.items };
+}
+
+impl Buffer {
+    /// The buffer of these cards, oldest first. It may have none.
+    pub fn of(cards: ArrayVec<Card, 256>) -> Buffer
+        ensures { result ≡ cards.items }
+    {
+        Buffer { cards }
+    }
+
+    /// The cards, oldest first: at most 256.
+    pub fn cards(&self) -> &[Card]
+        ensures cards { result.now ≡ self.now }
+        ensures few { length result.now ≤ 256 }
+    {
+        self.cards.as_slice()
+    }
+
+    // Removes the first `n` cards.
+    pub(crate) fn cut(&mut self, n: usize)
+        requires { n ≤ length self.old }
+        ensures { self.new ≡ drop n self.old }
+    {
+        mem::drop(self.cards.drain(..n));
+    }
+}
