@@ -1,0 +1,5 @@
+pub mod BoundLemmas
+pub mod ListLemmas
+pub mod PairLemmas
+pub mod RoomLemmas
+pub mod SetLemmas

@@ -1,0 +1,163 @@
+-- The lists by region: what they contain, before and after a card is inserted.
+use Rattle.std.proofs.Common.{◌≡◌, ◌⊎◌, inl, inr, ℕ, zero, suc, ◌<◌, ◌≤◌, ◌+◌, Bool, true, false, List, [], ◌∷◌, ◌++◌, length, get_or, take, refl, sym, ap, ◌∙◌, subst, arith, ◌↔◌, length-set}
+use Rattle.std.specs.Prelude.{Contains, All, IsTrue, nat_eq, slice_set, replicate, if◌then◌else◌}
+use Rattle.std.specs.Cmp.{nat_eq_equiv}
+use Rattle.std.specs.List.{IsDistinct, list_any}
+use Rattle.std.proofs.lemmas.Bool.{cases_eq, eqb-true, true≢false}
+use Rattle.std.proofs.lemmas.List.{get_or-set_same, get_or-set_other, length-replicate}
+use Rattle.std.proofs.lemmas.List.Elements.{Contains-append_left, Contains-push, Contains-push_cases, All-contains, All-push}
+use Rattle.std.proofs.lemmas.Map.Keys.{IsDistinct-push}
+use Rattle.std.proofs.lemmas.Map.Views.{Contains-from_any, list_any-from_Contains}
+use Rattle.g1_layout.specs.Shape.{Shape, card_count}
+use Rattle.g1_sets.specs.Pairs.{list_at, with_card, Joins, AreLists}
+
+-- the test finds just the cards of the list
+pub in_list : (cards : List ℕ) (card : ℕ) → list_any (nat_eq card) cards ≡ true → Contains cards card
+in_list cards card = Contains-from_any eqb-true card cards
+
+pub to_list : (cards : List ℕ) (card : ℕ) → Contains cards card → list_any (nat_eq card) cards ≡ true
+to_list cards card = list_any-from_Contains nat_eq_equiv card cards
+
+pub has_cases : (xs : List ℕ) (x : ℕ) → Contains xs x ⊎ (Contains xs x → ⊥)
+has_cases xs x = by (list_any (nat_eq x) xs) refl
+  where
+    by : (b : Bool) → list_any (nat_eq x) xs ≡ b → Contains xs x ⊎ (Contains xs x → ⊥)
+    by true e = inl (in_list xs x e)
+    by false e = inr (λ h. true≢false (sym (to_list xs x h) ∙ e))
+
+module _ (cards : List ℕ) (card : ℕ) where
+  pub with_card-there : list_any (nat_eq card) cards ≡ true → with_card cards card ≡ cards
+  with_card-there e = ap (λ b. if b then cards else cards ++ card ∷ []) e
+
+  pub with_card-new : list_any (nat_eq card) cards ≡ false → with_card cards card ≡ cards ++ card ∷ []
+  with_card-new e = ap (λ b. if b then cards else cards ++ card ∷ []) e
+
+  -- what holds of the list with the card there, and of the list with the card last, holds after the insert
+  pub with_card_by : (P : List ℕ → Type 0) → (Contains cards card → P cards) → (list_any (nat_eq card) cards ≡ false → P (cards ++ card ∷ [])) → P (with_card cards card)
+  with_card_by P there new = by (list_any (nat_eq card) cards) refl
+    where
+      by : (b : Bool) → list_any (nat_eq card) cards ≡ b → P (with_card cards card)
+      by true e = subst P (sym (with_card-there e)) (there (in_list cards card e))
+      by false e = subst P (sym (with_card-new e)) (new e)
+
+  pub Contains-with_card : Contains (with_card cards card) card
+  Contains-with_card = with_card_by (λ cs. Contains cs card) (λ h. h) (λ _. Contains-push cards card)
+
+  pub Contains-with_card_old : (c : ℕ) → Contains cards c → Contains (with_card cards card) c
+  Contains-with_card_old c h = with_card_by (λ cs. Contains cs c) (λ _. h) (λ _. Contains-append_left cards (card ∷ []) c h)
+
+  pub Contains-with_card_cases : (c : ℕ) → Contains (with_card cards card) c → Contains cards c ⊎ (card ≡ c)
+  Contains-with_card_cases c = with_card_by (λ cs. Contains cs c → Contains cards c ⊎ (card ≡ c)) (λ _ h. inl h) (λ _ h. Contains-push_cases cards card c h)
+
+  pub IsDistinct-with_card : IsDistinct nat_eq cards → IsDistinct nat_eq (with_card cards card)
+  IsDistinct-with_card d = with_card_by (IsDistinct nat_eq) (λ _. d) (λ new. IsDistinct-push nat_eq_equiv cards card d new)
+
+  pub All-with_card : (P : ℕ → Type 0) → All P cards → P card → All P (with_card cards card)
+  All-with_card P all one = with_card_by (All P) (λ _. all) (λ _. All-push P cards card all one)
+
+-- a second insert changes nothing
+pub with_card-again : (cards : List ℕ) (card : ℕ) → with_card (with_card cards card) card ≡ with_card cards card
+with_card-again cards card = with_card-there (with_card cards card) card (to_list (with_card cards card) card (Contains-with_card cards card))
+
+pub list_at-set_same : (lists : List (List ℕ)) (region : ℕ) (cards : List ℕ) (r : ℕ) → region < length lists → r ≡ region → list_at (slice_set lists region cards) r ≡ cards
+list_at-set_same lists region cards r lt is = subst (λ q. list_at (slice_set lists region cards) q ≡ cards) (sym is) (get_or-set_same lists region cards [] lt)
+
+pub list_at-set_other : (lists : List (List ℕ)) (region : ℕ) (cards : List ℕ) (r : ℕ) → (r ≡ region → ⊥) → list_at (slice_set lists region cards) r ≡ list_at lists r
+list_at-set_other lists region cards r ne = get_or-set_other lists region r cards [] ne
+
+-- no region yet
+pub joins_none : (card : ℕ) (lists : List (List ℕ)) → Joins card [] lists lists
+joins_none card lists = record {
+  count = refl;
+  joined = λ r h. absurd (let lt : h.0 < 0 = h.1 in omega (arith, lt));
+  others = λ r _. refl;
+}
+
+-- one region more
+module _ (card : ℕ) (regions : List ℕ) (old now : List (List ℕ)) (region : ℕ) (so_far : Joins card regions old now) (within : region < length now) where
+  next : List (List ℕ)
+  next = slice_set now region (with_card (list_at now region) card)
+
+  here : with_card (list_at now region) card ≡ with_card (list_at old region) card
+  here = elim (has_cases regions region) [
+    | inl before ↦ ap (λ cs. with_card cs card) (so_far.joined region before) ∙ with_card-again (list_at old region) card
+    | inr never ↦ ap (λ cs. with_card cs card) (so_far.others region never)
+  ]
+
+  pub joins_more : Joins card (regions ++ region ∷ []) old (slice_set now region (with_card (list_at now region) card))
+  joins_more = record {
+    count = length-set now region (with_card (list_at now region) card) ∙ so_far.count;
+    joined = λ r h. elim (cases_eq r region) [
+      | inl is ↦ list_at-set_same now region _ r within is ∙ here ∙ ap (λ q. with_card (list_at old q) card) (sym is)
+      | inr ne ↦ elim (Contains-push_cases regions region r h) [
+        | inl before ↦ list_at-set_other now region _ r ne ∙ so_far.joined r before
+        | inr is ↦ absurd (ne (sym is))
+      ]
+    ];
+    others = λ r never. elim (cases_eq r region) [
+      | inl is ↦ absurd (never (subst (Contains (regions ++ region ∷ [])) (sym is) (Contains-push regions region)))
+      | inr ne ↦ list_at-set_other now region _ r ne ∙ so_far.others r (λ h. never (Contains-append_left regions (region ∷ []) r h))
+    ];
+  }
+
+-- what the lists contain afterwards
+module _ (card : ℕ) (regions : List ℕ) (old new : List (List ℕ)) (joins : Joins card regions old new) where
+  pub joins_cases : (c r : ℕ) → Contains (list_at new r) c → Contains (list_at old r) c ⊎ ((c ≡ card) × Contains regions r)
+  joins_cases c r h = elim (has_cases regions r) [
+    | inl named ↦ elim (Contains-with_card_cases (list_at old r) card c (subst (λ cs. Contains cs c) (joins.joined r named) h)) [
+      | inl before ↦ inl before
+      | inr is ↦ inr (sym is, named)
+    ]
+    | inr never ↦ inl (subst (λ cs. Contains cs c) (joins.others r never) h)
+  ]
+
+  pub joins_old : (c r : ℕ) → Contains (list_at old r) c → Contains (list_at new r) c
+  joins_old c r h = elim (has_cases regions r) [
+    | inl named ↦ subst (λ cs. Contains cs c) (sym (joins.joined r named)) (Contains-with_card_old (list_at old r) card c h)
+    | inr never ↦ subst (λ cs. Contains cs c) (sym (joins.others r never)) h
+  ]
+
+  pub joins_new : (r : ℕ) → Contains regions r → Contains (list_at new r) card
+  joins_new r named = subst (λ cs. Contains cs card) (sym (joins.joined r named)) (Contains-with_card (list_at old r) card)
+
+  pub joins_lists : (l : Shape) → card < card_count l → AreLists l old → AreLists l new
+  joins_lists l within lists = record {
+    count = joins.count ∙ lists.count;
+    distinct = λ r. elim (has_cases regions r) [
+      | inl named ↦ subst (IsDistinct nat_eq) (sym (joins.joined r named)) (IsDistinct-with_card (list_at old r) card (lists.distinct r))
+      | inr never ↦ subst (IsDistinct nat_eq) (sym (joins.others r never)) (lists.distinct r)
+    ];
+    below = λ r. elim (has_cases regions r) [
+      | inl named ↦ subst (All (λ c. c < card_count l)) (sym (joins.joined r named)) (All-with_card (list_at old r) card (λ c. c < card_count l) (lists.below r) within)
+      | inr never ↦ subst (All (λ c. c < card_count l)) (sym (joins.others r never)) (lists.below r)
+    ];
+  }
+
+-- one list is emptied
+pub emptied_lists : (l : Shape) (lists : List (List ℕ)) (region : ℕ) → region < length lists → AreLists l lists → AreLists l (slice_set lists region [])
+unfolding IsDistinct
+emptied_lists l lists region within old = record {
+  count = length-set lists region [] ∙ old.count;
+  distinct = λ r. elim (cases_eq r region) [
+    | inl is ↦ subst (IsDistinct nat_eq) (sym (list_at-set_same lists region [] r within is)) tt
+    | inr ne ↦ subst (IsDistinct nat_eq) (sym (list_at-set_other lists region [] r ne)) (old.distinct r)
+  ];
+  below = λ r. elim (cases_eq r region) [
+    | inl is ↦ subst (All (λ c. c < card_count l)) (sym (list_at-set_same lists region [] r within is)) (λ k d lt. absurd (omega (arith, lt)))
+    | inr ne ↦ subst (All (λ c. c < card_count l)) (sym (list_at-set_other lists region [] r ne)) (old.below r)
+  ];
+}
+
+-- no list has a card
+none_listed : (n k : ℕ) → list_at (replicate n []) k ≡ []
+none_listed zero k = refl
+none_listed (suc n) zero = refl
+none_listed (suc n) (suc k) = none_listed n k
+
+pub empty_lists : (l : Shape) → AreLists l (replicate l.regions [])
+unfolding IsDistinct
+empty_lists l = record {
+  count = length-replicate l.regions [];
+  distinct = λ r. subst (IsDistinct nat_eq) (sym (none_listed l.regions r)) tt;
+  below = λ r. subst (All (λ c. c < card_count l)) (sym (none_listed l.regions r)) (λ k d lt. absurd (omega (arith, lt)));
+}

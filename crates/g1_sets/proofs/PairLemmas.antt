@@ -1,0 +1,158 @@
+-- The set of the pairs that the lists by region make up.
+use Rattle.std.proofs.Common.{◌≡◌, ◌⊎◌, inl, inr, ℕ, zero, suc, ◌<◌, ◌≤◌, ◌+◌, Bool, true, false, eqb, List, [], ◌∷◌, ◌++◌, length, get_or, map, refl, sym, ap, ◌∙◌, subst, arith, ◌↔◌}
+use Rattle.std.specs.Prelude.{Contains, IsTrue, not, nat_eq, slice_set, replicate}
+use Rattle.std.specs.declared.cmp.Ordering.TheVariants.{Equal}
+use Rattle.std.specs.Ordering.{nat_cmp}
+use Rattle.std.specs.Cmp.{IsTotalOrder, Equal-is, nat_eq_equiv}
+use Rattle.std.specs.FinSet as set
+use Rattle.std.proofs.lemmas.Cmp.{on_total, then_total, nat_cmp_total, eq_by_cmp_equiv}
+use Rattle.std.proofs.lemmas.Map.Lookups.{exact_pairs, exact_unsigned}
+use Rattle.std.proofs.lemmas.Map.Views.{Contains-from_any, list_any-from_Contains}
+use Rattle.std.proofs.lemmas.Bool.{cases_eq, or_cases, or_left, or_right, and_parts, and_from, eq-eqb, ne_eqb, not-true, true≢false}
+use Rattle.std.proofs.lemmas.List.Elements.{Contains-append_left, Contains-append_right, Contains-append_cases}
+use Rattle.std.specs.List.{IsDistinct, list_any}
+use Rattle.std.specs.List.Sorted.{IsSorted, IsPermutation}
+use Rattle.std.proofs.lemmas.List.Sorted.{Contains-permutation, IsNonDecreasingBy-from_sort, IsPermutation-sym}
+use Rattle.std.proofs.lemmas.Map.Keys.{IsDistinct-IsPermutation, IsStrictlyIncreasing-from_distinct}
+use Rattle.g1_layout.specs.Shape.{Shape}
+use Rattle.g1_layout.specs.Sets.{pair_cmp, PairSet}
+use Rattle.g1_sets.specs.Pairs.{list_at, of_card, without, pairs_from, pairs_of, Joins, AreCardsOf, AreLists, AreTied}
+use Rattle.g1_sets.proofs.ListLemmas.{in_list, to_list, joins_cases, joins_old, joins_new, list_at-set_same, list_at-set_other}
+
+pair_total : IsTotalOrder pair_cmp
+pair_total = then_total (on_total (λ (p : ℕ × ℕ). p.0) nat_cmp_total) (on_total (λ (p : ℕ × ℕ). p.1) nat_cmp_total)
+
+pair_exact : (a b : ℕ × ℕ) → pair_cmp a b ≡ Equal → a ≡ b
+pair_exact a b e = exact_pairs nat_cmp nat_cmp exact_unsigned exact_unsigned a b e
+
+pub same_bools : (a b : Bool) → (a ≡ true → b ≡ true) → (b ≡ true → a ≡ true) → a ≡ b
+same_bools true b f g = sym (f refl)
+same_bools false true f g = g refl
+same_bools false false f g = refl
+
+-- two sets with the same members are equal
+same_pairs : (s t : PairSet) → ((p : ℕ × ℕ) → set.contains s p ≡ true → set.contains t p ≡ true) → ((p : ℕ × ℕ) → set.contains t p ≡ true → set.contains s p ≡ true) → s ≡ t
+same_pairs s t to from = set.same_set pair_total pair_exact s t (λ p. same_bools _ _ (to p) (from p))
+
+-- a list's set has what the list has
+in_pairs : (ps : List (ℕ × ℕ)) (p : ℕ × ℕ) → set.contains (set.from_list {R = pair_cmp} ps) p ≡ true → Contains ps p
+in_pairs ps p h = Contains-from_any (λ x y e. pair_exact x y ((Equal-is (pair_cmp x y)).0 e)) p ps (sym (set.contains-from_list pair_total ps p) ∙ h)
+
+to_pairs : (ps : List (ℕ × ℕ)) (p : ℕ × ℕ) → Contains ps p → set.contains (set.from_list {R = pair_cmp} ps) p ≡ true
+to_pairs ps p h = set.contains-from_list pair_total ps p ∙ list_any-from_Contains (eq_by_cmp_equiv pair_total) p ps h
+
+-- the pairs of some cards with one region
+row_from : (cards : List ℕ) (region : ℕ) (p : ℕ × ℕ) → Contains (map (λ (c : ℕ). (c, region)) cards) p → Contains cards p.0 × (p.1 ≡ region)
+row_from [] region p (k, lt, e) = absurd (omega (arith, lt))
+row_from (c ∷ cs) region p (zero, lt, e) = ((0, omega arith, ap (λ (q : ℕ × ℕ). q.0) e), ap (λ (q : ℕ × ℕ). q.1) (sym e))
+row_from (c ∷ cs) region p (suc k, lt, e) =
+    let rest : Contains cs p.0 × (p.1 ≡ region) = row_from cs region p (k, omega (arith, lt), e) in
+    ((suc rest.0.0, omega (arith, rest.0.1), rest.0.2), rest.1)
+
+row_to : (cards : List ℕ) (region card r : ℕ) → r ≡ region → Contains cards card → Contains {X = ℕ × ℕ} (map (λ (c : ℕ). (c, region)) cards) (card, r)
+row_to [] region card r at (k, lt, e) = absurd (omega (arith, lt))
+row_to (c ∷ cs) region card r at (zero, lt, e) = (0, omega arith, λ i. (e i, sym at i))
+row_to (c ∷ cs) region card r at (suc k, lt, e) =
+    let rest : Contains {X = ℕ × ℕ} (map (λ (c : ℕ). (c, region)) cs) (card, r) = row_to cs region card r at (k, omega (arith, lt), e) in
+    (suc rest.0, omega (arith, rest.1), rest.2)
+
+-- the pairs of one card with some regions
+of_card_from : (card : ℕ) (regions : List ℕ) (p : ℕ × ℕ) → Contains (map (λ (r : ℕ). (card, r)) regions) p → (p.0 ≡ card) × Contains regions p.1
+of_card_from card [] p (k, lt, e) = absurd (omega (arith, lt))
+of_card_from card (r ∷ rs) p (zero, lt, e) = (ap (λ (q : ℕ × ℕ). q.0) (sym e), (0, omega arith, ap (λ (q : ℕ × ℕ). q.1) e))
+of_card_from card (r ∷ rs) p (suc k, lt, e) =
+    let rest : (p.0 ≡ card) × Contains rs p.1 = of_card_from card rs p (k, omega (arith, lt), e) in
+    (rest.0, (suc rest.1.0, omega (arith, rest.1.1), rest.1.2))
+
+of_card_to : (card : ℕ) (regions : List ℕ) (p : ℕ × ℕ) → p.0 ≡ card → Contains regions p.1 → Contains (map (λ (r : ℕ). (card, r)) regions) p
+of_card_to card [] p on (k, lt, e) = absurd (omega (arith, lt))
+of_card_to card (r ∷ rs) p on (zero, lt, e) = (0, omega arith, (λ i. (sym on i, e i)))
+of_card_to card (r ∷ rs) p on (suc k, lt, e) =
+    let rest : Contains (map (λ (r : ℕ). (card, r)) rs) p = of_card_to card rs p on (k, omega (arith, lt), e) in
+    (suc rest.0, omega (arith, rest.1), rest.2)
+
+-- the pairs of all lists
+from_pairs : (first : ℕ) (lists : List (List ℕ)) (p : ℕ × ℕ) → Contains (pairs_from first lists) p → (k : ℕ) × (p.1 ≡ first + k) × Contains (list_at lists k) p.0
+from_pairs first [] p (k, lt, e) = absurd (omega (arith, lt))
+from_pairs first (cards ∷ lists) p h = elim (Contains-append_cases (map (λ (c : ℕ). (c, first)) cards) (pairs_from (first + 1) lists) p h) [
+  | inl row ↦ let r : Contains cards p.0 × (p.1 ≡ first) = row_from cards first p row in (0, omega (arith, r.1), r.0)
+  | inr rest ↦ let r : (k : ℕ) × (p.1 ≡ first + 1 + k) × Contains (list_at lists k) p.0 = from_pairs (first + 1) lists p rest in (suc r.0, omega (arith, r.1), r.2)
+]
+
+in_none : {X : Type 0} (k : ℕ) (card : ℕ) → Contains (list_at [] k) card → X
+in_none k card (j, lt, e) = absurd (omega (arith, lt))
+
+to_all : (first : ℕ) (lists : List (List ℕ)) (k card region : ℕ) → region ≡ first + k → Contains (list_at lists k) card → Contains {X = ℕ × ℕ} (pairs_from first lists) (card, region)
+to_all first [] k card region at h = in_none k card h
+to_all first (cards ∷ lists) zero card region at h = Contains-append_left (map (λ (c : ℕ). (c, first)) cards) (pairs_from (first + 1) lists) (card, region) (row_to cards first card region (omega (arith, at)) h)
+to_all first (cards ∷ lists) (suc k) card region at h = Contains-append_right (map (λ (c : ℕ). (c, first)) cards) (pairs_from (first + 1) lists) (card, region) (to_all (first + 1) lists k card region (omega (arith, at)) h)
+
+-- a pair is recorded just where its card is in the region's list
+pub to_set : (lists : List (List ℕ)) (card region : ℕ) → Contains (list_at lists region) card → set.contains (pairs_of lists) (card, region) ≡ true
+to_set lists card region h = to_pairs (pairs_from 0 lists) (card, region) (to_all 0 lists region card region (omega arith) h)
+
+pub in_set : (lists : List (List ℕ)) (card region : ℕ) → set.contains (pairs_of lists) (card, region) ≡ true → Contains (list_at lists region) card
+in_set lists card region h =
+    let r : (k : ℕ) × (region ≡ 0 + k) × Contains (list_at lists k) card = from_pairs 0 lists (card, region) (in_pairs (pairs_from 0 lists) (card, region) h) in
+    subst (λ k. Contains (list_at lists k) card) (omega (arith, r.1)) r.2
+
+-- a card joined some regions
+pub joined_pairs : (card : ℕ) (regions : List ℕ) (old new : List (List ℕ)) → Joins card regions old new → pairs_of new ≡ set.union (pairs_of old) (of_card card regions)
+joined_pairs card regions old new joins = same_pairs _ _
+    (λ p c. set.contains-union pair_total (pairs_of old) (of_card card regions) p ∙ elim (joins_cases card regions old new joins p.0 p.1 (in_set new p.0 p.1 c)) [
+      | inl before ↦ or_left _ _ (to_set old p.0 p.1 before)
+      | inr now ↦ or_right _ _ (to_pairs _ p (of_card_to card regions p now.0 now.1))
+    ])
+    (λ p c. to_set new p.0 p.1 (elim (or_cases _ _ (sym (set.contains-union pair_total (pairs_of old) (of_card card regions) p) ∙ c)) [
+      | inl before ↦ joins_old card regions old new joins p.0 p.1 (in_set old p.0 p.1 before)
+      | inr now ↦
+          let m : (p.0 ≡ card) × Contains regions p.1 = of_card_from card regions p (in_pairs _ p now) in
+          subst (Contains (list_at new p.1)) (sym m.0) (joins_new card regions old new joins p.1 m.1)
+    ]))
+
+in_without : (pairs : PairSet) (region : ℕ) (p : ℕ × ℕ) → set.contains (without pairs region) p ≡ true → (set.contains pairs p ≡ true) × (p.1 ≡ region → ⊥)
+in_without pairs region p c =
+    let parts = and_parts _ _ (sym (set.contains-retain pairs (λ pair. not (eqb pair.1 region)) p (λ x e. ap (λ (q : ℕ × ℕ). not (eqb q.1 region)) (sym (pair_exact p x e)))) ∙ c) in
+    (parts.0, λ e. true≢false (sym (eq-eqb p.1 region e) ∙ not-true _ parts.1))
+
+to_without : (pairs : PairSet) (region : ℕ) (p : ℕ × ℕ) → set.contains pairs p ≡ true → (p.1 ≡ region → ⊥) → set.contains (without pairs region) p ≡ true
+to_without pairs region p c ne =
+    set.contains-retain pairs (λ pair. not (eqb pair.1 region)) p (λ x e. ap (λ (q : ℕ × ℕ). not (eqb q.1 region)) (sym (pair_exact p x e))) ∙ and_from _ _ c (ap not (ne_eqb _ _ ne))
+
+-- the list of a region was emptied
+pub emptied_pairs : (lists : List (List ℕ)) (region : ℕ) → region < length lists → pairs_of (slice_set lists region []) ≡ without (pairs_of lists) region
+emptied_pairs lists region within = same_pairs _ _
+    (λ p c. elim (cases_eq p.1 region) [
+      | inl is ↦ in_none 0 p.0 (subst (λ cs. Contains cs p.0) (list_at-set_same lists region [] p.1 within is) (in_set _ p.0 p.1 c))
+      | inr ne ↦ to_without (pairs_of lists) region p (to_set lists p.0 p.1 (subst (λ cs. Contains cs p.0) (list_at-set_other lists region [] p.1 ne) (in_set _ p.0 p.1 c))) ne
+    ])
+    (λ p c.
+      let m = in_without (pairs_of lists) region p c in
+      to_set _ p.0 p.1 (subst (λ cs. Contains cs p.0) (sym (list_at-set_other lists region [] p.1 m.1)) (in_set lists p.0 p.1 m.0)))
+
+-- where no list has a card no pair is recorded
+pub none_recorded : (n : ℕ) → pairs_of (replicate n []) ≡ set.empty
+none_recorded n = ap (λ ps. set.from_list {R = pair_cmp} ps) (none 0 n)
+  where
+    none : (first n : ℕ) → pairs_from first (replicate n []) ≡ []
+    none first zero = refl
+    none first (suc n) = none (first + 1) n
+
+-- the test of a region's list answers whether the pair is recorded
+pub found : (lists : List (List ℕ)) (card region : ℕ) → list_any (nat_eq card) (list_at lists region) ≡ set.contains (pairs_of lists) (card, region)
+found lists card region = same_bools _ _ (λ h. to_set lists card region (in_list _ card h)) (λ h. to_list _ card (in_set lists card region h))
+
+-- the pairs of the lists are tied to them
+pub tied : (l : Shape) (lists : List (List ℕ)) → AreLists l lists → AreTied (record { layout = l; pairs = pairs_of lists; lists = lists })
+tied l lists are = record {
+  lists = are;
+  members = λ card region. (to_set lists card region, in_set lists card region);
+}
+
+-- the list of a region, sorted
+pub sorted_cards : (l : Shape) (lists : List (List ℕ)) → AreLists l lists → (region : ℕ) (copied cards : List ℕ) → copied ≡ list_at lists region → IsPermutation copied cards → IsSorted nat_cmp cards → AreCardsOf (pairs_of lists) region cards
+sorted_cards l lists are region copied cards is moved sorted = record {
+  ascending = IsStrictlyIncreasing-from_distinct cards (IsNonDecreasingBy-from_sort (λ x. x) cards sorted) (IsDistinct-IsPermutation nat_eq nat_eq_equiv.symm copied cards moved (subst (IsDistinct nat_eq) (sym is) (are.distinct region)));
+  recorded = λ card h. to_set lists card region (subst (λ cs. Contains cs card) is (Contains-permutation cards copied card (IsPermutation-sym copied cards moved) h));
+  all = λ card h. Contains-permutation copied cards card moved (subst (λ cs. Contains cs card) (sym is) (in_set lists card region h));
+}

@@ -1,0 +1,78 @@
+-- A write of one region's set, seen in the lists and in the room of all.
+use Rattle.std.proofs.Common.{◌≡◌, ℕ, ◌<◌, ◌≤◌, ◌+◌, List, [], ◌∷◌, ◌++◌, length, get_or, take, drop, map, refl, sym, ap, ◌∙◌, subst, arith}
+use Rattle.std.specs.Prelude.{Contains, All, slice_set, slice_index}
+use Rattle.std.proofs.Math.Seq.{map-set_same}
+use Rattle.std.proofs.lemmas.List.{length-map, get_or-map, map-set, take_more}
+use Rattle.indexmap.specs.IndexSet.{IndexSet, keys, spare}
+use Rattle.g1_sets.specs.Pairs.{list_at, with_card, Joins}
+use Rattle.g1_sets.specs.Members.{lists_of, rooms_of, HasRoom, HaveRoom}
+use Rattle.g1_sets.proofs.ListLemmas.{joins_more}
+use Rattle.g1_sets.proofs.RoomLemmas.{room_made, room_kept}
+
+-- the regions up to the next one
+taken : (regions : List ℕ) (i region n : ℕ) → i < length regions → region ≡ get_or regions i region → n ≡ region → take (i + 1) regions ≡ take i regions ++ n ∷ []
+taken regions i region n lt read at = take_more regions i region lt ∙ ap (λ x. take i regions ++ x ∷ []) (sym read ∙ sym at)
+
+-- the next region's set is there
+pub within : (regions : List ℕ) (i region n before now : ℕ) → i < length regions → region ≡ get_or regions i region → n ≡ region → now ≡ before → All (λ r. r < before) regions → n < now
+within regions i region n before now lt read at same all =
+    let less : get_or regions i region < before = all i region lt in
+    omega (arith, less, read, at, same)
+
+module _ {S : Type 0} (sets : List (IndexSet ℕ S)) (n : ℕ) (new : IndexSet ℕ S) where
+  pub lists_set : lists_of (slice_set sets n new) ≡ slice_set (lists_of sets) n new.keys
+  lists_set = map-set keys sets n new
+
+  pub rooms_set : rooms_of (slice_set sets n new) ≡ slice_set (rooms_of sets) n (spare new)
+  rooms_set = map-set spare sets n new
+
+  module _ (d : IndexSet ℕ S) where
+    pub lists_kept : new.keys ≡ keys (get_or sets n d) → lists_of (slice_set sets n new) ≡ lists_of sets
+    lists_kept e = map-set_same keys sets n new d e
+
+    module _ (within : n < length sets) where
+      pub list_is : list_at (lists_of sets) n ≡ keys (get_or sets n d)
+      list_is = get_or-map keys sets n d [] within
+
+      room_is : slice_index (rooms_of sets) n ≡ spare (get_or sets n d)
+      room_is = get_or-map spare sets n d 0 within
+
+      in_rooms : n < length (rooms_of sets)
+      in_rooms = subst (λ m. n < m) (sym (length-map sets spare)) within
+
+      in_lists : n < length (lists_of sets)
+      in_lists = subst (λ m. n < m) (sym (length-map sets keys)) within
+
+      module _ (card : ℕ) (regions : List ℕ) (i region : ℕ) (lt : i < length regions) (read : region ≡ get_or regions i region) (at : n ≡ region) where
+        -- room was made in one region more
+        pub rooms_more : new.keys ≡ keys (get_or sets n d) → spare (get_or sets n d) ≤ spare new → HasRoom card new.keys (spare new) → HaveRoom card (take i regions) (lists_of sets) (rooms_of sets)
+            → HaveRoom card (take (i + 1) regions) (lists_of (slice_set sets n new)) (rooms_of (slice_set sets n new))
+        rooms_more same grows here before =
+            let made : HaveRoom card (take i regions ++ n ∷ []) (lists_of sets) (slice_set (rooms_of sets) n (spare new)) =
+                room_made card (take i regions) (lists_of sets) (rooms_of sets) n (spare new) in_rooms (subst (λ m. m ≤ spare new) (sym room_is) grows)
+                (subst (λ cs. HasRoom card cs (spare new)) (same ∙ sym list_is) here) before in
+            subst (λ rs. HaveRoom card rs (lists_of (slice_set sets n new)) (rooms_of (slice_set sets n new))) (sym (taken regions i region n lt read at))
+            (subst (λ ls. HaveRoom card (take i regions ++ n ∷ []) ls (rooms_of (slice_set sets n new))) (sym (lists_kept same))
+            (subst (λ ns. HaveRoom card (take i regions ++ n ∷ []) (lists_of sets) ns) (sym rooms_set) made))
+
+        -- the card was inserted into one set more
+        module _ (added : new.keys ≡ with_card (keys (get_or sets n d)) card) where
+          after : lists_of (slice_set sets n new) ≡ slice_set (lists_of sets) n (with_card (list_at (lists_of sets) n) card)
+          after = lists_set ∙ ap (λ cs. slice_set (lists_of sets) n cs) (added ∙ ap (λ cs. with_card cs card) (sym list_is))
+
+          pub joins_next : (old : List (List ℕ)) → Joins card (take i regions) old (lists_of sets) → Joins card (take (i + 1) regions) old (lists_of (slice_set sets n new))
+          joins_next old so_far =
+              subst (λ rs. Joins card rs old (lists_of (slice_set sets n new))) (sym (taken regions i region n lt read at))
+              (subst (λ ls. Joins card (take i regions ++ n ∷ []) old ls) (sym after) (joins_more card (take i regions) old (lists_of sets) n so_far in_lists))
+
+          pub rooms_next : HaveRoom card regions (lists_of sets) (rooms_of sets) → HaveRoom card regions (lists_of (slice_set sets n new)) (rooms_of (slice_set sets n new))
+          rooms_next before =
+              subst (λ ls. HaveRoom card regions ls (rooms_of (slice_set sets n new))) (sym after)
+              (subst (λ ns. HaveRoom card regions (slice_set (lists_of sets) n (with_card (list_at (lists_of sets) n) card)) ns) (sym rooms_set)
+              (room_kept card regions (lists_of sets) (rooms_of sets) n (spare new) in_lists before))
+
+-- the list of a region is that of its set
+pub list_here : {S : Type 0} (sets : List (IndexSet ℕ S)) (n region : ℕ) (item : IndexSet ℕ S) (count : ℕ) → item ≡ get_or sets n item → n ≡ region → length (lists_of sets) ≡ count → region < count → list_at (lists_of sets) region ≡ keys item
+list_here sets n region item count is at all lt =
+    let inside : n < length sets = let e : length (lists_of sets) ≡ length sets = length-map sets keys in omega (arith, lt, at, all, e) in
+    subst (λ r. list_at (lists_of sets) r ≡ keys item) at (list_is sets n item item inside ∙ ap keys (sym is))

@@ -1,0 +1,9 @@
+use Rattle.std.proofs.Common.{◌≡◌, take}
+use Rattle.g1_sets.specs.Members.{lists_of, rooms_of, HaveRoom}
+use Rattle.g1_sets.proofs.members.make_rooms.Given as goal
+
+abbrev pub invariant-loop-region : goal.invariant-loop-region
+invariant-loop-region l = record {
+  cards : lists_of l.sets ≡ lists_of l.fn.sets;
+  room : HaveRoom l.card (take l.region-index l.regions) (lists_of l.sets) (rooms_of l.sets);
+}

@@ -1,0 +1,7 @@
+use Rattle.std.proofs.Common.{◌≡◌, []}
+use Rattle.std.specs.Prelude.{replicate}
+use Rattle.g1_sets.specs.Members.{lists_of}
+use Rattle.g1_sets.proofs.sets.empty_sets.Given as goal
+
+abbrev pub invariant-loop-region : goal.invariant-loop-region
+invariant-loop-region l = lists_of l.sets.items ≡ replicate l._region []

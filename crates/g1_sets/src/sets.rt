@@ -1,0 +1,122 @@
+//! The sets of all regions.
+ghost use Rattle.std.specs.Prelude.{◌≡◌, ◌<◌, length, replicate, [], Some, slice_get, slice_set, All, IfOk, OnOk, OnErr};
+ghost use Rattle.std.specs.FinSet as set;
+ghost use Rattle.g1_layout.specs.Shape.{card_count};
+ghost use Rattle.g1_sets.specs.Members.{lists_of};
+ghost use Rattle.g1_sets.specs.Pairs.{list_at, of_card, without, new_pairs, AreCardsOf, AreTied, Joins};
+
+use crate::members::{Members, insert_into, make_rooms};
+use g1_layout::{Card, Layout, NoMemory, Region};
+use indexmap::IndexSet;
+use std::alloc::Global;
+use std::marker::Model;
+
+/// The remembered sets of all regions.
+#[derive(Drop)]
+pub struct Sets {
+    alloc: Global,
+    layout: Layout,
+    sets: Vec<Members>,
+}
+
+impl Model for Sets {
+    ghost use Rattle.g1_sets.specs.Members.{lists_of};
+    ghost use Rattle.g1_sets.specs.Pairs.{Pairs, pairs_code, pairs_of, AreLists};
+
+    ghost Value = { Pairs };
+
+    ghost coded = { pairs_code };
+
+    ghost view = { λ a. record { layout = a.layout; pairs = pairs_of (lists_of a.sets.items); lists = lists_of a.sets.items } };
+
+    ghost invariant = { λ a. AreLists a.layout (lists_of a.sets.items) };
+}
+
+/// A set of no card for each region.
+fn empty_sets(alloc: Global, regions: u32) -> Result<Vec<Members>, NoMemory>
+    ensures { IfOk result (λ sets. lists_of sets.items ≡ replicate regions []) }
+{
+    let mut sets = Vec::with_capacity(alloc, regions as usize)?;
+    for _region in 0..regions {
+        sets.push(IndexSet::new(alloc))?;
+    }
+    Ok(sets)
+}
+
+impl Sets {
+    /// No card is recorded.
+    pub fn new(alloc: Global, layout: Layout) -> Result<Sets, NoMemory>
+        ensures { IfOk result (λ sets. sets ≡ new_pairs layout) }
+    {
+        let (regions, _, _) = layout.counts();
+        let sets = empty_sets(alloc, regions)?;
+        Ok(Sets {
+            alloc,
+            layout,
+            sets,
+        })
+    }
+
+    /// Records the card for each of the regions, or for none.
+    pub fn record(&mut self, card: Card, regions: &[Region]) -> Result<(), NoMemory>
+        requires card { card < card_count self.old.layout }
+        requires regions { All (λ region. region < self.old.layout.regions) regions.now }
+        ensures layout { OnOk result (self.new.layout ≡ self.old.layout) }
+        ensures pairs { OnOk result (self.new.pairs ≡ set.union self.old.pairs (of_card card regions.now)) }
+        ensures lists { OnOk result (Joins card regions.now self.old.lists self.new.lists) }
+        ensures err { OnErr result (self.new ≡ self.old) }
+    {
+        let sets = self.sets.as_mut_slice();
+        make_rooms(sets, card, regions)?;
+        insert_into(sets, card, regions);
+        Ok(())
+    }
+
+    /// Whether the card is recorded for the region.
+    pub fn has(&self, card: Card, region: Region) -> bool
+        requires { region < self.now.layout.regions }
+        ensures { result ≡ set.contains self.now.pairs (card, region) }
+    {
+        self.sets[region.number() as usize].contains(&card)
+    }
+
+    /// How many cards are recorded for the region.
+    pub fn len(&self, region: Region) -> u32
+        requires { region < self.now.layout.regions }
+        ensures len { result ≡ length (list_at self.now.lists region) }
+        ensures tied { AreTied self.now }
+    {
+        let _ = self.layout.counts();
+        self.sets[region.number() as usize].len() as u32
+    }
+
+    /// The card that came at this place into the region's set.
+    pub fn at(&self, region: Region, index: u32) -> Card
+        requires region { region < self.now.layout.regions }
+        requires index { index < length (list_at self.now.lists region) }
+        ensures { slice_get (list_at self.now.lists region) index ≡ Some result }
+    {
+        self.sets[region.number() as usize].as_slice()[index as usize]
+    }
+
+    /// Empties the region's set.
+    pub fn clear(&mut self, region: Region)
+        requires { region < self.old.layout.regions }
+        ensures layout { self.new.layout ≡ self.old.layout }
+        ensures pairs { self.new.pairs ≡ without self.old.pairs region }
+        ensures lists { self.new.lists ≡ slice_set self.old.lists region [] }
+    {
+        self.sets[region.number() as usize].clear();
+    }
+
+    /// The cards of the region's set, ascending, each once.
+    pub fn cards(&self, region: Region) -> Result<Vec<Card>, NoMemory>
+        requires { region < self.now.layout.regions }
+        ensures { IfOk result (λ cards. AreCardsOf self.now.pairs region cards.items) }
+    {
+        let members = &self.sets[region.number() as usize];
+        let mut cards = Vec::from_slice(self.alloc, members.as_slice())?;
+        cards.sort_unstable();
+        Ok(cards)
+    }
+}
