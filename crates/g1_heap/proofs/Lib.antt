@@ -1,3 +1,4 @@
 pub mod CellLemmas
 pub mod DirtyLemmas
+pub mod HoldLemmas
 pub mod TargetLemmas

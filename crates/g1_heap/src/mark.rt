@@ -1,4 +1,5 @@
-// The mark of a card, and the byte that the card table keeps for it.
+//! The mark of a card, and the byte that the card table keeps for it.
+
 ghost use Rattle.std.specs.Prelude.{◌≡◌};
 ghost use Rattle.g1_heap.specs.Stored.{mark_of};
 
@@ -8,14 +9,14 @@ pub(crate) const DIRTY: u8 = 1;
 
 pub(crate) const HELD: u8 = 2;
 
-/// What the card table says of a card.
+/// What the card table says of a card (docs/PROFILE.md, Card marks).
 #[derive(Clone, Copy, Debug, PartialEq, Eq)]
 pub enum Mark {
-    /// It is not pending.
+    /// The card is not pending.
     Clean,
-    /// It is pending, and waits for refinement.
+    /// The card is pending: it waits for refinement.
     Dirty,
-    /// It is pending, and is held back as hot.
+    /// The card is pending: it is hot, and held back in the hot card cache.
     Held,
 }
 

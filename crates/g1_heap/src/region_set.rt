@@ -1,4 +1,5 @@
-// A set of regions.
+//! A set of regions.
+
 ghost use Rattle.std.specs.Prelude.{◌≡◌, ◌<◌, ◌↔◌, ◌⊎◌, ℕ};
 ghost use Rattle.std.specs.Bool.{MatchBool};
 ghost use Rattle.g1_heap.specs.Regions.{HasRegion};

@@ -1,4 +1,5 @@
-// The regions into which the slots of a card refer.
+//! The regions into which the slots of a card refer.
+
 ghost use Rattle.std.specs.Prelude.{◌≡◌, ◌<◌, length, map};
 ghost use Rattle.g1_layout.specs.Shape.{slot_count, card_count};
 ghost use Rattle.g1_heap.specs.Stored.{ref_of};

@@ -1,0 +1,159 @@
+//! Heaps that were drawn and filled by hand.
+
+ghost use Rattle.std.specs.Prelude.{◌<◌};
+ghost use Rattle.g1_layout.specs.Shape.{slot_count, card_count};
+
+use super::*;
+use std::process::Abort;
+
+fn layout_of(rt: &impl Abort, regions: u32, cards: u32, slots: u32) -> Layout {
+    Layout::new(regions, cards, slots).expect(rt, "a layout within the limits")
+}
+
+fn slot_of(rt: &impl Abort, heap: &Heap, number: u32) -> Slot
+    ensures { result < slot_count heap.now.layout }
+{
+    heap.layout().slot(number).expect(rt, "a slot of the heap")
+}
+
+fn card_of(rt: &impl Abort, heap: &Heap, number: u32) -> Card
+    ensures { result < card_count heap.now.layout }
+{
+    heap.layout().card(number).expect(rt, "a card of the heap")
+}
+
+fn store(rt: &impl Abort, heap: &mut Heap, slot: u32, place: u32) {
+    let slot = slot_of(rt, heap, slot);
+    let place = slot_of(rt, heap, place);
+    heap.set(slot, Some(place));
+}
+
+fn load(rt: &impl Abort, heap: &mut Heap, slot: u32) -> Option<u32> {
+    let slot = slot_of(rt, heap, slot);
+    heap.get(slot).map(Slot::number)
+}
+
+fn mark(rt: &impl Abort, heap: &mut Heap, card: u32, mark: Mark) {
+    let card = card_of(rt, heap, card);
+    heap.set_mark(card, mark);
+}
+
+fn next_dirty(rt: &impl Abort, heap: &Heap, from: u32) -> Option<u32> {
+    assert!(rt;
+        from == 0 || heap.layout().card(from - 1).is_some(),
+        "a card, or one past the last"
+    );
+    heap.next_dirty(from).map(Card::number)
+}
+
+#[test]
+fn a_slot_gives_what_was_stored_last(rt: HostRuntime) {
+    let layout = layout_of(&rt, 3, 2, 4);
+    let mut heap = Heap::new(rt.alloc(), layout).expect(&rt, "memory");
+    store(&rt, &mut heap, 5, 23);
+    store(&rt, &mut heap, 23, 0);
+    assert_eq!(rt; load(&rt, &mut heap, 5), Some(23));
+    assert_eq!(rt; load(&rt, &mut heap, 4), None);
+    assert_eq!(rt; load(&rt, &mut heap, 23), Some(0));
+    let slot = slot_of(&rt, &heap, 5);
+    heap.set(slot, None);
+    assert_eq!(rt; load(&rt, &mut heap, 5), None);
+    assert_eq!(rt; heap.reads(), 4);
+    assert_eq!(rt; heap.layout().counts(), (3, 2, 4));
+}
+
+// Card 1 of region 0 has the slots 4 to 7: they refer into region 2, its own region, region 1 and region 2.
+#[test]
+fn a_card_that_refers_into_two_regions_is_read_once(rt: HostRuntime) {
+    let layout = layout_of(&rt, 3, 2, 4);
+    let mut heap = Heap::new(rt.alloc(), layout).expect(&rt, "memory");
+    for (slot, place) in [(4, 17), (5, 3), (6, 8), (7, 23), (0, 9)] {
+        store(&rt, &mut heap, slot, place);
+    }
+    let card = card_of(&rt, &heap, 1);
+    let targets = heap.targets(card);
+    assert!(rt;
+        targets
+            .as_slice()
+            .iter()
+            .copied()
+            .map(Region::number)
+            .eq([2, 1])
+    );
+    assert_eq!(rt; heap.reads(), 4);
+}
+
+// The slots of card 0 refer into the regions 64 to 1, in falling order.
+#[test]
+fn a_card_of_64_slots_refers_into_64_regions(rt: HostRuntime) {
+    let layout = layout_of(&rt, 65, 1, 64);
+    let mut heap = Heap::new(rt.alloc(), layout).expect(&rt, "memory");
+    for slot in 0..64 {
+        store(&rt, &mut heap, slot, (64 - slot) * 64 + 63);
+    }
+    let card = card_of(&rt, &heap, 0);
+    let targets = heap.targets(card);
+    assert!(rt;
+        targets
+            .as_slice()
+            .iter()
+            .copied()
+            .map(Region::number)
+            .eq((1..=64).rev())
+    );
+    assert_eq!(rt; heap.reads(), 64);
+}
+
+#[test]
+fn the_next_dirty_card_is_neither_clean_nor_held(rt: HostRuntime) {
+    let layout = layout_of(&rt, 3, 2, 4);
+    let mut heap = Heap::new(rt.alloc(), layout).expect(&rt, "memory");
+    mark(&rt, &mut heap, 1, Mark::Held);
+    mark(&rt, &mut heap, 2, Mark::Dirty);
+    mark(&rt, &mut heap, 4, Mark::Dirty);
+    for (card, want) in [
+        (0, Mark::Clean),
+        (1, Mark::Held),
+        (2, Mark::Dirty),
+        (3, Mark::Clean),
+    ] {
+        let card = card_of(&rt, &heap, card);
+        assert_eq!(rt; heap.mark(card), want);
+    }
+    for (from, want) in [
+        (0, Some(2)),
+        (2, Some(2)),
+        (3, Some(4)),
+        (5, None),
+        (6, None),
+    ] {
+        assert_eq!(rt; next_dirty(&rt, &heap, from), want, "from {from}");
+    }
+    assert_eq!(rt; heap.reads(), 0);
+}
+
+#[test]
+fn one_dirty_card_is_found_among_16_384(rt: HostRuntime) {
+    let layout = layout_of(&rt, 256, 64, 1);
+    let mut heap = Heap::new(rt.alloc(), layout).expect(&rt, "memory");
+    for card in [0, 63, 64, 8_191, 16_383] {
+        mark(&rt, &mut heap, card, Mark::Dirty);
+        assert_eq!(rt; next_dirty(&rt, &heap, 0), Some(card));
+        mark(&rt, &mut heap, card, Mark::Clean);
+    }
+    assert_eq!(rt; next_dirty(&rt, &heap, 0), None);
+}
+
+#[test]
+fn reads_stop_at_the_greatest_number(rt: HostRuntime) {
+    let layout = layout_of(&rt, 3, 2, 4);
+    let mut heap = Heap::new(rt.alloc(), layout).expect(&rt, "memory");
+    heap.reads = u64::MAX - 3;
+    assert_eq!(rt; load(&rt, &mut heap, 0), None);
+    assert_eq!(rt; heap.reads(), u64::MAX - 2);
+    let card = card_of(&rt, &heap, 5);
+    assert!(rt; heap.targets(card).is_empty());
+    assert_eq!(rt; heap.reads(), u64::MAX);
+    assert_eq!(rt; load(&rt, &mut heap, 0), None);
+    assert_eq!(rt; heap.reads(), u64::MAX);
+}
