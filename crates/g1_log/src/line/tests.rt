@@ -1,13 +1,19 @@
 ghost use Rattle.std.specs.Prelude.{◌≡◌, IfOk};
 ghost use Rattle.g1_log.specs.Ends.{IsSenderOf, IsTakerOf, sender_rights, taker_rights};
 
-use crate::{Buffer, Card, Line, Parcel, Sender, Taker};
+use crate::{Buffer, Line, Parcel, Sender, Taker, samples};
 use arrayvec::ArrayVec;
-use std::alloc::{AllocError, Global};
+use g1_layout::NoMemory;
+use std::alloc::Global;
 use std::sync::Wait;
 use std::test::*;
 use std::thread;
 use std::thread::Threads;
+
+// The buffer of this card alone.
+fn buffer(card: u32) -> Buffer {
+    samples::buffer(&[card]).unwrap_or_else(|_| Buffer::of(ArrayVec::new()))
+}
 
 fn first_card(buffer: &Buffer) -> Option<u32> {
     buffer.cards().first().map(|card| card.number())
@@ -68,6 +74,18 @@ fn two_senders_and_one_taker(rt: HostRuntime) -> Result<(), Fail> {
     Ok(())
 }
 
+// An allocation that fails makes no line, and a second try succeeds.
+#[test]
+fn a_refused_growth_makes_no_line(rt: HostRuntime) -> Result<(), Fail> {
+    let (line, senders, takers) = match Line::new(rt.alloc(), 1024, 8, 12) {
+        Ok(made) => made,
+        Err(NoMemory) => Line::new(rt.alloc(), 1024, 8, 12)?,
+    };
+    assert_eq!(rt; (senders.len(), takers.len()), (8, 12));
+    assert_eq!(rt; line.len(&rt), 0);
+    Ok(())
+}
+
 // The sender, the number and the card.
 type Label = (u32, u64, u32);
 
@@ -85,7 +103,7 @@ fn put_cards<R: Wait>(
     alloc: Global,
     line: &Line,
     mut sender: Sender,
-) -> Result<(Sender, Vec<u32>), AllocError>
+) -> Result<(Sender, Vec<u32>), NoMemory>
     requires { IsSenderOf line.now sender }
     ensures { IfOk result (λ r. IsSenderOf line.now r.0 × (sender_rights r.0 ≡ sender_rights sender)) }
 {
@@ -106,7 +124,7 @@ fn take_labels<R: Wait>(
     alloc: Global,
     line: &Line,
     mut taker: Taker,
-) -> Result<(Taker, Vec<Label>), AllocError>
+) -> Result<(Taker, Vec<Label>), NoMemory>
     requires { IsTakerOf line.now taker }
     ensures { IfOk result (λ r. IsTakerOf line.now r.0 × (taker_rights r.0 ≡ taker_rights taker)) }
 {
@@ -120,9 +138,9 @@ fn take_labels<R: Wait>(
     Ok((taker, taken))
 }
 
-type Put = Result<(Sender, Vec<u32>), AllocError>;
+type Put = Result<(Sender, Vec<u32>), NoMemory>;
 
-type Took = Result<(Taker, Vec<Label>), AllocError>;
+type Took = Result<(Taker, Vec<Label>), NoMemory>;
 
 // Two senders put, each in a thread of its own.
 fn put_both<R: Threads + Wait + Sync>(
