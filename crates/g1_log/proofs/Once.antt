@@ -7,8 +7,8 @@ use Rattle.g1_log.specs.declared.buffer.Buffer.{Buffer}
 use Rattle.g1_log.specs.declared.parcel.Parcel.{Parcel}
 use Rattle.g1_log.specs.declared.view.Sent.{Sent}
 use Rattle.g1_log.specs.declared.view.View.{View}
-use Rattle.g1_log.specs.Line.{one_if, parcel, numbered, put_weight, holding, put_by, IsDelivered}
-use Rattle.g1_log.specs.Once.{named, EachOnce, NoOther, EachParcelStandsOnce}
+use Rattle.g1_log.specs.Line.{one_if, parcel, numbered, put_weight, taken_weight, holding, put_by, IsDelivered}
+use Rattle.g1_log.specs.Once.{named, senders_numbered, EachOnce, NoOther, NoStranger, EachParcelStandsOnce}
 use Rattle.g1_log.proofs.Sums.{at_most_total, all_none, none_too, only}
 use Rattle.g1_log.proofs.Keeps.{over, over_none, one_view, queue_none_over, taken_none_over, test_none}
 
@@ -66,5 +66,37 @@ no_other items views h port i v at is =
       λ other u e k d lt. below (get_or u.taken k d) (taken_none_over items views port i v is h at other u e k d lt),
     )
 
+-- whether a parcel is of sender i
+of_sender : ℕ → Parcel → ℕ
+of_sender i q = one_if (q.sender == i)
+
+of_sender_none : (i : ℕ) (q : Parcel) → of_sender i q ≡ 0 → q.sender ≢ i
+unfolding of_sender
+of_sender_none i q z e = grind (arith, nat_tests)
+
+of_sender_other : (i : ℕ) (q : Parcel) → q.sender ≢ i → of_sender i q ≡ 0
+unfolding of_sender
+of_sender_other i q ne = grind (arith, nat_tests)
+
+numbered_of_other : (i j k : ℕ) (bs : List Buffer) → j ≢ i → sum_by (of_sender i) (numbered j k bs) ≡ 0
+numbered_of_other i j k [] ne = refl
+numbered_of_other i j k (b ∷ bs) ne =
+    omega (arith, sum_by-cons (of_sender i) (parcel j k b) (numbered j (k + 1) bs), of_sender_other i (parcel j k b) ne, numbered_of_other i j (k + 1) bs ne)
+
+view_of_others : (i : ℕ) (v : View) → senders_numbered i v ≡ 0 → put_weight (of_sender i) v ≡ 0
+view_of_others i v z =
+    none_too (λ (s : Sent). one_if (s.number == i)) (λ s. sum_by (of_sender i) (numbered s.number 0 s.buffers)) v.sent
+    (λ j s at none. numbered_of_other i s.number 0 s.buffers (test_none s.number i none)) z
+
+no_stranger : (items : List Parcel) (views : List View) → IsDelivered items views → NoStranger items views
+no_stranger items views h i none =
+    let w = of_sender i in
+    let put = none_too (senders_numbered i) (put_weight w) views (λ j b at z. view_of_others i b z) none in
+    let balance = h.balance w in
+    let apart : (l : List Parcel) → sum_by w l ≡ 0 → All (λ (q : Parcel). q.sender ≢ i) l = λ l z k d lt. of_sender_none i (get_or l k d) (all_none w l z k d lt) in (
+      apart items (omega arith),
+      λ other u e k d lt. apart (get_or u.taken k d) (all_none (sum_by w) u.taken (omega (arith, at_most_total (taken_weight w) views other u e)) k d lt),
+    )
+
 pub law : EachParcelStandsOnce
-law items views h = (each_once items views h, no_other items views h)
+law items views h = (each_once items views h, no_other items views h, no_stranger items views h)

@@ -12,6 +12,7 @@ use Rattle.g1_log.specs.declared.view.View.{View}
 abbrev pub parcel : ℕ → ℕ → Buffer → Parcel
 parcel i k b = record { sender = i; number = k; buffer = b }
 
+-- what sender i has put
 abbrev pub sent : ℕ → List Buffer → Sent
 sent i bs = record { number = i; buffers = bs }
 
@@ -28,6 +29,7 @@ put_weight h v = sum_by (λ s. sum_by h (numbered s.number 0 s.buffers)) v.sent
 abbrev pub taken_weight : (Parcel → ℕ) → View → ℕ
 taken_weight h v = sum_by (sum_by h) v.taken
 
+-- 1 where the test passes, else 0
 abbrev pub one_if : Bool → ℕ
 one_if b = cond b 1 0
 
@@ -35,16 +37,16 @@ one_if b = cond b 1 0
 abbrev pub holding : ℕ → View → ℕ
 holding i v = one_if (v.makes && not (nat_lt i v.made)) + sum_by (λ (s : Sent). one_if (s.number == i)) v.sent
 
--- each parcel's number is below those of the later parcels of its sender
+-- the numbers of each sender rise: each parcel's number is below those of the later parcels of its sender
 abbrev pub Rises : List Parcel → Type 0
 Rises [] = Unit {0}
 Rises (p ∷ ps) = All (λ q. q.sender ≡ p.sender → p.number < q.number) ps × Rises ps
 
--- all rights of a line, of which each sender and each taker has at least one
+-- all rights of a line. They are shares: each sender and each taker has at least one, so who has all of them has all senders and takers
 abbrev pub whole : ℕ
 whole = 20
 
--- what the rule says of one view, where the queue holds these items
+-- what the rule says of one view, where the queue holds these parcels
 pub record Fits (items : List Parcel) (v : View) : Type 0 where
   -- a view with no right has put and taken nothing
   pub idle : v.rights ≡ 0 → (v.sent ≡ []) × (v.taken ≡ [])
@@ -53,7 +55,7 @@ pub record Fits (items : List Parcel) (v : View) : Type 0 where
   -- a view that has ended the line has all rights, and knows what the queue holds
   pub settled : v.ended ≡ true → (v.rights ≡ whole) × (v.rest ≡ items)
 
--- The line is in order
+-- The rule of the line: each parcel that was put stands once, with its buffer, in the queue or in a taker's list, nothing else stands there, and the numbers of each sender rise
 pub record IsDelivered (items : List Parcel) (views : List View) : Type 0 where
   pub rights : sum_by (λ v. v.rights) views ≡ whole
   -- no sender number is in two views
@@ -64,6 +66,7 @@ pub record IsDelivered (items : List Parcel) (views : List View) : Type 0 where
   pub rises : Rises items
   pub each : (port : ℕ) (v : View) → get_elem? views port ≡ some v → Fits items v
 
+-- a view by its fields
 abbrev pub view_of : Bool → ℕ → Bool → ℕ → List Sent → List (List Parcel) → Bool → List Parcel → View
 view_of f r m n s t e l = record { fresh = f; rights = r; makes = m; made = n; sent = s; taken = t; ended = e; rest = l }
 
@@ -80,14 +83,15 @@ abbrev pub read : List View → List View
 read [] = []
 read (v ∷ vs) = cond v.fresh keeper v ∷ vs
 
--- The rule of the line
+-- The rule of the line, as the queue keeps it between any two steps
 abbrev pub IsLineState : List Parcel → List View → Type 0
 IsLineState items views = IsDelivered items (read views)
 
--- a state of the line in order, in which one view is v, held these items
+-- there is a state by the rule of the line in which one view is v and the queue holds these parcels
 abbrev pub SeenBy : View → List Parcel → Type 0
 SeenBy v items = (views : List View) × (port : ℕ) × IsDelivered items views × (get_elem? views port ≡ some v)
 
+-- the buffers and the parcels of a view with one list
 abbrev pub buffers_of : List Sent → List Buffer
 buffers_of [] = []
 buffers_of (s ∷ ss) = s.buffers
@@ -104,6 +108,7 @@ put_by v = buffers_of v.sent
 abbrev pub taken_by : View → List Parcel
 taken_by v = list_of v.taken
 
+-- the view of a sender of this number, and of a taker
 pub record IsSenderView (i : ℕ) (v : View) : Type 0 where
   pub sends : v.sent ≡ sent i (put_by v) ∷ []
   pub takes : v.taken ≡ []
@@ -127,7 +132,7 @@ after_put i v x = view_of v.fresh v.rights v.makes v.made (sent i (put_by v ++ x
 abbrev pub after_take : View → Parcel → View
 after_take v x = view_of v.fresh v.rights v.makes v.made v.sent ((taken_by v ++ x ∷ []) ∷ []) v.ended v.rest
 
--- the view that makes the ends, with these rights left and this many senders made
+-- the view of the pass that makes the ends, with these rights left and this many senders made
 abbrev pub maker : ℕ → ℕ → View
 maker r n = view_of false r true n [] ([] ∷ []) false []
 
@@ -149,6 +154,7 @@ new_taker = view_of false 1 false 0 [] ([] ∷ []) false []
 abbrev pub joined : View → View → View
 joined v u = view_of false (v.rights + u.rights) false 0 (v.sent ++ u.sent) (v.taken ++ u.taken) false []
 
+-- the view of a pass that was joined into another
 abbrev pub spent : View
 spent = view_of false 0 false 0 [] [] false []
 

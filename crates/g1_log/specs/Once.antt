@@ -1,10 +1,11 @@
 -- What the rule of the line says of each single parcel.
-use Rattle.std.specs.Prelude.{◌≡◌, ℕ, ◌+◌, ◌<◌, Bool, ◌&&◌, ◌==◌, List, ◌∷◌, ◌++◌, length, sum_by}
+use Rattle.std.specs.Prelude.{◌≡◌, ◌≢◌, ℕ, ◌+◌, ◌<◌, Bool, ◌&&◌, ◌==◌, List, ◌∷◌, ◌++◌, length, sum_by}
 use Rattle.std.specs.List.{All}
 use mathlib.Core.Option.{some}
 use lib.ListN.{get_elem?}
 use Rattle.g1_log.specs.declared.buffer.Buffer.{Buffer}
 use Rattle.g1_log.specs.declared.parcel.Parcel.{Parcel}
+use Rattle.g1_log.specs.declared.view.Sent.{Sent}
 use Rattle.g1_log.specs.declared.view.View.{View}
 use Rattle.g1_log.specs.Line.{one_if, taken_weight, put_by, IsSenderView, IsDelivered}
 
@@ -27,5 +28,15 @@ NoOther items views = (port i : ℕ) (v : View) → get_elem? views port ≡ som
     → All (λ q. q.sender ≡ i → q.number < length (put_by v)) items
     × ((other : ℕ) (u : View) → get_elem? views other ≡ some u → All (λ l. All (λ q. q.sender ≡ i → q.number < length (put_by v)) l) u.taken)
 
+-- how many senders of number i a view has
+abbrev pub senders_numbered : ℕ → View → ℕ
+senders_numbered i v = sum_by (λ (s : Sent). one_if (s.number == i)) v.sent
+
+-- nor does any parcel of a number that no sender has
+abbrev pub NoStranger : List Parcel → List View → Type 0
+NoStranger items views = (i : ℕ) → sum_by (senders_numbered i) views ≡ 0
+    → All (λ q. q.sender ≢ i) items × ((other : ℕ) (u : View) → get_elem? views other ≡ some u → All (λ l. All (λ q. q.sender ≢ i) l) u.taken)
+
+-- In each state by the rule of the line each parcel that was put stands once, with its buffer, and no other does
 abbrev pub EachParcelStandsOnce : Type 0
-EachParcelStandsOnce = (items : List Parcel) (views : List View) → IsDelivered items views → EachOnce items views × NoOther items views
+EachParcelStandsOnce = (items : List Parcel) (views : List View) → IsDelivered items views → EachOnce items views × NoOther items views × NoStranger items views

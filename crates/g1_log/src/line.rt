@@ -1,9 +1,9 @@
 //! The line of completed buffers between threads.
-ghost use Rattle.std.specs.Prelude.{◌≡◌, ◌==◌, false, ℕ, ◌∷◌, ◌++◌, [], ◌+◌, ◌-◌, ◌<◌, ◌≤◌, ◌^◌, ◌⊎◌, length, map, fold, sum_by, MatchResult, MatchOption, IfOk, OnOk};
+ghost use Rattle.std.specs.Prelude.{◌≡◌, false, ◌∷◌, ◌++◌, [], ◌+◌, ◌-◌, ◌<◌, ◌≤◌, ◌^◌, ◌⊎◌, length, map, fold, sum_by, MatchResult, MatchOption, IfOk, OnOk};
 ghost use Rattle.std.specs.List.{All};
 ghost use Rattle.crossbeam_queue.specs.Passes.{view, IsPassOf, IsSamePass};
-ghost use Rattle.g1_log.specs.Line.{one_if, maker, newcomer, joined, whole, put_weight, taken_weight, Rises};
-ghost use Rattle.g1_log.specs.Ends.{IsSenderOf, IsTakerOf, IsSameSender, IsSameTaker, number_of, put_of, taken_of, capacity_of, WasOfLength, AreNewSenders, IsNewTaker, sender_rights, taker_rights, AreAll, sender_view, taker_view, left_of, sent_of, left_count};
+ghost use Rattle.g1_log.specs.Line.{maker, newcomer, joined, whole};
+ghost use Rattle.g1_log.specs.Ends.{IsSenderOf, IsTakerOf, IsSameSender, IsSameTaker, put_of, taken_of, capacity_of, WasFull, WasEmpty, AreNewSenders, IsNewTaker, sender_rights, taker_rights, AreAll, sender_view, taker_view, put_count, taken_count, EachTakenOrLeft, AreNumberedApart, RiseInto, left_of, sent_of, left_count};
 
 use crate::buffer::Buffer;
 use crate::ends::{Sender, Settled, Taker};
@@ -61,114 +61,6 @@ impl Line {
         Ok((line, senders, takers))
     }
 
-    fn make_senders(
-        &self,
-        alloc: Global,
-        maker_pass: &mut Pass<Parcel, View>,
-        count: u32,
-    ) -> Result<Vec<Sender>, NoMemory>
-        requires { IsPassOf self.now.queue maker_pass.old × (view maker_pass.old ≡ maker whole 0) × (count ≤ 8) }
-        ensures pass { IsSamePass maker_pass.old maker_pass.new }
-        ensures view { OnOk result (view maker_pass.new ≡ maker (whole - count) count) }
-        ensures senders { IfOk result (λ v. (length v.items ≡ count) × AreNewSenders self.now 0 v.items × All (IsSenderOf self.now) v.items) }
-        ensures rights { IfOk result (λ v. sum_by sender_rights v.items ≡ count) }
-    {
-        let mut senders = Vec::new(alloc);
-        for number in 0..count {
-            let pass = self.queue.another::<ForSender>(maker_pass);
-            senders.push(Sender {
-                pass,
-                number,
-                next: 0,
-            })?;
-        }
-        Ok(senders)
-    }
-
-    // The last taker is the maker itself.
-    fn make_takers(
-        &self,
-        alloc: Global,
-        mut maker_pass: Pass<Parcel, View>,
-        count: u32,
-    ) -> Result<Vec<Taker>, NoMemory>
-        requires pass { IsPassOf self.now.queue maker_pass }
-        requires view { view maker_pass ≡ maker (view maker_pass).rights (view maker_pass).made }
-        requires count { (0 < count) × (count ≤ (view maker_pass).rights) }
-        ensures takers { IfOk result (λ v. (length v.items ≡ count) × All (IsNewTaker self.now) v.items × All (IsTakerOf self.now) v.items) }
-        ensures rights { IfOk result (λ v. sum_by taker_rights v.items ≡ (view maker_pass).rights) }
-    {
-        let mut takers = Vec::new(alloc);
-        for _ in 1..count {
-            let pass = self.queue.another::<ForTaker>(&mut maker_pass);
-            takers.push(Taker { pass })?;
-        }
-        takers.push(Taker { pass: maker_pass })?;
-        Ok(takers)
-    }
-
-    fn gather_senders(&self, pass: &mut Pass<Parcel, View>, senders: Vec<Sender>) -> u64
-        requires pass { IsPassOf self.now.queue pass.old × (view pass.old ≡ newcomer) }
-        requires senders { All (IsSenderOf self.now) senders.items × (length senders.items ≤ whole) }
-        ensures pass { IsSamePass pass.old pass.new }
-        ensures view { view pass.new ≡ fold joined newcomer (map sender_view senders.items) }
-        ensures count { result ≡ sum_by (λ s. length (put_of s)) senders.items }
-    {
-        let mut sent = 0;
-        for sender in senders {
-            let Sender {
-                pass: theirs,
-                number: _,
-                next,
-            } = sender;
-            self.queue.absorb::<Joins>(pass, theirs);
-            sent += next;
-        }
-        sent
-    }
-
-    fn gather_takers(&self, pass: &mut Pass<Parcel, View>, takers: Vec<Taker>)
-        requires pass { IsPassOf self.now.queue pass.old × ((view pass.old ≡ newcomer) ⊎ ((view pass.old).fresh ≡ false)) }
-        requires takers { All (IsTakerOf self.now) takers.items }
-        ensures pass { IsSamePass pass.old pass.new }
-        ensures view { view pass.new ≡ fold joined (view pass.old) (map taker_view takers.items) }
-    {
-        for taker in takers {
-            let Taker { pass: theirs } = taker;
-            self.queue.absorb::<Joins>(pass, theirs);
-        }
-    }
-
-    /// Ends the line, once all its senders and takers are back.
-    ///
-    /// What was put is what was taken and what is left, each parcel once, however parcels are weighed. It takes no
-    /// memory: one step of the queue for each sender and each taker, and one take.
-    pub fn settle<R: Wait>(self, rt: &R, senders: Vec<Sender>, takers: Vec<Taker>) -> Settled
-        requires senders { All (IsSenderOf self) senders.items }
-        requires takers { All (IsTakerOf self) takers.items }
-        requires all { AreAll senders.items takers.items }
-        ensures balance { (h : Parcel → ℕ) → sum_by (λ s. put_weight h (sender_view s)) senders.items ≡ sum_by (λ t. taken_weight h (taker_view t)) takers.items + sum_by h (left_of result) }
-        ensures numbers { (i : ℕ) → sum_by (λ s. one_if (number_of s == i)) senders.items ≤ 1 }
-        ensures order { Rises (left_of result) × All (λ t. Rises (taken_of t ++ left_of result)) takers.items }
-        ensures sent { sent_of result ≡ sum_by (λ s. length (put_of s)) senders.items }
-        ensures taken { sent_of result ≡ sum_by (λ t. length (taken_of t)) takers.items + left_count result }
-        ensures left { left_count result ≡ length (left_of result) }
-    {
-        let mut pass = self.queue.pass();
-        let sent = self.gather_senders(&mut pass, senders);
-        self.gather_takers(&mut pass, takers);
-        let left = self.queue.len_as::<Ends, R>(rt, &mut pass) as u64;
-        let ahead = self.queue.pop_as::<Ends, R>(rt, &mut pass);
-        let Line { queue } = self;
-        Settled {
-            queue,
-            pass,
-            ahead,
-            sent,
-            left,
-        }
-    }
-
     /// Puts a buffer last into the line, under this sender's next number.
     ///
     /// `Err` hands the buffer back and uses up no number. It comes only if the queue was full at some moment of the call,
@@ -179,7 +71,7 @@ impl Line {
         ensures put { MatchResult result
             (λ _. put_of sender.new ≡ put_of sender.old ++ buffer ∷ [])
             (λ back. (back ≡ buffer) × (put_of sender.new ≡ put_of sender.old)
-            × ((length (put_of sender.old) ≡ 2 ^ 58) ⊎ WasOfLength (capacity_of self.now) (sender_view sender.old))) }
+            × ((length (put_of sender.old) ≡ 2 ^ 58) ⊎ WasFull self.now sender.old)) }
     {
         if sender.next >= MOST_PUT {
             return Err(buffer);
@@ -206,7 +98,7 @@ impl Line {
         requires { IsTakerOf self.now taker.old }
         ensures same { IsSameTaker taker.new taker.old }
         ensures taken { MatchOption result
-            ((taken_of taker.new ≡ taken_of taker.old) × WasOfLength 0 (taker_view taker.old))
+            ((taken_of taker.new ≡ taken_of taker.old) × WasEmpty taker.old)
             (λ x. taken_of taker.new ≡ taken_of taker.old ++ x ∷ []) }
     {
         self.queue.pop_as::<Takes, R>(rt, &mut taker.pass)
@@ -219,6 +111,117 @@ impl Line {
     {
         let mut pass = self.queue.pass();
         self.queue.len_as::<Free, R>(rt, &mut pass)
+    }
+
+    /// Ends the line, once all its senders and takers are back.
+    ///
+    /// What was put is what was taken and what is left, each parcel once, however parcels are weighed. It takes no
+    /// memory: one step of the queue for each sender and each taker, and one take.
+    pub fn settle<R: Wait>(self, rt: &R, senders: Vec<Sender>, takers: Vec<Taker>) -> Settled
+        requires senders { All (IsSenderOf self) senders.items }
+        requires takers { All (IsTakerOf self) takers.items }
+        requires all { AreAll senders.items takers.items }
+        ensures balance { EachTakenOrLeft senders.items takers.items (left_of result) }
+        ensures numbers { AreNumberedApart senders.items }
+        ensures order { RiseInto takers.items (left_of result) }
+        ensures sent { sent_of result ≡ put_count senders.items }
+        ensures taken { sent_of result ≡ taken_count takers.items + left_count result }
+        ensures left { left_count result ≡ length (left_of result) }
+    {
+        let mut pass = self.queue.pass();
+        let sent = self.gather_senders(&mut pass, senders);
+        self.gather_takers(&mut pass, takers);
+        let left = self.queue.len_as::<Ends, R>(rt, &mut pass) as u64;
+        let ahead = self.queue.pop_as::<Ends, R>(rt, &mut pass);
+        let Line { queue } = self;
+        Settled {
+            queue,
+            pass,
+            ahead,
+            sent,
+            left,
+        }
+    }
+
+    // One right for each sender.
+    fn make_senders(
+        &self,
+        alloc: Global,
+        maker_pass: &mut Pass<Parcel, View>,
+        count: u32,
+    ) -> Result<Vec<Sender>, NoMemory>
+        requires { IsPassOf self.now.queue maker_pass.old × (view maker_pass.old ≡ maker whole 0) × (count ≤ 8) }
+        ensures pass { IsSamePass maker_pass.old maker_pass.new }
+        ensures view { OnOk result (view maker_pass.new ≡ maker (whole - count) count) }
+        ensures senders { IfOk result (λ v. (length v.items ≡ count) × AreNewSenders self.now 0 v.items × All (IsSenderOf self.now) v.items) }
+        ensures rights { IfOk result (λ v. sum_by sender_rights v.items ≡ count) }
+    {
+        let mut senders = Vec::new(alloc);
+        for number in 0..count {
+            let pass = self.queue.another::<ForSender>(maker_pass);
+            senders.push(Sender {
+                pass,
+                number,
+                next: 0,
+            })?;
+        }
+        Ok(senders)
+    }
+
+    // One right for each taker but the last, which is the maker itself and has the rest.
+    fn make_takers(
+        &self,
+        alloc: Global,
+        mut maker_pass: Pass<Parcel, View>,
+        count: u32,
+    ) -> Result<Vec<Taker>, NoMemory>
+        requires pass { IsPassOf self.now.queue maker_pass }
+        requires view { view maker_pass ≡ maker (view maker_pass).rights (view maker_pass).made }
+        requires count { (0 < count) × (count ≤ (view maker_pass).rights) }
+        ensures takers { IfOk result (λ v. (length v.items ≡ count) × All (IsNewTaker self.now) v.items × All (IsTakerOf self.now) v.items) }
+        ensures rights { IfOk result (λ v. sum_by taker_rights v.items ≡ (view maker_pass).rights) }
+    {
+        let mut takers = Vec::new(alloc);
+        for _ in 1..count {
+            let pass = self.queue.another::<ForTaker>(&mut maker_pass);
+            takers.push(Taker { pass })?;
+        }
+        takers.push(Taker { pass: maker_pass })?;
+        Ok(takers)
+    }
+
+    // Joins the senders into the pass, and counts what they have put.
+    fn gather_senders(&self, pass: &mut Pass<Parcel, View>, senders: Vec<Sender>) -> u64
+        requires pass { IsPassOf self.now.queue pass.old × (view pass.old ≡ newcomer) }
+        requires senders { All (IsSenderOf self.now) senders.items × (length senders.items ≤ whole) }
+        ensures pass { IsSamePass pass.old pass.new }
+        ensures view { view pass.new ≡ fold joined newcomer (map sender_view senders.items) }
+        ensures count { result ≡ put_count senders.items }
+    {
+        let mut sent = 0;
+        for sender in senders {
+            let Sender {
+                pass: theirs,
+                number: _,
+                next,
+            } = sender;
+            self.queue.absorb::<Joins>(pass, theirs);
+            sent += next;
+        }
+        sent
+    }
+
+    // Joins the takers into the pass.
+    fn gather_takers(&self, pass: &mut Pass<Parcel, View>, takers: Vec<Taker>)
+        requires pass { IsPassOf self.now.queue pass.old × ((view pass.old ≡ newcomer) ⊎ ((view pass.old).fresh ≡ false)) }
+        requires takers { All (IsTakerOf self.now) takers.items }
+        ensures pass { IsSamePass pass.old pass.new }
+        ensures view { view pass.new ≡ fold joined (view pass.old) (map taker_view takers.items) }
+    {
+        for taker in takers {
+            let Taker { pass: theirs } = taker;
+            self.queue.absorb::<Joins>(pass, theirs);
+        }
     }
 }
 

@@ -7,6 +7,7 @@ use crate::view::View;
 use crossbeam_queue::RuledArrayQueue;
 use crossbeam_queue::protocol::{Join, Lesson, Outcome, Protocol, Split};
 
+/// The rule of the line, which each pass of the queue keeps.
 pub struct Ordered;
 
 impl Protocol<Parcel, View> for Ordered {
@@ -15,8 +16,10 @@ impl Protocol<Parcel, View> for Ordered {
     ghost first = { newcomer };
 }
 
+/// The queue of the line.
 pub type Queue = RuledArrayQueue<Parcel, View, Ordered>;
 
+/// A put: the sender's view gains the buffer. One that is refused has seen a full queue.
 pub struct Puts;
 
 impl Outcome<Parcel, View> for Puts {
@@ -27,6 +30,7 @@ impl Lesson<Parcel, View> for Puts {
     ghost fact = { SeenBy };
 }
 
+/// A take: the taker's view gains the parcel. One that finds nothing has seen an empty queue.
 pub struct Takes;
 
 impl Outcome<Parcel, View> for Takes {
@@ -37,6 +41,7 @@ impl Lesson<Parcel, View> for Takes {
     ghost fact = { SeenBy };
 }
 
+/// The first split, in which the first pass takes all rights.
 pub struct Opens;
 
 impl Split<View> for Opens {
@@ -45,6 +50,7 @@ impl Split<View> for Opens {
     ghost right = { λ v. newcomer };
 }
 
+/// The split of a sender from the pass that makes the ends.
 pub struct ForSender;
 
 impl Split<View> for ForSender {
@@ -53,6 +59,7 @@ impl Split<View> for ForSender {
     ghost right = { λ v. new_sender v.made };
 }
 
+/// The split of a taker from that pass.
 pub struct ForTaker;
 
 impl Split<View> for ForTaker {
@@ -61,6 +68,7 @@ impl Split<View> for ForTaker {
     ghost right = { λ v. new_taker };
 }
 
+/// The join of an end that came back.
 pub struct Joins;
 
 impl Join<View> for Joins {
@@ -69,6 +77,7 @@ impl Join<View> for Joins {
     ghost spent = { spent };
 }
 
+/// The first take of a pass that has all rights, which then knows what the queue holds.
 pub struct Ends;
 
 impl Outcome<Parcel, View> for Ends {
@@ -79,6 +88,7 @@ impl Lesson<Parcel, View> for Ends {
     ghost fact = { IsLeft };
 }
 
+/// Its later takes.
 pub struct Drains;
 
 impl Outcome<Parcel, View> for Drains {
