@@ -49,8 +49,10 @@ impl Line {
         requires senders { (1 ≤ senders) × (senders ≤ 8) }
         requires takers { (1 ≤ takers) × (takers ≤ 12) }
         ensures capacity { IfOk result (λ r. capacity_of r.0 ≡ capacity) }
-        ensures senders { IfOk result (λ r. (length r.1.items ≡ senders) × AreNewSenders r.0 0 r.1.items × All (IsSenderOf r.0) r.1.items) }
-        ensures takers { IfOk result (λ r. (length r.2.items ≡ takers) × All (IsNewTaker r.0) r.2.items × All (IsTakerOf r.0) r.2.items) }
+        ensures senders { IfOk result (λ r. (length r.1.items ≡ senders)
+            × AreNewSenders r.0 0 r.1.items × All (IsSenderOf r.0) r.1.items) }
+        ensures takers { IfOk result (λ r. (length r.2.items ≡ takers)
+            × All (IsNewTaker r.0) r.2.items × All (IsTakerOf r.0) r.2.items) }
         ensures all { IfOk result (λ r. AreAll r.1.items r.2.items) }
     {
         let (queue, mut maker) = Queue::ruled(alloc, capacity)?;
@@ -150,10 +152,13 @@ impl Line {
         maker_pass: &mut Pass<Parcel, View>,
         count: u32,
     ) -> Result<Vec<Sender>, NoMemory>
-        requires { IsPassOf self.now.queue maker_pass.old × (view maker_pass.old ≡ maker whole 0) × (count ≤ 8) }
+        requires pass { IsPassOf self.now.queue maker_pass.old }
+        requires view { view maker_pass.old ≡ maker whole 0 }
+        requires count { count ≤ 8 }
         ensures pass { IsSamePass maker_pass.old maker_pass.new }
         ensures view { OnOk result (view maker_pass.new ≡ maker (whole - count) count) }
-        ensures senders { IfOk result (λ v. (length v.items ≡ count) × AreNewSenders self.now 0 v.items × All (IsSenderOf self.now) v.items) }
+        ensures senders { IfOk result (λ v. (length v.items ≡ count)
+            × AreNewSenders self.now 0 v.items × All (IsSenderOf self.now) v.items) }
         ensures rights { IfOk result (λ v. sum_by sender_rights v.items ≡ count) }
     {
         let mut senders = Vec::new(alloc);
@@ -178,7 +183,8 @@ impl Line {
         requires pass { IsPassOf self.now.queue maker_pass }
         requires view { view maker_pass ≡ maker (view maker_pass).rights (view maker_pass).made }
         requires count { (0 < count) × (count ≤ (view maker_pass).rights) }
-        ensures takers { IfOk result (λ v. (length v.items ≡ count) × All (IsNewTaker self.now) v.items × All (IsTakerOf self.now) v.items) }
+        ensures takers { IfOk result (λ v. (length v.items ≡ count)
+            × All (IsNewTaker self.now) v.items × All (IsTakerOf self.now) v.items) }
         ensures rights { IfOk result (λ v. sum_by taker_rights v.items ≡ (view maker_pass).rights) }
     {
         let mut takers = Vec::new(alloc);
@@ -213,7 +219,8 @@ impl Line {
 
     // Joins the takers into the pass.
     fn gather_takers(&self, pass: &mut Pass<Parcel, View>, takers: Vec<Taker>)
-        requires pass { IsPassOf self.now.queue pass.old × ((view pass.old ≡ newcomer) ⊎ ((view pass.old).fresh ≡ false)) }
+        requires pass { IsPassOf self.now.queue pass.old
+            × ((view pass.old ≡ newcomer) ⊎ ((view pass.old).fresh ≡ false)) }
         requires takers { All (IsTakerOf self.now) takers.items }
         ensures pass { IsSamePass pass.old pass.new }
         ensures view { view pass.new ≡ fold joined (view pass.old) (map taker_view takers.items) }
@@ -249,8 +256,10 @@ impl Settled {
 
     /// Hands out the oldest parcel that is left. One step of the queue; no memory.
     pub fn next<R: Wait>(&mut self, rt: &R) -> Option<Parcel>
-        ensures next { MatchOption result ((left_of self.old ≡ []) × (left_of self.new ≡ [])) (λ x. left_of self.old ≡ x ∷ left_of self.new) }
-        ensures numbers { (sent_of self.new ≡ sent_of self.old) × (left_count self.new ≡ left_count self.old) }
+        ensures next { MatchOption result ((left_of self.old ≡ []) × (left_of self.new ≡ []))
+            (λ x. left_of self.old ≡ x ∷ left_of self.new) }
+        ensures numbers { (sent_of self.new ≡ sent_of self.old)
+            × (left_count self.new ≡ left_count self.old) }
     {
         let next = self.ahead.take()?;
         self.ahead = self.queue.pop_as::<Drains, R>(rt, &mut self.pass);

@@ -10,7 +10,7 @@ use Rattle.g1_log.proofs.line.Line.make_senders.Goals as goal
 
 pub another-pass-requires-clause-rule : goal.another-pass-requires-clause-rule
 another-pass-requires-clause-rule c =
-    let w : whole ≡ 20 = refl in let lt = c.loop-number-test.true in let m = c.requires.2 in
+    let w : whole ≡ 20 = refl in let lt = c.loop-number-test.true in let m = c.requires.count in
     forks_sender _ (whole - c.loop-number.number) c.loop-number.number _ c.loop-number.invariant.maker_is (omega arith)
 
 pub loop-number-preserved : goal.loop-number-preserved
@@ -27,7 +27,7 @@ loop-number-preserved c =
     record {
       of = search rules;
       same = search rules;
-      maker_is = c.another-pass.ensures.rule.0 ∙ ap sender_made i.maker_is ∙ (let w : whole ≡ 20 = refl in let lt = c.loop-number-test.true in let m = c.requires.2 in let d : (whole - k) - 1 ≡ whole - (k + 1) = omega arith in ap (λ r. maker r (k + 1)) d);
+      maker_is = c.another-pass.ensures.rule.0 ∙ ap sender_made i.maker_is ∙ (let w : whole ≡ 20 = refl in let lt = c.loop-number-test.true in let m = c.requires.count in let d : (whole - k) - 1 ≡ whole - (k + 1) = omega arith in ap (λ r. maker r (k + 1)) d);
       count = ap (λ l. length l) items ∙ length_push old _ ∙ ap (λ n. n + 1) i.count;
       made = subst (AreNewSenders line 0) (sym items) (AreNewSenders-push line 0 old k _ e i.made (is_new_sender line k _ pass is_new refl));
       all = subst (All (IsSenderOf line)) (sym items) (All-push (IsSenderOf line) old _ i.all pass.0);
