@@ -1,2 +1,5 @@
 pub mod Done
+pub mod Ends
+pub mod Line
 pub mod Log
+pub mod Once

@@ -1,15 +1,26 @@
 //! Dirty card queues and completed buffers.
 //!
 //! A mutator logs each card that it dirties in a log of its own. The card that fills the log makes a completed
-//! buffer of it, and the mutator goes on with an empty log. `Done` keeps the completed buffers of one thread.
+//! buffer of it, and the mutator goes on with an empty log. `Done` keeps the completed buffers of one thread. A
+//! `Line` carries them between threads without a lock: mutators put, refiners take.
 #![tactic(auto)]
 
 mod buffer;
 mod done;
+mod ends;
+mod laws;
+mod line;
 mod log;
+mod parcel;
+mod rule;
 #[cfg(test)]
 mod samples;
+mod view;
 
 pub use buffer::Buffer;
 pub use done::{Done, Why};
+pub use ends::{Sender, Settled, Taker};
+pub use laws::each_parcel_stands_once;
+pub use line::Line;
 pub use log::Log;
+pub use parcel::Parcel;

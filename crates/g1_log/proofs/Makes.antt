@@ -1,0 +1,40 @@
+-- The ends that a line is made with.
+use Rattle.std.proofs.Common.{◌≡◌, ℕ, ◌+◌, ◌<◌, List, [], ◌∷◌, ◌++◌, length, sym, refl, ap, subst, arith}
+use Rattle.crossbeam_queue.specs.Fifo.{Forks}
+use Rattle.crossbeam_queue.specs.Passes.{view, IsPassOf}
+use Rattle.g1_log.specs.declared.view.View.{View}
+use Rattle.g1_log.specs.declared.line.Line.{Line}
+use Rattle.g1_log.specs.declared.ends.Sender.{Sender}
+use Rattle.g1_log.specs.declared.ends.Taker.{Taker}
+use Rattle.g1_log.specs.Line.{IsLineState, maker, sender_made, new_sender, taker_made, new_taker, newcomer, keeper, put_by, taken_by, IsSenderView}
+use Rattle.g1_log.specs.Ends.{IsNewSender, AreNewSenders, IsNewTaker}
+use Rattle.g1_log.proofs.Keeps.{makes_sender, makes_taker, opens}
+
+pub AreNewSenders-push : (line : Line) (k : ℕ) (ss : List Sender) (j : ℕ) (s : Sender) → j ≡ k + length ss → AreNewSenders line k ss → IsNewSender line j s → AreNewSenders line k (ss ++ s ∷ [])
+AreNewSenders-push line k [] j s e h new = let d : j ≡ k = omega arith in (subst (λ n. IsNewSender line n s) d new, tt)
+AreNewSenders-push line k (x ∷ xs) j s e h new =
+    let d : j ≡ (k + 1) + length xs = omega arith in
+    (h.0, AreNewSenders-push line (k + 1) xs j s d h.1 new)
+
+pub sender_view_new : (i : ℕ) (v : View) → new_sender i ≡ v → IsSenderView i v
+sender_view_new i v e = subst (IsSenderView i) e (record { sends = refl; takes = refl; makes = refl; right = omega arith; runs = refl; known = refl })
+
+pub is_new_sender : (line : Line) (k : ℕ) (s : Sender) → IsPassOf line.queue s.pass → view s.pass ≡ new_sender k → s.number ≡ k → IsNewSender line k s
+is_new_sender line k s pass e number = record {
+  of = pass.0;
+  number = number;
+  put = ap (λ (v : View). put_by v) e;
+  right = ap (λ (v : View). v.rights) e;
+}
+
+pub is_new_taker : (line : Line) (t : Taker) → IsPassOf line.queue t.pass → view t.pass ≡ new_taker → IsNewTaker line t
+is_new_taker line t pass e = record { of = pass.0; taken = ap (λ (v : View). taken_by v) e }
+
+pub forks_sender : (port r n : ℕ) (v : View) → v ≡ maker r n → 1 < r → Forks IsLineState port v (sender_made v) (new_sender v.made)
+forks_sender port r n v e more = subst (λ u. Forks IsLineState port u (sender_made u) (new_sender u.made)) (sym e) (makes_sender port r n more)
+
+pub forks_taker : (port r n : ℕ) (v : View) → v ≡ maker r n → 1 < r → Forks IsLineState port v (taker_made v) new_taker
+forks_taker port r n v e more = subst (λ u. Forks IsLineState port u (taker_made u) new_taker) (sym e) (makes_taker port r n more)
+
+pub forks_opens : (port : ℕ) (v : View) → port ≡ 0 → v ≡ newcomer → Forks IsLineState port v keeper newcomer
+forks_opens port v z e = subst (λ n. Forks IsLineState n v keeper newcomer) (sym z) (subst (λ u. Forks IsLineState 0 u keeper newcomer) (sym e) opens)

@@ -1,0 +1,5 @@
+use Rattle.g1_log.proofs.Keeps.{admits}
+use Rattle.g1_log.proofs.line.Line.len.Goals as goal
+
+pub pass-pass-requires : goal.pass-pass-requires
+pass-pass-requires g c = admits

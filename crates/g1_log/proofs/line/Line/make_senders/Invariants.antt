@@ -1,0 +1,17 @@
+use Rattle.std.proofs.Common.{◌≡◌, ◌-◌, length, sum_by}
+use Rattle.std.specs.List.{All}
+use Rattle.crossbeam_queue.specs.Passes.{view, IsPassOf, IsSamePass}
+use Rattle.g1_log.specs.Line.{maker, whole}
+use Rattle.g1_log.specs.Ends.{IsSenderOf, AreNewSenders, sender_rights}
+use Rattle.g1_log.proofs.line.Line.make_senders.Given as goal
+
+abbrev pub invariant-loop-number : goal.invariant-loop-number
+invariant-loop-number l = record {
+  of : IsPassOf l.self.queue l.maker_pass;
+  same : IsSamePass l.initial.maker_pass l.maker_pass;
+  maker_is : view l.maker_pass ≡ maker (whole - l.number) l.number;
+  count : length l.senders.items ≡ l.number;
+  made : AreNewSenders l.self 0 l.senders.items;
+  all : All (IsSenderOf l.self) l.senders.items;
+  rights : sum_by sender_rights l.senders.items ≡ l.number;
+}

@@ -1,0 +1,5 @@
+use Rattle.g1_log.proofs.Keeps.{takes, learns}
+use Rattle.g1_log.proofs.line.Line.take.Goals as goal
+
+pub pop_as-requires-clause-rule : goal.pop_as-requires-clause-rule
+pop_as-requires-clause-rule g c = (takes _ _ c.args.taker.now.role, learns _ _ c.args.taker.now.role.known)

@@ -1,0 +1,44 @@
+//! The senders and the takers of the line, and the line that has ended.
+ghost use Rattle.std.specs.Prelude.{◌≡◌, true, false, [], ◌≤◌, ◌^◌, length, IfSome};
+ghost use Rattle.std.proofs.Props.{props};
+ghost use Rattle.crossbeam_queue.specs.Passes.{view, IsPassOf};
+ghost use Rattle.g1_log.specs.Line.{put_by, IsSenderView, IsTakerView};
+
+use crate::parcel::Parcel;
+use crate::rule::Queue;
+use crate::view::View;
+use crossbeam_queue::Pass;
+
+/// The end of the line into which one mutator puts.
+#[derive(Drop)]
+pub struct Sender {
+    pub(crate) pass: Pass<Parcel, View>,
+    pub(crate) number: u32,
+    pub(crate) next: u64,
+    ghost rests: { pass.me.1 ≡ [] } by { Prim.hlevel props },
+    ghost role: { IsSenderView number (view pass) } by { Prim.hlevel props },
+    ghost count: { length (put_by (view pass)) ≡ next },
+    ghost most: { next ≤ 2 ^ 58 },
+}
+
+/// The end of the line from which one thread takes.
+#[derive(Drop)]
+pub struct Taker {
+    pub(crate) pass: Pass<Parcel, View>,
+    ghost rests: { pass.me.1 ≡ [] } by { Prim.hlevel props },
+    ghost role: { IsTakerView (view pass) } by { Prim.hlevel props },
+}
+
+/// A line that has ended, with the parcels that are left in it.
+#[derive(Drop)]
+pub struct Settled {
+    pub(crate) queue: Queue,
+    pub(crate) pass: Pass<Parcel, View>,
+    // The oldest parcel that is left.
+    pub(crate) ahead: Option<Parcel>,
+    pub(crate) sent: u64,
+    pub(crate) left: u64,
+    ghost of: { IsPassOf queue pass } by { Prim.hlevel props },
+    ghost knows: { IfSome ahead (λ x. ((view pass).ended ≡ true) × ((view pass).fresh ≡ false)) } by { Prim.hlevel props },
+    ghost counts: { left ≤ sent },
+}

@@ -1,0 +1,100 @@
+//! The rule of the line, and what its steps tell. These types are for the proofs alone.
+ghost use Rattle.std.specs.Prelude.{◌≡◌, ◌∷◌};
+ghost use Rattle.g1_log.specs.Line.{IsLineState, newcomer, keeper, sender_made, new_sender, taker_made, new_taker, joined, spent, SeenBy, after_put, after_take, IsLeft, drained};
+
+use crate::parcel::Parcel;
+use crate::view::View;
+use crossbeam_queue::RuledArrayQueue;
+use crossbeam_queue::protocol::{Join, Lesson, Outcome, Protocol, Split};
+
+/// The rule of the line, which each pass of the queue keeps.
+pub struct Ordered;
+
+impl Protocol<Parcel, View> for Ordered {
+    ghost holds = { IsLineState };
+
+    ghost first = { newcomer };
+}
+
+/// The queue of the line.
+pub type Queue = RuledArrayQueue<Parcel, View, Ordered>;
+
+/// A put: the sender's view gains the buffer. One that is refused has seen a full queue.
+pub struct Puts;
+
+impl Outcome<Parcel, View> for Puts {
+    ghost then = { λ v x w. w ≡ after_put x.sender v x };
+}
+
+impl Lesson<Parcel, View> for Puts {
+    ghost fact = { SeenBy };
+}
+
+/// A take: the taker's view gains the parcel. One that finds nothing has seen an empty queue.
+pub struct Takes;
+
+impl Outcome<Parcel, View> for Takes {
+    ghost then = { λ v x w. w ≡ after_take v x };
+}
+
+impl Lesson<Parcel, View> for Takes {
+    ghost fact = { SeenBy };
+}
+
+/// The first split, in which the first pass takes all rights.
+pub struct Opens;
+
+impl Split<View> for Opens {
+    ghost left = { λ v. keeper };
+
+    ghost right = { λ v. newcomer };
+}
+
+/// The split of a sender from the pass that makes the ends.
+pub struct ForSender;
+
+impl Split<View> for ForSender {
+    ghost left = { λ v. sender_made v };
+
+    ghost right = { λ v. new_sender v.made };
+}
+
+/// The split of a taker from that pass.
+pub struct ForTaker;
+
+impl Split<View> for ForTaker {
+    ghost left = { λ v. taker_made v };
+
+    ghost right = { λ v. new_taker };
+}
+
+/// The join of an end that came back.
+pub struct Joins;
+
+impl Join<View> for Joins {
+    ghost both = { joined };
+
+    ghost spent = { spent };
+}
+
+/// The first take of a pass that has all rights, which then knows what the queue holds.
+pub struct Ends;
+
+impl Outcome<Parcel, View> for Ends {
+    ghost then = { λ v x w. (w ≡ drained v x w.rest) × IsLeft v (x ∷ w.rest) };
+}
+
+impl Lesson<Parcel, View> for Ends {
+    ghost fact = { IsLeft };
+}
+
+/// Its later takes.
+pub struct Drains;
+
+impl Outcome<Parcel, View> for Drains {
+    ghost then = { λ v x w. (w ≡ drained v x w.rest) × (v.rest ≡ x ∷ w.rest) };
+}
+
+impl Lesson<Parcel, View> for Drains {
+    ghost fact = { λ v items. v.rest ≡ items };
+}

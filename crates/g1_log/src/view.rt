@@ -1,0 +1,28 @@
+//! What the rule of the line knows of each pass of the queue. No value of these types is made.
+use crate::buffer::Buffer;
+use crate::parcel::Parcel;
+use std::collections::LinkedList;
+
+/// The buffers that one sender has put, in order.
+pub struct Sent {
+    pub number: u32,
+    pub buffers: LinkedList<Buffer>,
+}
+
+/// What was put and taken by one pass.
+pub struct View {
+    /// Whether it is as it came.
+    pub fresh: bool,
+    /// Its share of the line. Where all shares are in one pass, no other can put or take.
+    pub rights: u64,
+    /// Whether it may give out sender numbers, from `made` on.
+    pub makes: bool,
+    pub made: u32,
+    /// What it has put, by sender.
+    pub sent: LinkedList<Sent>,
+    /// What it has taken, a list for each taker.
+    pub taken: LinkedList<LinkedList<Parcel>>,
+    /// Whether it has ended the line, and then what the queue still holds.
+    pub ended: bool,
+    pub rest: LinkedList<Parcel>,
+}
