@@ -3,9 +3,9 @@ ghost use Rattle.std.specs.Prelude.{◌≡◌, ◌<◌, length, replicate, [], S
 ghost use Rattle.std.specs.FinSet as set;
 ghost use Rattle.g1_layout.specs.Shape.{card_count};
 ghost use Rattle.g1_sets.specs.Members.{lists_of};
-ghost use Rattle.g1_sets.specs.Pairs.{list_at, of_card, without, new_pairs, AreCardsOf, AreTied, Joins};
+ghost use Rattle.g1_sets.specs.Pairs.{list_at, of_card, of_region, with_cards, without, new_pairs, AreCardsOf, AreTied, Joins};
 
-use crate::members::{Members, insert_into, make_rooms};
+use crate::members::{Members, insert_into, insert_many, make_room_for, make_rooms, total};
 use g1_layout::{Card, Layout, NoMemory, Region};
 use indexmap::IndexSet;
 use std::alloc::Global;
@@ -72,6 +72,21 @@ impl Sets {
         Ok(())
     }
 
+    /// Records each of the cards for the region, or none.
+    pub fn record_many(&mut self, cards: &[Card], region: Region) -> Result<(), NoMemory>
+        requires cards { All (λ card. card < card_count self.old.layout) cards.now }
+        requires region { region < self.old.layout.regions }
+        ensures layout { OnOk result (self.new.layout ≡ self.old.layout) }
+        ensures pairs { OnOk result (self.new.pairs ≡ set.union self.old.pairs (of_region cards.now region)) }
+        ensures lists { OnOk result (self.new.lists ≡ slice_set self.old.lists region (with_cards (list_at self.old.lists region) cards.now)) }
+        ensures err { OnErr result (self.new ≡ self.old) }
+    {
+        let sets = self.sets.as_mut_slice();
+        make_room_for(sets, region, cards.len())?;
+        insert_many(sets, region, cards);
+        Ok(())
+    }
+
     /// Whether the card is recorded for the region.
     pub fn has(&self, card: Card, region: Region) -> bool
         requires { region < self.now.layout.regions }
@@ -88,6 +103,14 @@ impl Sets {
     {
         let _ = self.layout.counts();
         self.sets[region.number() as usize].len() as u32
+    }
+
+    /// How many pairs are recorded.
+    pub fn total(&self) -> u32
+        ensures { result ≡ set.len self.now.pairs }
+    {
+        let _ = self.layout.counts();
+        total(self.sets.as_slice())
     }
 
     /// The card that came at this place into the region's set.
