@@ -158,8 +158,8 @@ emptied_pairs lists region within = same_pairs _ _
       | inr ne ↦ to_without (pairs_of lists) region p (to_set lists p.0 p.1 (subst (λ cs. Contains cs p.0) (list_at-set_other lists region [] p.1 ne) (in_set _ p.0 p.1 c))) ne
     ])
     (λ p c.
-      let m = in_without (pairs_of lists) region p c in
-      to_set _ p.0 p.1 (subst (λ cs. Contains cs p.0) (sym (list_at-set_other lists region [] p.1 m.1)) (in_set lists p.0 p.1 m.0)))
+    let m = in_without (pairs_of lists) region p c in
+    to_set _ p.0 p.1 (subst (λ cs. Contains cs p.0) (sym (list_at-set_other lists region [] p.1 m.1)) (in_set lists p.0 p.1 m.0)))
 
 -- where no list has a card no pair is recorded
 pub none_recorded : (n : ℕ) → pairs_of (replicate n []) ≡ set.empty

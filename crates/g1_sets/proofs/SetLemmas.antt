@@ -50,8 +50,8 @@ module _ {S : Type 0} (sets : List (IndexSet ℕ S)) (n : ℕ) (new : IndexSet �
             → HaveRoom card (take (i + 1) regions) (lists_of (slice_set sets n new)) (rooms_of (slice_set sets n new))
         rooms_more same grows here before =
             let made : HaveRoom card (take i regions ++ n ∷ []) (lists_of sets) (slice_set (rooms_of sets) n (spare new)) =
-                room_made card (take i regions) (lists_of sets) (rooms_of sets) n (spare new) in_rooms (subst (λ m. m ≤ spare new) (sym room_is) grows)
-                (subst (λ cs. HasRoom card cs (spare new)) (same ∙ sym list_is) here) before in
+            room_made card (take i regions) (lists_of sets) (rooms_of sets) n (spare new) in_rooms (subst (λ m. m ≤ spare new) (sym room_is) grows)
+            (subst (λ cs. HasRoom card cs (spare new)) (same ∙ sym list_is) here) before in
             subst (λ rs. HaveRoom card rs (lists_of (slice_set sets n new)) (rooms_of (slice_set sets n new))) (sym (taken regions i region n lt read at))
             (subst (λ ls. HaveRoom card (take i regions ++ n ∷ []) ls (rooms_of (slice_set sets n new))) (sym (lists_kept same))
             (subst (λ ns. HaveRoom card (take i regions ++ n ∷ []) (lists_of sets) ns) (sym rooms_set) made))
@@ -85,7 +85,7 @@ module _ {S : Type 0} (sets : List (IndexSet ℕ S)) (i : ℕ) (item : IndexSet 
       let inside : i < length (lists_of sets) = subst (λ m. i < m) (sym (length-map sets keys)) lt in
       let list : get_or (lists_of sets) i [] ≡ keys item = get_or-map keys sets i item [] lt ∙ ap keys (sym is) in
       let more : sum_by length (take (i + 1) (lists_of sets)) ≡ sum_by length (take i (lists_of sets)) + length (get_or (lists_of sets) i []) =
-          ap (sum_by length) (take_more (lists_of sets) i [] inside) ∙ sum_by_push length (take i (lists_of sets)) (get_or (lists_of sets) i []) in
+      ap (sum_by length) (take_more (lists_of sets) i [] inside) ∙ sum_by_push length (take i (lists_of sets)) (get_or (lists_of sets) i []) in
       let same : length (get_or (lists_of sets) i []) ≡ length (keys item) = ap length list in
       omega (arith, more, same, so_far)
 

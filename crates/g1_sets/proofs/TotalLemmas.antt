@@ -44,8 +44,8 @@ total_from : (first : ℕ) (lists : List (List ℕ)) → ((k : ℕ) → IsDistin
 total_from first [] distinct = set.len-empty pair_cmp
 total_from first (cards ∷ lists) distinct =
     let row = row_len cards first (pairs_from (first + 1) lists) (distinct 0) (λ p h is.
-        let r : (k : ℕ) × (p.1 ≡ first + 1 + k) × Contains (list_at lists k) p.0 = from_pairs (first + 1) lists p h in
-        omega (arith, r.1, is)) in
+    let r : (k : ℕ) × (p.1 ≡ first + 1 + k) × Contains (list_at lists k) p.0 = from_pairs (first + 1) lists p h in
+    omega (arith, r.1, is)) in
     let rest : set.len (set.from_list {R = pair_cmp} (pairs_from (first + 1) lists)) ≡ sum_by length lists = total_from (first + 1) lists (λ k. distinct (suc k)) in
     let sum : sum_by length (cards ∷ lists) ≡ length cards + sum_by length lists = sum_by-cons length cards lists in
     omega (arith, row, rest, sum)

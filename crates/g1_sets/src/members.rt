@@ -4,13 +4,15 @@ ghost use Rattle.indexmap.specs.IndexSet.{spare};
 ghost use Rattle.g1_sets.specs.Members.{lists_of, rooms_of, HasRoom, HaveRoom};
 ghost use Rattle.g1_sets.specs.Pairs.{list_at, with_card, with_cards, Joins};
 
+use crate::hasher::CardHasher;
 use g1_layout::{Card, NoMemory, Region};
 use indexmap::IndexSet;
+use std::hash::BuildHasherDefault;
 
-/// The cards of one region.
-pub(crate) type Members = IndexSet<Card>;
+// The cards of one region. Their numbers are the heap's own, so nobody chooses them to collide.
+pub(crate) type Members = IndexSet<Card, BuildHasherDefault<CardHasher>>;
 
-/// Makes room for the card, if it is not there. A set with room is not searched.
+// Makes room for the card where it is not there. A set with room is not searched.
 fn make_room(members: &mut Members, card: Card) -> Result<(), NoMemory>
     ensures cards { members.new.keys ≡ members.old.keys }
     ensures room { OnOk result (HasRoom card members.new.keys (spare members.new)) }
@@ -22,7 +24,7 @@ fn make_room(members: &mut Members, card: Card) -> Result<(), NoMemory>
     Ok(())
 }
 
-/// Inserts the card into a set with room.
+// Inserts the card into a set with room.
 fn insert_reserved(members: &mut Members, card: Card)
     requires { 0 < spare members.old }
     ensures cards { members.new.keys ≡ with_card members.old.keys card }
@@ -31,7 +33,7 @@ fn insert_reserved(members: &mut Members, card: Card)
     members.insert(card).unwrap();
 }
 
-/// Inserts the card. A set with no room has it already.
+// Inserts the card. A set with no room has it already.
 fn insert(members: &mut Members, card: Card)
     requires { HasRoom card members.old.keys (spare members.old) }
     ensures cards { members.new.keys ≡ with_card members.old.keys card }
@@ -41,7 +43,7 @@ fn insert(members: &mut Members, card: Card)
     }
 }
 
-/// Inserts the cards into a set with room for all of them.
+// Inserts the cards into a set with room for all of them.
 fn insert_cards(members: &mut Members, cards: &[Card])
     requires { length cards.now ≤ spare members.old }
     ensures { members.new.keys ≡ with_cards members.old.keys cards.now }
@@ -51,7 +53,7 @@ fn insert_cards(members: &mut Members, cards: &[Card])
     }
 }
 
-/// Makes room for the card in each of the regions that lacks it.
+// Makes room for the card in each of the regions that lacks it.
 pub(crate) fn make_rooms(
     sets: &mut [Members],
     card: Card,
@@ -67,7 +69,7 @@ pub(crate) fn make_rooms(
     Ok(())
 }
 
-/// Inserts the card into the sets of the regions.
+// Inserts the card into the sets of the regions.
 pub(crate) fn insert_into(sets: &mut [Members], card: Card, regions: &[Region])
     requires within { All (λ region. region < length sets.old) regions.now }
     requires room { HaveRoom card regions.now (lists_of sets.old) (rooms_of sets.old) }
@@ -78,7 +80,7 @@ pub(crate) fn insert_into(sets: &mut [Members], card: Card, regions: &[Region])
     }
 }
 
-/// Makes room for as many more cards in the set of one region.
+// Makes room for as many more cards in the set of one region.
 pub(crate) fn make_room_for(
     sets: &mut [Members],
     region: Region,
@@ -92,7 +94,7 @@ pub(crate) fn make_room_for(
     Ok(())
 }
 
-/// Inserts the cards into the set of one region.
+// Inserts the cards into the set of one region.
 pub(crate) fn insert_many(sets: &mut [Members], region: Region, cards: &[Card])
     requires within { region < length sets.old }
     requires room { length cards.now ≤ slice_index (rooms_of sets.old) region }
@@ -101,7 +103,7 @@ pub(crate) fn insert_many(sets: &mut [Members], region: Region, cards: &[Card])
     insert_cards(&mut sets[region.number() as usize], cards);
 }
 
-/// How many cards the sets have together.
+// How many cards the sets have together.
 pub(crate) fn total(sets: &[Members]) -> u32
     requires { sum_by length (lists_of sets.now) < 2 ^ 32 }
     ensures { result ≡ sum_by length (lists_of sets.now) }

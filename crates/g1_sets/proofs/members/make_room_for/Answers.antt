@@ -16,7 +16,7 @@ pub returns-clause-room : goal.returns-clause-room
 returns-clause-room c =
     let within = subst (λ n. n < length c.args.sets.now) (sym c.number.ensures) c.requires in
     let room : slice_index (rooms_of (slice_set c.args.sets.now c.number.result c.reserve.new.self)) c.number.result ≡ spare c.reserve.new.self =
-        ap (λ rooms. slice_index rooms c.number.result) (rooms_set c.args.sets.now c.number.result c.reserve.new.self)
-        ∙ get_or-set_same (rooms_of c.args.sets.now) c.number.result (spare c.reserve.new.self) 0 (in_rooms c.args.sets.now c.number.result c.reserve.new.self c.index-sets-number.result within) in
+    ap (λ rooms. slice_index rooms c.number.result) (rooms_set c.args.sets.now c.number.result c.reserve.new.self)
+    ∙ get_or-set_same (rooms_of c.args.sets.now) c.number.result (spare c.reserve.new.self) 0 (in_rooms c.args.sets.now c.number.result c.reserve.new.self c.index-sets-number.result within) in
     subst (λ n. c.args.more ≤ slice_index (rooms_of (slice_set c.args.sets.now c.number.result c.reserve.new.self)) n) c.number.ensures
     (subst (λ n. c.args.more ≤ n) (sym room) c.in_ok-reserve.ensures.ok)
