@@ -3,3 +3,4 @@ pub mod ListLemmas
 pub mod PairLemmas
 pub mod RoomLemmas
 pub mod SetLemmas
+pub mod TotalLemmas

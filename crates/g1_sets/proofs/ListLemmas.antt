@@ -5,11 +5,11 @@ use Rattle.std.specs.Cmp.{nat_eq_equiv}
 use Rattle.std.specs.List.{IsDistinct, list_any}
 use Rattle.std.proofs.lemmas.Bool.{cases_eq, eqb-true, true≢false}
 use Rattle.std.proofs.lemmas.List.{get_or-set_same, get_or-set_other, length-replicate}
-use Rattle.std.proofs.lemmas.List.Elements.{Contains-append_left, Contains-push, Contains-push_cases, All-contains, All-push}
+use Rattle.std.proofs.lemmas.List.Elements.{Contains-append_left, Contains-push, Contains-push_cases, Contains-get_or, All-contains, All-push}
 use Rattle.std.proofs.lemmas.Map.Keys.{IsDistinct-push}
 use Rattle.std.proofs.lemmas.Map.Views.{Contains-from_any, list_any-from_Contains}
 use Rattle.g1_layout.specs.Shape.{Shape, card_count}
-use Rattle.g1_sets.specs.Pairs.{list_at, with_card, Joins, AreLists}
+use Rattle.g1_sets.specs.Pairs.{list_at, with_card, with_cards, Joins, AreLists}
 
 -- the test finds just the cards of the list
 pub in_list : (cards : List ℕ) (card : ℕ) → list_any (nat_eq card) cards ≡ true → Contains cards card
@@ -133,20 +133,57 @@ module _ (card : ℕ) (regions : List ℕ) (old new : List (List ℕ)) (joins : 
     ];
   }
 
--- one list is emptied
-pub emptied_lists : (l : Shape) (lists : List (List ℕ)) (region : ℕ) → region < length lists → AreLists l lists → AreLists l (slice_set lists region [])
-unfolding IsDistinct
-emptied_lists l lists region within old = record {
-  count = length-set lists region [] ∙ old.count;
-  distinct = λ r. elim (cases_eq r region) [
-    | inl is ↦ subst (IsDistinct nat_eq) (sym (list_at-set_same lists region [] r within is)) tt
-    | inr ne ↦ subst (IsDistinct nat_eq) (sym (list_at-set_other lists region [] r ne)) (old.distinct r)
-  ];
-  below = λ r. elim (cases_eq r region) [
-    | inl is ↦ subst (All (λ c. c < card_count l)) (sym (list_at-set_same lists region [] r within is)) (λ k d lt. absurd (omega (arith, lt)))
-    | inr ne ↦ subst (All (λ c. c < card_count l)) (sym (list_at-set_other lists region [] r ne)) (old.below r)
-  ];
-}
+-- one list is another
+module _ (l : Shape) (lists : List (List ℕ)) (region : ℕ) (within : region < length lists) (old : AreLists l lists) where
+  pub replaced_lists : (cards : List ℕ) → IsDistinct nat_eq cards → All (λ c. c < card_count l) cards → AreLists l (slice_set lists region cards)
+  replaced_lists cards distinct below = record {
+    count = length-set lists region cards ∙ old.count;
+    distinct = λ r. elim (cases_eq r region) [
+      | inl is ↦ subst (IsDistinct nat_eq) (sym (list_at-set_same lists region cards r within is)) distinct
+      | inr ne ↦ subst (IsDistinct nat_eq) (sym (list_at-set_other lists region cards r ne)) (old.distinct r)
+    ];
+    below = λ r. elim (cases_eq r region) [
+      | inl is ↦ subst (All (λ c. c < card_count l)) (sym (list_at-set_same lists region cards r within is)) below
+      | inr ne ↦ subst (All (λ c. c < card_count l)) (sym (list_at-set_other lists region cards r ne)) (old.below r)
+    ];
+  }
+
+  pub emptied_lists : AreLists l (slice_set lists region [])
+  unfolding IsDistinct
+  emptied_lists = replaced_lists [] tt (λ k d lt. absurd (omega (arith, lt)))
+
+-- some cards are inserted in turn
+pub Contains-with_cards_old : (cards more : List ℕ) (c : ℕ) → Contains cards c → Contains (with_cards cards more) c
+Contains-with_cards_old cards [] c h = h
+Contains-with_cards_old cards (m ∷ more) c h = Contains-with_cards_old (with_card cards m) more c (Contains-with_card_old cards m c h)
+
+pub Contains-with_cards : (cards more : List ℕ) (c : ℕ) → Contains more c → Contains (with_cards cards more) c
+Contains-with_cards cards [] c (k, lt, e) = absurd (omega (arith, lt))
+Contains-with_cards cards (m ∷ more) c (zero, lt, e) = Contains-with_cards_old (with_card cards m) more c (subst (Contains (with_card cards m)) e (Contains-with_card cards m))
+Contains-with_cards cards (m ∷ more) c (suc k, lt, e) = Contains-with_cards (with_card cards m) more c (k, omega (arith, lt), e)
+
+pub Contains-with_cards_cases : (cards more : List ℕ) (c : ℕ) → Contains (with_cards cards more) c → Contains cards c ⊎ Contains more c
+Contains-with_cards_cases cards [] c h = inl h
+Contains-with_cards_cases cards (m ∷ more) c h = elim (Contains-with_cards_cases (with_card cards m) more c h) [
+  | inl first ↦ elim (Contains-with_card_cases cards m c first) [
+    | inl before ↦ inl before
+    | inr is ↦ inr (0, omega arith, is)
+  ]
+  | inr rest ↦ inr (suc rest.0, omega (arith, rest.1), rest.2)
+]
+
+pub IsDistinct-with_cards : (cards more : List ℕ) → IsDistinct nat_eq cards → IsDistinct nat_eq (with_cards cards more)
+IsDistinct-with_cards cards [] d = d
+IsDistinct-with_cards cards (m ∷ more) d = IsDistinct-with_cards (with_card cards m) more (IsDistinct-with_card cards m d)
+
+All_by_member : (P : ℕ → Type 0) (xs : List ℕ) → ((x : ℕ) → Contains xs x → P x) → All P xs
+All_by_member P xs each k d lt = each (get_or xs k d) (Contains-get_or xs k d lt)
+
+pub All-with_cards : (P : ℕ → Type 0) (cards more : List ℕ) → All P cards → All P more → All P (with_cards cards more)
+All-with_cards P cards more all also = All_by_member P (with_cards cards more) (λ c h. elim (Contains-with_cards_cases cards more c h) [
+  | inl before ↦ All-contains P cards c all before
+  | inr now ↦ All-contains P more c also now
+])
 
 -- no list has a card
 none_listed : (n k : ℕ) → list_at (replicate n []) k ≡ []

@@ -16,10 +16,10 @@ use Rattle.std.proofs.lemmas.List.Sorted.{Contains-permutation, IsNonDecreasingB
 use Rattle.std.proofs.lemmas.Map.Keys.{IsDistinct-IsPermutation, IsStrictlyIncreasing-from_distinct}
 use Rattle.g1_layout.specs.Shape.{Shape}
 use Rattle.g1_layout.specs.Sets.{pair_cmp, PairSet}
-use Rattle.g1_sets.specs.Pairs.{list_at, of_card, without, pairs_from, pairs_of, Joins, AreCardsOf, AreLists, AreTied}
-use Rattle.g1_sets.proofs.ListLemmas.{in_list, to_list, joins_cases, joins_old, joins_new, list_at-set_same, list_at-set_other}
+use Rattle.g1_sets.specs.Pairs.{list_at, of_card, of_region, without, with_cards, pairs_from, pairs_of, Joins, AreCardsOf, AreLists, AreTied}
+use Rattle.g1_sets.proofs.ListLemmas.{in_list, to_list, Contains-with_cards, Contains-with_cards_old, Contains-with_cards_cases, joins_cases, joins_old, joins_new, list_at-set_same, list_at-set_other}
 
-pair_total : IsTotalOrder pair_cmp
+pub pair_total : IsTotalOrder pair_cmp
 pair_total = then_total (on_total (λ (p : ℕ × ℕ). p.0) nat_cmp_total) (on_total (λ (p : ℕ × ℕ). p.1) nat_cmp_total)
 
 pair_exact : (a b : ℕ × ℕ) → pair_cmp a b ≡ Equal → a ≡ b
@@ -35,14 +35,14 @@ same_pairs : (s t : PairSet) → ((p : ℕ × ℕ) → set.contains s p ≡ true
 same_pairs s t to from = set.same_set pair_total pair_exact s t (λ p. same_bools _ _ (to p) (from p))
 
 -- a list's set has what the list has
-in_pairs : (ps : List (ℕ × ℕ)) (p : ℕ × ℕ) → set.contains (set.from_list {R = pair_cmp} ps) p ≡ true → Contains ps p
+pub in_pairs : (ps : List (ℕ × ℕ)) (p : ℕ × ℕ) → set.contains (set.from_list {R = pair_cmp} ps) p ≡ true → Contains ps p
 in_pairs ps p h = Contains-from_any (λ x y e. pair_exact x y ((Equal-is (pair_cmp x y)).0 e)) p ps (sym (set.contains-from_list pair_total ps p) ∙ h)
 
 to_pairs : (ps : List (ℕ × ℕ)) (p : ℕ × ℕ) → Contains ps p → set.contains (set.from_list {R = pair_cmp} ps) p ≡ true
 to_pairs ps p h = set.contains-from_list pair_total ps p ∙ list_any-from_Contains (eq_by_cmp_equiv pair_total) p ps h
 
 -- the pairs of some cards with one region
-row_from : (cards : List ℕ) (region : ℕ) (p : ℕ × ℕ) → Contains (map (λ (c : ℕ). (c, region)) cards) p → Contains cards p.0 × (p.1 ≡ region)
+pub row_from : (cards : List ℕ) (region : ℕ) (p : ℕ × ℕ) → Contains (map (λ (c : ℕ). (c, region)) cards) p → Contains cards p.0 × (p.1 ≡ region)
 row_from [] region p (k, lt, e) = absurd (omega (arith, lt))
 row_from (c ∷ cs) region p (zero, lt, e) = ((0, omega arith, ap (λ (q : ℕ × ℕ). q.0) e), ap (λ (q : ℕ × ℕ). q.1) (sym e))
 row_from (c ∷ cs) region p (suc k, lt, e) =
@@ -72,7 +72,7 @@ of_card_to card (r ∷ rs) p on (suc k, lt, e) =
     (suc rest.0, omega (arith, rest.1), rest.2)
 
 -- the pairs of all lists
-from_pairs : (first : ℕ) (lists : List (List ℕ)) (p : ℕ × ℕ) → Contains (pairs_from first lists) p → (k : ℕ) × (p.1 ≡ first + k) × Contains (list_at lists k) p.0
+pub from_pairs : (first : ℕ) (lists : List (List ℕ)) (p : ℕ × ℕ) → Contains (pairs_from first lists) p → (k : ℕ) × (p.1 ≡ first + k) × Contains (list_at lists k) p.0
 from_pairs first [] p (k, lt, e) = absurd (omega (arith, lt))
 from_pairs first (cards ∷ lists) p h = elim (Contains-append_cases (map (λ (c : ℕ). (c, first)) cards) (pairs_from (first + 1) lists) p h) [
   | inl row ↦ let r : Contains cards p.0 × (p.1 ≡ first) = row_from cards first p row in (0, omega (arith, r.1), r.0)
@@ -110,6 +110,37 @@ joined_pairs card regions old new joins = same_pairs _ _
           subst (Contains (list_at new p.1)) (sym m.0) (joins_new card regions old new joins p.1 m.1)
     ]))
 
+-- some cards joined one region
+module _ (lists : List (List ℕ)) (region : ℕ) (cards : List ℕ) (within : region < length lists) where
+  many_cases : (p : ℕ × ℕ) → Contains (list_at (slice_set lists region (with_cards (list_at lists region) cards)) p.1) p.0 → Contains (list_at lists p.1) p.0 ⊎ (Contains cards p.0 × (p.1 ≡ region))
+  many_cases p h = elim (cases_eq p.1 region) [
+    | inl is ↦ elim (Contains-with_cards_cases (list_at lists region) cards p.0 (subst (λ cs. Contains cs p.0) (list_at-set_same lists region _ p.1 within is) h)) [
+      | inl before ↦ inl (subst (λ r. Contains (list_at lists r) p.0) (sym is) before)
+      | inr now ↦ inr (now, is)
+    ]
+    | inr ne ↦ inl (subst (λ cs. Contains cs p.0) (list_at-set_other lists region _ p.1 ne) h)
+  ]
+
+  many_old : (p : ℕ × ℕ) → Contains (list_at lists p.1) p.0 → Contains (list_at (slice_set lists region (with_cards (list_at lists region) cards)) p.1) p.0
+  many_old p h = elim (cases_eq p.1 region) [
+    | inl is ↦ subst (λ cs. Contains cs p.0) (sym (list_at-set_same lists region _ p.1 within is)) (Contains-with_cards_old (list_at lists region) cards p.0 (subst (λ r. Contains (list_at lists r) p.0) is h))
+    | inr ne ↦ subst (λ cs. Contains cs p.0) (sym (list_at-set_other lists region _ p.1 ne)) h
+  ]
+
+  many_new : (p : ℕ × ℕ) → Contains cards p.0 → p.1 ≡ region → Contains (list_at (slice_set lists region (with_cards (list_at lists region) cards)) p.1) p.0
+  many_new p h is = subst (λ cs. Contains cs p.0) (sym (list_at-set_same lists region _ p.1 within is)) (Contains-with_cards (list_at lists region) cards p.0 h)
+
+  pub many_pairs : pairs_of (slice_set lists region (with_cards (list_at lists region) cards)) ≡ set.union (pairs_of lists) (of_region cards region)
+  many_pairs = same_pairs _ _
+      (λ p c. set.contains-union pair_total (pairs_of lists) (of_region cards region) p ∙ elim (many_cases p (in_set _ p.0 p.1 c)) [
+        | inl before ↦ or_left _ _ (to_set lists p.0 p.1 before)
+        | inr now ↦ or_right _ _ (to_pairs _ p (row_to cards region p.0 p.1 now.1 now.0))
+      ])
+      (λ p c. to_set _ p.0 p.1 (elim (or_cases _ _ (sym (set.contains-union pair_total (pairs_of lists) (of_region cards region) p) ∙ c)) [
+        | inl before ↦ many_old p (in_set lists p.0 p.1 before)
+        | inr now ↦ let m : Contains cards p.0 × (p.1 ≡ region) = row_from cards region p (in_pairs _ p now) in many_new p m.0 m.1
+      ]))
+
 in_without : (pairs : PairSet) (region : ℕ) (p : ℕ × ℕ) → set.contains (without pairs region) p ≡ true → (set.contains pairs p ≡ true) × (p.1 ≡ region → ⊥)
 in_without pairs region p c =
     let parts = and_parts _ _ (sym (set.contains-retain pairs (λ pair. not (eqb pair.1 region)) p (λ x e. ap (λ (q : ℕ × ℕ). not (eqb q.1 region)) (sym (pair_exact p x e)))) ∙ c) in
@@ -127,8 +158,8 @@ emptied_pairs lists region within = same_pairs _ _
       | inr ne ↦ to_without (pairs_of lists) region p (to_set lists p.0 p.1 (subst (λ cs. Contains cs p.0) (list_at-set_other lists region [] p.1 ne) (in_set _ p.0 p.1 c))) ne
     ])
     (λ p c.
-      let m = in_without (pairs_of lists) region p c in
-      to_set _ p.0 p.1 (subst (λ cs. Contains cs p.0) (sym (list_at-set_other lists region [] p.1 m.1)) (in_set lists p.0 p.1 m.0)))
+    let m = in_without (pairs_of lists) region p c in
+    to_set _ p.0 p.1 (subst (λ cs. Contains cs p.0) (sym (list_at-set_other lists region [] p.1 m.1)) (in_set lists p.0 p.1 m.0)))
 
 -- where no list has a card no pair is recorded
 pub none_recorded : (n : ℕ) → pairs_of (replicate n []) ≡ set.empty

@@ -1,8 +1,9 @@
 -- A write of one region's set, seen in the lists and in the room of all.
 use Rattle.std.proofs.Common.{◌≡◌, ℕ, ◌<◌, ◌≤◌, ◌+◌, List, [], ◌∷◌, ◌++◌, length, get_or, take, drop, map, refl, sym, ap, ◌∙◌, subst, arith}
-use Rattle.std.specs.Prelude.{Contains, All, slice_set, slice_index}
+use Rattle.std.specs.Prelude.{Contains, All, sum_by, slice_set, slice_index}
 use Rattle.std.proofs.Math.Seq.{map-set_same}
 use Rattle.std.proofs.lemmas.List.{length-map, get_or-map, map-set, take_more}
+use Rattle.std.proofs.lemmas.List.Sums.{sum_by_push, sum_by-take-le}
 use Rattle.indexmap.specs.IndexSet.{IndexSet, keys, spare}
 use Rattle.g1_sets.specs.Pairs.{list_at, with_card, Joins}
 use Rattle.g1_sets.specs.Members.{lists_of, rooms_of, HasRoom, HaveRoom}
@@ -34,13 +35,13 @@ module _ {S : Type 0} (sets : List (IndexSet ℕ S)) (n : ℕ) (new : IndexSet �
       pub list_is : list_at (lists_of sets) n ≡ keys (get_or sets n d)
       list_is = get_or-map keys sets n d [] within
 
-      room_is : slice_index (rooms_of sets) n ≡ spare (get_or sets n d)
+      pub room_is : slice_index (rooms_of sets) n ≡ spare (get_or sets n d)
       room_is = get_or-map spare sets n d 0 within
 
-      in_rooms : n < length (rooms_of sets)
+      pub in_rooms : n < length (rooms_of sets)
       in_rooms = subst (λ m. n < m) (sym (length-map sets spare)) within
 
-      in_lists : n < length (lists_of sets)
+      pub in_lists : n < length (lists_of sets)
       in_lists = subst (λ m. n < m) (sym (length-map sets keys)) within
 
       module _ (card : ℕ) (regions : List ℕ) (i region : ℕ) (lt : i < length regions) (read : region ≡ get_or regions i region) (at : n ≡ region) where
@@ -49,8 +50,8 @@ module _ {S : Type 0} (sets : List (IndexSet ℕ S)) (n : ℕ) (new : IndexSet �
             → HaveRoom card (take (i + 1) regions) (lists_of (slice_set sets n new)) (rooms_of (slice_set sets n new))
         rooms_more same grows here before =
             let made : HaveRoom card (take i regions ++ n ∷ []) (lists_of sets) (slice_set (rooms_of sets) n (spare new)) =
-                room_made card (take i regions) (lists_of sets) (rooms_of sets) n (spare new) in_rooms (subst (λ m. m ≤ spare new) (sym room_is) grows)
-                (subst (λ cs. HasRoom card cs (spare new)) (same ∙ sym list_is) here) before in
+            room_made card (take i regions) (lists_of sets) (rooms_of sets) n (spare new) in_rooms (subst (λ m. m ≤ spare new) (sym room_is) grows)
+            (subst (λ cs. HasRoom card cs (spare new)) (same ∙ sym list_is) here) before in
             subst (λ rs. HaveRoom card rs (lists_of (slice_set sets n new)) (rooms_of (slice_set sets n new))) (sym (taken regions i region n lt read at))
             (subst (λ ls. HaveRoom card (take i regions ++ n ∷ []) ls (rooms_of (slice_set sets n new))) (sym (lists_kept same))
             (subst (λ ns. HaveRoom card (take i regions ++ n ∷ []) (lists_of sets) ns) (sym rooms_set) made))
@@ -76,3 +77,17 @@ pub list_here : {S : Type 0} (sets : List (IndexSet ℕ S)) (n region : ℕ) (it
 list_here sets n region item count is at all lt =
     let inside : n < length sets = let e : length (lists_of sets) ≡ length sets = length-map sets keys in omega (arith, lt, at, all, e) in
     subst (λ r. list_at (lists_of sets) r ≡ keys item) at (list_is sets n item item inside ∙ ap keys (sym is))
+
+-- one set more is counted
+module _ {S : Type 0} (sets : List (IndexSet ℕ S)) (i : ℕ) (item : IndexSet ℕ S) (total : ℕ) (lt : i < length sets) (is : item ≡ get_or sets i item) (so_far : total ≡ sum_by length (take i (lists_of sets))) where
+  pub counted : total + length (keys item) ≡ sum_by length (take (i + 1) (lists_of sets))
+  counted =
+      let inside : i < length (lists_of sets) = subst (λ m. i < m) (sym (length-map sets keys)) lt in
+      let list : get_or (lists_of sets) i [] ≡ keys item = get_or-map keys sets i item [] lt ∙ ap keys (sym is) in
+      let more : sum_by length (take (i + 1) (lists_of sets)) ≡ sum_by length (take i (lists_of sets)) + length (get_or (lists_of sets) i []) =
+      ap (sum_by length) (take_more (lists_of sets) i [] inside) ∙ sum_by_push length (take i (lists_of sets)) (get_or (lists_of sets) i []) in
+      let same : length (get_or (lists_of sets) i []) ≡ length (keys item) = ap length list in
+      omega (arith, more, same, so_far)
+
+  pub counted_le : total + length (keys item) ≤ sum_by length (lists_of sets)
+  counted_le = let le : sum_by length (take (i + 1) (lists_of sets)) ≤ sum_by length (lists_of sets) = sum_by-take-le length (lists_of sets) (i + 1) in omega (arith, le, counted)

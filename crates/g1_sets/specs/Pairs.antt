@@ -1,6 +1,6 @@
 -- What contracts see of the remembered sets: the recorded pairs (card, region), and the cards of each
 -- region in the order of their insertion.
-use Rattle.std.specs.Prelude.{◌≡◌, ◌↔◌, ◌<◌, ℕ, ◌+◌, ◌==◌, Bool, not, List, [], ◌∷◌, ◌++◌, map, length, slice_index_or, nat_eq, if◌then◌else◌, replicate, Contains, IsTrue, All, refl}
+use Rattle.std.specs.Prelude.{◌≡◌, ◌↔◌, ◌<◌, ℕ, ◌+◌, ◌==◌, Bool, not, List, [], ◌∷◌, ◌++◌, map, length, fold, slice_index_or, nat_eq, if◌then◌else◌, replicate, Contains, IsTrue, All, refl}
 use Rattle.std.specs.Coded.{Coded, code_by, coded×, coded_list, coded_ℕ}
 use Rattle.std.specs.FinSet as set
 use Rattle.std.specs.List.{IsDistinct, list_any}
@@ -60,6 +60,10 @@ new_pairs l = record { layout = l; pairs = set.empty; lists = replicate l.region
 -- the list after a card is inserted: one that is there keeps its place, and a new one goes last
 abbrev pub with_card : List ℕ → ℕ → List ℕ
 with_card cards card = if list_any (nat_eq card) cards then cards else cards ++ card ∷ []
+
+-- the list after some cards are inserted in turn
+abbrev pub with_cards : List ℕ → List ℕ → List ℕ
+with_cards cards more = fold with_card cards more
 
 -- The card is inserted into the lists of the regions, and the other lists stay.
 pub record Joins (card : ℕ) (regions : List ℕ) (old new : List (List ℕ)) : Type 0 where

@@ -1,17 +1,18 @@
 //! The set of one region, and the sets of all.
-ghost use Rattle.std.specs.Prelude.{◌≡◌, ◌<◌, ◌≤◌, nat_eq, length, All, OnOk};
-ghost use Rattle.std.specs.List.{IsDistinct};
-ghost use Rattle.indexmap.specs.IndexSet.{spare, contains};
+ghost use Rattle.std.specs.Prelude.{◌≡◌, ◌<◌, ◌≤◌, ◌+◌, ◌^◌, length, slice_index, slice_set, sum_by, All, OnOk};
+ghost use Rattle.indexmap.specs.IndexSet.{spare};
 ghost use Rattle.g1_sets.specs.Members.{lists_of, rooms_of, HasRoom, HaveRoom};
-ghost use Rattle.g1_sets.specs.Pairs.{with_card, Joins};
+ghost use Rattle.g1_sets.specs.Pairs.{list_at, with_card, with_cards, Joins};
 
+use crate::hasher::CardHasher;
 use g1_layout::{Card, NoMemory, Region};
 use indexmap::IndexSet;
+use std::hash::BuildHasherDefault;
 
-/// The cards of one region.
-pub(crate) type Members = IndexSet<Card>;
+// The cards of one region. Their numbers are the heap's own, so nobody chooses them to collide.
+pub(crate) type Members = IndexSet<Card, BuildHasherDefault<CardHasher>>;
 
-/// Makes room for the card, if it is not there. A set with room is not searched.
+// Makes room for the card where it is not there. A set with room is not searched.
 fn make_room(members: &mut Members, card: Card) -> Result<(), NoMemory>
     ensures cards { members.new.keys ≡ members.old.keys }
     ensures room { OnOk result (HasRoom card members.new.keys (spare members.new)) }
@@ -23,17 +24,36 @@ fn make_room(members: &mut Members, card: Card) -> Result<(), NoMemory>
     Ok(())
 }
 
-/// Inserts the card. A set with no room has it already.
+// Inserts the card into a set with room.
+fn insert_reserved(members: &mut Members, card: Card)
+    requires { 0 < spare members.old }
+    ensures cards { members.new.keys ≡ with_card members.old.keys card }
+    ensures room { spare members.old ≤ spare members.new + 1 }
+{
+    members.insert(card).unwrap();
+}
+
+// Inserts the card. A set with no room has it already.
 fn insert(members: &mut Members, card: Card)
     requires { HasRoom card members.old.keys (spare members.old) }
     ensures cards { members.new.keys ≡ with_card members.old.keys card }
 {
     if members.len() < members.capacity() {
-        members.insert(card).unwrap();
+        insert_reserved(members, card);
     }
 }
 
-/// Makes room for the card in each of the regions that lacks it.
+// Inserts the cards into a set with room for all of them.
+fn insert_cards(members: &mut Members, cards: &[Card])
+    requires { length cards.now ≤ spare members.old }
+    ensures { members.new.keys ≡ with_cards members.old.keys cards.now }
+{
+    for card in cards {
+        insert_reserved(members, *card);
+    }
+}
+
+// Makes room for the card in each of the regions that lacks it.
 pub(crate) fn make_rooms(
     sets: &mut [Members],
     card: Card,
@@ -49,7 +69,7 @@ pub(crate) fn make_rooms(
     Ok(())
 }
 
-/// Inserts the card into the sets of the regions.
+// Inserts the card into the sets of the regions.
 pub(crate) fn insert_into(sets: &mut [Members], card: Card, regions: &[Region])
     requires within { All (λ region. region < length sets.old) regions.now }
     requires room { HaveRoom card regions.now (lists_of sets.old) (rooms_of sets.old) }
@@ -58,4 +78,39 @@ pub(crate) fn insert_into(sets: &mut [Members], card: Card, regions: &[Region])
     for region in regions {
         insert(&mut sets[region.number() as usize], card);
     }
+}
+
+// Makes room for as many more cards in the set of one region.
+pub(crate) fn make_room_for(
+    sets: &mut [Members],
+    region: Region,
+    more: usize,
+) -> Result<(), NoMemory>
+    requires { region < length sets.old }
+    ensures cards { lists_of sets.new ≡ lists_of sets.old }
+    ensures room { OnOk result (more ≤ slice_index (rooms_of sets.new) region) }
+{
+    sets[region.number() as usize].reserve(more)?;
+    Ok(())
+}
+
+// Inserts the cards into the set of one region.
+pub(crate) fn insert_many(sets: &mut [Members], region: Region, cards: &[Card])
+    requires within { region < length sets.old }
+    requires room { length cards.now ≤ slice_index (rooms_of sets.old) region }
+    ensures { lists_of sets.new ≡ slice_set (lists_of sets.old) region (with_cards (list_at (lists_of sets.old) region) cards.now) }
+{
+    insert_cards(&mut sets[region.number() as usize], cards);
+}
+
+// How many cards the sets have together.
+pub(crate) fn total(sets: &[Members]) -> u32
+    requires { sum_by length (lists_of sets.now) < 2 ^ 32 }
+    ensures { result ≡ sum_by length (lists_of sets.now) }
+{
+    let mut total = 0;
+    for members in sets {
+        total += members.len() as u32;
+    }
+    total
 }

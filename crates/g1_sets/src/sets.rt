@@ -1,17 +1,21 @@
-//! The sets of all regions.
+//! The sets of all regions, and what is recorded in them.
 ghost use Rattle.std.specs.Prelude.{◌≡◌, ◌<◌, length, replicate, [], Some, slice_get, slice_set, All, IfOk, OnOk, OnErr};
 ghost use Rattle.std.specs.FinSet as set;
 ghost use Rattle.g1_layout.specs.Shape.{card_count};
 ghost use Rattle.g1_sets.specs.Members.{lists_of};
-ghost use Rattle.g1_sets.specs.Pairs.{list_at, of_card, without, new_pairs, AreCardsOf, AreTied, Joins};
+ghost use Rattle.g1_sets.specs.Pairs.{list_at, of_card, of_region, with_cards, without, new_pairs, AreCardsOf, AreTied, Joins};
 
-use crate::members::{Members, insert_into, make_rooms};
+use crate::members::{Members, insert_into, insert_many, make_room_for, make_rooms, total};
 use g1_layout::{Card, Layout, NoMemory, Region};
 use indexmap::IndexSet;
 use std::alloc::Global;
+use std::hash::BuildHasherDefault;
 use std::marker::Model;
 
-/// The remembered sets of all regions.
+/// The remembered sets of all regions of a heap.
+///
+/// Cards and regions are numbers of the layout that the sets were made with. No card is recorded
+/// that the caller did not name; whether it lies outside the region is the caller's affair.
 #[derive(Drop)]
 pub struct Sets {
     alloc: Global,
@@ -32,19 +36,22 @@ impl Model for Sets {
     ghost invariant = { λ a. AreLists a.layout (lists_of a.sets.items) };
 }
 
-/// A set of no card for each region.
+// A set of no card for each region.
 fn empty_sets(alloc: Global, regions: u32) -> Result<Vec<Members>, NoMemory>
     ensures { IfOk result (λ sets. lists_of sets.items ≡ replicate regions []) }
 {
     let mut sets = Vec::with_capacity(alloc, regions as usize)?;
     for _region in 0..regions {
-        sets.push(IndexSet::new(alloc))?;
+        sets.push(IndexSet::with_hasher(alloc, BuildHasherDefault::new()))?;
     }
     Ok(sets)
 }
 
 impl Sets {
-    /// No card is recorded.
+    /// Sets of no card, one for each region of the layout.
+    ///
+    /// It takes memory for one row of a set a region, and a set takes none until its first card.
+    /// `NoMemory` where that growth was refused.
     pub fn new(alloc: Global, layout: Layout) -> Result<Sets, NoMemory>
         ensures { IfOk result (λ sets. sets ≡ new_pairs layout) }
     {
@@ -57,7 +64,12 @@ impl Sets {
         })
     }
 
-    /// Records the card for each of the regions, or for none.
+    /// Records the card for each of the regions: a card that is new to a region goes last there.
+    ///
+    /// `NoMemory` where a growth was refused: then nothing has changed. Room is asked in each set
+    /// that is full and lacks the card, before the card goes into any. A region may be named twice.
+    /// Cost: one look-up a region, also where the card is there already, which asks for no growth;
+    /// a set that grows is searched once more.
     pub fn record(&mut self, card: Card, regions: &[Region]) -> Result<(), NoMemory>
         requires card { card < card_count self.old.layout }
         requires regions { All (λ region. region < self.old.layout.regions) regions.now }
@@ -72,7 +84,26 @@ impl Sets {
         Ok(())
     }
 
-    /// Whether the card is recorded for the region.
+    /// Records the cards for the region, in their order: those that are new to it go last.
+    ///
+    /// `NoMemory` where a growth was refused: then nothing has changed. Room for as many cards as
+    /// are named is asked first, in one growth at most, so a list that names cards which are there
+    /// may ask for more than it needs. Cost: one look-up a card.
+    pub fn record_many(&mut self, cards: &[Card], region: Region) -> Result<(), NoMemory>
+        requires cards { All (λ card. card < card_count self.old.layout) cards.now }
+        requires region { region < self.old.layout.regions }
+        ensures layout { OnOk result (self.new.layout ≡ self.old.layout) }
+        ensures pairs { OnOk result (self.new.pairs ≡ set.union self.old.pairs (of_region cards.now region)) }
+        ensures lists { OnOk result (self.new.lists ≡ slice_set self.old.lists region (with_cards (list_at self.old.lists region) cards.now)) }
+        ensures err { OnErr result (self.new ≡ self.old) }
+    {
+        let sets = self.sets.as_mut_slice();
+        make_room_for(sets, region, cards.len())?;
+        insert_many(sets, region, cards);
+        Ok(())
+    }
+
+    /// Whether the card is recorded for the region. One look-up.
     pub fn has(&self, card: Card, region: Region) -> bool
         requires { region < self.now.layout.regions }
         ensures { result ≡ set.contains self.now.pairs (card, region) }
@@ -80,7 +111,9 @@ impl Sets {
         self.sets[region.number() as usize].contains(&card)
     }
 
-    /// How many cards are recorded for the region.
+    /// How many cards are recorded for the region: the indices of `at` lie below it.
+    ///
+    /// The clause `tied` says that a walk by `len` and `at` meets just the region's members.
     pub fn len(&self, region: Region) -> u32
         requires { region < self.now.layout.regions }
         ensures len { result ≡ length (list_at self.now.lists region) }
@@ -90,7 +123,17 @@ impl Sets {
         self.sets[region.number() as usize].len() as u32
     }
 
-    /// The card that came at this place into the region's set.
+    /// How many pairs of a card and a region are recorded. Cost: one step a region.
+    pub fn total(&self) -> u32
+        ensures { result ≡ set.len self.now.pairs }
+    {
+        let _ = self.layout.counts();
+        total(self.sets.as_slice())
+    }
+
+    /// The card at this place of the region's set, in the order of insertion. Constant time.
+    ///
+    /// Every record and clear of the region may move the cards that follow, so a walk makes none.
     pub fn at(&self, region: Region, index: u32) -> Card
         requires region { region < self.now.layout.regions }
         requires index { index < length (list_at self.now.lists region) }
@@ -99,7 +142,10 @@ impl Sets {
         self.sets[region.number() as usize].as_slice()[index as usize]
     }
 
-    /// Empties the region's set.
+    /// Empties the region's set, and takes no memory.
+    ///
+    /// The set keeps its room: a region that is used again mostly needs as much, and then records
+    /// without a growth. Cost: one step for each 16 cards of that room.
     pub fn clear(&mut self, region: Region)
         requires { region < self.old.layout.regions }
         ensures layout { self.new.layout ≡ self.old.layout }
@@ -110,6 +156,8 @@ impl Sets {
     }
 
     /// The cards of the region's set, ascending, each once.
+    ///
+    /// `NoMemory` where the vector was refused. Cost: one copy of the set and one sort of it.
     pub fn cards(&self, region: Region) -> Result<Vec<Card>, NoMemory>
         requires { region < self.now.layout.regions }
         ensures { IfOk result (λ cards. AreCardsOf self.now.pairs region cards.items) }
