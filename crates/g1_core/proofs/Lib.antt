@@ -1,0 +1,11 @@
+pub mod SetLemmas
+pub mod TableLemmas
+pub mod MovedLemmas
+pub mod RunLemmas
+pub mod MarkLemmas
+pub mod TurnLemmas
+pub mod PartLemmas
+pub mod StoreLemmas
+pub mod DrainLemmas
+pub mod QueryLemmas
+pub mod RefineLemmas

@@ -1,0 +1,208 @@
+-- The parts of a core and the state that they stand for.
+use Rattle.std.proofs.Common.{◌≡◌, ◌≢◌, ◌⊎◌, inl, inr, ℕ, zero, suc, ◌<◌, ◌≤◌, ◌+◌, Bool, true, false, cond, eqb, set as list_set, List, [], ◌∷◌, ◌++◌, length, get_or, drop, Option, Some, None, refl, sym, ap, ◌∙◌, subst, arith, ◌↔◌}
+use Rattle.std.specs.Prelude.{Contains, All, IfSome, nat_eq, slice_get}
+use Rattle.std.specs.List.{IsDistinct}
+use Rattle.std.specs.FinSet as set
+use Rattle.std.proofs.lemmas.Bool.{cases_lt, cases_eq, or_cases, or_left, or_right, and_parts, and_from, false_from_ne_true}
+use Rattle.std.proofs.lemmas.List.{length-set}
+use Rattle.std.proofs.lemmas.List.Elements.{Contains-push, Contains-append_left, Contains-push_cases}
+use Rattle.g1_layout.specs.Shape.{slot_count, card_count}
+use Rattle.g1_layout.specs.Sets.{PairSet}
+use Rattle.g1_layout.proofs.ShapeLemmas.{region_of_below}
+use Rattle.g1_heap.specs.declared.mark.Mark.{Mark}
+use Rattle.g1_heap.specs.declared.mark.Mark.TheVariants.{Clean, Dirty, Held}
+use Rattle.g1_heap.specs.Cells.{Cells, AreCells, HoldsIn, with_mark, with_reads}
+use Rattle.g1_sets.specs.Pairs.{of_card}
+use Rattle.g1_hot.specs.declared.offer.Offer.{Offer}
+use Rattle.g1_hot.specs.Ring.{Ring, answer, popped}
+use Rattle.g1_core.specs.Table.{Table, IsCovered, IsPending, refined}
+use Rattle.g1_core.specs.Machine.{State, IsPlaced, AreParts, pending_of, table_from, state_from, gained}
+use Rattle.g1_core.specs.Turns.{is_dirty, offer_to}
+use Rattle.g1_core.proofs.SetLemmas.{same_pairs, in_pairs, to_pairs, of_card_from, of_card_to, pair_total, All_by_member, in_list, in_set}
+use Rattle.g1_core.proofs.TableLemmas.{is_slot, refined_recorded, refined_covered, held_from_Holds, Holds_from_held}
+use Rattle.g1_core.proofs.MarkLemmas.{one_of, itself, held_clean, dirty_clean, dirty_held, marked_cases, from_pending, to_pending, is_card, pending_cleaned, pending_kept, mark_here, mark_there, one_less}
+use Rattle.g1_core.proofs.TurnLemmas.{push_distinct, front_apart, rest_distinct, IsDirty, dirty_from, to_dirty}
+
+-- what recording a card's targets adds is what refining it adds
+pub gained_is : (heap : Cells) (pairs : PairSet) (card : ℕ) (targets : List ℕ) → ((r : ℕ) → Contains targets r ↔ HoldsIn heap.layout heap.refs card r) → set.union pairs (of_card card targets) ≡ gained heap pairs card
+gained_is heap pairs card targets h =
+    let t : Table = table_from heap pairs in
+    same_pairs _ _
+    (λ p c. refined_recorded (card ∷ []) t p ∙ elim (or_cases _ _ (sym (set.contains-union pair_total pairs (of_card card targets) p) ∙ c)) [
+      | inl o ↦ or_left _ _ o
+      | inr m ↦
+          let q : (p.0 ≡ card) × Contains targets p.1 = of_card_from card targets p (in_pairs _ p m) in
+          or_right _ _ (and_from _ _ (held_from_Holds t p.0 p.1 (subst (λ k. HoldsIn heap.layout heap.refs k p.1) (sym q.0) ((h p.1).0 q.1))) (in_set (card ∷ []) p.0 (itself p.0 card q.0)))
+    ])
+    (λ p c. set.contains-union pair_total pairs (of_card card targets) p ∙ elim (or_cases _ _ (sym (refined_recorded (card ∷ []) t p) ∙ c)) [
+      | inl o ↦ or_left _ _ o
+      | inr m ↦
+          let q = and_parts _ _ m in
+          let is : p.0 ≡ card = one_of p.0 card (in_list (card ∷ []) p.0 q.1) in
+          or_right _ _ (to_pairs _ p (of_card_to card targets p is ((h p.1).1 (subst (λ k. HoldsIn heap.layout heap.refs k p.1) is (Holds_from_held t p.0 p.1 q.0)))))
+    ])
+
+pub in_rest : (x : ℕ) (xs : List ℕ) (q : ℕ) → q ≢ x → Contains (x ∷ xs) q → Contains xs q
+in_rest x xs q ne (zero, lt, e) = absurd (ne (sym e))
+in_rest x xs q ne (suc k, lt, e) = (k, omega arith, e)
+
+module _ (heap : Cells) (pairs : PairSet) (ring : Ring) (pending : ℕ) (parts : AreParts heap pairs ring pending) where
+  abbrev pub now : State
+  now = state_from heap pairs ring
+
+  abbrev pub mark_of : ℕ → Mark
+  mark_of card = get_or heap.marks card Clean
+
+  pub parts_placed : IsPlaced now
+  parts_placed = record {
+    some = parts.some;
+    distinct = parts.distinct;
+    pending = All_by_member (IsPending (table_from heap pairs)) ring.cards (λ q c. to_pending heap.marks q (held_clean (mark_of q) ((parts.held q).0 c)));
+  }
+
+  -- a dirty card is one with the mark dirty
+  pub dirty_mark : (card : ℕ) → mark_of card ≡ Dirty → IsDirty now card
+  dirty_mark card is = record {
+    pending = to_pending heap.marks card (dirty_clean (mark_of card) is);
+    apart = λ c. dirty_held (mark_of card) is ((parts.held card).0 c);
+  }
+
+  pub mark_dirty : (card : ℕ) → is_dirty now card ≡ true → mark_of card ≡ Dirty
+  mark_dirty card h =
+      let d : IsDirty now card = dirty_from now card h in
+      elim (marked_cases (mark_of card) (from_pending heap.marks card d.pending)) [
+        | inl is ↦ is
+        | inr held ↦ absurd (d.apart ((parts.held card).1 held))
+      ]
+
+  pub is_dirty_mark : (card : ℕ) → mark_of card ≡ Dirty → is_dirty now card ≡ true
+  is_dirty_mark card is = let d : IsDirty now card = dirty_mark card is in to_dirty now card d.pending d.apart
+
+  pub not_dirty : (card : ℕ) → mark_of card ≢ Dirty → is_dirty now card ≡ false
+  not_dirty card ne = false_from_ne_true _ (λ h. ne (mark_dirty card h))
+
+  pub offer_dirty : (card : ℕ) (o : Offer) → mark_of card ≡ Dirty → answer ring card ≡ o → offer_to now card ≡ Some o
+  offer_dirty card o dirty is = ap (λ b. cond b (Some (answer ring card)) None) (is_dirty_mark card dirty) ∙ ap (λ (o : Offer). Some o) is
+
+  pub offer_none : (card : ℕ) → mark_of card ≢ Dirty → offer_to now card ≡ None
+  offer_none card ne = ap (λ b. cond {A = Option Offer} b (Some (answer ring card)) None) (not_dirty card ne)
+
+  -- reads change nothing else
+  pub read_parts : (more : ℕ) → AreParts (with_reads heap more) pairs ring pending
+  read_parts more = record {
+    cells = record { shape = parts.cells.shape; slots = parts.cells.slots; places = parts.cells.places; cards = parts.cells.cards };
+    counts = parts.counts; some = parts.some; distinct = parts.distinct; held = parts.held; known = parts.known; cover = parts.cover;
+  }
+
+  -- A pending card is refined and clean afterwards, and the ring holds just the other cards.
+  module _ (ring' : Ring) (pending' card more : ℕ) (marked : mark_of card ≢ Clean) (less : pending' + 1 ≡ pending)
+      (counts : length ring'.counts ≡ length ring.counts) (capacity : ring'.capacity ≡ ring.capacity) (distinct : IsDistinct nat_eq ring'.cards)
+      (stands : (q : ℕ) → Contains ring'.cards q ↔ (Contains ring.cards q × (q ≢ card))) where
+    inside : card < length heap.marks
+    inside = is_card heap.marks card marked
+
+    pub cleaned_state : state_from (with_mark (with_reads heap more) card Clean) (gained heap pairs card) ring' ≡ record { table = refined (card ∷ []) (table_from heap pairs); ring = ring' }
+    cleaned_state = λ i. record { table = record { layout = heap.layout; refs = heap.refs; pending = pending_cleaned heap.marks card Clean inside refl i; recorded = gained heap pairs card }; ring = ring' }
+
+    pub cleaned_parts : AreParts (with_mark (with_reads heap more) card Clean) (gained heap pairs card) ring' pending'
+    cleaned_parts =
+        let fewer : set.len (pending_of (list_set heap.marks card Clean)) + 1 ≡ set.len (pending_of heap.marks) = ap (λ s. set.len s + 1) (pending_cleaned heap.marks card Clean inside refl) ∙ one_less (pending_of heap.marks) card (to_pending heap.marks card marked) in
+        record {
+          cells = record { shape = parts.cells.shape; slots = parts.cells.slots; places = parts.cells.places; cards = length-set heap.marks card Clean ∙ parts.cells.cards };
+          counts = counts ∙ parts.counts;
+          some = omega (arith, capacity, parts.some);
+          distinct = distinct;
+          held = λ q. (
+            λ c. let was = (stands q).0 c in mark_there heap.marks card Clean inside q was.1 ∙ (parts.held q).0 was.0,
+            λ is. elim (cases_eq q card) [
+              | inl same ↦ absurd (held_clean _ is (ap (λ (k : ℕ). get_or (list_set heap.marks card Clean) k Clean) same ∙ mark_here heap.marks card Clean inside))
+              | inr ne ↦ (stands q).1 ((parts.held q).1 (sym (mark_there heap.marks card Clean inside q ne) ∙ is), ne)
+            ],
+          );
+          known = omega (arith, fewer, less, parts.known);
+          cover = subst IsCovered (sym (ap (λ (s : State). s.table) cleaned_state)) (refined_covered (card ∷ []) (table_from heap pairs) parts.cover);
+        }
+
+  -- A dirty card goes last into the ring.
+  module _ (ring' : Ring) (card : ℕ) (dirty : mark_of card ≡ Dirty) (counts : length ring'.counts ≡ length ring.counts) (capacity : ring'.capacity ≡ ring.capacity) (cards : ring'.cards ≡ ring.cards ++ card ∷ []) where
+    within : card < length heap.marks
+    within = is_card heap.marks card (dirty_clean (mark_of card) dirty)
+
+    same_pending : pending_of (list_set heap.marks card Held) ≡ pending_of heap.marks
+    same_pending = pending_kept heap.marks card Held within (held_clean Held refl) (dirty_clean (mark_of card) dirty)
+
+    pub held_state : state_from (with_mark heap card Held) pairs ring' ≡ record { table = table_from heap pairs; ring = ring' }
+    held_state = λ i. record { table = record { layout = heap.layout; refs = heap.refs; pending = same_pending i; recorded = pairs }; ring = ring' }
+
+    pub held_parts : AreParts (with_mark heap card Held) pairs ring' pending
+    held_parts =
+        let fresh : Contains ring.cards card → ⊥ = (dirty_mark card dirty).apart in
+        record {
+          cells = record { shape = parts.cells.shape; slots = parts.cells.slots; places = parts.cells.places; cards = length-set heap.marks card Held ∙ parts.cells.cards };
+          counts = counts ∙ parts.counts;
+          some = omega (arith, capacity, parts.some);
+          distinct = subst (IsDistinct nat_eq) (sym cards) (push_distinct ring.cards card parts.distinct fresh);
+          held = λ q. subst (λ cs. Contains cs q ↔ (get_or (list_set heap.marks card Held) q Clean ≡ Held)) (sym cards) (
+            λ c. elim (cases_eq q card) [
+              | inl is ↦ ap (λ (k : ℕ). get_or (list_set heap.marks card Held) k Clean) is ∙ mark_here heap.marks card Held within
+              | inr ne ↦ mark_there heap.marks card Held within q ne ∙ elim (Contains-push_cases ring.cards card q c) [ inl c' ↦ (parts.held q).0 c' | inr is ↦ absurd (ne (sym is)) ]
+            ],
+            λ held. elim (cases_eq q card) [
+              | inl is ↦ subst (Contains (ring.cards ++ card ∷ [])) (sym is) (Contains-push ring.cards card)
+              | inr ne ↦ Contains-append_left ring.cards (card ∷ []) q ((parts.held q).1 (sym (mark_there heap.marks card Held within q ne) ∙ held))
+            ],
+          );
+          known = parts.known ∙ ap set.len (sym same_pending);
+          cover = subst IsCovered (sym (ap (λ (s : State). s.table) held_state)) parts.cover;
+        }
+
+  -- a dirty card does not stand in the ring
+  pub apart_stands : (card : ℕ) → mark_of card ≡ Dirty → (q : ℕ) → Contains ring.cards q ↔ (Contains ring.cards q × (q ≢ card))
+  apart_stands card dirty q = (λ c. (c, λ e. (dirty_mark card dirty).apart (subst (Contains ring.cards) e c)), λ c. c.0)
+
+  -- the oldest card of the ring
+  module _ (oldest : ℕ) (rest : List ℕ) (cards : ring.cards ≡ oldest ∷ rest) where
+    whole : IsDistinct nat_eq (oldest ∷ rest)
+    whole = subst (IsDistinct nat_eq) cards parts.distinct
+
+    pub oldest_mark : mark_of oldest ≡ Held
+    oldest_mark = (parts.held oldest).0 (subst (λ xs. Contains xs oldest) (sym cards) (0, omega arith, refl))
+
+    pub oldest_within : oldest < card_count heap.layout
+    oldest_within = let inside : oldest < length heap.marks = is_card heap.marks oldest (held_clean (mark_of oldest) oldest_mark) in omega (arith, inside, parts.cells.cards)
+
+    pub left_is : (popped ring).cards ≡ rest
+    left_is = ap (λ (xs : List ℕ). drop 1 xs) cards
+
+    pub left_distinct : IsDistinct nat_eq (popped ring).cards
+    left_distinct = subst (IsDistinct nat_eq) (sym left_is) (rest_distinct oldest rest whole)
+
+    others : (q : ℕ) → Contains rest q ↔ (Contains (oldest ∷ rest) q × (q ≢ oldest))
+    others q = (
+      λ c. ((suc c.0, omega (arith, c.1), c.2), λ e. front_apart oldest rest whole (subst (Contains rest) e c)),
+      λ c. in_rest oldest rest q c.1 c.0,
+    )
+
+    pub left_stands : (q : ℕ) → Contains (popped ring).cards q ↔ (Contains ring.cards q × (q ≢ oldest))
+    left_stands q = subst (λ xs. Contains xs q ↔ (Contains ring.cards q × (q ≢ oldest))) (sym left_is) (subst (λ xs. Contains rest q ↔ (Contains xs q × (q ≢ oldest))) (sym cards) (others q))
+
+    -- a dirty card is another one
+    pub differs : (card : ℕ) → mark_of card ≡ Dirty → card ≢ oldest
+    differs card dirty e = dirty_held (mark_of oldest) (ap (λ (k : ℕ). mark_of k) (sym e) ∙ dirty) oldest_mark
+
+pub record IsFront (xs : List ℕ) (d : ℕ) : Type 0 where
+  pub rest : List ℕ
+  pub cards : xs ≡ d ∷ rest
+
+pub front_of : (xs : List ℕ) (d : ℕ) → Some d ≡ slice_get xs 0 → IsFront xs d
+front_of [] d e = cc
+front_of (x ∷ xs) d e = let same : x ≡ d = cc in record { rest = xs; cards = ap (λ (y : ℕ). y ∷ xs) same }
+
+-- the regions that a card holds into are of the layout
+pub targets_within : (heap : Cells) (regions : List ℕ) (card : ℕ) → AreCells heap → ((r : ℕ) → Contains regions r ↔ HoldsIn heap.layout heap.refs card r) → All (λ region. region < heap.layout.regions) regions
+targets_within heap regions card cells h = All_by_member (λ region. region < heap.layout.regions) regions (λ r c.
+    let hold : HoldsIn heap.layout heap.refs card r = (h r).0 c in
+    let slot : hold.slot < length heap.refs = is_slot heap.refs hold.slot hold.place hold.refers in
+    let place : IfSome (get_or heap.refs hold.slot None) (λ place. place < slot_count heap.layout) = cells.places hold.slot None slot in
+    let below : hold.place < slot_count heap.layout = subst (λ o. IfSome o (λ place. place < slot_count heap.layout)) hold.refers place in
+    subst (λ (r : ℕ). r < heap.layout.regions) hold.into (region_of_below heap.layout hold.place cells.shape below))

@@ -1,0 +1,23 @@
+-- A question changes nothing.
+use Rattle.std.proofs.Common.{◌≡◌, ◌<◌, ℕ, Bool, List, Option, refl, sym}
+use Rattle.std.specs.FinSet as set
+use Rattle.g1_layout.specs.Shape.{slot_count, card_count}
+use Rattle.g1_core.specs.declared.reply.Status.{Status}
+use Rattle.g1_core.specs.Table.{Table, target_of, AreMembers}
+use Rattle.g1_core.specs.Run.{IsStep}
+use Rattle.g1_core.specs.Calls.{target_entry, pending_entry, members_entry, status_entry}
+use Rattle.g1_core.proofs.TurnLemmas.{refined_none}
+use Rattle.g1_core.proofs.StoreLemmas.{none_refinable}
+
+module _ (caller : ℕ) (t : Table) where
+  pub target_step : (slot : ℕ) (target : Option ℕ) → slot < slot_count t.layout → target ≡ target_of t slot → IsStep t (target_entry caller slot target) t
+  target_step slot target within is = record { allowed = record { numbers = within; refines = none_refinable t; answers = (refl, is) }; after = sym (refined_none t) }
+
+  pub pending_step : (card : ℕ) (answer : Bool) → card < card_count t.layout → answer ≡ set.contains t.pending card → IsStep t (pending_entry caller card answer) t
+  pending_step card answer within is = record { allowed = record { numbers = within; refines = none_refinable t; answers = (refl, is) }; after = sym (refined_none t) }
+
+  pub members_step : (region : ℕ) (cards : List ℕ) → region < t.layout.regions → AreMembers t region cards → IsStep t (members_entry caller region cards) t
+  members_step region cards within are = record { allowed = record { numbers = within; refines = none_refinable t; answers = (refl, are) }; after = sym (refined_none t) }
+
+  pub status_step : (status : Status) → status.pending ≡ set.len t.pending → status.recorded ≡ set.len t.recorded → IsStep t (status_entry caller status) t
+  status_step status pending recorded = record { allowed = record { numbers = tt; refines = none_refinable t; answers = (refl, pending, recorded) }; after = sym (refined_none t) }

@@ -1,0 +1,178 @@
+-- The turns of cards over the parts of a core.
+use Rattle.std.proofs.Common.{◌≡◌, ◌≢◌, inl, inr, ℕ, ◌<◌, ◌≤◌, ◌+◌, Bool, true, false, cond, List, [], ◌∷◌, ◌++◌, length, get_or, take, drop, Option, Some, None, refl, sym, ap, ◌∙◌, subst, arith, ◌↔◌}
+use Rattle.std.specs.Prelude.{Contains, nat_eq}
+use Rattle.std.specs.List.{IsDistinct}
+use Rattle.std.proofs.lemmas.Bool.{cases_eq}
+use Rattle.std.proofs.lemmas.List.{length-set}
+use Rattle.g1_layout.specs.Shape.{card_count}
+use Rattle.g1_heap.specs.declared.mark.Mark.{Mark}
+use Rattle.g1_heap.specs.declared.mark.Mark.TheVariants.{Clean, Dirty, Held}
+use Rattle.g1_heap.specs.Cells.{Cells, with_mark, with_reads}
+use Rattle.g1_sets.specs.Pairs.{Pairs}
+use Rattle.g1_hot.specs.declared.offer.Offer.{Offer}
+use Rattle.g1_hot.specs.declared.offer.Offer.TheVariants.{Cold, Kept, Out}
+use Rattle.g1_hot.specs.Ring.{Ring, answer, counted, offered, cards_after, popped}
+use Rattle.g1_layout.specs.Sets.{PairSet}
+use Rattle.g1_core.specs.Table.{Table, IsCovered, refined}
+use Rattle.g1_core.specs.Settings.{Settings}
+use Rattle.g1_core.specs.Machine.{Machine, State, IsCore, IsPlaced, AreParts, pending_of, table_from, state_from, machine_from, gained}
+use Rattle.g1_core.specs.Turns.{Round, turn, turns, turn_by, start, offer_to, state_after, refined_by, hot_by, skipped_by}
+use Rattle.g1_core.specs.Refinement.{IsTurned, round_of}
+use Rattle.g1_core.specs.declared.reply.RefineReply.{RefineReply}
+use Rattle.g1_core.proofs.TableLemmas.{refined_covered}
+use Rattle.g1_core.proofs.MarkLemmas.{held_clean, dirty_clean, dirty_held, to_pending, is_card, mark_there, some_member}
+use Rattle.g1_core.proofs.TurnLemmas.{answer_cases, refined_none, IsRound, turns_round, start_round, round_more}
+use Rattle.g1_core.proofs.PartLemmas.{parts_placed, dirty_mark, offer_dirty, offer_none, read_parts, cleaned_state, cleaned_parts, held_state, held_parts, apart_stands, oldest_mark, oldest_within, left_distinct, left_stands, differs}
+
+-- the oldest card, where the ring answers that it leaves
+pub record IsOutOf (r : Ring) (card d : ℕ) : Type 0 where
+  pub rest : List ℕ
+  pub cards : r.cards ≡ d ∷ rest
+
+pub is_out : (r : Ring) (card d : ℕ) → 1 ≤ r.capacity → answer r card ≡ Out d → IsOutOf r card d
+is_out r card d some e = elim (answer_cases r card some) [
+  | inl cold ↦ let both : Out d ≡ Cold = sym e ∙ cold in cc
+  | inr (inl kept) ↦ let both : Out d ≡ Kept = sym e ∙ kept in cc
+  | inr (inr o) ↦
+      let both : Out o.oldest ≡ Out d = sym o.answers ∙ e in
+      let same : o.oldest ≡ d = cc in
+      record { rest = o.rest; cards = o.cards ∙ ap (λ (x : ℕ). x ∷ o.rest) same }
+]
+
+-- what the turn of a card leaves
+pub record IsTurnedTo (m : Machine) (card : ℕ) (o : Option Offer) (heap' : Cells) (sets' : Pairs) (ring' : Ring) (pending' : ℕ) : Type 0 where
+  pub core : IsCore heap' sets' ring' pending'
+  pub offer : o ≡ offer_to m.state card
+  pub state : state_from heap' sets'.pairs ring' ≡ state_after m.state card o
+
+-- the same, before the parts are put in
+record IsTurnedFrom (heap : Cells) (pairs : PairSet) (ring : Ring) (card : ℕ) (o : Offer) (heap' : Cells) (pairs' : PairSet) (ring' : Ring) (pending' : ℕ) : Type 0 where
+  parts : AreParts heap' pairs' ring' pending'
+  state : state_from heap' pairs' ring' ≡ state_after (state_from heap pairs ring) card (Some o)
+
+module _ (heap : Cells) (pairs : PairSet) (ring : Ring) (pending : ℕ) (parts : AreParts heap pairs ring pending) (card : ℕ) (dirty : get_or heap.marks card Clean ≡ Dirty) where
+  as_many : length (offered ring card).counts ≡ length ring.counts
+  as_many = length-set ring.counts card _
+
+  cold_turn : (more pending' : ℕ) → pending' + 1 ≡ pending → answer ring card ≡ Cold → IsTurnedFrom heap pairs ring card Cold (with_mark (with_reads heap more) card Clean) (gained heap pairs card) (offered ring card) pending'
+  cold_turn more pending' less cold =
+      let same : (offered ring card).cards ≡ ring.cards = ap (cards_after ring.cards card) cold in
+      let marked : get_or heap.marks card Clean ≢ Clean = dirty_clean (get_or heap.marks card Clean) dirty in
+      let distinct : IsDistinct nat_eq (offered ring card).cards = subst (IsDistinct nat_eq) (sym same) parts.distinct in
+      let stands : (q : ℕ) → Contains (offered ring card).cards q ↔ (Contains ring.cards q × (q ≢ card)) = λ q. subst (λ xs. Contains xs q ↔ (Contains ring.cards q × (q ≢ card))) (sym same) (apart_stands heap pairs ring pending parts card dirty q) in
+      record {
+        parts = cleaned_parts heap pairs ring pending parts (offered ring card) pending' card more marked less as_many refl distinct stands;
+        state = cleaned_state heap pairs ring pending parts (offered ring card) pending' card more marked less as_many refl distinct stands;
+      }
+
+  kept_turn : answer ring card ≡ Kept → IsTurnedFrom heap pairs ring card Kept (with_mark heap card Held) pairs (offered ring card) pending
+  kept_turn kept =
+      let cards : (offered ring card).cards ≡ ring.cards ++ card ∷ [] = ap (cards_after ring.cards card) kept in
+      record {
+        parts = held_parts heap pairs ring pending parts (offered ring card) card dirty as_many refl cards;
+        state = held_state heap pairs ring pending parts (offered ring card) card dirty as_many refl cards ∙ (λ i. record { table = sym (refined_none (table_from heap pairs)) i; ring = offered ring card });
+      }
+
+  module _ (more pending' d : ℕ) (less : pending' + 1 ≡ pending) (out : answer ring card ≡ Out d) where
+    front : IsOutOf ring card d
+    front = is_out ring card d parts.some out
+
+    d_marked : get_or heap.marks d Clean ≢ Clean
+    d_marked = held_clean (get_or heap.marks d Clean) (oldest_mark heap pairs ring pending parts d front.rest front.cards)
+
+    abbrev between : Cells
+    between = with_mark (with_reads heap more) d Clean
+
+    abbrev between_pairs : PairSet
+    between_pairs = gained heap pairs d
+
+    left_parts : AreParts between between_pairs (popped ring) pending'
+    left_parts = cleaned_parts heap pairs ring pending parts (popped ring) pending' d more d_marked less refl refl (left_distinct heap pairs ring pending parts d front.rest front.cards) (left_stands heap pairs ring pending parts d front.rest front.cards)
+
+    left_state : state_from between between_pairs (popped ring) ≡ record { table = refined (d ∷ []) (table_from heap pairs); ring = popped ring }
+    left_state = cleaned_state heap pairs ring pending parts (popped ring) pending' d more d_marked less refl refl (left_distinct heap pairs ring pending parts d front.rest front.cards) (left_stands heap pairs ring pending parts d front.rest front.cards)
+
+    still_dirty : get_or between.marks card Clean ≡ Dirty
+    still_dirty = mark_there heap.marks d Clean (is_card heap.marks d d_marked) card (differs heap pairs ring pending parts d front.rest front.cards card dirty) ∙ dirty
+
+    out_turn : IsTurnedFrom heap pairs ring card (Out d) (with_mark between card Held) between_pairs (offered ring card) pending'
+    out_turn =
+        let cards : (offered ring card).cards ≡ (popped ring).cards ++ card ∷ [] = ap (cards_after ring.cards card) out in
+        record {
+          parts = held_parts between between_pairs (popped ring) pending' left_parts (offered ring card) card still_dirty as_many refl cards;
+          state = held_state between between_pairs (popped ring) pending' left_parts (offered ring card) card still_dirty as_many refl cards ∙ (λ i. record { table = (left_state i).table; ring = offered ring card });
+        }
+
+module _ (heap : Cells) (sets : Pairs) (ring : Ring) (pending : ℕ) (settings : Settings) (m : Machine) (core : IsCore heap sets ring pending) (view : machine_from heap sets.pairs ring settings ≡ m) (card : ℕ) where
+  -- a card that is not dirty has no turn
+  pub none_offered : (get_or heap.marks card Clean ≢ Dirty) → None ≡ offer_to m.state card
+  none_offered ne = sym (ap (λ (m : Machine). offer_to m.state card) (sym view) ∙ offer_none heap sets.pairs ring pending core.parts card ne)
+
+  -- a marked card is one that is pending
+  pub some_pending : (q : ℕ) → get_or heap.marks q Clean ≢ Clean → 1 ≤ pending
+  some_pending q marked =
+      let some : 1 ≤ _ = some_member (pending_of heap.marks) q (to_pending heap.marks q marked) in
+      omega (arith, some, core.parts.known)
+
+  module _ (dirty : get_or heap.marks card Clean ≡ Dirty) where
+    pub apart : Contains ring.cards card → ⊥
+    apart = (dirty_mark heap sets.pairs ring pending core.parts card dirty).apart
+
+    pub dirty_pending : 1 ≤ pending
+    dirty_pending = some_pending card (dirty_clean (get_or heap.marks card Clean) dirty)
+
+    module _ (offer : Offer) (answers : offer ≡ answer ring card) (heap' : Cells) (sets' : Pairs) (ring' : Ring) (pending' : ℕ) (ring_is : ring' ≡ offered ring card) where
+      put : (o : Offer) (h : Cells) (p : PairSet) → offer ≡ o → h.layout ≡ heap.layout → heap' ≡ h → sets'.pairs ≡ p → sets'.layout ≡ sets.layout → IsTurnedFrom heap sets.pairs ring card o h p (offered ring card) pending'
+          → IsTurnedTo m card (Some offer) heap' sets' ring' pending'
+      put o h p is same eh ep el t = record {
+        core = record {
+          layouts = el ∙ core.layouts ∙ sym same ∙ sym (ap (λ (c : Cells). c.layout) eh);
+          parts = subst (λ h. AreParts h sets'.pairs ring' pending') (sym eh) (subst (λ p. AreParts h p ring' pending') (sym ep) (subst (λ r. AreParts h p r pending') (sym ring_is) t.parts));
+        };
+        offer = sym (offer_dirty heap sets.pairs ring pending core.parts card offer dirty (sym answers)) ∙ ap (λ (m : Machine). offer_to m.state card) view;
+        state = (λ i. state_from (eh i) (ep i) (ring_is i)) ∙ t.state ∙ (λ i. state_after (view i).state card (Some (sym is i)));
+      }
+
+      pub turned_cold : (more : ℕ) → offer ≡ Cold → heap' ≡ with_mark (with_reads heap more) card Clean → sets'.pairs ≡ gained heap sets.pairs card → sets'.layout ≡ sets.layout → pending' + 1 ≡ pending → IsTurnedTo m card (Some offer) heap' sets' ring' pending'
+      turned_cold more is eh ep el less = put Cold (with_mark (with_reads heap more) card Clean) (gained heap sets.pairs card) is refl eh ep el (cold_turn heap sets.pairs ring pending core.parts card dirty more pending' less (sym answers ∙ is))
+
+      pub turned_kept : offer ≡ Kept → heap' ≡ with_mark heap card Held → sets' ≡ sets → pending' ≡ pending → IsTurnedTo m card (Some offer) heap' sets' ring' pending'
+      turned_kept is eh es ep = put Kept (with_mark heap card Held) sets.pairs is refl eh (ap (λ (s : Pairs). s.pairs) es) (ap (λ (s : Pairs). s.layout) es)
+          (subst (λ n. IsTurnedFrom heap sets.pairs ring card Kept (with_mark heap card Held) sets.pairs (offered ring card) n) (sym ep) (kept_turn heap sets.pairs ring pending core.parts card dirty (sym answers ∙ is)))
+
+      pub turned_out : (more d : ℕ) → offer ≡ Out d → heap' ≡ with_mark (with_mark (with_reads heap more) d Clean) card Held → sets'.pairs ≡ gained heap sets.pairs d → sets'.layout ≡ sets.layout → pending' + 1 ≡ pending → IsTurnedTo m card (Some offer) heap' sets' ring' pending'
+      turned_out more d is eh ep el less = put (Out d) (with_mark (with_mark (with_reads heap more) d Clean) card Held) (gained heap sets.pairs d) is refl eh ep el (out_turn heap sets.pairs ring pending core.parts card dirty more pending' d less (sym answers ∙ is))
+
+    -- the card that is pushed out is one of the heap
+    pub out_within : (d : ℕ) → answer ring card ≡ Out d → d < card_count heap.layout
+    out_within d is = let o : IsOutOf ring card d = is_out ring card d core.parts.some is in oldest_within heap sets.pairs ring pending core.parts d o.rest o.cards
+
+-- reads alone
+pub core_read : (heap heap' : Cells) (sets sets' : Pairs) (ring : Ring) (pending pending' more : ℕ) → IsCore heap sets ring pending → heap' ≡ with_reads heap more → sets' ≡ sets → pending' ≡ pending → IsCore heap' sets' ring pending'
+core_read heap heap' sets sets' ring pending pending' more core eh es ep =
+    let read : IsCore (with_reads heap more) sets ring pending = record { layouts = core.layouts; parts = read_parts heap sets.pairs ring pending core.parts more } in
+    subst (λ h. IsCore h sets' ring pending') (sym eh) (subst (λ s. IsCore (with_reads heap more) s ring pending') (sym es) (subst (λ n. IsCore (with_reads heap more) sets ring n) (sym ep) read))
+
+-- turns keep cover
+pub turned_covered : (old new : State) (cards : List ℕ) (reply : RefineReply) → IsPlaced old → IsCovered old.table → IsTurned old cards reply new → IsCovered new.table
+turned_covered old new cards reply placed cover h =
+    let round : IsRound old.table (round_of new reply) = subst (IsRound old.table) (sym h.turned) (turns_round old.table (take h.many cards) (start old) (start_round old placed)) in
+    subst IsCovered (sym round.table) (refined_covered reply.refined old.table cover)
+
+-- the round that a tally tells
+abbrev pub round_at : State → List ℕ → ℕ → ℕ → Round
+round_at s refined hot skipped = record { state = s; refined = refined; hot = hot; skipped = skipped }
+
+-- one turn more
+pub tally_more : (s0 : State) (cards : List ℕ) (i card : ℕ) (s s' : State) (xs xs' : List ℕ) (hot hot' skipped skipped' : ℕ) (o : Option Offer) → i < length cards → card ≡ get_or cards i card → o ≡ offer_to s card → s' ≡ state_after s card o
+    → xs' ≡ xs ++ refined_by card o → hot' ≡ hot + hot_by o → skipped' ≡ skipped + skipped_by o → round_at s xs hot skipped ≡ turns (start s0) (take i cards) → round_at s' xs' hot' skipped' ≡ turns (start s0) (take (i + 1) cards)
+tally_more s0 cards i card s s' xs xs' hot hot' skipped skipped' o =
+    round_more s0 cards i card s s' (record { taken = 0; refined = xs; hot = hot; skipped = skipped; left = 0; short = false }) (record { taken = 0; refined = xs'; hot = hot'; skipped = skipped'; left = 0; short = false }) o
+
+-- the reply of the turns so far
+pub tally_turned : (old new : State) (cards : List ℕ) (i : ℕ) (reply : RefineReply) (xs : List ℕ) (hot skipped : ℕ) → i ≤ length cards → (reply.short ≡ false → i ≡ length cards) → reply.taken ≡ cond reply.short 0 1 → reply.left ≡ 0
+    → reply.refined ≡ xs → reply.hot ≡ hot → reply.skipped ≡ skipped → round_at new xs hot skipped ≡ turns (start old) (take i cards) → IsTurned old cards reply new
+tally_turned old new cards i reply xs hot skipped within whole taken left refined_is hot_is skipped_is round = record {
+  many = i; within = within; whole = whole; taken = taken; left = left;
+  turned = (λ i. record { state = new; refined = refined_is i; hot = hot_is i; skipped = skipped_is i }) ∙ round;
+}

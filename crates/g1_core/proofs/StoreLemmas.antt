@@ -1,0 +1,243 @@
+-- The barrier.
+use Rattle.std.proofs.Common.{◌≡◌, ◌≢◌, ◌⊎◌, inl, inr, ℕ, ◌<◌, ◌≤◌, ◌+◌, ◌*◌, Bool, true, false, cond, eqb, set as list_set, List, [], ◌∷◌, length, get_or, Option, Some, None, refl, sym, ap, ◌∙◌, subst, arith, ◌↔◌, replicate}
+use Rattle.std.specs.Prelude.{Contains, All, IfSome, nat_eq}
+use Rattle.std.specs.List.{IsDistinct}
+use Rattle.std.specs.FinSet as set
+use Rattle.std.specs.Ordering.{nat_cmp}
+use Rattle.std.proofs.lemmas.Bool.{cases_eq, cases_lt, cases_Bool, true≢false, false_from_ne_true}
+use Rattle.std.proofs.lemmas.List.{length-set, length-replicate, get_or-replicate, get_or_past}
+use Rattle.std.proofs.lemmas.List.Elements.{All-set, All-replicate}
+use Rattle.g1_layout.specs.Shape.{Shape, IsShape, slot_count, card_count, card_of, region_of}
+use Rattle.g1_layout.specs.Sets.{CardSet, PairSet}
+use Rattle.g1_layout.proofs.ShapeLemmas.{card_count_limit}
+use Rattle.g1_layout.specs.declared.kind.Kind.{Kind}
+use Rattle.g1_layout.specs.declared.kind.Kind.TheVariants.{SameRegion, Null, AlreadyDirty, Logged}
+use Rattle.g1_heap.specs.declared.mark.Mark.{Mark}
+use Rattle.g1_heap.specs.declared.mark.Mark.TheVariants.{Clean, Dirty, Held}
+use Rattle.g1_heap.specs.Cells.{new_cells, Cells, AreCells, with_ref, with_mark}
+use Rattle.g1_sets.specs.Pairs.{Pairs, new_pairs}
+use Rattle.g1_hot.specs.Ring.{Ring, new_ring}
+use Rattle.g1_core.specs.Table.{Table, IsCovered, AreRefinable, refined, opening}
+use Rattle.g1_core.specs.Settings.{Settings, AreSettings}
+use Rattle.g1_core.specs.Machine.{new_machine, Machine, State, IsCore, AreParts, pending_of, table_from, state_from, machine_from}
+use Rattle.g1_core.specs.Run.{IsStep, IsCallOf, Store, Stored, kind_of, stored, pending_after}
+use Rattle.g1_core.specs.declared.reply.StoreReply.{StoreReply}
+use Rattle.g1_core.specs.declared.reply.RefineReply.{RefineReply}
+use Rattle.g1_core.specs.Calls.{store_entry, refine_entry}
+use Rattle.g1_core.proofs.SetLemmas.{same_cards}
+use Rattle.g1_core.proofs.TableLemmas.{stored_covered, opening_covered}
+use Rattle.g1_core.proofs.MarkLemmas.{held_clean, dirty_clean, dirty_held, from_pending, to_pending, pending_marked, mark_here, mark_there, few_pending, one_more}
+use Rattle.g1_core.proofs.TurnLemmas.{refined_none}
+
+-- the kind of a store that crosses regions
+pub kind_across : (t : Table) (slot place : ℕ) (target : Option ℕ) (b : Bool) → target ≡ Some place → false ≡ eqb (region_of t.layout slot) (region_of t.layout place) → set.contains t.pending (card_of t.layout slot) ≡ b → kind_of t slot target ≡ cond b AlreadyDirty Logged
+kind_across t slot place target b some across found =
+    ap (kind_of t slot) some
+    ∙ ap (λ a. cond a SameRegion (cond (set.contains t.pending (card_of t.layout slot)) AlreadyDirty Logged)) (sym across)
+    ∙ ap (λ a. cond a AlreadyDirty Logged) found
+
+-- a card is pending where its mark is not clean
+pub clean_mark : (marks : List Mark) (card : ℕ) → get_or marks card Clean ≡ Clean → set.contains (pending_of marks) card ≡ false
+clean_mark marks card e = false_from_ne_true _ (λ h. from_pending marks card h e)
+
+pending_plain : (kind : Kind) (pending : CardSet) (card : ℕ) → kind ≢ Logged → pending_after kind pending card ≡ pending
+pending_plain Logged pending card ne = absurd (ne refl)
+pending_plain SameRegion pending card ne = refl
+pending_plain Null pending card ne = refl
+pending_plain AlreadyDirty pending card ne = refl
+
+logged_if : (a b : Bool) → cond a SameRegion (cond b AlreadyDirty Logged) ≡ Logged → b ≡ false
+logged_if true b e = cc
+logged_if false true e = cc
+logged_if false false e = refl
+
+logged_new : (t : Table) (slot : ℕ) (target : Option ℕ) → kind_of t slot target ≡ Logged → set.contains t.pending (card_of t.layout slot) ≡ false
+logged_new t slot None e = cc
+logged_new t slot (Some place) e = logged_if _ _ e
+
+module _ (heap : Cells) (pairs : PairSet) (ring : Ring) (pending : ℕ) (parts : AreParts heap pairs ring pending) (slot : ℕ) (target : Option ℕ) (kind : Kind) (kind_is : kind ≡ kind_of (table_from heap pairs) slot target) (fits : IfSome target (λ place. place < slot_count heap.layout)) where
+  abbrev t : Table
+  t = table_from heap pairs
+
+  pub plain_state : kind ≢ Logged → state_from (with_ref heap slot target) pairs ring ≡ record { table = stored t slot target; ring = ring }
+  plain_state ne =
+      let same : pending_of heap.marks ≡ pending_after (kind_of t slot target) (pending_of heap.marks) (card_of heap.layout slot) =
+          sym (ap (λ k. pending_after k (pending_of heap.marks) (card_of heap.layout slot)) (sym kind_is) ∙ pending_plain kind (pending_of heap.marks) (card_of heap.layout slot) ne) in
+      λ i. record { table = record { layout = heap.layout; refs = list_set heap.refs slot target; pending = same i; recorded = pairs }; ring = ring }
+
+  pub plain_parts : kind ≢ Logged → AreParts (with_ref heap slot target) pairs ring pending
+  plain_parts ne = record {
+    cells = record {
+      shape = parts.cells.shape;
+      slots = length-set heap.refs slot target ∙ parts.cells.slots;
+      places = All-set (λ o. IfSome o (λ place. place < slot_count heap.layout)) heap.refs slot target fits parts.cells.places;
+      cards = parts.cells.cards;
+    };
+    counts = parts.counts; some = parts.some; distinct = parts.distinct; held = parts.held; known = parts.known;
+    cover = subst IsCovered (sym (ap (λ (s : State). s.table) (plain_state ne))) (stored_covered t slot target parts.cover);
+  }
+
+  module _ (logged : kind ≡ Logged) (card : ℕ) (on_card : card ≡ card_of heap.layout slot) (within : card < card_count heap.layout) (pending' : ℕ) (more : pending' ≡ pending + 1) where
+    inside : card < length heap.marks
+    inside = omega (arith, parts.cells.cards)
+
+    new_card : set.contains (pending_of heap.marks) card ≡ false
+    new_card = ap (set.contains (pending_of heap.marks)) on_card ∙ logged_new t slot target (sym kind_is ∙ logged)
+
+    not_held : get_or heap.marks card Clean ≡ Held → ⊥
+    not_held held = true≢false (sym (to_pending heap.marks card (held_clean (get_or heap.marks card Clean) held)) ∙ new_card)
+
+    marked : pending_of (list_set heap.marks card Dirty) ≡ set.insert (pending_of heap.marks) card
+    marked = pending_marked heap.marks card Dirty inside (dirty_clean Dirty refl)
+
+    pub logged_state : state_from (with_mark (with_ref heap slot target) card Dirty) pairs ring ≡ record { table = stored t slot target; ring = ring }
+    logged_state =
+        let dirty : pending_of (list_set heap.marks card Dirty) ≡ pending_after (kind_of t slot target) (pending_of heap.marks) (card_of heap.layout slot) =
+            marked ∙ ap (set.insert (pending_of heap.marks)) on_card
+            ∙ ap (λ k. pending_after k (pending_of heap.marks) (card_of heap.layout slot)) (sym logged ∙ kind_is) in
+        λ i. record { table = record { layout = heap.layout; refs = list_set heap.refs slot target; pending = dirty i; recorded = pairs }; ring = ring }
+
+    pub logged_parts : AreParts (with_mark (with_ref heap slot target) card Dirty) pairs ring pending'
+    logged_parts = record {
+      cells = record {
+        shape = parts.cells.shape;
+        slots = length-set heap.refs slot target ∙ parts.cells.slots;
+        places = All-set (λ o. IfSome o (λ place. place < slot_count heap.layout)) heap.refs slot target fits parts.cells.places;
+        cards = length-set heap.marks card Dirty ∙ parts.cells.cards;
+      };
+      counts = parts.counts; some = parts.some; distinct = parts.distinct;
+      held = λ q. (
+        λ c. let held : get_or heap.marks q Clean ≡ Held = (parts.held q).0 c in
+            mark_there heap.marks card Dirty inside q (λ e. not_held (ap (λ (k : ℕ). get_or heap.marks k Clean) (sym e) ∙ held)) ∙ held,
+        λ held. elim (cases_eq q card) [
+          | inl is ↦ absurd (dirty_held _ (ap (λ (k : ℕ). get_or (list_set heap.marks card Dirty) k Clean) is ∙ mark_here heap.marks card Dirty inside) held)
+          | inr ne ↦ (parts.held q).1 (sym (mark_there heap.marks card Dirty inside q ne) ∙ held)
+        ],
+      );
+      known = more ∙ ap (λ n. n + 1) parts.known ∙ sym (one_more (pending_of heap.marks) card new_card) ∙ ap set.len (sym marked);
+      cover = subst IsCovered (sym (ap (λ (s : State). s.table) logged_state)) (stored_covered t slot target parts.cover);
+    }
+
+pub none_refinable : (t : Table) → AreRefinable t []
+unfolding IsDistinct
+none_refinable t = record { distinct = tt; pending = λ k d lt. absurd (omega arith) }
+
+pub stored_step : (caller : ℕ) (t new : Table) (slot : ℕ) (target : Option ℕ) (reply : StoreReply) → IsCallOf t.layout (Store slot target) → reply.kind ≡ kind_of t slot target → reply.refined ≡ [] → new ≡ stored t slot target → IsStep t (store_entry caller slot target reply) new
+stored_step caller t new slot target reply numbers kind none after =
+    let done : refined reply.refined (stored t slot target) ≡ stored t slot target = ap (λ (ks : List ℕ). refined ks (stored t slot target)) none ∙ refined_none (stored t slot target) in
+    record {
+      allowed = record { numbers = numbers; refines = subst (AreRefinable (stored t slot target)) (sym none) (none_refinable (stored t slot target)); answers = (kind, λ _. none) };
+      after = after ∙ sym done;
+    }
+
+pub kind_found : (t : Table) (l : Shape) (slot place from to card : ℕ) (target : Option ℕ) (b : Bool) → l ≡ t.layout → target ≡ Some place → false ≡ eqb from to → from ≡ region_of l slot → to ≡ region_of l place → card ≡ card_of l slot → set.contains t.pending card ≡ b → kind_of t slot target ≡ cond b AlreadyDirty Logged
+kind_found t l slot place from to card target b same some across first second on found =
+    kind_across t slot place target b some
+    (across ∙ (λ i. eqb (first i) (second i)) ∙ ap (λ (l : Shape). eqb (region_of l slot) (region_of l place)) same)
+    (ap (set.contains t.pending) (sym (on ∙ ap (λ (l : Shape). card_of l slot) same)) ∙ found)
+
+-- the kind that the barrier finds
+pub kind_at : (heap : Cells) (pairs : PairSet) (ring : Ring) (settings : Settings) (m : Machine) → machine_from heap pairs ring settings ≡ m → (l : Shape) (slot place from to card : ℕ) (target : Option ℕ) (mark : Mark) (b : Bool)
+    → l ≡ heap.layout → target ≡ Some place → false ≡ eqb from to → from ≡ region_of l slot → to ≡ region_of l place → card ≡ card_of l slot → mark ≡ get_or heap.marks card Clean → (mark ≡ Clean → b ≡ false) → (mark ≢ Clean → b ≡ true)
+    → (mark ≡ Clean) ⊎ (mark ≢ Clean) → kind_of m.state.table slot target ≡ cond b AlreadyDirty Logged
+kind_at heap pairs ring settings m view l slot place from to card target mark b same some across first second on read clean marked cases =
+    let found : set.contains m.state.table.pending card ≡ b = ap (λ (m : Machine). set.contains m.state.table.pending card) (sym view) ∙ elim cases [
+      | inl is ↦ clean_mark heap.marks card (sym read ∙ is) ∙ sym (clean is)
+      | inr ne ↦ to_pending heap.marks card (λ e. ne (read ∙ e)) ∙ sym (marked ne)
+    ] in
+    kind_found m.state.table l slot place from to card target b (same ∙ ap (λ (m : Machine). m.state.table.layout) view) some across first second on found
+
+-- what a store leaves
+abbrev pub stored_machine : Machine → ℕ → Option ℕ → Machine
+stored_machine m slot target = record { state = record { table = stored m.state.table slot target; ring = m.state.ring }; settings = m.settings; reads = m.reads }
+
+pub record IsStored (heap' : Cells) (sets : Pairs) (ring : Ring) (pending' : ℕ) (settings : Settings) (m : Machine) (slot : ℕ) (target : Option ℕ) : Type 0 where
+  pub core : IsCore heap' sets ring pending'
+  pub machine : machine_from heap' sets.pairs ring settings ≡ stored_machine m slot target
+
+module _ (heap : Cells) (sets : Pairs) (ring : Ring) (pending : ℕ) (settings : Settings) (m : Machine) (core : IsCore heap sets ring pending) (view : machine_from heap sets.pairs ring settings ≡ m)
+    (slot : ℕ) (target : Option ℕ) (kind : Kind) (kind_is : kind ≡ kind_of m.state.table slot target) (fits : IfSome target (λ place. place < slot_count m.state.table.layout)) where
+  is : kind ≡ kind_of (table_from heap sets.pairs) slot target
+  is = kind_is ∙ ap (λ (m : Machine). kind_of m.state.table slot target) (sym view)
+
+  fit : IfSome target (λ place. place < slot_count heap.layout)
+  fit = subst (λ (m : Machine). IfSome target (λ place. place < slot_count m.state.table.layout)) (sym view) fits
+
+  machine_is : (heap' : Cells) → heap'.reads ≡ heap.reads → state_from heap' sets.pairs ring ≡ record { table = stored (table_from heap sets.pairs) slot target; ring = ring } → machine_from heap' sets.pairs ring settings ≡ stored_machine m slot target
+  machine_is heap' reads state = (λ i. record { state = state i; settings = settings; reads = reads i }) ∙ ap (λ (m : Machine). stored_machine m slot target) view
+
+  pub plain_at : (heap' : Cells) → kind ≢ Logged → heap' ≡ with_ref heap slot target → IsStored heap' sets ring pending settings m slot target
+  plain_at heap' plain eh = subst (λ h. IsStored h sets ring pending settings m slot target) (sym eh) (record {
+    core = record { layouts = core.layouts; parts = plain_parts heap sets.pairs ring pending core.parts slot target kind is fit plain };
+    machine = machine_is (with_ref heap slot target) refl (plain_state heap sets.pairs ring pending core.parts slot target kind is fit plain);
+  })
+
+  pub logged_at : (heap' : Cells) (pending' card : ℕ) (l : Shape) → kind ≡ Logged → l ≡ heap.layout → card ≡ card_of l slot → card < card_count l → pending' ≡ pending + 1
+      → heap' ≡ with_mark (with_ref heap slot target) card Dirty → IsStored heap' sets ring pending' settings m slot target
+  logged_at heap' pending' card l logged same on within more eh =
+      let on_card : card ≡ card_of heap.layout slot = on ∙ ap (λ (l : Shape). card_of l slot) same in
+      let below : card < card_count heap.layout = subst (λ (l : Shape). card < card_count l) same within in
+      subst (λ h. IsStored h sets ring pending' settings m slot target) (sym eh) (record {
+        core = record { layouts = core.layouts; parts = logged_parts heap sets.pairs ring pending core.parts slot target kind is fit logged card on_card below pending' more };
+        machine = machine_is (with_mark (with_ref heap slot target) card Dirty) refl (logged_state heap sets.pairs ring pending core.parts slot target kind is fit logged card on_card below pending' more);
+      })
+
+-- one more card is pending, and there are few
+pub few_cards : (heap : Cells) (sets : Pairs) (ring : Ring) (pending : ℕ) → IsCore heap sets ring pending → pending ≤ 65536
+few_cards heap sets ring pending core =
+    let few = few_pending heap.marks in
+    omega (arith, core.parts.known, core.parts.cells.cards, card_count_limit heap.layout core.parts.cells.shape)
+
+-- a call that refines nothing and changes nothing
+pub idle_step : (caller : ℕ) (t : Table) (reply : RefineReply) → reply.refined ≡ [] → IsStep t (refine_entry caller reply) t
+idle_step caller t reply none =
+    let done : refined reply.refined t ≡ t = ap (λ (ks : List ℕ). refined ks t) none ∙ refined_none t in
+    record { allowed = record { numbers = tt; refines = subst (AreRefinable t) (sym none) (none_refinable t); answers = tt }; after = sym done }
+
+-- a new core
+pub all_clean : (n q : ℕ) → ◌≡◌ {A = Mark} (get_or (replicate n Clean) q Clean) Clean
+all_clean n q = elim (cases_lt q n) [
+  | inl below ↦ get_or-replicate n q Clean Clean below
+  | inr past ↦ get_or_past (replicate n Clean) q Clean (omega (arith, length-replicate {A = Mark} n Clean))
+]
+
+pub none_pending : (n : ℕ) → pending_of (replicate n Clean) ≡ set.empty
+none_pending n = same_cards _ _
+    (λ q h. absurd (from_pending (replicate n Clean) q h (all_clean n q)))
+    (λ q h. absurd (true≢false (sym h ∙ set.contains-empty nat_cmp q)))
+
+module _ (l : Shape) (limit capacity : ℕ) (shape : IsShape l) (some : 1 ≤ capacity) where
+  pub new_state : state_from (new_cells l) set.empty (new_ring l limit capacity) ≡ record { table = opening l; ring = new_ring l limit capacity }
+  new_state = λ i. record { table = record { layout = l; refs = replicate (slot_count l) None; pending = none_pending (card_count l) i; recorded = set.empty }; ring = new_ring l limit capacity }
+
+  pub new_parts : AreParts (new_cells l) set.empty (new_ring l limit capacity) 0
+  unfolding IsDistinct
+  new_parts = record {
+    cells = record {
+      shape = shape;
+      slots = length-replicate (slot_count l) None;
+      places = All-replicate (λ o. IfSome o (λ place. place < slot_count l)) (slot_count l) None tt;
+      cards = length-replicate (card_count l) Clean;
+    };
+    counts = length-replicate (card_count l) 0;
+    some = some;
+    distinct = tt;
+    held = λ q. (λ c. absurd (omega (arith, c.1)), λ held. absurd (held_clean _ held (all_clean (card_count l) q)));
+    known = sym (ap set.len (none_pending (card_count l)) ∙ set.len-empty nat_cmp);
+    cover = subst IsCovered (sym (ap (λ (s : State). s.table) new_state)) (opening_covered l);
+  }
+
+module _ (l : Shape) (s : Settings) (limit capacity : ℕ) (heap : Cells) (sets : Pairs) (ring : Ring) (shape : IsShape l) (settings : AreSettings s) (el : limit ≡ s.hot) (ec : capacity ≡ s.ring)
+    (eh : heap ≡ new_cells l) (es : sets ≡ new_pairs l) (er : ring ≡ new_ring l limit capacity) where
+  some : 1 ≤ capacity
+  some = omega (arith, ec, settings.ring_low)
+
+  pub made_core : IsCore heap sets ring 0
+  made_core = subst (λ h. IsCore h sets ring 0) (sym eh) (subst (λ s. IsCore (new_cells l) s ring 0) (sym es) (subst (λ r. IsCore (new_cells l) (new_pairs l) r 0) (sym er)
+      (record { layouts = refl; parts = new_parts l limit capacity shape some })))
+
+  pub made_machine : machine_from heap sets.pairs ring s ≡ new_machine l s
+  made_machine =
+      (λ i. machine_from (eh i) (es i).pairs (er i) s)
+      ∙ (λ i. record { state = new_state l limit capacity shape some i; settings = s; reads = 0 })
+      ∙ (λ i. record { state = record { table = opening l; ring = new_ring l (el i) (ec i) }; settings = s; reads = 0 })

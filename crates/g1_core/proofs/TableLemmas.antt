@@ -1,0 +1,177 @@
+-- Laws of the plain table.
+use Rattle.std.proofs.Common.{◌≡◌, ◌≢◌, ◌⊎◌, inl, inr, ℕ, ◌<◌, ◌+◌, ◌/◌, Bool, true, false, cond, eqb, List, length, get_or, set as list_set, replicate, Option, Some, None, refl, sym, ap, ◌∙◌, subst, arith}
+use Rattle.std.specs.Prelude.{◌&&◌, ◌||◌, not}
+use Rattle.std.specs.List.{enumerate_from}
+use Rattle.std.specs.FinSet as set
+use Rattle.std.proofs.Math.Nat.{div-div-eq-div-mul, mul_comm}
+use Rattle.std.proofs.lemmas.Bool.{eqb-false, ne_eqb, cases_lt, cases_eq, cases_Bool, or_cases, or_left, or_right, and_parts, and_from}
+use Rattle.std.proofs.lemmas.Cmp.{nat_cmp_total, eq_by_cmp_equiv}
+use Rattle.std.proofs.lemmas.List.{get_or-set_same, get_or-set_other, get_or_past, get_or-replicate, length-replicate, length-set, get_or_default}
+use Rattle.std.proofs.lemmas.List.FromFn.{get_or-enumerate_from, length-enumerate_from}
+use Rattle.g1_layout.specs.declared.kind.Kind.{Kind}
+use Rattle.g1_layout.specs.declared.kind.Kind.TheVariants.{SameRegion, Null, AlreadyDirty, Logged}
+use Rattle.g1_layout.specs.Shape.{Shape, slot_count, card_of, region_of, region_of_card}
+use Rattle.g1_layout.specs.Sets.{CardSet, set_of}
+use Rattle.g1_core.specs.Table.{Table, opening, IsPending, IsRecorded, Crosses, Holds, IsCovered, pair_of, held, refined}
+use Rattle.g1_core.specs.Run.{kind_of, pending_after, stored}
+use Rattle.g1_core.proofs.SetLemmas.{pair_total, pair_exact, listed, unlisted, Kept, from_kept, to_kept}
+
+-- a slot's region is that of its card
+pub region_of_slot : (l : Shape) (slot : ℕ) → region_of_card l (card_of l slot) ≡ region_of l slot
+region_of_slot l slot = div-div-eq-div-mul slot l.slots l.cards ∙ ap (λ k. slot / k) (mul_comm l.slots l.cards)
+
+-- what a slot's pair says
+record Makes (l : Shape) (slot : ℕ) (o : Option ℕ) (card region : ℕ) : Type 0 where
+  place : ℕ
+  refers : o ≡ Some place
+  across : region_of l slot ≢ region_of l place
+  on_card : card_of l slot ≡ card
+  into : region_of l place ≡ region
+
+made_if : (l : Shape) (slot place card region : ℕ) (b : Bool) → eqb (region_of l slot) (region_of l place) ≡ b → cond {A = Option (ℕ × ℕ)} b None (Some (card_of l slot, region_of l place)) ≡ Some (card, region) → Makes l slot (Some place) card region
+made_if l slot place card region true is e = cc
+made_if l slot place card region false is e =
+    let pairs : ◌≡◌ {A = ℕ × ℕ} (card_of l slot, region_of l place) (card, region) = cc in
+    record { place = place; refers = refl; across = eqb-false _ _ is; on_card = ap (λ (p : ℕ × ℕ). p.0) pairs; into = ap (λ (p : ℕ × ℕ). p.1) pairs }
+
+made : (l : Shape) (slot : ℕ) (o : Option ℕ) (card region : ℕ) → pair_of l (slot, o) ≡ Some (card, region) → Makes l slot o card region
+made l slot None card region e = cc
+made l slot (Some place) card region e = made_if l slot place card region (eqb (region_of l slot) (region_of l place)) refl e
+
+pub pair_across : (l : Shape) (slot place : ℕ) → region_of l slot ≢ region_of l place → pair_of l (slot, Some place) ≡ Some (card_of l slot, region_of l place)
+pair_across l slot place across = ap (λ b. cond {A = Option (ℕ × ℕ)} b None (Some (card_of l slot, region_of l place))) (ne_eqb _ _ across)
+
+-- a slot that refers somewhere is one of the list
+pub is_slot : (xs : List (Option ℕ)) (slot place : ℕ) → get_or xs slot None ≡ Some place → slot < length xs
+is_slot xs slot place e =
+    elim (cases_lt slot (length xs)) [ inl l ↦ l | inr past ↦ let none : get_or xs slot None ≡ None = get_or_past xs slot None past in cc ]
+
+-- a slot that refers somewhere, with its place in the list
+pub slot_at : (xs : List (Option ℕ)) (slot place : ℕ) (d : ℕ × Option ℕ) → get_or xs slot None ≡ Some place → get_or (enumerate_from 0 xs) slot d ≡ (slot, Some place)
+slot_at xs slot place d e =
+    let below : slot < length xs = is_slot xs slot place e in
+    let read : get_or xs slot d.1 ≡ Some place = get_or_default xs slot d.1 None below ∙ e in
+    let from : 0 + slot ≡ slot = omega arith in
+    get_or-enumerate_from 0 xs slot d below ∙ ap (λ (o : Option ℕ). (0 + slot, o)) read ∙ ap (λ (k : ℕ). (k, Some place)) from
+
+-- the pair of a slot that crosses is held
+pub crossing_held : (t : Table) (slot place : ℕ) → Crosses t slot place → set.contains (held t) (card_of t.layout slot, region_of t.layout place) ≡ true
+crossing_held t slot place x =
+    let below : slot < length t.refs = is_slot t.refs slot place x.refers in
+    let few : length (enumerate_from 0 t.refs) ≡ length t.refs = length-enumerate_from 0 t.refs in
+    unlisted pair_total pair_exact _ _ (to_kept (pair_of t.layout) (enumerate_from 0 t.refs) slot (slot, Some place) _ (omega arith) (slot_at t.refs slot place (slot, Some place) x.refers) (pair_across t.layout slot place x.across))
+
+-- what holds is held
+pub held_from_Holds : (t : Table) (card region : ℕ) → Holds t card region → set.contains (held t) (card, region) ≡ true
+held_from_Holds t card region h =
+    let across : region_of t.layout h.slot ≢ region_of t.layout h.place = λ e. h.outside (ap (region_of_card t.layout) (sym h.on_card) ∙ region_of_slot t.layout h.slot ∙ e ∙ h.into) in
+    subst (λ (p : ℕ × ℕ). set.contains (held t) p ≡ true) (ap (λ (c : ℕ). (c, region_of t.layout h.place)) h.on_card ∙ ap (λ (r : ℕ). (card, r)) h.into) (crossing_held t h.slot h.place (record { refers = h.refers; across = across }))
+
+pub slot_of : (xs : List (Option ℕ)) (k : ℕ) (p : ℕ × Option ℕ) → k < length (enumerate_from 0 xs) → get_or (enumerate_from 0 xs) k p ≡ p → ◌≡◌ {A = ℕ × Option ℕ} (k, get_or xs k None) p
+slot_of xs k p l e =
+    let few : length (enumerate_from 0 xs) ≡ length xs = length-enumerate_from 0 xs in
+    let from : k ≡ 0 + k = omega arith in
+    ap (λ (n : ℕ). (n, get_or xs k None)) from ∙ sym (get_or-enumerate_from 0 xs k (0, None) (omega arith)) ∙ get_or_default (enumerate_from 0 xs) k (0, None) p l ∙ e
+
+-- what is held holds
+pub Holds_from_held : (t : Table) (card region : ℕ) → set.contains (held t) (card, region) ≡ true → Holds t card region
+Holds_from_held t card region e =
+    let k : Kept (pair_of t.layout) (enumerate_from 0 t.refs) (card, region) = from_kept (pair_of t.layout) (enumerate_from 0 t.refs) (card, region) (listed pair_total pair_exact _ _ e) in
+    let m : Makes t.layout k.0 (get_or t.refs k.0 None) card region = made t.layout k.0 (get_or t.refs k.0 None) card region (ap (pair_of t.layout) (slot_of t.refs k.0 k.1 k.2 k.3) ∙ k.4) in
+    record {
+      slot = k.0;
+      place = m.place;
+      on_card = m.on_card;
+      refers = m.refers;
+      into = m.into;
+      outside = λ e. m.across (sym (region_of_slot t.layout k.0) ∙ ap (region_of_card t.layout) m.on_card ∙ e ∙ sym m.into);
+    }
+
+-- refining: what is pending and recorded afterwards
+module _ (cards : List ℕ) (t : Table) where
+  pub refined_pending : (card : ℕ) → set.contains (refined cards t).pending card ≡ (set.contains t.pending card && not (set.contains (set_of cards) card))
+  refined_pending card = set.contains-difference nat_cmp_total t.pending (set_of cards) card
+
+  pub refined_recorded : (p : ℕ × ℕ) → set.contains (refined cards t).recorded p ≡ (set.contains t.recorded p || (set.contains (held t) p && set.contains (set_of cards) p.0))
+  refined_recorded p =
+      set.contains-union pair_total t.recorded _ p
+      ∙ ap (λ b. set.contains t.recorded p || b) (set.contains-retain (held t) (λ pair. set.contains (set_of cards) pair.0) p (λ x e. ap (λ (q : ℕ × ℕ). set.contains (set_of cards) q.0) (sym (pair_exact p x e))))
+
+  pub still_recorded : (card region : ℕ) → IsRecorded t card region → IsRecorded (refined cards t) card region
+  still_recorded card region h = refined_recorded (card, region) ∙ or_left _ _ h
+
+  pub newly_recorded : (card region : ℕ) → set.contains (held t) (card, region) ≡ true → set.contains (set_of cards) card ≡ true → IsRecorded (refined cards t) card region
+  newly_recorded card region h k = refined_recorded (card, region) ∙ or_right _ _ (and_from _ _ h k)
+
+  pub recorded_cases : (card region : ℕ) → IsRecorded (refined cards t) card region → IsRecorded t card region ⊎ (set.contains (held t) (card, region) ≡ true)
+  recorded_cases card region h =
+      elim (or_cases _ _ (sym (refined_recorded (card, region)) ∙ h)) [ inl old ↦ inl old | inr new ↦ inr (and_parts _ _ new).0 ]
+
+  pub pending_before : (card : ℕ) → IsPending (refined cards t) card → IsPending t card
+  pending_before card h = (and_parts _ _ (sym (refined_pending card) ∙ h)).0
+
+  pub still_pending : (card : ℕ) → IsPending t card → set.contains (set_of cards) card ≡ false → IsPending (refined cards t) card
+  still_pending card h k = refined_pending card ∙ and_from _ _ h (ap not k)
+
+  -- refining keeps cover
+  pub refined_covered : IsCovered t → IsCovered (refined cards t)
+  refined_covered cover slot place x =
+      let old : Crosses t slot place = record { refers = x.refers; across = x.across } in
+      let card = card_of t.layout slot in
+      let region = region_of t.layout place in
+      elim (cover slot place old) [
+        | inr r ↦ inr (still_recorded card region r)
+        | inl p ↦ elim (cases_Bool (set.contains (set_of cards) card)) [
+          | inl k ↦ inr (newly_recorded card region (crossing_held t slot place old) k)
+          | inr k ↦ inl (still_pending card p k)
+        ]
+      ]
+
+-- a store
+pub pending_grows : (kind : Kind) (pending : CardSet) (card c : ℕ) → set.contains pending c ≡ true → set.contains (pending_after kind pending card) c ≡ true
+pending_grows Logged pending card c h = set.contains-insert nat_cmp_total pending card c ∙ or_right _ _ h
+pending_grows SameRegion pending card c h = h
+pending_grows Null pending card c h = h
+pending_grows AlreadyDirty pending card c h = h
+
+marks : (pending : CardSet) (card : ℕ) (b : Bool) → set.contains pending card ≡ b → set.contains (pending_after (cond b AlreadyDirty Logged) pending card) card ≡ true
+marks pending card true h = h
+marks pending card false h = set.contains-insert nat_cmp_total pending card card ∙ or_left _ _ ((eq_by_cmp_equiv nat_cmp_total).refl card)
+
+pub store_marks : (t : Table) (slot place : ℕ) → region_of t.layout slot ≢ region_of t.layout place → IsPending (stored t slot (Some place)) (card_of t.layout slot)
+store_marks t slot place across =
+    subst (λ b. set.contains (pending_after (cond b SameRegion (cond (set.contains t.pending (card_of t.layout slot)) AlreadyDirty Logged)) t.pending (card_of t.layout slot)) (card_of t.layout slot) ≡ true)
+    (sym (ne_eqb _ _ across)) (marks t.pending (card_of t.layout slot) (set.contains t.pending (card_of t.layout slot)) refl)
+
+-- a store keeps cover: at its slot it marks the card, and elsewhere nothing is lost
+module _ (t : Table) (slot : ℕ) (target : Option ℕ) where
+  same_slot : (place : ℕ) → Crosses (stored t slot target) slot place → IsPending (stored t slot target) (card_of t.layout slot)
+  same_slot place x =
+      let inside : slot < length t.refs = omega (arith, is_slot (list_set t.refs slot target) slot place x.refers, length-set t.refs slot target) in
+      let is : target ≡ Some place = sym (get_or-set_same t.refs slot target None inside) ∙ x.refers in
+      subst (λ o. IsPending (stored t slot o) (card_of t.layout slot)) (sym is) (store_marks t slot place x.across)
+
+  other_slot : IsCovered t → (other place : ℕ) → other ≢ slot → Crosses (stored t slot target) other place → IsPending (stored t slot target) (card_of t.layout other) ⊎ IsRecorded (stored t slot target) (card_of t.layout other) (region_of t.layout place)
+  other_slot cover other place apart x =
+      let old : Crosses t other place = record { refers = sym (get_or-set_other t.refs slot other target None apart) ∙ x.refers; across = x.across } in
+      elim (cover other place old) [
+        | inl p ↦ inl (pending_grows (kind_of t slot target) t.pending (card_of t.layout slot) (card_of t.layout other) p)
+        | inr r ↦ inr r
+      ]
+
+  pub stored_covered : IsCovered t → IsCovered (stored t slot target)
+  stored_covered cover other place x =
+      elim (cases_eq other slot) [
+        | inl is ↦ inl (subst (λ s. IsPending (stored t slot target) (card_of t.layout s)) (sym is) (same_slot place (subst (λ s. Crosses (stored t slot target) s place) is x)))
+        | inr apart ↦ other_slot cover other place apart x
+      ]
+
+pub nothing_refers : (n slot place : ℕ) → get_or (replicate n None) slot None ≡ Some place → ⊥
+nothing_refers n slot place e =
+    let nulls : List (Option ℕ) = replicate n None in
+    let below : slot < n = omega (arith, is_slot nulls slot place e, length-replicate {A = Option ℕ} n None) in
+    let none : get_or nulls slot None ≡ None = get_or-replicate n slot None None below in
+    cc
+
+pub opening_covered : (l : Shape) → IsCovered (opening l)
+opening_covered l slot place x = absurd (nothing_refers (slot_count l) slot place x.refers)

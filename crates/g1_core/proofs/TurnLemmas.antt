@@ -1,0 +1,235 @@
+-- A round of turns refines distinct pending cards.
+use Rattle.std.proofs.Common.{◌≡◌, ◌≢◌, ◌⊎◌, inl, inr, ℕ, zero, suc, ◌<◌, ◌≤◌, ◌+◌, ◌-◌, Bool, true, false, cond, eqb, List, [], ◌∷◌, ◌++◌, length, get_or, take, drop, Option, Some, None, refl, sym, ap, ◌∙◌, subst, arith}
+use Rattle.std.specs.Prelude.{Contains, All, nat_eq, nat_lt, not, fold, ◌&&◌}
+use Rattle.std.specs.List.{IsDistinct}
+use Rattle.std.specs.FinSet as set
+use Rattle.std.specs.Ordering.{nat_cmp}
+use Rattle.std.proofs.lemmas.Cmp.{nat_cmp_total, nat_eq_equiv}
+use Rattle.std.proofs.lemmas.Map.Keys.{IsDistinct-push, IsDistinct-tail}
+use Rattle.std.proofs.lemmas.Map.Made.{AllPairs-from_IsDistinct}
+use Rattle.std.proofs.lemmas.Bool.Decides.{Decides-eqb}
+use Rattle.std.proofs.lemmas.Map.Views.{Contains-from_any}
+use Rattle.std.proofs.lemmas.Bool.{cases_lt, cases_Bool, eqb-true, or_cases, or_left, or_right, and_parts, and_from, lt-ltb, le-ltb, ltb-true, not-true, true≢false, false_from_ne_true}
+use Rattle.std.proofs.lemmas.List.{append-nil, append_assoc}
+use Rattle.std.proofs.lemmas.List.Elements.{All-push, All-contains, Contains-append_left, Contains-append_right, Contains-append_cases, Contains-push_cases}
+use Rattle.g1_hot.specs.declared.offer.Offer.{Offer}
+use Rattle.g1_hot.specs.declared.offer.Offer.TheVariants.{Cold, Kept, Out}
+use Rattle.g1_hot.specs.Ring.{Ring, answer, offered, cards_after}
+use Rattle.g1_layout.specs.Sets.{set_of}
+use Rattle.g1_core.specs.Table.{Table, IsPending, AreRefinable, IsCovered, refined, held}
+use Rattle.g1_core.specs.Machine.{State, IsPlaced}
+use Rattle.std.proofs.lemmas.List.Sums.{fold_more}
+use Rattle.g1_core.specs.declared.reply.RefineReply.{RefineReply}
+use Rattle.g1_core.specs.Run.{IsStep}
+use Rattle.g1_core.specs.Refinement.{IsTurned, round_of}
+use Rattle.g1_core.specs.Calls.{refine_entry}
+use Rattle.g1_core.specs.Turns.{hot_by, skipped_by, is_dirty, offer_to, refined_by, ring_after, state_after, Round, turn_by, turn, turns, start}
+use Rattle.g1_core.proofs.SetLemmas.{same_cards, same_pairs, All_by_member, in_list, in_set}
+use Rattle.g1_core.proofs.TableLemmas.{refined_pending, refined_recorded, pending_before, still_pending}
+use Rattle.g1_core.proofs.MarkLemmas.{one_of, itself}
+
+-- refining nothing changes nothing
+pub refined_none : (t : Table) → refined [] t ≡ t
+refined_none t =
+    let pending : set.difference t.pending (set_of []) ≡ t.pending = same_cards _ _
+        (λ q h. (and_parts _ _ (sym (refined_pending [] t q) ∙ h)).0)
+        (λ q h. refined_pending [] t q ∙ and_from _ _ h (ap not (set.contains-empty nat_cmp q))) in
+    let recorded : (refined [] t).recorded ≡ t.recorded = same_pairs _ _
+        (λ p h. elim (or_cases _ _ (sym (refined_recorded [] t p) ∙ h)) [ inl o ↦ o | inr m ↦ absurd (true≢false (sym (and_parts _ _ m).1 ∙ set.contains-empty nat_cmp p.0)) ])
+        (λ p h. refined_recorded [] t p ∙ or_left _ _ h) in
+    λ i. record { layout = t.layout; refs = t.refs; pending = pending i; recorded = recorded i }
+
+-- refining some cards and then others refines them all
+pub refined_both : (xs ys : List ℕ) (t : Table) → refined ys (refined xs t) ≡ refined (xs ++ ys) t
+refined_both xs ys t =
+    let pending : (refined ys (refined xs t)).pending ≡ (refined (xs ++ ys) t).pending = same_cards _ _
+        (λ q h.
+          let a = and_parts _ _ (sym (refined_pending ys (refined xs t) q) ∙ h) in
+          let b = and_parts _ _ (sym (refined_pending xs t q) ∙ a.0) in
+          refined_pending (xs ++ ys) t q ∙ and_from _ _ b.0 (ap not (false_from_ne_true _ (λ c. elim (Contains-append_cases xs ys q (in_list _ q c)) [
+            | inl x ↦ true≢false (sym (in_set xs q x) ∙ not-true _ b.1)
+            | inr y ↦ true≢false (sym (in_set ys q y) ∙ not-true _ a.1)
+          ]))))
+        (λ q h.
+          let a = and_parts _ _ (sym (refined_pending (xs ++ ys) t q) ∙ h) in
+          still_pending ys (refined xs t) q
+            (still_pending xs t q a.0 (false_from_ne_true _ (λ c. true≢false (sym (in_set (xs ++ ys) q (Contains-append_left xs ys q (in_list xs q c))) ∙ not-true _ a.1))))
+            (false_from_ne_true _ (λ c. true≢false (sym (in_set (xs ++ ys) q (Contains-append_right xs ys q (in_list ys q c))) ∙ not-true _ a.1)))) in
+    let recorded : (refined ys (refined xs t)).recorded ≡ (refined (xs ++ ys) t).recorded = same_pairs _ _
+        (λ p h. refined_recorded (xs ++ ys) t p ∙ elim (or_cases _ _ (sym (refined_recorded ys (refined xs t) p) ∙ h)) [
+          | inl first ↦ elim (or_cases _ _ (sym (refined_recorded xs t p) ∙ first)) [
+            | inl o ↦ or_left _ _ o
+            | inr m ↦ let q = and_parts _ _ m in or_right _ _ (and_from _ _ q.0 (in_set _ p.0 (Contains-append_left xs ys p.0 (in_list xs p.0 q.1))))
+          ]
+          | inr m ↦ let q = and_parts _ _ m in or_right _ _ (and_from _ _ q.0 (in_set _ p.0 (Contains-append_right xs ys p.0 (in_list ys p.0 q.1))))
+        ])
+        (λ p h. refined_recorded ys (refined xs t) p ∙ elim (or_cases _ _ (sym (refined_recorded (xs ++ ys) t p) ∙ h)) [
+          | inl o ↦ or_left _ _ (refined_recorded xs t p ∙ or_left _ _ o)
+          | inr m ↦ let q = and_parts _ _ m in elim (Contains-append_cases xs ys p.0 (in_list _ p.0 q.1)) [
+            | inl x ↦ or_left _ _ (refined_recorded xs t p ∙ or_right _ _ (and_from _ _ q.0 (in_set xs p.0 x)))
+            | inr y ↦ or_right _ _ (and_from _ _ q.0 (in_set ys p.0 y))
+          ]
+        ]) in
+    λ i. record { layout = t.layout; refs = t.refs; pending = pending i; recorded = recorded i }
+
+pub push_distinct : (xs : List ℕ) (x : ℕ) → IsDistinct nat_eq xs → (Contains xs x → ⊥) → IsDistinct nat_eq (xs ++ x ∷ [])
+push_distinct xs x distinct fresh = IsDistinct-push nat_eq_equiv xs x distinct (false_from_ne_true _ (λ h. fresh (Contains-from_any (λ x y e. eqb-true x y e) x xs h)))
+
+-- a further pending card may be refined too
+pub refinable_push : (t : Table) (xs : List ℕ) (x : ℕ) → AreRefinable t xs → IsPending (refined xs t) x → AreRefinable t (xs ++ x ∷ [])
+refinable_push t xs x h is =
+    let parts = and_parts _ _ (sym (refined_pending xs t x) ∙ is) in
+    record {
+      distinct = push_distinct xs x h.distinct (λ c. true≢false (sym (in_set xs x c) ∙ not-true _ parts.1));
+      pending = All-push (IsPending t) xs x h.pending parts.0;
+    }
+
+-- what a round keeps, from the table at its start
+pub record IsRound (t : Table) (r : Round) : Type 0 where
+  pub table : r.state.table ≡ refined r.refined t
+  pub refines : AreRefinable t r.refined
+  pub placed : IsPlaced r.state
+
+-- the front of a ring is apart from the rest
+pub front_apart : (x : ℕ) (xs : List ℕ) → IsDistinct nat_eq (x ∷ xs) → Contains xs x → ⊥
+front_apart x xs h (k, lt, e) = AllPairs-from_IsDistinct Decides-eqb (x ∷ xs) h 0 (suc k) x (omega arith) (omega arith) (sym e)
+
+pub rest_distinct : (x : ℕ) (xs : List ℕ) → IsDistinct nat_eq (x ∷ xs) → IsDistinct nat_eq xs
+rest_distinct x xs h = IsDistinct-tail nat_eq x xs h
+
+pub pending_but : (t : Table) (x q : ℕ) → IsPending t q → q ≢ x → IsPending (refined (x ∷ []) t) q
+pending_but t x q is ne = still_pending (x ∷ []) t q is (false_from_ne_true _ (λ c. ne (one_of q x (in_list (x ∷ []) q c))))
+
+-- what the ring may answer
+pub record IsOut (r : Ring) (card : ℕ) : Type 0 where
+  pub oldest : ℕ
+  pub rest : List ℕ
+  pub cards : r.cards ≡ oldest ∷ rest
+  pub answers : answer r card ≡ Out oldest
+
+out_of : (r : Ring) (card : ℕ) (cards : List ℕ) → r.cards ≡ cards → 1 ≤ length cards → answer r card ≡ Out (get_or cards 0 0) → IsOut r card
+out_of r card [] is some e = absurd (omega arith)
+out_of r card (x ∷ xs) is some e = record { oldest = x; rest = xs; cards = is; answers = e }
+
+pub answer_cases : (r : Ring) (card : ℕ) → 1 ≤ r.capacity → (answer r card ≡ Cold) ⊎ ((answer r card ≡ Kept) ⊎ IsOut r card)
+answer_cases r card some =
+    let count = get_or r.counts card 0 in
+    let full = nat_lt (length r.cards) r.capacity in
+    let front = get_or r.cards 0 0 in
+    elim (cases_lt count r.limit) [
+      | inl cold ↦ inl (ap (λ b. cond b Cold (cond full Kept (Out front))) (lt-ltb _ _ cold))
+      | inr hot ↦
+          let is_hot : answer r card ≡ cond full Kept (Out front) = ap (λ b. cond b Cold (cond full Kept (Out front))) (le-ltb _ _ hot) in
+          elim (cases_lt (length r.cards) r.capacity) [
+            | inl room ↦ inr (inl (is_hot ∙ ap (λ b. cond b Kept (Out front)) (lt-ltb _ _ room)))
+            | inr none ↦ inr (inr (out_of r card r.cards refl (omega arith) (is_hot ∙ ap (λ b. cond b Kept (Out front)) (le-ltb _ _ none))))
+          ]
+    ]
+
+-- a dirty card is pending and not in the ring
+pub record IsDirty (s : State) (card : ℕ) : Type 0 where
+  pub pending : IsPending s.table card
+  pub apart : Contains s.ring.cards card → ⊥
+
+pub dirty_from : (s : State) (card : ℕ) → is_dirty s card ≡ true → IsDirty s card
+dirty_from s card h =
+    let parts = and_parts _ _ h in
+    record { pending = parts.0; apart = λ c. true≢false (sym (in_set s.ring.cards card c) ∙ not-true _ parts.1) }
+
+pub to_dirty : (s : State) (card : ℕ) → IsPending s.table card → (Contains s.ring.cards card → ⊥) → is_dirty s card ≡ true
+to_dirty s card p apart = and_from _ _ p (ap not (false_from_ne_true _ (λ c. apart (in_list s.ring.cards card c))))
+
+module _ (s : State) (card : ℕ) (placed : IsPlaced s) (dirty : IsDirty s card) where
+  other : (q : ℕ) → Contains s.ring.cards q → q ≢ card
+  other q c e = dirty.apart (subst (Contains s.ring.cards) e c)
+
+  in_ring : (q : ℕ) → Contains s.ring.cards q → IsPending s.table q
+  in_ring q c = All-contains (IsPending s.table) s.ring.cards q placed.pending c
+
+  pub cold_placed : answer s.ring card ≡ Cold → IsPlaced (state_after s card (Some Cold))
+  cold_placed is =
+      let same : cards_after s.ring.cards card (answer s.ring card) ≡ s.ring.cards = ap (cards_after s.ring.cards card) is in
+      record {
+        some = placed.some;
+        distinct = subst (IsDistinct nat_eq) (sym same) placed.distinct;
+        pending = subst (All (IsPending (refined (card ∷ []) s.table))) (sym same) (All_by_member (IsPending (refined (card ∷ []) s.table)) s.ring.cards (λ q c. pending_but s.table card q (in_ring q c) (other q c)));
+      }
+
+  pub kept_placed : answer s.ring card ≡ Kept → IsPlaced (state_after s card (Some Kept))
+  kept_placed is =
+      let same : cards_after s.ring.cards card (answer s.ring card) ≡ s.ring.cards ++ card ∷ [] = ap (cards_after s.ring.cards card) is in
+      let each : All (IsPending s.table) (s.ring.cards ++ card ∷ []) = All-push (IsPending s.table) s.ring.cards card placed.pending dirty.pending in
+      record {
+        some = placed.some;
+        distinct = subst (IsDistinct nat_eq) (sym same) (push_distinct s.ring.cards card placed.distinct dirty.apart);
+        pending = subst (All (IsPending (refined [] s.table))) (sym same) (subst (λ t. All (IsPending t) (s.ring.cards ++ card ∷ [])) (sym (refined_none s.table)) each);
+      }
+
+  pub out_placed : (o : IsOut s.ring card) → IsPlaced (state_after s card (Some (Out o.oldest)))
+  out_placed o =
+      let same : cards_after s.ring.cards card (answer s.ring card) ≡ o.rest ++ card ∷ [] = ap (cards_after s.ring.cards card) o.answers ∙ ap (λ (xs : List ℕ). drop 1 xs ++ card ∷ []) o.cards in
+      let whole : IsDistinct nat_eq (o.oldest ∷ o.rest) = subst (IsDistinct nat_eq) o.cards placed.distinct in
+      let stands : (q : ℕ) → Contains o.rest q → Contains s.ring.cards q = λ q c. subst (λ xs. Contains xs q) (sym o.cards) (suc c.0, omega (arith, c.1), c.2) in
+      let first : Contains s.ring.cards o.oldest = subst (λ xs. Contains xs o.oldest) (sym o.cards) (0, omega arith, refl) in
+      record {
+        some = placed.some;
+        distinct = subst (IsDistinct nat_eq) (sym same) (push_distinct o.rest card (rest_distinct o.oldest o.rest whole) (λ c. dirty.apart (stands card c)));
+        pending = subst (All (IsPending (refined (o.oldest ∷ []) s.table))) (sym same) (All-push (IsPending (refined (o.oldest ∷ []) s.table)) o.rest card
+            (All_by_member (IsPending (refined (o.oldest ∷ []) s.table)) o.rest (λ q c. pending_but s.table o.oldest q (in_ring q (stands q c)) (λ e. front_apart o.oldest o.rest whole (subst (Contains o.rest) e c))))
+            (pending_but s.table o.oldest card dirty.pending (λ e. other o.oldest first (sym e))));
+      }
+
+  pub out_pending : (o : IsOut s.ring card) → IsPending s.table o.oldest
+  out_pending o = in_ring o.oldest (subst (λ xs. Contains xs o.oldest) (sym o.cards) (0, omega arith, refl))
+
+-- one turn more
+module _ (t : Table) (r : Round) (card : ℕ) (h : IsRound t r) where
+  by : (o : Option Offer) → AreRefinable t (r.refined ++ refined_by card o) → IsPlaced (state_after r.state card o) → IsRound t (turn_by r card o)
+  by o refines placed = record { table = ap (refined (refined_by card o)) h.table ∙ refined_both r.refined (refined_by card o) t; refines = refines; placed = placed }
+
+  one_more : (x : ℕ) → IsPending r.state.table x → AreRefinable t (r.refined ++ x ∷ [])
+  one_more x p = refinable_push t r.refined x h.refines (subst (λ t. IsPending t x) h.table p)
+
+  no_more : AreRefinable t (r.refined ++ [])
+  no_more = subst (AreRefinable t) (sym (append-nil r.refined)) h.refines
+
+  skip_placed : IsPlaced (state_after r.state card None)
+  skip_placed = record { some = h.placed.some; distinct = h.placed.distinct; pending = subst (λ t. All (IsPending t) r.state.ring.cards) (sym (refined_none r.state.table)) h.placed.pending }
+
+  offered_round : IsDirty r.state card → (o : Offer) → answer r.state.ring card ≡ o → IsRound t (turn_by r card (Some o))
+  offered_round dirty o is =
+      subst (λ (o : Offer). IsRound t (turn_by r card (Some o))) is (elim (answer_cases r.state.ring card h.placed.some) [
+        | inl cold ↦ subst (λ (o : Offer). IsRound t (turn_by r card (Some o))) (sym cold) (by (Some Cold) (one_more card dirty.pending) (cold_placed r.state card h.placed dirty cold))
+        | inr (inl kept) ↦ subst (λ (o : Offer). IsRound t (turn_by r card (Some o))) (sym kept) (by (Some Kept) no_more (kept_placed r.state card h.placed dirty kept))
+        | inr (inr out) ↦ subst (λ (o : Offer). IsRound t (turn_by r card (Some o))) (sym out.answers) (by (Some (Out out.oldest)) (one_more out.oldest (out_pending r.state card h.placed dirty out)) (out_placed r.state card h.placed dirty out))
+      ])
+
+  pub turn_round : IsRound t (turn r card)
+  turn_round = elim (cases_Bool (is_dirty r.state card)) [
+    | inl has ↦ subst (λ b. IsRound t (turn_by r card (cond b (Some (answer r.state.ring card)) None))) (sym has) (offered_round (dirty_from r.state card has) (answer r.state.ring card) refl)
+    | inr not_so ↦ subst (λ b. IsRound t (turn_by r card (cond b (Some (answer r.state.ring card)) None))) (sym not_so) (by None no_more skip_placed)
+  ]
+
+pub turns_round : (t : Table) (cards : List ℕ) (r : Round) → IsRound t r → IsRound t (turns r cards)
+turns_round t [] r h = h
+turns_round t (card ∷ cards) r h = turns_round t cards (turn r card) (turn_round t r card h)
+
+pub start_round : (s : State) → IsPlaced s → IsRound s.table (start s)
+unfolding IsDistinct
+start_round s placed = record { table = sym (refined_none s.table); refines = record { distinct = tt; pending = λ k d lt. absurd (omega arith) }; placed = placed }
+
+-- one turn more of a list
+pub round_more : (s0 : State) (cards : List ℕ) (i card : ℕ) (s s' : State) (reply reply' : RefineReply) (o : Option Offer) → i < length cards → card ≡ get_or cards i card → o ≡ offer_to s card → s' ≡ state_after s card o
+    → reply'.refined ≡ reply.refined ++ refined_by card o → reply'.hot ≡ reply.hot + hot_by o → reply'.skipped ≡ reply.skipped + skipped_by o
+    → round_of s reply ≡ turns (start s0) (take i cards) → round_of s' reply' ≡ turns (start s0) (take (i + 1) cards)
+round_more s0 cards i card s s' reply reply' o lt read offer state refined hot skipped h =
+    let step : round_of s' reply' ≡ turn_by (round_of s reply) card o = λ i. record { state = state i; refined = refined i; hot = hot i; skipped = skipped i } in
+    let by : turn_by (round_of s reply) card o ≡ turn (round_of s reply) card = ap (turn_by (round_of s reply) card) offer in
+    let all : turns (start s0) (take (i + 1) cards) ≡ turn (turns (start s0) (take i cards)) card = fold_more turn (start s0) cards i card lt ∙ ap (turn (turns (start s0) (take i cards))) (sym read) in
+    step ∙ by ∙ ap (λ (r : Round). turn r card) h ∙ sym all
+
+-- the turns of a list's first cards are a step of the table
+pub turned_step : (caller : ℕ) (old new : State) (cards : List ℕ) (reply : RefineReply) → IsPlaced old → IsTurned old cards reply new → IsStep old.table (refine_entry caller reply) new.table
+turned_step caller old new cards reply placed h =
+    let round : IsRound old.table (round_of new reply) = subst (IsRound old.table) (sym h.turned) (turns_round old.table (take h.many cards) (start old) (start_round old placed)) in
+    record { allowed = record { numbers = tt; refines = round.refines; answers = tt }; after = round.table }

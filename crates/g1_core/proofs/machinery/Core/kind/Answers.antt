@@ -1,0 +1,17 @@
+use Rattle.std.proofs.Common.{sym, refl, inl, inr, true, false}
+use Rattle.g1_heap.specs.declared.mark.Mark.TheVariants.{Clean, Dirty, Held}
+use Rattle.g1_core.proofs.MarkLemmas.{held_clean, dirty_clean}
+use Rattle.g1_core.proofs.StoreLemmas.{kind_at}
+use Rattle.g1_core.proofs.machinery.Core.kind.Goals as goal
+
+pub returns-in-Clean : goal.returns-in-Clean
+returns-in-Clean c = sym (kind_at c.self.inside.heap c.self.inside.sets.pairs c.self.inside.hot c.self.inside.config c.args.self.now c.self.view_is c.layout-layout.result c.args.slot c.in-Some.place _ _ c.card_of.result _ Clean false
+    c.layout-layout.ensures.layout c.in-Some.is c.if-eq.ensures c.region_of.ensures.quotient c.region_of-2.ensures.quotient c.card_of.ensures.quotient c.in-Clean.ensures (λ e. refl) (λ ne. absurd (ne refl)) (inl refl))
+
+pub returns-in-Dirty : goal.returns-in-Dirty
+returns-in-Dirty c = sym (kind_at c.self.inside.heap c.self.inside.sets.pairs c.self.inside.hot c.self.inside.config c.args.self.now c.self.view_is c.layout-layout.result c.args.slot c.in-Some.place _ _ c.card_of.result _ Dirty true
+    c.layout-layout.ensures.layout c.in-Some.is c.if-eq.ensures c.region_of.ensures.quotient c.region_of-2.ensures.quotient c.card_of.ensures.quotient c.in-Dirty.ensures (λ e. absurd (dirty_clean Dirty refl e)) (λ ne. refl) (inr (dirty_clean Dirty refl)))
+
+pub returns-in-Held : goal.returns-in-Held
+returns-in-Held c = sym (kind_at c.self.inside.heap c.self.inside.sets.pairs c.self.inside.hot c.self.inside.config c.args.self.now c.self.view_is c.layout-layout.result c.args.slot c.in-Some.place _ _ c.card_of.result _ Held true
+    c.layout-layout.ensures.layout c.in-Some.is c.if-eq.ensures c.region_of.ensures.quotient c.region_of-2.ensures.quotient c.card_of.ensures.quotient c.in-Held.ensures (λ e. absurd (held_clean Held refl e)) (λ ne. refl) (inr (held_clean Held refl)))

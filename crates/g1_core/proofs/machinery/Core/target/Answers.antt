@@ -1,0 +1,14 @@
+use Rattle.std.proofs.Common.{◌≡◌, ap, subst, sym, ◌∙◌}
+use Rattle.g1_heap.specs.Cells.{Cells}
+use Rattle.g1_core.specs.Table.{Table, target_of}
+use Rattle.g1_core.specs.Machine.{Machine, table_from}
+use Rattle.g1_core.specs.Run.{IsStep}
+use Rattle.g1_core.specs.Calls.{target_entry}
+use Rattle.g1_core.proofs.QueryLemmas.{target_step}
+use Rattle.g1_core.proofs.machinery.Core.target.Goals as goal
+
+pub returns-clause-step : goal.returns-clause-step
+returns-clause-step c = λ caller.
+    let same : table_from c.get.new.self c.self.inside.sets.pairs ≡ c.args.self.now.state.table = ap (λ (h : Cells). table_from h c.self.inside.sets.pairs) c.get.ensures.reads ∙ ap (λ (m : Machine). m.state.table) c.self.view_is in
+    let is : c.get.result ≡ target_of c.args.self.now.state.table c.args.slot = c.get.ensures.target ∙ ap (λ (m : Machine). target_of m.state.table c.args.slot) c.self.view_is in
+    subst (λ (t : Table). IsStep c.args.self.now.state.table (target_entry caller c.args.slot c.get.result) t) (sym same) (target_step caller c.args.self.now.state.table c.args.slot c.get.result c.requires is)

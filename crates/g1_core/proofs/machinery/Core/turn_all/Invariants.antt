@@ -1,0 +1,14 @@
+use Rattle.std.proofs.Common.{◌≡◌, ◌≤◌, length, take, vec_len}
+use Rattle.g1_core.specs.Turns.{turns, start}
+use Rattle.g1_core.proofs.RefineLemmas.{round_at}
+use Rattle.g1_core.proofs.machinery.Core.turn_all.Given as goal
+
+abbrev pub invariant-loop-card : goal.invariant-loop-card
+invariant-loop-card l = record {
+  round : round_at l.self.state l.tally.refined.items l.tally.hot l.tally.skipped ≡ turns (start l.fn.self.state) (take l.card-index l.cards);
+  refined : vec_len l.tally.refined ≤ l.card-index;
+  room : length l.cards ≤ l.tally.refined.cap;
+  hot : l.tally.hot ≤ l.card-index;
+  skipped : l.tally.skipped ≤ l.card-index;
+  settings : l.self.settings ≡ l.fn.self.settings;
+}

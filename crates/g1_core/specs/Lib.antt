@@ -1,0 +1,9 @@
+pub mod Table
+pub mod Run
+pub mod Settings
+pub mod Machine
+pub mod Turns
+pub mod Calls
+pub mod Barrier
+pub mod Refinement
+pub mod Pause

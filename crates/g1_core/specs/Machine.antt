@@ -1,0 +1,86 @@
+-- What contracts see of a core: the plain table, the hot ring with its counts, the settings, and how many slots were read.
+use Rattle.std.specs.Prelude.{ℕ, List, [], ◌∷◌, Option, Some, None, ◌≡◌, ◌≤◌, ◌↔◌, length, nat_eq, Contains, All, slice_index_or, refl}
+use Rattle.std.specs.List.{IsDistinct, filter_map, enumerate_from}
+use Rattle.std.specs.Coded.{Coded, code_by, coded×, coded_ℕ, coded_list, coded_option}
+use Rattle.std.specs.FinSet as set
+use Rattle.g1_layout.specs.Shape.{Shape, shape_code, card_count}
+use Rattle.g1_layout.specs.Sets.{CardSet, PairSet}
+use Rattle.g1_heap.specs.declared.mark.Mark.{Mark}
+use Rattle.g1_heap.specs.declared.mark.Mark.TheVariants.{Clean, Dirty, Held}
+use Rattle.g1_heap.specs.Cells.{Cells, AreCells}
+use Rattle.g1_sets.specs.Pairs.{Pairs}
+use Rattle.g1_hot.specs.Ring.{Ring, ring_code, new_ring}
+use Rattle.g1_core.specs.Table.{Table, IsCovered, IsPending, refined, opening}
+use Rattle.g1_core.specs.Settings.{Settings, settings_code}
+
+-- what a refusal leaves as it was
+pub record State : Type 0 where
+  pub table : Table
+  pub ring : Ring
+
+pub record Machine : Type 0 where
+  pub state : State
+  pub settings : Settings
+  pub reads : ℕ
+
+-- a table, a state and a machine are stored as the tuples of their fields
+abbrev pub table_code : Coded Table
+table_code =
+    code_by (Shape × (List (Option ℕ) × (CardSet × PairSet))) (coded× shape_code (coded× (coded_list (coded_option coded_ℕ)) (coded× (set.code coded_ℕ) (set.code (coded× coded_ℕ coded_ℕ)))))
+    (λ t. (t.layout, (t.refs, (t.pending, t.recorded)))) (λ p. record { layout = p.0; refs = p.1.0; pending = p.1.1.0; recorded = p.1.1.1 }) (λ _. refl)
+
+abbrev pub state_code : Coded State
+state_code = code_by (Table × Ring) (coded× table_code ring_code) (λ s. (s.table, s.ring)) (λ p. record { table = p.0; ring = p.1 }) (λ _. refl)
+
+abbrev pub machine_code : Coded Machine
+machine_code = code_by (State × (Settings × ℕ)) (coded× state_code (coded× settings_code coded_ℕ)) (λ m. (m.state, (m.settings, m.reads))) (λ p. record { state = p.0; settings = p.1.0; reads = p.1.1 }) (λ _. refl)
+
+-- the card of a mark that is not clean
+abbrev pub marked_card : ℕ × Mark → Option ℕ
+marked_card (card, Clean) = None
+marked_card (card, Dirty) = Some card
+marked_card (card, Held) = Some card
+
+-- A card is pending where it is dirty or held in the ring.
+abbrev pub pending_of : List Mark → CardSet
+pending_of marks = set.from_list (filter_map marked_card (enumerate_from 0 marks))
+
+-- the table that a heap and the recorded pairs stand for
+abbrev pub table_from : Cells → PairSet → Table
+table_from heap pairs = record { layout = heap.layout; refs = heap.refs; pending = pending_of heap.marks; recorded = pairs }
+
+abbrev pub state_from : Cells → PairSet → Ring → State
+state_from heap pairs ring = record { table = table_from heap pairs; ring = ring }
+
+abbrev pub machine_from : Cells → PairSet → Ring → Settings → Machine
+machine_from heap pairs ring settings = record { state = state_from heap pairs ring; settings = settings; reads = heap.reads }
+
+-- The ring holds distinct cards, each of them pending.
+pub record IsPlaced (s : State) : Type 0 where
+  pub some : 1 ≤ s.ring.capacity
+  pub distinct : IsDistinct nat_eq s.ring.cards
+  pub pending : All (IsPending s.table) s.ring.cards
+
+-- What the parts of a core keep: the cards with the mark held are just those in the ring, each once, the number of
+-- pending cards is known, and each reference across regions is covered.
+pub record AreParts (heap : Cells) (pairs : PairSet) (ring : Ring) (pending : ℕ) : Type 0 where
+  pub cells : AreCells heap
+  pub counts : length ring.counts ≡ card_count heap.layout
+  pub some : 1 ≤ ring.capacity
+  pub distinct : IsDistinct nat_eq ring.cards
+  pub held : (card : ℕ) → Contains ring.cards card ↔ (slice_index_or heap.marks card Clean ≡ Held)
+  pub known : pending ≡ set.len (pending_of heap.marks)
+  pub cover : IsCovered (table_from heap pairs)
+
+-- and of one layout
+pub record IsCore (heap : Cells) (sets : Pairs) (ring : Ring) (pending : ℕ) : Type 0 where
+  pub layouts : sets.layout ≡ heap.layout
+  pub parts : AreParts heap sets.pairs ring pending
+
+-- the pairs after a card was refined
+abbrev pub gained : Cells → PairSet → ℕ → PairSet
+gained heap pairs card = (refined (card ∷ []) (table_from heap pairs)).recorded
+
+-- a new core
+abbrev pub new_machine : Shape → Settings → Machine
+new_machine l s = record { state = record { table = opening l; ring = new_ring l s.hot s.ring }; settings = s; reads = 0 }

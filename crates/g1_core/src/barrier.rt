@@ -1,0 +1,95 @@
+//! The barrier: what a reference store does to the card table and to its mutator's log.
+ghost use Rattle.std.specs.Prelude.{◌≡◌, ◌<◌, ◌↔◌, ℕ, [], false, IsTrue, IfSome};
+ghost use Rattle.g1_layout.specs.Shape.{slot_count, card_of};
+ghost use Rattle.g1_layout.specs.declared.kind.Kind.TheVariants.{Logged};
+
+use crate::list::CardList;
+use crate::machinery::Core;
+use crate::reply::{Fill, StoreReply};
+use g1_heap::Mark;
+use g1_layout::{Kind, Slot};
+use g1_log::{Buffer, Log};
+use std::alloc::Global;
+
+impl Core {
+    ghost use Rattle.g1_core.specs.Table.{IsCovered};
+    ghost use Rattle.g1_core.specs.Run.{kind_of, stored, IsStep};
+    ghost use Rattle.g1_core.specs.Barrier.{logged, buffer_of, fill_of};
+    ghost use Rattle.g1_core.specs.Calls.{store_entry};
+
+    /// What kind of store it is.
+    fn kind(&self, slot: Slot, target: &Option<Slot>) -> Kind
+        requires slot { slot < slot_count self.now.state.table.layout }
+        requires target { IfSome target.now (λ place. place < slot_count self.now.state.table.layout) }
+        ensures { result ≡ kind_of self.now.state.table slot target.now }
+    {
+        let Some(place) = *target else {
+            return Kind::Null;
+        };
+        let layout = self.heap.layout();
+        if layout.region_of(slot) == layout.region_of(place) {
+            return Kind::SameRegion;
+        }
+        match self.heap.mark(layout.card_of(slot)) {
+            Mark::Clean => return Kind::Logged,
+            Mark::Dirty => return Kind::AlreadyDirty,
+            Mark::Held => return Kind::AlreadyDirty,
+        }
+    }
+
+    /// Stores a reference (ISMM 2004, section 2.2, "Remembered Set Maintenance"; docs/PROFILE.md, The barrier).
+    pub fn store(&mut self, log: &mut Log, slot: Slot, target: Option<Slot>) -> (StoreReply, Option<Buffer>)
+        requires slot { slot < slot_count self.old.state.table.layout }
+        requires target { IfSome target (λ place. place < slot_count self.old.state.table.layout) }
+        ensures kind { result.0.kind ≡ kind_of self.old.state.table slot target }
+        ensures plain { (result.0.refined ≡ []) × (result.0.short ≡ false) }
+        ensures fill { result.0.fill ≡ fill_of result.1 }
+        ensures machine { self.new ≡ record { state = record { table = stored self.old.state.table slot target; ring = self.old.state.ring }; settings = self.old.settings; reads = self.old.reads } }
+        ensures log { log.new ≡ logged result.0.kind log.old (card_of self.old.state.table.layout slot) }
+        ensures buffer { result.1 ≡ buffer_of result.0.kind log.old (card_of self.old.state.table.layout slot) }
+        ensures step { (caller : ℕ) → IsStep self.old.state.table (store_entry caller slot target result.0) self.new.state.table }
+        ensures cover { IsCovered self.new.state.table }
+    {
+        let kind = self.kind(slot, &target);
+        self.heap.set(slot, target);
+        let logs = is_logged(kind);
+        if !logs {
+            return (plain_reply(self.alloc, kind, Fill::No), None);
+        }
+        let layout = self.heap.layout();
+        let card = layout.card_of(slot);
+        self.heap.set_mark(card, Mark::Dirty);
+        self.pending += 1;
+        let Some(buffer) = log.push(card) else {
+            return (plain_reply(self.alloc, kind, Fill::No), None);
+        };
+        (plain_reply(self.alloc, kind, Fill::Full), Some(buffer))
+    }
+}
+
+/// The reply of a store, which refines nothing.
+fn plain_reply(alloc: Global, kind: Kind, fill: Fill) -> StoreReply
+    ensures kind { result.kind ≡ kind }
+    ensures fill { result.fill ≡ fill }
+    ensures refined { result.refined ≡ [] }
+    ensures short { result.short ≡ false }
+{
+    StoreReply {
+        kind,
+        fill,
+        refined: CardList::new(alloc),
+        short: false,
+    }
+}
+
+/// Whether the store's card is to be logged.
+fn is_logged(kind: Kind) -> bool
+    ensures { IsTrue result ↔ (kind ≡ Logged) }
+{
+    match kind {
+        Kind::Logged => return true,
+        Kind::SameRegion => return false,
+        Kind::Null => return false,
+        Kind::AlreadyDirty => return false,
+    }
+}

@@ -1,0 +1,76 @@
+//! A list of cards, as replies hold it.
+ghost use Rattle.std.specs.Prelude.{◌≡◌, ◌==◌, [], length, IfOk};
+
+use g1_layout::{Card, NoMemory};
+use std::alloc::Global;
+use std::marker::Model;
+
+/// Some cards in order: a `Vec` that contracts see as a plain list.
+#[derive(Debug, Drop)]
+pub struct CardList {
+    cards: Vec<Card>,
+}
+
+impl Model for CardList {
+    ghost use Rattle.std.specs.Prelude.{ℕ, List};
+
+    ghost Value = { List ℕ };
+
+    ghost view = { λ a. a.cards.items };
+}
+
+impl CardList {
+    /// No card; takes no memory.
+    pub fn new(alloc: Global) -> CardList
+        ensures { result ≡ [] }
+    {
+        CardList {
+            cards: Vec::new(alloc),
+        }
+    }
+
+    /// The cards of a `Vec`; takes no memory.
+    pub fn of(cards: Vec<Card>) -> CardList
+        ensures { result ≡ cards.items }
+    {
+        CardList { cards }
+    }
+
+    /// The `Vec` of the cards; takes no memory.
+    pub fn into_vec(self) -> Vec<Card>
+        ensures { result.items ≡ self }
+    {
+        self.cards
+    }
+
+    /// The cards.
+    pub fn as_slice(&self) -> &[Card]
+        ensures { result.now ≡ self.now }
+    {
+        self.cards.as_slice()
+    }
+
+    /// How many cards there are.
+    pub fn len(&self) -> usize
+        ensures { result ≡ length self.now }
+    {
+        self.cards.len()
+    }
+
+    /// Whether there is none.
+    pub fn is_empty(&self) -> bool
+        ensures { result ≡ (length self.now == 0) }
+    {
+        self.cards.is_empty()
+    }
+
+    /// The same cards in a list of their own.
+    ///
+    /// `NoMemory` where its room was refused. No cards take no memory.
+    pub fn try_clone(&self, alloc: Global) -> Result<CardList, NoMemory>
+        ensures { IfOk result (λ list. list ≡ self.now) }
+    {
+        let cards = Vec::from_slice(alloc, self.cards.as_slice())?;
+        Ok(CardList { cards })
+    }
+}

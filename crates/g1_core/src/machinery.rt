@@ -1,0 +1,100 @@
+//! The machinery of a heap, for one thread.
+ghost use Rattle.std.specs.Prelude.{◌≡◌, ◌<◌, ◌≤◌, ◌+◌, ◌*◌, ℕ, IfOk, OnOk, OnErr};
+ghost use Rattle.g1_layout.specs.Shape.{card_count};
+ghost use Rattle.g1_heap.specs.declared.mark.Mark.TheVariants.{Clean};
+ghost use Rattle.g1_heap.specs.Cells.{with_mark, with_reads};
+ghost use Rattle.g1_core.specs.Machine.{gained, new_machine};
+ghost use Rattle.g1_core.specs.Table.{IsCovered};
+
+use crate::config::Config;
+use g1_heap::{Heap, Mark};
+use g1_hot::Hot;
+use g1_layout::{Card, Layout, NoMemory};
+use g1_sets::Sets;
+use std::alloc::Global;
+use std::marker::Model;
+
+/// A heap in regions with its card table, remembered sets, refinement counts and hot card ring.
+#[derive(Drop)]
+pub struct Core {
+    pub(crate) alloc: Global,
+    pub(crate) config: Config,
+    pub(crate) heap: Heap,
+    pub(crate) sets: Sets,
+    pub(crate) hot: Hot,
+    pub(crate) pending: u32,
+}
+
+impl Model for Core {
+    ghost use Rattle.g1_core.specs.Machine.{Machine, machine_code, machine_from, IsCore};
+
+    ghost Value = { Machine };
+
+    ghost coded = { machine_code };
+
+    ghost view = { λ a. machine_from a.heap a.sets.pairs a.hot a.config };
+
+    ghost invariant = { λ a. IsCore a.heap a.sets a.hot a.pending };
+}
+
+impl Core {
+    /// A heap of nulls, with every card clean and nothing recorded.
+    ///
+    /// `NoMemory` where a growth was refused.
+    pub fn new(alloc: Global, layout: Layout, config: Config) -> Result<Core, NoMemory>
+        ensures { IfOk result (λ core. core ≡ new_machine layout config) }
+    {
+        let (limit, capacity) = config.hot();
+        let (_, _, _) = layout.counts();
+        let heap = Heap::new(alloc, layout)?;
+        let sets = Sets::new(alloc, layout)?;
+        let hot = Hot::new(alloc, layout, limit, capacity)?;
+        Ok(Core {
+            alloc,
+            config,
+            heap,
+            sets,
+            hot,
+            pending: 0,
+        })
+    }
+}
+
+/// Records what the card holds, or nothing.
+pub(crate) fn record_card(heap: &mut Heap, sets: &mut Sets, card: Card) -> Result<(), NoMemory>
+    requires card { card < card_count heap.old.layout }
+    requires layouts { sets.old.layout ≡ heap.old.layout }
+    ensures heap { heap.new ≡ with_reads heap.old heap.old.layout.slots }
+    ensures layout { sets.new.layout ≡ sets.old.layout }
+    ensures pairs { OnOk result (sets.new.pairs ≡ gained heap.old sets.old.pairs card) }
+    ensures err { OnErr result (sets.new ≡ sets.old) }
+{
+    let _ = heap.layout();
+    let targets = heap.targets(card);
+    sets.record(card, targets.as_slice())?;
+    Ok(())
+}
+
+/// Refines a card: its pairs are recorded and its mark is cleaned, or neither.
+pub(crate) fn refine_card(
+    heap: &mut Heap,
+    sets: &mut Sets,
+    pending: &mut u32,
+    card: Card,
+) -> Result<(), NoMemory>
+    requires card { card < card_count heap.old.layout }
+    requires layouts { sets.old.layout ≡ heap.old.layout }
+    requires some { 1 ≤ pending.old }
+    ensures cleaned { OnOk result (heap.new ≡ with_mark (with_reads heap.old heap.old.layout.slots) card Clean) }
+    ensures pairs { OnOk result (sets.new.pairs ≡ gained heap.old sets.old.pairs card) }
+    ensures layout { sets.new.layout ≡ sets.old.layout }
+    ensures less { OnOk result (pending.new + 1 ≡ pending.old) }
+    ensures read { OnErr result (heap.new ≡ with_reads heap.old heap.old.layout.slots) }
+    ensures err { OnErr result (sets.new ≡ sets.old) }
+    ensures as_many { OnErr result (pending.new ≡ pending.old) }
+{
+    record_card(heap, sets, card)?;
+    heap.set_mark(card, Mark::Clean);
+    *pending -= 1;
+    Ok(())
+}

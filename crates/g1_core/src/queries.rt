@@ -1,0 +1,85 @@
+//! Questions to a core: they refine nothing and change nothing but the count of reads.
+ghost use Rattle.std.specs.Prelude.{◌≡◌, ◌<◌, ◌^◌, ℕ, IfOk};
+ghost use Rattle.std.specs.FinSet as set;
+ghost use Rattle.g1_layout.specs.Shape.{slot_count, card_count};
+
+use crate::list::CardList;
+use crate::machinery::Core;
+use crate::reply::Status;
+use g1_heap::Mark;
+use g1_layout::{Card, Layout, NoMemory, Region, Slot};
+
+impl Core {
+    ghost use Rattle.g1_layout.specs.Shape.{IsShape};
+    ghost use Rattle.g1_heap.specs.Cells.{reads_after};
+    ghost use Rattle.g1_core.specs.Table.{target_of, AreMembers, IsCovered};
+    ghost use Rattle.g1_core.specs.Run.{IsStep};
+    ghost use Rattle.g1_core.specs.Calls.{target_entry, pending_entry, members_entry, status_entry};
+
+    /// The layout of the heap. Constant time.
+    pub fn layout(&self) -> Layout
+        ensures value { result ≡ self.now.state.table.layout }
+        ensures shape { IsShape self.now.state.table.layout }
+        ensures cover { IsCovered self.now.state.table }
+    {
+        self.heap.layout()
+    }
+
+    /// How many slots were read since the core was made, at most the greatest `u64`. Constant time.
+    ///
+    /// Refinement, drains, clears, redirects and `target` read slots; the count is never reset.
+    pub fn reads(&self) -> u64
+        ensures value { result ≡ self.now.reads }
+        ensures bound { self.now.reads < 2 ^ 64 }
+    {
+        self.heap.reads()
+    }
+
+    /// The place that a slot refers to, or `None` where it is null. One slot is read. Constant time.
+    pub fn target(&mut self, slot: Slot) -> Option<Slot>
+        requires { slot < slot_count self.old.state.table.layout }
+        ensures target { result ≡ target_of self.old.state.table slot }
+        ensures machine { self.new ≡ record { state = self.old.state; settings = self.old.settings; reads = reads_after self.old.reads 1 } }
+        ensures step { (caller : ℕ) → IsStep self.old.state.table (target_entry caller slot result) self.new.state.table }
+    {
+        self.heap.get(slot)
+    }
+
+    /// Whether a card is pending: dirty, or held in the hot ring. Constant time.
+    pub fn is_pending(&self, card: Card) -> bool
+        requires { card < card_count self.now.state.table.layout }
+        ensures pending { result ≡ set.contains self.now.state.table.pending card }
+        ensures step { (caller : ℕ) → IsStep self.now.state.table (pending_entry caller card result) self.now.state.table }
+    {
+        match self.heap.mark(card) {
+            Mark::Clean => return false,
+            Mark::Dirty => return true,
+            Mark::Held => return true,
+        }
+    }
+
+    /// The cards of a region's remembered set as it is recorded, ascending, each once. Cards that are pending may be
+    /// missing in it (`drain` answers the set once nothing is pending).
+    ///
+    /// `NoMemory` where the room for the list was refused. The list is sorted once.
+    pub fn members(&self, region: Region) -> Result<CardList, NoMemory>
+        requires { region < self.now.state.table.layout.regions }
+        ensures members { IfOk result (λ cards. AreMembers self.now.state.table region cards) }
+        ensures step { IfOk result (λ cards. (caller : ℕ) → IsStep self.now.state.table (members_entry caller region cards) self.now.state.table) }
+    {
+        let cards = self.sets.cards(region)?;
+        Ok(CardList::of(cards))
+    }
+
+    /// How many cards are pending and how many pairs are recorded. Takes time in the number of regions.
+    pub fn status(&self) -> Status
+        ensures pending { result.pending ≡ set.len self.now.state.table.pending }
+        ensures recorded { result.recorded ≡ set.len self.now.state.table.recorded }
+        ensures step { (caller : ℕ) → IsStep self.now.state.table (status_entry caller result) self.now.state.table }
+    {
+        Status {
+            pending: self.pending,
+            recorded: self.sets.total(),
+        }
+    }
+}

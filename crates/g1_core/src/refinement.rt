@@ -1,0 +1,211 @@
+//! Refinement: the cards of a completed buffer take their turns, and what each holds is recorded.
+ghost use Rattle.std.specs.Prelude.{◌≡◌, ◌<◌, ◌≤◌, ◌+◌, ◌++◌, ◌↔◌, [], ℕ, false, IfOk, OnErr, IsTrue, length, slice_index_or, vec_len, vec_capacity, option_map, if◌then◌else◌};
+ghost use Rattle.g1_layout.specs.Shape.{card_count};
+ghost use Rattle.g1_heap.specs.declared.mark.Mark.TheVariants.{Clean, Dirty};
+ghost use Rattle.g1_core.specs.Turns.{refined_by, hot_by, skipped_by};
+
+use crate::list::CardList;
+use crate::machinery::{refine_card, Core};
+use crate::reply::RefineReply;
+use g1_heap::{Heap, Mark};
+use g1_hot::Offer;
+use g1_layout::{Card, NoMemory};
+use g1_log::Buffer;
+use std::alloc::Global;
+
+#[cfg(test)]
+mod tests;
+
+impl Core {
+    ghost use Rattle.g1_core.specs.Table.{IsCovered};
+    ghost use Rattle.g1_core.specs.Turns.{offer_to, state_after};
+    ghost use Rattle.g1_core.specs.Refinement.{IsTurned, IsRefined};
+    ghost use Rattle.g1_core.specs.Calls.{refine_entry};
+    ghost use Rattle.g1_core.specs.Run.{IsStep};
+
+    /// Refines a lent buffer: its cards take their turns, oldest first; `None` changes nothing and takes no memory
+    /// (ISMM 2004, section 2.2, "Remembered Set Maintenance"; docs/PROFILE.md, Refinement).
+    ///
+    /// A card that is not dirty is skipped, as is one that the heap does not have. A dirty card is counted once more:
+    /// a cold one is refined, so that the regions it holds into are recorded and it becomes clean, and a hot one goes
+    /// last into the hot ring, from which it may push the oldest card, which is refined in its place.
+    ///
+    /// The reply is `short` where recording a card was refused memory. The turns of the cards before it have then been
+    /// taken whole; that card and all later ones are as they were, and dirty cards among them stay pending. `NoMemory`
+    /// where room for the reply's list was refused: no card had its turn.
+    ///
+    /// Reads the slots of each refined card once. Takes memory for the list, one card's room for each card of the
+    /// buffer, and for what the remembered sets gain.
+    pub fn refine(&mut self, buffer: Option<&Buffer>) -> Result<RefineReply, NoMemory>
+        ensures turned { IfOk result (λ reply. IsRefined self.old.state (option_map (λ b. b.now) buffer.entry) reply self.new.state) }
+        ensures step { IfOk result (λ reply. (caller : ℕ) → IsStep self.old.state.table (refine_entry caller reply) self.new.state.table) }
+        ensures cover { IsCovered self.new.state.table }
+        ensures err { OnErr result (self.new.state ≡ self.old.state) }
+        ensures settings { self.new.settings ≡ self.old.settings }
+    {
+        let alloc = self.alloc;
+        let Some(buffer) = buffer else {
+            return Ok(idle(alloc));
+        };
+        let reply = self.turn_all(buffer.cards())?;
+        Ok(reply)
+    }
+
+    /// Gives each of the cards its turn, in order. Where a growth is refused the later cards have none.
+    fn turn_all(&mut self, cards: &[Card]) -> Result<RefineReply, NoMemory>
+        requires few { length cards.now ≤ 256 }
+        ensures turned { IfOk result (λ reply. IsTurned self.old.state cards.now reply self.new.state) }
+        ensures err { OnErr result (self.new.state ≡ self.old.state) }
+        ensures settings { self.new.settings ≡ self.old.settings }
+    {
+        let mut tally = Tally::new(self.alloc, cards.len())?;
+        for card in cards {
+            let Ok(offer) = self.turn(*card) else {
+                return Ok(tally.reply(true));
+            };
+            tally.note(*card, offer);
+        }
+        Ok(tally.reply(false))
+    }
+
+    /// The turn of a card: what the ring answered, or `None` where the card is not dirty. Memory comes first.
+    fn turn(&mut self, card: Card) -> Result<Option<Offer>, NoMemory>
+        ensures offer { IfOk result (λ offer. offer ≡ offer_to self.old.state card) }
+        ensures state { IfOk result (λ offer. self.new.state ≡ state_after self.old.state card offer) }
+        ensures err { OnErr result (self.new.state ≡ self.old.state) }
+        ensures settings { self.new.settings ≡ self.old.settings }
+    {
+        let dirty = is_dirty(&self.heap, card);
+        if !dirty {
+            return Ok(None);
+        }
+        let offer = self.hot.would(card);
+        match offer {
+            Offer::Cold => {
+                refine_card(&mut self.heap, &mut self.sets, &mut self.pending, card)?;
+                self.hot.offer(card);
+                return Ok(Some(offer));
+            }
+            Offer::Kept => {
+                self.heap.set_mark(card, Mark::Held);
+                self.hot.offer(card);
+                return Ok(Some(offer));
+            }
+            Offer::Out(oldest) => {
+                refine_card(&mut self.heap, &mut self.sets, &mut self.pending, oldest)?;
+                self.heap.set_mark(card, Mark::Held);
+                self.hot.offer(card);
+                return Ok(Some(offer));
+            }
+        }
+    }
+}
+
+/// Whether the heap has the card and the card is dirty.
+fn is_dirty(heap: &Heap, card: Card) -> bool
+    ensures dirty { IsTrue result ↔ (slice_index_or heap.now.marks card Clean ≡ Dirty) }
+    ensures within { IsTrue result → card < card_count heap.now.layout }
+{
+    let layout = heap.layout();
+    let Some(card) = layout.card(card.number()) else {
+        return false;
+    };
+    match heap.mark(card) {
+        Mark::Clean => return false,
+        Mark::Dirty => return true,
+        Mark::Held => return false,
+    }
+}
+
+/// The reply where there was no buffer.
+fn idle(alloc: Global) -> RefineReply
+    ensures none { (result.taken ≡ 0) × (result.left ≡ 0) }
+    ensures refined { result.refined ≡ [] }
+    ensures counts { (result.hot ≡ 0) × (result.skipped ≡ 0) }
+    ensures short { result.short ≡ false }
+{
+    RefineReply {
+        taken: 0,
+        refined: CardList::new(alloc),
+        hot: 0,
+        skipped: 0,
+        left: 0,
+        short: false,
+    }
+}
+
+/// What the turns so far did.
+#[derive(Drop)]
+struct Tally {
+    refined: Vec<Card>,
+    hot: u32,
+    skipped: u32,
+}
+
+impl Tally {
+    /// No turn yet, with room for so many.
+    fn new(alloc: Global, turns: usize) -> Result<Tally, NoMemory>
+        ensures refined { IfOk result (λ tally. tally.refined.items ≡ []) }
+        ensures room { IfOk result (λ tally. turns ≤ vec_capacity tally.refined) }
+        ensures hot { IfOk result (λ tally. tally.hot ≡ 0) }
+        ensures skipped { IfOk result (λ tally. tally.skipped ≡ 0) }
+    {
+        let refined = Vec::with_capacity(alloc, turns)?;
+        Ok(Tally {
+            refined,
+            hot: 0,
+            skipped: 0,
+        })
+    }
+
+    /// Adds what a turn did.
+    fn note(&mut self, card: Card, offer: Option<Offer>)
+        requires room { vec_len self.old.refined < vec_capacity self.old.refined }
+        requires hot { self.old.hot < 1000 }
+        requires skipped { self.old.skipped < 1000 }
+        ensures refined { self.new.refined.items ≡ self.old.refined.items ++ refined_by card offer }
+        ensures hot { self.new.hot ≡ self.old.hot + hot_by offer }
+        ensures skipped { self.new.skipped ≡ self.old.skipped + skipped_by offer }
+        ensures counts { (self.new.hot ≤ self.old.hot + 1) × (self.new.skipped ≤ self.old.skipped + 1) × (vec_len self.new.refined ≤ vec_len self.old.refined + 1) }
+        ensures capacity { vec_capacity self.new.refined ≡ vec_capacity self.old.refined }
+    {
+        let Some(offer) = offer else {
+            self.skipped += 1;
+            return;
+        };
+        match offer {
+            Offer::Cold => {
+                self.refined.push_reserved(card);
+                return;
+            }
+            Offer::Kept => {
+                self.hot += 1;
+                return;
+            }
+            Offer::Out(oldest) => {
+                self.hot += 1;
+                self.refined.push_reserved(oldest);
+                return;
+            }
+        }
+    }
+
+    /// The reply, which is short where a growth was refused.
+    fn reply(self, short: bool) -> RefineReply
+        ensures taken { result.taken ≡ (if short then 0 else 1) }
+        ensures refined { result.refined ≡ self.refined.items }
+        ensures hot { result.hot ≡ self.hot }
+        ensures skipped { result.skipped ≡ self.skipped }
+        ensures left { result.left ≡ 0 }
+        ensures short { result.short ≡ short }
+    {
+        RefineReply {
+            taken: if short { 0 } else { 1 },
+            refined: CardList::of(self.refined),
+            hot: self.hot,
+            skipped: self.skipped,
+            left: 0,
+            short,
+        }
+    }
+}
