@@ -49,7 +49,7 @@ module _ (heap : Cells) (sets : Pairs) (ring : Ring) (pending : ℕ) (settings :
       → ((q : ℕ) → Contains ring'.cards q ↔ (Contains ring.cards q × (q ≢ card))) → IsDrainedTo heap sets ring settings card heap' sets' ring' pending'
   drained_to ring' marked counts capacity distinct stands =
       let state : state_from (with_mark (with_reads heap heap.layout.slots) card Clean) (gained heap sets.pairs card) ring' ≡ record { table = refined (card ∷ []) (table_from heap sets.pairs); ring = ring' } =
-          cleaned_state heap sets.pairs ring pending core.parts ring' pending' card heap.layout.slots marked less counts capacity distinct stands in
+      cleaned_state heap sets.pairs ring pending core.parts ring' pending' card heap.layout.slots marked less counts capacity distinct stands in
       let was : IsPending (table_from heap sets.pairs) card = to_pending heap.marks card marked in
       let table : table_from heap' sets'.pairs ≡ refined (card ∷ []) (table_from heap sets.pairs) = (λ i. table_from (eh i) (ep i)) ∙ ap (λ (s : State). s.table) state in
       record {
@@ -76,7 +76,7 @@ module _ (heap : Cells) (sets : Pairs) (ring : Ring) (pending : ℕ) (settings :
       let front : IsFront ring.cards card = front_of ring.cards card first in
       subst (λ r. IsDrainedTo heap sets ring settings card heap' sets' r pending') (sym er)
       (drained_to (popped ring) (held_clean _ (oldest_mark heap sets.pairs ring pending core.parts card front.rest front.cards)) refl refl
-        (left_distinct heap sets.pairs ring pending core.parts card front.rest front.cards) (left_stands heap sets.pairs ring pending core.parts card front.rest front.cards))
+      (left_distinct heap sets.pairs ring pending core.parts card front.rest front.cards) (left_stands heap sets.pairs ring pending core.parts card front.rest front.cards))
 
 pub oldest_inside : (heap : Cells) (sets : Pairs) (ring : Ring) (pending : ℕ) → IsCore heap sets ring pending → (card : ℕ) → Some card ≡ slice_get ring.cards 0 → card < card_count heap.layout
 oldest_inside heap sets ring pending core card first =
@@ -228,7 +228,7 @@ other_dirty : (old new : Machine) (card q : ℕ) → IsCardDrained old card old.
 other_dirty old new card q k ne =
     let absent : set.contains (set_of (card ∷ [])) q ≡ false = false_from_ne_true _ (λ c. ne (one_of q card (in_list (card ∷ []) q c))) in
     let pending : set.contains new.state.table.pending q ≡ set.contains old.state.table.pending q =
-        ap (λ (t : Table). set.contains t.pending q) k.table ∙ refined_pending (card ∷ []) old.state.table q ∙ ap (λ b. set.contains old.state.table.pending q && not b) absent ∙ and_true _ in
+    ap (λ (t : Table). set.contains t.pending q) k.table ∙ refined_pending (card ∷ []) old.state.table q ∙ ap (λ b. set.contains old.state.table.pending q && not b) absent ∙ and_true _ in
     (λ i. pending i && not (set.contains (set_of (k.left i).cards) q))
 
 pub dirty_more : (old mid new : Machine) (before cards after : List ℕ) (bound card : ℕ) → IsDirtyDrained old before cards bound mid → is_dirty mid.state card ≡ true → bound ≤ card
@@ -329,8 +329,8 @@ module _ (a b : Machine) (xs : List ℕ) (n : ℕ) (h : IsRingDrained a xs n b) 
         drains = subst (λ m. Drains a after m c) many (subst (λ (cs : List ℕ). Drains a cs (n + length k.gone) c) (sym k.listed) (drains_both a b c xs k.gone n (length k.gone) h.drains k.drains));
         left = gone;
         nothing = same_cards _ _
-          (λ q p. absurd (true≢false (sym (to_dirty c.state q p (λ stands. absurd (omega (arith, (subst (λ (ys : List ℕ). Contains ys q) gone stands).1)))) ∙ none q)))
-          (λ q p. absurd (true≢false (sym p ∙ set.contains-empty nat_cmp q)));
+            (λ q p. absurd (true≢false (sym (to_dirty c.state q p (λ stands. absurd (omega (arith, (subst (λ (ys : List ℕ). Contains ys q) gone stands).1)))) ∙ none q)))
+            (λ q p. absurd (true≢false (sym p ∙ set.contains-empty nat_cmp q)));
       }
 
 -- the counts are reset once nothing is pending

@@ -9,3 +9,4 @@ pub mod StoreLemmas
 pub mod DrainLemmas
 pub mod QueryLemmas
 pub mod RefineLemmas
+pub mod ClearLemmas

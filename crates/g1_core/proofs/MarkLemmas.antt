@@ -60,7 +60,7 @@ to_pending marks q ne =
     let few : length (enumerate_from 0 marks) ≡ length marks = length-enumerate_from 0 marks in
     let from : 0 + q ≡ q = omega arith in
     let at : ◌≡◌ {A = ℕ × Mark} (get_or (enumerate_from 0 marks) q (q, get_or marks q Clean)) (q, get_or marks q Clean) =
-        get_or-enumerate_from 0 marks q (q, get_or marks q Clean) below ∙ (λ i. (from i, get_or_default marks q (get_or marks q Clean) Clean below i)) in
+    get_or-enumerate_from 0 marks q (q, get_or marks q Clean) below ∙ (λ i. (from i, get_or_default marks q (get_or marks q Clean) Clean below i)) in
     in_set _ q (to_kept marked_card (enumerate_from 0 marks) q (q, get_or marks q Clean) q (omega arith) at (marks_card q (get_or marks q Clean) ne))
 
 pub one_of : (q card : ℕ) → Contains (card ∷ []) q → q ≡ card
@@ -101,11 +101,11 @@ module _ (marks : List Mark) (card : ℕ) (mark : Mark) (inside : card < length 
         | inr ne ↦ and_from _ _ (to_pending marks q (λ e. from_pending _ q h (mark_there q ne ∙ e))) (ap not (false_from_ne_true _ (λ c. ne (one_of q card (in_list (card ∷ []) q c)))))
       ])
       (λ q h. to_pending _ q (λ e.
-        let m = and_parts _ _ (sym (set.contains-difference nat_cmp_total (pending_of marks) (set_of (card ∷ [])) q) ∙ h) in
-        elim (cases_eq q card) [
-          | inl is ↦ true≢false (sym (in_set (card ∷ []) q (itself q card is)) ∙ not-true _ m.1)
-          | inr ne ↦ from_pending marks q m.0 (sym (mark_there q ne) ∙ e)
-        ]))
+      let m = and_parts _ _ (sym (set.contains-difference nat_cmp_total (pending_of marks) (set_of (card ∷ [])) q) ∙ h) in
+      elim (cases_eq q card) [
+        | inl is ↦ true≢false (sym (in_set (card ∷ []) q (itself q card is)) ∙ not-true _ m.1)
+        | inr ne ↦ from_pending marks q m.0 (sym (mark_there q ne) ∙ e)
+      ]))
 
   -- another mark of a pending card leaves it pending
   pub pending_kept : mark ≢ Clean → get_or marks card Clean ≢ Clean → pending_of (list_set marks card mark) ≡ pending_of marks
@@ -145,11 +145,11 @@ few_pending marks =
 without_one : (cards : CardSet) (card : ℕ) → set.difference cards (set_of (card ∷ [])) ≡ set.remove cards card
 without_one cards card = same_cards _ _
     (λ q h.
-      let m = and_parts _ _ (sym (set.contains-difference nat_cmp_total cards (set_of (card ∷ [])) q) ∙ h) in
-      set.contains-remove nat_cmp_total cards card q ∙ and_from _ _ (ap not (false_from_ne_true _ (λ same. true≢false (sym (in_set (card ∷ []) q (itself q card (exact_unsigned q card ((Equal-is (nat_cmp q card)).0 same)))) ∙ not-true _ m.1)))) m.0)
+    let m = and_parts _ _ (sym (set.contains-difference nat_cmp_total cards (set_of (card ∷ [])) q) ∙ h) in
+    set.contains-remove nat_cmp_total cards card q ∙ and_from _ _ (ap not (false_from_ne_true _ (λ same. true≢false (sym (in_set (card ∷ []) q (itself q card (exact_unsigned q card ((Equal-is (nat_cmp q card)).0 same)))) ∙ not-true _ m.1)))) m.0)
     (λ q h.
-      let m = and_parts _ _ (sym (set.contains-remove nat_cmp_total cards card q) ∙ h) in
-      set.contains-difference nat_cmp_total cards (set_of (card ∷ [])) q ∙ and_from _ _ m.1 (ap not (false_from_ne_true _ (λ c. true≢false (sym (ap (λ (k : ℕ). eq_by_cmp nat_cmp k card) (one_of q card (in_list (card ∷ []) q c)) ∙ (eq_by_cmp_equiv nat_cmp_total).refl card) ∙ not-true _ m.0)))))
+    let m = and_parts _ _ (sym (set.contains-remove nat_cmp_total cards card q) ∙ h) in
+    set.contains-difference nat_cmp_total cards (set_of (card ∷ [])) q ∙ and_from _ _ m.1 (ap not (false_from_ne_true _ (λ c. true≢false (sym (ap (λ (k : ℕ). eq_by_cmp nat_cmp k card) (one_of q card (in_list (card ∷ []) q c)) ∙ (eq_by_cmp_equiv nat_cmp_total).refl card) ∙ not-true _ m.0)))))
 
 -- a set with a member has some
 pub some_member : (cards : CardSet) (card : ℕ) → set.contains cards card ≡ true → 1 ≤ set.len cards

@@ -91,7 +91,12 @@ module _ (heap : Cells) (pairs : PairSet) (ring : Ring) (pending : ℕ) (parts :
   pub read_parts : (more : ℕ) → AreParts (with_reads heap more) pairs ring pending
   read_parts more = record {
     cells = record { shape = parts.cells.shape; slots = parts.cells.slots; places = parts.cells.places; cards = parts.cells.cards };
-    counts = parts.counts; some = parts.some; distinct = parts.distinct; held = parts.held; known = parts.known; cover = parts.cover;
+    counts = parts.counts;
+    some = parts.some;
+    distinct = parts.distinct;
+    held = parts.held;
+    known = parts.known;
+    cover = parts.cover;
   }
 
   -- A pending card is refined and clean afterwards, and the ring holds just the other cards.

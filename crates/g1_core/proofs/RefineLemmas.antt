@@ -173,6 +173,10 @@ tally_more s0 cards i card s s' xs xs' hot hot' skipped skipped' o =
 pub tally_turned : (old new : State) (cards : List ℕ) (i : ℕ) (reply : RefineReply) (xs : List ℕ) (hot skipped : ℕ) → i ≤ length cards → (reply.short ≡ false → i ≡ length cards) → reply.taken ≡ cond reply.short 0 1 → reply.left ≡ 0
     → reply.refined ≡ xs → reply.hot ≡ hot → reply.skipped ≡ skipped → round_at new xs hot skipped ≡ turns (start old) (take i cards) → IsTurned old cards reply new
 tally_turned old new cards i reply xs hot skipped within whole taken left refined_is hot_is skipped_is round = record {
-  many = i; within = within; whole = whole; taken = taken; left = left;
+  many = i;
+  within = within;
+  whole = whole;
+  taken = taken;
+  left = left;
   turned = (λ i. record { state = new; refined = refined_is i; hot = hot_is i; skipped = skipped_is i }) ∙ round;
 }

@@ -89,7 +89,6 @@ increasing_push xs y up below k lt =
           omega arith
     ]
 
-
 -- what a filter_map keeps
 module _ {X Y : Type 0} (h : X → Option Y) where
   pub later : (x : X) (xs : List X) (q : X) → Contains xs q → Contains (x ∷ xs) q

@@ -62,7 +62,7 @@ module _ (heap : Cells) (pairs : PairSet) (ring : Ring) (pending : ℕ) (parts :
   pub plain_state : kind ≢ Logged → state_from (with_ref heap slot target) pairs ring ≡ record { table = stored t slot target; ring = ring }
   plain_state ne =
       let same : pending_of heap.marks ≡ pending_after (kind_of t slot target) (pending_of heap.marks) (card_of heap.layout slot) =
-          sym (ap (λ k. pending_after k (pending_of heap.marks) (card_of heap.layout slot)) (sym kind_is) ∙ pending_plain kind (pending_of heap.marks) (card_of heap.layout slot) ne) in
+      sym (ap (λ k. pending_after k (pending_of heap.marks) (card_of heap.layout slot)) (sym kind_is) ∙ pending_plain kind (pending_of heap.marks) (card_of heap.layout slot) ne) in
       λ i. record { table = record { layout = heap.layout; refs = list_set heap.refs slot target; pending = same i; recorded = pairs }; ring = ring }
 
   pub plain_parts : kind ≢ Logged → AreParts (with_ref heap slot target) pairs ring pending
@@ -73,7 +73,11 @@ module _ (heap : Cells) (pairs : PairSet) (ring : Ring) (pending : ℕ) (parts :
       places = All-set (λ o. IfSome o (λ place. place < slot_count heap.layout)) heap.refs slot target fits parts.cells.places;
       cards = parts.cells.cards;
     };
-    counts = parts.counts; some = parts.some; distinct = parts.distinct; held = parts.held; known = parts.known;
+    counts = parts.counts;
+    some = parts.some;
+    distinct = parts.distinct;
+    held = parts.held;
+    known = parts.known;
     cover = subst IsCovered (sym (ap (λ (s : State). s.table) (plain_state ne))) (stored_covered t slot target parts.cover);
   }
 
@@ -93,8 +97,8 @@ module _ (heap : Cells) (pairs : PairSet) (ring : Ring) (pending : ℕ) (parts :
     pub logged_state : state_from (with_mark (with_ref heap slot target) card Dirty) pairs ring ≡ record { table = stored t slot target; ring = ring }
     logged_state =
         let dirty : pending_of (list_set heap.marks card Dirty) ≡ pending_after (kind_of t slot target) (pending_of heap.marks) (card_of heap.layout slot) =
-            marked ∙ ap (set.insert (pending_of heap.marks)) on_card
-            ∙ ap (λ k. pending_after k (pending_of heap.marks) (card_of heap.layout slot)) (sym logged ∙ kind_is) in
+        marked ∙ ap (set.insert (pending_of heap.marks)) on_card
+        ∙ ap (λ k. pending_after k (pending_of heap.marks) (card_of heap.layout slot)) (sym logged ∙ kind_is) in
         λ i. record { table = record { layout = heap.layout; refs = list_set heap.refs slot target; pending = dirty i; recorded = pairs }; ring = ring }
 
     pub logged_parts : AreParts (with_mark (with_ref heap slot target) card Dirty) pairs ring pending'
@@ -105,7 +109,9 @@ module _ (heap : Cells) (pairs : PairSet) (ring : Ring) (pending : ℕ) (parts :
         places = All-set (λ o. IfSome o (λ place. place < slot_count heap.layout)) heap.refs slot target fits parts.cells.places;
         cards = length-set heap.marks card Dirty ∙ parts.cells.cards;
       };
-      counts = parts.counts; some = parts.some; distinct = parts.distinct;
+      counts = parts.counts;
+      some = parts.some;
+      distinct = parts.distinct;
       held = λ q. (
         λ c. let held : get_or heap.marks q Clean ≡ Held = (parts.held q).0 c in
             mark_there heap.marks card Dirty inside q (λ e. not_held (ap (λ (k : ℕ). get_or heap.marks k Clean) (sym e) ∙ held)) ∙ held,

@@ -7,3 +7,4 @@ pub mod Calls
 pub mod Barrier
 pub mod Refinement
 pub mod Pause
+pub mod Clearing

@@ -5,7 +5,7 @@ ghost use Rattle.g1_core.specs.Settings.{Settings, AreSettings};
 
 use std::marker::Model;
 
-/// How large logs, the set of completed buffers and the hot ring are.
+/// The settings of a core, within their limits (docs/PROFILE.md, Limits).
 #[derive(Clone, Copy, Debug)]
 pub struct Config {
     log: u32,
@@ -28,7 +28,9 @@ impl Model for Config {
 }
 
 impl Config {
-    /// `None` exactly outside the limits.
+    /// Settings of these numbers, or `None` exactly where one is outside its limits: `log` (cards that fill a log) 1 to
+    /// 256, `limit` (completed buffers that the line holds) 1 to 1,024, `hot` (the count from which on a card is hot) 0 to
+    /// 255, `ring` (cards in the hot ring) 1 to 4,096, `start` (completed buffers at which a work round begins) 1 to 1,024.
     pub fn new(log: u32, limit: u32, hot: u32, ring: u32, start: u32) -> Option<Config>
         ensures { let s : Settings = record { log = log; limit = limit; hot = hot; ring = ring; start = start } in SomeIff result (AreSettings s) s }
     {
@@ -47,7 +49,7 @@ impl Config {
         })
     }
 
-    /// The hot limit and the size of the ring.
+    /// The hot limit, and how many cards the ring holds.
     pub fn hot(&self) -> (u32, u32)
         ensures limit { result.0 ≡ self.now.hot }
         ensures size { result.1 ≡ self.now.ring }

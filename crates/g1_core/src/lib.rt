@@ -1,7 +1,16 @@
-//! The remembered-set machinery of a heap in regions, for one thread.
+//! The remembered-set machinery of a heap in regions, for one thread: what stands between a reference store and the
+//! remembered sets that an evacuation pause scans (docs/ARCHITECTURE.md).
+//!
+//! A card's way, a module for each step: [`barrier`] marks a card dirty and logs it, [`refinement`] gives the cards of a
+//! completed buffer their turns, and [`pause`] refines what is left before a remembered set is trusted; [`clearing`] empties a
+//! set. [`queries`] has the questions beside it, [`config`] the settings, [`reply`] and [`list`] what calls answer.
+//!
+//! Every call is a step of the plain table (`specs/Table.antt`, `specs/Run.antt`), and [`laws`] says what follows of it:
+//! no card that refers into another region is forgotten, and what a drain answers is exact.
 #![tactic(auto)]
 
 pub mod barrier;
+pub mod clearing;
 pub mod config;
 pub mod laws;
 pub mod list;
@@ -10,3 +19,11 @@ pub mod pause;
 pub mod queries;
 pub mod refinement;
 pub mod reply;
+
+pub use config::Config;
+pub use list::CardList;
+pub use machinery::Core;
+pub use reply::{ClearReply, Drained, Fill, Redirected, RefineReply, Status, StoreReply};
+
+#[cfg(test)]
+mod tests;

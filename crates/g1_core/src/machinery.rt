@@ -14,7 +14,10 @@ use g1_sets::Sets;
 use std::alloc::Global;
 use std::marker::Model;
 
-/// A heap in regions with its card table, remembered sets, refinement counts and hot card ring.
+/// A heap in regions with its card table, remembered sets, refinement counts and hot card ring, for one thread.
+///
+/// Contracts see a `Machine` (`specs/Machine.antt`): the plain table and the ring with its counts, the settings, and how many
+/// slots were read. Logs and completed buffers belong to the callers, and nothing in them is trusted.
 #[derive(Drop)]
 pub struct Core {
     pub(crate) alloc: Global,
@@ -38,9 +41,11 @@ impl Model for Core {
 }
 
 impl Core {
-    /// A heap of nulls, with every card clean and nothing recorded.
+    /// A heap of nulls, with every card clean, nothing recorded, every count 0 and an empty ring.
     ///
-    /// `NoMemory` where a growth was refused.
+    /// Takes the memory of the slots (4 bytes each), the marks and counts (a byte a card each) and the ring; afterwards
+    /// only the remembered sets and the lists that are answered grow. `NoMemory` where a growth was refused; what was taken
+    /// is given back.
     pub fn new(alloc: Global, layout: Layout, config: Config) -> Result<Core, NoMemory>
         ensures { IfOk result (λ core. core ≡ new_machine layout config) }
     {

@@ -16,7 +16,7 @@ impl Core {
     ghost use Rattle.g1_core.specs.Run.{IsStep};
     ghost use Rattle.g1_core.specs.Calls.{target_entry, pending_entry, members_entry, status_entry};
 
-    /// The layout of the heap. Constant time.
+    /// The layout of the heap. Constant time. Its contract says that cover holds, which every core keeps.
     pub fn layout(&self) -> Layout
         ensures value { result ≡ self.now.state.table.layout }
         ensures shape { IsShape self.now.state.table.layout }

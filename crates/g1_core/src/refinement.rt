@@ -5,7 +5,7 @@ ghost use Rattle.g1_heap.specs.declared.mark.Mark.TheVariants.{Clean, Dirty};
 ghost use Rattle.g1_core.specs.Turns.{refined_by, hot_by, skipped_by};
 
 use crate::list::CardList;
-use crate::machinery::{refine_card, Core};
+use crate::machinery::{Core, refine_card};
 use crate::reply::RefineReply;
 use g1_heap::{Heap, Mark};
 use g1_hot::Offer;

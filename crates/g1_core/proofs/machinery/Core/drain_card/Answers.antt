@@ -15,15 +15,15 @@ refine_card-requires-clause-some c = (dirty_inside c.self.inside.heap c.self.ins
 pub invariant_of-self-2 : goal.invariant_of-self-2
 invariant_of-self-2 c =
     let t : IsDrainedTo c.self.inside.heap c.self.inside.sets c.self.inside.hot c.self.inside.config c.args.card c.refine_card.new.heap c.refine_card.new.sets c.self.inside.hot c.refine_card.new.pending =
-        card_drained c.self.inside.heap c.self.inside.sets c.self.inside.hot c.self.inside.pending c.self.inside.config c.self.invariant c.refine_card.new.heap c.refine_card.new.sets c.refine_card.new.pending c.args.card
-        c.in_ok-refine_card.ensures.cleaned c.in_ok-refine_card.ensures.pairs c.in_ok-refine_card.ensures.layout c.in_ok-refine_card.ensures.less
-        (mark_dirty c.self.inside.heap c.self.inside.sets.pairs c.self.inside.hot c.self.inside.pending c.self.invariant.parts c.args.card (subst (λ (m : Machine). is_dirty m.state c.args.card ≡ true) (sym c.self.view_is) c.requires)) in
+    card_drained c.self.inside.heap c.self.inside.sets c.self.inside.hot c.self.inside.pending c.self.inside.config c.self.invariant c.refine_card.new.heap c.refine_card.new.sets c.refine_card.new.pending c.args.card
+    c.in_ok-refine_card.ensures.cleaned c.in_ok-refine_card.ensures.pairs c.in_ok-refine_card.ensures.layout c.in_ok-refine_card.ensures.less
+    (mark_dirty c.self.inside.heap c.self.inside.sets.pairs c.self.inside.hot c.self.inside.pending c.self.invariant.parts c.args.card (subst (λ (m : Machine). is_dirty m.state c.args.card ≡ true) (sym c.self.view_is) c.requires)) in
     t.core
 
 pub returns-clause-ok : goal.returns-clause-ok
 returns-clause-ok c =
     let t : IsDrainedTo c.self.inside.heap c.self.inside.sets c.self.inside.hot c.self.inside.config c.args.card c.refine_card.new.heap c.refine_card.new.sets c.self.inside.hot c.refine_card.new.pending =
-        card_drained c.self.inside.heap c.self.inside.sets c.self.inside.hot c.self.inside.pending c.self.inside.config c.self.invariant c.refine_card.new.heap c.refine_card.new.sets c.refine_card.new.pending c.args.card
-        c.in_ok-refine_card.ensures.cleaned c.in_ok-refine_card.ensures.pairs c.in_ok-refine_card.ensures.layout c.in_ok-refine_card.ensures.less
-        (mark_dirty c.self.inside.heap c.self.inside.sets.pairs c.self.inside.hot c.self.inside.pending c.self.invariant.parts c.args.card (subst (λ (m : Machine). is_dirty m.state c.args.card ≡ true) (sym c.self.view_is) c.requires)) in
+    card_drained c.self.inside.heap c.self.inside.sets c.self.inside.hot c.self.inside.pending c.self.inside.config c.self.invariant c.refine_card.new.heap c.refine_card.new.sets c.refine_card.new.pending c.args.card
+    c.in_ok-refine_card.ensures.cleaned c.in_ok-refine_card.ensures.pairs c.in_ok-refine_card.ensures.layout c.in_ok-refine_card.ensures.less
+    (mark_dirty c.self.inside.heap c.self.inside.sets.pairs c.self.inside.hot c.self.inside.pending c.self.invariant.parts c.args.card (subst (λ (m : Machine). is_dirty m.state c.args.card ≡ true) (sym c.self.view_is) c.requires)) in
     subst (λ (m : Machine). IsCardDrained m c.args.card m.state.ring (machine_from c.refine_card.new.heap c.refine_card.new.sets.pairs c.self.inside.hot c.self.inside.config)) c.self.view_is t.drained

@@ -11,15 +11,15 @@ refine_card-requires-clause-some c = oldest_some c.self.inside.heap c.self.insid
 pub invariant_of-self-2 : goal.invariant_of-self-2
 invariant_of-self-2 c =
     let t : IsDrainedTo c.self.inside.heap c.self.inside.sets c.self.inside.hot c.self.inside.config c.in-Some.card c.refine_card.new.heap c.refine_card.new.sets c.pop_oldest.new.self c.refine_card.new.pending =
-        oldest_drained c.self.inside.heap c.self.inside.sets c.self.inside.hot c.self.inside.pending c.self.inside.config c.self.invariant c.refine_card.new.heap c.refine_card.new.sets c.refine_card.new.pending c.in-Some.card
-        c.in_ok-refine_card.ensures.cleaned c.in_ok-refine_card.ensures.pairs c.in_ok-refine_card.ensures.layout c.in_ok-refine_card.ensures.less c.pop_oldest.new.self c.pop_oldest.ensures.ring c.in-Some.ensures.card in
+    oldest_drained c.self.inside.heap c.self.inside.sets c.self.inside.hot c.self.inside.pending c.self.inside.config c.self.invariant c.refine_card.new.heap c.refine_card.new.sets c.refine_card.new.pending c.in-Some.card
+    c.in_ok-refine_card.ensures.cleaned c.in_ok-refine_card.ensures.pairs c.in_ok-refine_card.ensures.layout c.in_ok-refine_card.ensures.less c.pop_oldest.new.self c.pop_oldest.ensures.ring c.in-Some.ensures.card in
     t.core
 
 pub returns-clause-ok : goal.returns-clause-ok
 returns-clause-ok c =
     let t : IsDrainedTo c.self.inside.heap c.self.inside.sets c.self.inside.hot c.self.inside.config c.in-Some.card c.refine_card.new.heap c.refine_card.new.sets (popped c.self.inside.hot) c.refine_card.new.pending =
-        oldest_drained c.self.inside.heap c.self.inside.sets c.self.inside.hot c.self.inside.pending c.self.inside.config c.self.invariant c.refine_card.new.heap c.refine_card.new.sets c.refine_card.new.pending c.in-Some.card
-        c.in_ok-refine_card.ensures.cleaned c.in_ok-refine_card.ensures.pairs c.in_ok-refine_card.ensures.layout c.in_ok-refine_card.ensures.less (popped c.self.inside.hot) (λ i. popped c.self.inside.hot) c.in-Some.ensures.card in
+    oldest_drained c.self.inside.heap c.self.inside.sets c.self.inside.hot c.self.inside.pending c.self.inside.config c.self.invariant c.refine_card.new.heap c.refine_card.new.sets c.refine_card.new.pending c.in-Some.card
+    c.in_ok-refine_card.ensures.cleaned c.in_ok-refine_card.ensures.pairs c.in_ok-refine_card.ensures.layout c.in_ok-refine_card.ensures.less (popped c.self.inside.hot) (λ i. popped c.self.inside.hot) c.in-Some.ensures.card in
     let ring = c.pop_oldest.ensures.ring in
     subst (λ r. IsCardDrained c.args.self.now c.in-Some.card (popped c.args.self.now.state.ring) (machine_from c.refine_card.new.heap c.refine_card.new.sets.pairs r c.self.inside.config)) (sym ring)
     (subst (λ (m : Machine). IsCardDrained m c.in-Some.card (popped m.state.ring) (machine_from c.refine_card.new.heap c.refine_card.new.sets.pairs (popped c.self.inside.hot) c.self.inside.config)) c.self.view_is t.drained)

@@ -1,0 +1,113 @@
+//! The clear: a region's remembered set is emptied once no reference enters the region.
+ghost use Rattle.std.specs.Prelude.{◌≡◌, ◌≢◌, ◌≤◌, ◌<◌, ◌+◌, ◌*◌, ◌↔◌, ℕ, [], ◌∷◌, None, Some, IsTrue, slice_index_or, length};
+ghost use Rattle.std.specs.FinSet as set;
+ghost use Rattle.g1_layout.specs.Shape.{slot_count, card_count, region_of};
+ghost use Rattle.g1_layout.specs.Sets.{PairSet};
+ghost use Rattle.g1_sets.specs.Pairs.{list_at, AreTied};
+ghost use Rattle.g1_core.specs.Machine.{table_from};
+ghost use Rattle.g1_core.specs.Clearing.{IsLeastOn, lesser_of, AreRead};
+
+use crate::machinery::Core;
+use crate::reply::ClearReply;
+use g1_heap::Heap;
+use g1_layout::{Card, Region, Slot};
+use g1_sets::Sets;
+
+impl Core {
+    ghost use Rattle.g1_core.specs.Table.{IsCovered};
+    ghost use Rattle.g1_core.specs.Run.{IsStep};
+    ghost use Rattle.g1_core.specs.Calls.{clear_entry};
+    ghost use Rattle.g1_core.specs.Clearing.{member_count};
+
+    /// Empties the remembered set of a region, once nothing is pending and no reference enters the region from outside
+    /// (docs/PROFILE.md, Clear; ISMM 2004, section 2.4, where the region was evacuated).
+    ///
+    /// `Pending` counts the cards that are pending. `StillReferenced` names the least slot of the whole heap that lies
+    /// outside the region and refers into it. Both leave all but the count of reads as it was, and `Pending` that too.
+    ///
+    /// Takes no memory. It reads each slot of the region's members at most once, and no other: the card of a slot that
+    /// enters the region is a member, since cover holds and nothing is pending.
+    pub fn clear(&mut self, region: Region) -> ClearReply
+        requires { region < self.old.state.table.layout.regions }
+        ensures step { (caller : ℕ) → IsStep self.old.state.table (clear_entry caller region result) self.new.state.table }
+        ensures refused { result ≢ ClearReply.Cleared → self.new.state ≡ self.old.state }
+        ensures ring { self.new.state.ring ≡ self.old.state.ring }
+        ensures settings { self.new.settings ≡ self.old.settings }
+        ensures unread { 1 ≤ set.len self.old.state.table.pending → self.new.reads ≡ self.old.reads }
+        ensures reads { self.new.reads ≤ self.old.reads + member_count self.old.state.table region * self.old.state.table.layout.slots }
+        ensures cover { IsCovered self.new.state.table }
+    {
+        if self.pending > 0 {
+            return ClearReply::Pending(self.pending);
+        }
+        if let Some(slot) = least_entering(&mut self.heap, &self.sets, region) {
+            return ClearReply::StillReferenced(slot);
+        }
+        self.sets.clear(region);
+        ClearReply::Cleared
+    }
+}
+
+// The least slot on the cards of the region's set that lies outside the region and refers into it.
+fn least_entering(heap: &mut Heap, sets: &Sets, region: Region) -> Option<Slot>
+    requires region { region < heap.old.layout.regions }
+    requires layouts { sets.now.layout ≡ heap.old.layout }
+    ensures least { IsLeastOn (table_from heap.old sets.now.pairs) (list_at sets.now.lists region) region result }
+    ensures tied { AreTied sets.now }
+    ensures heap { AreRead heap.old heap.new (length (list_at sets.now.lists region) * heap.old.layout.slots) }
+{
+    let mut least = None;
+    for index in 0..sets.len(region) {
+        let found = entering_on(heap, sets.at(region, index), region);
+        least = lesser(least, found);
+    }
+    least
+}
+
+// The lesser of two slots, of which either may be missing.
+fn lesser(a: Option<Slot>, b: Option<Slot>) -> Option<Slot>
+    ensures { result ≡ lesser_of a b }
+{
+    match (a, b) {
+        (Some(x), Some(y)) => Some(x.min(y)),
+        (None, other) => other,
+        (other, None) => other,
+    }
+}
+
+// The first slot of the card that lies outside the region and refers into it.
+fn entering_on(heap: &mut Heap, card: Card, region: Region) -> Option<Slot>
+    requires { card < card_count heap.old.layout }
+    ensures least { (pairs : PairSet) → IsLeastOn (table_from heap.old pairs) (card ∷ []) region result }
+    ensures heap { AreRead heap.old heap.new heap.old.layout.slots }
+{
+    let layout = heap.layout();
+    if layout.region_of_card(card) == region {
+        return None;
+    }
+    let (_, _, slots) = layout.counts();
+    let first = layout.first_slot(card).number();
+    for number in first..first + slots {
+        let slot = layout.slot(number)?;
+        if refers_into(heap, slot, region) {
+            return Some(slot);
+        }
+    }
+    None
+}
+
+// Whether the slot refers into the region.
+fn refers_into(heap: &mut Heap, slot: Slot, region: Region) -> bool
+    requires { slot < slot_count heap.old.layout }
+    ensures refers { IsTrue result ↔ (place : ℕ) × (slice_index_or heap.old.refs slot None ≡ Some place) × (region_of heap.old.layout place ≡ region) }
+    ensures heap { AreRead heap.old heap.new 1 }
+{
+    let layout = heap.layout();
+    match heap.get(slot) {
+        Some(place) => layout.region_of(place) == region,
+        None => false,
+    }
+}
+
+#[cfg(test)]
+mod tests;
