@@ -10,3 +10,4 @@ pub mod DrainLemmas
 pub mod QueryLemmas
 pub mod RefineLemmas
 pub mod ClearLemmas
+pub mod Examples

@@ -1,6 +1,9 @@
 //! What no clause says: that the barrier, the pause and the queries succeed, with answers worked by hand.
 //!
 //! The heap has 4 regions of 2 cards of 4 slots: card `c` has the slots from `4 * c` on, region `r` those from `8 * r` on.
+ghost use Rattle.std.specs.Prelude.{◌<◌};
+ghost use Rattle.g1_layout.specs.Shape.{slot_count, card_count};
+
 use crate::config::Config;
 use crate::list::CardList;
 use crate::machinery::Core;
@@ -24,18 +27,35 @@ fn core(rt: &impl Abort, alloc: Global, hot: u32) -> Result<Core, NoMemory> {
     Core::new(alloc, layout(rt), config)
 }
 
-fn slot(rt: &impl Abort, core: &Core, number: u32) -> Slot {
+fn slot(rt: &impl Abort, core: &Core, number: u32) -> Slot
+    ensures { result < slot_count core.now.state.table.layout }
+{
     core.layout().slot(number).expect(rt, "a slot of the heap")
 }
 
-fn region(rt: &impl Abort, core: &Core, number: u32) -> Region {
+fn region(rt: &impl Abort, core: &Core, number: u32) -> Region
+    ensures { result < core.now.state.table.layout.regions }
+{
     core.layout()
         .region(number)
         .expect(rt, "a region of the heap")
 }
 
-fn card(rt: &impl Abort, core: &Core, number: u32) -> Card {
+fn card(rt: &impl Abort, core: &Core, number: u32) -> Card
+    ensures { result < card_count core.now.state.table.layout }
+{
     core.layout().card(number).expect(rt, "a card of the heap")
+}
+
+/// A buffer of the cards of these numbers.
+fn buffer(rt: &impl Abort, core: &Core, numbers: &[u32]) -> Buffer {
+    let mut cards = ArrayVec::new();
+    for number in numbers {
+        cards
+            .try_push(card(rt, core, *number))
+            .expect(rt, "room in the buffer");
+    }
+    Buffer::of(cards)
 }
 
 /// Stores a reference to the place, or null, with this log.
@@ -143,23 +163,34 @@ fn a_drain_answers_the_set_and_reads_each_card_once(rt: HostRuntime) -> Result<(
     Ok(())
 }
 
+fn is_pending(rt: &impl Abort, core: &Core, number: u32) -> bool {
+    core.is_pending(card(rt, core, number))
+}
+
+fn target(rt: &impl Abort, core: &mut Core, number: u32) -> Option<u32> {
+    let slot = slot(rt, core, number);
+    core.target(slot).map(|place| place.number())
+}
+
+fn members(rt: &impl Abort, core: &Core, number: u32) -> Result<CardList, NoMemory> {
+    core.members(region(rt, core, number))
+}
+
 #[test]
 fn questions_are_answered(rt: HostRuntime) -> Result<(), Fail> {
     let mut core = core(&rt, rt.alloc(), 4)?;
     let mut log = Log::new(2);
     let _ = store(&rt, &mut core, &mut log, 12, Some(24));
     let _ = store(&rt, &mut core, &mut log, 4, Some(24));
-    let (three, one) = (card(&rt, &core, 3), card(&rt, &core, 1));
-    assert!(rt; core.is_pending(three) && core.is_pending(one));
-    let (from, other) = (slot(&rt, &core, 12), slot(&rt, &core, 13));
-    assert_eq!(rt; core.target(from).map(|place| place.number()), Some(24));
-    assert_eq!(rt; core.target(other).map(|place| place.number()), None);
+    assert!(rt; is_pending(&rt, &core, 3) && is_pending(&rt, &core, 1));
+    assert!(rt; !is_pending(&rt, &core, 0));
+    assert_eq!(rt; target(&rt, &mut core, 12), Some(24));
+    assert_eq!(rt; target(&rt, &mut core, 13), None);
     assert_eq!(rt; core.reads(), 2);
-    let last = region(&rt, &core, 3);
-    assert!(rt; core.members(last)?.is_empty());
+    assert!(rt; members(&rt, &core, 3)?.is_empty());
     assert_drained(&rt, &mut core, 3, &[1, 3], &[1, 3])?;
-    assert!(rt; has_cards(&core.members(last)?, &[1, 3]));
-    assert!(rt; !core.is_pending(three));
+    assert!(rt; has_cards(&members(&rt, &core, 3)?, &[1, 3]));
+    assert!(rt; !is_pending(&rt, &core, 3));
     Ok(())
 }
 
@@ -169,11 +200,8 @@ fn the_ring_is_drained_before_the_dirty_cards(rt: HostRuntime) -> Result<(), Fai
     let mut log = Log::new(2);
     let _ = store(&rt, &mut core, &mut log, 20, Some(0));
     let _ = store(&rt, &mut core, &mut log, 8, Some(0));
-    let mut cards = ArrayVec::new();
-    for number in [5, 2] {
-        cards.push(card(&rt, &core, number));
-    }
-    let reply = core.refine(Some(&Buffer::of(cards)))?;
+    let lent = buffer(&rt, &core, &[5, 2]);
+    let reply = core.refine(Some(&lent))?;
     assert_eq!(rt; reply.hot, 2);
     let _ = store(&rt, &mut core, &mut log, 28, Some(0));
     let _ = store(&rt, &mut core, &mut log, 12, Some(0));
@@ -194,9 +222,8 @@ fn a_whole_drain_makes_hot_cards_cold(rt: HostRuntime) -> Result<(), Fail> {
     for _ in 0..2 {
         let mut log = Log::new(2);
         let _ = store(&rt, &mut core, &mut log, 0, Some(8));
-        let mut cards = ArrayVec::new();
-        cards.push(card(&rt, &core, 0));
-        let reply = core.refine(Some(&Buffer::of(cards)))?;
+        let lent = buffer(&rt, &core, &[0]);
+        let reply = core.refine(Some(&lent))?;
         assert_eq!(rt; reply.hot, 0);
         assert!(rt; has_cards(&reply.refined, &[0]));
         assert_drained(&rt, &mut core, 1, &[0], &[])?;
@@ -216,7 +243,21 @@ fn a_refused_growth_loses_no_card(rt: HostRuntime) -> Result<(), Fail> {
     for (from, to) in [(0, 24), (4, 16), (8, 24), (31, 0)] {
         let _ = store(&rt, &mut core, &mut log, from, Some(to));
     }
-    let last = region(&rt, &core, 3);
+    assert_first_drain(&rt, &mut core);
+    assert_drained_set(&rt, &mut core, 0, &[7])?;
+    assert_drained_set(&rt, &mut core, 1, &[])?;
+    assert_drained_set(&rt, &mut core, 2, &[1])?;
+    assert_drained_set(&rt, &mut core, 3, &[0, 2])?;
+    if let Ok(cards) = members(&rt, &core, 3) {
+        assert!(rt; has_cards(&cards, &[0, 2]));
+    }
+    assert!(rt; has_cards(&members(&rt, &core, 3)?, &[0, 2]));
+    Ok(())
+}
+
+/// Drains region 3 once: refused, short or whole, each pending card is refined and listed, or still pending.
+fn assert_first_drain(rt: &impl Abort, core: &mut Core) {
+    let last = region(rt, core, 3);
     match core.drain(last) {
         Err(NoMemory) => assert_eq!(rt;
             core.status(),
@@ -226,25 +267,31 @@ fn a_refused_growth_loses_no_card(rt: HostRuntime) -> Result<(), Fail> {
             }
         ),
         Ok(Drained::Short { refined }) => {
-            let pending = core.status().pending as usize;
-            assert_eq!(rt; pending + refined.len(), 4);
+            assert_eq!(rt;
+                (core.status().pending as usize).saturating_add(refined.len()),
+                4
+            );
         }
         Ok(Drained::Cards { cards, refined }) => {
             assert!(rt; has_cards(&cards, &[0, 2]));
             assert!(rt; has_cards(&refined, &[0, 1, 2, 7]));
         }
     }
-    for (number, set) in [
-        (0, [7].as_slice()),
-        (1, [].as_slice()),
-        (2, [1].as_slice()),
-        (3, [0, 2].as_slice()),
-    ] {
-        let of = region(&rt, &core, number);
-        match core.drain(of)? {
-            Drained::Cards { cards, .. } => assert!(rt; has_cards(&cards, set)),
-            Drained::Short { .. } => assert!(rt; false, "memory is refused once"),
+}
+
+/// Checks the set that a whole drain of the region answers.
+fn assert_drained_set(
+    rt: &impl Abort,
+    core: &mut Core,
+    of: u32,
+    set: &[u32],
+) -> Result<(), NoMemory> {
+    let of = region(rt, core, of);
+    match core.drain(of)? {
+        Drained::Cards { cards, .. } => {
+            assert!(rt; has_cards(&cards, set));
+            Ok(())
         }
+        Drained::Short { .. } => Err(NoMemory),
     }
-    Ok(())
 }

@@ -2,15 +2,14 @@
 use Rattle.std.proofs.Common.{◌≡◌, ◌≢◌, ◌⊎◌, inl, inr, ℕ, zero, suc, ◌<◌, ◌≤◌, ◌+◌, ◌-◌, ◌*◌, ◌/◌, List, [], ◌∷◌, ◌++◌, length, get_or, take, drop, map, replicate, Option, Some, None, refl, sym, ap, ◌∙◌, subst, arith, ◌↔◌, Bool, true, false}
 use Rattle.std.specs.Prelude.{Contains, IsTrue, nat_eq}
 use Rattle.std.specs.List.{AllPairs, IsDistinct}
-use Rattle.std.proofs.Math.Nat.{div-mul-le_self, lt-div-mul-add}
-use Rattle.std.proofs.lemmas.Nat.{div-mul-add}
 use Rattle.std.proofs.lemmas.Bool.{cases_lt}
 use Rattle.std.proofs.lemmas.Bool.Decides.{Decides-eqb}
 use Rattle.std.proofs.lemmas.List.Elements.{Contains-append_left, Contains-push, Contains-push_cases}
 use Rattle.std.proofs.lemmas.List.Quantifiers.{all_pairs_push}
 use Rattle.std.proofs.lemmas.Map.Made.{IsDistinct-from_AllPairs}
 use Rattle.std.proofs.lemmas.List.{get_or-take, get_or-drop, get_or-map, get_or-replicate, get_or_past, get_or_default, length-take, length-drop, length-replicate}
-use Rattle.g1_layout.specs.Shape.{Shape, card_of, region_of, region_of_card}
+use Rattle.g1_layout.specs.Shape.{Shape, IsShape, card_of, region_of, region_of_card}
+use Rattle.g1_layout.proofs.ShapeLemmas.{IsInRow, card_of-row, row_of_card}
 use Rattle.g1_heap.specs.declared.region_set.RegionSet.{RegionSet}
 use Rattle.g1_heap.specs.Cells.{HoldsIn}
 use Rattle.g1_heap.specs.Regions.{HasRegion}
@@ -174,7 +173,7 @@ listed_fresh l own i row old new regions items target place region below made is
     subst (IsListedUpTo l own (i + 1) row new) (sym more) (fresh_listed l own i row old regions place region below (sym made ∙ is) at fresh h new added)
 
 -- the slots of a card
-module _ (l : Shape) (words : List ℕ) (card own first n : ℕ) (home : own ≡ region_of_card l card) (starts : first ≡ card * l.slots) (many : n ≡ l.slots) (some : 0 < l.slots) (room : first + n ≤ length words) where
+module _ (l : Shape) (words : List ℕ) (card own first n : ℕ) (home : own ≡ region_of_card l card) (starts : first ≡ card * l.slots) (many : n ≡ l.slots) (shape : IsShape l) (room : first + n ≤ length words) where
   abbrev row_of : List ℕ
   row_of = take (first + n - first) (drop first words)
 
@@ -193,7 +192,7 @@ module _ (l : Shape) (words : List ℕ) (card own first n : ℕ) (home : own ≡
       record {
         slot = first + k;
         place = m.place;
-        on_card = ap (λ (f : ℕ). (f + k) / l.slots) starts ∙ div-mul-add card l.slots k few;
+        on_card = ap (λ (f : ℕ). (f + k) / l.slots) starts ∙ card_of-row l card k few;
         refers = sym (row_at k lt) ∙ m.refers;
         into = m.into;
         outside = λ e. m.outside (home ∙ e);
@@ -201,8 +200,7 @@ module _ (l : Shape) (words : List ℕ) (card own first n : ℕ) (home : own ≡
 
   row_from_holds : (region : ℕ) → (h : HoldsIn l (map (ref_of l) words) card region) → (k : ℕ) × (k < n) × (first + k ≡ h.slot) × RowRefers l own row_of k region
   row_from_holds region h =
-      let low : card * l.slots ≤ h.slot = subst (λ c. c * l.slots ≤ h.slot) h.on_card (div-mul-le_self h.slot l.slots) in
-      let high : h.slot < card * l.slots + l.slots = subst (λ c. h.slot < c * l.slots + l.slots) h.on_card (lt-div-mul-add {a = h.slot} some) in
+      let row : IsInRow l card h.slot = row_of_card l card h.slot shape h.on_card in
       let lt : h.slot - first < n = omega arith in
       let at : first + (h.slot - first) ≡ h.slot = omega arith in
       (h.slot - first, lt, at, record { place = h.place; refers = row_at (h.slot - first) lt ∙ ap (λ s. get_or (map (ref_of l) words) s None) at ∙ h.refers; into = h.into; outside = λ e. h.outside (sym home ∙ e) })

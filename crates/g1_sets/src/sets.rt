@@ -133,7 +133,7 @@ impl Sets {
 
     /// The card at this place of the region's set, in the order of insertion. Constant time.
     ///
-    /// Every record and clear of the region may move the cards that follow, so a walk makes none.
+    /// The cards that are there keep their places until the set is cleared.
     pub fn at(&self, region: Region, index: u32) -> Card
         requires region { region < self.now.layout.regions }
         requires index { index < length (list_at self.now.lists region) }

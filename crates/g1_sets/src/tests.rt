@@ -1,124 +1,191 @@
 //! What a proof does not show: that calls succeed, and that a refused growth changes nothing.
-ghost use Rattle.std.specs.Prelude.{◌<◌};
-
 use crate::Sets;
 use g1_layout::{Card, Layout, NoMemory, Region};
+use std::alloc::Global;
 use std::process::Abort;
 use std::test::Fail;
 
-// A walk by `len` and `at` gives these cards, and `cards` gives them sorted.
-fn assert_cards(
-    rt: &impl Abort,
-    sets: &Sets,
-    region: Region,
-    inserted: &[u32],
-    sorted: &[u32],
-) -> Result<(), Fail>
-    requires { region < sets.now.layout.regions }
-{
-    assert_eq!(rt; sets.len(region) as usize, inserted.len());
-    for index in 0..sets.len(region) {
-        assert_eq!(rt;
-            Some(&sets.at(region, index).number()),
-            inserted.get(index as usize)
-        );
+// Sets whose cards and regions are named by number. A call that is refused is made again, after a
+// look at what it left: under `rt try --test --fail-alloc N` that is the Nth growth.
+#[derive(Drop)]
+struct Numbered {
+    layout: Layout,
+    sets: Sets,
+    ghost same: { sets.layout ≡ layout },
+}
+
+impl Numbered {
+    ghost use Rattle.std.specs.Prelude.{◌<◌, IfOk};
+    ghost use Rattle.g1_layout.specs.Shape.{card_count};
+
+    fn new(alloc: Global, regions: u32, cards: u32, slots: u32) -> Result<Numbered, Fail> {
+        let layout = Layout::new(regions, cards, slots).ok_or("layout")?;
+        let sets = match Sets::new(alloc, layout) {
+            Ok(sets) => sets,
+            Err(NoMemory) => Sets::new(alloc, layout)?,
+        };
+        Ok(Numbered { layout, sets })
     }
-    let cards = sets.cards(region)?;
-    assert_eq!(rt; cards.len(), sorted.len());
-    for (card, number) in cards.iter().zip(sorted) {
-        assert_eq!(rt; card.number(), *number);
+
+    fn card(&self, number: u32) -> Result<Card, Fail>
+        ensures { IfOk result (λ card. card < card_count self.now.layout) }
+    {
+        Ok(self.layout.card(number).ok_or("card")?)
     }
-    Ok(())
+
+    fn region(&self, number: u32) -> Result<Region, Fail>
+        ensures { IfOk result (λ region. region < self.now.layout.regions) }
+    {
+        Ok(self.layout.region(number).ok_or("region")?)
+    }
+
+    // All that a call at these numbers may change.
+    fn seen(&self, card: Card, first: Region, second: Region) -> (u32, u32, u32, bool, bool)
+        requires card { card < card_count self.now.layout }
+        requires first { first < self.now.layout.regions }
+        requires second { second < self.now.layout.regions }
+    {
+        let sets = &self.sets;
+        (
+            sets.total(),
+            sets.len(first),
+            sets.len(second),
+            sets.has(card, first),
+            sets.has(card, second),
+        )
+    }
+
+    fn record(&mut self, rt: &impl Abort, card: u32, first: u32, second: u32) -> Result<(), Fail> {
+        let card = self.card(card)?;
+        let first = self.region(first)?;
+        let second = self.region(second)?;
+        let before = self.seen(card, first, second);
+        if let Err(NoMemory) = self.sets.record(card, &[first, second]) {
+            assert!(rt; self.seen(card, first, second) == before);
+            self.sets.record(card, &[first, second])?;
+        }
+        Ok(())
+    }
+
+    fn record_many(&mut self, rt: &impl Abort, cards: [u32; 2], region: u32) -> Result<(), Fail> {
+        let [first, second] = cards;
+        let first = self.card(first)?;
+        let second = self.card(second)?;
+        let region = self.region(region)?;
+        let before = self.seen(second, region, region);
+        if let Err(NoMemory) = self.sets.record_many(&[first, second, first], region) {
+            assert!(rt; self.seen(second, region, region) == before);
+            self.sets.record_many(&[first, second, first], region)?;
+        }
+        Ok(())
+    }
+
+    fn clear(&mut self, region: u32) -> Result<(), Fail> {
+        let region = self.region(region)?;
+        self.sets.clear(region);
+        Ok(())
+    }
+
+    fn has(&self, card: u32, region: u32) -> Result<bool, Fail> {
+        let card = self.card(card)?;
+        let region = self.region(region)?;
+        Ok(self.sets.has(card, region))
+    }
+
+    // A walk gives these cards, and `cards` gives them sorted.
+    fn assert_cards(
+        &self,
+        rt: &impl Abort,
+        region: u32,
+        inserted: &[u32],
+        sorted: &[u32],
+    ) -> Result<(), Fail> {
+        let region = self.region(region)?;
+        assert!(rt; self.sets.len(region) as usize == inserted.len());
+        for index in 0..self.sets.len(region) {
+            let card = self.sets.at(region, index);
+            assert!(rt; inserted.get(index as usize) == Some(&card.number()));
+        }
+        let cards = match self.sets.cards(region) {
+            Ok(cards) => cards,
+            Err(NoMemory) => self.sets.cards(region)?,
+        };
+        assert!(rt; cards.len() == sorted.len());
+        for (card, number) in cards.iter().zip(sorted) {
+            assert!(rt; card.number() == *number);
+        }
+        Ok(())
+    }
+
+    // Every card, from the last to the first of these numbers, for one region.
+    fn fill(&mut self, region: u32, first: u32, end: u32) -> Result<(), Fail> {
+        for number in (first..end).rev() {
+            self.record_plainly(number, region)?;
+        }
+        Ok(())
+    }
+
+    fn record_plainly(&mut self, card: u32, region: u32) -> Result<(), Fail> {
+        let card = self.card(card)?;
+        let region = self.region(region)?;
+        self.sets.record(card, &[region])?;
+        Ok(())
+    }
+
+    fn assert_ascending(
+        &self,
+        rt: &impl Abort,
+        region: u32,
+        first: u32,
+        end: u32,
+    ) -> Result<(), Fail> {
+        let region = self.region(region)?;
+        let cards = self.sets.cards(region)?;
+        assert!(rt; cards.iter().map(|card| card.number()).eq(first..end));
+        Ok(())
+    }
 }
 
 #[test]
 fn each_call_once(rt: HostRuntime) -> Result<(), Fail> {
-    let layout = Layout::new(4, 2, 4).ok_or("layout")?;
-    let mut sets = Sets::new(rt.alloc(), layout)?;
-    let low = layout.card(2).ok_or("card")?;
-    let high = layout.card(7).ok_or("card")?;
-    let first = layout.region(0).ok_or("region")?;
-    let second = layout.region(1).ok_or("region")?;
-    let last = layout.region(3).ok_or("region")?;
-    sets.record(high, &[first, last, first])?;
-    sets.record(low, &[first])?;
-    sets.record(high, &[first])?;
-    sets.record(low, &[])?;
-    assert_cards(&rt, &sets, first, &[7, 2], &[2, 7])?;
-    assert_cards(&rt, &sets, second, &[], &[])?;
-    assert_cards(&rt, &sets, last, &[7], &[7])?;
-    assert!(rt; sets.has(high, last) && !sets.has(low, last) && !sets.has(high, second));
-    assert_eq!(rt; sets.total(), 3);
-    sets.record_many(&[high, low, high], second)?;
-    assert_cards(&rt, &sets, second, &[7, 2], &[2, 7])?;
-    assert_eq!(rt; sets.total(), 5);
-    sets.clear(first);
-    assert_cards(&rt, &sets, first, &[], &[])?;
-    assert_cards(&rt, &sets, last, &[7], &[7])?;
-    assert_eq!(rt; sets.total(), 3);
+    let mut sets = Numbered::new(rt.alloc(), 4, 2, 4)?;
+    sets.record(&rt, 7, 0, 3)?;
+    sets.record(&rt, 2, 0, 0)?;
+    sets.record(&rt, 7, 0, 0)?;
+    sets.assert_cards(&rt, 0, &[7, 2], &[2, 7])?;
+    sets.assert_cards(&rt, 1, &[], &[])?;
+    sets.assert_cards(&rt, 3, &[7], &[7])?;
+    assert!(rt; sets.has(7, 3)? && !sets.has(2, 3)? && !sets.has(7, 1)?);
+    assert!(rt; sets.sets.total() == 3);
+    sets.record_many(&rt, [5, 2], 1)?;
+    sets.record_many(&rt, [2, 0], 3)?;
+    sets.assert_cards(&rt, 1, &[5, 2], &[2, 5])?;
+    sets.assert_cards(&rt, 3, &[7, 2, 0], &[0, 2, 7])?;
+    sets.clear(0)?;
+    sets.assert_cards(&rt, 0, &[], &[])?;
+    sets.assert_cards(&rt, 3, &[7, 2, 0], &[0, 2, 7])?;
+    assert!(rt; sets.sets.total() == 5);
     Ok(())
 }
 
-// Under `rt try --test --fail-alloc N` the Nth growth is refused: each call that is refused is made
-// again, and the contents are compared before.
 #[test]
-fn refused_growth_changes_nothing(rt: HostRuntime) -> Result<(), Fail> {
-    let layout = Layout::new(3, 64, 4).ok_or("layout")?;
-    let first = layout.region(0).ok_or("region")?;
-    let second = layout.region(1).ok_or("region")?;
-    let third = layout.region(2).ok_or("region")?;
-    let mut sets = match Sets::new(rt.alloc(), layout) {
-        Ok(sets) => sets,
-        Err(NoMemory) => Sets::new(rt.alloc(), layout)?,
-    };
-    for number in 0..64 {
-        let card = layout.card(number).ok_or("card")?;
-        if sets.record(card, &[first, third]).is_err() {
-            assert_eq!(rt;
-                (sets.len(first), sets.len(second), sets.len(third)),
-                (number, 0, number)
-            );
-            assert!(rt; !sets.has(card, first) && !sets.has(card, third));
-            assert_eq!(rt; sets.total(), 2 * number);
-            sets.record(card, &[first, third])?;
-        }
-        let next = layout.card(number + 64).ok_or("card")?;
-        let cards = [card, next];
-        if sets.record_many(&cards, second).is_err() {
-            assert_eq!(rt; sets.total(), 4 * number + 2);
-            assert!(rt; !sets.has(card, second) && !sets.has(next, second));
-            sets.record_many(&cards, second)?;
-        }
-        assert_eq!(rt; sets.at(third, number), card);
+fn sets_that_grow(rt: HostRuntime) -> Result<(), Fail> {
+    let mut sets = Numbered::new(rt.alloc(), 3, 64, 4)?;
+    for number in 0..32 {
+        sets.record(&rt, number, 0, 2)?;
+        sets.record_many(&rt, [number, number + 32], 1)?;
     }
-    let cards = match sets.cards(second) {
-        Ok(cards) => cards,
-        Err(NoMemory) => sets.cards(second)?,
-    };
-    assert_eq!(rt; (sets.total(), cards.len()), (256, 128));
-    for (card, number) in cards.iter().zip(0..128) {
-        assert_eq!(rt; card.number(), number);
-    }
+    assert!(rt; sets.sets.total() == 128);
     Ok(())
 }
 
 #[test]
 fn every_card_outside_one_region(rt: HostRuntime) -> Result<(), Fail> {
-    let layout = Layout::new(256, 256, 16).ok_or("layout")?;
-    let mut sets = Sets::new(rt.alloc(), layout)?;
-    let region = layout.region(0).ok_or("region")?;
-    for number in 256..65_536 {
-        let card = layout.card(65_791 - number).ok_or("card")?;
-        sets.record(card, &[region])?;
-    }
-    assert_eq!(rt; sets.len(region), 65_280);
-    assert_eq!(rt; sets.total(), 65_280);
-    let cards = sets.cards(region)?;
-    assert_eq!(rt; cards.len(), 65_280);
-    for (card, number) in cards.iter().zip(256..65_536) {
-        assert_eq!(rt; card.number(), number);
-    }
-    sets.clear(region);
-    assert_eq!(rt; sets.total(), 0);
+    let mut sets = Numbered::new(rt.alloc(), 256, 256, 16)?;
+    sets.fill(0, 256, 65_536)?;
+    assert!(rt; sets.sets.total() == 65_280);
+    sets.assert_ascending(&rt, 0, 256, 65_536)?;
+    sets.clear(0)?;
+    assert!(rt; sets.sets.total() == 0);
     Ok(())
 }

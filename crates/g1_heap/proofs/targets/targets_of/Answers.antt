@@ -35,4 +35,4 @@ loop-word-preserved c =
 
 pub returns : goal.returns
 returns c = listed_all c.args.layout.now c.args.words.now c.args.card _ c.number-first.result c.counts-slots.result.2
-    refl (omega arith) c.counts-slots.ensures.slots (omega arith) (omega arith) c.loop-word.word-index c.loop-word.known c.loop-word.targets.items c.loop-word-test.false c.loop-word.invariant.so_far
+    refl (omega arith) c.counts-slots.ensures.slots c.counts-slots.ensures.shape (omega arith) c.loop-word.word-index c.loop-word.known c.loop-word.targets.items c.loop-word-test.false c.loop-word.invariant.so_far
