@@ -1,4 +1,6 @@
 //! What a proof does not show: that calls succeed, and that a refused growth changes nothing.
+ghost use Rattle.std.specs.Prelude.{◌≡◌};
+
 use crate::Sets;
 use g1_layout::{Card, Layout, NoMemory, Region};
 use std::alloc::Global;
