@@ -207,7 +207,7 @@ few_members sets heap region tied = few_recorded region (list_at sets.lists regi
 
 -- where nothing is pending, cover has the card of each slot that enters the region recorded
 module _ (t : Table) (region : ℕ) (cards : List ℕ) (none : t.pending ≡ set.empty) (cover : IsCovered t) (recorded : (card : ℕ) → IsRecorded t card region → Contains cards card) where
-  met : (slot : ℕ) → Enters t slot region → Contains cards (card_of t.layout slot)
+  pub met : (slot : ℕ) → Enters t slot region → Contains cards (card_of t.layout slot)
   met slot e = recorded (card_of t.layout slot) (elim (cover slot e.place (record { refers = e.refers; across = λ same. e.outside (same ∙ e.into) })) [
     | inl p ↦ absurd (true≢false (sym p ∙ ap (λ (s : CardSet). set.contains s (card_of t.layout slot)) none ∙ set.contains-empty nat_cmp (card_of t.layout slot)))
     | inr r ↦ subst (λ (q : ℕ). IsRecorded t (card_of t.layout slot) q) e.into r

@@ -11,3 +11,4 @@ pub mod QueryLemmas
 pub mod RefineLemmas
 pub mod ClearLemmas
 pub mod Examples
+pub mod RedirectLemmas

@@ -8,3 +8,4 @@ pub mod Barrier
 pub mod Refinement
 pub mod Pause
 pub mod Clearing
+pub mod Redirect

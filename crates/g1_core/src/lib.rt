@@ -17,6 +17,7 @@ pub mod list;
 pub mod machinery;
 pub mod pause;
 pub mod queries;
+pub mod redirection;
 pub mod refinement;
 pub mod reply;
 

@@ -1,0 +1,88 @@
+//! A core and the history of its calls.
+ghost use Rattle.std.specs.Prelude.{◌≡◌, ◌≤◌, IfOk};
+
+use crate::entry::Entry;
+use g1_core::{Config, Core};
+use g1_layout::{Layout, NoMemory};
+use std::alloc::Global;
+use std::marker::Model;
+
+/// A core and the history of its calls (docs/PROFILE.md, The history).
+///
+/// Its entries are a permitted run of the plain table, which ends in the core's table. Each call appends one entry with
+/// its caller and just the reply that it gives, or is refused and changes nothing but the count of reads. `BookFull`
+/// comes exactly where the history has as many entries as it may have, and before `NoMemory`: then no memory is asked.
+/// Otherwise room for the entry, and for its copies of the lists of the reply, is made before the core is called.
+/// Growing the history is amortised over its entries.
+#[derive(Drop)]
+pub struct Book {
+    pub(crate) alloc: Global,
+    pub(crate) core: Core,
+    pub(crate) mutators: u32,
+    pub(crate) entries: Vec<Entry>,
+    pub(crate) limit: usize,
+}
+
+impl Model for Book {
+    ghost use Rattle.g1_book.specs.History.{History, IsHistory, history_code};
+    ghost use Rattle.g1_book.specs.contracts.entry.Entry as entry;
+
+    ghost Value = { History };
+
+    ghost coded = { history_code entry.the_row.coded };
+
+    ghost view = { λ a. record { machine = a.core; mutators = a.mutators; entries = a.entries.items; limit = a.limit } };
+
+    ghost invariant = { λ a. IsHistory (record { machine = a.core; mutators = a.mutators; entries = a.entries.items; limit = a.limit }) };
+}
+
+impl Book {
+    ghost use Rattle.g1_core.specs.Table.{IsCovered};
+    ghost use Rattle.g1_book.specs.History.{IsHistory, opened, table_in, layout_in};
+
+    /// An empty history over a new core: every slot null, every card clean, nothing recorded (docs/PROFILE.md, The
+    /// history).
+    ///
+    /// `mutators`, from 1 to 8, is how many of the callers may store, and `history`, from 1 to 1,000,000, how many entries
+    /// there may be. `NoMemory` where a growth for the core was refused; room for entries is made as they come.
+    pub fn open(
+        alloc: Global,
+        layout: Layout,
+        config: Config,
+        mutators: u32,
+        history: usize,
+    ) -> Result<Book, NoMemory>
+        requires mutators_low { 1 ≤ mutators }
+        requires mutators_high { mutators ≤ 8 }
+        requires history_low { 1 ≤ history }
+        requires history_high { history ≤ 1000000 }
+        ensures { IfOk result (λ book. book ≡ opened layout config mutators history) }
+    {
+        let _ = layout.counts();
+        let core = Core::new(alloc, layout, config)?;
+        Ok(Book {
+            alloc,
+            core,
+            mutators,
+            entries: Vec::new(alloc),
+            limit: history,
+        })
+    }
+
+    /// The layout of the heap, which makes the numbers that calls take. Constant time.
+    pub fn layout(&self) -> Layout
+        ensures { result ≡ layout_in self.now }
+    {
+        self.core.layout()
+    }
+
+    /// The calls so far, oldest first: a permitted run of the plain table, from the opening table to the core's. Where a
+    /// slot refers into another region, its card is pending or recorded for that region. Constant time.
+    pub fn entries(&self) -> &[Entry]
+        ensures entries { result.now ≡ self.now.entries }
+        ensures history { IsHistory self.now }
+        ensures cover { IsCovered (table_in self.now) }
+    {
+        self.entries.as_slice()
+    }
+}

@@ -1,0 +1,119 @@
+//! Drains and clears, entered.
+ghost use Rattle.std.specs.Prelude.{◌≡◌, ◌≢◌, ◌≤◌, ◌<◌, ◌+◌, ◌*◌, ◌↔◌, length, IfOk, OnErr, vec_len, vec_capacity};
+ghost use Rattle.std.specs.FinSet as set;
+ghost use Rattle.g1_layout.specs.Shape.{card_count};
+ghost use Rattle.g1_core.specs.Calls.{drain_reply, drain_refined};
+ghost use Rattle.g1_book.specs.Entries.{reply_of};
+ghost use Rattle.g1_book.specs.History.{drain_cards};
+
+use crate::book::Book;
+use crate::entry::{Call, Entry, Reply};
+use crate::refusal::Refusal;
+use crate::room::{copied, make_room};
+use g1_core::{CardList, ClearReply, Drained};
+use g1_layout::{Card, Layout, Region};
+
+impl Book {
+    ghost use Rattle.g1_core.specs.Calls.{drain_entry, clear_entry};
+    ghost use Rattle.g1_core.specs.Clearing.{member_count};
+    ghost use Rattle.g1_core.specs.Pause.{IsDrainOf};
+    ghost use Rattle.g1_book.specs.History.{IsEntered, AnswersExactly, table_in, layout_in};
+
+    /// Refines all that is pending, as the core does, answers the region's remembered set, and enters it
+    /// (docs/PROFILE.md, The pause).
+    ///
+    /// The answer of a whole drain is exact: ascending, with each card that now holds a reference into the region, and
+    /// only cards outside it that held one since its set was last cleared. A short drain is entered too.
+    ///
+    /// `BookFull` exactly where the history is full; `NoMemory` where room for the entry or for a list was refused.
+    /// Either changes nothing. The entry's lists take 4 bytes for each card that was answered or refined; room for as
+    /// many as may come is taken first, and what is not needed is given back.
+    pub fn drain(&mut self, caller: u32, region: Region) -> Result<Drained, Refusal>
+        requires { region < (layout_in self.old).regions }
+        ensures entered { IfOk result (λ answer. IsEntered self.old (drain_entry caller region answer) self.new) }
+        ensures exact { IfOk result (λ answer. AnswersExactly self.old region answer) }
+        ensures drained { IfOk result (λ answer. IsDrainOf self.old.machine region answer self.new.machine) }
+        ensures full { (result ≡ Err Refusal.BookFull) ↔ (length self.old.entries ≡ self.old.limit) }
+        ensures err { OnErr result (self.new ≡ self.old) }
+    {
+        make_room(&mut self.entries, self.limit)?;
+        let status = self.core.status();
+        let refined_room = Vec::with_capacity(self.alloc, status.pending as usize)?;
+        let cards_room = Vec::with_capacity(self.alloc, count_cards(self.core.layout()))?;
+        let answer = self.core.drain(region)?;
+        let reply = drained_reply(cards_room, &answer);
+        let refined = copied(refined_room, drained_cards(&answer));
+        self.entries.push_reserved(Entry {
+            caller,
+            call: Call::Drain(region),
+            reply,
+            refined,
+        });
+        Ok(answer)
+    }
+
+    /// Empties the region's remembered set, once nothing is pending and no reference enters the region from outside, and
+    /// enters what became of it (docs/PROFILE.md, Clear).
+    ///
+    /// `Pending` and `StillReferenced` are answers with an entry: they leave all but the count of reads as it was.
+    /// `BookFull` exactly where the history is full, `NoMemory` where room for the entry was refused. Either changes
+    /// nothing. The entry holds no list.
+    pub fn clear(&mut self, caller: u32, region: Region) -> Result<ClearReply, Refusal>
+        requires { region < (layout_in self.old).regions }
+        ensures entered { IfOk result (λ answer. IsEntered self.old (clear_entry caller region answer) self.new) }
+        ensures ring { self.new.machine.state.ring ≡ self.old.machine.state.ring }
+        ensures unread { 1 ≤ set.len (table_in self.old).pending → self.new.machine.reads ≡ self.old.machine.reads }
+        ensures reads { self.new.machine.reads ≤ self.old.machine.reads + member_count (table_in self.old) region * (layout_in self.old).slots }
+        ensures refused { IfOk result (λ answer. answer ≢ ClearReply.Cleared → self.new.machine.state ≡ self.old.machine.state) }
+        ensures full { (result ≡ Err Refusal.BookFull) ↔ (length self.old.entries ≡ self.old.limit) }
+        ensures err { OnErr result (self.new ≡ self.old) }
+    {
+        make_room(&mut self.entries, self.limit)?;
+        let answer = self.core.clear(region);
+        let entry = Entry {
+            caller,
+            call: Call::Clear(region),
+            reply: clear_reply(&answer),
+            refined: CardList::new(self.alloc),
+        };
+        self.entries.push_reserved(entry);
+        Ok(answer)
+    }
+}
+
+/// The reply of this clear.
+fn clear_reply(answer: &ClearReply) -> Reply
+    ensures { result ≡ Reply.Clear answer.now }
+{
+    Reply::Clear(*answer)
+}
+
+/// How many cards the heap has.
+fn count_cards(layout: Layout) -> usize
+    ensures { result ≡ card_count layout }
+{
+    let (regions, cards, _) = layout.counts();
+    regions as usize * cards as usize
+}
+
+/// The cards that a drain refined.
+fn drained_cards(answer: &Drained) -> &CardList
+    ensures { result.now ≡ drain_refined answer.now }
+{
+    match answer {
+        Drained::Cards { refined, .. } => refined,
+        Drained::Short { refined } => refined,
+    }
+}
+
+/// What a drain answered beside them, in room that was made for it.
+fn drained_reply(room: Vec<Card>, answer: &Drained) -> Reply
+    requires empty { vec_len room ≡ 0 }
+    requires room { length (drain_cards answer.now) ≤ vec_capacity room }
+    ensures { reply_of result ≡ drain_reply answer.now }
+{
+    match answer {
+        Drained::Cards { cards, .. } => Reply::Cards(copied(room, cards)),
+        Drained::Short { .. } => Reply::Short,
+    }
+}

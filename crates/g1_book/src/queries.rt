@@ -1,0 +1,122 @@
+//! Questions to the core, entered.
+ghost use Rattle.std.specs.Prelude.{◌≡◌, ◌<◌, ◌↔◌, ◌+◌, ◌-◌, ◌^◌, length, min, IfOk, OnErr};
+ghost use Rattle.std.specs.FinSet as set;
+ghost use Rattle.g1_layout.specs.Shape.{slot_count, card_count};
+
+use crate::book::Book;
+use crate::entry::{Call, Entry, Reply};
+use crate::refusal::Refusal;
+use crate::room::make_room;
+use g1_core::{CardList, Status};
+use g1_layout::{Card, Region, Slot};
+
+impl Book {
+    ghost use Rattle.g1_core.specs.Table.{target_of, AreMembers};
+    ghost use Rattle.g1_core.specs.Calls.{target_entry, pending_entry, members_entry, status_entry};
+    ghost use Rattle.g1_book.specs.History.{IsEntered, table_in, layout_in};
+
+    /// The place that a slot refers to, or `None` where it is null, entered. One slot is read.
+    ///
+    /// `BookFull` exactly where the history is full, `NoMemory` where room for the entry was refused. Either changes
+    /// nothing. Constant time but for the growth of the history; the entry holds no list.
+    pub fn target(&mut self, caller: u32, slot: Slot) -> Result<Option<Slot>, Refusal>
+        requires { slot < slot_count (layout_in self.old) }
+        ensures entered { IfOk result (λ target. IsEntered self.old (target_entry caller slot target) self.new) }
+        ensures target { IfOk result (λ target. target ≡ target_of (table_in self.old) slot) }
+        ensures machine { IfOk result (λ _. self.new.machine ≡ record { state = self.old.machine.state; settings = self.old.machine.settings; reads = min (self.old.machine.reads + 1) (2 ^ 64 - 1) }) }
+        ensures full { (result ≡ Err Refusal.BookFull) ↔ (length self.old.entries ≡ self.old.limit) }
+        ensures err { OnErr result (self.new ≡ self.old) }
+    {
+        make_room(&mut self.entries, self.limit)?;
+        let target = self.core.target(slot);
+        let entry = Entry {
+            caller,
+            call: Call::Target(slot),
+            reply: target_reply(&target),
+            refined: CardList::new(self.alloc),
+        };
+        self.entries.push_reserved(entry);
+        Ok(target)
+    }
+
+    /// Whether a card is pending, entered: dirty, or held in the hot card ring.
+    ///
+    /// `BookFull` exactly where the history is full, `NoMemory` where room for the entry was refused. Either changes
+    /// nothing. Constant time but for the growth of the history; the entry holds no list.
+    pub fn is_pending(&mut self, caller: u32, card: Card) -> Result<bool, Refusal>
+        requires { card < card_count (layout_in self.old) }
+        ensures entered { IfOk result (λ answer. IsEntered self.old (pending_entry caller card answer) self.new) }
+        ensures pending { IfOk result (λ answer. answer ≡ set.contains (table_in self.old).pending card) }
+        ensures machine { self.new.machine ≡ self.old.machine }
+        ensures full { (result ≡ Err Refusal.BookFull) ↔ (length self.old.entries ≡ self.old.limit) }
+        ensures err { OnErr result (self.new ≡ self.old) }
+    {
+        make_room(&mut self.entries, self.limit)?;
+        let answer = self.core.is_pending(card);
+        let entry = Entry {
+            caller,
+            call: Call::Pending(card),
+            reply: Reply::Pending(answer),
+            refined: CardList::new(self.alloc),
+        };
+        self.entries.push_reserved(entry);
+        Ok(answer)
+    }
+
+    /// The cards of a region's remembered set as it is recorded, ascending, each once, entered.
+    ///
+    /// `BookFull` exactly where the history is full; `NoMemory` where room for the entry or for a list was refused.
+    /// Either changes nothing. The entry's list takes 4 bytes a card. The question changes nothing in the core, so that
+    /// list is made after it, in just the room that it needs.
+    pub fn members(&mut self, caller: u32, region: Region) -> Result<CardList, Refusal>
+        requires { region < (layout_in self.old).regions }
+        ensures entered { IfOk result (λ cards. IsEntered self.old (members_entry caller region cards) self.new) }
+        ensures members { IfOk result (λ cards. AreMembers (table_in self.old) region cards) }
+        ensures machine { self.new.machine ≡ self.old.machine }
+        ensures full { (result ≡ Err Refusal.BookFull) ↔ (length self.old.entries ≡ self.old.limit) }
+        ensures err { OnErr result (self.new ≡ self.old) }
+    {
+        make_room(&mut self.entries, self.limit)?;
+        let cards = self.core.members(region)?;
+        let copy = cards.try_clone(self.alloc)?;
+        let entry = Entry {
+            caller,
+            call: Call::Members(region),
+            reply: Reply::Cards(copy),
+            refined: CardList::new(self.alloc),
+        };
+        self.entries.push_reserved(entry);
+        Ok(cards)
+    }
+
+    /// How many cards are pending and how many pairs of a card and a region are recorded, entered.
+    ///
+    /// `BookFull` exactly where the history is full, `NoMemory` where room for the entry was refused. Either changes
+    /// nothing. Takes time in the number of regions; the entry holds no list.
+    pub fn status(&mut self, caller: u32) -> Result<Status, Refusal>
+        ensures entered { IfOk result (λ status. IsEntered self.old (status_entry caller status) self.new) }
+        ensures pending { IfOk result (λ status. status.pending ≡ set.len (table_in self.old).pending) }
+        ensures recorded { IfOk result (λ status. status.recorded ≡ set.len (table_in self.old).recorded) }
+        ensures machine { self.new.machine ≡ self.old.machine }
+        ensures full { (result ≡ Err Refusal.BookFull) ↔ (length self.old.entries ≡ self.old.limit) }
+        ensures err { OnErr result (self.new ≡ self.old) }
+    {
+        make_room(&mut self.entries, self.limit)?;
+        let status = self.core.status();
+        let entry = Entry {
+            caller,
+            call: Call::Status,
+            reply: Reply::Status(status),
+            refined: CardList::new(self.alloc),
+        };
+        self.entries.push_reserved(entry);
+        Ok(status)
+    }
+}
+
+/// The reply that answers this target.
+fn target_reply(target: &Option<Slot>) -> Reply
+    ensures { result ≡ Reply.Target target.now }
+{
+    Reply::Target(*target)
+}

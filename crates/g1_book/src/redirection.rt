@@ -1,0 +1,68 @@
+//! Redirects, entered.
+ghost use Rattle.std.specs.Prelude.{◌≡◌, ◌≢◌, ◌<◌, ◌↔◌, length, IfOk, OnErr};
+ghost use Rattle.g1_core.specs.Calls.{redirect_reply, redirect_refined};
+ghost use Rattle.g1_book.specs.Entries.{reply_of};
+
+use crate::book::Book;
+use crate::entry::{Call, Entry, Reply};
+use crate::refusal::Refusal;
+use crate::room::{copied, make_room};
+use g1_core::{CardList, Redirected};
+use g1_layout::Region;
+
+impl Book {
+    ghost use Rattle.g1_core.specs.Calls.{redirect_entry};
+    ghost use Rattle.g1_core.specs.Redirect.{IsRedirectOf};
+    ghost use Rattle.g1_book.specs.History.{IsEntered, layout_in};
+
+    /// Moves each reference into one region to the same offset in another, as the core does, and enters it
+    /// (docs/PROFILE.md, Redirect).
+    ///
+    /// A short redirect, which only refined the cards that it lists, is entered too. `BookFull` exactly where the
+    /// history is full; `NoMemory` where room for the entry or for a list was refused. Either changes nothing.
+    /// The entry's list takes 4 bytes for each refined card; room for all that is pending is taken
+    /// first, and what is not needed is given back.
+    pub fn redirect(&mut self, caller: u32, from: Region, to: Region) -> Result<Redirected, Refusal>
+        requires from { from < (layout_in self.old).regions }
+        requires to { to < (layout_in self.old).regions }
+        requires apart { from ≢ to }
+        ensures entered { IfOk result (λ answer. IsEntered self.old (redirect_entry caller from to answer) self.new) }
+        ensures redirected { IfOk result (λ answer. IsRedirectOf self.old.machine from to answer self.new.machine) }
+        ensures full { (result ≡ Err Refusal.BookFull) ↔ (length self.old.entries ≡ self.old.limit) }
+        ensures err { OnErr result (self.new ≡ self.old) }
+    {
+        make_room(&mut self.entries, self.limit)?;
+        let status = self.core.status();
+        let room = Vec::with_capacity(self.alloc, status.pending as usize)?;
+        let answer = self.core.redirect(from, to)?;
+        let reply = redirected_reply(&answer);
+        let refined = copied(room, redirected_cards(&answer));
+        self.entries.push_reserved(Entry {
+            caller,
+            call: Call::Redirect { from, to },
+            reply,
+            refined,
+        });
+        Ok(answer)
+    }
+}
+
+/// The cards that a redirect refined.
+fn redirected_cards(answer: &Redirected) -> &CardList
+    ensures { result.now ≡ redirect_refined answer.now }
+{
+    match answer {
+        Redirected::Moved { refined, .. } => refined,
+        Redirected::Short { refined } => refined,
+    }
+}
+
+/// What a redirect answered beside them.
+fn redirected_reply(answer: &Redirected) -> Reply
+    ensures { reply_of result ≡ redirect_reply answer.now }
+{
+    match answer {
+        Redirected::Moved { slots, .. } => Reply::Moved(*slots),
+        Redirected::Short { .. } => Reply::Short,
+    }
+}

@@ -1,0 +1,58 @@
+//! Refinements, entered.
+ghost use Rattle.std.specs.Prelude.{◌≡◌, ◌↔◌, length, IfOk, OnErr, option_map};
+ghost use Rattle.g1_book.specs.History.{cards_in};
+
+use crate::book::Book;
+use crate::entry::{Call, Entry, Reply};
+use crate::refusal::Refusal;
+use crate::room::{copied, make_room};
+use g1_core::RefineReply;
+use g1_log::Buffer;
+
+impl Book {
+    ghost use Rattle.g1_core.specs.Calls.{refine_entry};
+    ghost use Rattle.g1_core.specs.Refinement.{IsRefined};
+    ghost use Rattle.g1_book.specs.History.{IsEntered, IsUnchanged};
+
+    /// Refines a lent buffer, as the core does, and enters it: its cards take their turns, oldest first. `None` refines
+    /// nothing, and is entered too (docs/PROFILE.md, Refinement).
+    ///
+    /// A short reply is entered. `BookFull` exactly where the history is full; `NoMemory` where room for the entry, for
+    /// its list or for the reply's was refused. Either changes nothing but the count of reads. The entry's list takes 4
+    /// bytes for each refined card.
+    pub fn refine(&mut self, caller: u32, buffer: Option<&Buffer>) -> Result<RefineReply, Refusal>
+        ensures entered { IfOk result (λ reply. IsEntered self.old (refine_entry caller reply) self.new) }
+        ensures refined { IfOk result (λ reply. IsRefined self.old.machine.state (option_map (λ b. b.now) buffer.entry) reply self.new.machine.state) }
+        ensures full { (result ≡ Err Refusal.BookFull) ↔ (length self.old.entries ≡ self.old.limit) }
+        ensures err { OnErr result (IsUnchanged self.old self.new) }
+    {
+        make_room(&mut self.entries, self.limit)?;
+        let room = Vec::with_capacity(self.alloc, cards_in(buffer))?;
+        let reply = self.core.refine(buffer)?;
+        let answer = Reply::Refined {
+            taken: reply.taken,
+            hot: reply.hot,
+            skipped: reply.skipped,
+            left: reply.left,
+            short: reply.short,
+        };
+        let refined = copied(room, &reply.refined);
+        self.entries.push_reserved(Entry {
+            caller,
+            call: Call::Refine,
+            reply: answer,
+            refined,
+        });
+        Ok(reply)
+    }
+}
+
+/// How many cards a refinement of the buffer refines at most.
+fn cards_in(buffer: Option<&Buffer>) -> usize
+    ensures { result ≡ cards_in (option_map (λ b. b.now) buffer.entry) }
+{
+    match buffer {
+        Some(lent) => lent.cards().len(),
+        None => 0,
+    }
+}

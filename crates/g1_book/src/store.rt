@@ -1,0 +1,76 @@
+//! Stores of references, entered.
+ghost use Rattle.std.specs.Prelude.{◌≡◌, ◌<◌, ◌↔◌, [], false, length, IfOk, OnErr, IfSome};
+ghost use Rattle.g1_layout.specs.Shape.{slot_count, card_of};
+
+use crate::book::Book;
+use crate::entry::{Call, Entry, Reply};
+use crate::refusal::Refusal;
+use crate::room::{copied, make_room};
+use g1_core::StoreReply;
+use g1_layout::Slot;
+use g1_log::{Buffer, Log};
+
+impl Book {
+    ghost use Rattle.g1_core.specs.Run.{kind_of, stored};
+    ghost use Rattle.g1_core.specs.Barrier.{logged, buffer_of, fill_of};
+    ghost use Rattle.g1_core.specs.Calls.{store_entry};
+    ghost use Rattle.g1_book.specs.History.{IsEntered, table_in, layout_in};
+
+    /// Stores a reference, or null, as the core does with the log that is lent, and enters it (docs/PROFILE.md, The
+    /// barrier).
+    ///
+    /// The caller is the mutator, below the count that the book was opened with. A buffer that the log handed out comes
+    /// back beside the reply; while nobody refines it its cards stay pending.
+    ///
+    /// `BookFull` exactly where the history is full, `NoMemory` where room for the entry was refused. Either leaves book
+    /// and log as they were. Constant time but for the growth of the history; the entry holds no list.
+    pub fn store(
+        &mut self,
+        caller: u32,
+        log: &mut Log,
+        slot: Slot,
+        target: Option<Slot>,
+    ) -> Result<(StoreReply, Option<Buffer>), Refusal>
+        requires caller { caller < self.old.mutators }
+        requires slot { slot < slot_count (layout_in self.old) }
+        requires target { IfSome target (λ place. place < slot_count (layout_in self.old)) }
+        ensures entered { IfOk result (λ answer. IsEntered self.old (store_entry caller slot target answer.0) self.new) }
+        ensures kind { IfOk result (λ answer. answer.0.kind ≡ kind_of (table_in self.old) slot target) }
+        ensures fill { IfOk result (λ answer. answer.0.fill ≡ fill_of answer.1) }
+        ensures plain { IfOk result (λ answer. (answer.0.refined ≡ []) × (answer.0.short ≡ false)) }
+        ensures machine { IfOk result (λ _. self.new.machine ≡ record { state = record { table = stored (table_in self.old) slot target; ring = self.old.machine.state.ring }; settings = self.old.machine.settings; reads = self.old.machine.reads }) }
+        ensures log { IfOk result (λ answer. log.new ≡ logged answer.0.kind log.old (card_of (layout_in self.old) slot)) }
+        ensures buffer { IfOk result (λ answer. answer.1 ≡ buffer_of answer.0.kind log.old (card_of (layout_in self.old) slot)) }
+        ensures full { (result ≡ Err Refusal.BookFull) ↔ (length self.old.entries ≡ self.old.limit) }
+        ensures err { OnErr result (self.new ≡ self.old) }
+        ensures err_log { OnErr result (log.new ≡ log.old) }
+    {
+        make_room(&mut self.entries, self.limit)?;
+        let call = store_call(slot, &target);
+        let (reply, buffer) = self.core.store(log, slot, target);
+        let answer = Reply::Stored {
+            kind: reply.kind,
+            fill: reply.fill,
+            short: reply.short,
+        };
+        let refined = copied(Vec::new(self.alloc), &reply.refined);
+        let entry = Entry {
+            caller,
+            call,
+            reply: answer,
+            refined,
+        };
+        self.entries.push_reserved(entry);
+        Ok((reply, buffer))
+    }
+}
+
+/// The call that stores this target.
+fn store_call(slot: Slot, target: &Option<Slot>) -> Call
+    ensures { result ≡ Call.Store slot target.now }
+{
+    Call::Store {
+        slot,
+        target: *target,
+    }
+}

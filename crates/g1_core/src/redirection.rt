@@ -1,0 +1,192 @@
+//! The redirect: the references into a region are moved to another region, and its remembered set is emptied.
+ghost use Rattle.std.specs.Prelude.{◌≡◌, ◌≢◌, ◌≤◌, ◌<◌, ◌+◌, ◌*◌, ◌++◌, ℕ, None, Some, All, IfOk, OnOk, OnErr, length, slice_index_or};
+ghost use Rattle.std.specs.FinSet as set;
+ghost use Rattle.g1_layout.specs.Shape.{slot_count, card_count, region_of};
+ghost use Rattle.g1_heap.specs.Cells.{Cells};
+ghost use Rattle.g1_sets.specs.Pairs.{list_at, AreTied};
+ghost use Rattle.g1_core.specs.Table.{same_offset};
+ghost use Rattle.g1_core.specs.Clearing.{AreRead};
+ghost use Rattle.g1_core.specs.Redirect.{change_at, changes_of, slots_of, slots_on, changed, AreGaining};
+
+use crate::list::CardList;
+use crate::machinery::Core;
+use crate::reply::Redirected;
+use g1_heap::Heap;
+use g1_layout::{Card, Layout, NoMemory, Region, Slot};
+use g1_sets::Sets;
+use std::alloc::Global;
+
+// A slot, and the place that it will refer to.
+#[derive(Clone, Copy, Debug)]
+pub(crate) struct Change {
+    slot: Slot,
+    place: Slot,
+}
+
+// What a redirect changes: references, and the cards that are then recorded for the other region.
+#[derive(Drop)]
+struct Changes {
+    references: Vec<Change>,
+    cards: Vec<Card>,
+}
+
+// The place at the same offset in another region.
+fn moved_place(layout: &Layout, place: Slot, to: Region) -> Slot
+    requires { to < layout.now.regions }
+    ensures value { result ≡ same_offset layout.now to place }
+    ensures within { result < slot_count layout.now }
+{
+    let (_, cards, slots) = layout.counts();
+    let size = cards * slots;
+    let Some(moved) = layout.slot(to.number() * size + place.number() % size) else {
+        unreachable!();
+    };
+    moved
+}
+
+// The change of a slot that lies outside the region and refers into it.
+fn change_of(heap: &mut Heap, slot: Slot, from: Region, to: Region) -> Option<Change>
+    requires slot { slot < slot_count heap.old.layout }
+    requires to { to < heap.old.layout.regions }
+    ensures change { result ≡ change_at heap.old.layout from to slot (slice_index_or heap.old.refs slot None) }
+    ensures heap { AreRead heap.old heap.new 1 }
+{
+    let layout = heap.layout();
+    let place = heap.get(slot)?;
+    if layout.region_of(slot) == from || layout.region_of(place) != from {
+        return None;
+    }
+    let place = moved_place(&layout, place, to);
+    Some(Change { slot, place })
+}
+
+// Adds the changes of a card's slots, ascending.
+fn add_changes_on(
+    heap: &mut Heap,
+    card: Card,
+    from: Region,
+    to: Region,
+    changes: &mut Vec<Change>,
+) -> Result<(), NoMemory>
+    requires card { card < card_count heap.old.layout }
+    requires to { to < heap.old.layout.regions }
+    ensures changes { OnOk result (changes.new.items ≡ changes.old.items ++ changes_of heap.old.layout heap.old.refs from to (slots_of heap.old.layout card)) }
+    ensures heap { AreRead heap.old heap.new heap.old.layout.slots }
+{
+    let layout = heap.layout();
+    let (_, _, slots) = layout.counts();
+    let first = layout.first_slot(card).number();
+    for number in first..first + slots {
+        let Some(slot) = layout.slot(number) else {
+            unreachable!();
+        };
+        if let Some(change) = change_of(heap, slot, from, to) {
+            changes.push(change)?;
+        }
+    }
+    Ok(())
+}
+
+// The changes of the slots of a region's members, and the members that gain a reference into the other region.
+fn changes_into(
+    alloc: Global,
+    heap: &mut Heap,
+    sets: &Sets,
+    from: Region,
+    to: Region,
+) -> Result<Changes, NoMemory>
+    requires from { from < heap.old.layout.regions }
+    requires to { to < heap.old.layout.regions }
+    requires layouts { sets.now.layout ≡ heap.old.layout }
+    ensures references { IfOk result (λ changes. changes.references.items ≡ changes_of heap.old.layout heap.old.refs from to (slots_on heap.old.layout (list_at sets.now.lists from))) }
+    ensures cards { IfOk result (λ changes. AreGaining heap.old.layout heap.old.refs from to (list_at sets.now.lists from) changes.cards.items) }
+    ensures within { IfOk result (λ changes. All (λ card. card < card_count heap.old.layout) changes.cards.items) }
+    ensures tied { AreTied sets.now }
+    ensures heap { AreRead heap.old heap.new (length (list_at sets.now.lists from) * heap.old.layout.slots) }
+{
+    let layout = heap.layout();
+    let mut references = Vec::new(alloc);
+    let mut cards = Vec::new(alloc);
+    for index in 0..sets.len(from) {
+        let card = sets.at(from, index);
+        let before = references.len();
+        add_changes_on(heap, card, from, to, &mut references)?;
+        if references.len() > before && layout.region_of_card(card) != to {
+            cards.push(card)?;
+        }
+    }
+    Ok(Changes { references, cards })
+}
+
+// Makes the changes.
+fn make_changes(heap: &mut Heap, changes: &[Change])
+    requires slots { All (λ change. change.slot < slot_count heap.old.layout) changes.now }
+    requires places { All (λ change. change.place < slot_count heap.old.layout) changes.now }
+    ensures { heap.new ≡ record { layout = heap.old.layout; refs = changed heap.old.refs changes.now; marks = heap.old.marks; reads = heap.old.reads } }
+{
+    for change in changes {
+        heap.set(change.slot, Some(change.place));
+    }
+}
+
+impl Core {
+    ghost use Rattle.g1_core.specs.Table.{IsCovered, moved_count};
+    ghost use Rattle.g1_core.specs.Run.{IsStep};
+    ghost use Rattle.g1_core.specs.Calls.{redirect_entry};
+    ghost use Rattle.g1_core.specs.Redirect.{IsMoved, AreMembersRead, IsRedirectOf};
+
+    // Moves every reference into a region, where nothing is pending, and answers how many slots changed. The room for
+    // the changes and for the cards that they record is made first: where it is refused, the members were only read.
+    fn move_references(&mut self, from: Region, to: Region) -> Result<u32, NoMemory>
+        requires from { from < self.old.state.table.layout.regions }
+        requires to { to < self.old.state.table.layout.regions }
+        requires apart { from ≢ to }
+        requires nothing { self.old.state.table.pending ≡ set.empty }
+        ensures count { IfOk result (λ slots. slots ≡ moved_count from self.old.state.table) }
+        ensures moved { IfOk result (λ slots. IsMoved self.old from to slots self.new) }
+        ensures err { OnErr result (AreMembersRead self.old from self.new) }
+    {
+        let changes = changes_into(self.alloc, &mut self.heap, &self.sets, from, to)?;
+        self.sets.record_many(changes.cards.as_slice(), to)?;
+        make_changes(&mut self.heap, changes.references.as_slice());
+        self.sets.clear(from);
+        Ok(changes.references.len() as u32)
+    }
+
+    /// Moves the references into a region to the same offsets of another region, and empties its remembered set
+    /// (docs/PROFILE.md, Redirect; ISMM 2004, section 2.4, where the objects of a region were copied to another).
+    ///
+    /// All that is pending is refined first, as in a drain. Then each slot outside `from` that refers into `from` refers
+    /// to the same offset in `to`, and its card is recorded for `to` where it lies outside `to`. Slots inside `from`
+    /// stay. `Moved` says how many slots changed; every count is 0 then.
+    ///
+    /// `NoMemory` where the room for the list of refined cards was refused: nothing has changed. Where a later growth
+    /// is refused the answer is `Short`: just the listed cards were refined, no slot changed, nothing was emptied, and
+    /// the counts stay.
+    ///
+    /// It reads the slots of each card that it refines and of each member of the set of `from`, once, and no other; a
+    /// short one reads at most one card more.
+    pub fn redirect(&mut self, from: Region, to: Region) -> Result<Redirected, NoMemory>
+        requires from { from < self.old.state.table.layout.regions }
+        requires to { to < self.old.state.table.layout.regions }
+        requires apart { from ≢ to }
+        ensures redirected { IfOk result (λ answer. IsRedirectOf self.old from to answer self.new) }
+        ensures step { IfOk result (λ answer. (caller : ℕ) → IsStep self.old.state.table (redirect_entry caller from to answer) self.new.state.table) }
+        ensures err { OnErr result (self.new ≡ self.old) }
+        ensures cover { IsCovered self.new.state.table }
+    {
+        let _layout = self.layout();
+        let mut refined = self.room_for_pending()?;
+        let Ok(()) = self.drain_pending(&mut refined) else {
+            let refined = CardList::of(refined);
+            return Ok(Redirected::Short { refined });
+        };
+        let Ok(slots) = self.move_references(from, to) else {
+            let refined = CardList::of(refined);
+            return Ok(Redirected::Short { refined });
+        };
+        self.reset_counts();
+        let refined = CardList::of(refined);
+        Ok(Redirected::Moved { slots, refined })
+    }
+}
