@@ -108,6 +108,3 @@ fn refers_into(heap: &mut Heap, slot: Slot, region: Region) -> bool
         None => false,
     }
 }
-
-#[cfg(test)]
-mod tests;
