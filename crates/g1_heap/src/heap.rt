@@ -4,9 +4,11 @@ ghost use Rattle.std.specs.Prelude.{◌≡◌, ◌<◌, ◌≤◌, ◌↔◌, �
 ghost use Rattle.g1_layout.specs.Shape.{slot_count, card_count};
 ghost use Rattle.g1_heap.specs.Cells.{AreCells, with_ref, with_mark, with_reads, new_cells, HoldsIn, HasNoDirty, IsFirstDirty};
 ghost use Rattle.g1_heap.specs.Targets.{AreTargets};
+ghost use Rattle.memchr.specs.Find.{IsFirstByte, is_byte};
 
 use crate::mark::{CLEAN, DIRTY, Mark};
-use crate::targets::targets_of;
+use crate::target_list::TargetList;
+use crate::targets::add_targets;
 use arrayvec::ArrayVec;
 use g1_layout::{Card, Layout, NoMemory, Region, Slot};
 use memchr::memchr;
@@ -103,9 +105,29 @@ impl Heap {
         ensures within { All (λ region. region < self.old.layout.regions) result.items }
         ensures reads { self.new ≡ with_reads self.old self.old.layout.slots }
     {
-        let (_, _, slots) = self.layout.counts();
+        let mut targets = TargetList::new();
+        self.list_targets(card, &mut targets);
+        let Ok(targets) = ArrayVec::try_from(targets.as_slice()) else {
+            unreachable!();
+        };
+        targets
+    }
+
+    /// As [`Heap::targets`], into a list that the caller lends, which is emptied first.
+    ///
+    /// Whoever refines many cards makes one list for all of them: to fill a new one with zeros costs more than to list a target or two.
+    pub fn list_targets(&mut self, card: Card, targets: &mut TargetList)
+        requires { card < card_count self.old.layout }
+        ensures regions { AreTargets self.old.layout self.old.refs card targets.new }
+        ensures holds { (region : ℕ) → Contains targets.new region ↔ HoldsIn self.old.layout self.old.refs card region }
+        ensures within { All (λ region. region < self.old.layout.regions) targets.new }
+        ensures reads { self.new ≡ with_reads self.old self.old.layout.slots }
+    {
+        let layout = self.layout;
+        let (_, _, slots) = layout.counts();
         self.reads = self.reads.saturating_add(slots as u64);
-        targets_of(&self.layout, self.words.as_slice(), card)
+        targets.clear();
+        add_targets(&layout, self.words.as_slice(), card, targets);
     }
 
     /// The card's entry in the card table. It is no read of a slot.
@@ -132,7 +154,7 @@ impl Heap {
         requires { from ≤ card_count self.now.layout }
         ensures { MatchOption result (HasNoDirty self.now.marks from) (λ card. IsFirstDirty self.now.marks from card) }
     {
-        let skipped = memchr(DIRTY, &self.bytes[from as usize..])?;
+        let skipped = clean_before(&self.bytes[from as usize..])?;
         self.layout.card(from + skipped as u32)
     }
 
@@ -143,4 +165,15 @@ impl Heap {
     {
         self.reads
     }
+}
+
+// How many bytes stand before the first one of a dirty card. Dirty cards often lie side by side, so the first byte is looked at before the
+// search of many at a time begins.
+fn clean_before(bytes: &[u8]) -> Option<usize>
+    ensures { IsFirstByte (is_byte 1) bytes.now result }
+{
+    if !bytes.is_empty() && bytes[0] == DIRTY {
+        return Some(0);
+    }
+    memchr(DIRTY, bytes)
 }

@@ -1,16 +1,9 @@
-use Rattle.std.proofs.Common.{◌↔◌, subst, ℕ, List, map}
+use Rattle.std.proofs.Common.{◌≡◌, ◌↔◌, ◌∙◌, sym, subst, ℕ, List, rules}
 use Rattle.std.specs.Prelude.{Contains}
-use Rattle.g1_heap.specs.Cells.{AreCells, Cells, HoldsIn}
-use Rattle.g1_heap.specs.Stored.{ref_of}
-use Rattle.g1_heap.proofs.CellLemmas.{cells_from}
-use Rattle.g1_heap.proofs.HoldLemmas.{targets_within}
+use Rattle.g1_heap.specs.Cells.{HoldsIn}
 use Rattle.g1_heap.proofs.heap.Heap.targets.Goals as goal
 
 pub returns-clause-holds : goal.returns-clause-holds
-returns-clause-holds c = λ r.
-    subst (λ (d : Cells). Contains c.targets_of.result.items r ↔ HoldsIn d.layout d.refs c.args.card r) c.self.view_is
-    (subst (λ (ws : List ℕ). Contains c.targets_of.result.items r ↔ HoldsIn c.self.inside.layout (map (ref_of c.self.inside.layout) ws) c.args.card r) c.as_slice.ensures.value (c.targets_of.ensures.holds r))
-
-pub returns-clause-within : goal.returns-clause-within
-returns-clause-within c = targets_within c.args.self.now c.args.card c.targets_of.result.items
-    (subst AreCells c.self.view_is (cells_from c.self.inside.layout c.self.inside.words.items c.self.inside.bytes.items c.self.inside.reads c.self.invariant)) (returns-clause-holds c)
+returns-clause-holds c =
+    let same : c.in-Ok.targets.items ≡ c.list_targets.new.targets = search rules in
+    subst (λ (rs : List ℕ). (r : ℕ) → Contains rs r ↔ HoldsIn c.args.self.now.layout c.args.self.now.refs c.args.card r) (sym same) c.list_targets.ensures.holds
