@@ -1,13 +1,15 @@
 -- A write of one region's set, seen in the lists and in the room of all.
-use Rattle.std.proofs.Common.{◌≡◌, ℕ, ◌<◌, ◌≤◌, ◌+◌, List, [], ◌∷◌, ◌++◌, length, get_or, take, drop, map, refl, sym, ap, ◌∙◌, subst, arith}
-use Rattle.std.specs.Prelude.{Contains, All, sum_by, slice_set, slice_index}
+use Rattle.std.proofs.Common.{◌≡◌, inl, inr, true, ℕ, ◌<◌, ◌≤◌, ◌+◌, List, [], ◌∷◌, ◌++◌, length, get_or, take, drop, map, refl, sym, ap, ◌∙◌, subst, arith}
+use Rattle.std.specs.Prelude.{Contains, All, nat_eq, sum_by, slice_set, slice_index}
+use Rattle.std.specs.List.{list_any}
+use Rattle.std.proofs.lemmas.List.Elements.{Contains-push_cases}
 use Rattle.std.proofs.Math.Seq.{map-set_same}
 use Rattle.std.proofs.lemmas.List.{length-map, get_or-map, map-set, take_more}
 use Rattle.std.proofs.lemmas.List.Sums.{sum_by_push, sum_by-take-le}
 use Rattle.indexmap.specs.IndexSet.{IndexSet, keys, spare}
 use Rattle.g1_sets.specs.Pairs.{list_at, with_card, Joins}
 use Rattle.g1_sets.specs.Members.{lists_of, rooms_of, HasRoom, HaveRoom}
-use Rattle.g1_sets.proofs.ListLemmas.{joins_more}
+use Rattle.g1_sets.proofs.ListLemmas.{joins_more, with_card-there}
 use Rattle.g1_sets.proofs.RoomLemmas.{room_made, room_kept}
 
 -- the regions up to the next one
@@ -91,3 +93,18 @@ module _ {S : Type 0} (sets : List (IndexSet ℕ S)) (i : ℕ) (item : IndexSet 
 
   pub counted_le : total + length (keys item) ≤ sum_by length (lists_of sets)
   counted_le = let le : sum_by length (take (i + 1) (lists_of sets)) ≤ sum_by length (lists_of sets) = sum_by-take-le length (lists_of sets) (i + 1) in omega (arith, le, counted)
+
+-- the card was found in one set more
+module _ {S : Type 0} (sets : List (IndexSet ℕ S)) (card : ℕ) (regions : List ℕ) (i region n : ℕ) (item : IndexSet ℕ S) (lt : i < length regions) (read : region ≡ get_or regions i region) (at : n ≡ region) (is : item ≡ get_or sets n item) (within : n < length sets) where
+  pub joins_there : list_any (nat_eq card) (keys item) ≡ true → Joins card (take i regions) (lists_of sets) (lists_of sets) → Joins card (take (i + 1) regions) (lists_of sets) (lists_of sets)
+  joins_there found so_far =
+      let here : list_any (nat_eq card) (list_at (lists_of sets) n) ≡ true = ap (λ cards. list_any (nat_eq card) cards) (list_is sets n item item within ∙ ap keys (sym is)) ∙ found in
+      subst (λ rs. Joins card rs (lists_of sets) (lists_of sets)) (sym (taken regions i region n lt read at))
+      (record {
+        count = refl;
+        joined = λ r h. elim (Contains-push_cases (take i regions) n r h) [
+          | inl o ↦ so_far.joined r o
+          | inr e ↦ subst (λ q. list_at (lists_of sets) q ≡ with_card (list_at (lists_of sets) q) card) e (sym (with_card-there (list_at (lists_of sets) n) card here))
+        ];
+        others = λ r _. refl;
+      })

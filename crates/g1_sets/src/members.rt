@@ -1,5 +1,5 @@
 //! The set of one region, and the sets of all.
-ghost use Rattle.std.specs.Prelude.{◌≡◌, ◌<◌, ◌≤◌, ◌+◌, ◌^◌, length, slice_index, slice_set, sum_by, All, OnOk};
+ghost use Rattle.std.specs.Prelude.{◌≡◌, ◌<◌, ◌≤◌, ◌+◌, ◌^◌, length, slice_index, slice_set, sum_by, All, IsTrue, OnOk};
 ghost use Rattle.indexmap.specs.IndexSet.{spare};
 ghost use Rattle.g1_sets.specs.Members.{lists_of, rooms_of, HasRoom, HaveRoom};
 ghost use Rattle.g1_sets.specs.Pairs.{list_at, with_card, with_cards, Joins};
@@ -51,6 +51,19 @@ fn insert_cards(members: &mut Members, cards: &[Card])
     for card in cards {
         insert_reserved(members, *card);
     }
+}
+
+// Whether the card is in the sets of all the regions. The first set that lacks it ends the search.
+pub(crate) fn have_all(sets: &[Members], card: Card, regions: &[Region]) -> bool
+    requires { All (λ region. region < length sets.now) regions.now }
+    ensures { IsTrue result → Joins card regions.now (lists_of sets.now) (lists_of sets.now) }
+{
+    for region in regions {
+        if !sets[region.number() as usize].contains(&card) {
+            return false;
+        }
+    }
+    true
 }
 
 // Makes room for the card in each of the regions that lacks it.

@@ -5,7 +5,9 @@ ghost use Rattle.g1_layout.specs.Shape.{card_count};
 ghost use Rattle.g1_sets.specs.Members.{lists_of};
 ghost use Rattle.g1_sets.specs.Pairs.{list_at, of_card, of_region, with_cards, without, new_pairs, AreCardsOf, AreTied, Joins};
 
-use crate::members::{Members, insert_into, insert_many, make_room_for, make_rooms, total};
+use crate::members::{
+    Members, have_all, insert_into, insert_many, make_room_for, make_rooms, total,
+};
 use g1_layout::{Card, Layout, NoMemory, Region};
 use indexmap::IndexSet;
 use std::alloc::Global;
@@ -68,8 +70,9 @@ impl Sets {
     ///
     /// `NoMemory` where a growth was refused: then nothing has changed. Room is asked in each set
     /// that is full and lacks the card, before the card goes into any. A region may be named twice.
-    /// Cost: one look-up a region, also where the card is there already, which asks for no growth;
-    /// a set that grows is searched once more.
+    /// Cost: one look-up a region where the card is in all of the sets, which asks for no growth.
+    /// Otherwise one more, up to the first set that lacks the card; and a set that grows is searched
+    /// once more.
     pub fn record(&mut self, card: Card, regions: &[Region]) -> Result<(), NoMemory>
         requires card { card < card_count self.old.layout }
         requires regions { All (λ region. region < self.old.layout.regions) regions.now }
@@ -78,6 +81,9 @@ impl Sets {
         ensures lists { OnOk result (Joins card regions.now self.old.lists self.new.lists) }
         ensures err { OnErr result (self.new ≡ self.old) }
     {
+        if have_all(self.sets.as_slice(), card, regions) {
+            return Ok(());
+        }
         let sets = self.sets.as_mut_slice();
         make_rooms(sets, card, regions)?;
         insert_into(sets, card, regions);

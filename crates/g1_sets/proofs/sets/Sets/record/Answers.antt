@@ -26,3 +26,11 @@ pub returns-clause-pairs : goal.returns-clause-pairs
 returns-clause-pairs c =
     ap (λ sets. pairs_of (lists_of sets)) (whole c) ∙ joined_pairs c.args.card c.args.regions.now (lists_of c.self.inside.sets.items) (lists_of c.insert_into.new.sets) (joins c)
     ∙ ap (λ (s : Pairs). set.union s.pairs (of_card c.args.card c.args.regions.now)) c.self.view_is
+
+-- a card that is in all of the sets joins none
+pub returns-then-have_all-clause-pairs : goal.returns-then-have_all-clause-pairs
+returns-then-have_all-clause-pairs c =
+    let joins : Joins c.args.card c.args.regions.now (lists_of c.self.inside.sets.items) (lists_of c.self.inside.sets.items) =
+    subst (λ sets. Joins c.args.card c.args.regions.now (lists_of sets) (lists_of sets)) c.as_slice.ensures.value (c.have_all.ensures c.if-have_all.true) in
+    subst (λ (s : Pairs). s.pairs ≡ set.union s.pairs (of_card c.args.card c.args.regions.now)) c.self.view_is
+    (joined_pairs c.args.card c.args.regions.now (lists_of c.self.inside.sets.items) (lists_of c.self.inside.sets.items) joins)
