@@ -12,3 +12,12 @@ pub mod RefineLemmas
 pub mod ClearLemmas
 pub mod Examples
 pub mod RedirectLemmas
+pub mod PlaceLemmas
+pub mod ChangeLemmas
+pub mod WalkLemmas
+pub mod ReferenceLemmas
+pub mod DrainCardLemmas
+pub mod DrainLoopLemmas
+pub mod LeastSlotLemmas
+pub mod OpeningLemmas
+pub mod RefinedLemmas

@@ -21,7 +21,8 @@ use Rattle.g1_core.specs.Turns.{is_dirty, offer_to}
 use Rattle.g1_core.proofs.SetLemmas.{same_pairs, in_pairs, to_pairs, of_card_from, of_card_to, pair_total, All_by_member, in_list, in_set}
 use Rattle.g1_core.proofs.TableLemmas.{is_slot, refined_recorded, refined_covered, held_from_Holds, Holds_from_held}
 use Rattle.g1_core.proofs.MarkLemmas.{one_of, itself, held_clean, dirty_clean, dirty_held, marked_cases, from_pending, to_pending, is_card, pending_cleaned, pending_kept, mark_here, mark_there, one_less}
-use Rattle.g1_core.proofs.TurnLemmas.{push_distinct, front_apart, rest_distinct, IsDirty, dirty_from, to_dirty}
+use Rattle.g1_core.proofs.RefinedLemmas.{push_distinct}
+use Rattle.g1_core.proofs.TurnLemmas.{front_apart, rest_distinct, IsDirty, dirty_from, to_dirty}
 
 -- what recording a card's targets adds is what refining it adds
 pub gained_is : (heap : Cells) (pairs : PairSet) (card : ℕ) (targets : List ℕ) → ((r : ℕ) → Contains targets r ↔ HoldsIn heap.layout heap.refs card r) → set.union pairs (of_card card targets) ≡ gained heap pairs card

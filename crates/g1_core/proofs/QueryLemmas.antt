@@ -6,7 +6,7 @@ use Rattle.g1_core.specs.declared.reply.Status.{Status}
 use Rattle.g1_core.specs.Table.{Table, target_of, AreMembers}
 use Rattle.g1_core.specs.Run.{IsStep}
 use Rattle.g1_core.specs.Calls.{target_entry, pending_entry, members_entry, status_entry}
-use Rattle.g1_core.proofs.TurnLemmas.{refined_none}
+use Rattle.g1_core.proofs.RefinedLemmas.{refined_none}
 use Rattle.g1_core.proofs.StoreLemmas.{none_refinable}
 
 module _ (caller : ℕ) (t : Table) where

@@ -21,7 +21,8 @@ use Rattle.g1_core.specs.Refinement.{IsTurned, round_of}
 use Rattle.g1_core.specs.declared.reply.RefineReply.{RefineReply}
 use Rattle.g1_core.proofs.TableLemmas.{refined_covered}
 use Rattle.g1_core.proofs.MarkLemmas.{held_clean, dirty_clean, dirty_held, to_pending, is_card, mark_there, some_member}
-use Rattle.g1_core.proofs.TurnLemmas.{answer_cases, refined_none, IsRound, turns_round, start_round, round_more}
+use Rattle.g1_core.proofs.TurnLemmas.{answer_cases, IsRound, turns_round, start_round, round_more}
+use Rattle.g1_core.proofs.RefinedLemmas.{refined_none}
 use Rattle.g1_core.proofs.PartLemmas.{parts_placed, dirty_mark, offer_dirty, offer_none, read_parts, cleaned_state, cleaned_parts, held_state, held_parts, apart_stands, oldest_mark, oldest_within, left_distinct, left_stands, differs}
 
 -- the oldest card, where the ring answers that it leaves

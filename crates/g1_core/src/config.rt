@@ -57,4 +57,28 @@ impl Config {
     {
         (self.hot, self.ring)
     }
+
+    /// How many cards fill a log.
+    pub fn log(&self) -> u32
+        ensures cards { result ≡ self.now.log }
+        ensures settings { AreSettings self.now }
+    {
+        self.log
+    }
+
+    /// How many completed buffers the line holds.
+    pub fn limit(&self) -> u32
+        ensures buffers { result ≡ self.now.limit }
+        ensures settings { AreSettings self.now }
+    {
+        self.limit
+    }
+
+    /// At how many completed buffers a work round begins.
+    pub fn start(&self) -> u32
+        ensures buffers { result ≡ self.now.start }
+        ensures settings { AreSettings self.now }
+    {
+        self.start
+    }
 }

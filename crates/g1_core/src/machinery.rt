@@ -7,7 +7,7 @@ ghost use Rattle.g1_core.specs.Machine.{gained, new_machine};
 ghost use Rattle.g1_core.specs.Table.{IsCovered};
 
 use crate::config::Config;
-use g1_heap::{Heap, Mark};
+use g1_heap::{Heap, Mark, TargetList};
 use g1_hot::Hot;
 use g1_layout::{Card, Layout, NoMemory};
 use g1_sets::Sets;
@@ -26,6 +26,8 @@ pub struct Core {
     pub(crate) sets: Sets,
     pub(crate) hot: Hot,
     pub(crate) pending: u32,
+    // The targets of the card that is refined. They are no part of what contracts see.
+    pub(crate) targets: TargetList,
 }
 
 impl Model for Core {
@@ -61,12 +63,19 @@ impl Core {
             sets,
             hot,
             pending: 0,
+            targets: TargetList::new(),
         })
     }
 }
 
 /// Records what the card holds, or nothing.
-pub(crate) fn record_card(heap: &mut Heap, sets: &mut Sets, card: Card) -> Result<(), NoMemory>
+#[inline(always)]
+pub(crate) fn record_card(
+    heap: &mut Heap,
+    sets: &mut Sets,
+    targets: &mut TargetList,
+    card: Card,
+) -> Result<(), NoMemory>
     requires card { card < card_count heap.old.layout }
     requires layouts { sets.old.layout ≡ heap.old.layout }
     ensures heap { heap.new ≡ with_reads heap.old heap.old.layout.slots }
@@ -75,15 +84,17 @@ pub(crate) fn record_card(heap: &mut Heap, sets: &mut Sets, card: Card) -> Resul
     ensures err { OnErr result (sets.new ≡ sets.old) }
 {
     let _ = heap.layout();
-    let targets = heap.targets(card);
+    heap.list_targets(card, targets);
     sets.record(card, targets.as_slice())?;
     Ok(())
 }
 
 /// Refines a card: its pairs are recorded and its mark is cleaned, or neither.
+#[inline(always)]
 pub(crate) fn refine_card(
     heap: &mut Heap,
     sets: &mut Sets,
+    targets: &mut TargetList,
     pending: &mut u32,
     card: Card,
 ) -> Result<(), NoMemory>
@@ -98,7 +109,7 @@ pub(crate) fn refine_card(
     ensures err { OnErr result (sets.new ≡ sets.old) }
     ensures as_many { OnErr result (pending.new ≡ pending.old) }
 {
-    record_card(heap, sets, card)?;
+    record_card(heap, sets, targets, card)?;
     heap.set_mark(card, Mark::Clean);
     *pending -= 1;
     Ok(())

@@ -27,7 +27,13 @@ impl Core {
         let Some(card) = self.hot.oldest() else {
             unreachable!();
         };
-        refine_card(&mut self.heap, &mut self.sets, &mut self.pending, card)?;
+        refine_card(
+            &mut self.heap,
+            &mut self.sets,
+            &mut self.targets,
+            &mut self.pending,
+            card,
+        )?;
         let _ = self.hot.pop_oldest();
         Ok(card)
     }
@@ -38,7 +44,13 @@ impl Core {
         ensures ok { OnOk result (IsCardDrained self.old card self.old.state.ring self.new) }
         ensures err { OnErr result (IsCardRead self.old self.new) }
     {
-        refine_card(&mut self.heap, &mut self.sets, &mut self.pending, card)?;
+        refine_card(
+            &mut self.heap,
+            &mut self.sets,
+            &mut self.targets,
+            &mut self.pending,
+            card,
+        )?;
         Ok(())
     }
 

@@ -3,6 +3,7 @@ ghost use Rattle.std.specs.Prelude.{◌≡◌, ◌<◌, ◌^◌, ℕ, IfOk};
 ghost use Rattle.std.specs.FinSet as set;
 ghost use Rattle.g1_layout.specs.Shape.{slot_count, card_count};
 
+use crate::config::Config;
 use crate::list::CardList;
 use crate::machinery::Core;
 use crate::reply::Status;
@@ -23,6 +24,13 @@ impl Core {
         ensures cover { IsCovered self.now.state.table }
     {
         self.heap.layout()
+    }
+
+    /// The settings that the core was made with. Constant time.
+    pub fn config(&self) -> Config
+        ensures { result ≡ self.now.settings }
+    {
+        self.config
     }
 
     /// How many slots were read since the core was made, at most the greatest `u64`. Constant time.

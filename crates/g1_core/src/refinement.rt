@@ -82,7 +82,13 @@ impl Core {
         let offer = self.hot.would(card);
         match offer {
             Offer::Cold => {
-                refine_card(&mut self.heap, &mut self.sets, &mut self.pending, card)?;
+                refine_card(
+                    &mut self.heap,
+                    &mut self.sets,
+                    &mut self.targets,
+                    &mut self.pending,
+                    card,
+                )?;
                 self.hot.offer(card);
                 return Ok(Some(offer));
             }
@@ -92,7 +98,13 @@ impl Core {
                 return Ok(Some(offer));
             }
             Offer::Out(oldest) => {
-                refine_card(&mut self.heap, &mut self.sets, &mut self.pending, oldest)?;
+                refine_card(
+                    &mut self.heap,
+                    &mut self.sets,
+                    &mut self.targets,
+                    &mut self.pending,
+                    oldest,
+                )?;
                 self.heap.set_mark(card, Mark::Held);
                 self.hot.offer(card);
                 return Ok(Some(offer));

@@ -1,71 +1,107 @@
-//! What no clause says: that the barrier, the pause and the queries succeed, with answers worked by hand.
+//! What no clause says: that the calls succeed, and that their words mean what is counted by hand.
 //!
-//! The heap has 4 regions of 2 cards of 4 slots: card `c` has the slots from `4 * c` on, region `r` those from `8 * r` on.
+//! A test is a list of steps, each with the answer that it must get. The heap has 4 regions of 2 cards of 4 slots: card `c`
+//! has the slots from `4 * c` on, region `r` those from `8 * r` on. Under `rt try --test --fail-alloc N` the Nth growth is
+//! refused: the step that meets it looks at what is left, and makes its call again.
 ghost use Rattle.std.specs.Prelude.{◌<◌};
 ghost use Rattle.g1_layout.specs.Shape.{slot_count, card_count};
 
+mod clearing;
+mod numbers;
+mod pause;
+mod redirection;
+mod refusal;
+
 use crate::config::Config;
-use crate::list::CardList;
 use crate::machinery::Core;
-use crate::reply::{Drained, Fill, Status};
-use arrayvec::ArrayVec;
-use g1_layout::{Card, Kind, Layout, NoMemory, Region, Slot};
-use g1_log::{Buffer, Log};
+use crate::reply::{ClearReply, Drained, Fill, Redirected, Status};
+use g1_layout::{Kind, Layout, NoMemory};
+use g1_log::Log;
+use numbers::{buffer, card, has_cards, has_front, has_rest, region, seen, slot};
 use std::alloc::Global;
 use std::process::Abort;
 use std::test::Fail;
 
 const SLOTS_A_CARD: u64 = 4;
 
-fn layout(rt: &impl Abort) -> Layout {
-    Layout::new(4, 2, 4).expect(rt, "a layout within the limits")
+/// A call with numbers for its arguments, and its answer.
+#[derive(Clone, Copy)]
+enum Step<'a> {
+    /// A store of a place or null into a slot: its kind, and what becomes of the log.
+    Store(u32, Option<u32>, Kind, Fill),
+    /// A refinement of a buffer of cards: which are refined in which order, how many are hot, how many skipped.
+    Refine(&'a [u32], &'a [u32], u32, u32),
+    /// A drain of a region: its set, and which cards are refined in which order.
+    Drain(u32, &'a [u32], &'a [u32]),
+    /// A clear of a region.
+    Clear(u32, Cleared),
+    /// A redirect from one region to another: how many slots change, and which cards are refined in which order.
+    Redirect(u32, u32, u32, &'a [u32]),
+    /// The recorded cards of a region.
+    Members(u32, &'a [u32]),
+    /// The place that a slot refers to.
+    Target(u32, Option<u32>),
+    /// Whether a card is pending.
+    Pending(u32, bool),
+    /// How many cards are pending, and how many pairs are recorded.
+    Status(u32, u32),
 }
 
-/// A core with this hot limit and a ring of four cards.
-fn core(rt: &impl Abort, alloc: Global, hot: u32) -> Result<Core, NoMemory> {
-    let config = Config::new(2, 4, hot, 4, 5).expect(rt, "settings within the limits");
-    Core::new(alloc, layout(rt), config)
+/// What a clear answers.
+#[derive(Clone, Copy, Debug, PartialEq, Eq)]
+enum Cleared {
+    Yes,
+    Pending(u32),
+    StillReferenced(u32),
 }
 
-fn slot(rt: &impl Abort, core: &Core, number: u32) -> Slot
-    ensures { result < slot_count core.now.state.table.layout }
-{
-    core.layout().slot(number).expect(rt, "a slot of the heap")
-}
-
-fn region(rt: &impl Abort, core: &Core, number: u32) -> Region
-    ensures { result < core.now.state.table.layout.regions }
-{
-    core.layout()
-        .region(number)
-        .expect(rt, "a region of the heap")
-}
-
-fn card(rt: &impl Abort, core: &Core, number: u32) -> Card
-    ensures { result < card_count core.now.state.table.layout }
-{
-    core.layout().card(number).expect(rt, "a card of the heap")
-}
-
-/// A buffer of the cards of these numbers.
-fn buffer(rt: &impl Abort, core: &Core, numbers: &[u32]) -> Buffer {
-    let mut cards = ArrayVec::new();
-    for number in numbers {
-        cards
-            .try_push(card(rt, core, *number))
-            .expect(rt, "room in the buffer");
+/// Takes the steps on a new core with this hot limit and ring, whose stores share a log of two cards.
+fn play(rt: &impl Abort, alloc: Global, hot: u32, ring: u32, steps: &[Step]) -> Result<(), Fail> {
+    let layout = Layout::new(4, 2, 4).ok_or("layout")?;
+    let config = Config::new(2, 4, hot, ring, 5).ok_or("settings")?;
+    let mut core = match Core::new(alloc, layout, config) {
+        Ok(core) => core,
+        Err(NoMemory) => Core::new(alloc, layout, config)?,
+    };
+    let mut log = Log::new(2);
+    for step in steps {
+        take(rt, &mut core, &mut log, *step)?;
     }
-    Buffer::of(cards)
+    Ok(())
 }
 
-/// Stores a reference to the place, or null, with this log.
+/// Takes one step.
+fn take(rt: &impl Abort, core: &mut Core, log: &mut Log, step: Step) -> Result<(), Fail> {
+    match step {
+        Step::Store(from, to, kind, fill) => store(rt, core, log, from, to, (kind, fill)),
+        Step::Refine(cards, refined, hot, skipped) => {
+            return refine(rt, core, cards, refined, (hot, skipped));
+        }
+        Step::Drain(of, set, refined) => return drain(rt, core, of, set, refined),
+        Step::Clear(of, answer) => assert_eq!(rt; clear(rt, core, of), answer),
+        Step::Redirect(from, to, slots, refined) => {
+            return redirect(rt, core, (from, to), slots, refined);
+        }
+        Step::Members(of, set) => return members(rt, core, of, set),
+        Step::Target(of, place) => assert_eq!(rt; target(rt, core, of), place),
+        Step::Pending(of, pending) => {
+            assert_eq!(rt; core.is_pending(card(rt, core, of)), pending);
+        }
+        Step::Status(pending, recorded) => {
+            assert_eq!(rt; core.status(), Status { pending, recorded });
+        }
+    }
+    Ok(())
+}
+
 fn store(
     rt: &impl Abort,
     core: &mut Core,
     log: &mut Log,
     from: u32,
     to: Option<u32>,
-) -> (Kind, Fill) {
+    answer: (Kind, Fill),
+) {
     let from = slot(rt, core, from);
     let to = match to {
         Some(place) => Some(slot(rt, core, place)),
@@ -74,224 +110,163 @@ fn store(
     let (reply, buffer) = core.store(log, from, to);
     assert!(rt; reply.refined.is_empty() && !reply.short);
     assert_eq!(rt; buffer.is_some(), reply.fill == Fill::Full);
-    (reply.kind, reply.fill)
+    assert_eq!(rt; (reply.kind, reply.fill), answer);
 }
 
-/// Whether the list has just these cards, in this order.
-fn has_cards(list: &CardList, numbers: &[u32]) -> bool {
-    list.len() == numbers.len()
-        && list
-            .as_slice()
-            .iter()
-            .zip(numbers)
-            .all(|(card, number)| card.number() == *number)
+fn target(rt: &impl Abort, core: &mut Core, of: u32) -> Option<u32> {
+    let of = slot(rt, core, of);
+    match core.target(of) {
+        Some(place) => Some(place.number()),
+        None => None,
+    }
 }
 
-/// Checks a whole drain of the region: its set, and which cards were refined in which order.
-fn assert_drained(
-    rt: &impl Abort,
-    core: &mut Core,
-    of: u32,
-    set: &[u32],
-    order: &[u32],
-) -> Result<(), NoMemory> {
+fn members(rt: &impl Abort, core: &Core, of: u32, set: &[u32]) -> Result<(), Fail> {
     let of = region(rt, core, of);
-    match core.drain(of)? {
-        Drained::Cards { cards, refined } => {
-            assert!(rt; has_cards(&cards, set));
-            assert!(rt; has_cards(&refined, order));
-            Ok(())
-        }
-        Drained::Short { .. } => Err(NoMemory),
-    }
-}
-
-#[test]
-fn the_barrier_has_four_kinds_of_store(rt: HostRuntime) -> Result<(), Fail> {
-    let mut core = core(&rt, rt.alloc(), 4)?;
-    let mut log = Log::new(2);
-    assert_eq!(rt;
-        store(&rt, &mut core, &mut log, 0, None),
-        (Kind::Null, Fill::No)
-    );
-    assert_eq!(rt;
-        store(&rt, &mut core, &mut log, 0, Some(5)),
-        (Kind::SameRegion, Fill::No)
-    );
-    assert_eq!(rt; log.len(), 0);
-    assert_eq!(rt;
-        store(&rt, &mut core, &mut log, 0, Some(8)),
-        (Kind::Logged, Fill::No)
-    );
-    assert_eq!(rt;
-        store(&rt, &mut core, &mut log, 1, Some(16)),
-        (Kind::AlreadyDirty, Fill::No)
-    );
-    assert_eq!(rt; log.len(), 1);
-    assert_eq!(rt;
-        store(&rt, &mut core, &mut log, 31, Some(0)),
-        (Kind::Logged, Fill::Full)
-    );
-    assert_eq!(rt; log.len(), 0);
-    Ok(())
-}
-
-#[test]
-fn a_drain_answers_the_set_and_reads_each_card_once(rt: HostRuntime) -> Result<(), Fail> {
-    let mut core = core(&rt, rt.alloc(), 4)?;
-    let mut log = Log::new(2);
-    let _ = store(&rt, &mut core, &mut log, 0, Some(8));
-    let _ = store(&rt, &mut core, &mut log, 1, Some(16));
-    assert_eq!(rt;
-        core.status(),
-        Status {
-            pending: 1,
-            recorded: 0
-        }
-    );
-    assert_drained(&rt, &mut core, 1, &[0], &[0])?;
-    assert_eq!(rt; core.reads(), SLOTS_A_CARD);
-    assert_eq!(rt;
-        core.status(),
-        Status {
-            pending: 0,
-            recorded: 2
-        }
-    );
-    assert_drained(&rt, &mut core, 2, &[0], &[])?;
-    assert_eq!(rt; core.reads(), SLOTS_A_CARD);
-    Ok(())
-}
-
-fn is_pending(rt: &impl Abort, core: &Core, number: u32) -> bool {
-    core.is_pending(card(rt, core, number))
-}
-
-fn target(rt: &impl Abort, core: &mut Core, number: u32) -> Option<u32> {
-    let slot = slot(rt, core, number);
-    core.target(slot).map(|place| place.number())
-}
-
-fn members(rt: &impl Abort, core: &Core, number: u32) -> Result<CardList, NoMemory> {
-    core.members(region(rt, core, number))
-}
-
-#[test]
-fn questions_are_answered(rt: HostRuntime) -> Result<(), Fail> {
-    let mut core = core(&rt, rt.alloc(), 4)?;
-    let mut log = Log::new(2);
-    let _ = store(&rt, &mut core, &mut log, 12, Some(24));
-    let _ = store(&rt, &mut core, &mut log, 4, Some(24));
-    assert!(rt; is_pending(&rt, &core, 3) && is_pending(&rt, &core, 1));
-    assert!(rt; !is_pending(&rt, &core, 0));
-    assert_eq!(rt; target(&rt, &mut core, 12), Some(24));
-    assert_eq!(rt; target(&rt, &mut core, 13), None);
-    assert_eq!(rt; core.reads(), 2);
-    assert!(rt; members(&rt, &core, 3)?.is_empty());
-    assert_drained(&rt, &mut core, 3, &[1, 3], &[1, 3])?;
-    assert!(rt; has_cards(&members(&rt, &core, 3)?, &[1, 3]));
-    assert!(rt; !is_pending(&rt, &core, 3));
-    Ok(())
-}
-
-#[test]
-fn the_ring_is_drained_before_the_dirty_cards(rt: HostRuntime) -> Result<(), Fail> {
-    let mut core = core(&rt, rt.alloc(), 0)?;
-    let mut log = Log::new(2);
-    let _ = store(&rt, &mut core, &mut log, 20, Some(0));
-    let _ = store(&rt, &mut core, &mut log, 8, Some(0));
-    let lent = buffer(&rt, &core, &[5, 2]);
-    let reply = core.refine(Some(&lent))?;
-    assert_eq!(rt; reply.hot, 2);
-    let _ = store(&rt, &mut core, &mut log, 28, Some(0));
-    let _ = store(&rt, &mut core, &mut log, 12, Some(0));
-    assert_drained(&rt, &mut core, 0, &[2, 3, 5, 7], &[5, 2, 3, 7])?;
-    assert_eq!(rt;
-        core.status(),
-        Status {
-            pending: 0,
-            recorded: 4
-        }
-    );
-    Ok(())
-}
-
-#[test]
-fn a_whole_drain_makes_hot_cards_cold(rt: HostRuntime) -> Result<(), Fail> {
-    let mut core = core(&rt, rt.alloc(), 1)?;
-    for _ in 0..2 {
-        let mut log = Log::new(2);
-        let _ = store(&rt, &mut core, &mut log, 0, Some(8));
-        let lent = buffer(&rt, &core, &[0]);
-        let reply = core.refine(Some(&lent))?;
-        assert_eq!(rt; reply.hot, 0);
-        assert!(rt; has_cards(&reply.refined, &[0]));
-        assert_drained(&rt, &mut core, 1, &[0], &[])?;
-    }
-    Ok(())
-}
-
-// Under `rt try --test --fail-alloc N` the Nth growth is refused: the call that met it is made again, and the drains of
-// every region at the end answer as if no growth had been refused.
-#[test]
-fn a_refused_growth_loses_no_card(rt: HostRuntime) -> Result<(), Fail> {
-    let mut core = match core(&rt, rt.alloc(), 4) {
-        Ok(core) => core,
-        Err(NoMemory) => core(&rt, rt.alloc(), 4)?,
+    let cards = match core.members(of) {
+        Ok(cards) => cards,
+        Err(NoMemory) => core.members(of)?,
     };
-    let mut log = Log::new(256);
-    for (from, to) in [(0, 24), (4, 16), (8, 24), (31, 0)] {
-        let _ = store(&rt, &mut core, &mut log, from, Some(to));
-    }
-    assert_first_drain(&rt, &mut core);
-    assert_drained_set(&rt, &mut core, 0, &[7])?;
-    assert_drained_set(&rt, &mut core, 1, &[])?;
-    assert_drained_set(&rt, &mut core, 2, &[1])?;
-    assert_drained_set(&rt, &mut core, 3, &[0, 2])?;
-    if let Ok(cards) = members(&rt, &core, 3) {
-        assert!(rt; has_cards(&cards, &[0, 2]));
-    }
-    assert!(rt; has_cards(&members(&rt, &core, 3)?, &[0, 2]));
+    assert!(rt; has_cards(&cards, set));
     Ok(())
 }
 
-/// Drains region 3 once: refused, short or whole, each pending card is refined and listed, or still pending.
-fn assert_first_drain(rt: &impl Abort, core: &mut Core) {
-    let last = region(rt, core, 3);
-    match core.drain(last) {
-        Err(NoMemory) => assert_eq!(rt;
-            core.status(),
-            Status {
-                pending: 4,
-                recorded: 0
-            }
-        ),
-        Ok(Drained::Short { refined }) => {
-            assert_eq!(rt;
-                (core.status().pending as usize).saturating_add(refined.len()),
-                4
-            );
-        }
-        Ok(Drained::Cards { cards, refined }) => {
-            assert!(rt; has_cards(&cards, &[0, 2]));
-            assert!(rt; has_cards(&refined, &[0, 1, 2, 7]));
-        }
+fn clear(rt: &impl Abort, core: &mut Core, of: u32) -> Cleared {
+    let of = region(rt, core, of);
+    match core.clear(of) {
+        ClearReply::Cleared => Cleared::Yes,
+        ClearReply::Pending(cards) => Cleared::Pending(cards),
+        ClearReply::StillReferenced(slot) => Cleared::StillReferenced(slot.number()),
     }
 }
 
-/// Checks the set that a whole drain of the region answers.
-fn assert_drained_set(
+fn refine(
+    rt: &impl Abort,
+    core: &mut Core,
+    cards: &[u32],
+    refined: &[u32],
+    counts: (u32, u32),
+) -> Result<(), Fail> {
+    let lent = buffer(rt, core, cards);
+    let before = seen(rt, core);
+    let pending = core.status().pending as usize;
+    let done = match core.refine(Some(&lent)) {
+        Err(NoMemory) => {
+            assert!(rt; seen(rt, core).as_slice() == before.as_slice());
+            0
+        }
+        Ok(reply) if reply.short => {
+            assert!(rt; has_front(&reply.refined, refined) && reply.taken == 0);
+            reply.refined.len()
+        }
+        Ok(reply) => {
+            assert!(rt; has_cards(&reply.refined, refined) && reply.taken == 1);
+            assert_eq!(rt; (reply.hot, reply.skipped), counts);
+            return Ok(());
+        }
+    };
+    assert_eq!(rt;
+        pending.saturating_sub(done),
+        core.status().pending as usize
+    );
+    let reply = core.refine(Some(&lent))?;
+    assert!(rt; has_rest(&reply.refined, refined, done) && !reply.short);
+    Ok(())
+}
+
+fn drain(
     rt: &impl Abort,
     core: &mut Core,
     of: u32,
     set: &[u32],
-) -> Result<(), NoMemory> {
-    let of = region(rt, core, of);
-    match core.drain(of)? {
-        Drained::Cards { cards, .. } => {
-            assert!(rt; has_cards(&cards, set));
-            Ok(())
+    refined: &[u32],
+) -> Result<(), Fail> {
+    let before = seen(rt, core);
+    let reads = core.reads();
+    let done = match drained(rt, core, of) {
+        Err(NoMemory) => {
+            assert!(rt; seen(rt, core).as_slice() == before.as_slice());
+            0
         }
-        Drained::Short { .. } => Err(NoMemory),
-    }
+        Ok(Drained::Short { refined: first }) => {
+            assert!(rt; has_front(&first, refined));
+            first.len()
+        }
+        Ok(
+            Drained::Cards {
+                cards,
+                refined: all,
+            },
+        ) => {
+            assert!(rt; has_cards(&cards, set) && has_cards(&all, refined));
+            let read = SLOTS_A_CARD.saturating_mul(refined.len() as u64);
+            assert_eq!(rt; core.reads(), reads.saturating_add(read));
+            return Ok(());
+        }
+    };
+    let Drained::Cards {
+        cards,
+        refined: all,
+    } = drained(rt, core, of)?
+    else {
+        return Err(Fail::new("short again"));
+    };
+    assert!(rt; has_cards(&cards, set) && has_rest(&all, refined, done));
+    Ok(())
+}
+
+/// The drain of the region of this number.
+fn drained(rt: &impl Abort, core: &mut Core, of: u32) -> Result<Drained, NoMemory> {
+    let of = region(rt, core, of);
+    core.drain(of)
+}
+
+fn redirect(
+    rt: &impl Abort,
+    core: &mut Core,
+    regions: (u32, u32),
+    slots: u32,
+    refined: &[u32],
+) -> Result<(), Fail> {
+    let before = seen(rt, core);
+    let done = match redirected(rt, core, regions) {
+        Err(NoMemory) => {
+            assert!(rt; seen(rt, core).as_slice() == before.as_slice());
+            0
+        }
+        Ok(Redirected::Short { refined: first }) => {
+            assert!(rt; has_front(&first, refined));
+            first.len()
+        }
+        Ok(
+            Redirected::Moved {
+                slots: moved,
+                refined: all,
+            },
+        ) => {
+            assert!(rt; moved == slots && has_cards(&all, refined));
+            return Ok(());
+        }
+    };
+    let Redirected::Moved {
+        slots: moved,
+        refined: all,
+    } = redirected(rt, core, regions)?
+    else {
+        return Err(Fail::new("short again"));
+    };
+    assert!(rt; moved == slots && has_rest(&all, refined, done));
+    Ok(())
+}
+
+/// The redirect between the regions of these numbers, which are two.
+fn redirected(
+    rt: &impl Abort,
+    core: &mut Core,
+    regions: (u32, u32),
+) -> Result<Redirected, NoMemory> {
+    let from = region(rt, core, regions.0);
+    let to = region(rt, core, regions.1);
+    assert!(rt; from != to);
+    core.redirect(from, to)
 }

@@ -1,8 +1,8 @@
-use Rattle.std.proofs.Common.{◌≡◌, ℕ, ◌≤◌, ◌+◌, ◌-◌, ◌*◌, sym, ap, ◌∙◌, arith}
+use Rattle.std.proofs.Common.{◌≡◌, ◌+◌, ◌-◌, ◌*◌, sym, ap, ◌∙◌, arith}
 use Rattle.std.proofs.lemmas.Bool.{eqb-true, true≢false}
 use Rattle.g1_layout.specs.Shape.{Shape, region_of_card}
 use Rattle.g1_core.specs.Machine.{table_from}
-use Rattle.g1_core.proofs.ClearLemmas.{IsWalked, own_card, card_none, read_more, walked, entered, passed}
+use Rattle.g1_core.proofs.LeastSlotLemmas.{IsWalked, own_card, card_none, read_more, walked, entered, passed}
 use Rattle.g1_core.proofs.clearing.entering_on.Goals as goal
 
 pub returns-then-eq-clause-least : goal.returns-then-eq-clause-least

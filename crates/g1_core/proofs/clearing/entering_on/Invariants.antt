@@ -1,8 +1,8 @@
-use Rattle.std.proofs.Common.{ℕ, ◌-◌}
+use Rattle.std.proofs.Common.{◌-◌}
 use Rattle.g1_layout.specs.Sets.{PairSet}
 use Rattle.g1_core.specs.Machine.{table_from}
 use Rattle.g1_core.specs.Clearing.{AreRead}
-use Rattle.g1_core.proofs.ClearLemmas.{NoneFrom}
+use Rattle.g1_core.proofs.LeastSlotLemmas.{NoneFrom}
 use Rattle.g1_core.proofs.clearing.entering_on.Given as goal
 
 abbrev pub invariant-loop-number : goal.invariant-loop-number

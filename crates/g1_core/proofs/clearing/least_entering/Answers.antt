@@ -2,7 +2,7 @@ use Rattle.std.proofs.Common.{List, ℕ, subst, arith, take_all}
 use Rattle.g1_sets.specs.Pairs.{list_at}
 use Rattle.g1_core.specs.Machine.{table_from}
 use Rattle.g1_core.specs.Clearing.{IsLeastOn}
-use Rattle.g1_core.proofs.ClearLemmas.{least_next, read_next}
+use Rattle.g1_core.proofs.LeastSlotLemmas.{least_next, read_next}
 use Rattle.g1_core.proofs.clearing.least_entering.Goals as goal
 
 pub loop-index-preserved : goal.loop-index-preserved

@@ -1,4 +1,4 @@
-use Rattle.std.proofs.Common.{ℕ, ◌*◌, take}
+use Rattle.std.proofs.Common.{◌*◌, take}
 use Rattle.g1_sets.specs.Pairs.{list_at}
 use Rattle.g1_core.specs.Machine.{table_from}
 use Rattle.g1_core.specs.Clearing.{AreRead, IsLeastOn}

@@ -8,11 +8,11 @@ use Rattle.g1_core.proofs.machinery.record_card.Goals as goal
 
 pub record-requires-clause-regions : goal.record-requires-clause-regions
 record-requires-clause-regions c =
-    let within : All (λ region. region < c.args.heap.now.layout.regions) c.targets-targets.result.items = targets_within c.args.heap.now c.targets-targets.result.items c.args.card c.layout.ensures.cells c.targets-targets.ensures.holds in
-    let there : All (λ region. region < c.args.sets.now.layout.regions) c.targets-targets.result.items = subst (λ (l : Shape). All (λ region. region < l.regions) c.targets-targets.result.items) (sym c.requires.layouts) within in
-    subst (λ (rs : List ℕ). All (λ region. region < c.args.sets.now.layout.regions) rs) (sym c.as_slice.ensures.value) there
+    let within : All (λ region. region < c.args.heap.now.layout.regions) c.list_targets.new.targets = targets_within c.args.heap.now c.list_targets.new.targets c.args.card c.layout.ensures.cells c.list_targets.ensures.holds in
+    let there : All (λ region. region < c.args.sets.now.layout.regions) c.list_targets.new.targets = subst (λ (l : Shape). All (λ region. region < l.regions) c.list_targets.new.targets) (sym c.requires.layouts) within in
+    subst (λ (rs : List ℕ). All (λ region. region < c.args.sets.now.layout.regions) rs) (sym c.as_slice.ensures.regions) there
 
 pub returns-clause-pairs : goal.returns-clause-pairs
 returns-clause-pairs c = c.in_ok-record.ensures.pairs
-    ∙ ap (λ (rs : List ℕ). set.union c.args.sets.now.pairs (of_card c.args.card rs)) c.as_slice.ensures.value
-    ∙ gained_is c.args.heap.now c.args.sets.now.pairs c.args.card c.targets-targets.result.items c.targets-targets.ensures.holds
+    ∙ ap (λ (rs : List ℕ). set.union c.args.sets.now.pairs (of_card c.args.card rs)) c.as_slice.ensures.regions
+    ∙ gained_is c.args.heap.now c.args.sets.now.pairs c.args.card c.list_targets.new.targets c.list_targets.ensures.holds

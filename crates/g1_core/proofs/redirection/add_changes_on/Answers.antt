@@ -1,7 +1,7 @@
 use Rattle.std.proofs.Common.{◌+◌, ◌-◌, ap, sym, ◌∙◌, arith, Some, None, vec_items}
 use Rattle.std.proofs.lemmas.List.{append-nil}
-use Rattle.g1_core.proofs.ClearLemmas.{read_more}
-use Rattle.g1_core.proofs.RedirectLemmas.{read_change, changes_next}
+use Rattle.g1_core.proofs.LeastSlotLemmas.{read_more}
+use Rattle.g1_core.proofs.WalkLemmas.{read_change, changes_next}
 use Rattle.g1_core.proofs.redirection.add_changes_on.Goals as goal
 use Rattle.g1_core.proofs.redirection.add_changes_on.Goals.{in-Some-change_of+in_ok-push, in_default-change_of}
 

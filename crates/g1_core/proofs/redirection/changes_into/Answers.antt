@@ -1,12 +1,11 @@
-use Rattle.std.proofs.Common.{◌≡◌, ◌≢◌, ◌<◌, ◌+◌, ◌*◌, ℕ, List, length, ap, sym, ◌∙◌, subst, arith, take_all, vec_items, true, false, not, eqb}
+use Rattle.std.proofs.Common.{◌≡◌, ◌<◌, ◌+◌, ℕ, List, length, ap, sym, ◌∙◌, subst, arith, take_all, vec_items}
 use Rattle.std.specs.Prelude.{All}
-use Rattle.std.proofs.lemmas.Bool.{eq-eqb, eqb-true, eqb-false, true≢false, not-true}
 use Rattle.std.proofs.lemmas.List.Elements.{All-push}
-use Rattle.g1_layout.specs.Shape.{Shape, card_count, region_of_card}
+use Rattle.g1_layout.specs.Shape.{card_count}
 use Rattle.g1_sets.specs.Pairs.{list_at}
 use Rattle.g1_core.specs.Redirect.{changes_of, slots_of, AreGaining}
-use Rattle.g1_core.proofs.ClearLemmas.{read_next}
-use Rattle.g1_core.proofs.RedirectLemmas.{references_next, card_changes, gains_next, gains_none, lies_outside, lies_inside, member_below}
+use Rattle.g1_core.proofs.LeastSlotLemmas.{read_next}
+use Rattle.g1_core.proofs.WalkLemmas.{references_next, card_changes, gains_next, gains_none, lies_outside, lies_inside, member_below}
 use Rattle.g1_core.proofs.redirection.changes_into.Goals as goal
 use Rattle.g1_core.proofs.redirection.changes_into.Goals.{then-len-before+then-ne+in_ok-push, else-len-before, else-len-before-via-then-len-before+else-ne, else-len-before-via-else-len-before}
 

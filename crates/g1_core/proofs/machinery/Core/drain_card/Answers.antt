@@ -1,9 +1,9 @@
-use Rattle.std.proofs.Common.{◌≡◌, ap, sym, subst, true}
+use Rattle.std.proofs.Common.{◌≡◌, sym, subst, true}
 use Rattle.g1_core.specs.Machine.{Machine, machine_from}
 use Rattle.g1_core.specs.Turns.{is_dirty}
 use Rattle.g1_core.specs.Pause.{IsCardDrained}
 use Rattle.g1_core.proofs.PartLemmas.{mark_dirty}
-use Rattle.g1_core.proofs.DrainLemmas.{IsDrainedTo, card_drained, dirty_inside, read_core, card_read}
+use Rattle.g1_core.proofs.DrainCardLemmas.{IsDrainedTo, card_drained, dirty_inside}
 use Rattle.g1_core.proofs.machinery.Core.drain_card.Goals as goal
 
 pub refine_card-requires-clause-card : goal.refine_card-requires-clause-card

@@ -2,7 +2,7 @@ use Rattle.std.proofs.Common.{◌≡◌, ◌+◌, ℕ, ap, arith, subst, sym}
 use Rattle.g1_layout.specs.Shape.{Shape, card_count}
 use Rattle.g1_core.specs.Pause.{IsDirtyDrained}
 use Rattle.g1_core.specs.Table.{Table}
-use Rattle.g1_core.proofs.DrainLemmas.{dirty_none, dirty_more, dirty_all}
+use Rattle.g1_core.proofs.DrainLoopLemmas.{dirty_none, dirty_more, dirty_all}
 use Rattle.g1_core.proofs.machinery.Core.drain_dirty.Goals as goal
 
 pub loop-card-init : goal.loop-card-init

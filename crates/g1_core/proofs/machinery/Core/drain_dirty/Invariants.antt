@@ -1,4 +1,4 @@
-use Rattle.std.proofs.Common.{◌≤◌, ◌+◌, ◌-◌, length, vec_len, vec_capacity}
+use Rattle.std.proofs.Common.{◌≤◌, ◌+◌, ◌-◌, vec_len, vec_capacity}
 use Rattle.std.specs.FinSet as set
 use Rattle.g1_layout.specs.Shape.{card_count}
 use Rattle.g1_core.specs.Pause.{IsDirtyDrained}

@@ -1,8 +1,8 @@
-use Rattle.std.proofs.Common.{ap, sym, subst}
+use Rattle.std.proofs.Common.{sym, subst}
 use Rattle.g1_hot.specs.Ring.{popped}
 use Rattle.g1_core.specs.Machine.{Machine, machine_from}
 use Rattle.g1_core.specs.Pause.{IsCardDrained}
-use Rattle.g1_core.proofs.DrainLemmas.{IsDrainedTo, oldest_drained, oldest_some}
+use Rattle.g1_core.proofs.DrainCardLemmas.{IsDrainedTo, oldest_drained, oldest_some}
 use Rattle.g1_core.proofs.machinery.Core.drain_oldest.Goals as goal
 
 pub refine_card-requires-clause-some : goal.refine_card-requires-clause-some

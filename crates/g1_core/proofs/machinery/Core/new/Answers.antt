@@ -1,4 +1,4 @@
-use Rattle.g1_core.proofs.StoreLemmas.{made_core, made_machine}
+use Rattle.g1_core.proofs.OpeningLemmas.{made_core, made_machine}
 use Rattle.g1_core.proofs.machinery.Core.new.Goals as goal
 
 pub invariant_of-result : goal.invariant_of-result

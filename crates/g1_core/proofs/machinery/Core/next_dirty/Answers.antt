@@ -1,4 +1,4 @@
-use Rattle.g1_core.proofs.DrainLemmas.{none_pending_dirty, next_none, next_dirty_is, next_first}
+use Rattle.g1_core.proofs.DrainCardLemmas.{none_pending_dirty, next_none, next_dirty_is, next_first}
 use Rattle.g1_core.proofs.machinery.Core.next_dirty.Goals as goal
 
 pub returns-then-self-eq0-clause-none : goal.returns-then-self-eq0-clause-none

@@ -2,7 +2,7 @@ use Rattle.std.proofs.Common.{subst}
 use Rattle.g1_core.specs.Table.{IsCovered}
 use Rattle.g1_core.specs.Machine.{Machine, IsPlaced}
 use Rattle.g1_core.proofs.PartLemmas.{parts_placed}
-use Rattle.g1_core.proofs.StoreLemmas.{idle_step}
+use Rattle.g1_core.proofs.OpeningLemmas.{idle_step}
 use Rattle.g1_core.proofs.TurnLemmas.{turned_step}
 use Rattle.g1_core.proofs.RefineLemmas.{turned_covered}
 use Rattle.g1_core.proofs.machinery.Core.refine.Goals as goal

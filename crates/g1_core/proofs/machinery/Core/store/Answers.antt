@@ -1,4 +1,4 @@
-use Rattle.std.proofs.Common.{ap, refl, sym, subst, ◌∙◌, ◌+◌, arith}
+use Rattle.std.proofs.Common.{ap, refl, sym, ◌∙◌, ◌+◌, arith}
 use Rattle.std.proofs.lemmas.Bool.{true≢false}
 use Rattle.g1_heap.specs.declared.mark.Mark.TheVariants.{Dirty}
 use Rattle.g1_heap.specs.Cells.{Cells, with_mark}

@@ -1,9 +1,9 @@
-use Rattle.std.proofs.Common.{ap, ◌∙◌, ◌≡◌, sym, refl, Some}
+use Rattle.std.proofs.Common.{ap, ◌∙◌, sym, refl, Some}
 use Rattle.std.proofs.lemmas.Bool.{true≢false}
 use Rattle.g1_hot.specs.declared.offer.Offer.TheVariants.{Out}
 use Rattle.g1_heap.specs.declared.mark.Mark.TheVariants.{Held}
 use Rattle.g1_heap.specs.Cells.{Cells, with_mark}
-use Rattle.g1_core.proofs.TurnLemmas.{refined_none}
+use Rattle.g1_core.proofs.RefinedLemmas.{refined_none}
 use Rattle.g1_core.proofs.RefineLemmas.{none_offered, dirty_pending, turned_cold, turned_kept, turned_out, IsTurnedTo}
 use Rattle.g1_core.proofs.machinery.Core.turn.Goals as goal
 

@@ -1,0 +1,158 @@
+-- The changes of a redirect: what one is, and what it makes of a table.
+use Rattle.std.proofs.Common.{◌≡◌, ◌≢◌, ◌⊎◌, inl, inr, ℕ, zero, suc, ◌<◌, ◌≤◌, ◌+◌, ◌-◌, ◌*◌, ◌%◌, Bool, true, false, cond, eqb, List, [], ◌∷◌, length, get_or, set as list_set, Option, Some, None, refl, sym, ap, ◌∙◌, subst, arith, map}
+use Rattle.std.specs.Prelude.{Contains, All, nat_eq, not, count_by, IfSome}
+use Rattle.std.specs.List.{IsDistinct, cons_option, enumerate_from}
+use Rattle.std.proofs.lemmas.Bool.{cases_lt, eqb-true, and_parts, true≢false, false_from_ne_true}
+use Rattle.std.proofs.lemmas.List.{get_or-set_same, get_or-set_other, get_or_past}
+use Rattle.std.proofs.Math.Nat.{mul_assoc}
+use Rattle.std.proofs.lemmas.Nat.{row_fits}
+use Rattle.std.proofs.lemmas.List.Elements.{All-set}
+use Rattle.g1_layout.specs.Shape.{Shape, IsShape, slot_count}
+use Rattle.g1_core.specs.declared.redirection.Change.{Change}
+use Rattle.g1_core.specs.Machine.{IsCore}
+use Rattle.g1_core.specs.Table.{same_offset, enters, moved_target, moved}
+use Rattle.g1_core.specs.Redirect.{change_at, changes_of, changed}
+use Rattle.g1_core.proofs.RunLemmas.{has_slots}
+use Rattle.g1_core.proofs.MovedLemmas.{same_offset_region}
+use Rattle.g1_heap.specs.Cells.{Cells}
+use Rattle.g1_hot.specs.Ring.{Ring}
+use Rattle.g1_sets.specs.Pairs.{Pairs, of_region}
+use Rattle.g1_core.specs.Clearing.{AreRead}
+use Rattle.g1_core.proofs.TurnLemmas.{front_apart, rest_distinct}
+use Rattle.g1_core.proofs.PlaceLemmas.{map_set, count_set, count_none, map_same}
+
+module _ (l : Shape) (from to : ℕ) where
+  -- what becomes of a slot: it is not changed, or it is
+  pub record IsLeft (slot : ℕ) (o : Option ℕ) : Type 0 where
+    pub none : change_at l from to slot o ≡ None
+    pub stays : moved_target l from to (slot, o) ≡ o
+    pub away : enters l from (slot, o) ≡ false
+
+  pub record IsChanged (slot : ℕ) (o : Option ℕ) : Type 0 where
+    pub old : ℕ
+    pub refers : o ≡ Some old
+    pub change : change_at l from to slot o ≡ Some (record { slot = slot; place = same_offset l to old })
+    pub moves : moved_target l from to (slot, o) ≡ Some (same_offset l to old)
+    pub enters : enters l from (slot, o) ≡ true
+
+  changed_if : (slot place : ℕ) (b : Bool) → enters l from (slot, Some place) ≡ b → IsLeft slot (Some place) ⊎ IsChanged slot (Some place)
+  changed_if slot place true is = inr (record {
+    old = place;
+    refers = refl;
+    change = ap (λ b. cond {A = Option Change} b (Some (record { slot = slot; place = same_offset l to place })) None) is;
+    moves = ap (λ b. cond b (Some (same_offset l to place)) (Some place)) is;
+    enters = is;
+  })
+  changed_if slot place false is = inl (record {
+    none = ap (λ b. cond {A = Option Change} b (Some (record { slot = slot; place = same_offset l to place })) None) is;
+    stays = ap (λ b. cond b (Some (same_offset l to place)) (Some place)) is;
+    away = is;
+  })
+
+  pub change_cases : (slot : ℕ) (o : Option ℕ) → IsLeft slot o ⊎ IsChanged slot o
+  change_cases slot None = inl (record { none = refl; stays = refl; away = refl })
+  change_cases slot (Some place) = changed_if slot place (enters l from (slot, Some place)) refl
+
+  -- what does not enter is left
+  pub left_stays : (slot : ℕ) (o : Option ℕ) → enters l from (slot, o) ≡ false → moved_target l from to (slot, o) ≡ o
+  left_stays slot o away = elim (change_cases slot o) [ inl left ↦ left.stays | inr c ↦ absurd (true≢false (sym c.enters ∙ away)) ]
+
+  -- a slot that is written later does not change what the others make
+  pub same_changes : (refs : List (Option ℕ)) (s : ℕ) (v : Option ℕ) (slots : List ℕ) → (Contains slots s → ⊥) → changes_of l (list_set refs s v) from to slots ≡ changes_of l refs from to slots
+  same_changes refs s v [] apart = refl
+  same_changes refs s v (q ∷ slots) apart =
+      let other : q ≢ s = λ e. apart (0, omega arith, e) in
+      let here : change_at l from to q (get_or (list_set refs s v) q None) ≡ change_at l from to q (get_or refs q None) = ap (λ (o : Option ℕ). change_at l from to q o) (get_or-set_other refs s q v None other) in
+      let rest : changes_of l (list_set refs s v) from to slots ≡ changes_of l refs from to slots = same_changes refs s v slots (λ c. apart (suc c.0, omega (arith, c.1), c.2)) in
+      λ i. cons_option (here i) (rest i)
+
+  module _ (some : 0 < l.cards * l.slots) (apart : from ≢ to) where
+    pub moved_away : (slot old : ℕ) → enters l from (slot, Some (same_offset l to old)) ≡ false
+    moved_away slot old = false_from_ne_true _ (λ h. apart (sym (eqb-true _ _ (and_parts _ _ h).1) ∙ same_offset_region l to old some))
+
+    -- where the slots are distinct and each slot that enters the region is one of them, making their changes moves all
+    pub all_moved : (slots : List ℕ) (refs : List (Option ℕ)) → IsDistinct nat_eq slots → ((slot : ℕ) → enters l from (slot, get_or refs slot None) ≡ true → Contains slots slot)
+        → (changed refs (changes_of l refs from to slots) ≡ map (moved_target l from to) (enumerate_from 0 refs)) × (length (changes_of l refs from to slots) ≡ count_by (enters l from) (enumerate_from 0 refs))
+    all_moved [] refs distinct each =
+        let out : (slot : ℕ) → enters l from (slot, get_or refs slot None) ≡ false = λ slot. false_from_ne_true _ (λ h. let c : Contains [] slot = each slot h in absurd (omega (arith, c.1))) in (
+          sym (map_same (moved_target l from to) 0 refs None (λ k inside. let at : 0 + k ≡ k = omega arith in ap (λ (i : ℕ). moved_target l from to (i, get_or refs k None)) at ∙ left_stays k (get_or refs k None) (out k))),
+          sym (count_none (enters l from) 0 refs None (λ k inside. let at : 0 + k ≡ k = omega arith in ap (λ (i : ℕ). enters l from (i, get_or refs k None)) at ∙ out k)),
+        )
+    all_moved (s ∷ slots) refs distinct each = elim (change_cases s (get_or refs s None)) [
+      | inl left ↦
+          let rest = all_moved slots refs (rest_distinct s slots distinct) (λ slot h. in_rest slot (λ e. true≢false (sym h ∙ ap (λ (q : ℕ). enters l from (q, get_or refs q None)) e ∙ left.away)) (each slot h)) in
+          let none : changes_of l refs from to (s ∷ slots) ≡ changes_of l refs from to slots = ap (λ (o : Option Change). cons_option o (changes_of l refs from to slots)) left.none in
+          (ap (λ (cs : List Change). changed refs cs) none ∙ rest.0, ap (λ (cs : List Change). length cs) none ∙ rest.1)
+      | inr c ↦
+          let v : Option ℕ = Some (same_offset l to c.old) in
+          let here : Change = record { slot = s; place = same_offset l to c.old } in
+          let inside : s < length refs = elim (cases_lt s (length refs)) [ inl lt ↦ lt | inr past ↦ let null : None ≡ Some c.old = sym (get_or_past refs s None past) ∙ c.refers in cc ] in
+          let fresh : Contains slots s → ⊥ = front_apart s slots distinct in
+          let written : get_or (list_set refs s v) s None ≡ v = get_or-set_same refs s v None inside in
+          let gone : enters l from (s, get_or (list_set refs s v) s None) ≡ false = ap (λ (o : Option ℕ). enters l from (s, o)) written ∙ moved_away s c.old in
+          let rest = all_moved slots (list_set refs s v) (rest_distinct s slots distinct) (λ slot h.
+          let other : slot ≢ s = λ e. true≢false (sym h ∙ ap (λ (q : ℕ). enters l from (q, get_or (list_set refs s v) q None)) e ∙ gone) in
+          in_rest slot other (each slot (ap (λ (o : Option ℕ). enters l from (slot, o)) (sym (get_or-set_other refs s slot v None other)) ∙ h))) in
+          let same : changes_of l (list_set refs s v) from to slots ≡ changes_of l refs from to slots = same_changes refs s v slots fresh in
+          let all : changes_of l refs from to (s ∷ slots) ≡ here ∷ changes_of l (list_set refs s v) from to slots = ap (λ (o : Option Change). cons_option o (changes_of l refs from to slots)) c.change ∙ ap (λ (cs : List Change). here ∷ cs) (sym same) in
+          let at : 0 + s ≡ s = omega arith in
+          let kept : map (moved_target l from to) (enumerate_from 0 (list_set refs s v)) ≡ map (moved_target l from to) (enumerate_from 0 refs) =
+          map_set (moved_target l from to) 0 refs s v None inside (ap (λ (i : ℕ). moved_target l from to (i, v)) at ∙ left_stays s v (moved_away s c.old) ∙ sym c.moves ∙ sym (ap (λ (i : ℕ). moved_target l from to (i, get_or refs s None)) at)) in
+          let fewer : count_by (enters l from) (enumerate_from 0 (list_set refs s v)) + 1 ≡ count_by (enters l from) (enumerate_from 0 refs) =
+          count_set (enters l from) 0 refs s v None inside (ap (λ (i : ℕ). enters l from (i, v)) at ∙ moved_away s c.old) (ap (λ (i : ℕ). enters l from (i, get_or refs s None)) at ∙ c.enters) in (
+            ap (λ (cs : List Change). changed refs cs) all ∙ rest.0 ∙ kept,
+            ap (λ (cs : List Change). length cs) all ∙ one_more_is (length (changes_of l (list_set refs s v) from to slots)) _ _ rest.1 fewer,
+          )
+    ]
+      where
+        in_rest : (slot : ℕ) → slot ≢ s → Contains (s ∷ slots) slot → Contains slots slot
+        in_rest slot other (zero, lt, e) = absurd (other (sym e))
+        in_rest slot other (suc k, lt, e) = (k, omega arith, e)
+
+        one_more_is : (n m k : ℕ) → n ≡ m → m + 1 ≡ k → suc n ≡ k
+        one_more_is n m k a b = omega arith
+
+-- places stay within the heap
+pub changed_places : (l : Shape) (changes : List Change) (refs : List (Option ℕ)) → All (λ target. IfSome target (λ place. place < slot_count l)) refs → All (λ change. change.place < slot_count l) changes → All (λ target. IfSome target (λ place. place < slot_count l)) (changed refs changes)
+changed_places l [] refs each within = each
+changed_places l (c ∷ changes) refs each within =
+    changed_places l changes (list_set refs c.slot (Some c.place)) (All-set (λ target. IfSome target (λ place. place < slot_count l)) refs c.slot (Some c.place) (within 0 c (omega arith)) each) (λ k d lt. within (suc k) d (omega arith))
+
+-- pairs of some cards with a region
+pub of_region_from : (cards : List ℕ) (region : ℕ) (p : ℕ × ℕ) → Contains (map (λ (c : ℕ). (c, region)) cards) p → (p.1 ≡ region) × Contains cards p.0
+of_region_from [] region p (k, lt, e) = absurd (omega arith)
+of_region_from (card ∷ cards) region p (zero, lt, e) = (ap (λ (q : ℕ × ℕ). q.1) (sym e), (0, omega arith, ap (λ (q : ℕ × ℕ). q.0) e))
+of_region_from (card ∷ cards) region p (suc k, lt, e) =
+    let rest : (p.1 ≡ region) × Contains cards p.0 = of_region_from cards region p (k, omega arith, e) in
+    (rest.0, (suc rest.1.0, omega (arith, rest.1.1), rest.1.2))
+
+pub of_region_to : (cards : List ℕ) (region card : ℕ) → Contains cards card → Contains {X = ℕ × ℕ} (map (λ (c : ℕ). (c, region)) cards) (card, region)
+of_region_to [] region card (k, lt, e) = absurd (omega arith)
+of_region_to (c ∷ cards) region card (zero, lt, e) = (0, omega arith, ap (λ (q : ℕ). (q, region)) e)
+of_region_to (c ∷ cards) region card (suc k, lt, e) =
+    let rest : Contains {X = ℕ × ℕ} (map (λ (c : ℕ). (c, region)) cards) (card, region) = of_region_to cards region card (k, omega arith, e) in
+    (suc rest.0, omega (arith, rest.1), rest.2)
+
+-- the place at the same offset is one of the heap
+pub same_offset_below : (l : Shape) (to place : ℕ) → IsShape l → to < l.regions → same_offset l to place < slot_count l
+same_offset_below l to place shape within =
+    let some : 0 < l.cards * l.slots = has_slots l shape in
+    let less : place % (l.cards * l.slots) < l.cards * l.slots = omega arith in
+    let row : to * (l.cards * l.slots) + l.cards * l.slots ≤ l.regions * (l.cards * l.slots) = row_fits to (l.cards * l.slots) l.regions (l.cards * l.slots) within (omega arith) in
+    let all : l.regions * l.cards * l.slots ≡ l.regions * (l.cards * l.slots) = mul_assoc l.regions l.cards l.slots in
+    omega arith
+
+-- what a heap and its sets keep while it is only read
+pub read_core : (heap now : Cells) (sets : Pairs) (ring : Ring) (pending most : ℕ) → IsCore heap sets ring pending → AreRead heap now most → IsCore now sets ring pending
+read_core heap now sets ring pending most core read = subst (λ (h : Cells). IsCore h sets ring pending) (sym read.cells) (record {
+  layouts = core.layouts;
+  parts = record {
+    cells = record { shape = core.parts.cells.shape; slots = core.parts.cells.slots; places = core.parts.cells.places; cards = core.parts.cells.cards };
+    counts = core.parts.counts;
+    some = core.parts.some;
+    distinct = core.parts.distinct;
+    held = core.parts.held;
+    known = core.parts.known;
+    cover = core.parts.cover;
+  };
+})

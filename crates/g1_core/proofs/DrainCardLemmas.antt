@@ -1,0 +1,115 @@
+-- One card of a drain: what refining it leaves, and what a refused record leaves.
+use Rattle.std.proofs.Common.{◌≡◌, ◌≢◌, ℕ, ◌<◌, ◌≤◌, ◌+◌, ◌-◌, ◌^◌, true, false, [], ◌∷◌, length, get_or, Option, Some, None, refl, sym, ap, ◌∙◌, subst, arith, ◌↔◌}
+use Rattle.std.specs.Prelude.{Contains, IfSome, IfNone, MatchOption, nat_eq, slice_get, not}
+use Rattle.std.specs.List.{IsDistinct}
+use Rattle.std.specs.FinSet as set
+use Rattle.g1_layout.specs.Shape.{card_count}
+use Rattle.g1_heap.specs.declared.mark.Mark.TheVariants.{Clean, Dirty}
+use Rattle.g1_heap.specs.Cells.{Cells, with_mark, with_reads, reads_after, HasNoDirty, IsFirstDirty}
+use Rattle.g1_sets.specs.Pairs.{Pairs}
+use Rattle.g1_hot.specs.Ring.{Ring, popped}
+use Rattle.g1_core.specs.Settings.{Settings}
+use Rattle.g1_core.specs.Table.{Table, IsPending, refined}
+use Rattle.g1_core.specs.Machine.{State, Machine, AreParts, IsCore, table_from, state_from, machine_from, pending_of, gained}
+use Rattle.g1_core.specs.Turns.{is_dirty}
+use Rattle.g1_core.specs.Pause.{IsCardDrained, IsCardRead}
+use Rattle.g1_core.proofs.MarkLemmas.{held_clean, dirty_clean, is_card, to_pending, one_less, some_member}
+use Rattle.g1_core.proofs.PartLemmas.{cleaned_state, cleaned_parts, read_parts, IsFront, front_of, oldest_mark, oldest_within, left_distinct, left_stands, apart_stands, mark_dirty, is_dirty_mark, not_dirty, dirty_mark}
+
+-- reads add up
+pub reads_none : (reads : ℕ) → reads < 2 ^ 64 → reads_after reads 0 ≡ reads
+reads_none reads h = omega arith
+
+pub reads_both : (reads a b : ℕ) → reads_after (reads_after reads a) b ≡ reads_after reads (a + b)
+reads_both reads a b = omega arith
+
+-- a core after one of its cards was refined: what its parts keep, and what its machine is
+pub record IsDrainedTo (heap : Cells) (sets : Pairs) (ring : Ring) (settings : Settings) (card : ℕ) (heap' : Cells) (sets' : Pairs) (ring' : Ring) (pending' : ℕ) : Type 0 where
+  pub core : IsCore heap' sets' ring' pending'
+  pub drained : IsCardDrained (machine_from heap sets.pairs ring settings) card ring' (machine_from heap' sets'.pairs ring' settings)
+
+module _ (heap : Cells) (sets : Pairs) (ring : Ring) (pending : ℕ) (settings : Settings) (core : IsCore heap sets ring pending) (heap' : Cells) (sets' : Pairs) (pending' : ℕ) (card : ℕ)
+    (eh : heap' ≡ with_mark (with_reads heap heap.layout.slots) card Clean) (ep : sets'.pairs ≡ gained heap sets.pairs card) (el : sets'.layout ≡ sets.layout) (less : pending' + 1 ≡ pending) where
+  drained_to : (ring' : Ring) → get_or heap.marks card Clean ≢ Clean → length ring'.counts ≡ length ring.counts → ring'.capacity ≡ ring.capacity → IsDistinct nat_eq ring'.cards
+      → ((q : ℕ) → Contains ring'.cards q ↔ (Contains ring.cards q × (q ≢ card))) → IsDrainedTo heap sets ring settings card heap' sets' ring' pending'
+  drained_to ring' marked counts capacity distinct stands =
+      let state : state_from (with_mark (with_reads heap heap.layout.slots) card Clean) (gained heap sets.pairs card) ring' ≡ record { table = refined (card ∷ []) (table_from heap sets.pairs); ring = ring' } =
+      cleaned_state heap sets.pairs ring pending core.parts ring' pending' card heap.layout.slots marked less counts capacity distinct stands in
+      let was : IsPending (table_from heap sets.pairs) card = to_pending heap.marks card marked in
+      let table : table_from heap' sets'.pairs ≡ refined (card ∷ []) (table_from heap sets.pairs) = (λ i. table_from (eh i) (ep i)) ∙ ap (λ (s : State). s.table) state in
+      record {
+        core = record {
+          layouts = el ∙ core.layouts ∙ ap (λ (h : Cells). h.layout) (sym eh);
+          parts = subst (λ h. AreParts h sets'.pairs ring' pending') (sym eh) (subst (λ ps. AreParts (with_mark (with_reads heap heap.layout.slots) card Clean) ps ring' pending') (sym ep)
+              (cleaned_parts heap sets.pairs ring pending core.parts ring' pending' card heap.layout.slots marked less counts capacity distinct stands));
+        };
+        drained = record {
+          pending = was;
+          table = table;
+          left = refl;
+          settings = refl;
+          reads = ap (λ (h : Cells). h.reads) eh;
+          fewer = ap (λ (t : Table). set.len t.pending + 1) table ∙ one_less (pending_of heap.marks) card was;
+        };
+      }
+
+  pub card_drained : get_or heap.marks card Clean ≡ Dirty → IsDrainedTo heap sets ring settings card heap' sets' ring pending'
+  card_drained dirty = drained_to ring (dirty_clean _ dirty) refl refl core.parts.distinct (apart_stands heap sets.pairs ring pending core.parts card dirty)
+
+  pub oldest_drained : (ring' : Ring) → ring' ≡ popped ring → Some card ≡ slice_get ring.cards 0 → IsDrainedTo heap sets ring settings card heap' sets' ring' pending'
+  oldest_drained ring' er first =
+      let front : IsFront ring.cards card = front_of ring.cards card first in
+      subst (λ r. IsDrainedTo heap sets ring settings card heap' sets' r pending') (sym er)
+      (drained_to (popped ring) (held_clean _ (oldest_mark heap sets.pairs ring pending core.parts card front.rest front.cards)) refl refl
+      (left_distinct heap sets.pairs ring pending core.parts card front.rest front.cards) (left_stands heap sets.pairs ring pending core.parts card front.rest front.cards))
+
+pub oldest_inside : (heap : Cells) (sets : Pairs) (ring : Ring) (pending : ℕ) → IsCore heap sets ring pending → (card : ℕ) → Some card ≡ slice_get ring.cards 0 → card < card_count heap.layout
+oldest_inside heap sets ring pending core card first =
+    let front : IsFront ring.cards card = front_of ring.cards card first in
+    oldest_within heap sets.pairs ring pending core.parts card front.rest front.cards
+
+pub oldest_some : (heap : Cells) (sets : Pairs) (ring : Ring) (pending : ℕ) → IsCore heap sets ring pending → (card : ℕ) → Some card ≡ slice_get ring.cards 0 → 1 ≤ pending
+oldest_some heap sets ring pending core card first =
+    let front : IsFront ring.cards card = front_of ring.cards card first in
+    let some = some_member (pending_of heap.marks) card (to_pending heap.marks card (held_clean _ (oldest_mark heap sets.pairs ring pending core.parts card front.rest front.cards))) in
+    omega (arith, core.parts.known)
+
+pub dirty_inside : (heap : Cells) (sets : Pairs) (ring : Ring) (pending : ℕ) → IsCore heap sets ring pending → (card : ℕ) → is_dirty (state_from heap sets.pairs ring) card ≡ true → (card < card_count heap.layout) × (1 ≤ pending)
+dirty_inside heap sets ring pending core card h =
+    let mark : get_or heap.marks card Clean ≡ Dirty = mark_dirty heap sets.pairs ring pending core.parts card h in
+    let inside : card < length heap.marks = is_card heap.marks card (dirty_clean _ mark) in
+    let some = some_member (pending_of heap.marks) card (to_pending heap.marks card (dirty_clean _ mark)) in
+    (omega (arith, core.parts.cells.cards), omega (arith, core.parts.known))
+
+-- a card was read, and its record was refused
+module _ (heap : Cells) (sets : Pairs) (ring : Ring) (pending : ℕ) (settings : Settings) (core : IsCore heap sets ring pending) (heap' : Cells) (sets' : Pairs) (pending' : ℕ)
+    (eh : heap' ≡ with_reads heap heap.layout.slots) (es : sets' ≡ sets) (ep : pending' ≡ pending) where
+  pub read_core : IsCore heap' sets' ring pending'
+  read_core = subst (λ h. IsCore h sets' ring pending') (sym eh) (subst (λ s. IsCore (with_reads heap heap.layout.slots) s ring pending') (sym es) (subst (λ n. IsCore (with_reads heap heap.layout.slots) sets ring n) (sym ep)
+      (record { layouts = core.layouts; parts = read_parts heap sets.pairs ring pending core.parts heap.layout.slots })))
+
+  pub card_read : IsCardRead (machine_from heap sets.pairs ring settings) (machine_from heap' sets'.pairs ring settings)
+  card_read = record { state = (λ i. state_from (eh i) (es i).pairs ring); settings = refl; reads = ap (λ (h : Cells). h.reads) eh }
+
+-- the next dirty card, by the marks and by the state
+module _ (heap : Cells) (sets : Pairs) (ring : Ring) (pending : ℕ) (settings : Settings) (m : Machine) (core : IsCore heap sets ring pending) (view : machine_from heap sets.pairs ring settings ≡ m) (from : ℕ) where
+  abbrev none_dirty : ℕ → Type 0
+  none_dirty card = is_dirty m.state card ≡ false
+
+  stays_clean : (card : ℕ) → get_or heap.marks card Clean ≢ Dirty → none_dirty card
+  stays_clean card ne = ap (λ (m : Machine). is_dirty m.state card) (sym view) ∙ not_dirty heap sets.pairs ring pending core.parts card ne
+
+  pub none_pending_dirty : pending ≡ 0 → (card : ℕ) → from ≤ card → none_dirty card
+  none_pending_dirty none card le = stays_clean card (λ dirty. absurd (omega (arith, some_member (pending_of heap.marks) card (to_pending heap.marks card (dirty_clean _ dirty)), core.parts.known)))
+
+  pub next_none : (o : Option ℕ) → MatchOption o (HasNoDirty heap.marks from) (λ card. IsFirstDirty heap.marks from card) → IfNone o ((card : ℕ) → from ≤ card → none_dirty card)
+  next_none None h = λ card le. stays_clean card (λ dirty. h card le dirty)
+  next_none (Some card) h = tt
+
+  pub next_dirty_is : (o : Option ℕ) → MatchOption o (HasNoDirty heap.marks from) (λ card. IsFirstDirty heap.marks from card) → IfSome o (λ card. is_dirty m.state card ≡ true)
+  next_dirty_is None h = tt
+  next_dirty_is (Some card) h = ap (λ (m : Machine). is_dirty m.state card) (sym view) ∙ is_dirty_mark heap sets.pairs ring pending core.parts card h.dirty
+
+  pub next_first : (o : Option ℕ) → MatchOption o (HasNoDirty heap.marks from) (λ card. IsFirstDirty heap.marks from card) → IfSome o (λ card. (earlier : ℕ) → from ≤ earlier → earlier < card → none_dirty earlier)
+  next_first None h = tt
+  next_first (Some card) h = λ earlier le lt. stays_clean earlier (h.first earlier le lt)

@@ -1,0 +1,176 @@
+-- The two loops of a drain, which count nothing: over the ring, and over the dirty cards.
+use Rattle.std.proofs.Common.{◌≡◌, ◌≢◌, inl, inr, ℕ, zero, suc, ◌<◌, ◌≤◌, ◌+◌, ◌*◌, ◌-◌, ◌^◌, Bool, true, false, List, [], ◌∷◌, ◌++◌, length, drop, Some, refl, sym, ap, ◌∙◌, subst, arith}
+use Rattle.std.specs.Prelude.{◌&&◌, Contains, All, slice_get, not}
+use Rattle.std.specs.FinSet as set
+use Rattle.std.proofs.lemmas.Bool.{cases_lt, and_parts, not-true, true≢false, false_from_ne_true}
+use Rattle.std.proofs.lemmas.List.{append-nil, append_assoc, length_push}
+use Rattle.std.proofs.lemmas.List.Elements.{All-contains, Contains-push, Contains-append_left, Contains-push_cases}
+use Rattle.g1_layout.specs.Sets.{set_of}
+use Rattle.g1_heap.specs.declared.mark.Mark.TheVariants.{Dirty}
+use Rattle.g1_heap.specs.Cells.{reads_after}
+use Rattle.g1_hot.specs.Ring.{Ring, popped}
+use Rattle.g1_core.specs.Table.{Table, AreRefinable, IsPending, refined}
+use Rattle.g1_core.specs.Machine.{State, Machine}
+use Rattle.g1_core.specs.Turns.{is_dirty}
+use Rattle.g1_core.specs.Pause.{with_cards, AreDirtyBelow, Drains, IsCardDrained, IsCardRead, IsDirtyDrained, IsDirtyStopped, IsRingDrained}
+use Rattle.g1_core.proofs.SetLemmas.{in_list, in_set, increasing_push, All_by_member}
+use Rattle.g1_core.proofs.TableLemmas.{refined_pending}
+use Rattle.g1_core.proofs.MarkLemmas.{one_of}
+use Rattle.g1_core.proofs.RefinedLemmas.{refined_none, refined_both, refinable_push}
+use Rattle.g1_core.proofs.TurnLemmas.{rest_distinct, front_apart, pending_but, IsDirty, dirty_from, to_dirty}
+use Rattle.g1_core.proofs.PartLemmas.{IsFront, front_of}
+use Rattle.g1_core.proofs.StoreLemmas.{none_refinable}
+use Rattle.g1_core.proofs.DrainCardLemmas.{reads_both}
+
+-- more cards are refined
+pub drains_none : (m : Machine) → m.reads < 2 ^ 64 → Drains m [] 0 m
+drains_none m h = record { refines = none_refinable m.state.table; table = sym (refined_none m.state.table); ring = refl; settings = refl; reads = sym (reads_zero m.state.table.layout.slots m.reads h) }
+  where
+    reads_zero : (slots reads : ℕ) → reads < 2 ^ 64 → reads_after reads (0 * slots) ≡ reads
+    reads_zero slots reads h = omega arith
+
+-- what is left of refinable cards after the first of them
+rest_refinable : (t : Table) (x : ℕ) (xs : List ℕ) → AreRefinable t (x ∷ xs) → AreRefinable (refined (x ∷ []) t) xs
+rest_refinable t x xs h = record {
+  distinct = rest_distinct x xs h.distinct;
+  pending = All_by_member (IsPending (refined (x ∷ []) t)) xs (λ q c. pending_but t x q (All-contains (IsPending t) (x ∷ xs) q h.pending (suc c.0, omega (arith, c.1), c.2)) (λ e. front_apart x xs h.distinct (subst (Contains xs) e c)));
+}
+
+refinable_both : (t : Table) (xs ys : List ℕ) → AreRefinable t xs → AreRefinable (refined xs t) ys → AreRefinable t (xs ++ ys)
+refinable_both t xs [] h k = subst (AreRefinable t) (sym (append-nil xs)) h
+refinable_both t xs (y ∷ ys) h k =
+    let first : IsPending (refined xs t) y = k.pending 0 y (omega arith) in
+    let rest : AreRefinable (refined (xs ++ y ∷ []) t) ys = subst (λ u. AreRefinable u ys) (refined_both xs (y ∷ []) t) (rest_refinable (refined xs t) y ys k) in
+    subst (AreRefinable t) (append_assoc xs (y ∷ []) ys) (refinable_both t (xs ++ y ∷ []) ys (refinable_push t xs y h first) rest)
+
+pub drains_both : (a b c : Machine) (xs ys : List ℕ) (n m : ℕ) → Drains a xs n b → Drains b ys m c → Drains a (xs ++ ys) (n + m) c
+drains_both a b c xs ys n m h k =
+    let refines : AreRefinable (refined xs a.state.table) ys = subst (λ t. AreRefinable t ys) h.table k.refines in
+    let slots : b.state.table.layout.slots ≡ a.state.table.layout.slots = ap (λ (t : Table). t.layout.slots) h.table in
+    let sum : n * a.state.table.layout.slots + m * a.state.table.layout.slots ≡ (n + m) * a.state.table.layout.slots = omega arith in
+    record {
+      refines = refinable_both a.state.table xs ys h.refines refines;
+      table = k.table ∙ ap (refined ys) h.table ∙ refined_both xs ys a.state.table;
+      ring = k.ring ∙ ap (λ (r : Ring). with_cards r c.state.ring.cards) h.ring;
+      settings = k.settings ∙ h.settings;
+      reads = k.reads ∙ (λ i. reads_after (h.reads i) (m * slots i)) ∙ reads_both a.reads _ _ ∙ ap (reads_after a.reads) sum;
+    }
+
+pub drains_card : (old : Machine) (card : ℕ) (ring : Ring) (new : Machine) → ring ≡ with_cards old.state.ring ring.cards → IsCardDrained old card ring new → Drains old (card ∷ []) 1 new
+drains_card old card ring new same h = record {
+  refines = refinable_push old.state.table [] card (none_refinable old.state.table) (subst (λ t. IsPending t card) (sym (refined_none old.state.table)) h.pending);
+  table = h.table;
+  ring = h.left ∙ same ∙ ap (λ (r : Ring). with_cards old.state.ring r.cards) (sym h.left);
+  settings = h.settings;
+  reads = h.reads ∙ ap (reads_after old.reads) (one_times old.state.table.layout.slots);
+}
+  where
+    one_times : (slots : ℕ) → slots ≡ 1 * slots
+    one_times slots = omega arith
+
+pub drains_read : (old new : Machine) → IsCardRead old new → Drains old [] 1 new
+drains_read old new h = record {
+  refines = none_refinable old.state.table;
+  table = ap (λ (s : State). s.table) h.state ∙ sym (refined_none old.state.table);
+  ring = ap (λ (s : State). s.ring) h.state ∙ ap (λ (s : State). with_cards old.state.ring s.ring.cards) (sym h.state);
+  settings = h.settings;
+  reads = h.reads ∙ ap (reads_after old.reads) (one_times old.state.table.layout.slots);
+}
+  where
+    one_times : (slots : ℕ) → slots ≡ 1 * slots
+    one_times slots = omega arith
+
+-- the loop over the ring
+pub ring_none : (m : Machine) (cards : List ℕ) → m.reads < 2 ^ 64 → cards ≡ [] → IsRingDrained m cards (length cards) m
+ring_none m cards h none = subst (λ (cs : List ℕ). IsRingDrained m cs (length cs) m) (sym none) (record { drains = drains_none m h; order = refl })
+
+pub ring_more : (old mid new : Machine) (cards after : List ℕ) (card : ℕ) → IsRingDrained old cards (length cards) mid → Some card ≡ slice_get mid.state.ring.cards 0 → IsCardDrained mid card (popped mid.state.ring) new
+    → after ≡ cards ++ card ∷ [] → IsRingDrained old after (length after) new
+ring_more old mid new cards after card h first k listed =
+    let front : IsFront mid.state.ring.cards card = front_of mid.state.ring.cards card first in
+    let left : new.state.ring.cards ≡ front.rest = ap (λ (r : Ring). r.cards) k.left ∙ ap (λ (xs : List ℕ). drop 1 xs) front.cards in
+    let more : length cards + 1 ≡ length (cards ++ card ∷ []) = sym (length_push cards card) in
+    subst (λ (cs : List ℕ). IsRingDrained old cs (length cs) new) (sym listed) (record {
+      drains = subst (λ n. Drains old (cards ++ card ∷ []) n new) more (drains_both old mid new cards (card ∷ []) (length cards) 1 h.drains (drains_card mid card (popped mid.state.ring) new refl k));
+      order = h.order ∙ ap (λ (xs : List ℕ). cards ++ xs) front.cards ∙ sym (append_assoc cards (card ∷ []) front.rest) ∙ ap (λ (xs : List ℕ). (cards ++ card ∷ []) ++ xs) (sym left);
+    })
+
+pub ring_stop : (old mid new : Machine) (cards : List ℕ) → IsRingDrained old cards (length cards) mid → IsCardRead mid new → IsRingDrained old cards (length cards + 1) new
+ring_stop old mid new cards h k = record {
+  drains = subst (λ (cs : List ℕ). Drains old cs (length cards + 1) new) (append-nil cards) (drains_both old mid new cards [] (length cards) 1 h.drains (drains_read mid new k));
+  order = h.order ∙ ap (λ (s : State). cards ++ s.ring.cards) (sym k.state);
+}
+
+-- the loop over the dirty cards
+pub dirty_none : (m : Machine) (cards : List ℕ) → m.reads < 2 ^ 64 → IsDirtyDrained m cards cards 0 m
+dirty_none m cards h = record {
+  gone = [];
+  listed = sym (append-nil cards);
+  drains = drains_none m h;
+  ring = refl;
+  below = record { ascending = λ k lt. absurd (omega arith); just = λ q. (λ c. absurd (omega (arith, c.1)), λ p. absurd (omega (arith, p.0))) };
+  others = λ q le. refl;
+}
+
+pub and_true : (b : Bool) → (b && true) ≡ b
+and_true true = refl
+and_true false = refl
+
+-- another card stays dirty or not
+other_dirty : (old new : Machine) (card q : ℕ) → IsCardDrained old card old.state.ring new → q ≢ card → is_dirty new.state q ≡ is_dirty old.state q
+other_dirty old new card q k ne =
+    let absent : set.contains (set_of (card ∷ [])) q ≡ false = false_from_ne_true _ (λ c. ne (one_of q card (in_list (card ∷ []) q c))) in
+    let pending : set.contains new.state.table.pending q ≡ set.contains old.state.table.pending q =
+    ap (λ (t : Table). set.contains t.pending q) k.table ∙ refined_pending (card ∷ []) old.state.table q ∙ ap (λ b. set.contains old.state.table.pending q && not b) absent ∙ and_true _ in
+    (λ i. pending i && not (set.contains (set_of (k.left i).cards) q))
+
+pub dirty_more : (old mid new : Machine) (before cards after : List ℕ) (bound card : ℕ) → IsDirtyDrained old before cards bound mid → is_dirty mid.state card ≡ true → bound ≤ card
+    → ((earlier : ℕ) → bound ≤ earlier → earlier < card → is_dirty mid.state earlier ≡ false) → IsCardDrained mid card mid.state.ring new → after ≡ cards ++ card ∷ [] → IsDirtyDrained old before after (card + 1) new
+dirty_more old mid new before cards after bound card h dirty le first k listed = record {
+  gone = h.gone ++ card ∷ [];
+  listed = listed ∙ ap (λ (cs : List ℕ). cs ++ card ∷ []) h.listed ∙ append_assoc before h.gone (card ∷ []);
+  drains = subst (λ n. Drains old (h.gone ++ card ∷ []) n new) (sym (length_push h.gone card)) (drains_both old mid new h.gone (card ∷ []) (length h.gone) 1 h.drains (drains_card mid card mid.state.ring new refl k));
+  ring = k.left ∙ h.ring;
+  below = record {
+    ascending = increasing_push h.gone card h.below.ascending (All_by_member (λ q. q < card) h.gone (λ q c. let m = (h.below.just q).0 c in omega (arith, m.0)));
+    just = λ q. (
+      λ c. elim (Contains-push_cases h.gone card q c) [
+        | inl was ↦ let m = (h.below.just q).0 was in (omega (arith, m.0), m.1)
+        | inr is ↦ (omega (arith, is), ap (is_dirty old.state) (sym is) ∙ sym (h.others card le) ∙ dirty)
+      ],
+      λ p. elim (cases_lt q bound) [
+        | inl low ↦ Contains-append_left h.gone (card ∷ []) q ((h.below.just q).1 (low, p.1))
+        | inr high ↦ elim (cases_lt q card) [
+          | inl between ↦ absurd (true≢false (sym p.1 ∙ sym (h.others q high) ∙ first q high between))
+          | inr top ↦ let is : q ≡ card = omega (arith, p.0) in subst (Contains (h.gone ++ card ∷ [])) (sym is) (Contains-push h.gone card)
+        ]
+      ],
+    );
+  };
+  others = λ q above. other_dirty mid new card q k (λ e. absurd (omega arith)) ∙ h.others q (omega arith);
+}
+
+pub dirty_stop : (old mid new : Machine) (before cards : List ℕ) (bound : ℕ) → IsDirtyDrained old before cards bound mid → IsCardRead mid new → IsDirtyStopped old before cards new
+dirty_stop old mid new before cards bound h k = record {
+  gone = h.gone;
+  bound = bound;
+  listed = h.listed;
+  drains = subst (λ (cs : List ℕ). Drains old cs (length h.gone + 1) new) (append-nil h.gone) (drains_both old mid new h.gone [] (length h.gone) 1 h.drains (drains_read mid new k));
+  ring = ap (λ (s : State). s.ring) k.state ∙ h.ring;
+  below = h.below;
+}
+
+-- once no card from the bound on is dirty, none is
+pub dirty_all : (old new : Machine) (before after : List ℕ) (bound : ℕ) → IsDirtyDrained old before after bound new → ((card : ℕ) → bound ≤ card → is_dirty new.state card ≡ false) → (card : ℕ) → is_dirty new.state card ≡ false
+dirty_all old new before after bound h none q = elim (cases_lt q bound) [
+  | inr above ↦ none q above
+  | inl low ↦ false_from_ne_true _ (λ dirty.
+      let d : IsDirty new.state q = dirty_from new.state q dirty in
+      let pending : IsPending (refined h.gone old.state.table) q = subst (λ t. IsPending t q) h.drains.table d.pending in
+      let parts = and_parts _ _ (sym (refined_pending h.gone old.state.table q) ∙ pending) in
+      let was : is_dirty old.state q ≡ true = to_dirty old.state q parts.0 (λ c. d.apart (subst (λ (r : Ring). Contains r.cards q) (sym h.ring) c)) in
+      true≢false (sym (in_set h.gone q ((h.below.just q).1 (low, was))) ∙ not-true _ parts.1))
+]
+
+pub none_below : (s : State) → AreDirtyBelow s 0 []
+none_below s = record { ascending = λ k lt. absurd (omega arith); just = λ q. (λ c. absurd (omega (arith, c.1)), λ p. absurd (omega (arith, p.0))) }

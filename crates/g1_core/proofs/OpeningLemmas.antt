@@ -1,0 +1,80 @@
+-- A new core, and a call that changes nothing.
+use Rattle.std.proofs.Common.{◌≡◌, ◌≢◌, inl, inr, ℕ, ◌<◌, ◌≤◌, true, false, List, [], length, get_or, Some, None, refl, sym, ap, ◌∙◌, subst, arith, replicate}
+use Rattle.std.specs.Prelude.{All, IfSome}
+use Rattle.std.specs.List.{IsDistinct}
+use Rattle.std.specs.FinSet as set
+use Rattle.std.specs.Ordering.{nat_cmp}
+use Rattle.std.proofs.lemmas.Bool.{cases_lt, true≢false}
+use Rattle.std.proofs.lemmas.List.{length-replicate, get_or-replicate, get_or_past}
+use Rattle.std.proofs.lemmas.List.Elements.{All-replicate}
+use Rattle.g1_layout.specs.Shape.{Shape, IsShape, slot_count, card_count}
+use Rattle.g1_heap.specs.declared.mark.Mark.{Mark}
+use Rattle.g1_heap.specs.declared.mark.Mark.TheVariants.{Clean}
+use Rattle.g1_heap.specs.Cells.{new_cells, Cells}
+use Rattle.g1_sets.specs.Pairs.{Pairs, new_pairs}
+use Rattle.g1_hot.specs.Ring.{Ring, new_ring}
+use Rattle.g1_core.specs.Table.{Table, IsCovered, AreRefinable, refined, opening}
+use Rattle.g1_core.specs.Settings.{Settings, AreSettings}
+use Rattle.g1_core.specs.Machine.{new_machine, State, IsCore, AreParts, pending_of, state_from, machine_from}
+use Rattle.g1_core.specs.Run.{IsStep}
+use Rattle.g1_core.specs.declared.reply.RefineReply.{RefineReply}
+use Rattle.g1_core.specs.Calls.{refine_entry}
+use Rattle.g1_core.proofs.SetLemmas.{same_cards}
+use Rattle.g1_core.proofs.TableLemmas.{opening_covered}
+use Rattle.g1_core.proofs.MarkLemmas.{held_clean, from_pending}
+use Rattle.g1_core.proofs.RefinedLemmas.{refined_none}
+use Rattle.g1_core.proofs.StoreLemmas.{none_refinable}
+
+-- a call that refines nothing and changes nothing
+pub idle_step : (caller : ℕ) (t : Table) (reply : RefineReply) → reply.refined ≡ [] → IsStep t (refine_entry caller reply) t
+idle_step caller t reply none =
+    let done : refined reply.refined t ≡ t = ap (λ (ks : List ℕ). refined ks t) none ∙ refined_none t in
+    record { allowed = record { numbers = tt; refines = subst (AreRefinable t) (sym none) (none_refinable t); answers = tt }; after = sym done }
+
+-- a new core
+pub all_clean : (n q : ℕ) → ◌≡◌ {A = Mark} (get_or (replicate n Clean) q Clean) Clean
+all_clean n q = elim (cases_lt q n) [
+  | inl below ↦ get_or-replicate n q Clean Clean below
+  | inr past ↦ get_or_past (replicate n Clean) q Clean (omega (arith, length-replicate {A = Mark} n Clean))
+]
+
+pub none_pending : (n : ℕ) → pending_of (replicate n Clean) ≡ set.empty
+none_pending n = same_cards _ _
+    (λ q h. absurd (from_pending (replicate n Clean) q h (all_clean n q)))
+    (λ q h. absurd (true≢false (sym h ∙ set.contains-empty nat_cmp q)))
+
+module _ (l : Shape) (limit capacity : ℕ) (shape : IsShape l) (some : 1 ≤ capacity) where
+  pub new_state : state_from (new_cells l) set.empty (new_ring l limit capacity) ≡ record { table = opening l; ring = new_ring l limit capacity }
+  new_state = λ i. record { table = record { layout = l; refs = replicate (slot_count l) None; pending = none_pending (card_count l) i; recorded = set.empty }; ring = new_ring l limit capacity }
+
+  pub new_parts : AreParts (new_cells l) set.empty (new_ring l limit capacity) 0
+  unfolding IsDistinct
+  new_parts = record {
+    cells = record {
+      shape = shape;
+      slots = length-replicate (slot_count l) None;
+      places = All-replicate (λ o. IfSome o (λ place. place < slot_count l)) (slot_count l) None tt;
+      cards = length-replicate (card_count l) Clean;
+    };
+    counts = length-replicate (card_count l) 0;
+    some = some;
+    distinct = tt;
+    held = λ q. (λ c. absurd (omega (arith, c.1)), λ held. absurd (held_clean _ held (all_clean (card_count l) q)));
+    known = sym (ap set.len (none_pending (card_count l)) ∙ set.len-empty nat_cmp);
+    cover = subst IsCovered (sym (ap (λ (s : State). s.table) new_state)) (opening_covered l);
+  }
+
+module _ (l : Shape) (s : Settings) (limit capacity : ℕ) (heap : Cells) (sets : Pairs) (ring : Ring) (shape : IsShape l) (settings : AreSettings s) (el : limit ≡ s.hot) (ec : capacity ≡ s.ring)
+    (eh : heap ≡ new_cells l) (es : sets ≡ new_pairs l) (er : ring ≡ new_ring l limit capacity) where
+  some : 1 ≤ capacity
+  some = omega (arith, ec, settings.ring_low)
+
+  pub made_core : IsCore heap sets ring 0
+  made_core = subst (λ h. IsCore h sets ring 0) (sym eh) (subst (λ s. IsCore (new_cells l) s ring 0) (sym es) (subst (λ r. IsCore (new_cells l) (new_pairs l) r 0) (sym er)
+      (record { layouts = refl; parts = new_parts l limit capacity shape some })))
+
+  pub made_machine : machine_from heap sets.pairs ring s ≡ new_machine l s
+  made_machine =
+      (λ i. machine_from (eh i) (es i).pairs (er i) s)
+      ∙ (λ i. record { state = new_state l limit capacity shape some i; settings = s; reads = 0 })
+      ∙ (λ i. record { state = record { table = opening l; ring = new_ring l (el i) (ec i) }; settings = s; reads = 0 })

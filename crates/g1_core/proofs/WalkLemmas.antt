@@ -1,0 +1,174 @@
+-- The walk over the slots of some cards that collects the changes of a redirect.
+use Rattle.std.proofs.Common.{◌≡◌, ◌≢◌, inl, inr, ℕ, zero, suc, ◌<◌, ◌≤◌, ◌+◌, ◌-◌, ◌*◌, Bool, true, false, cond, eqb, List, [], ◌∷◌, ◌++◌, length, get_or, Option, Some, None, refl, sym, ap, ◌∙◌, subst, arith, take, map}
+use Rattle.std.specs.Prelude.{Contains, nat_eq, not, fold, slice_get}
+use Rattle.std.specs.List.{IsDistinct, filter_map, cons_option, flat_map, range_with_len}
+use Rattle.std.proofs.lemmas.Bool.{cases_eq, eqb-false, ne_eqb, true≢false, not-true}
+use Rattle.std.proofs.lemmas.List.{append-nil, append_assoc, length-append, take_more}
+use Rattle.std.proofs.lemmas.List.FromFn.{get_or-range_with_len, length-range_with_len}
+use Rattle.std.proofs.lemmas.List.Concat.{flat_map-cons}
+use Rattle.std.proofs.lemmas.Grind.{flat_map-append}
+use Rattle.std.proofs.lemmas.List.Elements.{filter_map-append, Contains-append_cases, Contains-append_left, Contains-append_right}
+use Rattle.g1_layout.specs.Shape.{Shape, IsShape, card_count, card_of, region_of, region_of_card}
+use Rattle.g1_core.specs.declared.redirection.Change.{Change}
+use Rattle.g1_core.specs.Redirect.{change_at, changes_of, slots_of, slots_on, AreGaining}
+use Rattle.std.proofs.lemmas.Option.{get_or_from_slice_get, slice_get_within}
+use Rattle.g1_heap.specs.Cells.{Cells}
+use Rattle.g1_sets.specs.Pairs.{Pairs, AreTied, list_at}
+use Rattle.g1_core.specs.Clearing.{AreRead}
+use Rattle.g1_layout.proofs.ShapeLemmas.{IsInRow, row_of_card, card_of-in_row}
+use Rattle.g1_core.proofs.MarkLemmas.{one_of, itself}
+use Rattle.g1_core.proofs.TurnLemmas.{front_apart, rest_distinct}
+use Rattle.g1_core.proofs.RefinedLemmas.{push_distinct}
+
+pub take_next : (cards : List ℕ) (index card : ℕ) → slice_get cards index ≡ Some card → take (index + 1) cards ≡ take index cards ++ card ∷ []
+take_next cards index card at = take_more cards index card (slice_get_within cards index card at) ∙ ap (λ (c : ℕ). take index cards ++ c ∷ []) (get_or_from_slice_get cards index card card at)
+
+-- the slots of some cards
+pub range_push : (a n : ℕ) → range_with_len a (n + 1) ≡ range_with_len a n ++ (a + n) ∷ []
+range_push a zero = let first : a ≡ a + 0 = omega arith in ap (λ (k : ℕ). k ∷ []) first
+range_push a (suc n) =
+    let next : a + 1 + n ≡ a + suc n = omega arith in
+    let rest : range_with_len (a + 1) (n + 1) ≡ range_with_len (a + 1) n ++ (a + 1 + n) ∷ [] = range_push (a + 1) n in
+    let longer : suc n + 1 ≡ suc (n + 1) = omega arith in
+    ap (λ (m : ℕ). range_with_len a m) longer ∙ ap (λ (ks : List ℕ). a ∷ ks) (rest ∙ ap (λ (k : ℕ). range_with_len (a + 1) n ++ k ∷ []) next)
+
+pub from_range : (a n s : ℕ) → Contains (range_with_len a n) s → (a ≤ s) × (s < a + n)
+from_range a n s (k, lt, e) =
+    let few : length (range_with_len a n) ≡ n = length-range_with_len a n in
+    let at : get_or (range_with_len a n) k s ≡ a + k = get_or-range_with_len a n k s (omega arith) in
+    (omega arith, omega arith)
+
+pub to_range : (a n s : ℕ) → a ≤ s → s < a + n → Contains (range_with_len a n) s
+to_range a n s low high =
+    let few : length (range_with_len a n) ≡ n = length-range_with_len a n in
+    let at : get_or (range_with_len a n) (s - a) s ≡ a + (s - a) = get_or-range_with_len a n (s - a) s (omega arith) in
+    (s - a, omega arith, omega arith)
+
+module _ (l : Shape) (shape : IsShape l) where
+  pub on_card : (card slot : ℕ) → Contains (slots_of l card) slot → card_of l slot ≡ card
+  on_card card slot c = let r = from_range (card * l.slots) l.slots slot c in card_of-in_row l card slot (record { from = r.0; below = r.1 })
+
+  pub its_slot : (card slot : ℕ) → card_of l slot ≡ card → Contains (slots_of l card) slot
+  its_slot card slot on = let r : IsInRow l card slot = row_of_card l card slot shape on in to_range (card * l.slots) l.slots slot r.from r.below
+
+  pub slots_push : (cards : List ℕ) (card : ℕ) → slots_on l (cards ++ card ∷ []) ≡ slots_on l cards ++ slots_of l card
+  slots_push cards card = flat_map-append (slots_of l) cards (card ∷ []) ∙ ap (λ (s : List ℕ). slots_on l cards ++ s) (flat_map-cons (slots_of l) card [] ∙ append-nil (slots_of l card))
+
+  pub to_slots : (cards : List ℕ) (slot : ℕ) → Contains cards (card_of l slot) → Contains (slots_on l cards) slot
+  to_slots [] slot c = absurd (omega (arith, c.1))
+  to_slots (card ∷ cards) slot (zero, lt, e) = subst (λ (ss : List ℕ). Contains ss slot) (sym (flat_map-cons (slots_of l) card cards)) (Contains-append_left (slots_of l card) (slots_on l cards) slot (its_slot card slot (sym e)))
+  to_slots (card ∷ cards) slot (suc k, lt, e) = subst (λ (ss : List ℕ). Contains ss slot) (sym (flat_map-cons (slots_of l) card cards)) (Contains-append_right (slots_of l card) (slots_on l cards) slot (to_slots cards slot (k, omega arith, e)))
+
+  range_distinct : (ys : List ℕ) (a n : ℕ) → IsDistinct nat_eq ys → ((s : ℕ) → a ≤ s → s < a + n → Contains ys s → ⊥) → IsDistinct nat_eq (ys ++ range_with_len a n)
+  range_distinct ys a zero distinct fresh = subst (λ (zs : List ℕ). IsDistinct nat_eq zs) (sym (append-nil ys)) distinct
+  range_distinct ys a (suc n) distinct fresh =
+      let more : suc n ≡ n + 1 = omega arith in
+      let listed : ys ++ range_with_len a (suc n) ≡ (ys ++ range_with_len a n) ++ (a + n) ∷ [] =
+      ap (λ (k : ℕ). ys ++ range_with_len a k) more ∙ ap (λ (zs : List ℕ). ys ++ zs) (range_push a n) ∙ sym (append_assoc ys (range_with_len a n) ((a + n) ∷ [])) in
+      subst (λ (zs : List ℕ). IsDistinct nat_eq zs) (sym listed)
+      (push_distinct (ys ++ range_with_len a n) (a + n) (range_distinct ys a n distinct (λ s low high c. fresh s low (omega arith) c)) (λ c. elim (Contains-append_cases ys (range_with_len a n) (a + n) c) [
+        | inl old ↦ fresh (a + n) (omega arith) (omega arith) old
+        | inr new ↦ let r = from_range a n (a + n) new in absurd (omega (arith, r.1))
+      ]))
+
+  distinct_from : (ys cards : List ℕ) → IsDistinct nat_eq ys → IsDistinct nat_eq cards → ((slot : ℕ) → Contains ys slot → Contains cards (card_of l slot) → ⊥) → IsDistinct nat_eq (ys ++ slots_on l cards)
+  distinct_from ys [] distinct cards apart = subst (λ (zs : List ℕ). IsDistinct nat_eq zs) (sym (append-nil ys)) distinct
+  distinct_from ys (card ∷ cards) distinct once apart =
+      let listed : ys ++ slots_on l (card ∷ cards) ≡ (ys ++ slots_of l card) ++ slots_on l cards =
+      ap (λ (zs : List ℕ). ys ++ zs) (flat_map-cons (slots_of l) card cards) ∙ sym (append_assoc ys (slots_of l card) (slots_on l cards)) in
+      let here : IsDistinct nat_eq (ys ++ slots_of l card) = range_distinct ys (card * l.slots) l.slots distinct (λ s low high c. apart s c (0, omega arith, sym (card_of-in_row l card s (record { from = low; below = high })))) in
+      subst (λ (zs : List ℕ). IsDistinct nat_eq zs) (sym listed)
+      (distinct_from (ys ++ slots_of l card) cards here (rest_distinct card cards once) (λ slot c later. elim (Contains-append_cases ys (slots_of l card) slot c) [
+        | inl old ↦ apart slot old (suc later.0, omega (arith, later.1), later.2)
+        | inr new ↦ front_apart card cards once (subst (λ (k : ℕ). Contains cards k) (on_card card slot new) later)
+      ]))
+
+  pub distinct_slots : (cards : List ℕ) → IsDistinct nat_eq cards → IsDistinct nat_eq (slots_on l cards)
+  unfolding IsDistinct
+  distinct_slots cards once = distinct_from [] cards tt once (λ slot c later. absurd (omega (arith, c.1)))
+
+-- the next slot of a walk, and the next card
+module _ (l : Shape) (refs : List (Option ℕ)) (from to : ℕ) where
+  pub changes_both : (xs ys : List ℕ) → changes_of l refs from to (xs ++ ys) ≡ changes_of l refs from to xs ++ changes_of l refs from to ys
+  changes_both xs ys = filter_map-append (λ slot. change_at l from to slot (get_or refs slot None)) xs ys
+
+  one_change : (slot : ℕ) (o : Option Change) → o ≡ change_at l from to slot (get_or refs slot None) → changes_of l refs from to (slot ∷ []) ≡ cons_option o []
+  one_change slot o is = ap (λ (o : Option Change). cons_option o []) (sym is)
+
+  pub changes_next : (first number slot : ℕ) (o : Option Change) (before xs xs' : List Change) → first ≤ number → slot ≡ number → o ≡ change_at l from to slot (get_or refs slot None)
+      → xs ≡ before ++ changes_of l refs from to (range_with_len first (number - first)) → xs' ≡ xs ++ cons_option o [] → xs' ≡ before ++ changes_of l refs from to (range_with_len first (number + 1 - first))
+  changes_next first number slot o before xs xs' low at is listed more =
+      let many : number + 1 - first ≡ number - first + 1 = omega arith in
+      let last : first + (number - first) ≡ slot = omega arith in
+      let range : range_with_len first (number + 1 - first) ≡ range_with_len first (number - first) ++ slot ∷ [] = ap (λ (n : ℕ). range_with_len first n) many ∙ range_push first (number - first) ∙ ap (λ (k : ℕ). range_with_len first (number - first) ++ k ∷ []) last in
+      more ∙ ap (λ (ys : List Change). ys ++ cons_option o []) listed
+      ∙ append_assoc before (changes_of l refs from to (range_with_len first (number - first))) (cons_option o [])
+      ∙ ap (λ (ys : List Change). before ++ ys) (ap (λ (ys : List Change). changes_of l refs from to (range_with_len first (number - first)) ++ ys) (sym (one_change slot o is)) ∙ sym (changes_both (range_with_len first (number - first)) (slot ∷ [])) ∙ ap (λ (ks : List ℕ). changes_of l refs from to ks) (sym range))
+
+  -- one more card, which gains a reference or not
+  pub gaining_push : (cards gaining : List ℕ) (card : ℕ) → AreGaining l refs from to cards gaining → 1 ≤ length (changes_of l refs from to (slots_of l card)) → region_of_card l card ≢ to → AreGaining l refs from to (cards ++ card ∷ []) (gaining ++ card ∷ [])
+  gaining_push cards gaining card h some outside = λ q. (
+    λ c. elim (Contains-append_cases gaining (card ∷ []) q c) [
+      | inl old ↦ let g = (h q).0 old in (Contains-append_left cards (card ∷ []) q g.0, g.1, g.2)
+      | inr new ↦ subst (λ (k : ℕ). Contains (cards ++ card ∷ []) k × (1 ≤ length (changes_of l refs from to (slots_of l k))) × (region_of_card l k ≢ to)) (sym (one_of q card new)) (Contains-append_right cards (card ∷ []) card (itself card card refl), some, outside)
+    ],
+    λ g. elim (Contains-append_cases cards (card ∷ []) q g.0) [
+      | inl old ↦ Contains-append_left gaining (card ∷ []) q ((h q).1 (old, g.1, g.2))
+      | inr new ↦ Contains-append_right gaining (card ∷ []) q new
+    ],
+  )
+
+  pub gaining_skip : (cards gaining : List ℕ) (card : ℕ) → AreGaining l refs from to cards gaining → (1 ≤ length (changes_of l refs from to (slots_of l card)) → region_of_card l card ≢ to → ⊥) → AreGaining l refs from to (cards ++ card ∷ []) gaining
+  gaining_skip cards gaining card h never = λ q. (
+    λ c. let g = (h q).0 c in (Contains-append_left cards (card ∷ []) q g.0, g.1, g.2),
+    λ g. elim (Contains-append_cases cards (card ∷ []) q g.0) [
+      | inl old ↦ (h q).1 (old, g.1, g.2)
+      | inr new ↦ let both : (1 ≤ length (changes_of l refs from to (slots_of l card))) × (region_of_card l card ≢ to) = subst (λ (k : ℕ). (1 ≤ length (changes_of l refs from to (slots_of l k))) × (region_of_card l k ≢ to)) (one_of q card new) (g.1, g.2) in absurd (never both.0 both.1)
+    ],
+  )
+
+-- the changes of a card, from a heap that was read
+pub read_change : (heap now : Cells) (most from to slot : ℕ) (o : Option Change) → AreRead heap now most → o ≡ change_at now.layout from to slot (get_or now.refs slot None) → o ≡ change_at heap.layout from to slot (get_or heap.refs slot None)
+read_change heap now most from to slot o read is = is ∙ ap (λ (h : Cells). change_at h.layout from to slot (get_or h.refs slot None)) read.cells
+
+pub references_next : (heap now : Cells) (most from to : ℕ) (cards : List ℕ) (index card : ℕ) (xs xs' : List Change) → IsShape heap.layout → AreRead heap now most → slice_get cards index ≡ Some card
+    → xs ≡ changes_of heap.layout heap.refs from to (slots_on heap.layout (take index cards)) → xs' ≡ xs ++ changes_of now.layout now.refs from to (slots_of now.layout card)
+    → xs' ≡ changes_of heap.layout heap.refs from to (slots_on heap.layout (take (index + 1) cards))
+references_next heap now most from to cards index card xs xs' shape read at before more =
+    let next : take (index + 1) cards ≡ take index cards ++ card ∷ [] = take_next cards index card at in
+    more ∙ ap (λ (h : Cells). xs ++ changes_of h.layout h.refs from to (slots_of h.layout card)) read.cells
+    ∙ ap (λ (ys : List Change). ys ++ changes_of heap.layout heap.refs from to (slots_of heap.layout card)) before
+    ∙ sym (changes_both heap.layout heap.refs from to (slots_on heap.layout (take index cards)) (slots_of heap.layout card))
+    ∙ ap (λ (ks : List ℕ). changes_of heap.layout heap.refs from to ks) (sym (slots_push heap.layout shape (take index cards) card))
+    ∙ ap (λ (cs : List ℕ). changes_of heap.layout heap.refs from to (slots_on heap.layout cs)) (sym next)
+
+-- how many changes a card has
+pub card_changes : (heap now : Cells) (most from to card before after : ℕ) (xs xs' : List Change) → AreRead heap now most → before ≡ length xs → after ≡ length xs' → xs' ≡ xs ++ changes_of now.layout now.refs from to (slots_of now.layout card)
+    → after ≡ before + length (changes_of heap.layout heap.refs from to (slots_of heap.layout card))
+card_changes heap now most from to card before after xs xs' read first second more =
+    let same : length xs' ≡ length xs + length (changes_of heap.layout heap.refs from to (slots_of heap.layout card)) =
+    ap (λ (ys : List Change). length ys) more ∙ length-append xs (changes_of now.layout now.refs from to (slots_of now.layout card)) ∙ ap (λ (h : Cells). length xs + length (changes_of h.layout h.refs from to (slots_of h.layout card))) read.cells in
+    omega arith
+
+module _ (heap : Cells) (from to : ℕ) (cards : List ℕ) (index card : ℕ) (at : slice_get cards index ≡ Some card) (gaining gaining' : List ℕ) (before : AreGaining heap.layout heap.refs from to (take index cards) gaining) where
+  pub gains_next : 1 ≤ length (changes_of heap.layout heap.refs from to (slots_of heap.layout card)) → region_of_card heap.layout card ≢ to → gaining' ≡ gaining ++ card ∷ [] → AreGaining heap.layout heap.refs from to (take (index + 1) cards) gaining'
+  gains_next some outside listed =
+      subst (λ (gs : List ℕ). AreGaining heap.layout heap.refs from to (take (index + 1) cards) gs) (sym listed)
+      (subst (λ (cs : List ℕ). AreGaining heap.layout heap.refs from to cs (gaining ++ card ∷ [])) (sym (take_next cards index card at)) (gaining_push heap.layout heap.refs from to (take index cards) gaining card before some outside))
+
+  pub gains_none : (1 ≤ length (changes_of heap.layout heap.refs from to (slots_of heap.layout card)) → region_of_card heap.layout card ≢ to → ⊥) → gaining' ≡ gaining → AreGaining heap.layout heap.refs from to (take (index + 1) cards) gaining'
+  gains_none never listed =
+      subst (λ (gs : List ℕ). AreGaining heap.layout heap.refs from to (take (index + 1) cards) gs) (sym listed)
+      (subst (λ (cs : List ℕ). AreGaining heap.layout heap.refs from to cs gaining) (sym (take_next cards index card at)) (gaining_skip heap.layout heap.refs from to (take index cards) gaining card before never))
+
+-- where a card lies, by the test of the code, and that it is one of the heap
+pub lies_outside : (l m : Shape) (card own to : ℕ) (test : Bool) → test ≡ not (eqb own to) → test ≡ true → own ≡ region_of_card l card → l ≡ m → region_of_card m card ≢ to
+lies_outside l m card own to test is holds region same e = eqb-false own to (not-true _ (sym is ∙ holds)) (region ∙ ap (λ (l : Shape). region_of_card l card) same ∙ e)
+
+pub lies_inside : (l m : Shape) (card own to : ℕ) (test : Bool) → test ≡ not (eqb own to) → test ≡ false → own ≡ region_of_card l card → l ≡ m → region_of_card m card ≡ to
+lies_inside l m card own to test is fails region same = sym (region ∙ ap (λ (l : Shape). region_of_card l card) same) ∙ elim (cases_eq own to) [ inl e ↦ e | inr ne ↦ absurd (true≢false (sym (ap not (ne_eqb own to ne)) ∙ sym is ∙ fails)) ]
+
+pub member_below : (sets : Pairs) (l : Shape) (region index card : ℕ) → AreTied sets → sets.layout ≡ l → slice_get (list_at sets.lists region) index ≡ Some card → card < card_count l
+member_below sets l region index card tied same at =
+    let here : get_or (list_at sets.lists region) index card ≡ card = get_or_from_slice_get (list_at sets.lists region) index card card at in
+    subst (λ (l : Shape). card < card_count l) same (subst (λ (c : ℕ). c < card_count sets.layout) here (tied.lists.below region index card (slice_get_within (list_at sets.lists region) index card at)))

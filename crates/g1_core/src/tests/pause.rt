@@ -1,0 +1,80 @@
+//! The barrier, the pause and the questions.
+use super::Step::{Drain, Members, Pending, Refine, Status, Store, Target};
+use super::play;
+use crate::reply::Fill::{Full, No};
+use g1_layout::Kind::{AlreadyDirty, Logged, Null, SameRegion};
+use std::test::Fail;
+
+#[test]
+fn the_barrier_has_four_kinds_of_store(rt: HostRuntime) -> Result<(), Fail> {
+    let steps = [
+        Store(0, None, Null, No),
+        Store(0, Some(5), SameRegion, No),
+        Status(0, 0),
+        Store(0, Some(8), Logged, No),
+        Store(1, Some(16), AlreadyDirty, No),
+        Status(1, 0),
+        Store(31, Some(0), Logged, Full),
+        Status(2, 0),
+    ];
+    play(&rt, rt.alloc(), 4, 4, &steps)
+}
+
+// Two stores across regions on one card: the drain reads that card's slots once.
+#[test]
+fn a_drain_answers_the_set_and_reads_each_card_once(rt: HostRuntime) -> Result<(), Fail> {
+    let steps = [
+        Store(0, Some(8), Logged, No),
+        Store(1, Some(16), AlreadyDirty, No),
+        Drain(1, &[0], &[0]),
+        Status(0, 2),
+        Drain(2, &[0], &[]),
+    ];
+    play(&rt, rt.alloc(), 4, 4, &steps)
+}
+
+#[test]
+fn questions_are_answered(rt: HostRuntime) -> Result<(), Fail> {
+    let steps = [
+        Store(12, Some(24), Logged, No),
+        Store(4, Some(24), Logged, Full),
+        Pending(3, true),
+        Pending(1, true),
+        Pending(0, false),
+        Target(12, Some(24)),
+        Target(13, None),
+        Members(3, &[]),
+        Drain(3, &[1, 3], &[1, 3]),
+        Members(3, &[1, 3]),
+        Pending(3, false),
+    ];
+    play(&rt, rt.alloc(), 4, 4, &steps)
+}
+
+#[test]
+fn the_ring_is_drained_before_the_dirty_cards(rt: HostRuntime) -> Result<(), Fail> {
+    let steps = [
+        Store(20, Some(0), Logged, No),
+        Store(8, Some(0), Logged, Full),
+        Refine(&[5, 2], &[], 2, 0),
+        Store(28, Some(0), Logged, No),
+        Store(12, Some(0), Logged, Full),
+        Drain(0, &[2, 3, 5, 7], &[5, 2, 3, 7]),
+        Status(0, 4),
+    ];
+    play(&rt, rt.alloc(), 0, 4, &steps)
+}
+
+// The second refinement finds the card cold, as the first did.
+#[test]
+fn a_whole_drain_makes_hot_cards_cold(rt: HostRuntime) -> Result<(), Fail> {
+    let steps = [
+        Store(0, Some(8), Logged, No),
+        Refine(&[0], &[0], 0, 0),
+        Drain(1, &[0], &[]),
+        Store(0, Some(8), Logged, Full),
+        Refine(&[0], &[0], 0, 0),
+        Drain(1, &[0], &[]),
+    ];
+    play(&rt, rt.alloc(), 1, 4, &steps)
+}
