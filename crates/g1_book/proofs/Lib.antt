@@ -1,2 +1,4 @@
 pub mod HistoryLemmas
 pub mod RoomLemmas
+pub mod RoundLemmas
+pub mod StepLemmas

@@ -1,5 +1,5 @@
 -- How long the lists of a reply can be.
-use Rattle.std.proofs.Common.{◌≡◌, inl, inr, ℕ, zero, suc, ◌<◌, ◌≤◌, ◌+◌, ◌*◌, List, [], ◌∷◌, ◌++◌, length, get_or, take, Option, Some, None, refl, sym, ap, ◌∙◌, subst, arith}
+use Rattle.std.proofs.Common.{◌≡◌, inl, inr, Bool, true, false, if◌then◌else◌, ℕ, zero, suc, ◌<◌, ◌≤◌, ◌+◌, List, [], ◌∷◌, length, get_or, take, Option, Some, None, refl, sym, ap, ◌∙◌, subst, arith}
 use Rattle.std.specs.Prelude.{Contains, All, fold}
 use Rattle.std.specs.List.Sorted.{IsStrictlyIncreasing}
 use Rattle.std.specs.List.{enumerate_from}
@@ -13,10 +13,10 @@ use Rattle.g1_layout.specs.Shape.{Shape, IsShape, slot_count, card_count, card_o
 use Rattle.g1_hot.specs.declared.offer.Offer.{Offer}
 use Rattle.g1_hot.specs.declared.offer.Offer.TheVariants.{Cold, Kept, Out}
 use Rattle.g1_core.specs.declared.reply.RefineReply.{RefineReply}
-use Rattle.g1_core.specs.Table.{Table, opening, IsPending, AreRefinable, refined, moved, moved_target}
+use Rattle.g1_core.specs.Table.{Table, opening, IsPending, AreRefinable, refined, moved_target}
 use Rattle.g1_core.specs.Run.{Call, Store, Clear, Redirect, Reply, Cleared, Moved, Entry, written, settled, table_after, table_of, HeldSince, IsExact}
 use Rattle.g1_core.specs.Machine.{State}
-use Rattle.g1_core.specs.Turns.{Round, refined_by, offer_to, turn, turns, start}
+use Rattle.g1_core.specs.Turns.{Round, refined_by, hot_by, skipped_by, offer_to, turn, turns, start}
 use Rattle.g1_core.specs.Refinement.{IsTurned, IsRefined}
 use Rattle.g1_core.specs.declared.reply.Drained.{Drained}
 use Rattle.g1_core.specs.declared.reply.Drained.TheVariants.{Cards, Short}
@@ -54,6 +54,11 @@ turns_few (card ∷ cards) r =
     let rest = turns_few cards (turn r card) in
     omega arith
 
+taken_few : (n : ℕ) (xs : List ℕ) → length (take n xs) ≤ length xs
+taken_few zero xs = omega arith
+taken_few (suc n) [] = omega arith
+taken_few (suc n) (x ∷ xs) = omega (arith, taken_few n xs)
+
 -- no more cards are refined than the buffer has
 pub turned_few : (old : State) (cards : List ℕ) (reply : RefineReply) (new : State) → IsTurned old cards reply new → length reply.refined ≤ length cards
 turned_few old cards reply new h =
@@ -61,11 +66,33 @@ turned_few old cards reply new h =
     let few = turns_few (take h.many cards) (start old) in
     let some : length (take h.many cards) ≤ length cards = taken_few h.many cards in
     omega arith
-  where
-    taken_few : (n : ℕ) (xs : List ℕ) → length (take n xs) ≤ length xs
-    taken_few zero xs = omega arith
-    taken_few (suc n) [] = omega arith
-    taken_few (suc n) (x ∷ xs) = omega (arith, taken_few n xs)
+
+-- nor does a turn count more than one hot card, or skip more than one
+counts_one : (o : Option Offer) → (hot_by o ≤ 1) × (skipped_by o ≤ 1)
+counts_one None = (omega arith, omega arith)
+counts_one (Some Cold) = (omega arith, omega arith)
+counts_one (Some Kept) = (omega arith, omega arith)
+counts_one (Some (Out oldest)) = (omega arith, omega arith)
+
+turns_count_few : (cards : List ℕ) (r : Round) → ((turns r cards).hot ≤ r.hot + length cards) × ((turns r cards).skipped ≤ r.skipped + length cards)
+turns_count_few [] r = (omega arith, omega arith)
+turns_count_few (card ∷ cards) r =
+    let one = counts_one (offer_to r.state card) in
+    let rest = turns_count_few cards (turn r card) in
+    (omega arith, omega arith)
+
+none_or_one : (short : Bool) (n : ℕ) → n ≡ (if short then 0 else 1) → n ≤ 1
+none_or_one true n is = omega arith
+none_or_one false n is = omega arith
+
+-- nor are more hot or skipped, and at most one buffer is done
+turned_counts : (old : State) (cards : List ℕ) (reply : RefineReply) (new : State) → IsTurned old cards reply new → (reply.taken ≤ 1) × (reply.hot ≤ length cards) × (reply.skipped ≤ length cards)
+turned_counts old cards reply new h =
+    let hot : reply.hot ≡ (turns (start old) (take h.many cards)).hot = ap (λ (r : Round). r.hot) h.turned in
+    let skipped : reply.skipped ≡ (turns (start old) (take h.many cards)).skipped = ap (λ (r : Round). r.skipped) h.turned in
+    let few = turns_count_few (take h.many cards) (start old) in
+    let some : length (take h.many cards) ≤ length cards = taken_few h.many cards in
+    (none_or_one reply.short reply.taken h.taken, omega arith, omega arith)
 
 -- an ascending list of numbers below a bound is no longer than the bound
 at_least : (xs : List ℕ) → IsStrictlyIncreasing xs → (k : ℕ) → k < length xs → k ≤ get_or xs k 0
@@ -112,6 +139,10 @@ exact_few l shape entries region cards h = increasing_few cards (card_count l) h
 pub refinement_few : (old : State) (buffer : Option (List ℕ)) (reply : RefineReply) (new : State) → IsRefined old buffer reply new → length reply.refined ≤ cards_in buffer
 refinement_few old None reply new h = let none : length reply.refined ≡ 0 = ap length h.0.refined in omega arith
 refinement_few old (Some cards) reply new h = turned_few old cards reply new h
+
+pub refinement_counts : (old : State) (buffer : Option (List ℕ)) (reply : RefineReply) (new : State) → IsRefined old buffer reply new → (reply.taken ≤ 1) × (reply.hot ≤ cards_in buffer) × (reply.skipped ≤ cards_in buffer)
+refinement_counts old None reply new h = (omega (arith, h.0.taken), omega (arith, h.0.hot), omega (arith, h.0.skipped))
+refinement_counts old (Some cards) reply new h = turned_counts old cards reply new h
 
 pub drained_few : (h : History) → IsShape (layout_in h) → (region : ℕ) (answer : Drained) → AnswersExactly h region answer → length (drain_cards answer) ≤ card_count (layout_in h)
 drained_few h shape region (Cards cards done) exact = exact_few (layout_in h) shape h.entries region cards exact

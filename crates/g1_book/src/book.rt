@@ -76,6 +76,25 @@ impl Book {
         self.core.layout()
     }
 
+    /// How many of the callers may store: those whose number is below it. Constant time.
+    pub fn mutators(&self) -> u32
+        ensures { result ≡ self.now.mutators }
+    {
+        self.mutators
+    }
+
+    /// The settings of the core. Constant time.
+    pub fn config(&self) -> Config
+        ensures { result ≡ self.now.machine.settings }
+    {
+        self.core.config()
+    }
+
+    /// The allocator that the book was opened with.
+    pub fn allocator(&self) -> Global {
+        self.alloc
+    }
+
     /// The calls so far, oldest first: a permitted run of the plain table, from the opening table to the core's. Where a
     /// slot refers into another region, its card is pending or recorded for that region. Constant time.
     pub fn entries(&self) -> &[Entry]

@@ -6,7 +6,10 @@
 //! pending cards, recorded pairs) that ends in the core's own table, and what a whole drain answers is exact in the
 //! words of references and history alone (docs/PROFILE.md, The history).
 //!
-//! No call waits for anybody.
+//! No call of a book waits for anybody.
+//!
+//! A [`CallerEnds`] makes the steps of one caller over a book that is lent: its log is filled by stores, completed buffers
+//! go through a line, and refinement takes them from there (docs/PROFILE.md, The steps of a caller).
 #![tactic(auto)]
 
 mod book;
@@ -17,8 +20,12 @@ mod redirection;
 mod refinement;
 mod refusal;
 mod room;
+mod steps;
 mod store;
+#[cfg(test)]
+mod tests;
 
 pub use book::Book;
 pub use entry::{Call, Entry, Reply};
 pub use refusal::Refusal;
+pub use steps::{CallerEnds, FlushReply};

@@ -1,5 +1,5 @@
 //! Refinements, entered.
-ghost use Rattle.std.specs.Prelude.{◌≡◌, ◌↔◌, length, IfOk, OnErr, option_map};
+ghost use Rattle.std.specs.Prelude.{◌≡◌, ◌≤◌, ◌↔◌, length, IfOk, OnErr, option_map};
 ghost use Rattle.g1_book.specs.History.{cards_in};
 
 use crate::book::Book;
@@ -23,6 +23,7 @@ impl Book {
     pub fn refine(&mut self, caller: u32, buffer: Option<&Buffer>) -> Result<RefineReply, Refusal>
         ensures entered { IfOk result (λ reply. IsEntered self.old (refine_entry caller reply) self.new) }
         ensures refined { IfOk result (λ reply. IsRefined self.old.machine.state (option_map (λ b. b.now) buffer.entry) reply self.new.machine.state) }
+        ensures counts { IfOk result (λ reply. (reply.taken ≤ 1) × (length reply.refined ≤ 256) × (reply.hot ≤ 256) × (reply.skipped ≤ 256)) }
         ensures full { (result ≡ Err Refusal.BookFull) ↔ (length self.old.entries ≡ self.old.limit) }
         ensures err { OnErr result (IsUnchanged self.old self.new) }
     {
@@ -49,7 +50,8 @@ impl Book {
 
 /// How many cards a refinement of the buffer refines at most.
 fn cards_in(buffer: Option<&Buffer>) -> usize
-    ensures { result ≡ cards_in (option_map (λ b. b.now) buffer.entry) }
+    ensures cards { result ≡ cards_in (option_map (λ b. b.now) buffer.entry) }
+    ensures few { result ≤ 256 }
 {
     match buffer {
         Some(lent) => lent.cards().len(),

@@ -1,7 +1,5 @@
-use Rattle.std.proofs.Common.{◌≡◌, [], ◌∷◌, ◌++◌, ◌∙◌, refl, ap}
-use Rattle.g1_core.specs.Machine.{Machine}
+use Rattle.std.proofs.Common.{◌≡◌, [], ◌∷◌, ◌++◌, ◌∙◌, refl}
 use Rattle.g1_core.specs.Run as run
-use Rattle.g1_book.specs.Entries.{reply_of}
 use Rattle.g1_book.proofs.HistoryLemmas.{history_entered, call_entered}
 use Rattle.g1_core.specs.Calls.{status_entry}
 use Rattle.g1_book.proofs.book.Book.status.Goals as goal

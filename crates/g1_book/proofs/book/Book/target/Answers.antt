@@ -1,4 +1,4 @@
-use Rattle.std.proofs.Common.{◌≡◌, [], ◌∷◌, ◌++◌, ◌∙◌, refl, ap}
+use Rattle.std.proofs.Common.{◌≡◌, [], ◌∷◌, ◌++◌, ◌∙◌, ap}
 use Rattle.g1_core.specs.Machine.{Machine}
 use Rattle.g1_core.specs.Run as run
 use Rattle.g1_book.specs.Entries.{reply_of}

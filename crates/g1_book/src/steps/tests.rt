@@ -1,0 +1,234 @@
+//! What no clause says: that a line takes what is put and gives it back, and what the steps answer, worked by hand.
+//!
+//! The heap has 4 regions of 2 cards of 4 slots: card `c` has the slots from `4 * c` on, region `r` those from `8 * r` on.
+ghost use Rattle.std.specs.Prelude.{◌≤◌, All};
+ghost use Rattle.g1_log.specs.Ends.{IsSenderOf, IsTakerOf, capacity_of};
+
+use crate::Refusal;
+use crate::book::Book;
+use crate::entry::Call;
+use crate::steps::{CallerEnds, FlushReply};
+use crate::tests::{Want, assert_entries, assert_set, book, has_cards, region, slot, store_call};
+use g1_core::{Fill, RefineReply, StoreReply};
+use g1_layout::Kind;
+use g1_log::{Line, Log, Sender, Taker};
+use std::process::Abort;
+use std::sync::Wait;
+use std::test::Fail;
+
+mod growths;
+mod rounds;
+
+/// A caller with an empty log that `size` cards fill, and with one of the senders and one of the takers.
+fn caller<'a>(
+    rt: &impl Abort,
+    line: &'a Line,
+    senders: &mut Vec<Sender>,
+    takers: &mut Vec<Taker>,
+    size: usize,
+) -> CallerEnds<'a>
+    requires senders { All (IsSenderOf line.now) senders.old.items }
+    requires takers { All (IsTakerOf line.now) takers.old.items }
+    requires line { capacity_of line.now ≤ 1024 }
+    requires low { 1 ≤ size }
+    requires high { size ≤ 256 }
+    ensures senders { All (IsSenderOf line.now) senders.new.items }
+    ensures takers { All (IsTakerOf line.now) takers.new.items }
+{
+    let sender = senders.pop().expect(rt, "a sender for each caller");
+    let taker = takers.pop().expect(rt, "a taker for each caller");
+    CallerEnds::new(line, Log::new(size), sender, taker)
+}
+
+/// Stores a reference to the place.
+fn store<R: Abort + Wait>(
+    rt: &R,
+    book: &mut Book,
+    ends: &mut CallerEnds<'_>,
+    number: u32,
+    from: u32,
+    to: u32,
+) -> Result<StoreReply, Refusal> {
+    assert!(rt; number < book.mutators());
+    let from = slot(rt, book, from);
+    let to = slot(rt, book, to);
+    ends.store(rt, book, number, from, Some(to))
+}
+
+/// Checks a logged store: what became of its log, and which cards a help refined. It is not short.
+fn assert_stored(rt: &impl Abort, reply: &StoreReply, fill: Fill, refined: &[u32]) {
+    assert_eq!(rt; (reply.kind, reply.fill), (Kind::Logged, fill));
+    assert!(rt; has_cards(&reply.refined, refined));
+    assert!(rt; !reply.short);
+}
+
+fn assert_flushed(rt: &impl Abort, reply: &FlushReply, cards: u32, fill: Fill, refined: &[u32]) {
+    assert_eq!(rt; (reply.cards, reply.fill), (cards, fill));
+    assert!(rt; has_cards(&reply.refined, refined));
+    assert!(rt; !reply.short);
+}
+
+/// Checks a whole refinement: buffers taken, cards refined, skipped, and buffers left. None is hot.
+fn assert_refined(
+    rt: &impl Abort,
+    reply: &RefineReply,
+    taken: u32,
+    refined: &[u32],
+    skipped: u32,
+    left: u32,
+) {
+    assert_eq!(rt;
+        (reply.taken, reply.hot, reply.skipped),
+        (taken, 0, skipped)
+    );
+    assert!(rt; has_cards(&reply.refined, refined), "{:?}", reply.refined);
+    assert_eq!(rt; reply.left, left);
+    assert!(rt; !reply.short);
+}
+
+/// Checks which cards a region's remembered set has as it is recorded.
+fn assert_members(rt: &impl Abort, book: &mut Book, of: u32, set: &[u32]) -> Result<(), Refusal> {
+    let of = region(rt, book, of);
+    assert!(rt; has_cards(&book.members(0, of)?, set));
+    Ok(())
+}
+
+/// Into a line of one buffer a second log does not go: its mutator refines it, as a call of its own.
+#[test]
+fn a_full_line_makes_the_mutator_help(rt: HostRuntime) -> Result<(), Fail> {
+    let mut book = book(&rt, rt.alloc(), 1, 1, 20)?;
+    let (line, mut senders, mut takers) = Line::new(rt.alloc(), 1, 1, 1)?;
+    let mut ends = caller(&rt, &line, &mut senders, &mut takers, 1);
+    assert_stored(
+        &rt,
+        &store(&rt, &mut book, &mut ends, 0, 0, 8)?,
+        Fill::Full,
+        &[],
+    );
+    assert_stored(
+        &rt,
+        &store(&rt, &mut book, &mut ends, 0, 4, 8)?,
+        Fill::Helped,
+        &[1],
+    );
+    let wanted = [
+        (
+            0,
+            store_call(&rt, &book, 0, Some(8)),
+            Want::Stored(Kind::Logged, Fill::Full),
+            [].as_slice(),
+        ),
+        (
+            0,
+            store_call(&rt, &book, 4, Some(8)),
+            Want::Stored(Kind::Logged, Fill::Full),
+            [].as_slice(),
+        ),
+        (0, Call::Refine, Want::Refined(1, 0, 0), [1].as_slice()),
+    ];
+    assert_entries(&rt, &book, &wanted);
+    assert_members(&rt, &mut book, 1, &[1])?;
+    assert_set(&rt, &mut book, 1, &[0, 1])?;
+    Ok(())
+}
+
+/// The mutator's own log is refined, not the buffer in the line.
+#[test]
+fn a_help_refines_the_log_that_was_filled(rt: HostRuntime) -> Result<(), Fail> {
+    let mut book = book(&rt, rt.alloc(), 2, 1, 20)?;
+    let (line, mut senders, mut takers) = Line::new(rt.alloc(), 1, 1, 1)?;
+    let mut ends = caller(&rt, &line, &mut senders, &mut takers, 2);
+    assert_stored(
+        &rt,
+        &store(&rt, &mut book, &mut ends, 0, 0, 8)?,
+        Fill::No,
+        &[],
+    );
+    assert_stored(
+        &rt,
+        &store(&rt, &mut book, &mut ends, 0, 4, 8)?,
+        Fill::Full,
+        &[],
+    );
+    assert_stored(
+        &rt,
+        &store(&rt, &mut book, &mut ends, 0, 8, 16)?,
+        Fill::No,
+        &[],
+    );
+    assert_stored(
+        &rt,
+        &store(&rt, &mut book, &mut ends, 0, 12, 16)?,
+        Fill::Helped,
+        &[2, 3],
+    );
+    assert_members(&rt, &mut book, 2, &[2, 3])?;
+    assert_members(&rt, &mut book, 1, &[])?;
+    assert_flushed(&rt, &ends.flush(&rt, &mut book, 0), 0, Fill::No, &[]);
+    Ok(())
+}
+
+/// A flush goes the way of a filled log: into the line, or where that is full, it helps. Only a help is an entry.
+#[test]
+fn a_flush_puts_or_helps(rt: HostRuntime) -> Result<(), Fail> {
+    let mut book = book(&rt, rt.alloc(), 4, 1, 20)?;
+    let (line, mut senders, mut takers) = Line::new(rt.alloc(), 1, 1, 1)?;
+    let mut ends = caller(&rt, &line, &mut senders, &mut takers, 4);
+    let _ = store(&rt, &mut book, &mut ends, 0, 0, 8)?;
+    let _ = store(&rt, &mut book, &mut ends, 0, 4, 8)?;
+    assert_flushed(&rt, &ends.flush(&rt, &mut book, 0), 2, Fill::Full, &[]);
+    let _ = store(&rt, &mut book, &mut ends, 0, 8, 16)?;
+    assert_eq!(rt; book.entries().len(), 3);
+    assert_flushed(&rt, &ends.flush(&rt, &mut book, 0), 1, Fill::Helped, &[2]);
+    assert_eq!(rt; book.entries().len(), 4);
+    assert_flushed(&rt, &ends.flush(&rt, &mut book, 0), 0, Fill::No, &[]);
+    assert_refined(&rt, &ends.refine(&rt, &mut book, 0)?, 1, &[0, 1], 0, 0);
+    Ok(())
+}
+
+/// A help that the full history refuses makes the reply short; the store stands, and its card stays pending.
+#[test]
+fn a_refused_help_is_short(rt: HostRuntime) -> Result<(), Fail> {
+    let mut book = book(&rt, rt.alloc(), 1, 1, 2)?;
+    let (line, mut senders, mut takers) = Line::new(rt.alloc(), 1, 1, 1)?;
+    let mut ends = caller(&rt, &line, &mut senders, &mut takers, 1);
+    let _ = store(&rt, &mut book, &mut ends, 0, 0, 8)?;
+    let helped = store(&rt, &mut book, &mut ends, 0, 4, 8)?;
+    assert_eq!(rt; (helped.kind, helped.fill), (Kind::Logged, Fill::Helped));
+    assert!(rt; helped.refined.is_empty() && helped.short);
+    let refused = store(&rt, &mut book, &mut ends, 0, 8, 16);
+    assert_eq!(rt; refused.err(), Some(Refusal::BookFull));
+    assert_eq!(rt; book.entries().len(), 2);
+    assert_eq!(rt; book.core.status().pending, 2);
+    Ok(())
+}
+
+/// A pause empties the logs of all callers and the line, without an entry, and a drain then finds each card by its mark.
+#[test]
+fn a_pause_empties_logs_and_line(rt: HostRuntime) -> Result<(), Fail> {
+    let mut book = book(&rt, rt.alloc(), 2, 4, 20)?;
+    let (line, mut senders, mut takers) = Line::new(rt.alloc(), 4, 2, 2)?;
+    let first = caller(&rt, &line, &mut senders, &mut takers, 2);
+    let second = caller(&rt, &line, &mut senders, &mut takers, 2);
+    let mut all = [first, second];
+    for (number, from) in [(0, 0), (1, 4), (0, 8), (1, 12), (0, 16), (1, 20)] {
+        let _ = store(&rt, &mut book, &mut all[number as usize], number, from, 24)?;
+    }
+    assert_eq!(rt; line.len(&rt), 2);
+    CallerEnds::pause(&rt, &mut all);
+    assert_eq!(rt; line.len(&rt), 0);
+    for (number, ends) in all.iter_mut().enumerate() {
+        assert_flushed(
+            &rt,
+            &ends.flush(&rt, &mut book, number as u32),
+            0,
+            Fill::No,
+            &[],
+        );
+    }
+    assert_eq!(rt; book.entries().len(), 6);
+    assert_eq!(rt; book.core.status().pending, 6);
+    assert_set(&rt, &mut book, 3, &[0, 1, 2, 3, 4, 5])?;
+    CallerEnds::pause(&rt, &mut all[..0]);
+    Ok(())
+}
