@@ -1,0 +1,63 @@
+//! Replays the examples and says which of them print what is written beside them (crates/examples/data/README.md).
+#![tactic(auto)]
+
+use g1_replay::{End, Mode, read_options, run};
+use std::fs::{self, Files};
+use std::io;
+use std::sync::Wait;
+
+const NAMES: [&str; 5] = [
+    "one_reference",
+    "hot_card",
+    "full_line_and_help",
+    "cleared_and_redirected",
+    "fault",
+];
+
+fn main(rt: HostRuntime) -> io::Result<()> {
+    for name in NAMES {
+        if is_as_written(&rt, name)? {
+            println!(rt; "{name}: as written")?;
+        } else {
+            println!(rt; "{name}: not as written")?;
+        }
+    }
+    Ok(())
+}
+
+// What is printed, and the end, are those that are written beside the trace.
+fn is_as_written<R: Files + Wait + AllocGlobal>(rt: &R, name: &str) -> io::Result<bool> {
+    let alloc = rt.alloc();
+    let args = part(rt, name, "args")?;
+    let trace = part(rt, name, "trace")?;
+    let wanted = part(rt, name, "stdout")?;
+    let status = part(rt, name, "status")?;
+    let mut words: Vec<&str> = Vec::new(alloc);
+    words.push("g1replay")?;
+    for word in args.lines() {
+        words.push(word)?;
+    }
+    let Ok((Mode::Run, options)) = read_options(alloc, words.as_slice()) else {
+        return Ok(false);
+    };
+    let mut printed: Vec<u8> = Vec::new(alloc);
+    let end = run(rt, alloc, &mut trace.as_bytes(), &mut printed, &options);
+    Ok(printed.as_slice() == wanted.as_bytes() && status.as_str().trim_end() == status_of(end))
+}
+
+// One file of an example.
+fn part<R: Files + AllocGlobal>(rt: &R, name: &str, kind: &str) -> io::Result<String> {
+    let path = format!(in rt.alloc(); "{name}.{kind}")?;
+    fs::read_to_string(rt, path.as_str())
+}
+
+// The exit status of an end.
+fn status_of(end: End) -> &'static str {
+    match end {
+        End::Whole => "0",
+        End::Refused => "2",
+        End::Stopped => "3",
+        End::ReadFailed => "4",
+        End::WriteFailed => "5",
+    }
+}

@@ -1,0 +1,62 @@
+-- A line that goes on in the bytes that a reader shows.
+use Rattle.std.proofs.Common.{◌≡◌, ◌≢◌, ℕ, ◌+◌, ◌<◌, ◌≤◌, List, [], ◌∷◌, ◌++◌, length, take, get_or, sym, ap, subst, ◌∙◌, arith, append_assoc, append-nil, add-one, length-take-le, length-append, Option}
+use Rattle.std.proofs.Math.Seq.{take-suc}
+use Rattle.std.specs.Io.KnownBytes.{Consumes}
+use Rattle.g1_replay.specs.declared.lines.Part.{Part}
+use Rattle.g1_replay.specs.declared.lines.Part.TheVariants.{Whole, TooLong, More, Nothing, Failed}
+use Rattle.g1_replay.specs.declared.lines.NextLine.TheVariants as ended
+use Rattle.g1_replay.specs.Lines.{IsPart, GoesOn, ReadsPart, ReadsLine}
+use Rattle.g1_replay.proofs.ReadLemmas.{consumes_then, part_push}
+
+-- one more byte that is no line feed
+pub part_longer : (bytes : List ℕ) (i : ℕ) → i < length bytes → get_or bytes i 0 ≢ 10 → IsPart (take i bytes) → IsPart (take (i + 1) bytes)
+part_longer bytes i h ne p = rw (add-one, take-suc bytes i 0 h) (part_push (take i bytes) (get_or bytes i 0) p ne)
+
+-- the length of a line with n bytes more
+grown : (begun line shown : List ℕ) (n : ℕ) → n ≤ length shown → line ≡ begun ++ take n shown → length line ≡ length begun + n
+grown begun line shown n h e = ap length e ∙ length-append begun (take n shown) ∙ ap (λ k. length begun + k) (length-take-le n shown h)
+
+-- what was shown goes into the line, and is consumed
+pub part_read : (old new : Option (List ℕ)) (part : Part) (n lost room : ℕ) (shown begun line : List ℕ) → GoesOn shown room part n lost → n ≤ length shown
+    → length begun + room ≡ 64 → line ≡ begun ++ take n shown → Consumes old new (take lost shown) → ReadsPart old new part begun line
+part_read old new Whole n lost room shown begun line p h r e c =
+    let long = grown begun line shown n h e in
+    (take n shown, e, subst (Consumes old new) p.2 c, p.0, omega arith)
+part_read old new TooLong n lost room shown begun line p h r e c =
+    let long = grown begun line shown n h e in
+    (take n shown, p.0, e, subst (Consumes old new) p.4 c, p.3, p.1, omega arith)
+part_read old new More n lost room shown begun line p h r e c =
+    let long = grown begun line shown n h e in
+    (take n shown, e, subst (λ k. Consumes old new (take k shown)) p.2 c, p.0, omega arith)
+part_read old new Nothing n lost room shown begun line p h r e c =
+    (e ∙ ap (λ k. begun ++ take k shown) p.0 ∙ append-nil begun, subst (λ k. Consumes old new (take k shown)) p.1 c)
+part_read old new Failed n lost room shown begun line p h r e c = absurd p
+
+-- two parts are one
+joined : (xs ys : List ℕ) → IsPart xs → IsPart ys → IsPart (xs ++ ys)
+joined [] ys p q = q
+joined (x ∷ xs) ys p q = (p.0, joined xs ys p.1 q)
+
+-- what was read before a part, and bytes that end with it
+behind : (a b c : Option (List ℕ)) (begun line bytes more : List ℕ) → line ≡ begun ++ bytes → Consumes a b begun → Consumes b c (bytes ++ more) → Consumes a c (line ++ more)
+behind a b c begun line bytes more e p q = subst (Consumes a c) (sym (append_assoc begun bytes more) ∙ ap (λ l. l ++ more) (sym e)) (consumes_then a b c begun (bytes ++ more) p q)
+
+-- the last part of a line
+pub line_whole : (a b c : Option (List ℕ)) (begun line : List ℕ) → Consumes a b begun → IsPart begun → ReadsPart b c Whole begun line → ReadsLine a c ended.Whole line
+line_whole a b c begun line p part r = (behind a b c begun line r.0 (10 ∷ []) r.1 p r.2, subst IsPart (sym r.1) (joined begun r.0 part r.3), r.4)
+
+pub line_long : (a b c : Option (List ℕ)) (begun line : List ℕ) → Consumes a b begun → IsPart begun → ReadsPart b c TooLong begun line → ReadsLine a c ended.TooLong line
+line_long a b c begun line p part r =
+    (r.1, behind a b c begun line r.0 (r.1 ∷ []) r.2 p r.3, r.4, subst IsPart (sym r.2) (joined begun r.0 part r.5), r.6)
+
+-- a part, behind which more may come
+pub line_more : (a b c : Option (List ℕ)) (begun line : List ℕ) → Consumes a b begun → IsPart begun → ReadsPart b c More begun line → Consumes a c line × IsPart line × (length line ≤ 64)
+line_more a b c begun line p part r =
+    (subst (Consumes a c) (sym r.1) (consumes_then a b c begun r.0 p r.2), subst IsPart (sym r.1) (joined begun r.0 part r.3), r.4)
+
+-- no part, and then one byte
+pub line_byte : (a b c d : Option (List ℕ)) (begun line : List ℕ) (byte : ℕ) → Consumes a b begun → IsPart begun → ReadsPart b c Nothing begun line → Consumes c d (byte ∷ []) → byte ≢ 10
+    → Consumes a d (line ++ byte ∷ []) × IsPart (line ++ byte ∷ [])
+line_byte a b c d begun line byte p part r q ne =
+    let stays : Consumes a c line = subst (Consumes a c) (append-nil begun ∙ sym r.0) (consumes_then a b c begun [] p r.1) in
+    (consumes_then a c d line (byte ∷ []) stays q, part_push line byte (subst IsPart (sym r.0) part) ne)

@@ -1,0 +1,126 @@
+-- The line of each answer is the line of the piece that its calls make.
+use Rattle.std.proofs.Common.{◌≡◌, ℕ, Bool, true, false, ◌||◌, List, [], ◌∷◌, map, length, Option, All, sum_by, refl, sym, ◌∙◌, ap}
+use Rattle.std.specs.List.{flat_map}
+use Rattle.std.proofs.lemmas.List.Concat.{length-flat_map}
+use Rattle.std.proofs.lemmas.List.Elements.{All-nil, All-cons, All-head, All-tail}
+use Rattle.g1_log.proofs.Settles.{sum_by-map}
+use Rattle.g1_layout.specs.declared.kind.Kind.TheVariants.{Logged}
+use Rattle.g1_core.specs.declared.reply.Fill.TheVariants.{No, Full, Helped}
+use Rattle.g1_core.specs.declared.reply.StoreReply.{StoreReply}
+use Rattle.g1_core.specs.declared.reply.RefineReply.{RefineReply}
+use Rattle.g1_core.specs.declared.reply.Status.{Status}
+use Rattle.g1_core.specs.declared.reply.Drained.{Drained}
+use Rattle.g1_core.specs.declared.reply.Drained.TheVariants as drained
+use Rattle.g1_core.specs.declared.reply.ClearReply.{ClearReply}
+use Rattle.g1_core.specs.declared.reply.ClearReply.TheVariants as clear_reply
+use Rattle.g1_core.specs.declared.reply.Redirected.{Redirected}
+use Rattle.g1_core.specs.declared.reply.Redirected.TheVariants as redirected
+use Rattle.g1_core.specs.Run.{Entry, Refine}
+use Rattle.g1_core.specs.Calls.{store_entry, refine_entry, target_entry, pending_entry, members_entry, status_entry, drain_entry, clear_entry, redirect_entry}
+use Rattle.g1_replay.specs.declared.command.Command.TheVariants as command
+use Rattle.g1_replay.specs.Text.{store_text, flush_text, refine_text, work_text, worked_line, target_text, pending_text, members_text, status_text, drain_text, clear_text, redirect_text}
+use Rattle.g1_replay.specs.Pieces.{plain_piece, IsCallBy, IsLineOf, taken_by, hot_in, skipped_in, is_any_short}
+
+-- A store that passed no buffer on, or whose buffer the line took.
+pub store_says : (m slot : ℕ) (target : Option ℕ) (r : StoreReply) → IsLineOf (command.Store m slot target) (plain_piece (store_entry m slot target r ∷ [])) (store_text r)
+store_says m slot target r = record { piece = (refl, refl); line = refl }
+
+-- the answer of a store that filled its log, as it is entered
+abbrev pub filled : StoreReply
+filled = record { kind = Logged; fill = Full; refined = []; short = false }
+
+-- A store whose mutator helped.
+pub store_helped_says : (m slot : ℕ) (target : Option ℕ) (help : RefineReply)
+    → IsLineOf (command.Store m slot target) (plain_piece (store_entry m slot target filled ∷ refine_entry m help ∷ []))
+    (store_text (record { kind = Logged; fill = Helped; refined = help.refined; short = help.short }))
+store_helped_says m slot target help = record { piece = ((refl, refl), tt, (refl, refl)); line = refl }
+
+-- A store whose help was refused.
+pub store_refused_says : (m slot : ℕ) (target : Option ℕ)
+    → IsLineOf (command.Store m slot target) (record { entries = store_entry m slot target filled ∷ []; shown = record { cards = 0; left = 0; refused = true } })
+    (store_text (record { kind = Logged; fill = Helped; refined = []; short = true }))
+store_refused_says m slot target = record { piece = (refl, refl); line = refl }
+
+-- A flush of an empty log.
+pub flush_none_says : (m : ℕ) → IsLineOf (command.Flush m) (plain_piece []) (flush_text (record { cards = 0; fill = No; refined = []; short = false }))
+flush_none_says m = record { piece = tt; line = refl }
+
+-- A flush whose buffer the line took.
+pub flush_says : (m cards : ℕ) → IsLineOf (command.Flush m) (record { entries = []; shown = record { cards = cards; left = 0; refused = false } })
+    (flush_text (record { cards = cards; fill = Full; refined = []; short = false }))
+flush_says m cards = record { piece = tt; line = refl }
+
+-- A flush whose mutator helped.
+pub flush_helped_says : (m cards : ℕ) (help : RefineReply)
+    → IsLineOf (command.Flush m) (record { entries = refine_entry m help ∷ []; shown = record { cards = cards; left = 0; refused = false } })
+    (flush_text (record { cards = cards; fill = Helped; refined = help.refined; short = help.short }))
+flush_helped_says m cards help = record { piece = (refl, refl); line = refl }
+
+-- A flush whose help was refused.
+pub flush_refused_says : (m cards : ℕ) → IsLineOf (command.Flush m) (record { entries = []; shown = record { cards = cards; left = 0; refused = true } })
+    (flush_text (record { cards = cards; fill = Helped; refined = []; short = true }))
+flush_refused_says m cards = record { piece = tt; line = refl }
+
+-- A refinement; how many buffers the line has left is not printed.
+pub refine_says : (r : RefineReply) (left : ℕ) → IsLineOf command.Refine (plain_piece (refine_entry 0 (record r { left = left }) ∷ [])) (refine_text r)
+refine_says r left = record { piece = (refl, refl); line = refl }
+
+are_refinements : (replies : List RefineReply) → All (λ (e : Entry). IsCallBy 0 Refine e) (map (refine_entry 0) replies)
+are_refinements [] = All-nil (λ (e : Entry). IsCallBy 0 Refine e)
+are_refinements (r ∷ replies) = All-cons (λ (e : Entry). IsCallBy 0 Refine e) (refine_entry 0 r) (map (refine_entry 0) replies) (refl, refl) (are_refinements replies)
+
+none_short : (replies : List RefineReply) → All (λ (r : RefineReply). r.short ≡ false) replies → is_any_short (map (refine_entry 0) replies) ≡ false
+none_short [] h = refl
+none_short (r ∷ replies) h =
+    let here : r.short ≡ false = All-head (λ (one : RefineReply). one.short ≡ false) r replies h in
+    rw here (none_short replies (All-tail (λ (one : RefineReply). one.short ≡ false) r replies h))
+
+or_true : (b : Bool) → b || true ≡ true
+or_true true = refl
+or_true false = refl
+
+short_in_all : (replies : List RefineReply) (short : Bool) → (short ≡ false → All (λ (r : RefineReply). r.short ≡ false) replies) → short ≡ is_any_short (map (refine_entry 0) replies) || short
+short_in_all replies true h = sym (or_true (is_any_short (map (refine_entry 0) replies)))
+short_in_all replies false h = sym (ap (λ b. b || false) (none_short replies (h refl)))
+
+same_line : {a b d s : ℕ} {a2 b2 d2 s2 : ℕ} {f f2 : Bool} → a ≡ a2 → b ≡ b2 → d ≡ d2 → s ≡ s2 → (left : ℕ) → f ≡ f2 → worked_line a b d s left f ≡ worked_line a2 b2 d2 s2 left f2
+same_line ea eb ed es left ef = cc
+
+-- A round answers the sums of its calls, is short where one of them is, and shows how many buffers it saw last.
+pub work_says : (replies : List RefineReply) (r : RefineReply) → r.taken ≡ sum_by (λ (one : RefineReply). one.taken) replies
+    → r.refined ≡ flat_map (λ (one : RefineReply). one.refined) replies → r.hot ≡ sum_by (λ (one : RefineReply). one.hot) replies
+    → r.skipped ≡ sum_by (λ (one : RefineReply). one.skipped) replies → (r.short ≡ false → All (λ (one : RefineReply). one.short ≡ false) replies)
+    → IsLineOf command.Work (record { entries = map (refine_entry 0) replies; shown = record { cards = 0; left = r.left; refused = r.short } }) (work_text r)
+work_says replies r taken refined hot skipped whole =
+    let a : r.taken ≡ sum_by (λ (e : Entry). taken_by e.reply) (map (refine_entry 0) replies) = taken ∙ sym (sum_by-map (λ (e : Entry). taken_by e.reply) (refine_entry 0) replies) in
+    let b : length r.refined ≡ sum_by (λ (e : Entry). length e.refined) (map (refine_entry 0) replies) =
+    ap (λ l. length l) refined ∙ length-flat_map (λ (one : RefineReply). one.refined) replies ∙ sym (sum_by-map (λ (e : Entry). length e.refined) (refine_entry 0) replies) in
+    let d : r.hot ≡ sum_by (λ (e : Entry). hot_in e.reply) (map (refine_entry 0) replies) = hot ∙ sym (sum_by-map (λ (e : Entry). hot_in e.reply) (refine_entry 0) replies) in
+    let s : r.skipped ≡ sum_by (λ (e : Entry). skipped_in e.reply) (map (refine_entry 0) replies) = skipped ∙ sym (sum_by-map (λ (e : Entry). skipped_in e.reply) (refine_entry 0) replies) in
+    let f : r.short ≡ is_any_short (map (refine_entry 0) replies) || r.short = short_in_all replies r.short whole in
+    record { piece = are_refinements replies; line = same_line a b d s r.left f }
+
+pub target_says : (slot : ℕ) (target : Option ℕ) → IsLineOf (command.Target slot) (plain_piece (target_entry 0 slot target ∷ [])) (target_text target)
+target_says slot target = record { piece = (refl, refl); line = refl }
+
+pub pending_says : (card : ℕ) (answer : Bool) → IsLineOf (command.Pending card) (plain_piece (pending_entry 0 card answer ∷ [])) (pending_text answer)
+pending_says card answer = record { piece = (refl, refl); line = refl }
+
+pub members_says : (region : ℕ) (cards : List ℕ) → IsLineOf (command.Members region) (plain_piece (members_entry 0 region cards ∷ [])) (members_text cards)
+members_says region cards = record { piece = (refl, refl); line = refl }
+
+pub status_says : (status : Status) → IsLineOf command.Status (plain_piece (status_entry 0 status ∷ [])) (status_text status)
+status_says status = record { piece = (refl, refl); line = refl }
+
+pub drain_says : (region : ℕ) (answer : Drained) → IsLineOf (command.Drain region) (plain_piece (drain_entry 0 region answer ∷ [])) (drain_text answer)
+drain_says region (drained.Cards cards refined) = record { piece = (refl, refl); line = refl }
+drain_says region (drained.Short refined) = record { piece = (refl, refl); line = refl }
+
+pub clear_says : (region : ℕ) (answer : ClearReply) → IsLineOf (command.Clear region) (plain_piece (clear_entry 0 region answer ∷ [])) (clear_text answer)
+clear_says region clear_reply.Cleared = record { piece = (refl, refl); line = refl }
+clear_says region (clear_reply.Pending cards) = record { piece = (refl, refl); line = refl }
+clear_says region (clear_reply.StillReferenced slot) = record { piece = (refl, refl); line = refl }
+
+pub redirect_says : (from to : ℕ) (answer : Redirected) → IsLineOf (command.Redirect from to) (plain_piece (redirect_entry 0 from to answer ∷ [])) (redirect_text answer)
+redirect_says from to (redirected.Moved slots refined) = record { piece = (refl, refl); line = refl }
+redirect_says from to (redirected.Short refined) = record { piece = (refl, refl); line = refl }

@@ -1,0 +1,14 @@
+pub mod Grammar
+pub mod Lines
+pub mod Places
+pub mod Reading
+pub mod Trace
+pub mod Words
+pub mod Bytes
+pub mod Text
+pub mod Pieces
+pub mod Settings
+pub mod CommandLine
+pub mod Answers
+pub mod Output
+pub mod Playing

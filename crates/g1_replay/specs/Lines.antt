@@ -1,0 +1,48 @@
+-- What a read of one line takes from the bytes that a reader has left.
+use Rattle.std.specs.Prelude.{◌≡◌, ◌≢◌, ℕ, List, [], ◌∷◌, ◌++◌, ◌≤◌, ◌<◌, length, take, slice_index, Option}
+use Rattle.std.specs.Io.KnownBytes.{Consumes, IsAtEnd}
+use Rattle.g1_replay.specs.declared.lines.Byte.{Byte}
+use Rattle.g1_replay.specs.declared.lines.Byte.TheVariants.{Some as OneByte, End as NoByte, Failed as FailedByte}
+use Rattle.g1_replay.specs.declared.lines.Part.{Part}
+use Rattle.g1_replay.specs.declared.lines.Part.TheVariants.{Whole as WholePart, TooLong as LongPart, More, Nothing, Failed as FailedPart}
+use Rattle.g1_replay.specs.declared.lines.NextLine.{NextLine}
+use Rattle.g1_replay.specs.declared.lines.NextLine.TheVariants.{Whole, TooLong, Cut, End, Failed}
+
+-- one read of one byte
+abbrev pub Reads : Option (List ℕ) → Option (List ℕ) → Byte → Type 0
+Reads old new (OneByte b) = Consumes old new (b ∷ [])
+Reads old new NoByte = Consumes old new [] × IsAtEnd new
+Reads old new FailedByte = Consumes old new []
+
+-- bytes without a line feed
+abbrev pub IsPart : List ℕ → Type 0
+IsPart [] = Unit {0}
+IsPart (b ∷ bytes) = (b ≢ 10) × IsPart bytes
+
+-- the first n bytes, with no line feed, and then the end or a line feed
+abbrev pub EndsAtFeed : List ℕ → ℕ → Type 0
+EndsAtFeed bytes n = IsPart (take n bytes) × (n < length bytes → slice_index bytes n ≡ 10)
+
+-- n of the shown bytes go into a line that has room for so many, and the first `lost` are used up
+abbrev pub GoesOn : List ℕ → ℕ → Part → ℕ → ℕ → Type 0
+GoesOn shown room WholePart n lost = IsPart (take n shown) × (n ≤ room) × (take lost shown ≡ take n shown ++ 10 ∷ [])
+GoesOn shown room LongPart n lost = (b : ℕ) × IsPart (take n shown) × (n ≡ room) × (b ≢ 10) × (take lost shown ≡ take n shown ++ b ∷ [])
+GoesOn shown room More n lost = IsPart (take n shown) × (n ≤ room) × (lost ≡ n)
+GoesOn shown room Nothing n lost = (n ≡ 0) × (lost ≡ 0)
+GoesOn shown room FailedPart n lost = ⊥
+
+-- the line was begun, and the reader lost what of it came next
+abbrev pub ReadsPart : Option (List ℕ) → Option (List ℕ) → Part → List ℕ → List ℕ → Type 0
+ReadsPart old new WholePart begun line = (bytes : List ℕ) × (line ≡ begun ++ bytes) × Consumes old new (bytes ++ 10 ∷ []) × IsPart bytes × (length line ≤ 64)
+ReadsPart old new LongPart begun line = (bytes : List ℕ) × (b : ℕ) × (line ≡ begun ++ bytes) × Consumes old new (bytes ++ b ∷ []) × (b ≢ 10) × IsPart bytes × (length line ≡ 64)
+ReadsPart old new More begun line = (bytes : List ℕ) × (line ≡ begun ++ bytes) × Consumes old new bytes × IsPart bytes × (length line ≤ 64)
+ReadsPart old new Nothing begun line = (line ≡ begun) × Consumes old new []
+ReadsPart old new FailedPart begun line = (line ≡ begun) × Consumes old new []
+
+-- the bytes of a line, of which the reader lost the front
+abbrev pub ReadsLine : Option (List ℕ) → Option (List ℕ) → NextLine → List ℕ → Type 0
+ReadsLine old new Whole line = Consumes old new (line ++ 10 ∷ []) × IsPart line × (length line ≤ 64)
+ReadsLine old new TooLong line = (b : ℕ) × Consumes old new (line ++ b ∷ []) × (b ≢ 10) × IsPart line × (length line ≡ 64)
+ReadsLine old new Cut line = Consumes old new line × IsAtEnd new × IsPart line × (0 < length line) × (length line ≤ 64)
+ReadsLine old new End line = Consumes old new [] × IsAtEnd new × (line ≡ [])
+ReadsLine old new Failed line = Consumes old new line × IsPart line × (length line ≤ 64)

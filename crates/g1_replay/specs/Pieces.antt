@@ -1,0 +1,151 @@
+-- The calls that each command of a trace makes, and the line that is printed of them.
+use Rattle.std.specs.Prelude.{◌≡◌, ℕ, ◌||◌, Bool, true, false, List, [], ◌∷◌, ◌++◌, All, sum_by, codes, length}
+use Rattle.g1_layout.specs.declared.kind.Kind.TheVariants.{Logged}
+use Rattle.g1_core.specs.declared.reply.Fill.TheVariants.{Full, Helped}
+use Rattle.g1_core.specs.Run.{Entry, Call, Reply, Store, Refine, Target, Pending, Members, Status, Drain, Clear, Redirect, Stored, Refined, TargetIs, PendingIs, Cards, Counts, Short, Cleared, StillPending, StillReferenced, Moved}
+use Rattle.g1_replay.specs.declared.command.Command.{Command}
+use Rattle.g1_replay.specs.declared.command.Command.TheVariants as command
+use Rattle.g1_replay.specs.Text.{stored_line, flushed_line, refined_line, worked_line, target_text, pending_text, members_text, status_line, drained_line, still_pending_line, still_referenced_line, redirected_line}
+
+-- What is printed of a command and stands in none of its calls: how many cards a flush moved, the length of the line
+-- that a round saw last, and whether a help, a later call of a round or its growth was refused.
+pub record Shown : Type 0 where
+  pub cards : ℕ
+  pub left : ℕ
+  pub refused : Bool
+
+-- nothing but what the calls hold
+abbrev pub nothing_shown : Shown
+nothing_shown = record { cards = 0; left = 0; refused = false }
+
+-- the calls that a command made, and what else it shows
+pub record Piece : Type 0 where
+  pub entries : List Entry
+  pub shown : Shown
+
+-- a piece that shows nothing but its calls
+abbrev pub plain_piece : List Entry → Piece
+plain_piece entries = record { entries = entries; shown = nothing_shown }
+
+-- The entry is this call by this caller.
+abbrev pub IsCallBy : ℕ → Call → Entry → Type 0
+IsCallBy caller call e = (e.caller ≡ caller) × (e.call ≡ call)
+
+-- The reply of a store that filled its log.
+abbrev pub FillsLog : Reply → Type 0
+FillsLog (Stored Logged Full short) = Unit {0}
+FillsLog reply = ⊥
+
+-- The calls that a command makes: a store helps only where it filled its log, a flush has an entry only where it
+-- helps, and a round has one for each buffer that it takes.
+abbrev pub IsPieceOf : Command → List Entry → Type 0
+IsPieceOf (command.Store mutator slot target) (e ∷ []) = IsCallBy mutator (Store slot target) e
+IsPieceOf (command.Store mutator slot target) (e ∷ help ∷ []) = IsCallBy mutator (Store slot target) e × FillsLog e.reply × IsCallBy mutator Refine help
+IsPieceOf (command.Flush mutator) [] = Unit {0}
+IsPieceOf (command.Flush mutator) (help ∷ []) = IsCallBy mutator Refine help
+IsPieceOf command.Work entries = All (λ e. IsCallBy 0 Refine e) entries
+IsPieceOf command.Refine (e ∷ []) = IsCallBy 0 Refine e
+IsPieceOf (command.Target slot) (e ∷ []) = IsCallBy 0 (Target slot) e
+IsPieceOf (command.Pending card) (e ∷ []) = IsCallBy 0 (Pending card) e
+IsPieceOf (command.Members region) (e ∷ []) = IsCallBy 0 (Members region) e
+IsPieceOf command.Status (e ∷ []) = IsCallBy 0 Status e
+IsPieceOf (command.Drain region) (e ∷ []) = IsCallBy 0 (Drain region) e
+IsPieceOf (command.Clear region) (e ∷ []) = IsCallBy 0 (Clear region) e
+IsPieceOf (command.Redirect from to) (e ∷ []) = IsCallBy 0 (Redirect from to) e
+IsPieceOf _ _ = ⊥
+
+-- the line of one call by its reply and refined cards, and nothing for a reply that no such call has
+abbrev pub call_line : Call → Reply → List ℕ → List ℕ
+call_line Refine (Refined taken hot skipped left short) cards = refined_line taken (length cards) hot skipped short
+call_line (Target slot) (TargetIs target) cards = target_text target
+call_line (Pending card) (PendingIs answer) cards = pending_text answer
+call_line (Members region) (Cards members) cards = members_text members
+call_line Status (Counts pending recorded) cards = status_line pending recorded
+call_line (Drain region) (Cards members) cards = drained_line members
+call_line (Drain region) Short cards = codes "drained short\n"
+call_line (Clear region) Cleared cards = codes "cleared\n"
+call_line (Clear region) (StillPending pending) cards = still_pending_line pending
+call_line (Clear region) (StillReferenced slot) cards = still_referenced_line slot
+call_line (Redirect from to) (Moved slots) cards = redirected_line slots
+call_line (Redirect from to) Short cards = codes "redirected short\n"
+call_line _ _ _ = []
+
+abbrev pub one_call_line : List Entry → List ℕ
+one_call_line (e ∷ []) = call_line e.call e.reply e.refined
+one_call_line _ = []
+
+abbrev pub taken_by : Reply → ℕ
+taken_by (Refined taken hot skipped left short) = taken
+taken_by _ = 0
+
+abbrev pub hot_in : Reply → ℕ
+hot_in (Refined taken hot skipped left short) = hot
+hot_in _ = 0
+
+abbrev pub skipped_in : Reply → ℕ
+skipped_in (Refined taken hot skipped left short) = skipped
+skipped_in _ = 0
+
+abbrev pub is_short : Reply → Bool
+is_short (Refined taken hot skipped left short) = short
+is_short _ = false
+
+abbrev pub is_any_short : List Entry → Bool
+is_any_short [] = false
+is_any_short (e ∷ entries) = is_short e.reply || is_any_short entries
+
+-- a store that did not help; a help was refused only where the log was filled
+abbrev pub lone_store_line : (refused : Bool) → Reply → List ℕ → List ℕ
+lone_store_line false (Stored kind fill short) cards = stored_line kind fill (length cards) short
+lone_store_line true (Stored Logged Full short) cards = stored_line Logged Helped 0 true
+lone_store_line true (Stored kind fill short) cards = stored_line kind fill (length cards) short
+lone_store_line _ _ _ = []
+
+abbrev pub store_line : List Entry → Shown → List ℕ
+store_line (e ∷ []) shown = lone_store_line shown.refused e.reply e.refined
+store_line (e ∷ help ∷ []) shown = stored_line Logged Helped (length help.refined) (is_short help.reply)
+store_line _ _ = []
+
+-- a flush that did not help, or whose help was refused
+abbrev pub lone_flush_line : (cards : ℕ) → (refused : Bool) → List ℕ
+lone_flush_line cards false = flushed_line cards Full 0 false
+lone_flush_line cards true = flushed_line cards Helped 0 true
+
+abbrev pub flush_line : List Entry → Shown → List ℕ
+flush_line [] shown = lone_flush_line shown.cards shown.refused
+flush_line (help ∷ []) shown = flushed_line shown.cards Helped (length help.refined) (is_short help.reply)
+flush_line _ _ = []
+
+-- the sums over the calls of a round
+abbrev pub work_line : List Entry → Shown → List ℕ
+work_line entries shown =
+    worked_line (sum_by (λ e. taken_by e.reply) entries) (sum_by (λ e. length e.refined) entries) (sum_by (λ e. hot_in e.reply) entries)
+    (sum_by (λ e. skipped_in e.reply) entries) shown.left (is_any_short entries || shown.refused)
+
+-- the output line of a command, with its line feed
+abbrev pub line_of : Command → Piece → List ℕ
+line_of (command.Store mutator slot target) p = store_line p.entries p.shown
+line_of (command.Flush mutator) p = flush_line p.entries p.shown
+line_of command.Work p = work_line p.entries p.shown
+line_of _ p = one_call_line p.entries
+
+-- The calls are a piece of the command, and this is its line.
+pub record IsLineOf (c : Command) (p : Piece) (text : List ℕ) : Type 0 where
+  pub piece : IsPieceOf c p.entries
+  pub line : text ≡ line_of c p
+
+-- one piece a command
+abbrev pub Walks : List Command → List Piece → Type 0
+Walks [] [] = Unit {0}
+Walks (c ∷ commands) (p ∷ pieces) = IsPieceOf c p.entries × Walks commands pieces
+Walks _ _ = ⊥
+
+abbrev pub entries_of : List Piece → List Entry
+entries_of [] = []
+entries_of (p ∷ pieces) = p.entries ++ entries_of pieces
+
+-- one line a command
+abbrev pub lines_of : List Command → List Piece → List ℕ
+lines_of [] pieces = []
+lines_of (c ∷ commands) [] = []
+lines_of (c ∷ commands) (p ∷ pieces) = line_of c p ++ lines_of commands pieces

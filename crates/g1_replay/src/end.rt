@@ -1,0 +1,16 @@
+//! How a replay ends.
+
+/// How a replay ended (docs/TRACES.md, Ends).
+#[derive(Clone, Copy, Debug, PartialEq, Eq)]
+pub enum End {
+    /// The whole trace was done.
+    Whole,
+    /// A line of the trace has a fault; its line was written.
+    Refused,
+    /// Memory was refused, or the history was full; a line says which.
+    Stopped,
+    /// A read of the input failed, or 2^40 reads were made; a line says so.
+    ReadFailed,
+    /// A write of the output failed. What was written is a beginning of the output.
+    WriteFailed,
+}

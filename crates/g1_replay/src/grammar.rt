@@ -1,0 +1,107 @@
+//! What a line of a trace asks for: its command.
+
+ghost use Rattle.std.specs.Prelude.{◌≡◌, ℕ, [], IfOk, IfSome};
+ghost use Rattle.g1_replay.specs.Words.{words_from};
+ghost use Rattle.g1_layout.specs.Shape.{IsShape};
+ghost use Rattle.g1_replay.specs.Grammar.{read_named, read_command, redirect_of, IsCommandOf};
+
+use crate::command::Command;
+use crate::fault::TraceFault;
+use crate::places::{
+    nothing, one_card, one_mutator, one_region, one_slot, store_places, two_regions,
+};
+use crate::words::{is, is_remark, split_word};
+use g1_layout::{Layout, Region};
+
+// Two regions, which differ.
+fn redirect(from: Region, to: Region) -> Result<Command, TraceFault>
+    ensures { result ≡ redirect_of from to }
+{
+    if from == to {
+        return Err(TraceFault::Twice);
+    }
+    Ok(Command::Redirect { from, to })
+}
+
+// The command of a first word and the words behind it.
+#[tactic(auto, unfolding(crate::specs::Grammar::read_named))]
+fn named(layout: Layout, mutators: u32, name: &[u8], words: &[u8]) -> Result<Command, TraceFault>
+    requires { IsShape layout }
+    ensures read { result ≡ read_named layout mutators name.now (words_from [] words.now) }
+    ensures valid { IfOk result (λ c. IsCommandOf layout mutators c) }
+{
+    if is(name, b"store") {
+        let (mutator, slot, target) = store_places(layout, mutators, words)?;
+        return Ok(Command::Store {
+            mutator,
+            slot,
+            target,
+        });
+    }
+    if is(name, b"flush") {
+        let mutator = one_mutator(mutators, words)?;
+        return Ok(Command::Flush { mutator });
+    }
+    if is(name, b"refine") {
+        nothing(words)?;
+        return Ok(Command::Refine);
+    }
+    if is(name, b"work") {
+        nothing(words)?;
+        return Ok(Command::Work);
+    }
+    if is(name, b"target") {
+        let slot = one_slot(layout, words)?;
+        return Ok(Command::Target(slot));
+    }
+    if is(name, b"pending") {
+        let card = one_card(layout, words)?;
+        return Ok(Command::Pending(card));
+    }
+    if is(name, b"members") {
+        let region = one_region(layout, words)?;
+        return Ok(Command::Members(region));
+    }
+    if is(name, b"status") {
+        nothing(words)?;
+        return Ok(Command::Status);
+    }
+    if is(name, b"drain") {
+        let region = one_region(layout, words)?;
+        return Ok(Command::Drain(region));
+    }
+    if is(name, b"clear") {
+        let region = one_region(layout, words)?;
+        return Ok(Command::Clear(region));
+    }
+    if is(name, b"redirect") {
+        let (from, to) = two_regions(layout, words)?;
+        return redirect(from, to);
+    }
+    Err(TraceFault::NoCommand)
+}
+
+/// The command of a line, or none where the line is empty or a remark (docs/TRACES.md, Commands).
+///
+/// The faults come in the order of docs/TRACES.md, Faults: no such command, wrong words, then each word that is no
+/// number, and only then the leftmost number that is too large for its place, and last a region named twice. One pass
+/// over the line, and no memory.
+#[tactic(auto, unfolding(crate::specs::Grammar::read_command))]
+pub fn read_command(
+    layout: Layout,
+    mutators: u32,
+    line: &[u8],
+) -> Result<Option<Command>, TraceFault>
+    ensures read { result ≡ read_command layout mutators line.now }
+    ensures valid { IfOk result (λ o. IfSome o (λ c. IsCommandOf layout mutators c)) }
+{
+    let _counts = layout.counts();
+    match split_word(line) {
+        None => Ok(None),
+        Some((name, _)) if is_remark(name) => Ok(None),
+        Some((name, words)) => match named(layout, mutators, name, words) {
+            Ok(command) => Ok(Some(command)),
+            Err(fault) => Err(fault),
+        },
+    }
+}

@@ -1,0 +1,34 @@
+//! Traces: text commands for the machinery, and the replies as text.
+#![tactic(auto)]
+
+mod answer;
+mod command;
+mod command_line;
+mod end;
+mod engine;
+mod fault;
+mod grammar;
+mod header;
+mod lines;
+mod list;
+mod machinery;
+mod next;
+mod opening;
+mod options;
+mod output;
+mod places;
+mod play;
+mod print;
+mod settings;
+mod source;
+mod stop;
+mod words;
+
+pub use command_line::{LineFault, Mode, read_options};
+pub use end::End;
+pub use engine::run;
+pub use fault::TraceFault;
+pub use options::Options;
+
+#[cfg(test)]
+mod tests;

@@ -1,0 +1,205 @@
+//! The calls of a command, and its output line.
+ghost use Rattle.std.specs.Prelude.{◌≡◌, ◌≢◌, ◌<◌, ◌≤◌, IfSome, vec_len};
+ghost use Rattle.g1_layout.specs.Shape.{slot_count, card_count};
+ghost use Rattle.g1_book.specs.History.{layout_in};
+ghost use Rattle.g1_replay.specs.Grammar.{IsCommandOf};
+ghost use Rattle.g1_replay.specs.Playing.{IsAnswered, Plays};
+
+use crate::answer::{Answer, put_answer};
+use crate::command::Command;
+use crate::machinery::Machinery;
+use crate::stop::Stop;
+use g1_book::{Book, CallerEnds, Refusal};
+use g1_layout::{Card, Region, Slot};
+use std::io::Write;
+use std::sync::Wait;
+
+/// Makes the calls of a command and writes its output line.
+pub(crate) fn play<T: Wait, W: Write>(
+    rt: &T,
+    machinery: &mut Machinery<'_>,
+    command: Command,
+    output: &mut W,
+) -> Result<(), Stop>
+    requires command { IsCommandOf (layout_in machinery.old.book) machinery.old.book.mutators command }
+    requires callers { (vec_len machinery.old.callers ≡ machinery.old.book.mutators) × (1 ≤ machinery.old.book.mutators) }
+    ensures answered { Plays machinery.old.book machinery.new.book (W.contents output.old) (W.contents output.new) command result }
+    ensures callers { vec_len machinery.new.callers ≡ vec_len machinery.old.callers }
+{
+    let answer = match answer(rt, machinery, command) {
+        Ok(answer) => answer,
+        Err(Refusal::NoMemory) => return Err(Stop::NoMemory),
+        Err(Refusal::BookFull) => return Err(Stop::BookFull),
+    };
+    match put_answer(output, &answer) {
+        Ok(()) => Ok(()),
+        Err(_) => Err(Stop::WriteFailed),
+    }
+}
+
+// Stores and flushes are calls of their mutator, all others of the first caller.
+fn answer<T: Wait>(
+    rt: &T,
+    machinery: &mut Machinery<'_>,
+    command: Command,
+) -> Result<Answer, Refusal>
+    requires command { IsCommandOf (layout_in machinery.old.book) machinery.old.book.mutators command }
+    requires callers { (vec_len machinery.old.callers ≡ machinery.old.book.mutators) × (1 ≤ machinery.old.book.mutators) }
+    ensures answered { IsAnswered machinery.old.book machinery.new.book command result }
+    ensures callers { vec_len machinery.new.callers ≡ vec_len machinery.old.callers }
+{
+    match command {
+        Command::Store {
+            mutator,
+            slot,
+            target,
+        } => store(rt, machinery, mutator, slot, target),
+        Command::Flush { mutator } => flush(rt, machinery, mutator),
+        Command::Refine => refine(rt, machinery),
+        Command::Work => work(rt, machinery),
+        Command::Target(slot) => target(&mut machinery.book, slot),
+        Command::Pending(card) => pending(&mut machinery.book, card),
+        Command::Members(region) => members(&mut machinery.book, region),
+        Command::Status => status(&mut machinery.book),
+        Command::Drain(region) => drain(rt, machinery, region),
+        Command::Clear(region) => clear(&mut machinery.book, region),
+        Command::Redirect { from, to } => redirect(rt, machinery, from, to),
+    }
+}
+
+fn store<T: Wait>(
+    rt: &T,
+    machinery: &mut Machinery<'_>,
+    mutator: u32,
+    slot: Slot,
+    target: Option<Slot>,
+) -> Result<Answer, Refusal>
+    requires mutator { mutator < machinery.old.book.mutators }
+    requires slot { slot < slot_count (layout_in machinery.old.book) }
+    requires target { IfSome target (λ place. place < slot_count (layout_in machinery.old.book)) }
+    requires callers { (vec_len machinery.old.callers ≡ machinery.old.book.mutators) × (1 ≤ machinery.old.book.mutators) }
+    ensures answered { IsAnswered machinery.old.book machinery.new.book (Command.Store mutator slot target) result }
+    ensures callers { vec_len machinery.new.callers ≡ vec_len machinery.old.callers }
+{
+    let caller = &mut machinery.callers[mutator as usize];
+    match caller.store(rt, &mut machinery.book, mutator, slot, target) {
+        Ok(reply) => Ok(Answer::Stored(reply)),
+        Err(refusal) => Err(refusal),
+    }
+}
+
+fn flush<T: Wait>(rt: &T, machinery: &mut Machinery<'_>, mutator: u32) -> Result<Answer, Refusal>
+    requires mutator { mutator < machinery.old.book.mutators }
+    requires callers { (vec_len machinery.old.callers ≡ machinery.old.book.mutators) × (1 ≤ machinery.old.book.mutators) }
+    ensures answered { IsAnswered machinery.old.book machinery.new.book (Command.Flush mutator) result }
+    ensures callers { vec_len machinery.new.callers ≡ vec_len machinery.old.callers }
+{
+    let caller = &mut machinery.callers[mutator as usize];
+    Ok(Answer::Flushed(caller.flush(rt, &mut machinery.book, mutator)))
+}
+
+fn refine<T: Wait>(rt: &T, machinery: &mut Machinery<'_>) -> Result<Answer, Refusal>
+    requires callers { (vec_len machinery.old.callers ≡ machinery.old.book.mutators) × (1 ≤ machinery.old.book.mutators) }
+    ensures answered { IsAnswered machinery.old.book machinery.new.book Command.Refine result }
+    ensures callers { vec_len machinery.new.callers ≡ vec_len machinery.old.callers }
+{
+    match machinery.callers[0].refine(rt, &mut machinery.book, 0) {
+        Ok(reply) => Ok(Answer::Refined(reply)),
+        Err(refusal) => Err(refusal),
+    }
+}
+
+fn work<T: Wait>(rt: &T, machinery: &mut Machinery<'_>) -> Result<Answer, Refusal>
+    requires callers { (vec_len machinery.old.callers ≡ machinery.old.book.mutators) × (1 ≤ machinery.old.book.mutators) }
+    ensures answered { IsAnswered machinery.old.book machinery.new.book Command.Work result }
+    ensures callers { vec_len machinery.new.callers ≡ vec_len machinery.old.callers }
+{
+    match machinery.callers[0].work(rt, &mut machinery.book, 0) {
+        Ok(reply) => Ok(Answer::Worked(reply)),
+        Err(refusal) => Err(refusal),
+    }
+}
+
+fn target(book: &mut Book, slot: Slot) -> Result<Answer, Refusal>
+    requires { slot < slot_count (layout_in book.old) }
+    ensures { IsAnswered book.old book.new (Command.Target slot) result }
+{
+    match book.target(0, slot) {
+        Ok(target) => Ok(Answer::Target(target)),
+        Err(refusal) => Err(refusal),
+    }
+}
+
+fn pending(book: &mut Book, card: Card) -> Result<Answer, Refusal>
+    requires { card < card_count (layout_in book.old) }
+    ensures { IsAnswered book.old book.new (Command.Pending card) result }
+{
+    match book.is_pending(0, card) {
+        Ok(pending) => Ok(Answer::Pending(pending)),
+        Err(refusal) => Err(refusal),
+    }
+}
+
+fn members(book: &mut Book, region: Region) -> Result<Answer, Refusal>
+    requires { region < (layout_in book.old).regions }
+    ensures { IsAnswered book.old book.new (Command.Members region) result }
+{
+    match book.members(0, region) {
+        Ok(cards) => Ok(Answer::Members(cards)),
+        Err(refusal) => Err(refusal),
+    }
+}
+
+fn status(book: &mut Book) -> Result<Answer, Refusal>
+    ensures { IsAnswered book.old book.new Command.Status result }
+{
+    match book.status(0) {
+        Ok(status) => Ok(Answer::Status(status)),
+        Err(refusal) => Err(refusal),
+    }
+}
+
+// The mutators stand still: their logs and the line are emptied first.
+fn drain<T: Wait>(rt: &T, machinery: &mut Machinery<'_>, region: Region) -> Result<Answer, Refusal>
+    requires command { region < (layout_in machinery.old.book).regions }
+    requires callers { (vec_len machinery.old.callers ≡ machinery.old.book.mutators) × (1 ≤ machinery.old.book.mutators) }
+    ensures answered { IsAnswered machinery.old.book machinery.new.book (Command.Drain region) result }
+    ensures callers { vec_len machinery.new.callers ≡ vec_len machinery.old.callers }
+{
+    CallerEnds::pause(rt, machinery.callers.as_mut_slice());
+    match machinery.book.drain(0, region) {
+        Ok(drained) => Ok(Answer::Drained(drained)),
+        Err(refusal) => Err(refusal),
+    }
+}
+
+fn clear(book: &mut Book, region: Region) -> Result<Answer, Refusal>
+    requires { region < (layout_in book.old).regions }
+    ensures { IsAnswered book.old book.new (Command.Clear region) result }
+{
+    match book.clear(0, region) {
+        Ok(reply) => Ok(Answer::Clear(reply)),
+        Err(refusal) => Err(refusal),
+    }
+}
+
+// As before a drain, the logs and the line are emptied first.
+fn redirect<T: Wait>(
+    rt: &T,
+    machinery: &mut Machinery<'_>,
+    from: Region,
+    to: Region,
+) -> Result<Answer, Refusal>
+    requires from { from < (layout_in machinery.old.book).regions }
+    requires to { to < (layout_in machinery.old.book).regions }
+    requires apart { from ≢ to }
+    requires callers { (vec_len machinery.old.callers ≡ machinery.old.book.mutators) × (1 ≤ machinery.old.book.mutators) }
+    ensures answered { IsAnswered machinery.old.book machinery.new.book (Command.Redirect from to) result }
+    ensures callers { vec_len machinery.new.callers ≡ vec_len machinery.old.callers }
+{
+    CallerEnds::pause(rt, machinery.callers.as_mut_slice());
+    match machinery.book.redirect(0, from, to) {
+        Ok(redirected) => Ok(Answer::Redirected(redirected)),
+        Err(refusal) => Err(refusal),
+    }
+}

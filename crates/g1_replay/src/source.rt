@@ -1,0 +1,14 @@
+//! Where a replay stands in its input.
+
+ghost use Rattle.std.specs.Prelude.{◌≤◌, ◌+◌};
+
+/// How many reads were made, and the number of the line that comes, from 1.
+#[derive(Debug, Drop)]
+pub struct Source {
+    /// How many reads were made.
+    pub reads: u64,
+    /// The number of the line that comes.
+    pub number: u64,
+    /// Each line took a read.
+    pub ghost counted: { number ≤ reads + 1 },
+}

@@ -1,0 +1,9 @@
+//! What no clause says: texts, that calls succeed, and traces that were worked out by hand.
+mod failing_ends;
+mod grammar;
+mod help;
+mod line_faults;
+mod options;
+mod reading;
+mod refused_growths;
+mod worked_traces;

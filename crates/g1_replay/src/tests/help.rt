@@ -1,0 +1,83 @@
+//! The texts of help.
+use crate::read_options;
+use std::process::Abort;
+use std::test::Fail;
+
+const WHOLE: &str = "\
+Replays traces for the remembered-set log of a region-based garbage collector
+
+Usage: g1replay <COMMAND>
+
+Commands:
+  run   Reads a trace on standard input and prints the reply of each command on standard output
+  help  Print this message or the help of the given subcommand(s)
+
+Options:
+  -h, --help  Print help
+
+'g1replay run --help' has the options, an example and the exit statuses.
+";
+
+const OF_RUN: &str = "\
+Reads a trace on standard input and prints the reply of each command on standard output
+
+Usage: g1replay run [OPTIONS]
+
+Options:
+      --mutators <COUNT>   Mutators of the trace, numbered from 0: 1 to 8 [default: 1]
+      --log <CARDS>        Cards that fill a mutator's log: 1 to 256 [default: 256]
+      --limit <BUFFERS>    Completed buffers that may wait for refinement: 1 to 1024 [default: 10]
+      --hot <TIMES>        Refinements after which a card is hot, 0 for at once: 0 to 255 [default: 4]
+      --ring <CARDS>       Hot cards that are set aside: 1 to 4096 [default: 1024]
+      --start <BUFFERS>    Completed buffers that a round of 'work' wants: 1 to 1024 [default: 5]
+      --history <ENTRIES>  Calls that the history takes: 1 to 1000000 [default: 1000000]
+  -h, --help               Print help
+
+Each option takes one decimal whole number, and may be given once.
+
+Example, with logs that one card fills:
+  printf 'heap 4 2 4\\nstore 0 0 8\\nrefine\\nmembers 1\\n' | g1replay run --log 1
+It makes a heap of 4 regions of 2 cards of 4 slots, stores a reference to slot 8, which lies
+in region 1, into slot 0, and refines the card of slot 0. It prints
+  logged full
+  refined 1 hot 0 skipped 0
+  cards 0
+
+Exit status:
+  0  the whole trace was done
+  1  the command line was refused, or help was asked for
+  2  the trace was refused: the last line printed says which line, and why
+  3  memory was refused, or the history is full: 'no memory' or 'book full' is printed
+  4  a read of standard input failed: 'read failed' is printed
+  5  a write to standard output failed
+";
+
+/// The line is refused with just this text.
+pub(super) fn is_refused(rt: &(impl Abort + AllocGlobal), words: &[&str], text: &str) {
+    match read_options(rt.alloc(), words) {
+        Ok(_) => panic!(rt; "{words:?} was taken"),
+        Err(fault) => assert_eq!(rt; fault.text.as_str(), text),
+    }
+}
+
+#[test]
+fn help_of_the_program(rt: HostRuntime) -> Result<(), Fail> {
+    is_refused(&rt, &["g1replay"], WHOLE);
+    is_refused(&rt, &["g1replay", "--help"], WHOLE);
+    is_refused(&rt, &["g1replay", "-h"], WHOLE);
+    is_refused(&rt, &["g1replay", "help"], WHOLE);
+    Ok(())
+}
+
+#[test]
+fn help_of_run(rt: HostRuntime) -> Result<(), Fail> {
+    is_refused(&rt, &["g1replay", "run", "--help"], OF_RUN);
+    is_refused(&rt, &["g1replay", "run", "-h"], OF_RUN);
+    is_refused(&rt, &["g1replay", "help", "run"], OF_RUN);
+    is_refused(
+        &rt,
+        &["/usr/bin/g1replay", "run", "--log", "1", "--help"],
+        OF_RUN,
+    );
+    Ok(())
+}

@@ -1,0 +1,110 @@
+//! The texts of what is refused, and what a refused growth leaves.
+use super::help::is_refused;
+use crate::{Mode, Options, read_options};
+
+#[test]
+fn words_that_the_line_does_not_know(rt: HostRuntime) {
+    let crew = "\
+error: unrecognized subcommand 'crew'
+
+Usage: g1replay <COMMAND>
+
+For more information, try '--help'.
+";
+    let race = "\
+error: unrecognized subcommand 'race'
+
+Usage: g1replay <COMMAND>
+
+For more information, try '--help'.
+";
+    let option_before = "\
+error: unexpected argument '--mutators' found
+
+  tip: 'run --mutators' exists
+
+Usage: g1replay <COMMAND>
+
+For more information, try '--help'.
+";
+    let rounds = "\
+error: unexpected argument '--rounds' found
+
+Usage: g1replay run [OPTIONS]
+
+For more information, try '--help'.
+";
+    let file = "\
+error: unexpected argument 'my.trace' found
+
+Usage: g1replay run [OPTIONS]
+
+For more information, try '--help'.
+";
+    is_refused(&rt, &["g1replay", "crew"], crew);
+    is_refused(&rt, &["g1replay", "race", "--log", "1"], race);
+    is_refused(&rt, &["g1replay", "--mutators", "2", "run"], option_before);
+    is_refused(&rt, &["g1replay", "run", "--rounds", "1"], rounds);
+    is_refused(&rt, &["g1replay", "run", "my.trace"], file);
+}
+
+#[test]
+fn an_option_twice_or_without_a_number(rt: HostRuntime) {
+    let twice = "\
+error: the argument '--log <CARDS>' cannot be used multiple times
+
+Usage: g1replay run [OPTIONS]
+
+For more information, try '--help'.
+";
+    let no_value = "\
+error: a value is required for '--log <CARDS>' but none was supplied
+
+For more information, try '--help'.
+";
+    let no_number = "\
+error: invalid value 'x' for '--log <CARDS>': invalid digit found in string
+
+For more information, try '--help'.
+";
+    let fraction = "\
+error: invalid value '1.5' for '--log <CARDS>': invalid digit found in string
+
+For more information, try '--help'.
+";
+    is_refused(&rt, &["g1replay", "run", "--log", "1", "--log", "1"], twice);
+    is_refused(
+        &rt,
+        &["g1replay", "run", "--log=2", "--hot", "1", "--log", "1"],
+        twice,
+    );
+    is_refused(&rt, &["g1replay", "run", "--log"], no_value);
+    is_refused(&rt, &["g1replay", "run", "--log", "x"], no_number);
+    is_refused(&rt, &["g1replay", "run", "--log", "1.5"], fraction);
+}
+
+/// With ample memory this repeats other tests. Where one growth is refused (`rt try --test --fail-alloc N`), it shows that
+/// no text is left then, and that no half of a text or of the options is given.
+#[test]
+fn a_refused_growth_leaves_no_text(rt: HostRuntime) {
+    let not_in_range = "\
+error: invalid value '257' for '--log <CARDS>': 257 is not in 1..=256
+
+For more information, try '--help'.
+";
+    match read_options(rt.alloc(), &["g1replay", "run", "--log", "257"]) {
+        Ok(_) => panic!(rt; "257 was taken"),
+        Err(fault) => {
+            assert!(rt; fault.text.is_empty() || fault.text.as_str() == not_in_range);
+        }
+    }
+    let mut expected = Options::default();
+    expected.log = 7;
+    match read_options(rt.alloc(), &["g1replay", "run", "--log", "7"]) {
+        Ok((mode, options)) => {
+            assert!(rt; mode == Mode::Run);
+            assert_eq!(rt; options, expected);
+        }
+        Err(fault) => assert!(rt; fault.text.is_empty()),
+    }
+}
