@@ -1,6 +1,5 @@
 -- What the steps of one caller do: how a history grows, what became of a completed buffer, and what was taken from the line.
-use Rattle.std.specs.Prelude.{◌≡◌, ◌≤◌, ◌+◌, ◌-◌, ◌/◌, ◌^◌, ◌⊎◌, ℕ, Bool, true, false, List, [], ◌∷◌, ◌++◌, length, map, sum_by, All, Option, Some, None, nat_lt, not, if◌then◌else◌}
-use Rattle.std.specs.List.{flat_map}
+use Rattle.std.specs.Prelude.{◌≡◌, ◌≤◌, ◌^◌, ◌⊎◌, ℕ, Bool, true, false, List, [], ◌∷◌, ◌++◌, length, Option, Some, None, if◌then◌else◌}
 use Rattle.g1_layout.specs.declared.kind.Kind.TheVariants.{Logged}
 use Rattle.g1_log.specs.declared.line.Line.{Line}
 use Rattle.g1_log.specs.declared.ends.Sender.{Sender}

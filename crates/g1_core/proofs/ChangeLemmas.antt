@@ -1,6 +1,6 @@
 -- The changes of a redirect: what one is, and what it makes of a table.
-use Rattle.std.proofs.Common.{◌≡◌, ◌≢◌, ◌⊎◌, inl, inr, ℕ, zero, suc, ◌<◌, ◌≤◌, ◌+◌, ◌-◌, ◌*◌, ◌%◌, Bool, true, false, cond, eqb, List, [], ◌∷◌, length, get_or, set as list_set, Option, Some, None, refl, sym, ap, ◌∙◌, subst, arith, map}
-use Rattle.std.specs.Prelude.{Contains, All, nat_eq, not, count_by, IfSome}
+use Rattle.std.proofs.Common.{◌≡◌, ◌≢◌, ◌⊎◌, inl, inr, ℕ, zero, suc, ◌<◌, ◌≤◌, ◌+◌, ◌*◌, ◌%◌, Bool, true, false, cond, List, [], ◌∷◌, length, get_or, set as list_set, Option, Some, None, refl, sym, ap, ◌∙◌, subst, arith, map}
+use Rattle.std.specs.Prelude.{Contains, All, nat_eq, count_by, IfSome}
 use Rattle.std.specs.List.{IsDistinct, cons_option, enumerate_from}
 use Rattle.std.proofs.lemmas.Bool.{cases_lt, eqb-true, and_parts, true≢false, false_from_ne_true}
 use Rattle.std.proofs.lemmas.List.{get_or-set_same, get_or-set_other, get_or_past}
@@ -10,13 +10,13 @@ use Rattle.std.proofs.lemmas.List.Elements.{All-set}
 use Rattle.g1_layout.specs.Shape.{Shape, IsShape, slot_count}
 use Rattle.g1_core.specs.declared.redirection.Change.{Change}
 use Rattle.g1_core.specs.Machine.{IsCore}
-use Rattle.g1_core.specs.Table.{same_offset, enters, moved_target, moved}
+use Rattle.g1_core.specs.Table.{same_offset, enters, moved_target}
 use Rattle.g1_core.specs.Redirect.{change_at, changes_of, changed}
 use Rattle.g1_core.proofs.RunLemmas.{has_slots}
 use Rattle.g1_core.proofs.MovedLemmas.{same_offset_region}
 use Rattle.g1_heap.specs.Cells.{Cells}
 use Rattle.g1_hot.specs.Ring.{Ring}
-use Rattle.g1_sets.specs.Pairs.{Pairs, of_region}
+use Rattle.g1_sets.specs.Pairs.{Pairs}
 use Rattle.g1_core.specs.Clearing.{AreRead}
 use Rattle.g1_core.proofs.TurnLemmas.{front_apart, rest_distinct}
 use Rattle.g1_core.proofs.PlaceLemmas.{map_set, count_set, count_none, map_same}

@@ -1,5 +1,5 @@
 -- A clear is a step of the plain table: the set of a region has each card that enters it.
-use Rattle.std.proofs.Common.{◌≡◌, ◌≢◌, inl, inr, ℕ, zero, suc, ◌<◌, ◌≤◌, ◌+◌, ◌-◌, ◌*◌, true, false, cond, eqb, List, [], ◌∷◌, length, Some, None, refl, sym, ap, ◌∙◌, subst, arith}
+use Rattle.std.proofs.Common.{◌≡◌, inl, inr, ℕ, suc, ◌<◌, ◌≤◌, ◌+◌, ◌-◌, ◌*◌, true, cond, eqb, List, [], ◌∷◌, length, Some, None, refl, sym, ap, ◌∙◌, subst, arith}
 use Rattle.std.specs.Prelude.{Contains, nat_eq, not}
 use Rattle.std.specs.List.{IsDistinct}
 use Rattle.std.specs.FinSet as set
@@ -12,17 +12,17 @@ use Rattle.g1_layout.specs.Sets.{CardSet, PairSet, pair_cmp}
 use Rattle.g1_heap.specs.Cells.{Cells}
 use Rattle.g1_sets.specs.Pairs.{Pairs, AreTied, list_at, without}
 use Rattle.g1_hot.specs.Ring.{Ring}
-use Rattle.g1_core.specs.Table.{Table, Enters, IsCovered, IsRecorded, refined}
+use Rattle.g1_core.specs.Table.{Table, Enters, IsCovered, IsRecorded}
 use Rattle.g1_core.specs.Settings.{Settings}
 use Rattle.g1_core.specs.Machine.{Machine, IsCore, AreParts, pending_of, table_from, machine_from}
-use Rattle.g1_core.specs.Run.{IsFirstInto, IsStep, Clear, Reply, Cleared, StillReferenced, Answers, settled}
+use Rattle.g1_core.specs.Run.{IsFirstInto, IsStep, Clear, Cleared, Answers, settled}
 use Rattle.g1_core.specs.declared.reply.ClearReply.{ClearReply}
 use Rattle.g1_core.specs.declared.reply.ClearReply.TheVariants as clear_reply
 use Rattle.g1_core.specs.Calls.{clear_entry, clear_answer}
 use Rattle.g1_core.specs.Clearing.{member_count, IsLeastOn, AreRead}
 use Rattle.g1_core.proofs.SetLemmas.{pair_total, pair_exact}
 use Rattle.g1_core.proofs.RunLemmas.{has_slots, step_covered}
-use Rattle.g1_core.proofs.MarkLemmas.{one_of, none_of}
+use Rattle.g1_core.proofs.MarkLemmas.{none_of}
 use Rattle.g1_core.proofs.RefinedLemmas.{refined_none}
 use Rattle.g1_core.proofs.TurnLemmas.{front_apart, rest_distinct}
 use Rattle.g1_core.proofs.StoreLemmas.{none_refinable}

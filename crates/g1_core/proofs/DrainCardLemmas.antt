@@ -1,6 +1,6 @@
 -- One card of a drain: what refining it leaves, and what a refused record leaves.
-use Rattle.std.proofs.Common.{◌≡◌, ◌≢◌, ℕ, ◌<◌, ◌≤◌, ◌+◌, ◌-◌, ◌^◌, true, false, [], ◌∷◌, length, get_or, Option, Some, None, refl, sym, ap, ◌∙◌, subst, arith, ◌↔◌}
-use Rattle.std.specs.Prelude.{Contains, IfSome, IfNone, MatchOption, nat_eq, slice_get, not}
+use Rattle.std.proofs.Common.{◌≡◌, ◌≢◌, ℕ, ◌<◌, ◌≤◌, ◌+◌, ◌^◌, true, false, [], ◌∷◌, length, get_or, Option, Some, None, refl, sym, ap, ◌∙◌, subst, arith, ◌↔◌}
+use Rattle.std.specs.Prelude.{Contains, IfSome, IfNone, MatchOption, nat_eq, slice_get}
 use Rattle.std.specs.List.{IsDistinct}
 use Rattle.std.specs.FinSet as set
 use Rattle.g1_layout.specs.Shape.{card_count}
@@ -14,7 +14,7 @@ use Rattle.g1_core.specs.Machine.{State, Machine, AreParts, IsCore, table_from, 
 use Rattle.g1_core.specs.Turns.{is_dirty}
 use Rattle.g1_core.specs.Pause.{IsCardDrained, IsCardRead}
 use Rattle.g1_core.proofs.MarkLemmas.{held_clean, dirty_clean, is_card, to_pending, one_less, some_member}
-use Rattle.g1_core.proofs.PartLemmas.{cleaned_state, cleaned_parts, read_parts, IsFront, front_of, oldest_mark, oldest_within, left_distinct, left_stands, apart_stands, mark_dirty, is_dirty_mark, not_dirty, dirty_mark}
+use Rattle.g1_core.proofs.PartLemmas.{cleaned_state, cleaned_parts, read_parts, IsFront, front_of, oldest_mark, oldest_within, left_distinct, left_stands, apart_stands, mark_dirty, is_dirty_mark, not_dirty}
 
 -- reads add up
 pub reads_none : (reads : ℕ) → reads < 2 ^ 64 → reads_after reads 0 ≡ reads

@@ -1,25 +1,24 @@
 -- A drain, whole and short, is a step of the plain table.
-use Rattle.std.proofs.Common.{◌≡◌, ◌≢◌, inl, inr, ℕ, ◌<◌, ◌+◌, ◌-◌, true, false, List, [], ◌++◌, length, refl, sym, ap, ◌∙◌, subst, arith}
-use Rattle.std.specs.Prelude.{◌&&◌, Contains, All, not}
+use Rattle.std.proofs.Common.{◌≡◌, inl, inr, ℕ, ◌<◌, ◌+◌, false, List, [], ◌++◌, length, refl, sym, ap, ◌∙◌, subst, arith}
+use Rattle.std.specs.Prelude.{◌&&◌, Contains, not}
 use Rattle.std.specs.FinSet as set
 use Rattle.std.specs.Ordering.{nat_cmp}
 use Rattle.std.proofs.lemmas.Bool.{true≢false}
 use Rattle.std.proofs.lemmas.List.{append-nil, length-append}
 use Rattle.g1_layout.specs.Shape.{Shape, IsShape}
 use Rattle.g1_layout.specs.Sets.{set_of}
-use Rattle.g1_heap.specs.declared.mark.Mark.TheVariants.{Dirty}
 use Rattle.g1_hot.specs.Ring.{Ring, reset}
 use Rattle.g1_core.specs.Run.{Entry, IsStep}
 use Rattle.g1_core.specs.Calls.{drain_entry}
 use Rattle.g1_core.specs.declared.reply.Drained.TheVariants as answers
 use Rattle.g1_core.proofs.RunLemmas.{HasSlots, has_slots, step_covered}
-use Rattle.g1_core.specs.Table.{Table, AreMembers, IsCovered, refined}
+use Rattle.g1_core.specs.Table.{Table, AreMembers, IsCovered}
 use Rattle.g1_core.specs.Machine.{Machine}
 use Rattle.g1_core.specs.Turns.{is_dirty}
 use Rattle.g1_core.specs.Pause.{with_cards, AreDirtyBelow, Drains, IsDirtyDrained, IsDirtyStopped, IsRingDrained, IsShortDrain, IsWholeDrain, IsAllDrained, reset_machine}
 use Rattle.g1_core.proofs.SetLemmas.{same_cards}
 use Rattle.g1_core.proofs.TableLemmas.{refined_pending}
-use Rattle.g1_core.proofs.TurnLemmas.{IsDirty, to_dirty}
+use Rattle.g1_core.proofs.TurnLemmas.{to_dirty}
 use Rattle.g1_core.proofs.DrainLoopLemmas.{drains_both, and_true, none_below}
 
 -- a drain that stops in the ring

@@ -1,19 +1,19 @@
 -- The two loops of a drain, which count nothing: over the ring, and over the dirty cards.
-use Rattle.std.proofs.Common.{◌≡◌, ◌≢◌, inl, inr, ℕ, zero, suc, ◌<◌, ◌≤◌, ◌+◌, ◌*◌, ◌-◌, ◌^◌, Bool, true, false, List, [], ◌∷◌, ◌++◌, length, drop, Some, refl, sym, ap, ◌∙◌, subst, arith}
-use Rattle.std.specs.Prelude.{◌&&◌, Contains, All, slice_get, not}
+use Rattle.std.proofs.Common.{◌≡◌, ◌≢◌, inl, inr, ℕ, suc, ◌<◌, ◌≤◌, ◌+◌, ◌*◌, ◌^◌, Bool, true, false, List, [], ◌∷◌, ◌++◌, length, drop, Some, refl, sym, ap, ◌∙◌, subst, arith}
+use Rattle.std.specs.Prelude.{◌&&◌, Contains, slice_get, not}
 use Rattle.std.specs.FinSet as set
 use Rattle.std.proofs.lemmas.Bool.{cases_lt, and_parts, not-true, true≢false, false_from_ne_true}
 use Rattle.std.proofs.lemmas.List.{append-nil, append_assoc, length_push}
 use Rattle.std.proofs.lemmas.List.Elements.{All-contains, Contains-push, Contains-append_left, Contains-push_cases}
 use Rattle.g1_layout.specs.Sets.{set_of}
-use Rattle.g1_heap.specs.declared.mark.Mark.TheVariants.{Dirty}
 use Rattle.g1_heap.specs.Cells.{reads_after}
 use Rattle.g1_hot.specs.Ring.{Ring, popped}
 use Rattle.g1_core.specs.Table.{Table, AreRefinable, IsPending, refined}
 use Rattle.g1_core.specs.Machine.{State, Machine}
 use Rattle.g1_core.specs.Turns.{is_dirty}
 use Rattle.g1_core.specs.Pause.{with_cards, AreDirtyBelow, Drains, IsCardDrained, IsCardRead, IsDirtyDrained, IsDirtyStopped, IsRingDrained}
-use Rattle.g1_core.proofs.SetLemmas.{in_list, in_set, increasing_push, All_by_member}
+use Rattle.g1_core.proofs.SetLemmas.{in_list, in_set, All_by_member}
+use Rattle.g1_sets.proofs.AscendingLemmas.{increasing_push}
 use Rattle.g1_core.proofs.TableLemmas.{refined_pending}
 use Rattle.g1_core.proofs.MarkLemmas.{one_of}
 use Rattle.g1_core.proofs.RefinedLemmas.{refined_none, refined_both, refinable_push}

@@ -1,6 +1,6 @@
 -- Worked histories on a heap of 4 regions of 2 cards of 4 slots: the definitions allow the right answers and refuse changed ones.
-use Rattle.std.proofs.Common.{◌≡◌, ◌≢◌, ◌⊎◌, inl, inr, ℕ, zero, suc, ◌<◌, ◌≤◌, Bool, true, false, cond, List, [], ◌∷◌, ◌++◌, get_or, Option, Some, None, refl, sym, ap, ◌∙◌, arith}
-use Rattle.std.specs.Prelude.{Contains, not}
+use Rattle.std.proofs.Common.{◌≡◌, ℕ, ◌<◌, ◌≤◌, false, cond, List, [], ◌∷◌, Option, Some, None, refl, sym, ap, ◌∙◌, arith}
+use Rattle.std.specs.Prelude.{Contains}
 use Rattle.std.specs.FinSet as set
 use Rattle.std.specs.Ordering.{nat_cmp}
 use Rattle.std.proofs.lemmas.Bool.{true≢false}
@@ -9,7 +9,7 @@ use Rattle.g1_layout.specs.declared.kind.Kind.{Kind}
 use Rattle.g1_layout.specs.declared.kind.Kind.TheVariants.{SameRegion, Null, AlreadyDirty, Logged}
 use Rattle.g1_core.specs.declared.reply.Fill.TheVariants.{No}
 use Rattle.g1_core.specs.Table.{Table, opening, Holds, Enters, IsPending}
-use Rattle.g1_core.specs.Run.{Entry, Call, Reply, Store, Members, Clear, Redirect, Drain, Stored, Cards, Cleared, StillReferenced, StillPending, Moved, Short, kind_of, stored, IsAllowed, IsPermitted, table_of, drained, IsExact}
+use Rattle.g1_core.specs.Run.{Entry, Reply, Store, Members, Clear, Redirect, Stored, Cards, Cleared, StillReferenced, Moved, IsAllowed, IsPermitted, table_of, drained, IsExact}
 use Rattle.g1_core.proofs.StoreLemmas.{none_refinable}
 use Rattle.g1_core.proofs.RunLemmas.{permitted_parts, drain_exact, has_slots}
 use Rattle.g1_core.proofs.TableLemmas.{nothing_refers}

@@ -1,6 +1,6 @@
 -- A list that is mapped and counted by place, once one place is written.
-use Rattle.std.proofs.Common.{◌≡◌, ◌≢◌, ℕ, zero, suc, ◌<◌, ◌+◌, ◌-◌, Bool, true, false, cond, List, [], ◌∷◌, length, get_or, set as list_set, refl, sym, ap, ◌∙◌, arith, map}
-use Rattle.std.specs.Prelude.{not, count_by}
+use Rattle.std.proofs.Common.{◌≡◌, ℕ, zero, suc, ◌<◌, ◌+◌, Bool, true, false, cond, List, [], ◌∷◌, length, get_or, set as list_set, refl, sym, ap, ◌∙◌, arith, map}
+use Rattle.std.specs.Prelude.{count_by}
 use Rattle.std.specs.List.{enumerate_from}
 use Rattle.std.proofs.lemmas.Bool.{true≢false}
 use Rattle.std.proofs.lemmas.List.Sums.{sum_by-cons}

@@ -1,6 +1,6 @@
 -- The redirect, whole and short, is a step of the plain table.
-use Rattle.std.proofs.Common.{◌≡◌, ◌≢◌, inl, ℕ, ◌<◌, ◌≤◌, ◌+◌, ◌-◌, ◌*◌, List, [], ◌++◌, length, refl, sym, ap, ◌∙◌, subst, arith}
-use Rattle.std.specs.Prelude.{All, not, count_by}
+use Rattle.std.proofs.Common.{◌≡◌, ◌≢◌, inl, ℕ, ◌<◌, ◌≤◌, ◌+◌, ◌*◌, List, ◌++◌, length, refl, sym, ap, ◌∙◌, subst, arith}
+use Rattle.std.specs.Prelude.{All, count_by}
 use Rattle.std.specs.List.{enumerate_from}
 use Rattle.std.specs.FinSet as set
 use Rattle.std.proofs.Math.Nat.{mul-le-mul}

@@ -1,5 +1,5 @@
 -- The changes of a region's members are all that a redirect has to move.
-use Rattle.std.proofs.Common.{◌≡◌, ◌≢◌, inl, inr, ℕ, ◌<◌, ◌-◌, ◌*◌, Bool, true, false, cond, eqb, List, [], length, get_or, Option, Some, None, refl, sym, ap, ◌∙◌, subst, arith, map, Result, Ok, Err}
+use Rattle.std.proofs.Common.{◌≡◌, ◌≢◌, inl, inr, ℕ, ◌<◌, ◌*◌, Bool, true, false, cond, eqb, List, length, get_or, Option, Some, None, refl, sym, ap, ◌∙◌, subst, arith, map, Result, Ok, Err}
 use Rattle.std.specs.Prelude.{Contains, All, not, ◌&&◌, count_by, OnErr}
 use Rattle.std.specs.List.{filter_map, enumerate_from}
 use Rattle.std.specs.FinSet as set

@@ -1,29 +1,27 @@
 -- The turns of cards over the parts of a core.
-use Rattle.std.proofs.Common.{◌≡◌, ◌≢◌, inl, inr, ℕ, ◌<◌, ◌≤◌, ◌+◌, Bool, true, false, cond, List, [], ◌∷◌, ◌++◌, length, get_or, take, drop, Option, Some, None, refl, sym, ap, ◌∙◌, subst, arith, ◌↔◌}
+use Rattle.std.proofs.Common.{◌≡◌, ◌≢◌, inl, inr, ℕ, ◌<◌, ◌≤◌, ◌+◌, false, cond, List, [], ◌∷◌, ◌++◌, length, get_or, take, Option, Some, None, refl, sym, ap, ◌∙◌, subst, arith, ◌↔◌}
 use Rattle.std.specs.Prelude.{Contains, nat_eq}
 use Rattle.std.specs.List.{IsDistinct}
-use Rattle.std.proofs.lemmas.Bool.{cases_eq}
 use Rattle.std.proofs.lemmas.List.{length-set}
 use Rattle.g1_layout.specs.Shape.{card_count}
-use Rattle.g1_heap.specs.declared.mark.Mark.{Mark}
 use Rattle.g1_heap.specs.declared.mark.Mark.TheVariants.{Clean, Dirty, Held}
 use Rattle.g1_heap.specs.Cells.{Cells, with_mark, with_reads}
 use Rattle.g1_sets.specs.Pairs.{Pairs}
 use Rattle.g1_hot.specs.declared.offer.Offer.{Offer}
 use Rattle.g1_hot.specs.declared.offer.Offer.TheVariants.{Cold, Kept, Out}
-use Rattle.g1_hot.specs.Ring.{Ring, answer, counted, offered, cards_after, popped}
+use Rattle.g1_hot.specs.Ring.{Ring, answer, offered, cards_after, popped}
 use Rattle.g1_layout.specs.Sets.{PairSet}
-use Rattle.g1_core.specs.Table.{Table, IsCovered, refined}
+use Rattle.g1_core.specs.Table.{IsCovered, refined}
 use Rattle.g1_core.specs.Settings.{Settings}
 use Rattle.g1_core.specs.Machine.{Machine, State, IsCore, IsPlaced, AreParts, pending_of, table_from, state_from, machine_from, gained}
-use Rattle.g1_core.specs.Turns.{Round, turn, turns, turn_by, start, offer_to, state_after, refined_by, hot_by, skipped_by}
+use Rattle.g1_core.specs.Turns.{Round, turns, start, offer_to, state_after, refined_by, hot_by, skipped_by}
 use Rattle.g1_core.specs.Refinement.{IsTurned, round_of}
 use Rattle.g1_core.specs.declared.reply.RefineReply.{RefineReply}
 use Rattle.g1_core.proofs.TableLemmas.{refined_covered}
-use Rattle.g1_core.proofs.MarkLemmas.{held_clean, dirty_clean, dirty_held, to_pending, is_card, mark_there, some_member}
+use Rattle.g1_core.proofs.MarkLemmas.{held_clean, dirty_clean, to_pending, is_card, mark_there, some_member}
 use Rattle.g1_core.proofs.TurnLemmas.{answer_cases, IsRound, turns_round, start_round, round_more}
 use Rattle.g1_core.proofs.RefinedLemmas.{refined_none}
-use Rattle.g1_core.proofs.PartLemmas.{parts_placed, dirty_mark, offer_dirty, offer_none, read_parts, cleaned_state, cleaned_parts, held_state, held_parts, apart_stands, oldest_mark, oldest_within, left_distinct, left_stands, differs}
+use Rattle.g1_core.proofs.PartLemmas.{dirty_mark, offer_dirty, offer_none, read_parts, cleaned_state, cleaned_parts, held_state, held_parts, apart_stands, oldest_mark, oldest_within, left_distinct, left_stands, differs}
 
 -- the oldest card, where the ring answers that it leaves
 pub record IsOutOf (r : Ring) (card d : ℕ) : Type 0 where

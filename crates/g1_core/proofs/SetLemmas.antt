@@ -1,9 +1,6 @@
 -- Membership in sets of cards and of pairs.
-use Rattle.std.proofs.Common.{◌≡◌, inl, inr, ℕ, zero, suc, ◌<◌, ◌+◌, Bool, true, false, List, [], ◌∷◌, ◌++◌, length, get_or, map, Option, Some, None, refl, sym, ap, ◌∙◌, subst, arith}
+use Rattle.std.proofs.Common.{◌≡◌, ℕ, zero, suc, ◌<◌, Bool, true, false, List, [], ◌∷◌, length, get_or, map, Option, Some, None, refl, sym, ap, ◌∙◌, subst, arith}
 use Rattle.std.specs.Prelude.{Contains, All}
-use Rattle.std.specs.List.Sorted.{IsStrictlyIncreasing}
-use Rattle.std.proofs.lemmas.Bool.{cases_lt}
-use Rattle.std.proofs.lemmas.List.{get_or_append_left, get_or_push, length_push}
 use Rattle.std.proofs.lemmas.List.Elements.{Contains-get_or}
 use Rattle.std.specs.declared.cmp.Ordering.{Ordering}
 use Rattle.std.specs.declared.cmp.Ordering.TheVariants.{Equal}
@@ -71,23 +68,6 @@ of_card_to card (r ∷ rs) p on (zero, lt, e) = (0, omega arith, (λ i. (sym on 
 of_card_to card (r ∷ rs) p on (suc k, lt, e) =
     let rest : Contains (map (λ (r : ℕ). (card, r)) rs) p = of_card_to card rs p on (k, omega arith, e) in
     (suc rest.0, omega (arith, rest.1), rest.2)
-
--- a greater number goes last
-pub increasing_push : (xs : List ℕ) (y : ℕ) → IsStrictlyIncreasing xs → All (λ x. x < y) xs → IsStrictlyIncreasing (xs ++ y ∷ [])
-increasing_push xs y up below k lt =
-    let more : length (xs ++ y ∷ []) ≡ length xs + 1 = length_push xs y in
-    let here : k < length xs = omega arith in
-    let first : get_or (xs ++ y ∷ []) k 0 ≡ get_or xs k 0 = get_or_append_left xs (y ∷ []) 0 k here in
-    let less : get_or xs k 0 < y = below k 0 here in
-    elim (cases_lt (k + 1) (length xs)) [
-      | inl inside ↦
-          let second : get_or (xs ++ y ∷ []) (k + 1) 0 ≡ get_or xs (k + 1) 0 = get_or_append_left xs (y ∷ []) 0 (k + 1) inside in
-          let step : get_or xs k 0 < get_or xs (k + 1) 0 = up k inside in
-          omega arith
-      | inr last ↦
-          let second : get_or (xs ++ y ∷ []) (k + 1) 0 ≡ y = get_or_push xs y 0 (k + 1) (omega arith) in
-          omega arith
-    ]
 
 -- what a filter_map keeps
 module _ {X Y : Type 0} (h : X → Option Y) where

@@ -1,6 +1,6 @@
 -- The barrier.
 use Rattle.std.proofs.Common.{◌≡◌, ◌≢◌, ◌⊎◌, inl, inr, ℕ, ◌<◌, ◌≤◌, ◌+◌, Bool, true, false, cond, eqb, set as list_set, List, [], length, get_or, Option, Some, None, refl, sym, ap, ◌∙◌, subst, arith}
-use Rattle.std.specs.Prelude.{All, IfSome}
+use Rattle.std.specs.Prelude.{IfSome}
 use Rattle.std.specs.List.{IsDistinct}
 use Rattle.std.specs.FinSet as set
 use Rattle.std.proofs.lemmas.Bool.{cases_eq, true≢false, false_from_ne_true}
@@ -19,7 +19,7 @@ use Rattle.g1_hot.specs.Ring.{Ring}
 use Rattle.g1_core.specs.Table.{Table, IsCovered, AreRefinable, refined}
 use Rattle.g1_core.specs.Settings.{Settings}
 use Rattle.g1_core.specs.Machine.{Machine, State, IsCore, AreParts, pending_of, table_from, state_from, machine_from}
-use Rattle.g1_core.specs.Run.{IsStep, IsCallOf, Store, Stored, kind_of, stored, pending_after}
+use Rattle.g1_core.specs.Run.{IsStep, IsCallOf, Store, kind_of, stored, pending_after}
 use Rattle.g1_core.specs.declared.reply.StoreReply.{StoreReply}
 use Rattle.g1_core.specs.Calls.{store_entry}
 use Rattle.g1_core.proofs.TableLemmas.{stored_covered}

@@ -1,5 +1,5 @@
 -- What a clear finds: the least slot on some cards that refers into a region, and how many slots are read for it.
-use Rattle.std.specs.Prelude.{◌≡◌, ◌≤◌, ℕ, ◌+◌, ◌*◌, ◌==◌, List, Option, Some, None, Contains, min}
+use Rattle.std.specs.Prelude.{◌≡◌, ◌≤◌, ℕ, ◌+◌, ◌==◌, List, Option, Some, None, Contains, min}
 use Rattle.std.specs.FinSet as set
 use Rattle.g1_layout.specs.Shape.{card_of}
 use Rattle.g1_heap.specs.Cells.{Cells}

@@ -1,14 +1,13 @@
 -- What a redirect changes.
-use Rattle.std.specs.Prelude.{◌≡◌, ◌≢◌, ◌≤◌, ◌<◌, ◌↔◌, ℕ, ◌+◌, ◌*◌, List, [], Option, Some, None, Contains, All, length, if◌then◌else◌, fold, slice_set, slice_index_or}
+use Rattle.std.specs.Prelude.{◌≡◌, ◌≢◌, ◌≤◌, ◌↔◌, ℕ, ◌+◌, ◌*◌, List, [], Option, Some, None, Contains, length, if◌then◌else◌, fold, slice_set, slice_index_or}
 use Rattle.std.specs.List.{filter_map, flat_map, range_with_len}
-use Rattle.std.specs.FinSet as set
-use Rattle.g1_layout.specs.Shape.{Shape, slot_count, region_of_card}
+use Rattle.g1_layout.specs.Shape.{Shape, region_of_card}
 use Rattle.g1_hot.specs.Ring.{reset}
 use Rattle.g1_core.specs.declared.redirection.Change.{Change}
 use Rattle.g1_core.specs.declared.reply.Redirected.{Redirected}
 use Rattle.g1_core.specs.declared.reply.Redirected.TheVariants.{Moved, Short}
-use Rattle.g1_core.specs.Table.{AreRefinable, enters, moved, refined, same_offset}
-use Rattle.g1_core.specs.Machine.{Machine, State}
+use Rattle.g1_core.specs.Table.{enters, moved, refined, same_offset}
+use Rattle.g1_core.specs.Machine.{Machine}
 use Rattle.g1_core.specs.Pause.{IsDrainOrder, with_cards}
 use Rattle.g1_core.specs.Clearing.{member_count}
 

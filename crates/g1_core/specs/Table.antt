@@ -1,10 +1,9 @@
 -- The plain table of a heap: what each slot refers to, which cards are pending, and which pairs
 -- (card, region) are recorded. It knows no buffer, count, order or mark.
-use Rattle.std.specs.Prelude.{◌≡◌, ◌≢◌, ℕ, ◌==◌, Bool, List, Option, Some, None, IsTrue, ◌⊎◌, if◌then◌else◌, replicate, slice_index_or, nat_eq, All, Contains, map, count_by, not, ◌&&◌, false, ◌+◌, ◌*◌, ◌%◌}
+use Rattle.std.specs.Prelude.{◌≡◌, ◌≢◌, ℕ, ◌==◌, Bool, List, Option, Some, None, IsTrue, ◌⊎◌, if◌then◌else◌, replicate, slice_index_or, nat_eq, All, map, count_by, not, ◌&&◌, false, ◌+◌, ◌*◌, ◌%◌}
 use Rattle.std.specs.List.{IsDistinct, filter_map, enumerate_from}
-use Rattle.std.specs.List.Sorted.{IsStrictlyIncreasing}
 use Rattle.std.specs.FinSet as set
-use Rattle.g1_layout.specs.Shape.{Shape, slot_count, card_of, region_of, region_of_card}
+use Rattle.g1_layout.specs.Shape.{Shape, slot_count, card_of, region_of}
 use Rattle.g1_heap.specs.Cells.{HoldsIn}
 use Rattle.g1_sets.specs.Pairs.{AreCardsOf}
 use Rattle.g1_layout.specs.Sets.{CardSet, PairSet, set_of}

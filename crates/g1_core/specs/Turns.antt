@@ -1,11 +1,11 @@
 -- The turn of a card in refinement, and a round of turns.
-use Rattle.std.specs.Prelude.{◌≡◌, ℕ, Bool, List, [], ◌∷◌, ◌++◌, Option, Some, None, if◌then◌else◌, not, ◌&&◌, fold, ◌+◌}
+use Rattle.std.specs.Prelude.{ℕ, Bool, List, [], ◌∷◌, ◌++◌, Option, Some, None, if◌then◌else◌, not, ◌&&◌, fold, ◌+◌}
 use Rattle.std.specs.FinSet as set
 use Rattle.g1_hot.specs.declared.offer.Offer.{Offer}
 use Rattle.g1_hot.specs.declared.offer.Offer.TheVariants.{Cold, Kept, Out}
 use Rattle.g1_hot.specs.Ring.{Ring, answer, offered}
 use Rattle.g1_layout.specs.Sets.{set_of}
-use Rattle.g1_core.specs.Table.{Table, refined}
+use Rattle.g1_core.specs.Table.{refined}
 use Rattle.g1_core.specs.Machine.{State}
 
 -- a card is dirty where it is pending and does not stand in the ring

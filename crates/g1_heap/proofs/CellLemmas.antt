@@ -1,16 +1,14 @@
 -- The words and bytes of a heap, and what they stand for.
-use Rattle.std.proofs.Common.{◌≡◌, inl, inr, ℕ, zero, suc, ◌<◌, ◌≤◌, ◌+◌, ◌-◌, ◌*◌, ◌/◌, List, [], ◌∷◌, length, get_or, take, drop, map, replicate, Option, Some, None, refl, sym, ap, ◌∙◌, subst, arith, ◌↔◌, set as list_set}
-use Rattle.std.specs.Prelude.{Contains, IfSome}
+use Rattle.std.proofs.Common.{◌≡◌, inl, inr, ℕ, zero, suc, ◌<◌, ◌≤◌, List, ◌∷◌, length, get_or, map, replicate, Option, Some, None, refl, sym, ap, ◌∙◌, subst, set as list_set}
+use Rattle.std.specs.Prelude.{IfSome}
 use Rattle.std.specs.Option.{SomeIff}
-use Rattle.std.proofs.Math.Nat.{div-mul-le_self, lt-div-mul-add}
-use Rattle.std.proofs.lemmas.Nat.{div-mul-add}
 use Rattle.std.proofs.lemmas.Bool.{cases_lt, lt-ltb, le-ltb}
 use Rattle.std.proofs.lemmas.List.Elements.{All-map}
-use Rattle.std.proofs.lemmas.List.{map-set, length-map, get_or-take, get_or-drop, get_or-map, length-take, length-drop}
-use Rattle.g1_layout.specs.Shape.{Shape, slot_count, card_count, region_of_card}
+use Rattle.std.proofs.lemmas.List.{map-set, length-map, get_or-map}
+use Rattle.g1_layout.specs.Shape.{Shape, slot_count, card_count}
 use Rattle.g1_heap.specs.declared.mark.Mark.{Mark}
 use Rattle.g1_heap.specs.declared.mark.Mark.TheVariants.{Clean}
-use Rattle.g1_heap.specs.Cells.{AreCells, Cells, HoldsIn, new_cells, with_ref, with_mark}
+use Rattle.g1_heap.specs.Cells.{AreCells, Cells, new_cells, with_ref, with_mark}
 use Rattle.g1_heap.specs.Stored.{AreStored, ref_of, mark_of}
 
 map_replicate : {A B : Type 0} (f : A → B) (n : ℕ) (x : A) → map f (replicate n x) ≡ replicate n (f x)

@@ -1,5 +1,5 @@
 -- Where the regions lie that a card holds into.
-use Rattle.std.proofs.Common.{◌≡◌, inl, inr, ℕ, ◌<◌, List, length, get_or, Option, Some, None, sym, ◌∙◌, subst, ◌↔◌}
+use Rattle.std.proofs.Common.{◌≡◌, inl, inr, ℕ, ◌<◌, List, length, get_or, Some, None, sym, ◌∙◌, subst, ◌↔◌}
 use Rattle.std.specs.Prelude.{All, Contains, IfSome}
 use Rattle.std.proofs.lemmas.Bool.{cases_lt}
 use Rattle.std.proofs.lemmas.List.{get_or_past, get_or_default}

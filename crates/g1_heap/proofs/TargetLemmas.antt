@@ -1,14 +1,14 @@
 -- The regions into which a card holds, as one pass over its words finds them.
-use Rattle.std.proofs.Common.{◌≡◌, ◌≢◌, ◌⊎◌, inl, inr, ℕ, zero, suc, ◌<◌, ◌≤◌, ◌+◌, ◌-◌, ◌*◌, ◌/◌, List, [], ◌∷◌, ◌++◌, length, get_or, take, drop, map, replicate, Option, Some, None, refl, sym, ap, ◌∙◌, subst, arith, ◌↔◌, Bool, true, false}
-use Rattle.std.specs.Prelude.{Contains, IsTrue, nat_eq}
-use Rattle.std.specs.List.{AllPairs, IsDistinct}
+use Rattle.std.proofs.Common.{◌≡◌, ◌≢◌, ◌⊎◌, inl, inr, ℕ, ◌<◌, ◌≤◌, ◌+◌, ◌-◌, ◌*◌, ◌/◌, List, [], ◌∷◌, ◌++◌, length, get_or, take, drop, map, replicate, Option, Some, None, sym, ap, ◌∙◌, subst, arith, ◌↔◌, true, false}
+use Rattle.std.specs.Prelude.{Contains}
+use Rattle.std.specs.List.{AllPairs}
 use Rattle.std.proofs.lemmas.Bool.{cases_lt}
 use Rattle.std.proofs.lemmas.Bool.Decides.{Decides-eqb}
 use Rattle.std.proofs.lemmas.List.Elements.{Contains-append_left, Contains-push, Contains-push_cases}
 use Rattle.std.proofs.lemmas.List.Quantifiers.{all_pairs_push}
 use Rattle.std.proofs.lemmas.Map.Made.{IsDistinct-from_AllPairs}
 use Rattle.std.proofs.lemmas.List.{get_or-take, get_or-drop, get_or-map, get_or-replicate, get_or_past, get_or_default, length-take, length-drop, length-replicate}
-use Rattle.g1_layout.specs.Shape.{Shape, IsShape, card_of, region_of, region_of_card}
+use Rattle.g1_layout.specs.Shape.{Shape, IsShape, region_of, region_of_card}
 use Rattle.g1_layout.proofs.ShapeLemmas.{IsInRow, card_of-row, row_of_card}
 use Rattle.g1_heap.specs.declared.region_set.RegionSet.{RegionSet}
 use Rattle.g1_heap.specs.Cells.{HoldsIn}

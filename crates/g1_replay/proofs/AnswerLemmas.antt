@@ -1,6 +1,5 @@
 -- The calls of a command, and the line of what they answer.
-use Rattle.std.proofs.Common.{◌≡◌, ℕ, ◌⊎◌, List, [], ◌∷◌, Option, true, false, refl, subst, sym, ap, ◌∙◌, inl, inr, length, map, append-nil}
-use Rattle.std.specs.Prelude.{Result, Ok, Err}
+use Rattle.std.proofs.Common.{ℕ, List, [], ◌∷◌, Option, true, false, subst, sym, inl, inr, length, map}
 use Rattle.g1_core.specs.declared.reply.StoreReply.{StoreReply}
 use Rattle.g1_core.specs.declared.reply.RefineReply.{RefineReply}
 use Rattle.g1_core.specs.Run.{Entry}

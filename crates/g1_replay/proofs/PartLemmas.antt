@@ -1,16 +1,31 @@
 -- A line that goes on in the bytes that a reader shows.
-use Rattle.std.proofs.Common.{◌≡◌, ◌≢◌, ℕ, ◌+◌, ◌<◌, ◌≤◌, List, [], ◌∷◌, ◌++◌, length, take, get_or, sym, ap, subst, ◌∙◌, arith, append_assoc, append-nil, add-one, length-take-le, length-append, Option}
+use Rattle.std.proofs.Common.{◌≡◌, ◌≢◌, ℕ, ◌+◌, ◌<◌, ◌≤◌, List, [], ◌∷◌, ◌++◌, length, take, get_or, sym, ap, subst, ◌∙◌, arith, append_assoc, append-nil, add-one, length-take-le, length-append, Option, Some, None, zero, suc}
 use Rattle.std.proofs.Math.Seq.{take-suc}
+use Rattle.std.proofs.lemmas.Bool.{eq-eqb, eqb-true}
+use Rattle.std.specs.Option.{unwrap_or}
+use Rattle.memchr.specs.Find.{Nowhere, Passes, IsFirstByte, is_byte}
 use Rattle.std.specs.Io.KnownBytes.{Consumes}
 use Rattle.g1_replay.specs.declared.lines.Part.{Part}
 use Rattle.g1_replay.specs.declared.lines.Part.TheVariants.{Whole, TooLong, More, Nothing, Failed}
 use Rattle.g1_replay.specs.declared.lines.NextLine.TheVariants as ended
-use Rattle.g1_replay.specs.Lines.{IsPart, GoesOn, ReadsPart, ReadsLine}
+use Rattle.g1_replay.specs.Lines.{IsPart, EndsAtFeed, GoesOn, ReadsPart, ReadsLine}
 use Rattle.g1_replay.proofs.ReadLemmas.{consumes_then, part_push}
 
 -- one more byte that is no line feed
 pub part_longer : (bytes : List ℕ) (i : ℕ) → i < length bytes → get_or bytes i 0 ≢ 10 → IsPart (take i bytes) → IsPart (take (i + 1) bytes)
 part_longer bytes i h ne p = rw (add-one, take-suc bytes i 0 h) (part_push (take i bytes) (get_or bytes i 0) p ne)
+
+-- no line feed before the place that a search found
+part_before : (bytes : List ℕ) (k : ℕ) → k ≤ length bytes → Nowhere (Passes (is_byte 10) bytes) 0 k → IsPart (take k bytes)
+part_before bytes zero h none = tt
+part_before bytes (suc k) h none =
+    let before = part_before bytes k (omega arith) (λ q low high. none q low (omega arith)) in
+    rw (sym (add-one k)) (part_longer bytes k (omega arith) (λ e. none k (omega arith) (omega arith) (eq-eqb _ _ e)) before)
+
+-- where a search for a line feed ends
+pub feed_found : (bytes : List ℕ) (found : Option ℕ) → IsFirstByte (is_byte 10) bytes found → EndsAtFeed bytes (unwrap_or found (length bytes))
+feed_found bytes None none = (part_before bytes (length bytes) (omega arith) none, λ h. absurd (omega arith))
+feed_found bytes (Some k) h = (part_before bytes k (omega arith) h.0.before, λ _. eqb-true _ _ h.1)
 
 -- the length of a line with n bytes more
 grown : (begun line shown : List ℕ) (n : ℕ) → n ≤ length shown → line ≡ begun ++ take n shown → length line ≡ length begun + n

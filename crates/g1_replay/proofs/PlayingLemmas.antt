@@ -1,7 +1,7 @@
 -- Lines that were played, one after another.
-use Rattle.std.proofs.Common.{◌≡◌, ℕ, ◌+◌, List, [], ◌∷◌, ◌++◌, refl, length, subst, sym, ap, ◌∙◌, append_assoc, append-nil, Option, Some, None}
-use Rattle.std.specs.Prelude.{Result, Ok, Err}
-use Rattle.std.specs.Io.KnownBytes.{Appends, Consumes, IsAtEnd}
+use Rattle.std.proofs.Common.{ℕ, List, [], ◌∷◌, ◌++◌, refl, subst, sym, append-nil, Option}
+use Rattle.std.specs.Prelude.{Ok, Err}
+use Rattle.std.specs.Io.KnownBytes.{Appends, Consumes}
 use Rattle.g1_layout.specs.Shape.{Shape}
 use Rattle.g1_core.specs.Run.{Entry}
 use Rattle.g1_book.specs.History.{History}
@@ -10,9 +10,8 @@ use Rattle.g1_book.proofs.StepLemmas.{grows_none, grows_then}
 use Rattle.g1_replay.specs.declared.command.Command.{Command}
 use Rattle.g1_replay.specs.declared.stop.Stop.{Stop}
 use Rattle.g1_replay.specs.declared.stop.Stop.TheVariants.{Fault, NoMemory, BookFull, ReadFailed, WriteFailed}
-use Rattle.g1_replay.specs.Trace.{read_commands}
 use Rattle.g1_replay.specs.Reading.{Passes, ReadsNext}
-use Rattle.g1_replay.specs.Pieces.{Piece, IsPieceOf, Walks, line_of, lines_of, entries_of}
+use Rattle.g1_replay.specs.Pieces.{line_of, entries_of}
 use Rattle.g1_replay.specs.Playing.{Plays, Progress, Halts}
 use Rattle.g1_replay.proofs.ReadLemmas.{consumes_none, consumes_then}
 use Rattle.g1_replay.proofs.PassingLemmas.{passes_then}

@@ -1,12 +1,11 @@
 -- From the header and the lines behind it to the text of the whole replay.
-use Rattle.std.proofs.Common.{◌≡◌, ℕ, List, [], ◌∷◌, ◌++◌, refl, length, sym, ap, ◌∙◌, subst, append_assoc, append-nil, Option, Some, None, inl, inr, ◌⊎◌, arith, ◌+◌}
+use Rattle.std.proofs.Common.{◌≡◌, ℕ, List, [], ◌∷◌, ◌++◌, refl, length, sym, ap, ◌∙◌, subst, append_assoc, append-nil, Option, Some, None, inl, inr, arith}
 use Rattle.std.specs.Prelude.{Result, Ok, Err}
-use Rattle.std.specs.Io.KnownBytes.{Appends, Consumes}
+use Rattle.std.specs.Io.KnownBytes.{Consumes}
 use Rattle.g1_layout.specs.Shape.{Shape}
 use Rattle.g1_core.specs.Table.{opening}
 use Rattle.g1_core.specs.Run.{Entry, IsPermitted}
-use Rattle.g1_core.specs.Settings.{Settings}
-use Rattle.g1_book.specs.History.{History, opened as opened_book, layout_in}
+use Rattle.g1_book.specs.History.{History, layout_in}
 use Rattle.g1_book.specs.Steps.{Grows}
 use Rattle.g1_book.proofs.StepLemmas.{grows_then}
 use Rattle.g1_replay.specs.declared.command.Command.{Command}
@@ -14,7 +13,7 @@ use Rattle.g1_replay.specs.declared.stop.Stop.{Stop}
 use Rattle.g1_replay.specs.declared.stop.Stop.TheVariants.{Fault, NoMemory, BookFull, ReadFailed, WriteFailed}
 use Rattle.g1_replay.specs.Bytes.{AppendsFront}
 use Rattle.g1_replay.specs.Trace.{Trace, Reading, read_trace, read_commands, opened, with_commands}
-use Rattle.g1_replay.specs.Reading.{IsLeft, Heads, HaltsHead, Passes}
+use Rattle.g1_replay.specs.Reading.{Heads, HaltsHead, Passes}
 use Rattle.g1_replay.specs.Pieces.{Piece, lines_of, entries_of, line_of}
 use Rattle.g1_replay.specs.Playing.{IsOpened, Progress, Follows}
 use Rattle.g1_replay.specs.Output.{Told, Writes, IsReadTo}

@@ -4,6 +4,7 @@ ghost use Rattle.std.specs.Prelude.{◌≡◌, ℕ, List, [], ◌∷◌, ◌++�
 ghost use Rattle.g1_replay.specs.Lines.{GoesOn, ReadsPart, Reads, ReadsLine, IsPart, EndsAtFeed};
 
 use arrayvec::ArrayVec;
+use memchr::memchr;
 use std::io::{BufRead, Read};
 
 /// How many bytes a line may have before its line feed (docs/TRACES.md, Lines and words).
@@ -58,12 +59,7 @@ fn part_len(bytes: &[u8]) -> usize
     ensures bound { result ≤ length bytes.now }
     ensures ends { EndsAtFeed bytes.now result }
 {
-    for (i, byte) in bytes.iter().enumerate() {
-        if *byte == b'\n' {
-            return i;
-        }
-    }
-    bytes.len()
+    memchr(b'\n', bytes).unwrap_or(bytes.len())
 }
 
 // What the bytes have of a line with room for so many more, how many of them go into it, and how many are used up.

@@ -1,4 +1,5 @@
 pub mod BoundLemmas
+pub mod AscendingLemmas
 pub mod ListLemmas
 pub mod PairLemmas
 pub mod RoomLemmas

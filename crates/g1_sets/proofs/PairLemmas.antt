@@ -1,22 +1,20 @@
 -- The set of the pairs that the lists by region make up.
-use Rattle.std.proofs.Common.{◌≡◌, ◌⊎◌, inl, inr, ℕ, zero, suc, ◌<◌, ◌≤◌, ◌+◌, Bool, true, false, eqb, List, [], ◌∷◌, ◌++◌, length, get_or, map, refl, sym, ap, ◌∙◌, subst, arith, ◌↔◌}
-use Rattle.std.specs.Prelude.{Contains, IsTrue, not, nat_eq, slice_set, replicate}
+use Rattle.std.proofs.Common.{◌≡◌, ◌⊎◌, inl, inr, ℕ, zero, suc, ◌<◌, ◌+◌, Bool, true, false, eqb, List, [], ◌∷◌, length, map, refl, sym, ap, ◌∙◌, subst, arith, Vec, Global}
+use Rattle.std.specs.Prelude.{Contains, not, nat_eq, slice_set, replicate, Result, Ok, Err, IfOk}
 use Rattle.std.specs.declared.cmp.Ordering.TheVariants.{Equal}
 use Rattle.std.specs.Ordering.{nat_cmp}
-use Rattle.std.specs.Cmp.{IsTotalOrder, Equal-is, nat_eq_equiv}
+use Rattle.std.specs.Cmp.{IsTotalOrder, Equal-is}
 use Rattle.std.specs.FinSet as set
 use Rattle.std.proofs.lemmas.Cmp.{on_total, then_total, nat_cmp_total, eq_by_cmp_equiv}
 use Rattle.std.proofs.lemmas.Map.Lookups.{exact_pairs, exact_unsigned}
 use Rattle.std.proofs.lemmas.Map.Views.{Contains-from_any, list_any-from_Contains}
 use Rattle.std.proofs.lemmas.Bool.{cases_eq, or_cases, or_left, or_right, and_parts, and_from, eq-eqb, ne_eqb, not-true, true≢false}
 use Rattle.std.proofs.lemmas.List.Elements.{Contains-append_left, Contains-append_right, Contains-append_cases}
-use Rattle.std.specs.List.{IsDistinct, list_any}
-use Rattle.std.specs.List.Sorted.{IsSorted, IsPermutation}
-use Rattle.std.proofs.lemmas.List.Sorted.{Contains-permutation, IsNonDecreasingBy-from_sort, IsPermutation-sym}
-use Rattle.std.proofs.lemmas.Map.Keys.{IsDistinct-IsPermutation, IsStrictlyIncreasing-from_distinct}
+use Rattle.std.specs.List.{list_any}
 use Rattle.g1_layout.specs.Shape.{Shape}
 use Rattle.g1_layout.specs.Sets.{pair_cmp, PairSet}
 use Rattle.g1_sets.specs.Pairs.{list_at, of_card, of_region, without, with_cards, pairs_from, pairs_of, Joins, AreCardsOf, AreLists, AreTied}
+use Rattle.g1_sets.specs.Ascending.{AreInOrder}
 use Rattle.g1_sets.proofs.ListLemmas.{in_list, to_list, Contains-with_cards, Contains-with_cards_old, Contains-with_cards_cases, joins_cases, joins_old, joins_new, list_at-set_same, list_at-set_other}
 
 pub pair_total : IsTotalOrder pair_cmp
@@ -180,10 +178,16 @@ tied l lists are = record {
   members = λ card region. (to_set lists card region, in_set lists card region);
 }
 
--- the list of a region, sorted
-pub sorted_cards : (l : Shape) (lists : List (List ℕ)) → AreLists l lists → (region : ℕ) (copied cards : List ℕ) → copied ≡ list_at lists region → IsPermutation copied cards → IsSorted nat_cmp cards → AreCardsOf (pairs_of lists) region cards
-sorted_cards l lists are region copied cards is moved sorted = record {
-  ascending = IsStrictlyIncreasing-from_distinct cards (IsNonDecreasingBy-from_sort (λ x. x) cards sorted) (IsDistinct-IsPermutation nat_eq nat_eq_equiv.symm copied cards moved (subst (IsDistinct nat_eq) (sym is) (are.distinct region)));
-  recorded = λ card h. to_set lists card region (subst (λ cs. Contains cs card) is (Contains-permutation cards copied card (IsPermutation-sym copied cards moved) h));
-  all = λ card h. Contains-permutation copied cards card moved (subst (λ cs. Contains cs card) (sym is) (in_set lists card region h));
+-- the list of a region, in order
+pub cards_in_order : (l : Shape) (lists : List (List ℕ)) → AreLists l lists → (region : ℕ) (cards : List ℕ) → AreInOrder (list_at lists region) cards → AreCardsOf (pairs_of lists) region cards
+cards_in_order l lists are region cards h = record {
+  ascending = h.ascending;
+  recorded = λ card m. to_set lists card region (h.listed card m);
+  all = λ card m. h.all card (in_set lists card region m);
 }
+
+-- the same, where there was memory
+pub cards_if : {E : Type 0} (l : Shape) (lists : List (List ℕ)) → AreLists l lists → (region : ℕ) → (r : Result (Vec ℕ Global) E) → IfOk r (λ cards. AreInOrder (list_at lists region) cards.items)
+    → IfOk r (λ cards. AreCardsOf (pairs_of lists) region cards.items)
+cards_if l lists are region (Ok cards) h = cards_in_order l lists are region cards.items h
+cards_if l lists are region (Err e) h = h

@@ -1,3 +1,4 @@
+pub mod Ascending
 pub mod Pairs
 pub mod Hasher
 pub mod Members

@@ -1,6 +1,6 @@
 -- What contracts see of the remembered sets: the recorded pairs (card, region), and the cards of each
 -- region in the order of their insertion.
-use Rattle.std.specs.Prelude.{◌≡◌, ◌↔◌, ◌<◌, ℕ, ◌+◌, ◌==◌, Bool, not, List, [], ◌∷◌, ◌++◌, map, length, fold, slice_index_or, nat_eq, if◌then◌else◌, replicate, Contains, IsTrue, All, refl}
+use Rattle.std.specs.Prelude.{◌≡◌, ◌↔◌, ◌<◌, ℕ, ◌+◌, ◌==◌, not, List, [], ◌∷◌, ◌++◌, map, length, fold, slice_index_or, nat_eq, if◌then◌else◌, replicate, Contains, IsTrue, All, refl}
 use Rattle.std.specs.Coded.{Coded, code_by, coded×, coded_list, coded_ℕ}
 use Rattle.std.specs.FinSet as set
 use Rattle.std.specs.List.{IsDistinct, list_any}

@@ -7,6 +7,7 @@
 //!   anything changes, so a refused growth leaves no part of a call behind.
 #![tactic(auto)]
 
+mod ascending;
 mod hasher;
 mod members;
 mod sets;

@@ -5,6 +5,7 @@ ghost use Rattle.g1_layout.specs.Shape.{card_count};
 ghost use Rattle.g1_sets.specs.Members.{lists_of};
 ghost use Rattle.g1_sets.specs.Pairs.{list_at, of_card, of_region, with_cards, without, new_pairs, AreCardsOf, AreTied, Joins};
 
+use crate::ascending::ascending;
 use crate::members::{
     Members, have_all, insert_into, insert_many, make_room_for, make_rooms, total,
 };
@@ -163,14 +164,13 @@ impl Sets {
 
     /// The cards of the region's set, ascending, each once.
     ///
-    /// `NoMemory` where the vector was refused. Cost: one copy of the set and one sort of it.
+    /// `NoMemory` where the vector was refused. Cost: one sort of the set; for a set of at least 512 cards and an eighth
+    /// of the heap's, one pass over it and one over a flag for each card of the heap.
     pub fn cards(&self, region: Region) -> Result<Vec<Card>, NoMemory>
         requires { region < self.now.layout.regions }
         ensures { IfOk result (λ cards. AreCardsOf self.now.pairs region cards.items) }
     {
         let members = &self.sets[region.number() as usize];
-        let mut cards = Vec::from_slice(self.alloc, members.as_slice())?;
-        cards.sort_unstable();
-        Ok(cards)
+        ascending(self.alloc, self.layout, members.as_slice())
     }
 }

@@ -182,6 +182,16 @@ fn sets_that_grow(rt: HostRuntime) -> Result<(), Fail> {
 }
 
 #[test]
+fn few_cards_and_many(rt: HostRuntime) -> Result<(), Fail> {
+    let mut sets = Numbered::new(rt.alloc(), 8, 128, 4)?;
+    sets.fill(0, 130, 641)?;
+    sets.assert_ascending(&rt, 0, 130, 641)?;
+    sets.fill(0, 128, 642)?;
+    sets.assert_ascending(&rt, 0, 128, 642)?;
+    Ok(())
+}
+
+#[test]
 fn every_card_outside_one_region(rt: HostRuntime) -> Result<(), Fail> {
     let mut sets = Numbered::new(rt.alloc(), 256, 256, 16)?;
     sets.fill(0, 256, 65_536)?;

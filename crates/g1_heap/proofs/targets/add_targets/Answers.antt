@@ -1,9 +1,9 @@
-use Rattle.std.proofs.Common.{length, ◌≡◌, ◌⊎◌, ◌↔◌, ◌∙◌, ap, arith, refl, rules, subst, sym, ℕ}
+use Rattle.std.proofs.Common.{length, ◌≡◌, ◌⊎◌, ◌↔◌, ◌∙◌, ap, arith, refl, subst, sym, ℕ}
 use Rattle.std.proofs.lemmas.List.{length_push}
 use Rattle.g1_heap.specs.declared.region_set.RegionSet.{RegionSet}
 use Rattle.g1_heap.specs.Regions.{HasRegion}
 use Rattle.g1_heap.proofs.CellLemmas.{ref_of-slot}
-use Rattle.g1_heap.proofs.TargetLemmas.{listed_none, listed_null, listed_known, listed_fresh, listed_all}
+use Rattle.g1_heap.proofs.TargetLemmas.{listed_null, listed_known, listed_fresh, listed_all}
 use Rattle.g1_heap.proofs.targets.add_targets.Goals as goal
 use Rattle.g1_heap.proofs.targets.add_targets.Goals.{in-Some+then-insert, in-Some+else-insert, in_default}
 

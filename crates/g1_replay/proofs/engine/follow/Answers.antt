@@ -1,4 +1,4 @@
-use Rattle.std.proofs.Common.{◌≡◌, ◌∙◌, refl}
+use Rattle.std.proofs.Common.{◌∙◌, refl}
 use Rattle.g1_replay.proofs.PlayingLemmas.{progress_none, progress_then}
 use Rattle.g1_replay.proofs.engine.follow.Goals as goal
 

@@ -1,4 +1,4 @@
-use Rattle.std.proofs.Common.{length, ◌∙◌, subst, sym, ◌<◌}
+use Rattle.std.proofs.Common.{length}
 use Rattle.g1_sets.specs.Members.{lists_of}
 use Rattle.g1_sets.proofs.SetLemmas.{within, joins_next, rooms_next}
 use Rattle.g1_sets.proofs.members.insert_into.Goals as goal

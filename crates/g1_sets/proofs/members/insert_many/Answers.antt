@@ -1,6 +1,5 @@
-use Rattle.std.proofs.Common.{◌≡◌, ◌<◌, ◌≤◌, ◌∙◌, ap, sym, subst, length}
+use Rattle.std.proofs.Common.{◌<◌, ◌≤◌, ◌∙◌, ap, sym, subst, length}
 use Rattle.std.specs.Prelude.{slice_index, slice_set}
-use Rattle.indexmap.specs.IndexSet.{spare}
 use Rattle.g1_sets.specs.Pairs.{list_at, with_cards}
 use Rattle.g1_sets.specs.Members.{lists_of, rooms_of}
 use Rattle.g1_sets.proofs.SetLemmas.{lists_set, list_is, room_is}

@@ -1,4 +1,4 @@
-use Rattle.std.proofs.Common.{length, ◌∙◌, subst, sym, ◌<◌, take_all}
+use Rattle.std.proofs.Common.{length, ◌∙◌, subst, take_all}
 use Rattle.g1_sets.specs.Members.{lists_of, rooms_of, HaveRoom}
 use Rattle.g1_sets.proofs.SetLemmas.{within, lists_kept, rooms_more}
 use Rattle.g1_sets.proofs.members.make_rooms.Goals as goal

@@ -1,6 +1,4 @@
-use Rattle.std.proofs.Common.{◌≡◌, ◌≤◌, ◌+◌, ◌<◌, length, take, arith}
-use Rattle.std.specs.Prelude.{sum_by}
-use Rattle.g1_sets.specs.Members.{lists_of}
+use Rattle.std.proofs.Common.{arith}
 use Rattle.g1_sets.proofs.SetLemmas.{counted, counted_le}
 use Rattle.g1_sets.proofs.members.total.Goals as goal
 

@@ -1,4 +1,4 @@
-use Rattle.std.proofs.Common.{◌≡◌, List, ap, sym, ◌∙◌, subst, arith}
+use Rattle.std.proofs.Common.{◌∙◌, arith}
 use Rattle.g1_core.proofs.RedirectLemmas.{IsMovedTo, members_core, members_read, reference_slots, reference_places, few_references, moved_at}
 use Rattle.g1_core.proofs.ReferenceLemmas.{err_holds}
 use Rattle.g1_core.proofs.machinery.Core.move_references.Goals as goal

@@ -1,4 +1,4 @@
-use Rattle.std.proofs.Common.{◌≡◌, ◌↔◌, ◌∙◌, sym, subst, ℕ, List, rules}
+use Rattle.std.proofs.Common.{◌≡◌, ◌↔◌, sym, subst, ℕ, List, rules}
 use Rattle.std.specs.Prelude.{Contains}
 use Rattle.g1_heap.specs.Cells.{HoldsIn}
 use Rattle.g1_heap.proofs.heap.Heap.targets.Goals as goal

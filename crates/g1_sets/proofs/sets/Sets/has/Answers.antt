@@ -1,8 +1,8 @@
-use Rattle.std.proofs.Common.{◌≡◌, ap, subst, sym, ◌∙◌, ◌<◌}
+use Rattle.std.proofs.Common.{ap, subst, sym, ◌∙◌, ◌<◌}
 use Rattle.std.specs.Prelude.{nat_eq}
 use Rattle.std.specs.List.{list_any}
 use Rattle.std.specs.FinSet as set
-use Rattle.g1_sets.specs.Pairs.{Pairs, list_at}
+use Rattle.g1_sets.specs.Pairs.{Pairs}
 use Rattle.g1_sets.specs.Members.{lists_of}
 use Rattle.g1_sets.proofs.PairLemmas.{found}
 use Rattle.g1_sets.proofs.SetLemmas.{list_here}

@@ -1,4 +1,4 @@
-use Rattle.std.proofs.Common.{◌≡◌, ap, subst, sym, ◌∙◌, ◌<◌, ◌≤◌, length, arith}
+use Rattle.std.proofs.Common.{◌≡◌, ap, subst, sym, ◌<◌, ◌≤◌, length, arith}
 use Rattle.g1_layout.specs.Shape.{card_count}
 use Rattle.g1_sets.specs.Pairs.{Pairs, AreTied, list_at}
 use Rattle.g1_sets.specs.Members.{lists_of}

@@ -1,6 +1,6 @@
-use Rattle.std.proofs.Common.{◌≡◌, ap, subst, sym, ◌∙◌, List, ℕ, []}
+use Rattle.std.proofs.Common.{◌≡◌, ap, subst, sym, ◌∙◌, []}
 use Rattle.std.specs.Prelude.{replicate}
-use Rattle.g1_sets.specs.Pairs.{Pairs, AreLists, pairs_of}
+use Rattle.g1_sets.specs.Pairs.{AreLists, pairs_of}
 use Rattle.g1_sets.specs.Members.{lists_of}
 use Rattle.g1_sets.proofs.ListLemmas.{empty_lists}
 use Rattle.g1_sets.proofs.PairLemmas.{none_recorded}

@@ -1,4 +1,4 @@
-use Rattle.std.proofs.Common.{◌≡◌, ◌∙◌, ◌<◌, ◌^◌, ap, sym, subst, length}
+use Rattle.std.proofs.Common.{◌∙◌, ◌<◌, ◌^◌, ap, sym, subst, length}
 use Rattle.std.specs.Prelude.{sum_by}
 use Rattle.std.specs.FinSet as set
 use Rattle.g1_sets.specs.Pairs.{Pairs}
