@@ -20,7 +20,7 @@ impl Core {
     ghost use Rattle.g1_core.specs.Clearing.{member_count};
 
     /// Empties the remembered set of a region, once nothing is pending and no reference enters the region from outside
-    /// (docs/PROFILE.md, Clear; ISMM 2004, section 2.4, where the region was evacuated).
+    /// (docs/PROFILE.md, Clear; ISMM 2004, "Evacuation Pauses": the region was evacuated).
     ///
     /// `Pending` counts the cards that are pending. `StillReferenced` names the least slot of the whole heap that lies
     /// outside the region and refers into it. Both leave all but the count of reads as it was, and `Pending` that too.

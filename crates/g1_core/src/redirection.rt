@@ -154,7 +154,7 @@ impl Core {
     }
 
     /// Moves the references into a region to the same offsets of another region, and empties its remembered set
-    /// (docs/PROFILE.md, Redirect; ISMM 2004, section 2.4, where the objects of a region were copied to another).
+    /// (docs/PROFILE.md, Redirect; ISMM 2004, "Evacuation Pauses": the objects of a region were copied).
     ///
     /// All that is pending is refined first, as in a drain. Then each slot outside `from` that refers into `from` refers
     /// to the same offset in `to`, and its card is recorded for `to` where it lies outside `to`. Slots inside `from`
