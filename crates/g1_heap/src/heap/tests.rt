@@ -85,6 +85,35 @@ fn a_card_that_refers_into_two_regions_is_read_once(rt: HostRuntime) {
 
 // The slots of card 0 refer into the regions 64 to 1, in falling order.
 #[test]
+fn a_lent_list_of_targets_is_emptied_first(rt: HostRuntime) {
+    let layout = layout_of(&rt, 3, 2, 4);
+    let mut heap = Heap::new(rt.alloc(), layout).expect(&rt, "memory");
+    store(&rt, &mut heap, 0, 23);
+    store(&rt, &mut heap, 4, 8);
+    let mut targets = TargetList::new();
+    assert!(rt; targets.as_slice().is_empty());
+    let card = card_of(&rt, &heap, 0);
+    heap.list_targets(card, &mut targets);
+    assert!(rt;
+        targets
+            .as_slice()
+            .iter()
+            .map(|region| region.number())
+            .eq([2])
+    );
+    let card = card_of(&rt, &heap, 1);
+    heap.list_targets(card, &mut targets);
+    assert!(rt;
+        targets
+            .as_slice()
+            .iter()
+            .map(|region| region.number())
+            .eq([1])
+    );
+    assert_eq!(rt; heap.reads(), 8);
+}
+
+#[test]
 fn a_card_of_64_slots_refers_into_64_regions(rt: HostRuntime) {
     let layout = layout_of(&rt, 65, 1, 64);
     let mut heap = Heap::new(rt.alloc(), layout).expect(&rt, "memory");
