@@ -91,7 +91,7 @@ impl Book {
     }
 
     /// The allocator that the book was opened with.
-    pub fn allocator(&self) -> Global {
+    pub(crate) fn allocator(&self) -> Global {
         self.alloc
     }
 
