@@ -6,12 +6,14 @@ use std::fs::{self, Files};
 use std::io;
 use std::sync::Wait;
 
-const NAMES: [&str; 5] = [
+const NAMES: [&str; 7] = [
     "one_reference",
     "hot_card",
     "full_line_and_help",
     "cleared_and_redirected",
     "fault",
+    "recorded_compiler",
+    "recorded_threads",
 ];
 
 fn main(rt: HostRuntime) -> io::Result<()> {

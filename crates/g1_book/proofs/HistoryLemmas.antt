@@ -4,7 +4,8 @@ use Rattle.std.proofs.lemmas.List.{length-append}
 use Rattle.g1_layout.specs.Shape.{Shape, IsShape}
 use Rattle.g1_core.specs.Machine.{Machine}
 use Rattle.g1_core.specs.Table.{Table, opening, IsCovered}
-use Rattle.g1_core.specs.Run.{Entry, IsStep, IsAllowed, IsPermitted, table_of, drained}
+use Rattle.g1_core.specs.declared.entry.Entry.{Entry}
+use Rattle.g1_core.specs.Run.{IsStep, IsAllowed, IsPermitted, table_of, drained}
 use Rattle.g1_core.specs.declared.reply.Redirected.{Redirected}
 use Rattle.g1_core.specs.declared.reply.Redirected.TheVariants as redirected
 use Rattle.g1_core.specs.Redirect.{IsRedirectOf}
@@ -37,13 +38,11 @@ history_entered m n mutators limit entries now e h room is step =
 pub call_entered : (old : History) (m n : Machine) (mutators limit : ℕ) (entries now : List Entry) (e : Entry) → record { machine = m; mutators = mutators; entries = entries; limit = limit } ≡ old
     → now ≡ entries ++ e ∷ [] → n.settings ≡ m.settings → IsStep m.state.table e n.state.table → IsEntered old e (record { machine = n; mutators = mutators; entries = now; limit = limit })
 call_entered old m n mutators limit entries now e was is settings step =
+    let layout = ap (λ (t : Table). t.layout) step.after ∙ run_layout m.state.table (e ∷ []) in
     subst (λ h. IsEntered h e (record { machine = n; mutators = mutators; entries = now; limit = limit })) was (record {
       entries = is;
       step = step;
-      layout = ap (λ (t : Table). t.layout) step.after ∙ run_layout m.state.table (e ∷ []);
-      settings = settings;
-      mutators = refl;
-      limit = refl;
+      terms = λ i. record { layout = layout i; settings = settings i; mutators = mutators; limit = limit };
     })
 
 -- cover holds after every history

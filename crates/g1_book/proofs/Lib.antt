@@ -1,4 +1,9 @@
+pub mod CountLemmas
+pub mod EachLemmas
 pub mod HistoryLemmas
+pub mod OpeningLemmas
 pub mod RoomLemmas
 pub mod RoundLemmas
+pub mod ServedLemmas
 pub mod StepLemmas
+pub mod WorkerLemmas

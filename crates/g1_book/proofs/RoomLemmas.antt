@@ -1,98 +1,31 @@
 -- How long the lists of a reply can be.
-use Rattle.std.proofs.Common.{◌≡◌, inl, inr, Bool, true, false, if◌then◌else◌, ℕ, zero, suc, ◌<◌, ◌≤◌, ◌+◌, List, [], ◌∷◌, length, get_or, take, Option, Some, None, refl, sym, ap, ◌∙◌, subst, arith}
-use Rattle.std.specs.Prelude.{Contains, All, fold}
+use Rattle.std.proofs.Common.{◌≡◌, inl, inr, ℕ, zero, suc, ◌<◌, ◌≤◌, ◌+◌, List, [], ◌∷◌, length, get_or, take, Option, Some, None, refl, sym, ap, ◌∙◌, subst, arith}
+use Rattle.std.specs.Prelude.{All, fold}
 use Rattle.std.specs.List.Sorted.{IsStrictlyIncreasing}
 use Rattle.std.specs.List.{enumerate_from}
-use Rattle.std.specs.FinSet as set
 use Rattle.std.proofs.Math.Nat.{div-lt_iff_lt-mul}
 use Rattle.std.proofs.lemmas.Bool.{cases_lt}
-use Rattle.std.proofs.lemmas.List.{length-append, length-set, length-map, length-replicate}
+use Rattle.std.proofs.lemmas.List.{length-set, length-map, length-replicate}
 use Rattle.std.proofs.lemmas.List.FromFn.{length-enumerate_from}
-use Rattle.std.proofs.lemmas.List.Elements.{All-contains}
 use Rattle.g1_layout.specs.Shape.{Shape, IsShape, slot_count, card_count, card_of}
-use Rattle.g1_hot.specs.declared.offer.Offer.{Offer}
-use Rattle.g1_hot.specs.declared.offer.Offer.TheVariants.{Cold, Kept, Out}
 use Rattle.g1_core.specs.declared.reply.RefineReply.{RefineReply}
-use Rattle.g1_core.specs.Table.{Table, opening, IsPending, AreRefinable, refined, moved_target}
-use Rattle.g1_core.specs.Run.{Call, Store, Clear, Redirect, Reply, Cleared, Moved, Entry, written, settled, table_after, table_of, HeldSince, IsExact}
+use Rattle.g1_core.specs.Table.{Table, opening, refined, moved_target}
+use Rattle.g1_core.specs.declared.entry.Call.{Call}
+use Rattle.g1_core.specs.declared.entry.Reply.{Reply}
+use Rattle.g1_core.specs.declared.entry.Entry.{Entry}
+use Rattle.g1_core.specs.declared.entry.Call.TheVariants.{Store, Clear, Redirect}
+use Rattle.g1_core.specs.declared.entry.Reply.TheVariants as reply
+use Rattle.g1_core.specs.declared.reply.ClearReply.TheVariants as clear_reply
+use Rattle.g1_core.specs.Run.{written, settled, table_after, table_of, HeldSince, IsExact}
 use Rattle.g1_core.specs.Machine.{State}
-use Rattle.g1_core.specs.Turns.{Round, refined_by, hot_by, skipped_by, offer_to, turn, turns, start}
-use Rattle.g1_core.specs.Refinement.{IsTurned, IsRefined}
+use Rattle.g1_core.specs.Refinement.{IsRefined}
 use Rattle.g1_core.specs.declared.reply.Drained.{Drained}
 use Rattle.g1_core.specs.declared.reply.Drained.TheVariants.{Cards, Short}
 use Rattle.g1_book.specs.History.{History, AnswersExactly, layout_in, cards_in, drain_cards}
 use Rattle.g1_core.proofs.SetLemmas.{All_by_member}
-use Rattle.g1_core.proofs.MarkLemmas.{one_less}
 use Rattle.g1_core.proofs.TableLemmas.{is_slot}
 use Rattle.g1_core.proofs.RunLemmas.{run_layout}
-use Rattle.g1_core.proofs.TurnLemmas.{front_apart, rest_distinct, pending_but}
-
--- no more cards are refined than are pending
-pub refined_few : (t : Table) (cards : List ℕ) → AreRefinable t cards → length cards ≤ set.len t.pending
-refined_few t [] h = omega arith
-refined_few t (x ∷ xs) h =
-    let rest : AreRefinable (refined (x ∷ []) t) xs = record {
-      distinct = rest_distinct x xs h.distinct;
-      pending = All_by_member (IsPending (refined (x ∷ []) t)) xs (λ q c. pending_but t x q (All-contains (IsPending t) (x ∷ xs) q h.pending (suc c.0, omega (arith, c.1), c.2)) (λ e. front_apart x xs h.distinct (subst (Contains xs) e c)));
-    } in
-    let fewer = one_less t.pending x (h.pending 0 x (omega arith)) in
-    let few = refined_few (refined (x ∷ []) t) xs rest in
-    omega arith
-
--- a turn refines one card at most
-one_at_most : (card : ℕ) (o : Option Offer) → length (refined_by card o) ≤ 1
-one_at_most card None = omega arith
-one_at_most card (Some Cold) = omega arith
-one_at_most card (Some Kept) = omega arith
-one_at_most card (Some (Out oldest)) = omega arith
-
-turns_few : (cards : List ℕ) (r : Round) → length (turns r cards).refined ≤ length r.refined + length cards
-turns_few [] r = omega arith
-turns_few (card ∷ cards) r =
-    let more : length (turn r card).refined ≡ length r.refined + length (refined_by card (offer_to r.state card)) = length-append r.refined (refined_by card (offer_to r.state card)) in
-    let one = one_at_most card (offer_to r.state card) in
-    let rest = turns_few cards (turn r card) in
-    omega arith
-
-taken_few : (n : ℕ) (xs : List ℕ) → length (take n xs) ≤ length xs
-taken_few zero xs = omega arith
-taken_few (suc n) [] = omega arith
-taken_few (suc n) (x ∷ xs) = omega (arith, taken_few n xs)
-
--- no more cards are refined than the buffer has
-pub turned_few : (old : State) (cards : List ℕ) (reply : RefineReply) (new : State) → IsTurned old cards reply new → length reply.refined ≤ length cards
-turned_few old cards reply new h =
-    let is : length reply.refined ≡ length (turns (start old) (take h.many cards)).refined = ap (λ (r : Round). length r.refined) h.turned in
-    let few = turns_few (take h.many cards) (start old) in
-    let some : length (take h.many cards) ≤ length cards = taken_few h.many cards in
-    omega arith
-
--- nor does a turn count more than one hot card, or skip more than one
-counts_one : (o : Option Offer) → (hot_by o ≤ 1) × (skipped_by o ≤ 1)
-counts_one None = (omega arith, omega arith)
-counts_one (Some Cold) = (omega arith, omega arith)
-counts_one (Some Kept) = (omega arith, omega arith)
-counts_one (Some (Out oldest)) = (omega arith, omega arith)
-
-turns_count_few : (cards : List ℕ) (r : Round) → ((turns r cards).hot ≤ r.hot + length cards) × ((turns r cards).skipped ≤ r.skipped + length cards)
-turns_count_few [] r = (omega arith, omega arith)
-turns_count_few (card ∷ cards) r =
-    let one = counts_one (offer_to r.state card) in
-    let rest = turns_count_few cards (turn r card) in
-    (omega arith, omega arith)
-
-none_or_one : (short : Bool) (n : ℕ) → n ≡ (if short then 0 else 1) → n ≤ 1
-none_or_one true n is = omega arith
-none_or_one false n is = omega arith
-
--- nor are more hot or skipped, and at most one buffer is done
-turned_counts : (old : State) (cards : List ℕ) (reply : RefineReply) (new : State) → IsTurned old cards reply new → (reply.taken ≤ 1) × (reply.hot ≤ length cards) × (reply.skipped ≤ length cards)
-turned_counts old cards reply new h =
-    let hot : reply.hot ≡ (turns (start old) (take h.many cards)).hot = ap (λ (r : Round). r.hot) h.turned in
-    let skipped : reply.skipped ≡ (turns (start old) (take h.many cards)).skipped = ap (λ (r : Round). r.skipped) h.turned in
-    let few = turns_count_few (take h.many cards) (start old) in
-    let some : length (take h.many cards) ≤ length cards = taken_few h.many cards in
-    (none_or_one reply.short reply.taken h.taken, omega arith, omega arith)
+use Rattle.g1_core.proofs.LengthLemmas.{turned_few, turned_counts}
 
 -- an ascending list of numbers below a bound is no longer than the bound
 at_least : (xs : List ℕ) → IsStrictlyIncreasing xs → (k : ℕ) → k < length xs → k ≤ get_or xs k 0
@@ -115,8 +48,8 @@ written_slots (Store slot target) t = length-set t.refs slot target
 written_slots _ t = refl
 
 settled_slots : (c : Call) (r : Reply) (t : Table) → length (settled c r t).refs ≡ length t.refs
-settled_slots (Clear region) Cleared t = refl
-settled_slots (Redirect from to) (Moved n) t = length-map (enumerate_from 0 t.refs) (moved_target t.layout from to) ∙ length-enumerate_from 0 t.refs
+settled_slots (Clear region) (reply.Clear clear_reply.Cleared) t = refl
+settled_slots (Redirect from to) (reply.Moved n) t = length-map (enumerate_from 0 t.refs) (moved_target t.layout from to) ∙ length-enumerate_from 0 t.refs
 settled_slots _ _ t = refl
 
 run_slots : (t : Table) (entries : List Entry) → length (fold table_after t entries).refs ≡ length t.refs
@@ -135,13 +68,13 @@ held_card l shape entries card region h =
 pub exact_few : (l : Shape) → IsShape l → (entries : List Entry) (region : ℕ) (cards : List ℕ) → IsExact l entries region cards → length cards ≤ card_count l
 exact_few l shape entries region cards h = increasing_few cards (card_count l) h.ascending (All_by_member (λ c. c < card_count l) cards (λ card c. held_card l shape entries card region (h.only card c)))
 
--- a refinement refines no more cards than the buffer has, if there is one
-pub refinement_few : (old : State) (buffer : Option (List ℕ)) (reply : RefineReply) (new : State) → IsRefined old buffer reply new → length reply.refined ≤ cards_in buffer
-refinement_few old None reply new h = let none : length reply.refined ≡ 0 = ap length h.0.refined in omega arith
+-- a refinement refines and skips no more cards than the buffer has, if there is one
+pub refinement_few : (old : State) (buffer : Option (List ℕ)) (reply : RefineReply) (new : State) → IsRefined old buffer reply new → length reply.refined + reply.skipped ≤ cards_in buffer
+refinement_few old None reply new h = let none : length reply.refined ≡ 0 = ap length h.0.refined in omega (arith, h.0.skipped)
 refinement_few old (Some cards) reply new h = turned_few old cards reply new h
 
-pub refinement_counts : (old : State) (buffer : Option (List ℕ)) (reply : RefineReply) (new : State) → IsRefined old buffer reply new → (reply.taken ≤ 1) × (reply.hot ≤ cards_in buffer) × (reply.skipped ≤ cards_in buffer)
-refinement_counts old None reply new h = (omega (arith, h.0.taken), omega (arith, h.0.hot), omega (arith, h.0.skipped))
+pub refinement_counts : (old : State) (buffer : Option (List ℕ)) (reply : RefineReply) (new : State) → IsRefined old buffer reply new → (reply.taken ≤ 1) × (reply.hot ≤ cards_in buffer)
+refinement_counts old None reply new h = (omega (arith, h.0.taken), omega (arith, h.0.hot))
 refinement_counts old (Some cards) reply new h = turned_counts old cards reply new h
 
 pub drained_few : (h : History) → IsShape (layout_in h) → (region : ℕ) (answer : Drained) → AnswersExactly h region answer → length (drain_cards answer) ≤ card_count (layout_in h)

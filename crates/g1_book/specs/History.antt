@@ -7,7 +7,8 @@ use Rattle.g1_core.specs.Settings.{Settings}
 use Rattle.g1_core.specs.Table.{Table, opening}
 use Rattle.g1_core.specs.declared.reply.Drained.{Drained}
 use Rattle.g1_core.specs.declared.reply.Drained.TheVariants.{Cards, Short}
-use Rattle.g1_core.specs.Run.{Entry, IsPermitted, IsStep, IsExact, table_of}
+use Rattle.g1_core.specs.declared.entry.Entry.{Entry}
+use Rattle.g1_core.specs.Run.{IsPermitted, IsStep, IsExact, table_of}
 
 pub record History : Type 0 where
   pub machine : Machine
@@ -25,6 +26,16 @@ table_in h = h.machine.state.table
 
 abbrev pub layout_in : History → Shape
 layout_in h = h.machine.state.table.layout
+
+-- what a book is opened with, and no call changes
+pub record Terms : Type 0 where
+  pub layout : Shape
+  pub settings : Settings
+  pub mutators : ℕ
+  pub limit : ℕ
+
+abbrev pub terms_of : History → Terms
+terms_of h = record { layout = layout_in h; settings = h.machine.settings; mutators = h.mutators; limit = h.limit }
 
 -- What every book keeps: its entries are a permitted run from the opening table, which ends in the machine's table,
 -- and there is room for them.
@@ -45,18 +56,13 @@ opened layout settings mutators limit = record { machine = new_machine layout se
 pub record IsEntered (old : History) (e : Entry) (new : History) : Type 0 where
   pub entries : new.entries ≡ old.entries ++ e ∷ []
   pub step : IsStep (table_in old) e (table_in new)
-  pub layout : layout_in new ≡ layout_in old
-  pub settings : new.machine.settings ≡ old.machine.settings
-  pub mutators : new.mutators ≡ old.mutators
-  pub limit : new.limit ≡ old.limit
+  pub terms : terms_of new ≡ terms_of old
 
 -- The call was refused: nothing has changed but the count of reads.
 pub record IsUnchanged (old new : History) : Type 0 where
   pub entries : new.entries ≡ old.entries
   pub state : new.machine.state ≡ old.machine.state
-  pub settings : new.machine.settings ≡ old.machine.settings
-  pub mutators : new.mutators ≡ old.mutators
-  pub limit : new.limit ≡ old.limit
+  pub terms : terms_of new ≡ terms_of old
 
 -- A drain of the region that is not short answers exactly the cards that references and history say.
 abbrev pub AnswersExactly : History → ℕ → Drained → Type 0

@@ -1,8 +1,7 @@
 //! A core and the history of its calls.
 ghost use Rattle.std.specs.Prelude.{◌≡◌, ◌≤◌, IfOk};
 
-use crate::entry::Entry;
-use g1_core::{Config, Core};
+use g1_core::{Config, Core, Entry};
 use g1_layout::{Layout, NoMemory};
 use std::alloc::Global;
 use std::marker::Model;
@@ -25,7 +24,7 @@ pub struct Book {
 
 impl Model for Book {
     ghost use Rattle.g1_book.specs.History.{History, IsHistory, history_code};
-    ghost use Rattle.g1_book.specs.contracts.entry.Entry as entry;
+    ghost use Rattle.g1_core.specs.contracts.entry.Entry as entry;
 
     ghost Value = { History };
 

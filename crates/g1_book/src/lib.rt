@@ -8,24 +8,51 @@
 //!
 //! No call of a book waits for anybody.
 //!
-//! A [`CallerEnds`] makes the steps of one caller over a book that is lent: its log is filled by stores, completed buffers
-//! go through a line, and refinement takes them from there (docs/PROFILE.md, The steps of a caller).
+//! The steps of a caller are written once over the [`Calls`] that they make: at a book that is lent ([`LentBook`]), or at a
+//! core without a history ([`LentCore`]). A [`Mutator`] stores and flushes; completed buffers go through a line, and
+//! [`refine`] and [`work`] take them from there (docs/PROFILE.md, The steps of a caller).
 #![tactic(auto)]
 
 mod book;
-mod entry;
+mod caller;
+mod calls;
+mod counted;
+mod desk;
+mod job;
+mod ledgers;
+mod lent_book;
+mod lent_core;
+mod local_desk;
+mod locked_book;
+mod opening;
 mod pause;
 mod queries;
 mod redirection;
 mod refinement;
 mod refusal;
 mod room;
+mod shared;
+mod shared_desk;
 mod steps;
 mod store;
 #[cfg(test)]
 mod tests;
+mod worker;
 
 pub use book::Book;
-pub use entry::{Call, Entry, Reply};
+pub use caller::Caller;
+pub use calls::Calls;
+pub use counted::Counted;
+pub use desk::{Desk, Outcome, Script, Step};
+pub use g1_core::{Call, Entry, Reply};
+pub use job::{Job, NotStarted, run_crew};
+pub use ledgers::Frame;
+pub use lent_book::LentBook;
+pub use lent_core::LentCore;
+pub use local_desk::LocalDesk;
+pub use opening::open_line;
 pub use refusal::Refusal;
-pub use steps::{CallerEnds, FlushReply};
+pub use shared::Shared;
+pub use shared_desk::SharedDesk;
+pub use steps::{FlushReply, Mutator, empty_line, refine, stand_still, work};
+pub use worker::{mutate, refiner};

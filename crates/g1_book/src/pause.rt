@@ -1,17 +1,14 @@
 //! Drains and clears, entered.
 ghost use Rattle.std.specs.Prelude.{◌≡◌, ◌≢◌, ◌≤◌, ◌<◌, ◌+◌, ◌*◌, ◌↔◌, length, IfOk, OnErr, vec_len, vec_capacity};
 ghost use Rattle.std.specs.FinSet as set;
-ghost use Rattle.g1_layout.specs.Shape.{card_count};
 ghost use Rattle.g1_core.specs.Calls.{drain_reply, drain_refined};
-ghost use Rattle.g1_book.specs.Entries.{reply_of};
 ghost use Rattle.g1_book.specs.History.{drain_cards};
 
 use crate::book::Book;
-use crate::entry::{Call, Entry, Reply};
 use crate::refusal::Refusal;
-use crate::room::{copied, make_room};
-use g1_core::{CardList, ClearReply, Drained};
-use g1_layout::{Card, Layout, Region};
+use crate::room::{copied, enter, make_room};
+use g1_core::{Call, CardList, ClearReply, Drained, Reply};
+use g1_layout::{Card, Region};
 
 impl Book {
     ghost use Rattle.g1_core.specs.Calls.{drain_entry, clear_entry};
@@ -39,16 +36,17 @@ impl Book {
         make_room(&mut self.entries, self.limit)?;
         let status = self.core.status();
         let refined_room = Vec::with_capacity(self.alloc, status.pending as usize)?;
-        let cards_room = Vec::with_capacity(self.alloc, count_cards(self.core.layout()))?;
+        let cards_room = Vec::with_capacity(self.alloc, self.core.layout().card_count() as usize)?;
         let answer = self.core.drain(region)?;
         let reply = drained_reply(cards_room, &answer);
         let refined = copied(refined_room, drained_cards(&answer));
-        self.entries.push_reserved(Entry {
+        enter(
+            &mut self.entries,
             caller,
-            call: Call::Drain(region),
+            Call::Drain(region),
             reply,
             refined,
-        });
+        );
         Ok(answer)
     }
 
@@ -70,13 +68,9 @@ impl Book {
     {
         make_room(&mut self.entries, self.limit)?;
         let answer = self.core.clear(region);
-        let entry = Entry {
-            caller,
-            call: Call::Clear(region),
-            reply: clear_reply(&answer),
-            refined: CardList::new(self.alloc),
-        };
-        self.entries.push_reserved(entry);
+        let none = CardList::new(self.alloc);
+        let reply = clear_reply(&answer);
+        enter(&mut self.entries, caller, Call::Clear(region), reply, none);
         Ok(answer)
     }
 }
@@ -86,14 +80,6 @@ fn clear_reply(answer: &ClearReply) -> Reply
     ensures { result ≡ Reply.Clear answer.now }
 {
     Reply::Clear(*answer)
-}
-
-/// How many cards the heap has.
-fn count_cards(layout: Layout) -> usize
-    ensures { result ≡ card_count layout }
-{
-    let (regions, cards, _) = layout.counts();
-    regions as usize * cards as usize
 }
 
 /// The cards that a drain refined.
@@ -110,7 +96,7 @@ fn drained_cards(answer: &Drained) -> &CardList
 fn drained_reply(room: Vec<Card>, answer: &Drained) -> Reply
     requires empty { vec_len room ≡ 0 }
     requires room { length (drain_cards answer.now) ≤ vec_capacity room }
-    ensures { reply_of result ≡ drain_reply answer.now }
+    ensures { result ≡ drain_reply answer.now }
 {
     match answer {
         Drained::Cards { cards, .. } => Reply::Cards(copied(room, cards)),

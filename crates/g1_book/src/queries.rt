@@ -4,10 +4,9 @@ ghost use Rattle.std.specs.FinSet as set;
 ghost use Rattle.g1_layout.specs.Shape.{slot_count, card_count};
 
 use crate::book::Book;
-use crate::entry::{Call, Entry, Reply};
 use crate::refusal::Refusal;
-use crate::room::make_room;
-use g1_core::{CardList, Status};
+use crate::room::{enter, make_room};
+use g1_core::{Call, CardList, Reply, Status};
 use g1_layout::{Card, Region, Slot};
 
 impl Book {
@@ -29,13 +28,9 @@ impl Book {
     {
         make_room(&mut self.entries, self.limit)?;
         let target = self.core.target(slot);
-        let entry = Entry {
-            caller,
-            call: Call::Target(slot),
-            reply: target_reply(&target),
-            refined: CardList::new(self.alloc),
-        };
-        self.entries.push_reserved(entry);
+        let none = CardList::new(self.alloc);
+        let reply = target_reply(&target);
+        enter(&mut self.entries, caller, Call::Target(slot), reply, none);
         Ok(target)
     }
 
@@ -53,13 +48,9 @@ impl Book {
     {
         make_room(&mut self.entries, self.limit)?;
         let answer = self.core.is_pending(card);
-        let entry = Entry {
-            caller,
-            call: Call::Pending(card),
-            reply: Reply::Pending(answer),
-            refined: CardList::new(self.alloc),
-        };
-        self.entries.push_reserved(entry);
+        let none = CardList::new(self.alloc);
+        let reply = Reply::Pending(answer);
+        enter(&mut self.entries, caller, Call::Pending(card), reply, none);
         Ok(answer)
     }
 
@@ -79,13 +70,15 @@ impl Book {
         make_room(&mut self.entries, self.limit)?;
         let cards = self.core.members(region)?;
         let copy = cards.try_clone(self.alloc)?;
-        let entry = Entry {
+        let none = CardList::new(self.alloc);
+        let reply = Reply::Cards(copy);
+        enter(
+            &mut self.entries,
             caller,
-            call: Call::Members(region),
-            reply: Reply::Cards(copy),
-            refined: CardList::new(self.alloc),
-        };
-        self.entries.push_reserved(entry);
+            Call::Members(region),
+            reply,
+            none,
+        );
         Ok(cards)
     }
 
@@ -103,13 +96,9 @@ impl Book {
     {
         make_room(&mut self.entries, self.limit)?;
         let status = self.core.status();
-        let entry = Entry {
-            caller,
-            call: Call::Status,
-            reply: Reply::Status(status),
-            refined: CardList::new(self.alloc),
-        };
-        self.entries.push_reserved(entry);
+        let none = CardList::new(self.alloc);
+        let reply = Reply::Status(status);
+        enter(&mut self.entries, caller, Call::Status, reply, none);
         Ok(status)
     }
 }

@@ -1,13 +1,11 @@
 //! Redirects, entered.
 ghost use Rattle.std.specs.Prelude.{◌≡◌, ◌≢◌, ◌<◌, ◌↔◌, length, IfOk, OnErr};
 ghost use Rattle.g1_core.specs.Calls.{redirect_reply, redirect_refined};
-ghost use Rattle.g1_book.specs.Entries.{reply_of};
 
 use crate::book::Book;
-use crate::entry::{Call, Entry, Reply};
 use crate::refusal::Refusal;
-use crate::room::{copied, make_room};
-use g1_core::{CardList, Redirected};
+use crate::room::{copied, enter, make_room};
+use g1_core::{Call, CardList, Redirected, Reply};
 use g1_layout::Region;
 
 impl Book {
@@ -37,12 +35,8 @@ impl Book {
         let answer = self.core.redirect(from, to)?;
         let reply = redirected_reply(&answer);
         let refined = copied(room, redirected_cards(&answer));
-        self.entries.push_reserved(Entry {
-            caller,
-            call: Call::Redirect { from, to },
-            reply,
-            refined,
-        });
+        let call = Call::Redirect { from, to };
+        enter(&mut self.entries, caller, call, reply, refined);
         Ok(answer)
     }
 }
@@ -59,7 +53,7 @@ fn redirected_cards(answer: &Redirected) -> &CardList
 
 /// What a redirect answered beside them.
 fn redirected_reply(answer: &Redirected) -> Reply
-    ensures { reply_of result ≡ redirect_reply answer.now }
+    ensures { result ≡ redirect_reply answer.now }
 {
     match answer {
         Redirected::Moved { slots, .. } => Reply::Moved(*slots),

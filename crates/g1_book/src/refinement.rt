@@ -1,12 +1,11 @@
 //! Refinements, entered.
-ghost use Rattle.std.specs.Prelude.{◌≡◌, ◌≤◌, ◌↔◌, length, IfOk, OnErr, option_map};
+ghost use Rattle.std.specs.Prelude.{◌≡◌, ◌≤◌, ◌+◌, ◌↔◌, length, IfOk, OnErr, option_map};
 ghost use Rattle.g1_book.specs.History.{cards_in};
 
 use crate::book::Book;
-use crate::entry::{Call, Entry, Reply};
 use crate::refusal::Refusal;
-use crate::room::{copied, make_room};
-use g1_core::RefineReply;
+use crate::room::{copied, enter, make_room};
+use g1_core::{Call, RefineReply, Reply};
 use g1_log::Buffer;
 
 impl Book {
@@ -23,7 +22,7 @@ impl Book {
     pub fn refine(&mut self, caller: u32, buffer: Option<&Buffer>) -> Result<RefineReply, Refusal>
         ensures entered { IfOk result (λ reply. IsEntered self.old (refine_entry caller reply) self.new) }
         ensures refined { IfOk result (λ reply. IsRefined self.old.machine.state (option_map (λ b. b.now) buffer.entry) reply self.new.machine.state) }
-        ensures counts { IfOk result (λ reply. (reply.taken ≤ 1) × (length reply.refined ≤ 256) × (reply.hot ≤ 256) × (reply.skipped ≤ 256)) }
+        ensures counts { IfOk result (λ reply. (reply.taken ≤ 1) × (length reply.refined + reply.skipped ≤ 256) × (reply.hot ≤ 256)) }
         ensures full { (result ≡ Err Refusal.BookFull) ↔ (length self.old.entries ≡ self.old.limit) }
         ensures err { OnErr result (IsUnchanged self.old self.new) }
     {
@@ -38,18 +37,13 @@ impl Book {
             short: reply.short,
         };
         let refined = copied(room, &reply.refined);
-        self.entries.push_reserved(Entry {
-            caller,
-            call: Call::Refine,
-            reply: answer,
-            refined,
-        });
+        enter(&mut self.entries, caller, Call::Refine, answer, refined);
         Ok(reply)
     }
 }
 
 /// How many cards a refinement of the buffer refines at most.
-fn cards_in(buffer: Option<&Buffer>) -> usize
+pub(crate) fn cards_in(buffer: Option<&Buffer>) -> usize
     ensures cards { result ≡ cards_in (option_map (λ b. b.now) buffer.entry) }
     ensures few { result ≤ 256 }
 {

@@ -1,9 +1,8 @@
-//! Room for entries, which is made before a call.
-ghost use Rattle.std.specs.Prelude.{◌≡◌, ◌≤◌, ◌<◌, length, OnOk, IfErr, vec_len, vec_capacity};
+//! Room for an entry and its lists, which is made before the call, and the entry in it.
+ghost use Rattle.std.specs.Prelude.{◌≡◌, ◌≤◌, ◌<◌, [], ◌∷◌, ◌++◌, length, OnOk, IfErr, vec_len, vec_capacity};
 
-use crate::entry::Entry;
 use crate::refusal::Refusal;
-use g1_core::CardList;
+use g1_core::{Call, CardList, Entry, Reply};
 use g1_layout::Card;
 
 /// Makes room for one more entry, unless the history is full. Growing is amortised over the entries.
@@ -19,6 +18,25 @@ pub(crate) fn make_room(entries: &mut Vec<Entry>, limit: usize) -> Result<(), Re
     }
     entries.reserve(1)?;
     Ok(())
+}
+
+/// Enters a call that was made, in room that was made for it.
+pub(crate) fn enter(
+    entries: &mut Vec<Entry>,
+    caller: u32,
+    call: Call,
+    reply: Reply,
+    refined: CardList,
+)
+    requires room { vec_len entries.old < vec_capacity entries.old }
+    ensures { entries.new.items ≡ entries.old.items ++ record { caller = caller; call = call; reply = reply; refined = refined } ∷ [] }
+{
+    entries.push_reserved(Entry {
+        caller,
+        call,
+        reply,
+        refined,
+    });
 }
 
 /// The same cards, in room that was made for them; what they do not need of it is given back.

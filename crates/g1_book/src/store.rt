@@ -3,10 +3,9 @@ ghost use Rattle.std.specs.Prelude.{◌≡◌, ◌<◌, ◌↔◌, [], false, le
 ghost use Rattle.g1_layout.specs.Shape.{slot_count, card_of};
 
 use crate::book::Book;
-use crate::entry::{Call, Entry, Reply};
 use crate::refusal::Refusal;
-use crate::room::{copied, make_room};
-use g1_core::StoreReply;
+use crate::room::{enter, make_room};
+use g1_core::{Call, CardList, Reply, StoreReply};
 use g1_layout::Slot;
 use g1_log::{Buffer, Log};
 
@@ -53,14 +52,8 @@ impl Book {
             fill: reply.fill,
             short: reply.short,
         };
-        let refined = copied(Vec::new(self.alloc), &reply.refined);
-        let entry = Entry {
-            caller,
-            call,
-            reply: answer,
-            refined,
-        };
-        self.entries.push_reserved(entry);
+        let none = CardList::new(self.alloc);
+        enter(&mut self.entries, caller, call, answer, none);
         Ok((reply, buffer))
     }
 }

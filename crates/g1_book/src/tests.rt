@@ -7,9 +7,8 @@ ghost use Rattle.g1_layout.specs.Shape.{slot_count, card_count};
 ghost use Rattle.g1_book.specs.History.{layout_in};
 
 use crate::book::Book;
-use crate::entry::{Call, Reply};
 use crate::refusal::Refusal;
-use g1_core::{CardList, ClearReply, Config, Drained, Fill, Redirected, StoreReply};
+use g1_core::{Call, CardList, ClearReply, Config, Drained, Fill, Redirected, Reply, StoreReply};
 use g1_layout::{Card, Kind, Layout, NoMemory, Region, Slot};
 use g1_log::{Buffer, Log};
 use std::alloc::Global;
@@ -23,8 +22,8 @@ mod growths;
 pub(crate) fn book(
     rt: &impl Abort,
     alloc: Global,
-    log: u32,
-    limit: u32,
+    log: usize,
+    limit: usize,
     history: usize,
 ) -> Result<Book, NoMemory>
     requires low { 1 ≤ history }

@@ -4,16 +4,13 @@ use Rattle.std.specs.Prelude.{Contains, All, nat_eq, count_by, IfSome}
 use Rattle.std.specs.List.{IsDistinct, cons_option, enumerate_from}
 use Rattle.std.proofs.lemmas.Bool.{cases_lt, eqb-true, and_parts, true≢false, false_from_ne_true}
 use Rattle.std.proofs.lemmas.List.{get_or-set_same, get_or-set_other, get_or_past}
-use Rattle.std.proofs.Math.Nat.{mul_assoc}
-use Rattle.std.proofs.lemmas.Nat.{row_fits}
 use Rattle.std.proofs.lemmas.List.Elements.{All-set}
-use Rattle.g1_layout.specs.Shape.{Shape, IsShape, slot_count}
+use Rattle.g1_layout.specs.Shape.{Shape, slot_count, same_offset}
+use Rattle.g1_layout.proofs.ShapeLemmas.{same_offset_region}
 use Rattle.g1_core.specs.declared.redirection.Change.{Change}
 use Rattle.g1_core.specs.Machine.{IsCore}
-use Rattle.g1_core.specs.Table.{same_offset, enters, moved_target}
+use Rattle.g1_core.specs.Table.{enters, moved_target}
 use Rattle.g1_core.specs.Redirect.{change_at, changes_of, changed}
-use Rattle.g1_core.proofs.RunLemmas.{has_slots}
-use Rattle.g1_core.proofs.MovedLemmas.{same_offset_region}
 use Rattle.g1_heap.specs.Cells.{Cells}
 use Rattle.g1_hot.specs.Ring.{Ring}
 use Rattle.g1_sets.specs.Pairs.{Pairs}
@@ -31,21 +28,21 @@ module _ (l : Shape) (from to : ℕ) where
   pub record IsChanged (slot : ℕ) (o : Option ℕ) : Type 0 where
     pub old : ℕ
     pub refers : o ≡ Some old
-    pub change : change_at l from to slot o ≡ Some (record { slot = slot; place = same_offset l to old })
-    pub moves : moved_target l from to (slot, o) ≡ Some (same_offset l to old)
+    pub change : change_at l from to slot o ≡ Some (record { slot = slot; place = same_offset l old to })
+    pub moves : moved_target l from to (slot, o) ≡ Some (same_offset l old to)
     pub enters : enters l from (slot, o) ≡ true
 
   changed_if : (slot place : ℕ) (b : Bool) → enters l from (slot, Some place) ≡ b → IsLeft slot (Some place) ⊎ IsChanged slot (Some place)
   changed_if slot place true is = inr (record {
     old = place;
     refers = refl;
-    change = ap (λ b. cond {A = Option Change} b (Some (record { slot = slot; place = same_offset l to place })) None) is;
-    moves = ap (λ b. cond b (Some (same_offset l to place)) (Some place)) is;
+    change = ap (λ b. cond {A = Option Change} b (Some (record { slot = slot; place = same_offset l place to })) None) is;
+    moves = ap (λ b. cond b (Some (same_offset l place to)) (Some place)) is;
     enters = is;
   })
   changed_if slot place false is = inl (record {
-    none = ap (λ b. cond {A = Option Change} b (Some (record { slot = slot; place = same_offset l to place })) None) is;
-    stays = ap (λ b. cond b (Some (same_offset l to place)) (Some place)) is;
+    none = ap (λ b. cond {A = Option Change} b (Some (record { slot = slot; place = same_offset l place to })) None) is;
+    stays = ap (λ b. cond b (Some (same_offset l place to)) (Some place)) is;
     away = is;
   })
 
@@ -67,8 +64,8 @@ module _ (l : Shape) (from to : ℕ) where
       λ i. cons_option (here i) (rest i)
 
   module _ (some : 0 < l.cards * l.slots) (apart : from ≢ to) where
-    pub moved_away : (slot old : ℕ) → enters l from (slot, Some (same_offset l to old)) ≡ false
-    moved_away slot old = false_from_ne_true _ (λ h. apart (sym (eqb-true _ _ (and_parts _ _ h).1) ∙ same_offset_region l to old some))
+    pub moved_away : (slot old : ℕ) → enters l from (slot, Some (same_offset l old to)) ≡ false
+    moved_away slot old = false_from_ne_true _ (λ h. apart (sym (eqb-true _ _ (and_parts _ _ h).1) ∙ same_offset_region l old to some))
 
     -- where the slots are distinct and each slot that enters the region is one of them, making their changes moves all
     pub all_moved : (slots : List ℕ) (refs : List (Option ℕ)) → IsDistinct nat_eq slots → ((slot : ℕ) → enters l from (slot, get_or refs slot None) ≡ true → Contains slots slot)
@@ -84,8 +81,8 @@ module _ (l : Shape) (from to : ℕ) where
           let none : changes_of l refs from to (s ∷ slots) ≡ changes_of l refs from to slots = ap (λ (o : Option Change). cons_option o (changes_of l refs from to slots)) left.none in
           (ap (λ (cs : List Change). changed refs cs) none ∙ rest.0, ap (λ (cs : List Change). length cs) none ∙ rest.1)
       | inr c ↦
-          let v : Option ℕ = Some (same_offset l to c.old) in
-          let here : Change = record { slot = s; place = same_offset l to c.old } in
+          let v : Option ℕ = Some (same_offset l c.old to) in
+          let here : Change = record { slot = s; place = same_offset l c.old to } in
           let inside : s < length refs = elim (cases_lt s (length refs)) [ inl lt ↦ lt | inr past ↦ let null : None ≡ Some c.old = sym (get_or_past refs s None past) ∙ c.refers in cc ] in
           let fresh : Contains slots s → ⊥ = front_apart s slots distinct in
           let written : get_or (list_set refs s v) s None ≡ v = get_or-set_same refs s v None inside in
@@ -133,15 +130,6 @@ of_region_to (c ∷ cards) region card (suc k, lt, e) =
     let rest : Contains {X = ℕ × ℕ} (map (λ (c : ℕ). (c, region)) cards) (card, region) = of_region_to cards region card (k, omega arith, e) in
     (suc rest.0, omega (arith, rest.1), rest.2)
 
--- the place at the same offset is one of the heap
-pub same_offset_below : (l : Shape) (to place : ℕ) → IsShape l → to < l.regions → same_offset l to place < slot_count l
-same_offset_below l to place shape within =
-    let some : 0 < l.cards * l.slots = has_slots l shape in
-    let less : place % (l.cards * l.slots) < l.cards * l.slots = omega arith in
-    let row : to * (l.cards * l.slots) + l.cards * l.slots ≤ l.regions * (l.cards * l.slots) = row_fits to (l.cards * l.slots) l.regions (l.cards * l.slots) within (omega arith) in
-    let all : l.regions * l.cards * l.slots ≡ l.regions * (l.cards * l.slots) = mul_assoc l.regions l.cards l.slots in
-    omega arith
-
 -- what a heap and its sets keep while it is only read
 pub read_core : (heap now : Cells) (sets : Pairs) (ring : Ring) (pending most : ℕ) → IsCore heap sets ring pending → AreRead heap now most → IsCore now sets ring pending
 read_core heap now sets ring pending most core read = subst (λ (h : Cells). IsCore h sets ring pending) (sym read.cells) (record {
@@ -154,5 +142,6 @@ read_core heap now sets ring pending most core read = subst (λ (h : Cells). IsC
     held = core.parts.held;
     known = core.parts.known;
     cover = core.parts.cover;
+    outside = core.parts.outside;
   };
 })

@@ -12,16 +12,19 @@ use Rattle.g1_layout.specs.Sets.{CardSet, PairSet, pair_cmp}
 use Rattle.g1_heap.specs.Cells.{Cells}
 use Rattle.g1_sets.specs.Pairs.{Pairs, AreTied, list_at, without}
 use Rattle.g1_hot.specs.Ring.{Ring}
-use Rattle.g1_core.specs.Table.{Table, Enters, IsCovered, IsRecorded}
+use Rattle.g1_core.specs.Table.{Table, Enters, IsCovered, IsRecorded, AreOutside}
 use Rattle.g1_core.specs.Settings.{Settings}
 use Rattle.g1_core.specs.Machine.{Machine, IsCore, AreParts, pending_of, table_from, machine_from}
-use Rattle.g1_core.specs.Run.{IsFirstInto, IsStep, Clear, Cleared, Answers, settled}
+use Rattle.g1_core.specs.declared.entry.Call.TheVariants.{Clear}
+use Rattle.g1_core.specs.declared.entry.Reply.TheVariants as reply
+use Rattle.g1_core.specs.Run.{IsFirstInto, IsStep, Answers, settled}
 use Rattle.g1_core.specs.declared.reply.ClearReply.{ClearReply}
 use Rattle.g1_core.specs.declared.reply.ClearReply.TheVariants as clear_reply
-use Rattle.g1_core.specs.Calls.{clear_entry, clear_answer}
+use Rattle.g1_core.specs.Calls.{clear_entry}
 use Rattle.g1_core.specs.Clearing.{member_count, IsLeastOn, AreRead}
 use Rattle.g1_core.proofs.SetLemmas.{pair_total, pair_exact}
 use Rattle.g1_core.proofs.RunLemmas.{has_slots, step_covered}
+use Rattle.g1_core.proofs.OutsideLemmas.{cleared_outside}
 use Rattle.g1_core.proofs.MarkLemmas.{none_of}
 use Rattle.g1_core.proofs.RefinedLemmas.{refined_none}
 use Rattle.g1_core.proofs.TurnLemmas.{front_apart, rest_distinct}
@@ -65,11 +68,11 @@ module _ (t : Table) (region : ℕ) (cards : List ℕ) (none : t.pending ≡ set
   first_enters slot least = record { enters = least.0; least = λ other e. least.1 other (met other e) e }
 
 -- the step of a clear
-pub clear_step : (caller : ℕ) (t new : Table) (region : ℕ) (answer : ClearReply) → region < t.layout.regions → ((after : Table) → Answers t (Clear region) (clear_answer answer) [] after) → new ≡ settled (Clear region) (clear_answer answer) t
+pub clear_step : (caller : ℕ) (t new : Table) (region : ℕ) (answer : ClearReply) → region < t.layout.regions → ((after : Table) → Answers t (Clear region) (reply.Clear answer) [] after) → new ≡ settled (Clear region) (reply.Clear answer) t
     → IsStep t (clear_entry caller region answer) new
 clear_step caller t new region answer numbers answers after = record {
   allowed = record { numbers = numbers; refines = none_refinable t; answers = answers _ };
-  after = after ∙ sym (ap (settled (Clear region) (clear_answer answer)) (refined_none t));
+  after = after ∙ sym (ap (settled (Clear region) (reply.Clear answer)) (refined_none t));
 }
 
 -- what a clear leaves
@@ -110,8 +113,8 @@ module _ (heap : Cells) (sets : Pairs) (ring : Ring) (pending : ℕ) (settings :
     recorded : (card : ℕ) → IsRecorded t card region → Contains (list_at sets.lists region) card
     recorded card r = (tied.members card region).1 r
 
-    with_cells : (pairs : PairSet) → IsCovered (table_from now pairs) → AreParts now pairs ring pending
-    with_cells pairs cover = subst (λ (h : Cells). IsCovered (table_from h pairs) → AreParts h pairs ring pending) (sym read.cells) (λ covered. record {
+    with_cells : (pairs : PairSet) → IsCovered (table_from now pairs) → AreOutside (table_from now pairs) → AreParts now pairs ring pending
+    with_cells pairs cover outside = subst (λ (h : Cells). IsCovered (table_from h pairs) → AreOutside (table_from h pairs) → AreParts h pairs ring pending) (sym read.cells) (λ covered apart. record {
       cells = record { shape = core.parts.cells.shape; slots = core.parts.cells.slots; places = core.parts.cells.places; cards = core.parts.cells.cards };
       counts = core.parts.counts;
       some = core.parts.some;
@@ -119,7 +122,8 @@ module _ (heap : Cells) (sets : Pairs) (ring : Ring) (pending : ℕ) (settings :
       held = core.parts.held;
       known = core.parts.known;
       cover = covered;
-    }) cover
+      outside = apart;
+    }) cover outside
 
     layout_is : now.layout ≡ heap.layout
     layout_is = ap (λ (h : Cells). h.layout) read.cells
@@ -130,7 +134,7 @@ module _ (heap : Cells) (sets : Pairs) (ring : Ring) (pending : ℕ) (settings :
     -- a slot still enters the region
     pub refused_entered : (slot : ℕ) → IsLeastOn t (list_at sets.lists region) region (Some slot) → IsClearedTo m region (clear_reply.StillReferenced slot) now sets ring pending
     refused_entered slot least = record {
-      core = record { layouts = core.layouts ∙ sym layout_is; parts = with_cells sets.pairs (subst IsCovered (sym same_table) core.parts.cover) };
+      core = record { layouts = core.layouts ∙ sym layout_is; parts = with_cells sets.pairs (subst IsCovered (sym same_table) core.parts.cover) (subst AreOutside (sym same_table) core.parts.outside) };
       step = λ caller. clear_step caller t (table_from now sets.pairs) region (clear_reply.StillReferenced slot) within (λ after. (refl, empty, first_enters t region (list_at sets.lists region) empty core.parts.cover recorded slot least)) same_table;
       unread = contradicted;
       reads = few_reads;
@@ -138,7 +142,7 @@ module _ (heap : Cells) (sets : Pairs) (ring : Ring) (pending : ℕ) (settings :
 
     -- the region's set is emptied
     module _ (sets' : Pairs) (layout : sets'.layout ≡ sets.layout) (pairs : sets'.pairs ≡ without sets.pairs region) (least : IsLeastOn t (list_at sets.lists region) region None) where
-      cleared_table : table_from now sets'.pairs ≡ settled (Clear region) Cleared t
+      cleared_table : table_from now sets'.pairs ≡ settled (Clear region) (reply.Clear clear_reply.Cleared) t
       cleared_table = read_table heap now _ sets'.pairs read ∙ ap (λ (ps : PairSet). table_from heap ps) pairs
 
       cleared_step : (caller : ℕ) → IsStep t (clear_entry caller region clear_reply.Cleared) (table_from now sets'.pairs)
@@ -150,7 +154,7 @@ module _ (heap : Cells) (sets : Pairs) (ring : Ring) (pending : ℕ) (settings :
           record {
             core = record {
               layouts = layout ∙ core.layouts ∙ sym layout_is;
-              parts = with_cells sets'.pairs (subst IsCovered (sym step.after) (step_covered t (clear_entry 0 region clear_reply.Cleared) (has_slots heap.layout core.parts.cells.shape) step.allowed core.parts.cover));
+              parts = with_cells sets'.pairs (subst IsCovered (sym step.after) (step_covered t (clear_entry 0 region clear_reply.Cleared) (has_slots heap.layout core.parts.cells.shape) step.allowed core.parts.cover)) (subst AreOutside (sym cleared_table) (cleared_outside t region core.parts.outside));
             };
             step = cleared_step;
             unread = contradicted;

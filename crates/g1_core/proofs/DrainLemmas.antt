@@ -8,7 +8,8 @@ use Rattle.std.proofs.lemmas.List.{append-nil, length-append}
 use Rattle.g1_layout.specs.Shape.{Shape, IsShape}
 use Rattle.g1_layout.specs.Sets.{set_of}
 use Rattle.g1_hot.specs.Ring.{Ring, reset}
-use Rattle.g1_core.specs.Run.{Entry, IsStep}
+use Rattle.g1_core.specs.declared.entry.Entry.{Entry}
+use Rattle.g1_core.specs.Run.{IsStep}
 use Rattle.g1_core.specs.Calls.{drain_entry}
 use Rattle.g1_core.specs.declared.reply.Drained.TheVariants as answers
 use Rattle.g1_core.proofs.RunLemmas.{HasSlots, has_slots, step_covered}

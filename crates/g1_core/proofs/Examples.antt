@@ -9,7 +9,14 @@ use Rattle.g1_layout.specs.declared.kind.Kind.{Kind}
 use Rattle.g1_layout.specs.declared.kind.Kind.TheVariants.{SameRegion, Null, AlreadyDirty, Logged}
 use Rattle.g1_core.specs.declared.reply.Fill.TheVariants.{No}
 use Rattle.g1_core.specs.Table.{Table, opening, Holds, Enters, IsPending}
-use Rattle.g1_core.specs.Run.{Entry, Reply, Store, Members, Clear, Redirect, Stored, Cards, Cleared, StillReferenced, Moved, IsAllowed, IsPermitted, table_of, drained, IsExact}
+use Rattle.g1_core.specs.declared.entry.Entry.{Entry}
+use Rattle.g1_core.specs.declared.entry.Reply.{Reply}
+use Rattle.g1_core.specs.declared.entry.Call.TheVariants.{Store, Redirect}
+use Rattle.g1_core.specs.declared.entry.Reply.TheVariants as reply
+use Rattle.g1_core.specs.declared.reply.ClearReply.{ClearReply}
+use Rattle.g1_core.specs.declared.reply.ClearReply.TheVariants as clear_reply
+use Rattle.g1_core.specs.Calls.{members_entry, clear_entry}
+use Rattle.g1_core.specs.Run.{IsAllowed, IsPermitted, table_of, drained, IsExact}
 use Rattle.g1_core.proofs.StoreLemmas.{none_refinable}
 use Rattle.g1_core.proofs.RunLemmas.{permitted_parts, drain_exact, has_slots}
 use Rattle.g1_core.proofs.TableLemmas.{nothing_refers}
@@ -22,7 +29,7 @@ heap_within = record { regions_low = omega arith; regions_high = omega arith; ca
 
 -- a store of a place in a slot, by caller 0
 abbrev stores : ℕ → Option ℕ → Kind → Entry
-stores slot target kind = record { caller = 0; call = Store slot target; reply = Stored kind No false; refined = [] }
+stores slot target kind = record { caller = 0; call = Store slot target; reply = reply.Stored kind No false; refined = [] }
 
 -- slot 0, on card 0 in region 0, refers to place 8 in region 1
 abbrev first : Entry
@@ -73,30 +80,30 @@ pub drain_lists_no_falling_order : (refined : List ℕ) → IsPermitted start (f
 drain_lists_no_falling_order refined h = let up : 7 < 0 = (exact 1 (7 ∷ 0 ∷ []) refined h).ascending 0 (omega arith) in absurd (omega arith)
 
 -- a clear of region 1, in which slot 0 refers
-abbrev clears : ℕ → Reply → Entry
-clears region reply = record { caller = 0; call = Clear region; reply = reply; refined = [] }
+abbrev clears : ℕ → ClearReply → Entry
+clears region answer = clear_entry 0 region answer
 
-pub clear_of_an_unused_region_is_granted : IsAllowed start (clears 1 Cleared)
+pub clear_of_an_unused_region_is_granted : IsAllowed start (clears 1 clear_reply.Cleared)
 clear_of_an_unused_region_is_granted = record { numbers = omega arith; refines = none_refinable _; answers = (refl, refl, λ slot e. nothing_refers 32 slot e.place e.refers) }
 
-pub clear_of_a_used_region_is_not_granted : (t : Table) (slot : ℕ) → Enters t slot 1 → IsAllowed t (clears 1 Cleared) → ⊥
+pub clear_of_a_used_region_is_not_granted : (t : Table) (slot : ℕ) → Enters t slot 1 → IsAllowed t (clears 1 clear_reply.Cleared) → ⊥
 clear_of_a_used_region_is_not_granted t slot enters h = h.answers.2 slot enters
 
-pub clear_names_no_other_slot_than_the_least : (t : Table) (slot least : ℕ) → Enters t least 1 → least < slot → IsAllowed t (clears 1 (StillReferenced slot)) → ⊥
+pub clear_names_no_other_slot_than_the_least : (t : Table) (slot least : ℕ) → Enters t least 1 → least < slot → IsAllowed t (clears 1 (clear_reply.StillReferenced slot)) → ⊥
 clear_names_no_other_slot_than_the_least t slot least enters less h = let le : slot ≤ least = h.answers.2.least least enters in absurd (omega arith)
 
-pub clear_with_a_pending_card_is_not_granted : (t : Table) (card : ℕ) → IsPending t card → IsAllowed t (clears 1 Cleared) → ⊥
+pub clear_with_a_pending_card_is_not_granted : (t : Table) (card : ℕ) → IsPending t card → IsAllowed t (clears 1 clear_reply.Cleared) → ⊥
 clear_with_a_pending_card_is_not_granted t card pending h =
     true≢false (sym pending ∙ ap (λ s. set.contains s card) h.answers.1 ∙ set.contains-empty nat_cmp card)
 
 -- members and redirects
-pub members_lists_no_card_that_is_not_recorded : IsAllowed start (record { caller = 0; call = Members 1; reply = Cards (0 ∷ []); refined = [] }) → ⊥
+pub members_lists_no_card_that_is_not_recorded : IsAllowed start (members_entry 0 1 (0 ∷ [])) → ⊥
 members_lists_no_card_that_is_not_recorded h =
     let c : Contains (0 ∷ []) 0 = (0, omega arith, refl) in
     true≢false (sym (h.answers.1.recorded 0 c) ∙ set.contains-empty _ (0, 1))
 
-pub redirect_to_the_same_region_is_no_call : (reply : Reply) (refined : List ℕ) → IsAllowed start (record { caller = 0; call = Redirect 1 1; reply = reply; refined = refined }) → ⊥
-redirect_to_the_same_region_is_no_call reply refined h = h.numbers.2 refl
+pub redirect_to_the_same_region_is_no_call : (answer : Reply) (refined : List ℕ) → IsAllowed start (record { caller = 0; call = Redirect 1 1; reply = answer; refined = refined }) → ⊥
+redirect_to_the_same_region_is_no_call answer refined h = h.numbers.2 refl
 
-pub redirect_counts_just_the_moved_slots : (refined : List ℕ) → IsAllowed start (record { caller = 0; call = Redirect 1 2; reply = Moved 1; refined = refined }) → ⊥
+pub redirect_counts_just_the_moved_slots : (refined : List ℕ) → IsAllowed start (record { caller = 0; call = Redirect 1 2; reply = reply.Moved 1; refined = refined }) → ⊥
 redirect_counts_just_the_moved_slots refined h = let no : 1 ≡ 0 = h.answers.1 in absurd (omega arith)

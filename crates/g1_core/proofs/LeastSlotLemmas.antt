@@ -1,18 +1,17 @@
 -- The least slot that enters a region, and what is read to find it.
-use Rattle.std.proofs.Common.{◌≡◌, ◌≢◌, inl, inr, ℕ, ◌<◌, ◌≤◌, ◌+◌, ◌*◌, Bool, false, eqb, List, [], ◌∷◌, ◌++◌, get_or, Option, Some, None, refl, sym, ap, ◌∙◌, subst, arith, min, take}
+use Rattle.std.proofs.Common.{◌≡◌, ◌≢◌, inl, inr, ℕ, ◌<◌, ◌≤◌, ◌+◌, ◌-◌, ◌*◌, Bool, false, eqb, List, [], ◌∷◌, ◌++◌, get_or, Option, Some, None, refl, sym, ap, ◌∙◌, subst, arith, min, take, below_more}
 use Rattle.std.specs.Prelude.{Contains, slice_get}
 use Rattle.std.proofs.lemmas.Bool.{cases_lt, eqb-false}
 use Rattle.std.proofs.lemmas.List.{take_more}
 use Rattle.std.proofs.lemmas.List.Elements.{Contains-append_cases}
 use Rattle.std.proofs.lemmas.Option.{get_or_from_slice_get, slice_get_within}
-use Rattle.g1_layout.specs.Shape.{Shape, IsShape, card_of, region_of, region_of_card}
+use Rattle.g1_layout.specs.Shape.{Shape, IsShape, card_of, region_of, region_of_card, slot_at}
 use Rattle.g1_layout.specs.Sets.{PairSet}
-use Rattle.g1_layout.proofs.ShapeLemmas.{IsInRow, row_of_card, card_of-in_row}
+use Rattle.g1_layout.proofs.ShapeLemmas.{IsInRow, row_of_card, region_of_slot, region_of-row}
 use Rattle.g1_heap.specs.Cells.{Cells}
 use Rattle.g1_core.specs.Table.{Table, Enters}
 use Rattle.g1_core.specs.Machine.{table_from}
 use Rattle.g1_core.specs.Clearing.{IsLeastOn, lesser_of, AreRead}
-use Rattle.g1_core.proofs.TableLemmas.{region_of_slot}
 use Rattle.g1_core.proofs.MarkLemmas.{one_of}
 
 -- reads add up
@@ -48,16 +47,9 @@ module _ (heap now : Cells) (most : ℕ) (read : AreRead heap now most) (slot re
   pub sought : Enters (table_from heap pairs) slot region → Into now slot region
   sought e = (e.place, ap (λ (h : Cells). get_or h.refs slot None) read.cells ∙ e.refers, ap (λ (h : Cells). region_of h.layout e.place) read.cells ∙ e.into)
 
--- no slot from the one number to below the other enters the region
-abbrev pub NoneFrom : Table → ℕ → ℕ → ℕ → Type 0
-NoneFrom t region first number = (slot : ℕ) → first ≤ slot → slot < number → Enters t slot region → ⊥
-
-pub none_next : (t : Table) (region first number : ℕ) → NoneFrom t region first number → (Enters t number region → ⊥) → NoneFrom t region first (number + 1)
-none_next t region first number before here slot from below e =
-    elim (cases_lt slot number) [
-      | inl less ↦ before slot from less e
-      | inr past ↦ let is : slot ≡ number = omega arith in here (subst (λ (s : ℕ). Enters t s region) is e)
-    ]
+-- no slot of the card before this offset enters the region
+abbrev pub NoneBefore : Table → ℕ → ℕ → ℕ → Type 0
+NoneBefore t card region offset = (k : ℕ) → k < offset → Enters t (slot_at t.layout card k) region → ⊥
 
 -- one card
 module _ (t : Table) (shape : IsShape t.layout) (card region : ℕ) where
@@ -65,60 +57,47 @@ module _ (t : Table) (shape : IsShape t.layout) (card region : ℕ) where
   pub own_card : region_of_card t.layout card ≡ region → IsLeastOn t (card ∷ []) region None
   own_card own slot on e = e.outside (sym (region_of_slot t.layout slot) ∙ ap (region_of_card t.layout) (one_of (card_of t.layout slot) card on) ∙ own)
 
-  in_row : (slot : ℕ) → Contains (card ∷ []) (card_of t.layout slot) → IsInRow t.layout card slot
-  in_row slot on = row_of_card t.layout card slot shape (one_of (card_of t.layout slot) card on)
+  -- a slot on the card stands at an offset of it
+  at_offset : (slot : ℕ) → Contains (card ∷ []) (card_of t.layout slot) → (k : ℕ) × (k < t.layout.slots) × (slot ≡ slot_at t.layout card k)
+  at_offset slot on = let r : IsInRow t.layout card slot = row_of_card t.layout card slot shape (one_of (card_of t.layout slot) card on) in (slot - card * t.layout.slots, omega (arith, r.from, r.below), omega (arith, r.from))
 
-  pub card_none : (end : ℕ) → card * t.layout.slots + t.layout.slots ≤ end → NoneFrom t region (card * t.layout.slots) end → IsLeastOn t (card ∷ []) region None
-  card_none end whole none slot on e = let r : IsInRow t.layout card slot = in_row slot on in none slot r.from (omega (arith, r.below, whole)) e
+  pub card_none : (end : ℕ) → t.layout.slots ≤ end → NoneBefore t card region end → IsLeastOn t (card ∷ []) region None
+  card_none end whole none slot on e = let o = at_offset slot on in none o.0 (omega (arith, o.1, whole)) (subst (λ (s : ℕ). Enters t s region) o.2 e)
 
-  pub card_first : (slot : ℕ) → NoneFrom t region (card * t.layout.slots) slot → Enters t slot region → IsLeastOn t (card ∷ []) region (Some slot)
-  card_first slot none enters = (
+  pub card_first : (offset : ℕ) → NoneBefore t card region offset → Enters t (slot_at t.layout card offset) region → IsLeastOn t (card ∷ []) region (Some (slot_at t.layout card offset))
+  card_first offset none enters = (
     enters,
-    λ other on e. elim (cases_lt other slot) [
-      | inl less ↦ let r : IsInRow t.layout card other = in_row other on in absurd (none other r.from less e)
-      | inr past ↦ past
+    λ other on e. let o = at_offset other on in elim (cases_lt o.0 offset) [
+      | inl less ↦ absurd (none o.0 less (subst (λ (s : ℕ). Enters t s region) o.2 e))
+      | inr past ↦ omega (arith, o.2)
     ],
   )
 
--- a slot in the row of a card outside the region lies outside it
-pub row_outside : (l : Shape) (card slot region : ℕ) → card * l.slots ≤ slot → slot < card * l.slots + l.slots → region_of_card l card ≢ region → region_of l slot ≢ region
-row_outside l card slot region from below outside e =
-    outside (sym (ap (region_of_card l) (card_of-in_row l card slot (record { from = from; below = below }))) ∙ region_of_slot l slot ∙ e)
-
--- a slot of the walk over a card's row, of a card outside the region
-pub record IsWalked (heap : Cells) (card region first count number slot : ℕ) : Type 0 where
-  pub first_is : first ≡ card * heap.layout.slots
-  pub count_is : count ≡ heap.layout.slots
-  pub from : first ≤ number
-  pub below : number < first + count
-  pub slot_is : slot ≡ number
+-- a slot of the walk over the slots of a card outside the region
+pub record IsWalked (heap : Cells) (card region offset slot : ℕ) : Type 0 where
+  pub below : offset < heap.layout.slots
+  pub slot_is : slot ≡ slot_at heap.layout card offset
   pub outside : region_of_card heap.layout card ≢ region
 
-pub walked : (heap : Cells) (l : Shape) (card region own start first count number slot : ℕ) (same : Bool) → l ≡ heap.layout → own ≡ region_of_card l card → same ≡ eqb own region → same ≡ false → first ≡ start → start ≡ card * l.slots → count ≡ l.slots
-    → first ≤ number → number < first + count → slot ≡ number → IsWalked heap card region first count number slot
-walked heap l card region own start first count number slot same layout own_is test apart first_is start_is count_is from below slot_is = record {
-  first_is = first_is ∙ start_is ∙ ap (λ (l : Shape). card * l.slots) layout;
-  count_is = count_is ∙ ap (λ (l : Shape). l.slots) layout;
-  from = from;
-  below = below;
-  slot_is = slot_is;
+pub walked : (heap : Cells) (l : Shape) (card region own count offset slot : ℕ) (same : Bool) → l ≡ heap.layout → own ≡ region_of_card l card → same ≡ eqb own region → same ≡ false → count ≡ l.slots → offset < count → slot ≡ slot_at l card offset
+    → IsWalked heap card region offset slot
+walked heap l card region own count offset slot same layout own_is test apart count_is below slot_is = record {
+  below = omega (arith, count_is ∙ ap (λ (l : Shape). l.slots) layout, below);
+  slot_is = slot_is ∙ ap (λ (l : Shape). slot_at l card offset) layout;
   outside = λ e. eqb-false own region (sym test ∙ apart) (own_is ∙ ap (λ (l : Shape). region_of_card l card) layout ∙ e);
 }
 
-module _ (heap now : Cells) (most card region first count number slot : ℕ) (shape : IsShape heap.layout) (w : IsWalked heap card region first count number slot) (read : AreRead heap now most) where
-  lies_outside : region_of heap.layout slot ≢ region
-  lies_outside = row_outside heap.layout card slot region (omega (arith, w.first_is, w.from, w.slot_is)) (omega (arith, w.first_is, w.count_is, w.below, w.slot_is)) w.outside
-
+module _ (heap now : Cells) (most card region offset slot : ℕ) (shape : IsShape heap.layout) (w : IsWalked heap card region offset slot) (read : AreRead heap now most) where
   -- it enters the region, as the first one
-  pub entered : (pairs : PairSet) → Into now slot region → NoneFrom (table_from heap pairs) region first number → IsLeastOn (table_from heap pairs) (card ∷ []) region (Some slot)
+  pub entered : (pairs : PairSet) → Into now slot region → NoneBefore (table_from heap pairs) card region offset → IsLeastOn (table_from heap pairs) (card ∷ []) region (Some slot)
   entered pairs into none =
-      card_first (table_from heap pairs) shape card region slot
-      (λ other from below e. none other (omega (arith, w.first_is)) (omega (arith, w.slot_is)) e)
-      (found heap now most read slot region pairs into lies_outside)
+      let away : region_of heap.layout slot ≢ region = λ e. w.outside (sym (region_of-row heap.layout card offset w.below) ∙ ap (region_of heap.layout) (sym w.slot_is) ∙ e) in
+      subst (λ (s : ℕ). IsLeastOn (table_from heap pairs) (card ∷ []) region (Some s)) (sym w.slot_is)
+      (card_first (table_from heap pairs) shape card region offset none (subst (λ (s : ℕ). Enters (table_from heap pairs) s region) w.slot_is (found heap now most read slot region pairs into away)))
 
   -- or it does not
-  pub passed : (pairs : PairSet) → (Into now slot region → ⊥) → NoneFrom (table_from heap pairs) region first number → NoneFrom (table_from heap pairs) region first (number + 1)
-  passed pairs away none = none_next (table_from heap pairs) region first number none
+  pub passed : (pairs : PairSet) → (Into now slot region → ⊥) → NoneBefore (table_from heap pairs) card region offset → NoneBefore (table_from heap pairs) card region (offset + 1)
+  passed pairs away none = below_more (λ (k : ℕ). Enters (table_from heap pairs) (slot_at heap.layout card k) region → ⊥) offset none
       (λ e. away (sought heap now most read slot region pairs (subst (λ (s : ℕ). Enters (table_from heap pairs) s region) (sym w.slot_is) e)))
 
 -- one more card

@@ -2,7 +2,11 @@ pub mod SetLemmas
 pub mod TableLemmas
 pub mod MovedLemmas
 pub mod RunLemmas
+pub mod OutsideLemmas
+pub mod AdoptionLemmas
+pub mod SoundLemmas
 pub mod MarkLemmas
+pub mod GainLemmas
 pub mod TurnLemmas
 pub mod PartLemmas
 pub mod StoreLemmas
@@ -21,3 +25,4 @@ pub mod DrainLoopLemmas
 pub mod LeastSlotLemmas
 pub mod OpeningLemmas
 pub mod RefinedLemmas
+pub mod LengthLemmas

@@ -3,21 +3,15 @@ use Rattle.std.proofs.Common.{◌≡◌, ◌≢◌, ◌⊎◌, inl, inr, ℕ, �
 use Rattle.std.specs.Prelude.{map, not, ◌&&◌, ◌||◌}
 use Rattle.std.specs.List.{filter_map, enumerate_from}
 use Rattle.std.specs.FinSet as set
-use Rattle.std.proofs.lemmas.Nat.{div-mul-add}
 use Rattle.std.proofs.lemmas.Bool.{eqb-false, eq-eqb, ne_eqb, not-true, or_cases, or_left, or_right, and_parts, and_from, true≢false}
 use Rattle.std.proofs.lemmas.List.{get_or-map, length-map}
 use Rattle.std.proofs.lemmas.List.FromFn.{get_or-enumerate_from, length-enumerate_from}
-use Rattle.g1_layout.specs.Shape.{Shape, card_of, region_of, region_of_card}
+use Rattle.g1_layout.specs.Shape.{Shape, card_of, region_of, region_of_card, same_offset}
+use Rattle.g1_layout.proofs.ShapeLemmas.{same_offset_region}
 use Rattle.g1_layout.specs.Sets.{pair_cmp}
-use Rattle.g1_core.specs.Table.{Table, target_of, IsRecorded, Holds, IsCovered, same_offset, enters, moved_target, moved_pair, moved}
+use Rattle.g1_core.specs.Table.{Table, target_of, IsRecorded, Holds, IsCovered, enters, moved_target, moved_pair, moved}
 use Rattle.g1_core.proofs.SetLemmas.{pair_total, pair_exact, listed, unlisted, Kept, from_kept, to_kept}
 use Rattle.g1_core.proofs.TableLemmas.{region_of_slot, is_slot, slot_at, slot_of}
-
-pub same_offset_region : (l : Shape) (to place : ℕ) → 0 < l.cards * l.slots → region_of l (same_offset l to place) ≡ to
-same_offset_region l to place some =
-    let size : ℕ = l.cards * l.slots in
-    let less : place % (l.cards * l.slots) < l.cards * l.slots = omega arith in
-    div-mul-add to (l.cards * l.slots) (place % (l.cards * l.slots)) less
 
 module _ (l : Shape) (from to : ℕ) where
   -- what a slot refers to afterwards: it moved, or it is as before and does not refer into the region from outside
@@ -25,14 +19,14 @@ module _ (l : Shape) (from to : ℕ) where
     pub old : ℕ
     pub refers : o ≡ Some old
     pub enter : enters l from (slot, Some old) ≡ true
-    pub is : place ≡ same_offset l to old
+    pub is : place ≡ same_offset l old to
 
   pub record Stays (slot place : ℕ) (o : Option ℕ) : Type 0 where
     pub refers : o ≡ Some place
     pub enter : enters l from (slot, Some place) ≡ false
 
-  target_if : (slot old place : ℕ) (b : Bool) → enters l from (slot, Some old) ≡ b → cond b (Some (same_offset l to old)) (Some old) ≡ Some place → Moves slot place (Some old) ⊎ Stays slot place (Some old)
-  target_if slot old place true is e = let same : same_offset l to old ≡ place = cc in inl (record { old = old; refers = refl; enter = is; is = sym same })
+  target_if : (slot old place : ℕ) (b : Bool) → enters l from (slot, Some old) ≡ b → cond b (Some (same_offset l old to)) (Some old) ≡ Some place → Moves slot place (Some old) ⊎ Stays slot place (Some old)
+  target_if slot old place true is e = let same : same_offset l old to ≡ place = cc in inl (record { old = old; refers = refl; enter = is; is = sym same })
   target_if slot old place false is e = let same : old ≡ place = cc in inr (record { refers = ap Some same; enter = sym (ap (λ (p : ℕ). enters l from (slot, Some p)) same) ∙ is })
 
   target_cases : (slot place : ℕ) (o : Option ℕ) → moved_target l from to (slot, o) ≡ Some place → Moves slot place o ⊎ Stays slot place o
@@ -85,7 +79,7 @@ module _ (from to : ℕ) (t : Table) where
   moved_covered some apart none cover slot place x =
       elim (target_cases t.layout from to slot place (get_or t.refs slot None) (target_from slot place x.refers)) [
         | inl m ↦
-            let at : region_of t.layout place ≡ to = ap (region_of t.layout) m.is ∙ same_offset_region t.layout to m.old some in
+            let at : region_of t.layout place ≡ to = ap (region_of t.layout) m.is ∙ same_offset_region t.layout m.old to some in
             inr (subst (λ r. IsRecorded (moved from to t) (card_of t.layout slot) r) (sym at) (new_pair slot m.old apart m.refers m.enter (λ e. x.across (e ∙ sym at))))
         | inr s ↦ elim (cover slot place (record { refers = s.refers; across = x.across })) [
           | inl p ↦ inl p
@@ -112,9 +106,9 @@ module _ (from to : ℕ) (t : Table) where
           let enter : enters t.layout from (k, Some o.0) ≡ true = sym (ap (λ (x : Option ℕ). enters t.layout from (k, x)) o.1) ∙ b.0 in
           record {
             slot = k;
-            place = same_offset t.layout to o.0;
+            place = same_offset t.layout o.0 to;
             on_card = q.1;
-            refers = target_at k inside ∙ ap (λ (x : Option ℕ). moved_target t.layout from to (k, x)) o.1 ∙ ap (λ b. cond b (Some (same_offset t.layout to o.0)) (Some o.0)) enter;
-            into = same_offset_region t.layout to o.0 some ∙ q.2;
+            refers = target_at k inside ∙ ap (λ (x : Option ℕ). moved_target t.layout from to (k, x)) o.1 ∙ ap (λ b. cond b (Some (same_offset t.layout o.0 to)) (Some o.0)) enter;
+            into = same_offset_region t.layout o.0 to some ∙ q.2;
             outside = λ e. eqb-false _ _ (not-true _ b.1) (sym (region_of_slot t.layout k) ∙ ap (region_of_card t.layout) q.1 ∙ e ∙ sym q.2);
           }

@@ -14,13 +14,14 @@ use Rattle.g1_heap.specs.Cells.{new_cells, Cells}
 use Rattle.g1_sets.specs.Pairs.{Pairs, new_pairs}
 use Rattle.g1_hot.specs.Ring.{Ring, new_ring}
 use Rattle.g1_core.specs.Table.{Table, IsCovered, AreRefinable, refined, opening}
-use Rattle.g1_core.specs.Settings.{Settings, AreSettings}
+use Rattle.g1_core.specs.Settings.{Settings}
 use Rattle.g1_core.specs.Machine.{new_machine, State, IsCore, AreParts, pending_of, state_from, machine_from}
 use Rattle.g1_core.specs.Run.{IsStep}
 use Rattle.g1_core.specs.declared.reply.RefineReply.{RefineReply}
 use Rattle.g1_core.specs.Calls.{refine_entry}
 use Rattle.g1_core.proofs.SetLemmas.{same_cards}
 use Rattle.g1_core.proofs.TableLemmas.{opening_covered}
+use Rattle.g1_core.proofs.OutsideLemmas.{opening_outside}
 use Rattle.g1_core.proofs.MarkLemmas.{held_clean, from_pending}
 use Rattle.g1_core.proofs.RefinedLemmas.{refined_none}
 use Rattle.g1_core.proofs.StoreLemmas.{none_refinable}
@@ -62,13 +63,11 @@ module _ (l : Shape) (limit capacity : ℕ) (shape : IsShape l) (some : 1 ≤ ca
     held = λ q. (λ c. absurd (omega (arith, c.1)), λ held. absurd (held_clean _ held (all_clean (card_count l) q)));
     known = sym (ap set.len (none_pending (card_count l)) ∙ set.len-empty nat_cmp);
     cover = subst IsCovered (sym (ap (λ (s : State). s.table) new_state)) (opening_covered l);
+    outside = opening_outside l;
   }
 
-module _ (l : Shape) (s : Settings) (limit capacity : ℕ) (heap : Cells) (sets : Pairs) (ring : Ring) (shape : IsShape l) (settings : AreSettings s) (el : limit ≡ s.hot) (ec : capacity ≡ s.ring)
+module _ (l : Shape) (s : Settings) (limit capacity : ℕ) (heap : Cells) (sets : Pairs) (ring : Ring) (shape : IsShape l) (some : 1 ≤ capacity) (el : limit ≡ s.hot) (ec : capacity ≡ s.ring)
     (eh : heap ≡ new_cells l) (es : sets ≡ new_pairs l) (er : ring ≡ new_ring l limit capacity) where
-  some : 1 ≤ capacity
-  some = omega (arith, ec, settings.ring_low)
-
   pub made_core : IsCore heap sets ring 0
   made_core = subst (λ h. IsCore h sets ring 0) (sym eh) (subst (λ s. IsCore (new_cells l) s ring 0) (sym es) (subst (λ r. IsCore (new_cells l) (new_pairs l) r 0) (sym er)
       (record { layouts = refl; parts = new_parts l limit capacity shape some })))

@@ -1,47 +1,27 @@
 -- The parts of a core and the state that they stand for.
 use Rattle.std.proofs.Common.{◌≡◌, ◌≢◌, inl, inr, ℕ, zero, suc, ◌<◌, ◌+◌, true, false, cond, set as list_set, List, [], ◌∷◌, ◌++◌, length, get_or, drop, Option, Some, None, refl, sym, ap, ◌∙◌, subst, arith, ◌↔◌}
-use Rattle.std.specs.Prelude.{Contains, All, IfSome, nat_eq, slice_get}
+use Rattle.std.specs.Prelude.{Contains, All, nat_eq, slice_get}
 use Rattle.std.specs.List.{IsDistinct}
 use Rattle.std.specs.FinSet as set
-use Rattle.std.proofs.lemmas.Bool.{cases_eq, or_cases, or_left, or_right, and_parts, and_from, false_from_ne_true}
+use Rattle.std.proofs.lemmas.Bool.{cases_eq, false_from_ne_true}
 use Rattle.std.proofs.lemmas.List.{length-set}
 use Rattle.std.proofs.lemmas.List.Elements.{Contains-push, Contains-append_left, Contains-push_cases}
-use Rattle.g1_layout.specs.Shape.{slot_count, card_count}
+use Rattle.g1_layout.specs.Shape.{card_count}
 use Rattle.g1_layout.specs.Sets.{PairSet}
-use Rattle.g1_layout.proofs.ShapeLemmas.{region_of_below}
 use Rattle.g1_heap.specs.declared.mark.Mark.{Mark}
 use Rattle.g1_heap.specs.declared.mark.Mark.TheVariants.{Clean, Dirty, Held}
-use Rattle.g1_heap.specs.Cells.{Cells, AreCells, HoldsIn, with_mark, with_reads}
-use Rattle.g1_sets.specs.Pairs.{of_card}
+use Rattle.g1_heap.specs.Cells.{Cells, with_mark, with_reads}
 use Rattle.g1_hot.specs.declared.offer.Offer.{Offer}
 use Rattle.g1_hot.specs.Ring.{Ring, answer, popped}
-use Rattle.g1_core.specs.Table.{Table, IsCovered, IsPending, refined}
+use Rattle.g1_core.specs.Table.{IsCovered, IsPending, refined}
 use Rattle.g1_core.specs.Machine.{State, IsPlaced, AreParts, pending_of, table_from, state_from, gained}
 use Rattle.g1_core.specs.Turns.{is_dirty, offer_to}
-use Rattle.g1_core.proofs.SetLemmas.{same_pairs, in_pairs, to_pairs, of_card_from, of_card_to, pair_total, All_by_member, in_list, in_set}
-use Rattle.g1_core.proofs.TableLemmas.{is_slot, refined_recorded, refined_covered, held_from_Holds, Holds_from_held}
-use Rattle.g1_core.proofs.MarkLemmas.{one_of, itself, held_clean, dirty_clean, dirty_held, marked_cases, from_pending, to_pending, is_card, pending_cleaned, pending_kept, mark_here, mark_there, one_less}
+use Rattle.g1_core.proofs.SetLemmas.{All_by_member}
+use Rattle.g1_core.proofs.TableLemmas.{refined_covered}
+use Rattle.g1_core.proofs.OutsideLemmas.{refined_outside}
+use Rattle.g1_core.proofs.MarkLemmas.{held_clean, dirty_clean, dirty_held, marked_cases, from_pending, to_pending, is_card, pending_cleaned, pending_kept, mark_here, mark_there, one_less}
 use Rattle.g1_core.proofs.RefinedLemmas.{push_distinct}
 use Rattle.g1_core.proofs.TurnLemmas.{front_apart, rest_distinct, IsDirty, dirty_from, to_dirty}
-
--- what recording a card's targets adds is what refining it adds
-pub gained_is : (heap : Cells) (pairs : PairSet) (card : ℕ) (targets : List ℕ) → ((r : ℕ) → Contains targets r ↔ HoldsIn heap.layout heap.refs card r) → set.union pairs (of_card card targets) ≡ gained heap pairs card
-gained_is heap pairs card targets h =
-    let t : Table = table_from heap pairs in
-    same_pairs _ _
-    (λ p c. refined_recorded (card ∷ []) t p ∙ elim (or_cases _ _ (sym (set.contains-union pair_total pairs (of_card card targets) p) ∙ c)) [
-      | inl o ↦ or_left _ _ o
-      | inr m ↦
-          let q : (p.0 ≡ card) × Contains targets p.1 = of_card_from card targets p (in_pairs _ p m) in
-          or_right _ _ (and_from _ _ (held_from_Holds t p.0 p.1 (subst (λ k. HoldsIn heap.layout heap.refs k p.1) (sym q.0) ((h p.1).0 q.1))) (in_set (card ∷ []) p.0 (itself p.0 card q.0)))
-    ])
-    (λ p c. set.contains-union pair_total pairs (of_card card targets) p ∙ elim (or_cases _ _ (sym (refined_recorded (card ∷ []) t p) ∙ c)) [
-      | inl o ↦ or_left _ _ o
-      | inr m ↦
-          let q = and_parts _ _ m in
-          let is : p.0 ≡ card = one_of p.0 card (in_list (card ∷ []) p.0 q.1) in
-          or_right _ _ (to_pairs _ p (of_card_to card targets p is ((h p.1).1 (subst (λ k. HoldsIn heap.layout heap.refs k p.1) is (Holds_from_held t p.0 p.1 q.0)))))
-    ])
 
 pub in_rest : (x : ℕ) (xs : List ℕ) (q : ℕ) → q ≢ x → Contains (x ∷ xs) q → Contains xs q
 in_rest x xs q ne (zero, lt, e) = absurd (ne (sym e))
@@ -98,6 +78,7 @@ module _ (heap : Cells) (pairs : PairSet) (ring : Ring) (pending : ℕ) (parts :
     held = parts.held;
     known = parts.known;
     cover = parts.cover;
+    outside = parts.outside;
   }
 
   -- A pending card is refined and clean afterwards, and the ring holds just the other cards.
@@ -127,6 +108,7 @@ module _ (heap : Cells) (pairs : PairSet) (ring : Ring) (pending : ℕ) (parts :
           );
           known = omega (arith, fewer, less, parts.known);
           cover = subst IsCovered (sym (ap (λ (s : State). s.table) cleaned_state)) (refined_covered (card ∷ []) (table_from heap pairs) parts.cover);
+          outside = refined_outside (table_from heap pairs) parts.cells.shape parts.cells.slots parts.cells.places (card ∷ []) parts.outside;
         }
 
   -- A dirty card goes last into the ring.
@@ -160,6 +142,7 @@ module _ (heap : Cells) (pairs : PairSet) (ring : Ring) (pending : ℕ) (parts :
           );
           known = parts.known ∙ ap set.len (sym same_pending);
           cover = subst IsCovered (sym (ap (λ (s : State). s.table) held_state)) parts.cover;
+          outside = parts.outside;
         }
 
   -- a dirty card does not stand in the ring
@@ -203,12 +186,3 @@ pub record IsFront (xs : List ℕ) (d : ℕ) : Type 0 where
 pub front_of : (xs : List ℕ) (d : ℕ) → Some d ≡ slice_get xs 0 → IsFront xs d
 front_of [] d e = cc
 front_of (x ∷ xs) d e = let same : x ≡ d = cc in record { rest = xs; cards = ap (λ (y : ℕ). y ∷ xs) same }
-
--- the regions that a card holds into are of the layout
-pub targets_within : (heap : Cells) (regions : List ℕ) (card : ℕ) → AreCells heap → ((r : ℕ) → Contains regions r ↔ HoldsIn heap.layout heap.refs card r) → All (λ region. region < heap.layout.regions) regions
-targets_within heap regions card cells h = All_by_member (λ region. region < heap.layout.regions) regions (λ r c.
-    let hold : HoldsIn heap.layout heap.refs card r = (h r).0 c in
-    let slot : hold.slot < length heap.refs = is_slot heap.refs hold.slot hold.place hold.refers in
-    let place : IfSome (get_or heap.refs hold.slot None) (λ place. place < slot_count heap.layout) = cells.places hold.slot None slot in
-    let below : hold.place < slot_count heap.layout = subst (λ o. IfSome o (λ place. place < slot_count heap.layout)) hold.refers place in
-    subst (λ (r : ℕ). r < heap.layout.regions) hold.into (region_of_below heap.layout hold.place cells.shape below))

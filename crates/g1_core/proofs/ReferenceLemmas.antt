@@ -7,22 +7,24 @@ use Rattle.std.proofs.lemmas.Bool.{eqb-true, eqb-false, ne_eqb, and_parts, and_f
 use Rattle.std.proofs.lemmas.List.{length-map}
 use Rattle.std.proofs.lemmas.List.FromFn.{length-enumerate_from}
 use Rattle.std.proofs.lemmas.List.Elements.{Contains-get_or}
-use Rattle.g1_layout.specs.Shape.{Shape, IsShape, slot_count, card_of, region_of, region_of_card}
+use Rattle.g1_layout.specs.Shape.{Shape, IsShape, slot_count, card_of, region_of, region_of_card, same_offset}
+use Rattle.g1_layout.proofs.ShapeLemmas.{same_offset_below}
 use Rattle.g1_core.specs.declared.redirection.Change.{Change}
 use Rattle.g1_core.specs.Machine.{IsCore, pending_of, table_from, state_from}
-use Rattle.g1_core.specs.Table.{Table, IsCovered, same_offset, enters, moved_target, moved_pair, moved}
+use Rattle.g1_core.specs.Table.{Table, Holds, IsCovered, IsRecorded, enters, moved_target, moved_pair, moved}
 use Rattle.g1_core.specs.Redirect.{change_at, changes_of, slots_of, slots_on, changed, AreGaining}
 use Rattle.g1_core.proofs.SetLemmas.{same_pairs, in_pairs, to_pairs, from_kept, to_kept, All_by_member}
 use Rattle.g1_core.proofs.TableLemmas.{region_of_slot, is_slot, slot_at, slot_of}
 use Rattle.g1_core.proofs.RunLemmas.{has_slots}
 use Rattle.g1_core.proofs.ClearLemmas.{met}
-use Rattle.g1_core.proofs.MovedLemmas.{moved_covered}
+use Rattle.g1_core.proofs.MovedLemmas.{moved_covered, moved_known}
+use Rattle.g1_core.proofs.OutsideLemmas.{holds_outside}
 use Rattle.g1_heap.specs.Cells.{Cells}
 use Rattle.g1_layout.specs.Sets.{PairSet, pair_cmp}
 use Rattle.g1_hot.specs.Ring.{Ring}
 use Rattle.g1_sets.specs.Pairs.{Pairs, AreTied, list_at, of_region, without}
 use Rattle.g1_core.specs.Clearing.{AreRead}
-use Rattle.g1_core.proofs.ChangeLemmas.{change_cases, all_moved, changed_places, of_region_from, of_region_to, same_offset_below}
+use Rattle.g1_core.proofs.ChangeLemmas.{change_cases, all_moved, changed_places, of_region_from, of_region_to}
 use Rattle.g1_core.proofs.WalkLemmas.{on_card, its_slot, to_slots, distinct_slots}
 
 -- The references into a region are moved, where nothing is pending.
@@ -65,11 +67,11 @@ module _ (heap : Cells) (sets : Pairs) (ring : Ring) (pending : ℕ) (core : IsC
       elim (change_cases l from to k.1 (get_or heap.refs k.1 None)) [
         | inl left ↦ let none : None ≡ Some x = sym left.none ∙ k.4 in cc
         | inr d ↦
-            let here : Change = record { slot = k.1; place = same_offset l to d.old } in
+            let here : Change = record { slot = k.1; place = same_offset l d.old to } in
             let both : Some here ≡ Some x = sym d.change ∙ k.4 in
             let is : here ≡ x = cc in
             let below : k.1 < length heap.refs = is_slot heap.refs k.1 d.old d.refers in
-            subst (λ (y : Change). (y.slot < slot_count l) × (y.place < slot_count l)) is (omega (arith, core.parts.cells.slots), same_offset_below l to d.old shape within)
+            subst (λ (y : Change). (y.slot < slot_count l) × (y.place < slot_count l)) is (omega (arith, core.parts.cells.slots), same_offset_below l d.old to some within)
       ]
 
   pub slots_within : All (λ change. change.slot < slot_count l) changes
@@ -116,8 +118,8 @@ module _ (heap : Cells) (sets : Pairs) (ring : Ring) (pending : ℕ) (core : IsC
           | inl left ↦ absurd (true≢false (sym b.0 ∙ left.away))
           | inr d ↦
               let s = its_slot l shape (card_of l k.0) k.0 refl in
-              let listed : Contains (changes_of l heap.refs from to (slots_of l (card_of l k.0))) (record { slot = k.0; place = same_offset l to d.old }) =
-              to_kept (λ slot. change_at l from to slot (get_or heap.refs slot None)) (slots_of l (card_of l k.0)) s.0 k.0 (record { slot = k.0; place = same_offset l to d.old }) s.1 s.2 d.change in
+              let listed : Contains (changes_of l heap.refs from to (slots_of l (card_of l k.0))) (record { slot = k.0; place = same_offset l d.old to }) =
+              to_kept (λ slot. change_at l from to slot (get_or heap.refs slot None)) (slots_of l (card_of l k.0)) s.0 k.0 (record { slot = k.0; place = same_offset l d.old to }) s.1 s.2 d.change in
               let gain : Contains gaining (card_of l k.0) = (gains (card_of l k.0)).1 (entering k.0 b.0, omega (arith, listed.1), outside) in
               to_pairs (map (λ (c : ℕ). (c, to)) gaining) p (subst (λ (p : ℕ × ℕ). Contains (map (λ (c : ℕ). (c, to)) gaining) p) q.1 (of_region_to gaining to (card_of l k.0) gain))
         ]
@@ -154,6 +156,10 @@ module _ (heap : Cells) (sets : Pairs) (ring : Ring) (pending : ℕ) (core : IsC
           held = core.parts.held;
           known = core.parts.known;
           cover = subst IsCovered (sym table_is) (moved_covered from to t some apart nothing core.parts.cover);
+          outside = λ card region r. elim (moved_known from to t some card region (subst (λ (t : Table). IsRecorded t card region) table_is r)).0 [
+            | inl old ↦ core.parts.outside card region old
+            | inr holds ↦ holds_outside (table_from after sets'.pairs) shape length_is (changed_places l changes heap.refs core.parts.cells.places places_within) card region (subst (λ (t : Table). Holds t card region) (sym table_is) holds)
+          ];
         };
       }
 

@@ -11,7 +11,13 @@ use Rattle.std.proofs.lemmas.Bool.{true≢false, and_from, and_parts, ne_eqb, eq
 use Rattle.g1_layout.specs.Shape.{Shape, IsShape, card_of, region_of, region_of_card}
 use Rattle.g1_layout.specs.Sets.{PairSet, pair_cmp}
 use Rattle.g1_core.specs.Table.{Table, opening, Holds, IsCovered, IsRecorded, refined, held}
-use Rattle.g1_core.specs.Run.{Call, Store, Clear, Redirect, Reply, Cleared, Moved, Entry, written, settled, Answers, IsCallOf, table_after, IsAllowed, IsStep, table_of, IsPermitted, Clears, ClearsBy, HeldSince, IsExact, drained}
+use Rattle.g1_core.specs.declared.entry.Call.{Call}
+use Rattle.g1_core.specs.declared.entry.Reply.{Reply}
+use Rattle.g1_core.specs.declared.entry.Entry.{Entry}
+use Rattle.g1_core.specs.declared.entry.Call.TheVariants.{Store, Clear, Redirect}
+use Rattle.g1_core.specs.declared.entry.Reply.TheVariants as reply
+use Rattle.g1_core.specs.declared.reply.ClearReply.TheVariants as clear_reply
+use Rattle.g1_core.specs.Run.{written, settled, Answers, IsCallOf, table_after, IsAllowed, IsStep, table_of, IsPermitted, Clears, ClearsBy, HeldSince, IsExact, drained}
 use Rattle.g1_core.proofs.SetLemmas.{pair_exact}
 use Rattle.g1_core.proofs.MovedLemmas.{moved_covered, moved_known}
 use Rattle.g1_core.proofs.TableLemmas.{refined_covered, stored_covered, opening_covered, recorded_cases, Holds_from_held, region_of_slot}
@@ -45,7 +51,7 @@ written_covered (Store slot target) t cover = stored_covered t slot target cover
 written_covered _ t cover = cover
 
 -- the pairs at other regions stay
-forgotten : (recorded : PairSet) (region : ℕ) (p : ℕ × ℕ) → set.contains (set.retain recorded (λ pair. not (eqb pair.1 region))) p ≡ (set.contains recorded p && not (eqb p.1 region))
+pub forgotten : (recorded : PairSet) (region : ℕ) (p : ℕ × ℕ) → set.contains (set.retain recorded (λ pair. not (eqb pair.1 region))) p ≡ (set.contains recorded p && not (eqb p.1 region))
 forgotten recorded region p = set.contains-retain recorded (λ pair. not (eqb pair.1 region)) p (λ x e. ap (λ (q : ℕ × ℕ). not (eqb q.1 region)) (sym (pair_exact p x e)))
 
 -- no call changes the layout
@@ -54,11 +60,11 @@ written_layout (Store slot target) t = refl
 written_layout _ t = refl
 
 settled_layout : (c : Call) (r : Reply) (t : Table) → (settled c r t).layout ≡ t.layout
-settled_layout (Clear of) Cleared t = refl
-settled_layout (Redirect from to) (Moved n) t = refl
+settled_layout (Clear of) (reply.Clear clear_reply.Cleared) t = refl
+settled_layout (Redirect from to) (reply.Moved n) t = refl
 settled_layout _ _ t = refl
 
-layout_after : (t : Table) (e : Entry) → (table_after t e).layout ≡ t.layout
+pub layout_after : (t : Table) (e : Entry) → (table_after t e).layout ≡ t.layout
 layout_after t e = settled_layout e.call e.reply (refined e.refined (written e.call t)) ∙ written_layout e.call t
 
 -- a region has slots
@@ -69,13 +75,13 @@ pub has_slots : (l : Shape) → IsShape l → HasSlots l
 has_slots l h = mul-pos (omega (arith, h.cards_low)) (omega (arith, h.slots_low))
 
 settled_covered : (c : Call) (r : Reply) (cards : List ℕ) (t : Table) → HasSlots t.layout → IsCallOf t.layout c → Answers t c r cards (settled c r (refined cards (written c t))) → IsCovered (refined cards (written c t)) → IsCovered (settled c r (refined cards (written c t)))
-settled_covered (Clear region) Cleared cards t some n a cover slot place x =
+settled_covered (Clear region) (reply.Clear clear_reply.Cleared) cards t some n a cover slot place x =
     let away : region_of t.layout place ≢ region = λ into. a.2 slot (record { place = place; refers = x.refers; into = into; outside = λ e. x.across (e ∙ sym into) }) in
     elim (cover slot place (record { refers = x.refers; across = x.across })) [
       | inl p ↦ inl p
       | inr r ↦ inr (forgotten (refined cards t).recorded region (card_of t.layout slot, region_of t.layout place) ∙ and_from _ _ r (ap not (ne_eqb _ _ away)))
     ]
-settled_covered (Redirect from to) (Moved _) cards t some n a cover slot place x = moved_covered from to (refined cards t) some n.2 a.0 cover slot place x
+settled_covered (Redirect from to) (reply.Moved _) cards t some n a cover slot place x = moved_covered from to (refined cards t) some n.2 a.0 cover slot place x
 settled_covered _ _ cards t some n a cover slot place x = cover slot place x
 
 pub step_covered : (t : Table) (e : Entry) → HasSlots t.layout → IsAllowed t e → IsCovered t → IsCovered (table_after t e)
@@ -96,10 +102,10 @@ written_recorded _ t card region h = h
 
 -- what is recorded in the end was recorded before it was settled, or is held in the end; and the call did not clear the region
 settled_recorded : (c : Call) (r : Reply) (t : Table) (card region : ℕ) → HasSlots t.layout → IsRecorded (settled c r t) card region → (IsRecorded t card region ⊎ Holds (settled c r t) card region) × (ClearsBy c r region → ⊥)
-settled_recorded (Clear of) Cleared t card region some h =
+settled_recorded (Clear of) (reply.Clear clear_reply.Cleared) t card region some h =
     let p = and_parts _ _ (sym (forgotten t.recorded of (card, region)) ∙ h) in
     (inl p.0, λ is. true≢false (sym p.1 ∙ ap not (eq-eqb region of (sym is))))
-settled_recorded (Redirect from to) (Moved n) t card region some h = moved_known from to t some card region h
+settled_recorded (Redirect from to) (reply.Moved n) t card region some h = moved_known from to t some card region h
 settled_recorded _ _ t card region some h = (inl h, λ e. e)
 
 -- what a card holds as it is refined, it held before the call, or holds after it

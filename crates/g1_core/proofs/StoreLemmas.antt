@@ -19,7 +19,8 @@ use Rattle.g1_hot.specs.Ring.{Ring}
 use Rattle.g1_core.specs.Table.{Table, IsCovered, AreRefinable, refined}
 use Rattle.g1_core.specs.Settings.{Settings}
 use Rattle.g1_core.specs.Machine.{Machine, State, IsCore, AreParts, pending_of, table_from, state_from, machine_from}
-use Rattle.g1_core.specs.Run.{IsStep, IsCallOf, Store, kind_of, stored, pending_after}
+use Rattle.g1_core.specs.declared.entry.Call.TheVariants.{Store}
+use Rattle.g1_core.specs.Run.{IsStep, IsCallOf, kind_of, stored, pending_after}
 use Rattle.g1_core.specs.declared.reply.StoreReply.{StoreReply}
 use Rattle.g1_core.specs.Calls.{store_entry}
 use Rattle.g1_core.proofs.TableLemmas.{stored_covered}
@@ -76,6 +77,7 @@ module _ (heap : Cells) (pairs : PairSet) (ring : Ring) (pending : ℕ) (parts :
     held = parts.held;
     known = parts.known;
     cover = subst IsCovered (sym (ap (λ (s : State). s.table) (plain_state ne))) (stored_covered t slot target parts.cover);
+    outside = parts.outside;
   }
 
   module _ (logged : kind ≡ Logged) (card : ℕ) (on_card : card ≡ card_of heap.layout slot) (within : card < card_count heap.layout) (pending' : ℕ) (more : pending' ≡ pending + 1) where
@@ -119,6 +121,7 @@ module _ (heap : Cells) (pairs : PairSet) (ring : Ring) (pending : ℕ) (parts :
       );
       known = more ∙ ap (λ n. n + 1) parts.known ∙ sym (one_more (pending_of heap.marks) card new_card) ∙ ap set.len (sym marked);
       cover = subst IsCovered (sym (ap (λ (s : State). s.table) logged_state)) (stored_covered t slot target parts.cover);
+      outside = parts.outside;
     }
 
 pub none_refinable : (t : Table) → AreRefinable t []

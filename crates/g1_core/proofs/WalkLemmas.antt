@@ -8,7 +8,7 @@ use Rattle.std.proofs.lemmas.List.FromFn.{get_or-range_with_len, length-range_wi
 use Rattle.std.proofs.lemmas.List.Concat.{flat_map-cons}
 use Rattle.std.proofs.lemmas.Grind.{flat_map-append}
 use Rattle.std.proofs.lemmas.List.Elements.{filter_map-append, Contains-append_cases, Contains-append_left, Contains-append_right}
-use Rattle.g1_layout.specs.Shape.{Shape, IsShape, card_count, card_of, region_of_card}
+use Rattle.g1_layout.specs.Shape.{Shape, IsShape, card_count, card_of, region_of_card, slot_at}
 use Rattle.g1_core.specs.declared.redirection.Change.{Change}
 use Rattle.g1_core.specs.Redirect.{change_at, changes_of, slots_of, slots_on, AreGaining}
 use Rattle.std.proofs.lemmas.Option.{get_or_from_slice_get, slice_get_within}
@@ -95,15 +95,14 @@ module _ (l : Shape) (refs : List (Option ℕ)) (from to : ℕ) where
   one_change : (slot : ℕ) (o : Option Change) → o ≡ change_at l from to slot (get_or refs slot None) → changes_of l refs from to (slot ∷ []) ≡ cons_option o []
   one_change slot o is = ap (λ (o : Option Change). cons_option o []) (sym is)
 
-  pub changes_next : (first number slot : ℕ) (o : Option Change) (before xs xs' : List Change) → first ≤ number → slot ≡ number → o ≡ change_at l from to slot (get_or refs slot None)
-      → xs ≡ before ++ changes_of l refs from to (range_with_len first (number - first)) → xs' ≡ xs ++ cons_option o [] → xs' ≡ before ++ changes_of l refs from to (range_with_len first (number + 1 - first))
-  changes_next first number slot o before xs xs' low at is listed more =
-      let many : number + 1 - first ≡ number - first + 1 = omega arith in
-      let last : first + (number - first) ≡ slot = omega arith in
-      let range : range_with_len first (number + 1 - first) ≡ range_with_len first (number - first) ++ slot ∷ [] = ap (λ (n : ℕ). range_with_len first n) many ∙ range_push first (number - first) ∙ ap (λ (k : ℕ). range_with_len first (number - first) ++ k ∷ []) last in
+  pub changes_next : (card offset slot : ℕ) (o : Option Change) (before xs xs' : List Change) → slot ≡ slot_at l card offset → o ≡ change_at l from to slot (get_or refs slot None)
+      → xs ≡ before ++ changes_of l refs from to (range_with_len (card * l.slots) offset) → xs' ≡ xs ++ cons_option o [] → xs' ≡ before ++ changes_of l refs from to (range_with_len (card * l.slots) (offset + 1))
+  changes_next card offset slot o before xs xs' at is listed more =
+      let earlier : List ℕ = range_with_len (card * l.slots) offset in
+      let range : range_with_len (card * l.slots) (offset + 1) ≡ range_with_len (card * l.slots) offset ++ slot ∷ [] = range_push (card * l.slots) offset ∙ ap (λ (k : ℕ). range_with_len (card * l.slots) offset ++ k ∷ []) (sym at) in
       more ∙ ap (λ (ys : List Change). ys ++ cons_option o []) listed
-      ∙ append_assoc before (changes_of l refs from to (range_with_len first (number - first))) (cons_option o [])
-      ∙ ap (λ (ys : List Change). before ++ ys) (ap (λ (ys : List Change). changes_of l refs from to (range_with_len first (number - first)) ++ ys) (sym (one_change slot o is)) ∙ sym (changes_both (range_with_len first (number - first)) (slot ∷ [])) ∙ ap (λ (ks : List ℕ). changes_of l refs from to ks) (sym range))
+      ∙ append_assoc before (changes_of l refs from to earlier) (cons_option o [])
+      ∙ ap (λ (ys : List Change). before ++ ys) (ap (λ (ys : List Change). changes_of l refs from to earlier ++ ys) (sym (one_change slot o is)) ∙ sym (changes_both earlier (slot ∷ [])) ∙ ap (λ (ks : List ℕ). changes_of l refs from to ks) (sym range))
 
   -- one more card, which gains a reference or not
   pub gaining_push : (cards gaining : List ℕ) (card : ℕ) → AreGaining l refs from to cards gaining → 1 ≤ length (changes_of l refs from to (slots_of l card)) → region_of_card l card ≢ to → AreGaining l refs from to (cards ++ card ∷ []) (gaining ++ card ∷ [])

@@ -1,16 +1,16 @@
 -- What contracts see of a core: the plain table, the hot ring with its counts, the settings, and how many slots were read.
-use Rattle.std.specs.Prelude.{ℕ, List, [], ◌∷◌, Option, Some, None, ◌≡◌, ◌≤◌, ◌↔◌, length, nat_eq, Contains, All, slice_index_or, refl}
+use Rattle.std.specs.Prelude.{ℕ, List, [], ◌∷◌, Option, Some, None, ◌≡◌, ◌<◌, ◌≤◌, ◌↔◌, length, nat_eq, Contains, All, IfSome, slice_index_or, refl}
 use Rattle.std.specs.List.{IsDistinct, filter_map, enumerate_from}
 use Rattle.std.specs.Coded.{Coded, code_by, coded×, coded_ℕ, coded_list, coded_option}
 use Rattle.std.specs.FinSet as set
-use Rattle.g1_layout.specs.Shape.{Shape, shape_code, card_count}
+use Rattle.g1_layout.specs.Shape.{Shape, IsShape, shape_code, slot_count, card_count}
 use Rattle.g1_layout.specs.Sets.{CardSet, PairSet}
 use Rattle.g1_heap.specs.declared.mark.Mark.{Mark}
 use Rattle.g1_heap.specs.declared.mark.Mark.TheVariants.{Clean, Dirty, Held}
 use Rattle.g1_heap.specs.Cells.{Cells, AreCells}
 use Rattle.g1_sets.specs.Pairs.{Pairs}
 use Rattle.g1_hot.specs.Ring.{Ring, ring_code, new_ring}
-use Rattle.g1_core.specs.Table.{Table, IsCovered, IsPending, refined, opening}
+use Rattle.g1_core.specs.Table.{Table, IsCovered, IsPending, AreOutside, refined, opening}
 use Rattle.g1_core.specs.Settings.{Settings, settings_code}
 
 -- what a refusal leaves as it was
@@ -61,8 +61,25 @@ pub record IsPlaced (s : State) : Type 0 where
   pub distinct : IsDistinct nat_eq s.ring.cards
   pub pending : All (IsPending s.table) s.ring.cards
 
+-- What every core keeps: one reference a slot, to places of the heap; pending cards of the heap; recorded pairs of the heap,
+-- each with its card outside its region; cover; and a ring of distinct pending cards.
+pub record IsSound (s : State) : Type 0 where
+  pub shape : IsShape s.table.layout
+  pub slots : length s.table.refs ≡ slot_count s.table.layout
+  pub places : All (λ target. IfSome target (λ place. place < slot_count s.table.layout)) s.table.refs
+  pub pending : (card : ℕ) → IsPending s.table card → card < card_count s.table.layout
+  pub recorded : AreOutside s.table
+  pub cover : IsCovered s.table
+  pub ring : IsPlaced s
+
+-- What every call leaves: a sound core of the same layout and settings.
+pub record IsLater (old new : Machine) : Type 0 where
+  pub layout : new.state.table.layout ≡ old.state.table.layout
+  pub settings : new.settings ≡ old.settings
+  pub sound : IsSound new.state
+
 -- What the parts of a core keep: the cards with the mark held are just those in the ring, each once, the number of
--- pending cards is known, and each reference across regions is covered.
+-- pending cards is known, each reference across regions is covered, and each recorded pair's card lies outside its region.
 pub record AreParts (heap : Cells) (pairs : PairSet) (ring : Ring) (pending : ℕ) : Type 0 where
   pub cells : AreCells heap
   pub counts : length ring.counts ≡ card_count heap.layout
@@ -71,6 +88,7 @@ pub record AreParts (heap : Cells) (pairs : PairSet) (ring : Ring) (pending : �
   pub held : (card : ℕ) → Contains ring.cards card ↔ (slice_index_or heap.marks card Clean ≡ Held)
   pub known : pending ≡ set.len (pending_of heap.marks)
   pub cover : IsCovered (table_from heap pairs)
+  pub outside : AreOutside (table_from heap pairs)
 
 -- and of one layout
 pub record IsCore (heap : Cells) (sets : Pairs) (ring : Ring) (pending : ℕ) : Type 0 where

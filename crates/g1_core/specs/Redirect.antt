@@ -1,12 +1,12 @@
 -- What a redirect changes.
 use Rattle.std.specs.Prelude.{◌≡◌, ◌≢◌, ◌≤◌, ◌↔◌, ℕ, ◌+◌, ◌*◌, List, [], Option, Some, None, Contains, length, if◌then◌else◌, fold, slice_set, slice_index_or}
 use Rattle.std.specs.List.{filter_map, flat_map, range_with_len}
-use Rattle.g1_layout.specs.Shape.{Shape, region_of_card}
+use Rattle.g1_layout.specs.Shape.{Shape, region_of_card, same_offset}
 use Rattle.g1_hot.specs.Ring.{reset}
 use Rattle.g1_core.specs.declared.redirection.Change.{Change}
 use Rattle.g1_core.specs.declared.reply.Redirected.{Redirected}
 use Rattle.g1_core.specs.declared.reply.Redirected.TheVariants.{Moved, Short}
-use Rattle.g1_core.specs.Table.{enters, moved, refined, same_offset}
+use Rattle.g1_core.specs.Table.{enters, moved, refined}
 use Rattle.g1_core.specs.Machine.{Machine}
 use Rattle.g1_core.specs.Pause.{IsDrainOrder, with_cards}
 use Rattle.g1_core.specs.Clearing.{member_count}
@@ -14,7 +14,7 @@ use Rattle.g1_core.specs.Clearing.{member_count}
 -- the change of a slot that refers to this, if it lies outside the region and refers into it
 abbrev pub change_at : Shape → ℕ → ℕ → ℕ → Option ℕ → Option Change
 change_at l from to slot None = None
-change_at l from to slot (Some place) = if enters l from (slot, Some place) then Some (record { slot = slot; place = same_offset l to place }) else None
+change_at l from to slot (Some place) = if enters l from (slot, Some place) then Some (record { slot = slot; place = same_offset l place to }) else None
 
 -- the changes of some slots, in their order
 abbrev pub changes_of : Shape → List (Option ℕ) → ℕ → ℕ → List ℕ → List Change

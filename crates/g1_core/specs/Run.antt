@@ -1,48 +1,22 @@
--- Calls and replies as entries of a history, the step of the plain table that each is, and permitted runs.
+-- The step of the plain table that each entry of a history is, and permitted runs.
 use Rattle.std.specs.Prelude.{◌≡◌, ◌≢◌, ℕ, Bool, List, [], ◌∷◌, Option, Some, None, length, take, drop, All, Contains, fold, if◌then◌else◌, ◌==◌, not, slice_set, ◌<◌, ◌≤◌, IfSome}
 use Rattle.std.specs.List.Sorted.{IsStrictlyIncreasing}
 use Rattle.std.specs.FinSet as set
 use Rattle.g1_layout.specs.declared.kind.Kind.{Kind}
 use Rattle.g1_layout.specs.declared.kind.Kind.TheVariants.{SameRegion, Null, AlreadyDirty, Logged}
-use Rattle.g1_core.specs.declared.reply.Fill.{Fill}
+use Rattle.g1_core.specs.declared.entry.Call.{Call}
+use Rattle.g1_core.specs.declared.entry.Call.TheVariants.{Store, Refine, Target, Pending, Members, Status, Drain, Clear, Redirect}
+use Rattle.g1_core.specs.declared.entry.Reply.{Reply}
+use Rattle.g1_core.specs.declared.entry.Reply.TheVariants as reply
+use Rattle.g1_core.specs.declared.entry.Entry.{Entry}
+use Rattle.g1_core.specs.declared.reply.ClearReply.TheVariants as clear_reply
 use Rattle.g1_layout.specs.Shape.{Shape, slot_count, card_count, card_of, region_of, region_of_card}
 use Rattle.g1_layout.specs.Sets.{CardSet}
 use Rattle.g1_core.specs.Table.{Table, opening, target_of, Holds, Enters, AreMembers, AreRefinable, refined, moved, moved_count}
 
-pub data Call : Type 0 where
-  Store : (slot : ℕ) (target : Option ℕ) → Call
-  Refine : Call
-  Target : (slot : ℕ) → Call
-  Pending : (card : ℕ) → Call
-  Members : (region : ℕ) → Call
-  Status : Call
-  Drain : (region : ℕ) → Call
-  Clear : (region : ℕ) → Call
-  Redirect : (from to : ℕ) → Call
-
--- what is answered beside the list of refined cards
-pub data Reply : Type 0 where
-  Stored : (kind : Kind) (fill : Fill) (short : Bool) → Reply
-  Refined : (taken hot skipped left : ℕ) (short : Bool) → Reply
-  TargetIs : (target : Option ℕ) → Reply
-  PendingIs : (answer : Bool) → Reply
-  Cards : (cards : List ℕ) → Reply
-  Counts : (pending recorded : ℕ) → Reply
-  Short : Reply
-  Cleared : Reply
-  StillPending : (cards : ℕ) → Reply
-  StillReferenced : (slot : ℕ) → Reply
-  Moved : (slots : ℕ) → Reply
-
-pub record Entry : Type 0 where
-  pub caller : ℕ
-  pub call : Call
-  pub reply : Reply
-  pub refined : List ℕ
-
 -- a whole drain of the region, which answered these cards
 abbrev pub drained : ℕ → ℕ → List ℕ → List ℕ → Entry
-drained caller region cards refined = record { caller = caller; call = Drain region; reply = Cards cards; refined = refined }
+drained caller region cards refined = record { caller = caller; call = Drain region; reply = reply.Cards cards; refined = refined }
 
 -- the kind of a store
 abbrev pub kind_of : Table → ℕ → Option ℕ → Kind
@@ -74,8 +48,8 @@ written _ t = t
 
 -- What a call does after it refined: a granted clear forgets the pairs at the region, and a redirect moves references.
 abbrev pub settled : Call → Reply → Table → Table
-settled (Clear region) Cleared t = record { layout = t.layout; refs = t.refs; pending = t.pending; recorded = set.retain t.recorded (λ pair. not (pair.1 == region)) }
-settled (Redirect from to) (Moved _) t = moved from to t
+settled (Clear region) (reply.Clear clear_reply.Cleared) t = record { layout = t.layout; refs = t.refs; pending = t.pending; recorded = set.retain t.recorded (λ pair. not (pair.1 == region)) }
+settled (Redirect from to) (reply.Moved _) t = moved from to t
 settled _ _ t = t
 
 abbrev pub table_after : Table → Entry → Table
@@ -89,22 +63,22 @@ pub record IsFirstInto (t : Table) (region slot : ℕ) : Type 0 where
 -- Whether the reply answers the call: from the table before, with these cards refined, and to the table after.
 abbrev pub Answers : Table → Call → Reply → List ℕ → Table → Type 0
 -- only a logged store may refine
-Answers t (Store slot target) (Stored kind _ _) cards after = (kind ≡ kind_of t slot target) × (kind ≢ Logged → cards ≡ [])
-Answers t Refine (Refined _ _ _ _ _) cards after = Unit {0}
-Answers t (Target slot) (TargetIs target) cards after = (cards ≡ []) × (target ≡ target_of t slot)
-Answers t (Pending card) (PendingIs answer) cards after = (cards ≡ []) × (answer ≡ set.contains t.pending card)
-Answers t (Members region) (Cards members) cards after = (cards ≡ []) × AreMembers t region members
-Answers t Status (Counts pending recorded) cards after = (cards ≡ []) × (pending ≡ set.len t.pending) × (recorded ≡ set.len t.recorded)
+Answers t (Store slot target) (reply.Stored kind _ _) cards after = (kind ≡ kind_of t slot target) × (kind ≢ Logged → cards ≡ [])
+Answers t Refine (reply.Refined _ _ _ _ _) cards after = Unit {0}
+Answers t (Target slot) (reply.Target target) cards after = (cards ≡ []) × (target ≡ target_of t slot)
+Answers t (Pending card) (reply.Pending answer) cards after = (cards ≡ []) × (answer ≡ set.contains t.pending card)
+Answers t (Members region) (reply.Cards members) cards after = (cards ≡ []) × AreMembers t region members
+Answers t Status (reply.Status status) cards after = (cards ≡ []) × (status.pending ≡ set.len t.pending) × (status.recorded ≡ set.len t.recorded)
 -- a whole drain leaves nothing pending and answers the members of the region; a short one only refines
-Answers t (Drain region) (Cards members) cards after = (after.pending ≡ set.empty) × AreMembers after region members
-Answers t (Drain region) Short cards after = Unit {0}
+Answers t (Drain region) (reply.Cards members) cards after = (after.pending ≡ set.empty) × AreMembers after region members
+Answers t (Drain region) reply.Short cards after = Unit {0}
 -- a clear is refused while a card is pending or a slot outside still refers into the region
-Answers t (Clear region) (StillPending n) cards after = (cards ≡ []) × (n ≡ set.len t.pending) × (1 ≤ n)
-Answers t (Clear region) (StillReferenced slot) cards after = (cards ≡ []) × (t.pending ≡ set.empty) × IsFirstInto t region slot
-Answers t (Clear region) Cleared cards after = (cards ≡ []) × (t.pending ≡ set.empty) × ((slot : ℕ) → Enters t slot region → ⊥)
+Answers t (Clear region) (reply.Clear (clear_reply.Pending n)) cards after = (cards ≡ []) × (n ≡ set.len t.pending) × (1 ≤ n)
+Answers t (Clear region) (reply.Clear (clear_reply.StillReferenced slot)) cards after = (cards ≡ []) × (t.pending ≡ set.empty) × IsFirstInto t region slot
+Answers t (Clear region) (reply.Clear clear_reply.Cleared) cards after = (cards ≡ []) × (t.pending ≡ set.empty) × ((slot : ℕ) → Enters t slot region → ⊥)
 -- a redirect refines all that is pending and answers how many slots it changed, or only refines
-Answers t (Redirect from to) (Moved slots) cards after = (after.pending ≡ set.empty) × (slots ≡ moved_count from t)
-Answers t (Redirect from to) Short cards after = Unit {0}
+Answers t (Redirect from to) (reply.Moved slots) cards after = (after.pending ≡ set.empty) × (slots ≡ moved_count from t)
+Answers t (Redirect from to) reply.Short cards after = Unit {0}
 -- no call has another kind of reply
 Answers t _ _ cards after = ⊥
 
@@ -142,8 +116,8 @@ IsPermitted t (e ∷ entries) = IsAllowed t e × IsPermitted (table_after t e) e
 
 -- The call, with this reply, clears the set of the region: a granted clear, or a redirect that moved.
 abbrev pub ClearsBy : Call → Reply → ℕ → Type 0
-ClearsBy (Clear of) Cleared region = of ≡ region
-ClearsBy (Redirect from _) (Moved _) region = from ≡ region
+ClearsBy (Clear of) (reply.Clear clear_reply.Cleared) region = of ≡ region
+ClearsBy (Redirect from _) (reply.Moved _) region = from ≡ region
 ClearsBy _ _ region = ⊥
 
 abbrev pub Clears : ℕ → Entry → Type 0

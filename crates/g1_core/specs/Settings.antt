@@ -1,25 +1,30 @@
--- The settings of a core.
+-- The settings of a core, and their limits.
 use Rattle.std.specs.Prelude.{ℕ, ◌≤◌, refl}
 use Rattle.std.specs.Coded.{Coded, code_by, coded×, coded_ℕ}
+use Rattle.g1_core.specs.declared.config.Limits.{Limits}
+use Rattle.g1_core.specs.declared.config.TheConstants.Config.{LOG, LIMIT, HOT, RING, START}
 
 pub record Settings : Type 0 where
   pub log : ℕ  -- how many cards fill a log
   pub limit : ℕ  -- how many completed buffers the line holds
   pub hot : ℕ  -- the count from which on a card is hot
   pub ring : ℕ  -- how many cards the hot ring holds
-  pub start : ℕ  -- how many completed buffers a work round wants
+  pub start : ℕ  -- at how many completed buffers a round begins
 
--- the limits
+abbrev pub IsWithin : Limits → ℕ → Type 0
+IsWithin limits number = (limits.least ≤ number) × (number ≤ limits.most)
+
+-- each is within its limits
 pub record AreSettings (s : Settings) : Type 0 where
-  pub log_low : 1 ≤ s.log
-  pub log_high : s.log ≤ 256
-  pub limit_low : 1 ≤ s.limit
-  pub limit_high : s.limit ≤ 1024
-  pub hot_high : s.hot ≤ 255
-  pub ring_low : 1 ≤ s.ring
-  pub ring_high : s.ring ≤ 4096
-  pub start_low : 1 ≤ s.start
-  pub start_high : s.start ≤ 1024
+  pub log : IsWithin LOG s.log
+  pub limit : IsWithin LIMIT s.limit
+  pub hot : IsWithin HOT s.hot
+  pub ring : IsWithin RING s.ring
+  pub start : IsWithin START s.start
+
+-- what they are where nobody chooses
+abbrev pub default_settings : Settings
+default_settings = record { log = LOG.default; limit = LIMIT.default; hot = HOT.default; ring = RING.default; start = START.default }
 
 -- settings are stored as the tuple of their numbers
 abbrev pub settings_code : Coded Settings

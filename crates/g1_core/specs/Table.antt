@@ -1,9 +1,9 @@
 -- The plain table of a heap: what each slot refers to, which cards are pending, and which pairs
 -- (card, region) are recorded. It knows no buffer, count, order or mark.
-use Rattle.std.specs.Prelude.{◌≡◌, ◌≢◌, ℕ, ◌==◌, Bool, List, Option, Some, None, IsTrue, ◌⊎◌, if◌then◌else◌, replicate, slice_index_or, nat_eq, All, map, count_by, not, ◌&&◌, false, ◌+◌, ◌*◌, ◌%◌}
+use Rattle.std.specs.Prelude.{◌≡◌, ◌≢◌, ◌<◌, ℕ, ◌==◌, Bool, List, Option, Some, None, IsTrue, ◌⊎◌, if◌then◌else◌, replicate, slice_index_or, nat_eq, All, map, count_by, not, ◌&&◌, false, ◌+◌, ◌*◌, ◌%◌}
 use Rattle.std.specs.List.{IsDistinct, filter_map, enumerate_from}
 use Rattle.std.specs.FinSet as set
-use Rattle.g1_layout.specs.Shape.{Shape, slot_count, card_of, region_of}
+use Rattle.g1_layout.specs.Shape.{Shape, slot_count, card_count, card_of, region_of, region_of_card, same_offset}
 use Rattle.g1_heap.specs.Cells.{HoldsIn}
 use Rattle.g1_sets.specs.Pairs.{AreCardsOf}
 use Rattle.g1_layout.specs.Sets.{CardSet, PairSet, set_of}
@@ -47,6 +47,10 @@ Holds t card region = HoldsIn t.layout t.refs card region
 abbrev pub IsCovered : Table → Type 0
 IsCovered t = (slot place : ℕ) → Crosses t slot place → IsPending t (card_of t.layout slot) ⊎ IsRecorded t (card_of t.layout slot) (region_of t.layout place)
 
+-- Each recorded pair is of a card and a region of the heap, and the card lies outside the region.
+abbrev pub AreOutside : Table → Type 0
+AreOutside t = (card region : ℕ) → IsRecorded t card region → (card < card_count t.layout) × (region < t.layout.regions) × (region_of_card t.layout card ≢ region)
+
 -- the cards with a recorded pair at the region, ascending, each once
 abbrev pub AreMembers : Table → ℕ → List ℕ → Type 0
 AreMembers t region cards = AreCardsOf t.recorded region cards
@@ -74,10 +78,6 @@ pub record AreRefinable (t : Table) (cards : List ℕ) : Type 0 where
   pub distinct : IsDistinct nat_eq cards
   pub pending : All (IsPending t) cards
 
--- the place at the same offset in another region
-abbrev pub same_offset : Shape → ℕ → ℕ → ℕ
-same_offset l to place = to * (l.cards * l.slots) + place % (l.cards * l.slots)
-
 -- whether a slot, with what it refers to, lies outside the region and refers into it
 abbrev pub enters : Shape → ℕ → ℕ × Option ℕ → Bool
 enters l region (slot, None) = false
@@ -86,7 +86,7 @@ enters l region (slot, Some place) = not (region_of l slot == region) && (region
 -- what a slot refers to once references into one region are moved to another
 abbrev pub moved_target : Shape → ℕ → ℕ → ℕ × Option ℕ → Option ℕ
 moved_target l from to (slot, None) = None
-moved_target l from to (slot, Some place) = if enters l from (slot, Some place) then Some (same_offset l to place) else Some place
+moved_target l from to (slot, Some place) = if enters l from (slot, Some place) then Some (same_offset l place to) else Some place
 
 -- the pair that such a slot makes, if it lies outside the other region too
 abbrev pub moved_pair : Shape → ℕ → ℕ → ℕ × Option ℕ → Option (ℕ × ℕ)

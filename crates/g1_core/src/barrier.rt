@@ -13,6 +13,7 @@ use std::alloc::Global;
 
 impl Core {
     ghost use Rattle.g1_core.specs.Table.{IsCovered};
+    ghost use Rattle.g1_core.specs.Machine.{IsLater};
     ghost use Rattle.g1_core.specs.Run.{kind_of, stored, IsStep};
     ghost use Rattle.g1_core.specs.Barrier.{logged, buffer_of, fill_of};
     ghost use Rattle.g1_core.specs.Calls.{store_entry};
@@ -62,6 +63,7 @@ impl Core {
         ensures buffer { result.1 ≡ buffer_of result.0.kind log.old (card_of self.old.state.table.layout slot) }
         ensures step { (caller : ℕ) → IsStep self.old.state.table (store_entry caller slot target result.0) self.new.state.table }
         ensures cover { IsCovered self.new.state.table }
+        ensures later { IsLater self.old self.new }
     {
         let kind = self.kind(slot, &target);
         self.heap.set(slot, target);

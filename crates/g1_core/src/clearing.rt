@@ -15,6 +15,7 @@ use g1_sets::Sets;
 
 impl Core {
     ghost use Rattle.g1_core.specs.Table.{IsCovered};
+    ghost use Rattle.g1_core.specs.Machine.{IsLater};
     ghost use Rattle.g1_core.specs.Run.{IsStep};
     ghost use Rattle.g1_core.specs.Calls.{clear_entry};
     ghost use Rattle.g1_core.specs.Clearing.{member_count};
@@ -36,6 +37,7 @@ impl Core {
         ensures unread { 1 ≤ set.len self.old.state.table.pending → self.new.reads ≡ self.old.reads }
         ensures reads { self.new.reads ≤ self.old.reads + member_count self.old.state.table region * self.old.state.table.layout.slots }
         ensures cover { IsCovered self.new.state.table }
+        ensures later { IsLater self.old self.new }
     {
         if self.pending > 0 {
             return ClearReply::Pending(self.pending);
@@ -86,9 +88,8 @@ fn entering_on(heap: &mut Heap, card: Card, region: Region) -> Option<Slot>
         return None;
     }
     let (_, _, slots) = layout.counts();
-    let first = layout.first_slot(card).number();
-    for number in first..first + slots {
-        let slot = layout.slot(number)?;
+    for offset in 0..slots {
+        let slot = layout.slot_at(card, offset);
         if refers_into(heap, slot, region) {
             return Some(slot);
         }

@@ -1,18 +1,40 @@
-//! The settings of a core.
-ghost use Rattle.std.specs.Prelude.{◌≡◌, ℕ};
+//! The settings of a core, and the limits of each.
+ghost use Rattle.std.specs.Prelude.{◌≡◌, ◌↔◌, [], IsTrue};
 ghost use Rattle.std.specs.Option.{SomeIff};
-ghost use Rattle.g1_core.specs.Settings.{Settings, AreSettings};
+ghost use Rattle.g1_log.specs.Log.{Cards};
+ghost use Rattle.g1_core.specs.Settings.{Settings, AreSettings, IsWithin, default_settings};
 
+use g1_log::Log;
 use std::marker::Model;
 
-/// The settings of a core, within their limits (docs/PROFILE.md, Limits).
-#[derive(Clone, Copy, Debug)]
+/// From where to where a setting may go, and what it is where nobody chooses.
+#[derive(Clone, Copy, Debug, PartialEq, Eq)]
+pub struct Limits {
+    /// The least number that it may be.
+    pub least: u32,
+    /// The greatest number that it may be.
+    pub most: u32,
+    /// The number that it is where nobody chooses.
+    pub default: u32,
+}
+
+impl Limits {
+    /// Whether a setting may be this number.
+    pub fn contain(&self, number: usize) -> bool
+        ensures { IsTrue result ↔ IsWithin self.now number }
+    {
+        self.least as usize <= number && number <= self.most as usize
+    }
+}
+
+/// The settings of a core, each within its limits (docs/PROFILE.md, Limits).
+#[derive(Clone, Copy, Debug, PartialEq, Eq)]
 pub struct Config {
-    log: u32,
-    limit: u32,
+    log: usize,
+    limit: usize,
     hot: u32,
-    ring: u32,
-    start: u32,
+    ring: usize,
+    start: usize,
 }
 
 impl Model for Config {
@@ -28,16 +50,53 @@ impl Model for Config {
 }
 
 impl Config {
-    /// Settings of these numbers, or `None` exactly where one is outside its limits: `log` (cards that fill a log) 1 to
-    /// 256, `limit` (completed buffers that the line holds) 1 to 1,024, `hot` (the count from which on a card is hot) 0 to
-    /// 255, `ring` (cards in the hot ring) 1 to 4,096, `start` (completed buffers at which a work round begins) 1 to 1,024.
-    pub fn new(log: u32, limit: u32, hot: u32, ring: u32, start: u32) -> Option<Config>
+    /// How many cards fill a log.
+    pub const LOG: Limits = Limits {
+        least: 1,
+        most: 256,
+        default: 256,
+    };
+
+    /// How many completed buffers the line holds.
+    pub const LIMIT: Limits = Limits {
+        least: 1,
+        most: 1024,
+        default: 10,
+    };
+
+    /// The count of refinements from which on a card is hot: with 0 each card is.
+    pub const HOT: Limits = Limits {
+        least: 0,
+        most: 255,
+        default: 4,
+    };
+
+    /// How many cards the hot ring holds.
+    pub const RING: Limits = Limits {
+        least: 1,
+        most: 4096,
+        default: 1024,
+    };
+
+    /// At how many completed buffers a round of refinement begins: more than the line can hold never wait.
+    pub const START: Limits = Limits {
+        least: 1,
+        most: 1024,
+        default: 5,
+    };
+
+    /// Settings of these numbers, or `None` exactly where one is outside its limits: `log` in cards ([`Config::LOG`]),
+    /// `limit` in completed buffers ([`Config::LIMIT`]), `hot` in refinements of a card ([`Config::HOT`]), `ring` in
+    /// cards ([`Config::RING`]), `start` in completed buffers ([`Config::START`]).
+    pub fn new(log: usize, limit: usize, hot: u32, ring: usize, start: usize) -> Option<Config>
         ensures { let s : Settings = record { log = log; limit = limit; hot = hot; ring = ring; start = start } in SomeIff result (AreSettings s) s }
     {
-        if log < 1 || log > 256 || limit < 1 || limit > 1024 || hot > 255 {
-            return None;
-        }
-        if ring < 1 || ring > 4096 || start < 1 || start > 1024 {
+        let within = Config::LOG.contain(log)
+            && Config::LIMIT.contain(limit)
+            && Config::HOT.contain(hot as usize)
+            && Config::RING.contain(ring)
+            && Config::START.contain(start);
+        if !within {
             return None;
         }
         Some(Config {
@@ -49,36 +108,66 @@ impl Config {
         })
     }
 
-    /// The hot limit, and how many cards the ring holds.
-    pub fn hot(&self) -> (u32, u32)
-        ensures limit { result.0 ≡ self.now.hot }
-        ensures size { result.1 ≡ self.now.ring }
-        ensures settings { AreSettings self.now }
-    {
-        (self.hot, self.ring)
-    }
-
     /// How many cards fill a log.
-    pub fn log(&self) -> u32
+    pub fn log(&self) -> usize
         ensures cards { result ≡ self.now.log }
-        ensures settings { AreSettings self.now }
+        ensures within { IsWithin Config.LOG result }
     {
         self.log
     }
 
     /// How many completed buffers the line holds.
-    pub fn limit(&self) -> u32
+    pub fn limit(&self) -> usize
         ensures buffers { result ≡ self.now.limit }
-        ensures settings { AreSettings self.now }
+        ensures within { IsWithin Config.LIMIT result }
     {
         self.limit
     }
 
-    /// At how many completed buffers a work round begins.
-    pub fn start(&self) -> u32
+    /// The count of refinements from which on a card is hot.
+    pub fn hot(&self) -> u32
+        ensures count { result ≡ self.now.hot }
+        ensures within { IsWithin Config.HOT result }
+    {
+        self.hot
+    }
+
+    /// How many cards the hot ring holds.
+    pub fn ring(&self) -> usize
+        ensures cards { result ≡ self.now.ring }
+        ensures within { IsWithin Config.RING result }
+    {
+        self.ring
+    }
+
+    /// At how many completed buffers a round of refinement begins.
+    pub fn start(&self) -> usize
         ensures buffers { result ≡ self.now.start }
-        ensures settings { AreSettings self.now }
+        ensures within { IsWithin Config.START result }
     {
         self.start
+    }
+
+    /// An empty log of a mutator, which takes as many cards as these settings say.
+    pub fn new_log(&self) -> Log
+        ensures { let log : Cards = record { size = self.now.log; cards = [] } in result ≡ log }
+    {
+        Log::new(self.log)
+    }
+}
+
+impl Default for Config {
+    ghost is_default = { λ config. config ≡ default_settings };
+
+    /// Logs of 256 cards, a line of 10 completed buffers, a card hot from a count of 4 on, a ring of 1,024 cards, and
+    /// rounds from 5 completed buffers on.
+    fn default() -> Config {
+        Config {
+            log: Config::LOG.default as usize,
+            limit: Config::LIMIT.default as usize,
+            hot: Config::HOT.default,
+            ring: Config::RING.default as usize,
+            start: Config::START.default as usize,
+        }
     }
 }

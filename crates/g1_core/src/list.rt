@@ -40,7 +40,8 @@ impl CardList {
     pub fn into_vec(self) -> Vec<Card>
         ensures { result.items ≡ self }
     {
-        self.cards
+        let CardList { cards } = self;
+        cards
     }
 
     /// The cards.

@@ -7,9 +7,10 @@ ghost use Rattle.g1_core.specs.Machine.{gained, new_machine};
 ghost use Rattle.g1_core.specs.Table.{IsCovered};
 
 use crate::config::Config;
-use g1_heap::{Heap, Mark, TargetList};
+use arrayvec::ArrayVec;
+use g1_heap::{Heap, Mark};
 use g1_hot::Hot;
-use g1_layout::{Card, Layout, NoMemory};
+use g1_layout::{Card, Layout, NoMemory, Region};
 use g1_sets::Sets;
 use std::alloc::Global;
 use std::marker::Model;
@@ -27,7 +28,7 @@ pub struct Core {
     pub(crate) hot: Hot,
     pub(crate) pending: u32,
     // The targets of the card that is refined. They are no part of what contracts see.
-    pub(crate) targets: TargetList,
+    pub(crate) targets: ArrayVec<Region, 64>,
 }
 
 impl Model for Core {
@@ -45,17 +46,17 @@ impl Model for Core {
 impl Core {
     /// A heap of nulls, with every card clean, nothing recorded, every count 0 and an empty ring.
     ///
-    /// Takes the memory of the slots (4 bytes each), the marks and counts (a byte a card each) and the ring; afterwards
-    /// only the remembered sets and the lists that are answered grow. `NoMemory` where a growth was refused; what was taken
-    /// is given back.
+    /// Takes the memory of the slots (4 bytes each), the marks and counts (a byte a card each), the rows of the recorded
+    /// regions (32 bytes a card) and the ring; afterwards only the remembered sets and the lists that are answered grow.
+    /// `NoMemory` where a growth was refused; what was taken is given back.
     pub fn new(alloc: Global, layout: Layout, config: Config) -> Result<Core, NoMemory>
         ensures { IfOk result (λ core. core ≡ new_machine layout config) }
     {
-        let (limit, capacity) = config.hot();
-        let (_, _, _) = layout.counts();
+        // The contract of `counts` says that they are within the limits.
+        let _ = layout.counts();
         let heap = Heap::new(alloc, layout)?;
         let sets = Sets::new(alloc, layout)?;
-        let hot = Hot::new(alloc, layout, limit, capacity)?;
+        let hot = Hot::new(alloc, layout, config.hot(), config.ring())?;
         Ok(Core {
             alloc,
             config,
@@ -63,17 +64,17 @@ impl Core {
             sets,
             hot,
             pending: 0,
-            targets: TargetList::new(),
+            targets: ArrayVec::new(),
         })
     }
 }
 
-/// Records what the card holds, or nothing.
+/// Records what the card holds and is not recorded yet, or nothing.
 #[inline(always)]
 pub(crate) fn record_card(
     heap: &mut Heap,
     sets: &mut Sets,
-    targets: &mut TargetList,
+    targets: &mut ArrayVec<Region, 64>,
     card: Card,
 ) -> Result<(), NoMemory>
     requires card { card < card_count heap.old.layout }
@@ -84,7 +85,10 @@ pub(crate) fn record_card(
     ensures err { OnErr result (sets.new ≡ sets.old) }
 {
     let _ = heap.layout();
-    heap.list_targets(card, targets);
+    heap.list_targets(card, sets.regions_of(card), targets);
+    if targets.as_slice().is_empty() {
+        return Ok(());
+    }
     sets.record(card, targets.as_slice())?;
     Ok(())
 }
@@ -94,7 +98,7 @@ pub(crate) fn record_card(
 pub(crate) fn refine_card(
     heap: &mut Heap,
     sets: &mut Sets,
-    targets: &mut TargetList,
+    targets: &mut ArrayVec<Region, 64>,
     pending: &mut u32,
     card: Card,
 ) -> Result<(), NoMemory>

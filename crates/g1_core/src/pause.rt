@@ -12,6 +12,7 @@ impl Core {
     ghost use Rattle.g1_heap.specs.Cells.{reads_after};
     ghost use Rattle.g1_hot.specs.Ring.{popped};
     ghost use Rattle.g1_core.specs.Table.{IsCovered};
+    ghost use Rattle.g1_core.specs.Machine.{IsLater};
     ghost use Rattle.g1_core.specs.Run.{IsStep};
     ghost use Rattle.g1_core.specs.Turns.{is_dirty};
     ghost use Rattle.g1_core.specs.Calls.{drain_entry};
@@ -148,18 +149,22 @@ impl Core {
         ensures step { IfOk result (λ answer. (caller : ℕ) → IsStep self.old.state.table (drain_entry caller region answer) self.new.state.table) }
         ensures err { OnErr result (self.new ≡ self.old) }
         ensures cover { IsCovered self.new.state.table }
+        ensures later { IsLater self.old self.new }
     {
         let _layout = self.layout();
         let mut refined = self.room_for_pending()?;
         let Ok(()) = self.drain_pending(&mut refined) else {
+            let _after = self.layout();
             let refined = CardList::of(refined);
             return Ok(Drained::Short { refined });
         };
         let Ok(cards) = self.members(region) else {
+            let _after = self.layout();
             let refined = CardList::of(refined);
             return Ok(Drained::Short { refined });
         };
         self.reset_counts();
+        let _after = self.layout();
         let refined = CardList::of(refined);
         Ok(Drained::Cards { cards, refined })
     }

@@ -14,14 +14,16 @@ impl Core {
     ghost use Rattle.g1_layout.specs.Shape.{IsShape};
     ghost use Rattle.g1_heap.specs.Cells.{reads_after};
     ghost use Rattle.g1_core.specs.Table.{target_of, AreMembers, IsCovered};
+    ghost use Rattle.g1_core.specs.Machine.{IsSound, IsLater};
     ghost use Rattle.g1_core.specs.Run.{IsStep};
     ghost use Rattle.g1_core.specs.Calls.{target_entry, pending_entry, members_entry, status_entry};
 
-    /// The layout of the heap. Constant time. Its contract says that cover holds, which every core keeps.
+    /// The layout of the heap. Constant time. Its contract says what every core keeps: cover above all.
     pub fn layout(&self) -> Layout
         ensures value { result ≡ self.now.state.table.layout }
         ensures shape { IsShape self.now.state.table.layout }
         ensures cover { IsCovered self.now.state.table }
+        ensures sound { IsSound self.now.state }
     {
         self.heap.layout()
     }
@@ -49,6 +51,7 @@ impl Core {
         ensures target { result ≡ target_of self.old.state.table slot }
         ensures machine { self.new ≡ record { state = self.old.state; settings = self.old.settings; reads = reads_after self.old.reads 1 } }
         ensures step { (caller : ℕ) → IsStep self.old.state.table (target_entry caller slot result) self.new.state.table }
+        ensures later { IsLater self.old self.new }
     {
         self.heap.get(slot)
     }
@@ -69,7 +72,7 @@ impl Core {
     /// The cards of a region's remembered set as it is recorded, ascending, each once. Cards that are pending may be
     /// missing in it (`drain` answers the set once nothing is pending).
     ///
-    /// `NoMemory` where the room for the list was refused. The list is sorted once.
+    /// `NoMemory` where the room for the list was refused.
     pub fn members(&self, region: Region) -> Result<CardList, NoMemory>
         requires { region < self.now.state.table.layout.regions }
         ensures members { IfOk result (λ cards. AreMembers self.now.state.table region cards) }

@@ -4,7 +4,6 @@ ghost use Rattle.std.specs.FinSet as set;
 ghost use Rattle.g1_layout.specs.Shape.{slot_count, card_count, region_of};
 ghost use Rattle.g1_heap.specs.Cells.{Cells};
 ghost use Rattle.g1_sets.specs.Pairs.{list_at, AreTied};
-ghost use Rattle.g1_core.specs.Table.{same_offset};
 ghost use Rattle.g1_core.specs.Clearing.{AreRead};
 ghost use Rattle.g1_core.specs.Redirect.{change_at, changes_of, slots_of, slots_on, changed, AreGaining};
 
@@ -12,7 +11,7 @@ use crate::list::CardList;
 use crate::machinery::Core;
 use crate::reply::Redirected;
 use g1_heap::Heap;
-use g1_layout::{Card, Layout, NoMemory, Region, Slot};
+use g1_layout::{Card, NoMemory, Region, Slot};
 use g1_sets::Sets;
 use std::alloc::Global;
 
@@ -30,20 +29,6 @@ struct Changes {
     cards: Vec<Card>,
 }
 
-// The place at the same offset in another region.
-fn moved_place(layout: &Layout, place: Slot, to: Region) -> Slot
-    requires { to < layout.now.regions }
-    ensures value { result ≡ same_offset layout.now to place }
-    ensures within { result < slot_count layout.now }
-{
-    let (_, cards, slots) = layout.counts();
-    let size = cards * slots;
-    let Some(moved) = layout.slot(to.number() * size + place.number() % size) else {
-        unreachable!();
-    };
-    moved
-}
-
 // The change of a slot that lies outside the region and refers into it.
 fn change_of(heap: &mut Heap, slot: Slot, from: Region, to: Region) -> Option<Change>
     requires slot { slot < slot_count heap.old.layout }
@@ -56,7 +41,7 @@ fn change_of(heap: &mut Heap, slot: Slot, from: Region, to: Region) -> Option<Ch
     if layout.region_of(slot) == from || layout.region_of(place) != from {
         return None;
     }
-    let place = moved_place(&layout, place, to);
+    let place = layout.same_offset(place, to);
     Some(Change { slot, place })
 }
 
@@ -75,11 +60,8 @@ fn add_changes_on(
 {
     let layout = heap.layout();
     let (_, _, slots) = layout.counts();
-    let first = layout.first_slot(card).number();
-    for number in first..first + slots {
-        let Some(slot) = layout.slot(number) else {
-            unreachable!();
-        };
+    for offset in 0..slots {
+        let slot = layout.slot_at(card, offset);
         if let Some(change) = change_of(heap, slot, from, to) {
             changes.push(change)?;
         }
@@ -131,6 +113,7 @@ fn make_changes(heap: &mut Heap, changes: &[Change])
 
 impl Core {
     ghost use Rattle.g1_core.specs.Table.{IsCovered, moved_count};
+    ghost use Rattle.g1_core.specs.Machine.{IsLater};
     ghost use Rattle.g1_core.specs.Run.{IsStep};
     ghost use Rattle.g1_core.specs.Calls.{redirect_entry};
     ghost use Rattle.g1_core.specs.Redirect.{IsMoved, AreMembersRead, IsRedirectOf};
@@ -174,18 +157,22 @@ impl Core {
         ensures step { IfOk result (λ answer. (caller : ℕ) → IsStep self.old.state.table (redirect_entry caller from to answer) self.new.state.table) }
         ensures err { OnErr result (self.new ≡ self.old) }
         ensures cover { IsCovered self.new.state.table }
+        ensures later { IsLater self.old self.new }
     {
         let _layout = self.layout();
         let mut refined = self.room_for_pending()?;
         let Ok(()) = self.drain_pending(&mut refined) else {
+            let _after = self.layout();
             let refined = CardList::of(refined);
             return Ok(Redirected::Short { refined });
         };
         let Ok(slots) = self.move_references(from, to) else {
+            let _after = self.layout();
             let refined = CardList::of(refined);
             return Ok(Redirected::Short { refined });
         };
         self.reset_counts();
+        let _after = self.layout();
         let refined = CardList::of(refined);
         Ok(Redirected::Moved { slots, refined })
     }

@@ -18,6 +18,7 @@ mod tests;
 
 impl Core {
     ghost use Rattle.g1_core.specs.Table.{IsCovered};
+    ghost use Rattle.g1_core.specs.Machine.{IsLater};
     ghost use Rattle.g1_core.specs.Turns.{offer_to, state_after};
     ghost use Rattle.g1_core.specs.Refinement.{IsTurned, IsRefined};
     ghost use Rattle.g1_core.specs.Calls.{refine_entry};
@@ -42,12 +43,14 @@ impl Core {
         ensures cover { IsCovered self.new.state.table }
         ensures err { OnErr result (self.new.state ≡ self.old.state) }
         ensures settings { self.new.settings ≡ self.old.settings }
+        ensures later { IsLater self.old self.new }
     {
         let alloc = self.alloc;
         let Some(buffer) = buffer else {
             return Ok(idle(alloc));
         };
         let reply = self.turn_all(buffer.cards())?;
+        let _after = self.layout();
         Ok(reply)
     }
 

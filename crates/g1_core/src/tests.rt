@@ -11,6 +11,7 @@ mod numbers;
 mod pause;
 mod redirection;
 mod refusal;
+mod settings;
 
 use crate::config::Config;
 use crate::machinery::Core;
@@ -56,7 +57,7 @@ enum Cleared {
 }
 
 /// Takes the steps on a new core with this hot limit and ring, whose stores share a log of two cards.
-fn play(rt: &impl Abort, alloc: Global, hot: u32, ring: u32, steps: &[Step]) -> Result<(), Fail> {
+fn play(rt: &impl Abort, alloc: Global, hot: u32, ring: usize, steps: &[Step]) -> Result<(), Fail> {
     let layout = Layout::new(4, 2, 4).ok_or("layout")?;
     let config = Config::new(2, 4, hot, ring, 5).ok_or("settings")?;
     let mut core = match Core::new(alloc, layout, config) {

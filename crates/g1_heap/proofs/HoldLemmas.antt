@@ -1,5 +1,5 @@
 -- Where the regions lie that a card holds into.
-use Rattle.std.proofs.Common.{◌≡◌, inl, inr, ℕ, ◌<◌, List, length, get_or, Some, None, sym, ◌∙◌, subst, ◌↔◌}
+use Rattle.std.proofs.Common.{◌≡◌, inl, inr, ℕ, ◌<◌, List, length, get_or, Some, None, sym, ◌∙◌, subst}
 use Rattle.std.specs.Prelude.{All, Contains, IfSome}
 use Rattle.std.proofs.lemmas.Bool.{cases_lt}
 use Rattle.std.proofs.lemmas.List.{get_or_past, get_or_default}
@@ -18,6 +18,7 @@ place_within c slot place cells refers = elim (cases_lt slot (length c.refs)) [
 pub holds_within : (c : Cells) (card region : ℕ) → AreCells c → HoldsIn c.layout c.refs card region → region < c.layout.regions
 holds_within c card region cells h = subst (λ r. r < c.layout.regions) h.into (region_of_below c.layout h.place cells.shape (place_within c h.slot h.place cells h.refers))
 
-pub targets_within : (c : Cells) (card : ℕ) (regions : List ℕ) → AreCells c → ((r : ℕ) → Contains regions r ↔ HoldsIn c.layout c.refs card r) → All (λ region. region < c.layout.regions) regions
+-- the regions of a list that the card holds into are regions of the heap
+pub targets_within : (c : Cells) (card : ℕ) (regions : List ℕ) → AreCells c → ((r : ℕ) → Contains regions r → HoldsIn c.layout c.refs card r) → All (λ region. region < c.layout.regions) regions
 targets_within c card regions cells holds k d below =
-    holds_within c card (get_or regions k d) cells ((holds (get_or regions k d)).0 (k, below, get_or_default regions k (get_or regions k d) d below))
+    holds_within c card (get_or regions k d) cells (holds (get_or regions k d) (k, below, get_or_default regions k (get_or regions k d) d below))

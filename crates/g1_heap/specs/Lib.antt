@@ -1,4 +1,4 @@
 pub mod Cells
-pub mod Regions
+pub mod Listing
 pub mod Stored
 pub mod Targets

@@ -3,23 +3,21 @@
 ghost use Rattle.std.specs.Prelude.{◌≡◌, ◌<◌, ◌≤◌, ◌↔◌, ℕ, All, None, Contains, IfSome, IfOk, MatchOption, slice_index_or};
 ghost use Rattle.g1_layout.specs.Shape.{slot_count, card_count};
 ghost use Rattle.g1_heap.specs.Cells.{AreCells, with_ref, with_mark, with_reads, new_cells, HoldsIn, HasNoDirty, IsFirstDirty};
-ghost use Rattle.g1_heap.specs.Targets.{AreTargets};
+ghost use Rattle.g1_layout.specs.Regions.{HasRegion};
+ghost use Rattle.g1_heap.specs.Targets.{AreTargets, AreNewTargets};
 ghost use Rattle.memchr.specs.Find.{IsFirstByte, is_byte};
 
 use crate::mark::{CLEAN, DIRTY, Mark};
-use crate::target_list::TargetList;
+use crate::null::NULL;
 use crate::targets::add_targets;
 use arrayvec::ArrayVec;
-use g1_layout::{Card, Layout, NoMemory, Region, Slot};
+use g1_layout::{Card, Layout, NoMemory, Region, RegionSet, Slot};
 use memchr::memchr;
 use std::alloc::Global;
 use std::marker::Model;
 
 #[cfg(test)]
 mod tests;
-
-// The word of a null slot: no place has this number.
-const NULL: u32 = u32::MAX;
 
 /// The slots of a heap and its card table: four bytes a slot and one byte a card, in a block each. The largest heap of 1,048,576 slots, with
 /// 65,536 cards, takes less than 4.3 MB.
@@ -105,29 +103,33 @@ impl Heap {
         ensures within { All (λ region. region < self.old.layout.regions) result.items }
         ensures reads { self.new ≡ with_reads self.old self.old.layout.slots }
     {
-        let mut targets = TargetList::new();
-        self.list_targets(card, &mut targets);
-        let Ok(targets) = ArrayVec::try_from(targets.as_slice()) else {
-            unreachable!();
-        };
+        let mut targets = ArrayVec::new();
+        self.list_targets(card, &RegionSet::new(), &mut targets);
         targets
     }
 
-    /// As [`Heap::targets`], into a list that the caller lends, which is emptied first.
+    /// As [`Heap::targets`], but for the regions that the caller knows, into a list that the caller lends and that is emptied first.
     ///
+    /// Refinement lends the regions whose remembered sets have the card already: a card that refers into no other then has nothing to record.
     /// Whoever refines many cards makes one list for all of them: to fill a new one with zeros costs more than to list a target or two.
-    pub fn list_targets(&mut self, card: Card, targets: &mut TargetList)
+    #[inline(always)]
+    pub fn list_targets(
+        &mut self,
+        card: Card,
+        known: &RegionSet,
+        targets: &mut ArrayVec<Region, 64>,
+    )
         requires { card < card_count self.old.layout }
-        ensures regions { AreTargets self.old.layout self.old.refs card targets.new }
-        ensures holds { (region : ℕ) → Contains targets.new region ↔ HoldsIn self.old.layout self.old.refs card region }
-        ensures within { All (λ region. region < self.old.layout.regions) targets.new }
+        ensures regions { AreNewTargets self.old.layout self.old.refs card known.now targets.new.items }
+        ensures holds { (region : ℕ) → Contains targets.new.items region ↔ (HoldsIn self.old.layout self.old.refs card region × ¬ HasRegion known.now region) }
+        ensures within { All (λ region. region < self.old.layout.regions) targets.new.items }
         ensures reads { self.new ≡ with_reads self.old self.old.layout.slots }
     {
         let layout = self.layout;
         let (_, _, slots) = layout.counts();
         self.reads = self.reads.saturating_add(slots as u64);
         targets.clear();
-        add_targets(&layout, self.words.as_slice(), card, targets);
+        add_targets(&layout, self.words.as_slice(), card, known, targets);
     }
 
     /// The card's entry in the card table. It is no read of a slot.

@@ -9,10 +9,8 @@
 
 mod heap;
 mod mark;
-mod region_set;
-mod target_list;
+mod null;
 mod targets;
 
 pub use heap::Heap;
 pub use mark::Mark;
-pub use target_list::TargetList;

@@ -1,5 +1,5 @@
 //! The counts and the ring.
-ghost use Rattle.std.specs.Prelude.{◌≡◌, ◌<◌, ◌≤◌, ◌==◌, ◌↔◌, Contains, IfOk, IsTrue, length, slice_get};
+ghost use Rattle.std.specs.Prelude.{◌≡◌, false, replicate, ◌<◌, ◌≤◌, ◌==◌, ◌↔◌, Contains, IfOk, IsTrue, length, slice_get};
 ghost use Rattle.g1_hot.specs.Ring.{answer, offered, popped, reset, new_ring, IsRing};
 
 use crate::offer::Offer;
@@ -16,6 +16,9 @@ pub struct Hot {
     counts: Vec<u8>,
     ring: HeapCircularBuffer<Card>,
     limit: u8,
+    // Whether a count was raised since the counts were last 0.
+    counted: bool,
+    ghost zero: { counted ≡ false → counts.items ≡ replicate (length counts.items) 0 },
 }
 
 #[cfg(test)]
@@ -39,7 +42,7 @@ impl Hot {
     /// `limit` is the count from which on a card is hot (0 makes every card hot), and `capacity` is how many cards the
     /// ring holds at most (docs/PROFILE.md, Hotness). `NoMemory` where the room for the counts or the ring was refused;
     /// what was taken is given back. Takes one byte a card and the room of the whole ring; time in the number of cards.
-    pub fn new(alloc: Global, layout: Layout, limit: u32, capacity: u32) -> Result<Hot, NoMemory>
+    pub fn new(alloc: Global, layout: Layout, limit: u32, capacity: usize) -> Result<Hot, NoMemory>
         requires limit { limit ≤ 255 }
         requires some { 1 ≤ capacity }
         requires most { capacity ≤ 4096 }
@@ -47,11 +50,12 @@ impl Hot {
     {
         let (regions, cards, _) = layout.counts();
         let counts = vec![in alloc; 0; (regions * cards) as usize]?;
-        let ring = HeapCircularBuffer::with_capacity(alloc, capacity as usize)?;
+        let ring = HeapCircularBuffer::with_capacity(alloc, capacity)?;
         Ok(Hot {
             counts,
             ring,
             limit: limit as u8,
+            counted: false,
         })
     }
 
@@ -84,6 +88,7 @@ impl Hot {
         let count = &mut self.counts[card.number() as usize];
         if *count < self.limit {
             *count += 1;
+            self.counted = true;
             return Offer::Cold;
         }
         match self.ring.push_back(card) {
@@ -136,6 +141,9 @@ impl Hot {
     pub fn reset_counts(&mut self)
         ensures { self.new ≡ reset self.old }
     {
-        self.counts.fill(0);
+        if self.counted {
+            self.counts.fill(0);
+            self.counted = false;
+        }
     }
 }

@@ -1,2 +1,3 @@
 mod ReciprocalLemmas
+pub mod RegionSetLemmas
 pub mod ShapeLemmas

@@ -2,7 +2,7 @@
 use Rattle.std.proofs.Common.{◌≡◌, ℕ, ◌+◌, ◌-◌, ◌*◌, ◌/◌, ◌%◌, ◌<◌, ◌≤◌, subst, sym, ap, ◌∙◌, arith}
 use Rattle.std.proofs.Math.Nat.{mul_comm, mul_assoc, mul-le-mul_left, div-div-eq-div-mul, div-mul-le_self, lt-div-mul-add, div-lt_iff_lt-mul}
 use Rattle.std.proofs.lemmas.Nat.{div-mul-add, row_fits, mul-le}
-use Rattle.g1_layout.specs.Shape.{Shape, IsShape, slot_count, card_count, card_of, region_of, region_of_card}
+use Rattle.g1_layout.specs.Shape.{Shape, IsShape, slot_count, card_count, card_of, region_of, region_of_card, same_offset}
 
 -- the slot is one of the card's own row
 pub record IsInRow (l : Shape) (card slot : ℕ) : Type 0 where
@@ -71,13 +71,13 @@ region_ends_within l region less =
     omega (arith, row_fits region (l.cards * l.slots) l.regions (l.cards * l.slots) less (omega arith), mul_assoc l.regions l.cards l.slots)
 
 -- the place at the same offset in another region lies in that region, and within the heap
-pub same_offset_region : (l : Shape) (to place : ℕ) → 0 < l.cards * l.slots → region_of l (to * (l.cards * l.slots) + place % (l.cards * l.slots)) ≡ to
-same_offset_region l to place some =
+pub same_offset_region : (l : Shape) (place to : ℕ) → 0 < l.cards * l.slots → region_of l (same_offset l place to) ≡ to
+same_offset_region l place to some =
     let less : place % (l.cards * l.slots) < l.cards * l.slots = omega arith in
     region_of-offset l to (place % (l.cards * l.slots)) less
 
-pub same_offset_below : (l : Shape) (to place : ℕ) → 0 < l.cards * l.slots → to < l.regions → to * (l.cards * l.slots) + place % (l.cards * l.slots) < slot_count l
-same_offset_below l to place some less =
+pub same_offset_below : (l : Shape) (place to : ℕ) → 0 < l.cards * l.slots → to < l.regions → same_offset l place to < slot_count l
+same_offset_below l place to some less =
     let rest : place % (l.cards * l.slots) < l.cards * l.slots = omega arith in
     omega (arith, rest, region_ends_within l to less)
 

@@ -1,5 +1,5 @@
 -- The counts of a heap, and where a slot and a card lie in it.
-use Rattle.std.specs.Prelude.{ℕ, ◌*◌, ◌/◌, ◌≤◌, refl}
+use Rattle.std.specs.Prelude.{ℕ, ◌+◌, ◌*◌, ◌/◌, ◌%◌, ◌≤◌, refl}
 use Rattle.std.specs.Coded.{Coded, code_by, coded×, coded_ℕ}
 
 -- regions of cards of slots: how many regions, cards a region and slots a card
@@ -39,3 +39,10 @@ region_of l slot = slot / (l.cards * l.slots)
 
 abbrev pub region_of_card : Shape → ℕ → ℕ
 region_of_card l card = card / l.cards
+
+-- the slot at an offset of a card, and the place at the same offset in another region
+abbrev pub slot_at : Shape → ℕ → ℕ → ℕ
+slot_at l card offset = card * l.slots + offset
+
+abbrev pub same_offset : Shape → ℕ → ℕ → ℕ
+same_offset l place to = to * (l.cards * l.slots) + place % (l.cards * l.slots)

@@ -2,6 +2,7 @@
 
 ghost use Rattle.std.specs.Prelude.{◌≡◌};
 
+use std::fmt;
 use std::marker::Model;
 
 /// A card: some slots in a row, with one entry in the card table.
@@ -28,5 +29,19 @@ impl Card {
         ensures { result ≡ self }
     {
         self.number
+    }
+}
+
+/// As its number.
+impl fmt::Display for Card {
+    ghost use Rattle.std.specs.Prelude.{Some};
+    ghost use Rattle.std.specs.Fmt.{decimal, styled_decimal};
+
+    ghost output = { λ c. Some (decimal c) };
+
+    ghost styled_output = { λ c style. Some (styled_decimal style c) };
+
+    fn fmt<W: fmt::Write>(&self, f: &mut fmt::Formatter<W>) -> fmt::Result {
+        fmt::Display::fmt(&self.number, f)
     }
 }

@@ -2,7 +2,7 @@
 
 ghost use Rattle.std.specs.Prelude.{◌≡◌, ◌*◌, ◌+◌, ◌<◌, ◌≤◌};
 ghost use Rattle.std.specs.Option.{SomeIff};
-ghost use Rattle.g1_layout.specs.Shape.{Shape, IsShape, slot_count, card_count, card_of, region_of, region_of_card};
+ghost use Rattle.g1_layout.specs.Shape.{Shape, IsShape, slot_count, card_count, card_of, region_of, region_of_card, slot_at, same_offset};
 
 use crate::card::Card;
 use crate::reciprocal::Reciprocal;
@@ -81,11 +81,27 @@ impl Layout {
         (self.regions, self.cards.divisor(), self.slots.divisor())
     }
 
+    /// How many slots the heap has: at most 1,048,576.
+    pub fn slot_count(&self) -> u32
+        ensures count { result ≡ slot_count self.now }
+        ensures shape { IsShape self.now }
+    {
+        self.regions * self.cards.divisor() * self.slots.divisor()
+    }
+
+    /// How many cards the heap has: at most 65,536.
+    pub fn card_count(&self) -> u32
+        ensures count { result ≡ card_count self.now }
+        ensures shape { IsShape self.now }
+    {
+        self.regions * self.cards.divisor()
+    }
+
     /// The slot of this number, from 0. `None` exactly where the heap has no such slot.
     pub fn slot(&self, number: u32) -> Option<Slot>
         ensures { SomeIff result (number < slot_count self.now) number }
     {
-        if number < self.regions * self.cards.divisor() * self.slots.divisor() {
+        if number < self.slot_count() {
             Some(Slot { number })
         } else {
             None
@@ -96,7 +112,7 @@ impl Layout {
     pub fn card(&self, number: u32) -> Option<Card>
         ensures { SomeIff result (number < card_count self.now) number }
     {
-        if number < self.regions * self.cards.divisor() {
+        if number < self.card_count() {
             Some(Card { number })
         } else {
             None
@@ -155,6 +171,31 @@ impl Layout {
     {
         Slot {
             number: card.number * self.slots.divisor(),
+        }
+    }
+    /// The slot at an offset of a card of this heap: offset 0 is the card's first slot.
+    pub fn slot_at(&self, card: Card, offset: u32) -> Slot
+        requires card { card < card_count self.now }
+        requires offset { offset < self.now.slots }
+        ensures slot { result ≡ slot_at self.now card offset }
+        ensures within { result < slot_count self.now }
+    {
+        Slot {
+            number: card.number * self.slots.divisor() + offset,
+        }
+    }
+
+    /// The place at the same offset in another region, where an evacuation puts what lay at this one.
+    pub fn same_offset(&self, place: Slot, to: Region) -> Slot
+        requires place { place < slot_count self.now }
+        requires to { to < self.now.regions }
+        ensures place { result ≡ same_offset self.now place to }
+        ensures within { result < slot_count self.now }
+    {
+        let size = self.region_slots.divisor();
+        let offset = place.number - self.region_slots.quotient(place.number) * size;
+        Slot {
+            number: to.number * size + offset,
         }
     }
 }

@@ -13,6 +13,7 @@ mod layout;
 mod memory;
 mod reciprocal;
 mod region;
+mod region_set;
 mod slot;
 
 pub use card::Card;
@@ -20,6 +21,7 @@ pub use kind::Kind;
 pub use layout::Layout;
 pub use memory::NoMemory;
 pub use region::Region;
+pub use region_set::RegionSet;
 pub use slot::Slot;
 
 #[cfg(test)]

@@ -2,6 +2,7 @@
 
 ghost use Rattle.std.specs.Prelude.{◌≡◌};
 
+use std::fmt;
 use std::marker::Model;
 
 /// A region: some cards in a row, with one remembered set.
@@ -28,5 +29,19 @@ impl Region {
         ensures { result ≡ self }
     {
         self.number
+    }
+}
+
+/// As its number.
+impl fmt::Display for Region {
+    ghost use Rattle.std.specs.Prelude.{Some};
+    ghost use Rattle.std.specs.Fmt.{decimal, styled_decimal};
+
+    ghost output = { λ r. Some (decimal r) };
+
+    ghost styled_output = { λ r style. Some (styled_decimal style r) };
+
+    fn fmt<W: fmt::Write>(&self, f: &mut fmt::Formatter<W>) -> fmt::Result {
+        fmt::Display::fmt(&self.number, f)
     }
 }

@@ -2,6 +2,7 @@
 
 ghost use Rattle.std.specs.Prelude.{◌≡◌};
 
+use std::fmt;
 use std::marker::Model;
 
 /// A slot of the heap, which holds one reference or null. As the target of a reference it is a place.
@@ -28,5 +29,19 @@ impl Slot {
         ensures { result ≡ self }
     {
         self.number
+    }
+}
+
+/// As its number.
+impl fmt::Display for Slot {
+    ghost use Rattle.std.specs.Prelude.{Some};
+    ghost use Rattle.std.specs.Fmt.{decimal, styled_decimal};
+
+    ghost output = { λ s. Some (decimal s) };
+
+    ghost styled_output = { λ s style. Some (styled_decimal style s) };
+
+    fn fmt<W: fmt::Write>(&self, f: &mut fmt::Formatter<W>) -> fmt::Result {
+        fmt::Display::fmt(&self.number, f)
     }
 }

@@ -90,6 +90,21 @@ fn places_of_slots(rt: HostRuntime) {
 }
 
 #[test]
+fn slots_at_an_offset(rt: HostRuntime) -> Result<(), Fail> {
+    let layout = Layout::new(3, 5, 7).expect(&rt, "good");
+    assert_eq!(rt; (layout.slot_count(), layout.card_count()), (105, 15));
+    let card = layout.card(14).expect(&rt, "a card");
+    assert_eq!(rt; layout.slot_at(card, 6).number(), 104);
+    let region = layout.region(1).expect(&rt, "a region");
+    let moved = layout.same_offset(layout.slot_at(card, 6), region);
+    assert_eq!(rt; moved.number(), 69);
+    let alloc = rt.alloc();
+    let text = format!(in alloc; "slot {moved}, card {card:>3}, region {region}")?;
+    assert_eq!(rt; text.as_str(), "slot 69, card  14, region 1");
+    Ok(())
+}
+
+#[test]
 fn numbers_compare_and_hash(rt: HostRuntime) -> Result<(), Fail> {
     let layout = Layout::new(4, 2, 4).expect(&rt, "good");
     assert_eq!(rt; layout.slot(0), Some(Slot::default()));

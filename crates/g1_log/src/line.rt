@@ -1,9 +1,8 @@
 //! The line of completed buffers between threads.
 ghost use Rattle.std.specs.Prelude.{◌≡◌, false, ◌∷◌, ◌++◌, [], ◌+◌, ◌-◌, ◌<◌, ◌≤◌, ◌^◌, ◌⊎◌, length, map, fold, sum_by, MatchResult, MatchOption, IfOk, OnOk};
 ghost use Rattle.std.specs.List.{All};
-ghost use Rattle.crossbeam_queue.specs.Passes.{view, IsPassOf, IsSamePass};
+ghost use Rattle.crossbeam_queue.specs.Passes.{view, IsPassOf, IsSamePass, ruled_capacity};
 ghost use Rattle.g1_log.specs.Line.{maker, newcomer, joined, whole};
-ghost use Rattle.g1_log.specs.Ends.{IsSenderOf, IsTakerOf, IsSameSender, IsSameTaker, put_of, taken_of, capacity_of, WasFull, WasEmpty, AreNewSenders, IsNewTaker, sender_rights, taker_rights, AreAll, sender_view, taker_view, put_count, taken_count, EachTakenOrLeft, AreNumberedApart, RiseInto, left_of, sent_of, left_count};
 
 use crate::buffer::Buffer;
 use crate::ends::{Sender, Settled, Taker};
@@ -29,12 +28,15 @@ mod tests;
 #[derive(Drop)]
 pub struct Line {
     queue: Queue,
+    ghost few: { ruled_capacity queue ≤ 1024 },
 }
 
 // No sender puts more buffers than this, so that its numbers stay within their type.
 const MOST_PUT: u64 = 1 << 58;
 
 impl Line {
+    ghost use Rattle.g1_log.specs.Ends.{IsSenderOf, IsTakerOf, IsSameSender, IsSameTaker, put_of, taken_of, capacity_of, WasFull, WasEmpty, AreNewSenders, IsNewTaker, sender_rights, taker_rights, AreAll, sender_view, taker_view, put_count, taken_count, EachTakenOrLeft, AreNumberedApart, RiseInto, left_of, sent_of, left_count};
+
     /// An empty line of at most `capacity` buffers, with its senders, numbered from 0, and its takers.
     ///
     /// This is the only call that takes memory: for the queue, the two lists and nothing else. `NoMemory` where a growth
@@ -109,7 +111,8 @@ impl Line {
     /// How many parcels the queue held at some moment of the call: at most the capacity, and nothing else is claimed.
     /// No memory.
     pub fn len<R: Wait>(&self, rt: &R) -> usize
-        ensures { result ≤ capacity_of self.now }
+        ensures within { result ≤ capacity_of self.now }
+        ensures few { result ≤ 1024 }
     {
         let mut pass = self.queue.pass();
         self.queue.len_as::<Free, R>(rt, &mut pass)
@@ -233,6 +236,8 @@ impl Line {
 }
 
 impl Settled {
+    ghost use Rattle.g1_log.specs.Ends.{left_of, sent_of, left_count};
+
     /// How many buffers were put into the line by all its senders.
     pub fn sent(&self) -> u64
         ensures { result ≡ sent_of self.now }

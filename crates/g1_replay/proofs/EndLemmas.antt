@@ -1,20 +1,27 @@
 -- The line of the end, and the whole output where the end says what it is.
-use Rattle.std.proofs.Common.{◌≡◌, ℕ, List, [], ◌∷◌, ◌++◌, refl, sym, ap, ◌∙◌, subst, append-nil, Option, Some, None, inl, inr, ◌⊎◌}
-use Rattle.std.specs.Prelude.{Result, Ok, Err, IfSome}
+use Rattle.std.proofs.Common.{◌≡◌, ℕ, List, [], ◌∷◌, ◌++◌, refl, sym, ap, ◌∙◌, subst, append-nil, append_assoc, ap₂, Option, Some, None, true, false}
+use Rattle.std.specs.Prelude.{Result, Ok, Err, IfSome, IfNone, IsSome}
+use Rattle.std.proofs.KnownBytes.{Appends-trans}
 use Rattle.std.specs.Io.KnownBytes.{Appends, Consumes}
 use Rattle.g1_layout.specs.Shape.{Shape}
+use Rattle.g1_core.specs.Table.{opening}
+use Rattle.g1_core.specs.Run.{IsPermitted}
 use Rattle.g1_replay.specs.declared.command.Command.{Command}
+use Rattle.g1_replay.specs.declared.dialect.Dialect.{Dialect}
 use Rattle.g1_replay.specs.declared.end.End.{End}
 use Rattle.g1_replay.specs.declared.end.End.TheVariants.{Whole, Refused, Stopped, ReadFailed as EndReadFailed, WriteFailed as EndWriteFailed}
+use Rattle.g1_replay.specs.declared.fault.TraceFault.{TraceFault}
 use Rattle.g1_replay.specs.declared.stop.Stop.{Stop}
 use Rattle.g1_replay.specs.declared.stop.Stop.TheVariants.{Fault, NoMemory, BookFull, ReadFailed, WriteFailed}
 use Rattle.g1_replay.specs.Bytes.{AppendsFront}
-use Rattle.g1_replay.specs.Trace.{read_trace}
-use Rattle.g1_replay.specs.Reading.{IsLeft, HaltsHead}
+use Rattle.g1_replay.specs.Output.{Told, IsEnded, ending_line, end_of, ended, IsWholeOutput, IsRefusedOutput}
+use Rattle.g1_replay.specs.Pieces.{entries_of}
+use Rattle.g1_replay.specs.Playing.{Writes}
+use Rattle.g1_replay.specs.Reading.{Reads, IsLeft}
 use Rattle.g1_replay.specs.Text.{fault_line}
-use Rattle.g1_replay.specs.Output.{Told, Writes, IsEnded, ending_line, end_of, IsWholeOutput, IsRefusedOutput}
-use Rattle.g1_replay.proofs.LineLemmas.{left_none}
-use Rattle.g1_replay.proofs.PutLemmas.{appends_none, appends_then, front_then}
+use Rattle.g1_replay.specs.Trace.{Trace, read_trace, read_on, before, faulty}
+use Rattle.g1_replay.proofs.PutLemmas.{front_then}
+use Rattle.g1_replay.proofs.ReadingLemmas.{left_none}
 
 nil_front : (f l : List ℕ) → [] ≡ f ++ l → f ≡ []
 nil_front [] l e = refl
@@ -22,23 +29,19 @@ nil_front (x ∷ f) l e = cc
 
 -- the line of the end behind the text, or a beginning of it
 front_ended : (out out1 out' : Option (List ℕ)) (r : Result (Unit {0}) Stop) (n : ℕ) (text : List ℕ) → Writes out out1 r text → AppendsFront out1 out' (ending_line n r) → AppendsFront out out' (text ++ ending_line n r)
-front_ended out out1 out' (Ok done) n text w i = front_then _ _ _ _ _ w i
-front_ended out out1 out' (Err (Fault f)) n text w i = front_then _ _ _ _ _ w i
-front_ended out out1 out' (Err NoMemory) n text w i = front_then _ _ _ _ _ w i
-front_ended out out1 out' (Err BookFull) n text w i = front_then _ _ _ _ _ w i
-front_ended out out1 out' (Err ReadFailed) n text w i = front_then _ _ _ _ _ w i
 front_ended out out1 out' (Err WriteFailed) n text w i =
     let none : i.0 ≡ [] = nil_front i.0 i.1 i.3 in
     let same : w.0 ++ i.0 ≡ w.0 = ap (λ l. w.0 ++ l) none ∙ append-nil w.0 in
-    (w.0, w.1, subst (λ (l : List ℕ). Appends out out' l) same (appends_then _ _ _ _ _ w.2 i.2), append-nil text ∙ w.3)
+    (w.0, w.1, subst (λ (l : List ℕ). Appends out out' l) same (Appends-trans _ _ _ _ _ w.2 i.2), append-nil text ∙ w.3)
+front_ended out out1 out' (Ok done) n text w i = front_then _ _ _ _ _ w i
+front_ended out out1 out' (Err (Fault f)) n text w i = front_then _ _ _ _ _ w i
+front_ended out out1 out' (Err stop) n text w i = front_then _ _ _ _ _ w i
 
 whole_ended : (out out1 out' : Option (List ℕ)) (r : Result (Unit {0}) Stop) (n : ℕ) (text : List ℕ) → (end_of r ≡ EndWriteFailed → ⊥) → Writes out out1 r text → Appends out1 out' (ending_line n r) → Appends out out' (text ++ ending_line n r)
-whole_ended out out1 out' (Ok done) n text ne w i = appends_then _ _ _ _ _ w i
-whole_ended out out1 out' (Err (Fault f)) n text ne w i = appends_then _ _ _ _ _ w i
-whole_ended out out1 out' (Err NoMemory) n text ne w i = appends_then _ _ _ _ _ w i
-whole_ended out out1 out' (Err BookFull) n text ne w i = appends_then _ _ _ _ _ w i
-whole_ended out out1 out' (Err ReadFailed) n text ne w i = appends_then _ _ _ _ _ w i
 whole_ended out out1 out' (Err WriteFailed) n text ne w i = absurd (ne refl)
+whole_ended out out1 out' (Ok done) n text ne w i = Appends-trans _ _ _ _ _ w i
+whole_ended out out1 out' (Err (Fault f)) n text ne w i = Appends-trans _ _ _ _ _ w i
+whole_ended out out1 out' (Err stop) n text ne w i = Appends-trans _ _ _ _ _ w i
 
 pub ended_then : (out out1 out' : Option (List ℕ)) (r : Result (Unit {0}) Stop) (n : ℕ) (text : List ℕ) (end : End) → Writes out out1 r text → IsEnded out1 out' r (ending_line n r) end → IsEnded out out' r (text ++ ending_line n r) end
 ended_then out out1 out' r n text EndWriteFailed w i = front_ended out out1 out' r n text w i
@@ -47,74 +50,68 @@ ended_then out out1 out' r n text Refused w i = (i.0, whole_ended out out1 out' 
 ended_then out out1 out' r n text Stopped w i = (i.0, whole_ended out out1 out' r n text (λ e. let bad : Stopped ≡ EndWriteFailed = i.0 ∙ e in cc) w i.1)
 ended_then out out1 out' r n text EndReadFailed w i = (i.0, whole_ended out out1 out' r n text (λ e. let bad : EndReadFailed ≡ EndWriteFailed = i.0 ∙ e in cc) w i.1)
 
--- nothing was written
-pub nothing_written : (out : Option (List ℕ)) (n n' : ℕ) (rd rd' : Option (List ℕ)) (stop : Stop) → HaltsHead n n' rd rd' stop → Writes out out (Err stop) []
-nothing_written out n n' rd rd' (Fault f) h = appends_none out
-nothing_written out n n' rd rd' ReadFailed h = appends_none out
-nothing_written out n n' rd rd' NoMemory h = absurd h
-nothing_written out n n' rd rd' BookFull h = absurd h
-nothing_written out n n' rd rd' WriteFailed h = absurd h
-
 -- what was read is all that there was
-pub all_consumed : (xs : List ℕ) (rd' : Option (List ℕ)) (front : List ℕ) → Consumes (Some xs) rd' front → (x : List ℕ) × IsLeft rd' x × (xs ≡ front ++ x)
+all_consumed : (xs : List ℕ) (rd' : Option (List ℕ)) (front : List ℕ) → Consumes (Some xs) rd' front → (x : List ℕ) × IsLeft rd' x × (xs ≡ front ++ x)
 all_consumed xs None front c = absurd c
 all_consumed xs (Some ys) front c = (ys, refl, c)
 
-pub whole_output : (m history n : ℕ) (rd rd' out out' : Option (List ℕ)) (r : Result (Unit {0}) Stop) (text : List ℕ) (end : End) → Told m history 1 n rd rd' r text
-    → IsEnded out out' r (text ++ ending_line n r) end → end ≡ Whole → IfSome rd (λ bytes. IsWholeOutput m bytes out out')
-whole_output m history n None rd' out out' r text end t i e = tt
-whole_output m history n (Some xs) rd' out out' (Ok done) text Whole t i e =
-    let all = all_consumed xs rd' t.front t.consumed in
-    let none : all.0 ≡ [] = left_none rd' all.0 t.read.0 all.1 in
-    let same : xs ≡ t.front = all.2 ∙ ap (λ l. t.front ++ l) none ∙ append-nil t.front in (
-      t.layout,
-      t.commands,
-      t.pieces,
-      ap (λ l. read_trace m 1 [] l) same ∙ t.read.1,
-      t.walked,
-      t.permitted,
-      subst (λ (l : List ℕ). Appends out out' l) (append-nil text ∙ t.said) i.1,
-    )
-whole_output m history n (Some xs) rd' out out' (Err (Fault f)) text Whole t i e = cc
-whole_output m history n (Some xs) rd' out out' (Err NoMemory) text Whole t i e = cc
-whole_output m history n (Some xs) rd' out out' (Err BookFull) text Whole t i e = cc
-whole_output m history n (Some xs) rd' out out' (Err ReadFailed) text Whole t i e = cc
-whole_output m history n (Some xs) rd' out out' (Err WriteFailed) text Whole t i e = cc
-whole_output m history n (Some xs) rd' out out' r text Refused t i e = cc
-whole_output m history n (Some xs) rd' out out' r text Stopped t i e = cc
-whole_output m history n (Some xs) rd' out out' r text EndReadFailed t i e = cc
-whole_output m history n (Some xs) rd' out out' r text EndWriteFailed t i e = cc
+-- the trace of all bytes, by what was read of them
+whole_trace : (d : Dialect) (xs : List ℕ) (rd' : Option (List ℕ)) (n : ℕ) (heap : Option Shape) (cs : List Command) → Reads d None 1 n (Some xs) rd' heap cs (Ok false) → read_trace d xs ≡ record { heap = heap; commands = cs; fault = None }
+whole_trace d xs rd' n None cs t = let none = t.met.2 in cc
+whole_trace d xs rd' n (Some l) cs t =
+    let all = all_consumed xs rd' (t.lines ++ t.rest) t.consumed in
+    let none : all.0 ≡ [] = left_none rd' all.0 t.met.1 all.1 in
+    let same : xs ≡ t.lines ++ [] = all.2 ∙ ap (λ l. (t.lines ++ t.rest) ++ l) none ∙ append-nil (t.lines ++ t.rest) ∙ ap (λ l. t.lines ++ l) t.met.0 in
+    ap (read_trace d) same ∙ t.passed [] ∙ ap (λ (w : List Command). record { heap = Some l; commands = w; fault = None }) (append-nil cs)
 
-headed_at : (m : ℕ) (k : Shape) (cs : List Command) (front x : List ℕ) → (cs ≡ []) ⊎ ((y : List ℕ) → (read_trace m 1 [] (front ++ y)).layout ≡ Some k)
-    → (cs ≡ []) ⊎ ((read_trace m 1 [] (front ++ x)).layout ≡ Some k)
-headed_at m k cs front x (inl e) = inl e
-headed_at m k cs front x (inr h) = inr (h x)
+faulty_trace : (d : Dialect) (xs : List ℕ) (rd' : Option (List ℕ)) (n : ℕ) (heap : Option Shape) (cs : List Command) (f : TraceFault) → Reads d None 1 n (Some xs) rd' heap cs (Err (Fault f))
+    → read_trace d xs ≡ record { heap = heap; commands = cs; fault = Some (n, f) }
+faulty_trace d xs rd' n heap cs f t =
+    let all = all_consumed xs rd' (t.lines ++ t.rest) t.consumed in
+    ap (read_trace d) (all.2 ∙ append_assoc t.lines t.rest all.0) ∙ t.passed (t.rest ++ all.0) ∙ ap (before cs) (t.met all.0 all.1)
+    ∙ ap (λ (w : List Command). record { heap = heap; commands = w; fault = Some (n, f) }) (append-nil cs)
 
-pub refused_output : (m history n : ℕ) (rd rd' out out' : Option (List ℕ)) (r : Result (Unit {0}) Stop) (text : List ℕ) (end : End) → Told m history 1 n rd rd' r text
-    → IsEnded out out' r (text ++ ending_line n r) end → end ≡ Refused → IfSome rd (λ bytes. IsRefusedOutput m bytes out out')
-refused_output m history n None rd' out out' r text end t i e = tt
-refused_output m history n (Some xs) rd' out out' (Err (Fault f)) text Refused t i e =
-    let all = all_consumed xs rd' t.front t.consumed in
-    let read : (read_trace m 1 [] xs).trace ≡ record { commands = t.commands; fault = Some (n, f) } = ap (λ l. (read_trace m 1 [] l).trace) all.2 ∙ t.read all.0 all.1 in
-    let head : (t.commands ≡ []) ⊎ ((read_trace m 1 [] xs).layout ≡ Some t.layout) =
-    subst (λ (l : List ℕ). (t.commands ≡ []) ⊎ ((read_trace m 1 [] l).layout ≡ Some t.layout)) (sym all.2) (headed_at m t.layout t.commands t.front all.0 t.headed) in (
-      t.layout,
-      t.commands,
-      n,
-      f,
-      t.pieces,
-      read,
-      head,
-      t.walked,
-      t.permitted,
-      subst (λ (l : List ℕ). Appends out out' l) (ap (λ l. l ++ fault_line n f) t.said) i.1,
-    )
-refused_output m history n (Some xs) rd' out out' (Ok done) text Refused t i e = cc
-refused_output m history n (Some xs) rd' out out' (Err NoMemory) text Refused t i e = cc
-refused_output m history n (Some xs) rd' out out' (Err BookFull) text Refused t i e = cc
-refused_output m history n (Some xs) rd' out out' (Err ReadFailed) text Refused t i e = cc
-refused_output m history n (Some xs) rd' out out' (Err WriteFailed) text Refused t i e = cc
-refused_output m history n (Some xs) rd' out out' r text Whole t i e = cc
-refused_output m history n (Some xs) rd' out out' r text Stopped t i e = cc
-refused_output m history n (Some xs) rd' out out' r text EndReadFailed t i e = cc
-refused_output m history n (Some xs) rd' out out' r text EndWriteFailed t i e = cc
+-- all commands were done
+all_done : (cs done undone : List Command) → cs ≡ done ++ undone → undone ≡ [] → cs ≡ done
+all_done cs done undone e none = e ∙ ap (λ w. done ++ w) none ∙ append-nil done
+
+pub whole_output : (d : Dialect) (history n : ℕ) (rd rd' out out' : Option (List ℕ)) (r : Result (Unit {0}) Stop) (text : List ℕ) (end : End) → Told d history 1 n rd rd' r text
+    → IsEnded out out' r (text ++ ending_line n r) end → end ≡ Whole → IfSome rd (λ bytes. IsWholeOutput d bytes out out')
+whole_output d history n None rd' out out' r text end t i e = tt
+whole_output d history n (Some xs) rd' out out' (Ok done) text Whole t i e = whole t.heap t refl
+  where
+    whole : (heap : Option Shape) (t : Told d history 1 n (Some xs) rd' (Ok done) text) → t.heap ≡ heap → IsWholeOutput d xs out out'
+    whole None t is = let none = subst (λ (h : Option Shape). IsSome h) is t.read.met.2 in cc
+    whole (Some l) t is = record {
+      layout = l;
+      commands = t.done;
+      pieces = t.pieces;
+      trace = whole_trace d xs rd' n t.heap t.commands t.read ∙ ap₂ (λ (h : Option Shape) (w : List Command). record { heap = h; commands = w; fault = None }) is (all_done t.commands t.done t.undone t.all t.stopped);
+      walked = t.walked;
+      permitted = subst (λ (h : Option Shape). IfSome h (λ s. IsPermitted (opening s) (entries_of t.pieces))) is t.permitted;
+      written = subst (λ (w : List ℕ). Appends out out' w) (append-nil text ∙ t.said) i.1;
+    }
+whole_output d history n (Some xs) rd' out out' (Err (Fault f)) text Whole t i e = cc
+whole_output d history n (Some xs) rd' out out' (Err stop) text Whole t i e = cc
+whole_output d history n (Some xs) rd' out out' r text end t i e = cc
+
+pub refused_output : (d : Dialect) (history n : ℕ) (rd rd' out out' : Option (List ℕ)) (r : Result (Unit {0}) Stop) (text : List ℕ) (end : End) → Told d history 1 n rd rd' r text
+    → IsEnded out out' r (text ++ ending_line n r) end → end ≡ Refused → IfSome rd (λ bytes. IsRefusedOutput d bytes out out')
+refused_output d history n None rd' out out' r text end t i e = tt
+refused_output d history n (Some xs) rd' out out' (Err (Fault f)) text Refused t i e =
+    let same : t.commands ≡ t.done = all_done t.commands t.done t.undone t.all t.stopped in
+    record {
+      heap = t.heap;
+      commands = t.done;
+      number = n;
+      fault = f;
+      pieces = t.pieces;
+      trace = faulty_trace d xs rd' n t.heap t.commands f t.read ∙ ap (λ (w : List Command). record { heap = t.heap; commands = w; fault = Some (n, f) }) same;
+      unopened = subst (λ (w : List Command). IfNone t.heap (w ≡ [])) same t.unopened;
+      walked = t.walked;
+      permitted = t.permitted;
+      written = subst (λ (w : List ℕ). Appends out out' w) (ap (λ w. w ++ fault_line n f) t.said) i.1;
+    }
+refused_output d history n (Some xs) rd' out out' (Ok done) text Refused t i e = cc
+refused_output d history n (Some xs) rd' out out' (Err stop) text Refused t i e = cc
+refused_output d history n (Some xs) rd' out out' r text end t i e = cc

@@ -1,15 +1,11 @@
 pub mod EndLemmas
-pub mod HeaderLemmas
-pub mod LineLemmas
 pub mod ListLemmas
 pub mod PartLemmas
-pub mod PassingLemmas
 pub mod PieceLemmas
 pub mod PlaceLemmas
 pub mod PlayingLemmas
 pub mod PutLemmas
-pub mod ReadLemmas
+pub mod ReadingLemmas
 pub mod ToldLemmas
-pub mod WalkLemmas
 pub mod WordLemmas
 pub mod AnswerLemmas

@@ -1,5 +1,7 @@
 -- A line that goes on in the bytes that a reader shows.
-use Rattle.std.proofs.Common.{◌≡◌, ◌≢◌, ℕ, ◌+◌, ◌<◌, ◌≤◌, List, [], ◌∷◌, ◌++◌, length, take, get_or, sym, ap, subst, ◌∙◌, arith, append_assoc, append-nil, add-one, length-take-le, length-append, Option, Some, None, zero, suc}
+use Rattle.std.proofs.Common.{◌≡◌, ◌≢◌, ℕ, ◌+◌, ◌<◌, ◌≤◌, List, [], ◌∷◌, ◌++◌, length, take, get_or, sym, ap, subst, ◌∙◌, arith, append_assoc, append-nil, add-one, length-take-le, length-append, Option, Some, None, zero, suc, true}
+use Rattle.std.specs.Prelude.{Ok, Err}
+use Rattle.std.proofs.KnownBytes.{Consumes-trans}
 use Rattle.std.proofs.Math.Seq.{take-suc}
 use Rattle.std.proofs.lemmas.Bool.{eq-eqb, eqb-true}
 use Rattle.std.specs.Option.{unwrap_or}
@@ -7,9 +9,14 @@ use Rattle.memchr.specs.Find.{Nowhere, Passes, IsFirstByte, is_byte}
 use Rattle.std.specs.Io.KnownBytes.{Consumes}
 use Rattle.g1_replay.specs.declared.lines.Part.{Part}
 use Rattle.g1_replay.specs.declared.lines.Part.TheVariants.{Whole, TooLong, More, Nothing, Failed}
-use Rattle.g1_replay.specs.declared.lines.NextLine.TheVariants as ended
+use Rattle.g1_replay.specs.declared.fault.TraceFault.TheVariants as fault
+use Rattle.g1_replay.specs.declared.stop.Stop.TheVariants.{Fault}
 use Rattle.g1_replay.specs.Lines.{IsPart, EndsAtFeed, GoesOn, ReadsPart, ReadsLine}
-use Rattle.g1_replay.proofs.ReadLemmas.{consumes_then, part_push}
+
+-- one more byte
+part_push : (xs : List ℕ) (b : ℕ) → IsPart xs → b ≢ 10 → IsPart (xs ++ b ∷ [])
+part_push [] b p q = (q, tt)
+part_push (x ∷ xs) b p q = (p.0, part_push xs b p.1 q)
 
 -- one more byte that is no line feed
 pub part_longer : (bytes : List ℕ) (i : ℕ) → i < length bytes → get_or bytes i 0 ≢ 10 → IsPart (take i bytes) → IsPart (take (i + 1) bytes)
@@ -54,24 +61,24 @@ joined (x ∷ xs) ys p q = (p.0, joined xs ys p.1 q)
 
 -- what was read before a part, and bytes that end with it
 behind : (a b c : Option (List ℕ)) (begun line bytes more : List ℕ) → line ≡ begun ++ bytes → Consumes a b begun → Consumes b c (bytes ++ more) → Consumes a c (line ++ more)
-behind a b c begun line bytes more e p q = subst (Consumes a c) (sym (append_assoc begun bytes more) ∙ ap (λ l. l ++ more) (sym e)) (consumes_then a b c begun (bytes ++ more) p q)
+behind a b c begun line bytes more e p q = subst (Consumes a c) (sym (append_assoc begun bytes more) ∙ ap (λ l. l ++ more) (sym e)) (Consumes-trans a b c begun (bytes ++ more) p q)
 
 -- the last part of a line
-pub line_whole : (a b c : Option (List ℕ)) (begun line : List ℕ) → Consumes a b begun → IsPart begun → ReadsPart b c Whole begun line → ReadsLine a c ended.Whole line
+pub line_whole : (a b c : Option (List ℕ)) (begun line : List ℕ) → Consumes a b begun → IsPart begun → ReadsPart b c Whole begun line → ReadsLine a c (Ok true) line
 line_whole a b c begun line p part r = (behind a b c begun line r.0 (10 ∷ []) r.1 p r.2, subst IsPart (sym r.1) (joined begun r.0 part r.3), r.4)
 
-pub line_long : (a b c : Option (List ℕ)) (begun line : List ℕ) → Consumes a b begun → IsPart begun → ReadsPart b c TooLong begun line → ReadsLine a c ended.TooLong line
+pub line_long : (a b c : Option (List ℕ)) (begun line : List ℕ) → Consumes a b begun → IsPart begun → ReadsPart b c TooLong begun line → ReadsLine a c (Err (Fault fault.TooLong)) line
 line_long a b c begun line p part r =
     (r.1, behind a b c begun line r.0 (r.1 ∷ []) r.2 p r.3, r.4, subst IsPart (sym r.2) (joined begun r.0 part r.5), r.6)
 
 -- a part, behind which more may come
 pub line_more : (a b c : Option (List ℕ)) (begun line : List ℕ) → Consumes a b begun → IsPart begun → ReadsPart b c More begun line → Consumes a c line × IsPart line × (length line ≤ 64)
 line_more a b c begun line p part r =
-    (subst (Consumes a c) (sym r.1) (consumes_then a b c begun r.0 p r.2), subst IsPart (sym r.1) (joined begun r.0 part r.3), r.4)
+    (subst (Consumes a c) (sym r.1) (Consumes-trans a b c begun r.0 p r.2), subst IsPart (sym r.1) (joined begun r.0 part r.3), r.4)
 
 -- no part, and then one byte
 pub line_byte : (a b c d : Option (List ℕ)) (begun line : List ℕ) (byte : ℕ) → Consumes a b begun → IsPart begun → ReadsPart b c Nothing begun line → Consumes c d (byte ∷ []) → byte ≢ 10
     → Consumes a d (line ++ byte ∷ []) × IsPart (line ++ byte ∷ [])
 line_byte a b c d begun line byte p part r q ne =
-    let stays : Consumes a c line = subst (Consumes a c) (append-nil begun ∙ sym r.0) (consumes_then a b c begun [] p r.1) in
-    (consumes_then a c d line (byte ∷ []) stays q, part_push line byte (subst IsPart (sym r.0) part) ne)
+    let stays : Consumes a c line = subst (Consumes a c) (append-nil begun ∙ sym r.0) (Consumes-trans a b c begun [] p r.1) in
+    (Consumes-trans a c d line (byte ∷ []) stays q, part_push line byte (subst IsPart (sym r.0) part) ne)

@@ -12,10 +12,10 @@ use Rattle.g1_core.specs.declared.reply.Status.{Status}
 use Rattle.g1_core.specs.declared.reply.Drained.{Drained}
 use Rattle.g1_core.specs.declared.reply.Drained.TheVariants as drained
 use Rattle.g1_core.specs.declared.reply.ClearReply.{ClearReply}
-use Rattle.g1_core.specs.declared.reply.ClearReply.TheVariants as clear_reply
 use Rattle.g1_core.specs.declared.reply.Redirected.{Redirected}
 use Rattle.g1_core.specs.declared.reply.Redirected.TheVariants as redirected
-use Rattle.g1_core.specs.Run.{Entry, Refine}
+use Rattle.g1_core.specs.declared.entry.Entry.{Entry}
+use Rattle.g1_core.specs.declared.entry.Call.TheVariants.{Refine}
 use Rattle.g1_core.specs.Calls.{store_entry, refine_entry, target_entry, pending_entry, members_entry, status_entry, drain_entry, clear_entry, redirect_entry}
 use Rattle.g1_replay.specs.declared.command.Command.TheVariants as command
 use Rattle.g1_replay.specs.Text.{store_text, flush_text, refine_text, work_text, worked_line, target_text, pending_text, members_text, status_text, drain_text, clear_text, redirect_text}
@@ -117,9 +117,7 @@ drain_says region (drained.Cards cards refined) = record { piece = (refl, refl);
 drain_says region (drained.Short refined) = record { piece = (refl, refl); line = refl }
 
 pub clear_says : (region : ℕ) (answer : ClearReply) → IsLineOf (command.Clear region) (plain_piece (clear_entry 0 region answer ∷ [])) (clear_text answer)
-clear_says region clear_reply.Cleared = record { piece = (refl, refl); line = refl }
-clear_says region (clear_reply.Pending cards) = record { piece = (refl, refl); line = refl }
-clear_says region (clear_reply.StillReferenced slot) = record { piece = (refl, refl); line = refl }
+clear_says region answer = record { piece = (refl, refl); line = refl }
 
 pub redirect_says : (from to : ℕ) (answer : Redirected) → IsLineOf (command.Redirect from to) (plain_piece (redirect_entry 0 from to answer ∷ [])) (redirect_text answer)
 redirect_says from to (redirected.Moved slots refined) = record { piece = (refl, refl); line = refl }

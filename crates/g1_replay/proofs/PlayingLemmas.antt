@@ -1,89 +1,91 @@
--- Lines that were played, one after another.
-use Rattle.std.proofs.Common.{ℕ, List, [], ◌∷◌, ◌++◌, refl, subst, sym, append-nil, Option}
-use Rattle.std.specs.Prelude.{Ok, Err}
-use Rattle.std.specs.Io.KnownBytes.{Appends, Consumes}
+-- Lines that were played: one, and one after another.
+use Rattle.std.proofs.Common.{◌≡◌, ℕ, List, [], ◌∷◌, ◌++◌, refl, sym, ap, ◌∙◌, subst, append_assoc, append-nil, Option, Some, true, arith}
+use Rattle.std.specs.Prelude.{Bool, Result, Ok, Err}
 use Rattle.g1_layout.specs.Shape.{Shape}
-use Rattle.g1_core.specs.Run.{Entry}
-use Rattle.g1_book.specs.History.{History}
-use Rattle.g1_book.specs.Steps.{Grows}
-use Rattle.g1_book.proofs.StepLemmas.{grows_none, grows_then}
 use Rattle.g1_replay.specs.declared.command.Command.{Command}
+use Rattle.g1_replay.specs.declared.dialect.Dialect.{Dialect}
 use Rattle.g1_replay.specs.declared.stop.Stop.{Stop}
 use Rattle.g1_replay.specs.declared.stop.Stop.TheVariants.{Fault, NoMemory, BookFull, ReadFailed, WriteFailed}
-use Rattle.g1_replay.specs.Reading.{Passes, ReadsNext}
-use Rattle.g1_replay.specs.Pieces.{line_of, entries_of}
-use Rattle.g1_replay.specs.Playing.{Plays, Progress, Halts}
-use Rattle.g1_replay.proofs.ReadLemmas.{consumes_none, consumes_then}
-use Rattle.g1_replay.proofs.PassingLemmas.{passes_then}
-use Rattle.g1_replay.proofs.PutLemmas.{appends_none, appends_then}
-use Rattle.g1_replay.proofs.WalkLemmas.{walks_then, entries_then, lines_then}
+use Rattle.g1_replay.specs.Playing.{IsUndone, Does, MayStop, Follows, written_by}
+use Rattle.g1_replay.specs.Reading.{IsReadStop, Reads}
+use Rattle.g1_replay.proofs.PutLemmas.{puts_none, puts_then}
+use Rattle.g1_replay.proofs.ReadingLemmas.{reads_none, reads_then}
 
-pub progress_then : (l : Shape) (m n n' n2 : ℕ) (old mid new : History) (rd rd' rd2 out out' out2 : Option (List ℕ))
-    → Progress l m n n' old mid rd rd' out out' → Progress l m n' n2 mid new rd' rd2 out' out2 → Progress l m n n2 old new rd rd2 out out2
-progress_then l m n n' n2 old mid new rd rd' rd2 out out' out2 p q = record {
-  front = p.front ++ q.front;
+-- nothing to be done
+none_undone : (r : Result Bool Stop) → (r ≡ Err BookFull → ⊥) → IsUndone r []
+none_undone (Ok b) h = refl
+none_undone (Err (Fault f)) h = refl
+none_undone (Err NoMemory) h = omega arith
+none_undone (Err BookFull) h = absurd (h refl)
+none_undone (Err ReadFailed) h = refl
+none_undone (Err WriteFailed) h = refl
+
+does_none : {S : Type 0} (did : S → List Command → List ℕ → S → Type 0) (full : S → Type 0) (s : S) (out : Option (List ℕ)) (r : Result Bool Stop) → did s [] [] s → (r ≡ Err BookFull → ⊥) → Does did full [] s s out out r
+does_none did full s out r none no_book = record {
+  done = [];
+  undone = [];
+  all = refl;
+  stopped = none_undone r no_book;
+  text = [];
+  made = none;
+  filled = λ e. absurd (no_book e);
+  written = puts_none out (written_by r);
+}
+
+-- commands, and then more
+does_then : {S : Type 0} (did : S → List Command → List ℕ → S → Type 0) (full : S → Type 0)
+    (then : (s t u : S) (cs ds : List Command) (xs ys : List ℕ) → did s cs xs t → did t ds ys u → did s (cs ++ ds) (xs ++ ys) u)
+    (old mid new : S) (out out' out2 : Option (List ℕ)) (cs ds : List Command) (r : Result Bool Stop)
+    → Does did full cs old mid out out' (Ok true) → Does did full ds mid new out' out2 r → Does did full (cs ++ ds) old new out out2 r
+does_then did full then old mid new out out' out2 cs ds r p q = record {
+  done = p.done ++ q.done;
+  undone = q.undone;
+  all = ap (λ w. w ++ ds) (p.all ∙ ap (λ w. p.done ++ w) p.stopped ∙ append-nil p.done) ∙ ap (λ w. p.done ++ w) q.all ∙ sym (append_assoc p.done q.done q.undone);
+  stopped = q.stopped;
+  text = p.text ++ q.text;
+  made = then _ _ _ _ _ _ _ p.made q.made;
+  filled = q.filled;
+  written = puts_then out out' out2 (written_by r) p.text q.text p.written q.written;
+}
+
+-- no line
+pub follows_none : {S : Type 0} (did : S → List Command → List ℕ → S → Type 0) (full : S → Type 0) (d : Dialect) (l : Shape) (n : ℕ) (s : S) (rd out : Option (List ℕ)) → did s [] [] s
+    → Follows did full d l n n s s rd rd out out (Ok true)
+follows_none did full d l n s rd out none = record { commands = []; read = reads_none d (Some l) n rd; done = does_none did full s out (Ok true) none (λ e. cc) }
+
+pub follows_then : {S : Type 0} (did : S → List Command → List ℕ → S → Type 0) (full : S → Type 0)
+    (then : (s t u : S) (cs ds : List Command) (xs ys : List ℕ) → did s cs xs t → did t ds ys u → did s (cs ++ ds) (xs ++ ys) u)
+    (d : Dialect) (l : Shape) (n n' n2 : ℕ) (old mid new : S) (rd rd' rd2 out out' out2 : Option (List ℕ)) (r : Result Bool Stop)
+    → Follows did full d l n n' old mid rd rd' out out' (Ok true) → Follows did full d l n' n2 mid new rd' rd2 out' out2 r → Follows did full d l n n2 old new rd rd2 out out2 r
+follows_then did full then d l n n' n2 old mid new rd rd' rd2 out out' out2 r p q = record {
   commands = p.commands ++ q.commands;
-  pieces = p.pieces ++ q.pieces;
-  consumed = consumes_then _ _ _ _ _ p.consumed q.consumed;
-  passes = passes_then l m n n' n2 p.front q.front p.commands q.commands p.passes q.passes;
-  walked = walks_then p.commands q.commands p.pieces q.pieces p.walked q.walked;
-  grows = subst (λ (es : List Entry). Grows old es new) (sym (entries_then p.pieces q.pieces)) (grows_then old mid new (entries_of p.pieces) (entries_of q.pieces) p.grows q.grows);
-  written = subst (λ (t : List ℕ). Appends out out2 t) (sym (lines_then p.commands q.commands p.pieces q.pieces p.walked)) (appends_then _ _ _ _ _ p.written q.written);
+  read = reads_then d (Some l) (Some l) (Some l) n n' n2 rd rd' rd2 p.commands q.commands r p.read q.read;
+  done = does_then did full then old mid new out out' out2 p.commands q.commands r p.done q.done;
 }
 
-pub progress_none : (l : Shape) (m n : ℕ) (old : History) (rd out : Option (List ℕ)) → Progress l m n n old old rd rd out out
-progress_none l m n old rd out = record {
-  front = [];
-  commands = [];
-  pieces = [];
-  consumed = consumes_none rd;
-  passes = λ x. refl;
-  walked = tt;
-  grows = grows_none old;
-  written = appends_none out;
-}
+-- a line without a command, or the end of the input
+pub line_passed : {S : Type 0} (did : S → List Command → List ℕ → S → Type 0) (full : S → Type 0) (d : Dialect) (l : Shape) (n n' : ℕ) (s : S) (rd rd' out : Option (List ℕ)) (more : Bool) → did s [] [] s
+    → Reads d (Some l) n n' rd rd' (Some l) [] (Ok more) → Follows did full d l n n' s s rd rd' out out (Ok more)
+line_passed did full d l n n' s rd rd' out more none read = record { commands = []; read = read; done = does_none did full s out (Ok more) none (λ e. cc) }
 
--- a line without a command
-pub progress_blank : (l : Shape) (m n n' : ℕ) (front : List ℕ) (old : History) (rd rd' out : Option (List ℕ))
-    → Consumes rd rd' front → Passes l m n front [] n' → Progress l m n n' old old rd rd' out out
-progress_blank l m n n' front old rd rd' out c p = record {
-  front = front;
-  commands = [];
-  pieces = [];
-  consumed = c;
-  passes = p;
-  walked = tt;
-  grows = grows_none old;
-  written = appends_none out;
-}
+-- a line that stopped the reading
+pub line_unread : {S : Type 0} (did : S → List Command → List ℕ → S → Type 0) (full : S → Type 0) (d : Dialect) (l : Shape) (n n' : ℕ) (s : S) (rd rd' out : Option (List ℕ)) (stop : Stop) → did s [] [] s → IsReadStop stop
+    → Reads d (Some l) n n' rd rd' (Some l) [] (Err stop) → Follows did full d l n n' s s rd rd' out out (Err stop)
+line_unread did full d l n n' s rd rd' out (Fault f) none h read = record { commands = []; read = read; done = does_none did full s out (Err (Fault f)) none (λ e. cc) }
+line_unread did full d l n n' s rd rd' out ReadFailed none h read = record { commands = []; read = read; done = does_none did full s out (Err ReadFailed) none (λ e. cc) }
+line_unread did full d l n n' s rd rd' out stop none h read = absurd h
 
--- a line whose command was played
-pub progress_one : (l : Shape) (m n n' : ℕ) (front : List ℕ) (c : Command) (old new : History) (rd rd' out out' : Option (List ℕ))
-    → Consumes rd rd' front → Passes l m n front (c ∷ []) n' → Plays old new out out' c (Ok tt) → Progress l m n n' old new rd rd' out out'
-progress_one l m n n' front c old new rd rd' out out' read passes p = record {
-  front = front;
-  commands = c ∷ [];
-  pieces = p.0 ∷ [];
-  consumed = read;
-  passes = passes;
-  walked = (p.1, tt);
-  grows = subst (λ (es : List Entry). Grows old es new) (sym (append-nil p.0.entries)) p.2;
-  written = subst (λ (t : List ℕ). Appends out out' t) (sym (append-nil (line_of c p.0))) p.3;
-}
+-- a line whose command was played, or not to its end
+pub line_played : {S : Type 0} (did : S → List Command → List ℕ → S → Type 0) (full : S → Type 0) (d : Dialect) (l : Shape) (n n' : ℕ) (c : Command) (old new : S) (rd rd' out out' : Option (List ℕ))
+    → Reads d (Some l) n n' rd rd' (Some l) (c ∷ []) (Ok true) → Does did full (c ∷ []) old new out out' (Ok true) → Follows did full d l n n' old new rd rd' out out' (Ok true)
+line_played did full d l n n' c old new rd rd' out out' read done = record { commands = c ∷ []; read = read; done = done }
 
--- a line whose command was not played to its end
-pub play_stopped : (l : Shape) (m n n' : ℕ) (old new : History) (rd rd' out out' : Option (List ℕ)) (front : List ℕ) (c : Command) (stop : Stop)
-    → Consumes rd rd' front → Passes l m n front (c ∷ []) n' → Plays old new out out' c (Err stop) → Halts l m n n' old new rd rd' out out' (Err stop)
-play_stopped l m n n' old new rd rd' out out' front c WriteFailed read passes p = (front, c, p.0, read, passes, p.1, p.2, p.3)
-play_stopped l m n n' old new rd rd' out out' front c NoMemory read passes p = (front, c, read, passes, p.0, p.1)
-play_stopped l m n n' old new rd rd' out out' front c BookFull read passes p = (front, c, read, passes, p.0, p.1, p.2)
-play_stopped l m n n' old new rd rd' out out' front c ReadFailed read passes p = absurd p
-play_stopped l m n n' old new rd rd' out out' front c (Fault f) read passes p = absurd p
-
--- a line that was not read to its end, or has a fault
-pub read_stopped : (l : Shape) (m n n' : ℕ) (old : History) (rd rd' out : Option (List ℕ)) (stop : Stop) → ReadsNext l m n n' rd rd' (Err stop) → Halts l m n n' old old rd rd' out out (Err stop)
-read_stopped l m n n' old rd rd' out (Fault f) r = (r.0, r.1, r.2, grows_none old, appends_none out, r.3)
-read_stopped l m n n' old rd rd' out ReadFailed r = (r.0, r.1, r.2, grows_none old, appends_none out)
-read_stopped l m n n' old rd rd' out NoMemory r = absurd r
-read_stopped l m n n' old rd rd' out BookFull r = absurd r
-read_stopped l m n n' old rd rd' out WriteFailed r = absurd r
+pub line_stopped : {S : Type 0} (did : S → List Command → List ℕ → S → Type 0) (full : S → Type 0) (d : Dialect) (l : Shape) (n n' : ℕ) (c : Command) (old new : S) (rd rd' out out' : Option (List ℕ)) (stop : Stop) → MayStop stop
+    → Reads d (Some l) n n' rd rd' (Some l) (c ∷ []) (Ok true) → Does did full (c ∷ []) old new out out' (Err stop) → Follows did full d l n n' old new rd rd' out out' (Err stop)
+line_stopped did full d l n n' c old new rd rd' out out' stop h read done = record { commands = c ∷ []; read = halted d l n n' c rd rd' stop h read; done = done }
+  where
+    halted : (d : Dialect) (l : Shape) (n n' : ℕ) (c : Command) (rd rd' : Option (List ℕ)) (stop : Stop) → MayStop stop → Reads d (Some l) n n' rd rd' (Some l) (c ∷ []) (Ok true) → Reads d (Some l) n n' rd rd' (Some l) (c ∷ []) (Err stop)
+    halted d l n n' c rd rd' NoMemory h read = record { lines = read.lines; rest = read.rest; consumed = read.consumed; passed = read.passed; met = read.met }
+    halted d l n n' c rd rd' BookFull h read = record { lines = read.lines; rest = read.rest; consumed = read.consumed; passed = read.passed; met = read.met }
+    halted d l n n' c rd rd' WriteFailed h read = record { lines = read.lines; rest = read.rest; consumed = read.consumed; passed = read.passed; met = read.met }
+    halted d l n n' c rd rd' stop h read = absurd h

@@ -1,30 +1,15 @@
 -- Writes that follow each other, as one.
-use Rattle.std.proofs.Common.{◌≡◌, ℕ, List, [], ◌∷◌, ◌++◌, take, drop, Option, None, Some, append_assoc, refl, sym, ◌∙◌, ap}
+use Rattle.std.proofs.Common.{◌≡◌, ℕ, List, [], ◌∷◌, ◌++◌, take, drop, Option, None, Some, append_assoc, append-nil, refl, sym, ◌∙◌, ap}
+use Rattle.std.proofs.KnownBytes.{Appends-nil, Appends-trans}
 use Rattle.std.proofs.lemmas.List.{take-append-drop}
 use Rattle.std.specs.Prelude.{Result, Ok, Err, IsErr}
 use Rattle.std.specs.Io.KnownBytes.{Appends, Keeps}
 use Rattle.g1_replay.specs.Bytes.{AppendsFront, Puts}
 
--- one text behind another
-pub appends_then : (a b c : Option (List ℕ)) (x y : List ℕ) → Appends a b x → Appends b c y → Appends a c (x ++ y)
-appends_then None b c x y p q = tt
-appends_then (Some xs) None c x y p q = absurd p
-appends_then (Some xs) (Some ys) None x y p q = absurd q
-appends_then (Some xs) (Some ys) (Some zs) x y p q = q ∙ ap (λ l. l ++ y) p ∙ append_assoc xs x y
-
-pub append_nil : (xs : List ℕ) → xs ++ [] ≡ xs
-append_nil [] = refl
-append_nil (x ∷ xs) = ap (λ l. x ∷ l) (append_nil xs)
-
--- nothing was written
-pub appends_none : (a : Option (List ℕ)) → Appends a a []
-appends_none None = tt
-appends_none (Some xs) = sym (append_nil xs)
-
 pub keeps_appends : (a b : Option (List ℕ)) → Keeps a b → Appends a b []
 keeps_appends None b p = tt
 keeps_appends (Some xs) None p = absurd p
-keeps_appends (Some xs) (Some ys) p = p ∙ sym (append_nil xs)
+keeps_appends (Some xs) (Some ys) p = p ∙ sym (append-nil xs)
 
 -- all of a text is a beginning of a longer one
 pub front_of_all : (a b : Option (List ℕ)) (x y : List ℕ) → Appends a b x → AppendsFront a b (x ++ y)
@@ -36,16 +21,21 @@ front_more a b x y p = (p.0, p.1 ++ y, p.2, ap (λ l. l ++ y) p.3 ∙ append_ass
 
 -- a beginning behind a whole text
 pub front_then : (a b c : Option (List ℕ)) (x y : List ℕ) → Appends a b x → AppendsFront b c y → AppendsFront a c (x ++ y)
-front_then a b c x y p q = (x ++ q.0, q.1, appends_then a b c x q.0 p q.2, ap (λ l. x ++ l) q.3 ∙ sym (append_assoc x q.0 q.1))
+front_then a b c x y p q = (x ++ q.0, q.1, Appends-trans a b c x q.0 p q.2, ap (λ l. x ++ l) q.3 ∙ sym (append_assoc x q.0 q.1))
 
 -- a put that failed
 pub puts_failed : {V E : Type 0} (a b : Option (List ℕ)) (r : Result V E) (text : List ℕ) → IsErr r → AppendsFront a b text → Puts a b r text
 puts_failed a b (Ok v) text e p = cc
 puts_failed a b (Err v) text e p = p
 
+-- nothing was put
+pub puts_none : {V E : Type 0} (a : Option (List ℕ)) (r : Result V E) → Puts a a r []
+puts_none a (Ok v) = Appends-nil a
+puts_none a (Err v) = ([], [], Appends-nil a, refl)
+
 -- a put behind a whole text
 pub puts_then : {V E : Type 0} (a b c : Option (List ℕ)) (r : Result V E) (x y : List ℕ) → Appends a b x → Puts b c r y → Puts a c r (x ++ y)
-puts_then a b c (Ok v) x y p q = appends_then a b c x y p q
+puts_then a b c (Ok v) x y p q = Appends-trans a b c x y p q
 puts_then a b c (Err e) x y p q = front_then a b c x y p q
 
 -- a line in three parts: its first put failed, its second, or it ends with its third
@@ -56,7 +46,7 @@ pub second_of_three : (a b c : Option (List ℕ)) (x y z : List ℕ) → Appends
 second_of_three a b c x y z p q = front_more a c (x ++ y) z (front_then a b c x y p q)
 
 pub three_parts : {V E : Type 0} (a b c d : Option (List ℕ)) (r : Result V E) (x y z : List ℕ) → Appends a b x → Appends b c y → Puts c d r z → Puts a d r (x ++ y ++ z)
-three_parts a b c d r x y z p q t = puts_then a c d r (x ++ y) z (appends_then a b c x y p q) t
+three_parts a b c d r x y z p q t = puts_then a c d r (x ++ y) z (Appends-trans a b c x y p q) t
 
 -- the same for a line in four parts
 pub first_of_four : (a b : Option (List ℕ)) (x y z w : List ℕ) → AppendsFront a b x → AppendsFront a b (x ++ y ++ z ++ w)
@@ -66,10 +56,10 @@ pub second_of_four : (a b c : Option (List ℕ)) (x y z w : List ℕ) → Append
 second_of_four a b c x y z w p q = front_more a c (x ++ y ++ z) w (second_of_three a b c x y z p q)
 
 pub third_of_four : (a b c d : Option (List ℕ)) (x y z w : List ℕ) → Appends a b x → Appends b c y → AppendsFront c d z → AppendsFront a d (x ++ y ++ z ++ w)
-third_of_four a b c d x y z w p q t = front_more a d (x ++ y ++ z) w (front_then a c d (x ++ y) z (appends_then a b c x y p q) t)
+third_of_four a b c d x y z w p q t = front_more a d (x ++ y ++ z) w (front_then a c d (x ++ y) z (Appends-trans a b c x y p q) t)
 
 pub four_parts : {V E : Type 0} (a b c d e : Option (List ℕ)) (r : Result V E) (x y z w : List ℕ) → Appends a b x → Appends b c y → Appends c d z → Puts d e r w → Puts a e r (x ++ y ++ z ++ w)
-four_parts a b c d e r x y z w p q s t = puts_then a d e r (x ++ y ++ z) w (appends_then a c d (x ++ y) z (appends_then a b c x y p q) s) t
+four_parts a b c d e r x y z w p q s t = puts_then a d e r (x ++ y ++ z) w (Appends-trans a c d (x ++ y) z (Appends-trans a b c x y p q) s) t
 
 -- what was written so far, and what is left
 pub cut_at : (n : ℕ) (all done left : List ℕ) → all ≡ done ++ left → all ≡ (done ++ take n left) ++ drop n left

@@ -1,9 +1,10 @@
 -- What a line of a trace means: the header, or a command.
-use Rattle.std.specs.Prelude.{◌≢◌, ℕ, ◌<◌, ◌*◌, List, [], ◌∷◌, ◌==◌, nat_lt, ◌&&◌, if◌then◌else◌, Bool, Result, Ok, Err, Option, Some, None, IfSome, codes}
+use Rattle.std.specs.Prelude.{◌≡◌, ◌≢◌, ℕ, ◌<◌, ◌*◌, List, [], ◌∷◌, ◌==◌, nat_lt, ◌&&◌, if◌then◌else◌, Bool, true, false, Result, Ok, Err, Option, Some, None, IfSome, codes}
 use Rattle.std.specs.Str.{bytes_eq}
 use Rattle.g1_layout.specs.Shape.{Shape, slot_count, card_count}
 use Rattle.g1_replay.specs.declared.command.Command.{Command}
 use Rattle.g1_replay.specs.declared.command.Command.TheVariants.{Store, Flush, Refine, Work, Target, Pending, Members, Status, Drain, Clear, Redirect}
+use Rattle.g1_replay.specs.declared.dialect.Dialect.{Dialect}
 use Rattle.g1_replay.specs.declared.fault.TraceFault.{TraceFault}
 use Rattle.g1_replay.specs.declared.fault.TraceFault.TheVariants.{NoHeader, NoCommand, BadHeap, Twice}
 use Rattle.g1_replay.specs.Words.{words_from, is_remark_word, ◌>>=◌}
@@ -14,10 +15,10 @@ abbrev pub redirect_of : ℕ → ℕ → Result Command TraceFault
 redirect_of a b = if a == b then Err Twice else Ok (Redirect a b)
 
 -- the commands: for each first word, the places behind it and what it asks for
-unfoldable pub read_named : Shape → ℕ → List ℕ → List (List ℕ) → Result Command TraceFault
-read_named l m name words =
-    if bytes_eq name (codes "store") then (read_three (mutator_place m) (slot_place l) (target_place l) words >>= λ v. Ok (Store v.0 v.1 v.2))
-    else if bytes_eq name (codes "flush") then (read_one (mutator_place m) words >>= λ v. Ok (Flush v))
+unfoldable pub read_named : Shape → Dialect → List ℕ → List (List ℕ) → Result Command TraceFault
+read_named l d name words =
+    if bytes_eq name (codes "store") then (read_three (mutator_place d.mutators) (slot_place l) (target_place l) words >>= λ v. Ok (Store v.0 v.1 v.2))
+    else if bytes_eq name (codes "flush") then (read_one (mutator_place d.mutators) words >>= λ v. Ok (Flush v))
     else if bytes_eq name (codes "refine") then (read_none words >>= λ _. Ok Refine)
     else if bytes_eq name (codes "work") then (read_none words >>= λ _. Ok Work)
     else if bytes_eq name (codes "target") then (read_one (slot_place l) words >>= λ v. Ok (Target v))
@@ -30,14 +31,14 @@ read_named l m name words =
     else Err NoCommand
 
 -- a line is empty, a remark or a command
-abbrev pub command_words : Shape → ℕ → List (List ℕ) → Result (Option Command) TraceFault
-command_words l m [] = Ok None
-command_words l m (name ∷ words) = if is_remark_word name then Ok None else (do
-  c ← read_named l m name words
+abbrev pub command_words : Shape → Dialect → List (List ℕ) → Result (Option Command) TraceFault
+command_words l d [] = Ok None
+command_words l d (name ∷ words) = if is_remark_word name then Ok None else (do
+  c ← read_named l d name words
   Ok (Some c))
 
-unfoldable pub read_command : Shape → ℕ → List ℕ → Result (Option Command) TraceFault
-read_command l m line = command_words l m (words_from [] line)
+unfoldable pub read_command : Shape → Dialect → List ℕ → Result (Option Command) TraceFault
+read_command l d line = command_words l d (words_from [] line)
 
 -- the counts of a heap are within their limits
 abbrev pub is_heap : ℕ → ℕ → ℕ → Bool

@@ -12,3 +12,5 @@ pub mod CommandLine
 pub mod Answers
 pub mod Output
 pub mod Playing
+pub mod Stops
+pub mod Laws

@@ -1,12 +1,13 @@
 -- What a read of one line takes from the bytes that a reader has left.
-use Rattle.std.specs.Prelude.{◌≡◌, ◌≢◌, ℕ, List, [], ◌∷◌, ◌++◌, ◌≤◌, ◌<◌, length, take, slice_index, Option}
+use Rattle.std.specs.Prelude.{◌≡◌, ◌≢◌, ℕ, List, [], ◌∷◌, ◌++◌, ◌≤◌, ◌<◌, length, take, slice_index, Bool, true, false, Result, Ok, Err, Option}
 use Rattle.std.specs.Io.KnownBytes.{Consumes, IsAtEnd}
 use Rattle.g1_replay.specs.declared.lines.Byte.{Byte}
 use Rattle.g1_replay.specs.declared.lines.Byte.TheVariants.{Some as OneByte, End as NoByte, Failed as FailedByte}
 use Rattle.g1_replay.specs.declared.lines.Part.{Part}
-use Rattle.g1_replay.specs.declared.lines.Part.TheVariants.{Whole as WholePart, TooLong as LongPart, More, Nothing, Failed as FailedPart}
-use Rattle.g1_replay.specs.declared.lines.NextLine.{NextLine}
-use Rattle.g1_replay.specs.declared.lines.NextLine.TheVariants.{Whole, TooLong, Cut, End, Failed}
+use Rattle.g1_replay.specs.declared.lines.Part.TheVariants.{Whole, TooLong as LongPart, More, Nothing, Failed}
+use Rattle.g1_replay.specs.declared.fault.TraceFault.TheVariants.{TooLong, Cut}
+use Rattle.g1_replay.specs.declared.stop.Stop.{Stop}
+use Rattle.g1_replay.specs.declared.stop.Stop.TheVariants.{Fault, ReadFailed}
 
 -- one read of one byte
 abbrev pub Reads : Option (List ℕ) → Option (List ℕ) → Byte → Type 0
@@ -25,24 +26,25 @@ EndsAtFeed bytes n = IsPart (take n bytes) × (n < length bytes → slice_index 
 
 -- n of the shown bytes go into a line that has room for so many, and the first `lost` are used up
 abbrev pub GoesOn : List ℕ → ℕ → Part → ℕ → ℕ → Type 0
-GoesOn shown room WholePart n lost = IsPart (take n shown) × (n ≤ room) × (take lost shown ≡ take n shown ++ 10 ∷ [])
+GoesOn shown room Whole n lost = IsPart (take n shown) × (n ≤ room) × (take lost shown ≡ take n shown ++ 10 ∷ [])
 GoesOn shown room LongPart n lost = (b : ℕ) × IsPart (take n shown) × (n ≡ room) × (b ≢ 10) × (take lost shown ≡ take n shown ++ b ∷ [])
 GoesOn shown room More n lost = IsPart (take n shown) × (n ≤ room) × (lost ≡ n)
 GoesOn shown room Nothing n lost = (n ≡ 0) × (lost ≡ 0)
-GoesOn shown room FailedPart n lost = ⊥
+GoesOn shown room Failed n lost = ⊥
 
 -- the line was begun, and the reader lost what of it came next
 abbrev pub ReadsPart : Option (List ℕ) → Option (List ℕ) → Part → List ℕ → List ℕ → Type 0
-ReadsPart old new WholePart begun line = (bytes : List ℕ) × (line ≡ begun ++ bytes) × Consumes old new (bytes ++ 10 ∷ []) × IsPart bytes × (length line ≤ 64)
+ReadsPart old new Whole begun line = (bytes : List ℕ) × (line ≡ begun ++ bytes) × Consumes old new (bytes ++ 10 ∷ []) × IsPart bytes × (length line ≤ 64)
 ReadsPart old new LongPart begun line = (bytes : List ℕ) × (b : ℕ) × (line ≡ begun ++ bytes) × Consumes old new (bytes ++ b ∷ []) × (b ≢ 10) × IsPart bytes × (length line ≡ 64)
 ReadsPart old new More begun line = (bytes : List ℕ) × (line ≡ begun ++ bytes) × Consumes old new bytes × IsPart bytes × (length line ≤ 64)
 ReadsPart old new Nothing begun line = (line ≡ begun) × Consumes old new []
-ReadsPart old new FailedPart begun line = (line ≡ begun) × Consumes old new []
+ReadsPart old new Failed begun line = (line ≡ begun) × Consumes old new []
 
--- the bytes of a line, of which the reader lost the front
-abbrev pub ReadsLine : Option (List ℕ) → Option (List ℕ) → NextLine → List ℕ → Type 0
-ReadsLine old new Whole line = Consumes old new (line ++ 10 ∷ []) × IsPart line × (length line ≤ 64)
-ReadsLine old new TooLong line = (b : ℕ) × Consumes old new (line ++ b ∷ []) × (b ≢ 10) × IsPart line × (length line ≡ 64)
-ReadsLine old new Cut line = Consumes old new line × IsAtEnd new × IsPart line × (0 < length line) × (length line ≤ 64)
-ReadsLine old new End line = Consumes old new [] × IsAtEnd new × (line ≡ [])
-ReadsLine old new Failed line = Consumes old new line × IsPart line × (length line ≤ 64)
+-- the next line, of which the reader lost the front; at the end of the input there is none
+abbrev pub ReadsLine : Option (List ℕ) → Option (List ℕ) → Result Bool Stop → List ℕ → Type 0
+ReadsLine old new (Ok true) line = Consumes old new (line ++ 10 ∷ []) × IsPart line × (length line ≤ 64)
+ReadsLine old new (Ok false) line = Consumes old new [] × IsAtEnd new × (line ≡ [])
+ReadsLine old new (Err (Fault TooLong)) line = (b : ℕ) × Consumes old new (line ++ b ∷ []) × (b ≢ 10) × IsPart line × (length line ≡ 64)
+ReadsLine old new (Err (Fault Cut)) line = Consumes old new line × IsAtEnd new × IsPart line × (0 < length line) × (length line ≤ 64)
+ReadsLine old new (Err ReadFailed) line = Consumes old new line × IsPart line × (length line ≤ 64)
+ReadsLine old new (Err stop) line = ⊥

@@ -2,10 +2,15 @@
 use Rattle.std.specs.Prelude.{◌≡◌, ℕ, ◌||◌, Bool, true, false, List, [], ◌∷◌, ◌++◌, All, sum_by, codes, length}
 use Rattle.g1_layout.specs.declared.kind.Kind.TheVariants.{Logged}
 use Rattle.g1_core.specs.declared.reply.Fill.TheVariants.{Full, Helped}
-use Rattle.g1_core.specs.Run.{Entry, Call, Reply, Store, Refine, Target, Pending, Members, Status, Drain, Clear, Redirect, Stored, Refined, TargetIs, PendingIs, Cards, Counts, Short, Cleared, StillPending, StillReferenced, Moved}
+use Rattle.g1_core.specs.declared.entry.Entry.{Entry}
+use Rattle.g1_core.specs.declared.entry.Call.{Call}
+use Rattle.g1_core.specs.declared.entry.Reply.{Reply}
+use Rattle.g1_core.specs.declared.entry.Call.TheVariants.{Store, Refine, Target, Pending, Members, Status, Drain, Clear, Redirect}
+use Rattle.g1_core.specs.declared.entry.Reply.TheVariants as reply
+use Rattle.g1_core.specs.declared.reply.ClearReply.TheVariants as clear_reply
 use Rattle.g1_replay.specs.declared.command.Command.{Command}
 use Rattle.g1_replay.specs.declared.command.Command.TheVariants as command
-use Rattle.g1_replay.specs.Text.{stored_line, flushed_line, refined_line, worked_line, target_text, pending_text, members_text, status_line, drained_line, still_pending_line, still_referenced_line, redirected_line}
+use Rattle.g1_replay.specs.Text.{stored_line, flushed_line, refined_line, worked_line, target_text, pending_text, members_text, status_text, drained_line, clear_text, redirected_line}
 
 -- What is printed of a command and stands in none of its calls: how many cards a flush moved, the length of the line
 -- that a round saw last, and whether a help, a later call of a round or its growth was refused.
@@ -33,8 +38,8 @@ IsCallBy caller call e = (e.caller ≡ caller) × (e.call ≡ call)
 
 -- The reply of a store that filled its log.
 abbrev pub FillsLog : Reply → Type 0
-FillsLog (Stored Logged Full short) = Unit {0}
-FillsLog reply = ⊥
+FillsLog (reply.Stored Logged Full short) = Unit {0}
+FillsLog _ = ⊥
 
 -- The calls that a command makes: a store helps only where it filled its log, a flush has an entry only where it
 -- helps, and a round has one for each buffer that it takes.
@@ -56,18 +61,16 @@ IsPieceOf _ _ = ⊥
 
 -- the line of one call by its reply and refined cards, and nothing for a reply that no such call has
 abbrev pub call_line : Call → Reply → List ℕ → List ℕ
-call_line Refine (Refined taken hot skipped left short) cards = refined_line taken (length cards) hot skipped short
-call_line (Target slot) (TargetIs target) cards = target_text target
-call_line (Pending card) (PendingIs answer) cards = pending_text answer
-call_line (Members region) (Cards members) cards = members_text members
-call_line Status (Counts pending recorded) cards = status_line pending recorded
-call_line (Drain region) (Cards members) cards = drained_line members
-call_line (Drain region) Short cards = codes "drained short\n"
-call_line (Clear region) Cleared cards = codes "cleared\n"
-call_line (Clear region) (StillPending pending) cards = still_pending_line pending
-call_line (Clear region) (StillReferenced slot) cards = still_referenced_line slot
-call_line (Redirect from to) (Moved slots) cards = redirected_line slots
-call_line (Redirect from to) Short cards = codes "redirected short\n"
+call_line Refine (reply.Refined taken hot skipped left short) cards = refined_line taken (length cards) hot skipped short
+call_line (Target slot) (reply.Target target) cards = target_text target
+call_line (Pending card) (reply.Pending answer) cards = pending_text answer
+call_line (Members region) (reply.Cards members) cards = members_text members
+call_line Status (reply.Status status) cards = status_text status
+call_line (Drain region) (reply.Cards members) cards = drained_line members
+call_line (Drain region) reply.Short cards = codes "drained short\n"
+call_line (Clear region) (reply.Clear answer) cards = clear_text answer
+call_line (Redirect from to) (reply.Moved slots) cards = redirected_line slots
+call_line (Redirect from to) reply.Short cards = codes "redirected short\n"
 call_line _ _ _ = []
 
 abbrev pub one_call_line : List Entry → List ℕ
@@ -75,19 +78,19 @@ one_call_line (e ∷ []) = call_line e.call e.reply e.refined
 one_call_line _ = []
 
 abbrev pub taken_by : Reply → ℕ
-taken_by (Refined taken hot skipped left short) = taken
+taken_by (reply.Refined taken hot skipped left short) = taken
 taken_by _ = 0
 
 abbrev pub hot_in : Reply → ℕ
-hot_in (Refined taken hot skipped left short) = hot
+hot_in (reply.Refined taken hot skipped left short) = hot
 hot_in _ = 0
 
 abbrev pub skipped_in : Reply → ℕ
-skipped_in (Refined taken hot skipped left short) = skipped
+skipped_in (reply.Refined taken hot skipped left short) = skipped
 skipped_in _ = 0
 
 abbrev pub is_short : Reply → Bool
-is_short (Refined taken hot skipped left short) = short
+is_short (reply.Refined taken hot skipped left short) = short
 is_short _ = false
 
 abbrev pub is_any_short : List Entry → Bool
@@ -96,9 +99,9 @@ is_any_short (e ∷ entries) = is_short e.reply || is_any_short entries
 
 -- a store that did not help; a help was refused only where the log was filled
 abbrev pub lone_store_line : (refused : Bool) → Reply → List ℕ → List ℕ
-lone_store_line false (Stored kind fill short) cards = stored_line kind fill (length cards) short
-lone_store_line true (Stored Logged Full short) cards = stored_line Logged Helped 0 true
-lone_store_line true (Stored kind fill short) cards = stored_line kind fill (length cards) short
+lone_store_line false (reply.Stored kind fill short) cards = stored_line kind fill (length cards) short
+lone_store_line true (reply.Stored Logged Full short) cards = stored_line Logged Helped 0 true
+lone_store_line true (reply.Stored kind fill short) cards = stored_line kind fill (length cards) short
 lone_store_line _ _ _ = []
 
 abbrev pub store_line : List Entry → Shown → List ℕ

@@ -1,66 +1,76 @@
 -- What the calls that read lines take from the reader, and which part of the trace that is.
-use Rattle.std.specs.Prelude.{◌≡◌, ℕ, List, [], ◌∷◌, ◌++◌, Result, Ok, Err, Option, Some, None}
+use Rattle.std.specs.Prelude.{◌≡◌, ◌≢◌, ℕ, ◌<◌, ◌≤◌, List, [], ◌∷◌, ◌++◌, length, Bool, true, false, Result, Ok, Err, Option, Some, None, IsSome}
 use Rattle.std.specs.Io.KnownBytes.{Consumes, IsAtEnd}
 use Rattle.g1_layout.specs.Shape.{Shape}
 use Rattle.g1_replay.specs.declared.command.Command.{Command}
+use Rattle.g1_replay.specs.declared.dialect.Dialect.{Dialect}
+use Rattle.g1_replay.specs.declared.fault.TraceFault.TheVariants.{TooLong, Cut}
 use Rattle.g1_replay.specs.declared.next.Next.{Next}
-use Rattle.g1_replay.specs.declared.next.Next.TheVariants.{End as NextEnd, Blank as NextBlank, Do as NextDo}
+use Rattle.g1_replay.specs.declared.next.Next.TheVariants.{End, Blank, Do}
 use Rattle.g1_replay.specs.declared.stop.Stop.{Stop}
 use Rattle.g1_replay.specs.declared.stop.Stop.TheVariants.{Fault, ReadFailed}
 use Rattle.g1_replay.specs.Grammar.{IsCommandOf}
-use Rattle.g1_replay.specs.Trace.{read_commands, read_trace, with_commands, faulty, opened, unopened}
-
--- a front of the trace has these commands, and line n' comes behind it
-abbrev pub Passes : Shape → ℕ → ℕ → List ℕ → List Command → ℕ → Type 0
-Passes l m n front cs n' = (x : List ℕ) → read_commands l m n [] (front ++ x) ≡ with_commands cs (read_commands l m n' [] x)
-
--- the front of a trace up to its header, and the number of the line behind it
-abbrev pub Heads : ℕ → List ℕ → Shape → ℕ → Type 0
-Heads n front l n' = (m : ℕ) (x : List ℕ) → read_trace m n [] (front ++ x) ≡ opened l (read_commands l m n' [] x)
-
--- empty lines and remarks before the header
-abbrev pub Skips : ℕ → List ℕ → ℕ → Type 0
-Skips n front n' = (m : ℕ) (x : List ℕ) → read_trace m n [] (front ++ x) ≡ read_trace m n' [] x
+use Rattle.g1_replay.specs.Lines.{IsPart}
+use Rattle.g1_replay.specs.Trace.{read_on, before, faulty}
 
 -- x is what the reader has left, where that is known
 abbrev pub IsLeft : Option (List ℕ) → List ℕ → Type 0
 IsLeft None x = ⊥
 IsLeft (Some left) x = x ≡ left
 
--- the next line behind the header
-abbrev pub ReadsNext : Shape → ℕ → ℕ → ℕ → Option (List ℕ) → Option (List ℕ) → Result Next Stop → Type 0
-ReadsNext l m n n' rd rd' (Ok NextEnd) = Consumes rd rd' [] × IsAtEnd rd' × (n' ≡ n)
-ReadsNext l m n n' rd rd' (Ok NextBlank) = (front : List ℕ) × Consumes rd rd' front × Passes l m n front [] n'
-ReadsNext l m n n' rd rd' (Ok (NextDo c)) = (front : List ℕ) × Consumes rd rd' front × Passes l m n front (c ∷ []) n'
-ReadsNext l m n n' rd rd' (Err (Fault f)) = (front : List ℕ) × Consumes rd rd' front × ((x : List ℕ) → IsLeft rd' x → read_commands l m n [] (front ++ x) ≡ faulty n f) × (n' ≡ n)
-ReadsNext l m n n' rd rd' (Err ReadFailed) = (front : List ℕ) × Consumes rd rd' front × ((read_commands l m n [] front).commands ≡ []) × (n' ≡ n)
-ReadsNext l m n n' rd rd' (Err stop) = ⊥
+-- These bytes are whole lines without a fault, from line n on, and these are their commands; line n' comes behind them.
+abbrev pub Passes : Dialect → Option Shape → ℕ → List ℕ → List Command → Option Shape → ℕ → Type 0
+Passes d from n lines cs to n' = (x : List ℕ) → read_on d from n [] (lines ++ x) ≡ before cs (read_on d to n' [] x)
+
+-- What comes behind whole lines, as far as it was read: nothing, where more may come or something else stopped the replay; the end of the
+-- input; a line with a fault; or a beginning of a line, where a read failed.
+abbrev pub IsMet : Dialect → Option Shape → ℕ → List ℕ → Option (List ℕ) → Result Bool Stop → Type 0
+IsMet d heap n rest rd' (Ok false) = (rest ≡ []) × IsAtEnd rd' × IsSome heap
+IsMet d heap n rest rd' (Err (Fault f)) = (x : List ℕ) → IsLeft rd' x → read_on d heap n [] (rest ++ x) ≡ faulty heap n f
+IsMet d heap n rest rd' (Err ReadFailed) = IsPart rest × (length rest ≤ 64)
+IsMet d heap n rest rd' r = rest ≡ []
+
+-- Whole lines without a fault were read, from line n on, and then what comes at line n'.
+pub record Reads (d : Dialect) (from : Option Shape) (n n' : ℕ) (rd rd' : Option (List ℕ)) (to : Option Shape) (commands : List Command) (r : Result Bool Stop) : Type 0 where
+  pub lines : List ℕ
+  pub rest : List ℕ
+  pub consumed : Consumes rd rd' (lines ++ rest)
+  pub passed : Passes d from n lines commands to n'
+  pub met : IsMet d to n' rest rd' r
+
+-- whether more lines may come
+abbrev pub more_may_come : {V : Type 0} → Result V Stop → Result Bool Stop
+more_may_come (Ok v) = Ok true
+more_may_come (Err stop) = Err stop
+
+-- the heap of the lines before the header, and with it
+abbrev pub opened_by : Result (Option Shape) Stop → Option Shape
+opened_by (Ok heap) = heap
+opened_by (Err stop) = None
+
+-- the command of a line, if it has one
+abbrev pub commands_of : Result Next Stop → List Command
+commands_of (Ok (Do c)) = c ∷ []
+commands_of _ = []
+
+abbrev pub next_met : Result Next Stop → Result Bool Stop
+next_met (Ok End) = Ok false
+next_met r = more_may_come r
 
 -- there was a line
 abbrev pub IsLine : Next → Type 0
-IsLine NextEnd = ⊥
-IsLine NextBlank = Unit {0}
-IsLine (NextDo c) = Unit {0}
+IsLine End = ⊥
+IsLine Blank = Unit {0}
+IsLine (Do c) = Unit {0}
 
 -- a command, if there is one, is of the heap
-abbrev pub IsNextOf : Shape → ℕ → Next → Type 0
-IsNextOf l m NextEnd = Unit {0}
-IsNextOf l m NextBlank = Unit {0}
-IsNextOf l m (NextDo c) = IsCommandOf l m c
+abbrev pub IsNextOf : Shape → Dialect → Next → Type 0
+IsNextOf l d End = Unit {0}
+IsNextOf l d Blank = Unit {0}
+IsNextOf l d (Do c) = IsCommandOf l d.mutators c
 
--- a trace without a header, as far as it was read
-abbrev pub HaltsHead : ℕ → ℕ → Option (List ℕ) → Option (List ℕ) → Stop → Type 0
-HaltsHead n n' rd rd' (Fault f) = (front : List ℕ) × Consumes rd rd' front × ((m : ℕ) (x : List ℕ) → IsLeft rd' x → read_trace m n [] (front ++ x) ≡ unopened n' f)
-HaltsHead n n' rd rd' ReadFailed = (front : List ℕ) × Consumes rd rd' front × ((m : ℕ) → (read_trace m n [] front).trace.commands ≡ [])
-HaltsHead n n' rd rd' stop = ⊥
-
--- one line before the header, or the header
-abbrev pub TurnsHead : ℕ → ℕ → Option (List ℕ) → Option (List ℕ) → Result (Option Shape) Stop → Type 0
-TurnsHead n n' rd rd' (Ok None) = (front : List ℕ) × Consumes rd rd' front × Skips n front n'
-TurnsHead n n' rd rd' (Ok (Some l)) = (front : List ℕ) × Consumes rd rd' front × Heads n front l n'
-TurnsHead n n' rd rd' (Err stop) = HaltsHead n n' rd rd' stop
-
--- the lines up to the header, and with it
-abbrev pub FindsHead : ℕ → ℕ → Option (List ℕ) → Option (List ℕ) → Result Shape Stop → Type 0
-FindsHead n n' rd rd' (Ok l) = (front : List ℕ) × Consumes rd rd' front × Heads n front l n'
-FindsHead n n' rd rd' (Err stop) = HaltsHead n n' rd rd' stop
+-- what stops the reading of a line
+abbrev pub IsReadStop : Stop → Type 0
+IsReadStop (Fault f) = Unit {0}
+IsReadStop ReadFailed = Unit {0}
+IsReadStop stop = ⊥

@@ -6,6 +6,7 @@ ghost use Rattle.g1_layout.specs.Shape.{IsShape};
 ghost use Rattle.g1_replay.specs.Grammar.{read_named, read_command, redirect_of, IsCommandOf};
 
 use crate::command::Command;
+use crate::dialect::Dialect;
 use crate::fault::TraceFault;
 use crate::places::{
     nothing, one_card, one_mutator, one_region, one_slot, store_places, two_regions,
@@ -25,13 +26,13 @@ fn redirect(from: Region, to: Region) -> Result<Command, TraceFault>
 
 // The command of a first word and the words behind it.
 #[tactic(auto, unfolding(crate::specs::Grammar::read_named))]
-fn named(layout: Layout, mutators: u32, name: &[u8], words: &[u8]) -> Result<Command, TraceFault>
+fn named(layout: Layout, dialect: Dialect, name: &[u8], words: &[u8]) -> Result<Command, TraceFault>
     requires { IsShape layout }
-    ensures read { result ≡ read_named layout mutators name.now (words_from [] words.now) }
-    ensures valid { IfOk result (λ c. IsCommandOf layout mutators c) }
+    ensures read { result ≡ read_named layout dialect name.now (words_from [] words.now) }
+    ensures valid { IfOk result (λ c. IsCommandOf layout dialect.mutators c) }
 {
     if is(name, b"store") {
-        let (mutator, slot, target) = store_places(layout, mutators, words)?;
+        let (mutator, slot, target) = store_places(layout, dialect.mutators, words)?;
         return Ok(Command::Store {
             mutator,
             slot,
@@ -39,7 +40,7 @@ fn named(layout: Layout, mutators: u32, name: &[u8], words: &[u8]) -> Result<Com
         });
     }
     if is(name, b"flush") {
-        let mutator = one_mutator(mutators, words)?;
+        let mutator = one_mutator(dialect.mutators, words)?;
         return Ok(Command::Flush { mutator });
     }
     if is(name, b"refine") {
@@ -89,19 +90,19 @@ fn named(layout: Layout, mutators: u32, name: &[u8], words: &[u8]) -> Result<Com
 #[tactic(auto, unfolding(crate::specs::Grammar::read_command))]
 pub fn read_command(
     layout: Layout,
-    mutators: u32,
+    dialect: Dialect,
     line: &[u8],
 ) -> Result<Option<Command>, TraceFault>
-    ensures read { result ≡ read_command layout mutators line.now }
-    ensures valid { IfOk result (λ o. IfSome o (λ c. IsCommandOf layout mutators c)) }
+    ensures read { result ≡ read_command layout dialect line.now }
+    ensures valid { IfOk result (λ o. IfSome o (IsCommandOf layout dialect.mutators)) }
 {
     let _counts = layout.counts();
     match split_word(line) {
         None => Ok(None),
         Some((name, _)) if is_remark(name) => Ok(None),
-        Some((name, words)) => match named(layout, mutators, name, words) {
-            Ok(command) => Ok(Some(command)),
-            Err(fault) => Err(fault),
-        },
+        Some((name, words)) => {
+            let command = named(layout, dialect, name, words)?;
+            Ok(Some(command))
+        }
     }
 }

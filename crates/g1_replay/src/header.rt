@@ -42,9 +42,9 @@ pub fn read_header(line: &[u8]) -> Result<Option<Layout>, TraceFault>
     match split_word(line) {
         None => Ok(None),
         Some((name, _)) if is_remark(name) => Ok(None),
-        Some((name, words)) => match opening(name, words) {
-            Ok(layout) => Ok(Some(layout)),
-            Err(fault) => Err(fault),
-        },
+        Some((name, words)) => {
+            let layout = opening(name, words)?;
+            Ok(Some(layout))
+        }
     }
 }

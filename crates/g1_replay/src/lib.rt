@@ -4,6 +4,7 @@
 mod answer;
 mod command;
 mod command_line;
+mod dialect;
 mod end;
 mod engine;
 mod fault;
@@ -18,6 +19,7 @@ mod options;
 mod output;
 mod places;
 mod play;
+mod player;
 mod print;
 mod settings;
 mod source;

@@ -1,8 +1,10 @@
 //! One line of a trace at a time, of at most 64 bytes before its line feed.
 
-ghost use Rattle.std.specs.Prelude.{◌≡◌, ℕ, List, [], ◌∷◌, ◌++◌, ◌≤◌, ◌<◌, ◌^◌, ◌+◌, length};
+ghost use Rattle.std.specs.Prelude.{◌≡◌, ℕ, List, [], ◌∷◌, ◌++◌, ◌≤◌, ◌<◌, ◌^◌, ◌+◌, length, Ok, true};
 ghost use Rattle.g1_replay.specs.Lines.{GoesOn, ReadsPart, Reads, ReadsLine, IsPart, EndsAtFeed};
 
+use crate::fault::TraceFault;
+use crate::stop::Stop;
 use arrayvec::ArrayVec;
 use memchr::memchr;
 use std::io::{BufRead, Read};
@@ -36,21 +38,6 @@ pub enum Byte {
     /// The input has ended.
     End,
     /// The read failed.
-    Failed,
-}
-
-/// What the next line is.
-#[derive(Clone, Copy, Debug, PartialEq, Eq)]
-pub enum NextLine {
-    /// A line, with its line feed.
-    Whole,
-    /// A line of more than 64 bytes, of which 65 were read.
-    TooLong,
-    /// The bytes before the end of the input, with no line feed behind them.
-    Cut,
-    /// None: the input has ended.
-    End,
-    /// A read failed, or all reads were made.
     Failed,
 }
 
@@ -110,6 +97,7 @@ fn read_byte<R: Read>(input: &mut R) -> Byte
 }
 
 /// Reads the next line into `line`, which is empty, and counts the reads in `reads` (docs/TRACES.md, Lines and words).
+/// Answers whether there is one: at the end of the input there is none.
 ///
 /// What the reader shows is taken at once. Where it shows nothing, one read of one byte tells whether the input has
 /// ended. Nothing behind the line feed is taken, and no read follows a failed one. Takes no memory.
@@ -117,33 +105,35 @@ pub fn next_line<R: BufRead>(
     reads: &mut u64,
     input: &mut R,
     line: &mut ArrayVec<u8, 64>,
-) -> NextLine
+) -> Result<bool, Stop>
     requires { line.old.items ≡ [] }
     ensures line { ReadsLine (R.remaining input.old) (R.remaining input.new) result line.new.items }
     ensures reads { reads.old ≤ reads.new }
-    ensures more { result ≡ NextLine.Whole → reads.old < reads.new }
-    ensures limit { result ≡ NextLine.Whole → reads.new ≤ 2 ^ 40 }
+    ensures more { result ≡ Ok true → reads.old < reads.new }
+    ensures limit { result ≡ Ok true → reads.new ≤ 2 ^ 40 }
 {
     while *reads < READ_LIMIT {
         *reads += 1;
         match take_part(input, line) {
-            Part::Whole => return NextLine::Whole,
-            Part::TooLong => return NextLine::TooLong,
-            Part::Failed => return NextLine::Failed,
+            Part::Whole => return Ok(true),
+            Part::TooLong => return Err(Stop::Fault(TraceFault::TooLong)),
+            Part::Failed => return Err(Stop::ReadFailed),
             Part::More => {}
-            Part::Nothing if *reads >= READ_LIMIT => return NextLine::Failed,
+            Part::Nothing if *reads >= READ_LIMIT => return Err(Stop::ReadFailed),
             Part::Nothing => {
                 *reads += 1;
                 match read_byte(input) {
-                    Byte::Failed => return NextLine::Failed,
-                    Byte::End if line.is_empty() => return NextLine::End,
-                    Byte::End => return NextLine::Cut,
-                    Byte::Some(b'\n') => return NextLine::Whole,
-                    Byte::Some(_) if line.len() >= LINE_LIMIT => return NextLine::TooLong,
+                    Byte::Failed => return Err(Stop::ReadFailed),
+                    Byte::End if line.is_empty() => return Ok(false),
+                    Byte::End => return Err(Stop::Fault(TraceFault::Cut)),
+                    Byte::Some(b'\n') => return Ok(true),
+                    Byte::Some(_) if line.len() >= LINE_LIMIT => {
+                        return Err(Stop::Fault(TraceFault::TooLong));
+                    }
                     Byte::Some(byte) => line.push(byte),
                 }
             }
         }
     }
-    NextLine::Failed
+    Err(Stop::ReadFailed)
 }

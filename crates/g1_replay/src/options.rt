@@ -37,7 +37,13 @@ impl Options {
     pub fn config(&self) -> Config
         ensures { result ≡ settings_of self.now }
     {
-        match Config::new(self.log, self.limit, self.hot, self.ring, self.start) {
+        match Config::new(
+            self.log as usize,
+            self.limit as usize,
+            self.hot,
+            self.ring as usize,
+            self.start as usize,
+        ) {
             Some(config) => config,
             None => unreachable!(),
         }

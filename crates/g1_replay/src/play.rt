@@ -3,38 +3,44 @@ ghost use Rattle.std.specs.Prelude.{◌≡◌, ◌≢◌, ◌<◌, ◌≤◌, If
 ghost use Rattle.g1_layout.specs.Shape.{slot_count, card_count};
 ghost use Rattle.g1_book.specs.History.{layout_in};
 ghost use Rattle.g1_replay.specs.Grammar.{IsCommandOf};
-ghost use Rattle.g1_replay.specs.Playing.{IsAnswered, Plays};
+ghost use Rattle.g1_replay.specs.Laws.{played_none, played_then};
+ghost use Rattle.g1_replay.specs.Playing.{IsAnswered, IsFull, HasPlayed};
 
 use crate::answer::{Answer, put_answer};
 use crate::command::Command;
-use crate::machinery::Machinery;
+use crate::dialect::Dialect;
+use crate::machinery::{Ends, Machinery};
+use crate::player::Player;
 use crate::stop::Stop;
-use g1_book::{Book, CallerEnds, Refusal};
-use g1_layout::{Card, Region, Slot};
+use g1_book::{Book, LentBook, Refusal, refine as refine_next, work as work_round};
+use g1_layout::{Card, Layout, Region, Slot};
 use std::io::Write;
 use std::sync::Wait;
 
-/// Makes the calls of a command and writes its output line.
-pub(crate) fn play<T: Wait, W: Write>(
-    rt: &T,
-    machinery: &mut Machinery<'_>,
-    command: Command,
-    output: &mut W,
-) -> Result<(), Stop>
-    requires command { IsCommandOf (layout_in machinery.old.book) machinery.old.book.mutators command }
-    requires callers { (vec_len machinery.old.callers ≡ machinery.old.book.mutators) × (1 ≤ machinery.old.book.mutators) }
-    ensures answered { Plays machinery.old.book machinery.new.book (W.contents output.old) (W.contents output.new) command result }
-    ensures callers { vec_len machinery.new.callers ≡ vec_len machinery.old.callers }
-{
-    let answer = match answer(rt, machinery, command) {
-        Ok(answer) => answer,
-        Err(Refusal::NoMemory) => return Err(Stop::NoMemory),
-        Err(Refusal::BookFull) => return Err(Stop::BookFull),
-    };
-    match put_answer(output, &answer) {
-        Ok(()) => Ok(()),
-        Err(_) => Err(Stop::WriteFailed),
+impl Player for Machinery<'_> {
+    ghost takes = { λ s l d. (layout_in s.book ≡ l) × (s.book.mutators ≡ d.mutators) × (vec_len s.callers ≡ d.mutators) × (1 ≤ d.mutators) };
+
+    ghost did = { λ s cs text t. HasPlayed s.book cs text t.book };
+
+    ghost full = { λ s. IsFull s.book };
+
+    /// Makes the calls of a command and writes its output line.
+    fn play<T: Wait, W: Write>(
+        &mut self,
+        rt: &T,
+        _layout: Layout,
+        _dialect: Dialect,
+        command: Command,
+        output: &mut W,
+    ) -> Result<(), Stop> {
+        let answer = answer(rt, self, command)?;
+        put_answer(output, &answer)?;
+        Ok(())
     }
+
+    ghost none = { λ s. played_none s.book };
+
+    ghost then = { λ s t u cs ds xs ys. played_then s.book t.book u.book cs ds xs ys };
 }
 
 // Stores and flushes are calls of their mutator, all others of the first caller.
@@ -82,7 +88,11 @@ fn store<T: Wait>(
     ensures callers { vec_len machinery.new.callers ≡ vec_len machinery.old.callers }
 {
     let caller = &mut machinery.callers[mutator as usize];
-    match caller.store(rt, &mut machinery.book, mutator, slot, target) {
+    let mut calls = LentBook::new(&mut machinery.book, mutator);
+    match caller
+        .mutator
+        .store(rt, caller.line, &mut calls, slot, target)
+    {
         Ok(reply) => Ok(Answer::Stored(reply)),
         Err(refusal) => Err(refusal),
     }
@@ -95,7 +105,9 @@ fn flush<T: Wait>(rt: &T, machinery: &mut Machinery<'_>, mutator: u32) -> Result
     ensures callers { vec_len machinery.new.callers ≡ vec_len machinery.old.callers }
 {
     let caller = &mut machinery.callers[mutator as usize];
-    Ok(Answer::Flushed(caller.flush(rt, &mut machinery.book, mutator)))
+    let mut calls = LentBook::new(&mut machinery.book, mutator);
+    let reply = caller.mutator.flush(rt, caller.line, &mut calls);
+    Ok(Answer::Flushed(reply))
 }
 
 fn refine<T: Wait>(rt: &T, machinery: &mut Machinery<'_>) -> Result<Answer, Refusal>
@@ -103,7 +115,9 @@ fn refine<T: Wait>(rt: &T, machinery: &mut Machinery<'_>) -> Result<Answer, Refu
     ensures answered { IsAnswered machinery.old.book machinery.new.book Command.Refine result }
     ensures callers { vec_len machinery.new.callers ≡ vec_len machinery.old.callers }
 {
-    match machinery.callers[0].refine(rt, &mut machinery.book, 0) {
+    let caller = &mut machinery.callers[0];
+    let mut calls = LentBook::new(&mut machinery.book, 0);
+    match refine_next(rt, caller.line, &mut caller.taker, &mut calls) {
         Ok(reply) => Ok(Answer::Refined(reply)),
         Err(refusal) => Err(refusal),
     }
@@ -114,7 +128,10 @@ fn work<T: Wait>(rt: &T, machinery: &mut Machinery<'_>) -> Result<Answer, Refusa
     ensures answered { IsAnswered machinery.old.book machinery.new.book Command.Work result }
     ensures callers { vec_len machinery.new.callers ≡ vec_len machinery.old.callers }
 {
-    match machinery.callers[0].work(rt, &mut machinery.book, 0) {
+    let start = machinery.book.config().start();
+    let caller = &mut machinery.callers[0];
+    let mut calls = LentBook::new(&mut machinery.book, 0);
+    match work_round(rt, caller.line, &mut caller.taker, &mut calls, start) {
         Ok(reply) => Ok(Answer::Worked(reply)),
         Err(refusal) => Err(refusal),
     }
@@ -166,7 +183,7 @@ fn drain<T: Wait>(rt: &T, machinery: &mut Machinery<'_>, region: Region) -> Resu
     ensures answered { IsAnswered machinery.old.book machinery.new.book (Command.Drain region) result }
     ensures callers { vec_len machinery.new.callers ≡ vec_len machinery.old.callers }
 {
-    CallerEnds::pause(rt, machinery.callers.as_mut_slice());
+    Ends::stand_still(rt, machinery.callers.as_mut_slice());
     match machinery.book.drain(0, region) {
         Ok(drained) => Ok(Answer::Drained(drained)),
         Err(refusal) => Err(refusal),
@@ -197,7 +214,7 @@ fn redirect<T: Wait>(
     ensures answered { IsAnswered machinery.old.book machinery.new.book (Command.Redirect from to) result }
     ensures callers { vec_len machinery.new.callers ≡ vec_len machinery.old.callers }
 {
-    CallerEnds::pause(rt, machinery.callers.as_mut_slice());
+    Ends::stand_still(rt, machinery.callers.as_mut_slice());
     match machinery.book.redirect(0, from, to) {
         Ok(redirected) => Ok(Answer::Redirected(redirected)),
         Err(refusal) => Err(refusal),

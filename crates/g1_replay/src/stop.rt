@@ -1,5 +1,10 @@
 //! Why a replay goes no further.
+ghost use Rattle.std.specs.Prelude.{◌≡◌};
+
 use crate::fault::TraceFault;
+use crate::output::WriteFailed;
+use g1_book::Refusal;
+use g1_layout::NoMemory;
 
 /// Why a replay goes no further (docs/TRACES.md, Faults, Ends).
 #[derive(Clone, Copy, Debug, PartialEq, Eq)]
@@ -14,4 +19,47 @@ pub enum Stop {
     ReadFailed,
     /// A write failed.
     WriteFailed,
+}
+
+impl From<TraceFault> for Stop {
+    ghost use Rattle.g1_replay.specs.declared.stop.Stop.TheVariants.{Fault};
+
+    ghost from_gives = { λ fault stop. stop ≡ Fault fault };
+
+    fn from(fault: TraceFault) -> Stop {
+        Stop::Fault(fault)
+    }
+}
+
+impl From<NoMemory> for Stop {
+    ghost use Rattle.g1_replay.specs.declared.stop.Stop.TheVariants.{NoMemory as NoMemoryStop};
+
+    ghost from_gives = { λ _ stop. stop ≡ NoMemoryStop };
+
+    fn from(_refused: NoMemory) -> Stop {
+        Stop::NoMemory
+    }
+}
+
+impl From<Refusal> for Stop {
+    ghost use Rattle.g1_replay.specs.Stops.{stop_of};
+
+    ghost from_gives = { λ refusal stop. stop ≡ stop_of refusal };
+
+    fn from(refusal: Refusal) -> Stop {
+        match refusal {
+            Refusal::NoMemory => Stop::NoMemory,
+            Refusal::BookFull => Stop::BookFull,
+        }
+    }
+}
+
+impl From<WriteFailed> for Stop {
+    ghost use Rattle.g1_replay.specs.declared.stop.Stop.TheVariants.{WriteFailed as WriteFailedStop};
+
+    ghost from_gives = { λ _ stop. stop ≡ WriteFailedStop };
+
+    fn from(_failed: WriteFailed) -> Stop {
+        Stop::WriteFailed
+    }
 }

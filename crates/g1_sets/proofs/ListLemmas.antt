@@ -73,32 +73,28 @@ joins_none card lists = record {
   others = λ r _. refl;
 }
 
--- one region more
-module _ (card : ℕ) (regions : List ℕ) (old now : List (List ℕ)) (region : ℕ) (so_far : Joins card regions old now) (within : region < length now) where
-  next : List (List ℕ)
-  next = slice_set now region (with_card (list_at now region) card)
-
-  here : with_card (list_at now region) card ≡ with_card (list_at old region) card
-  here = elim (has_cases regions region) [
-    | inl before ↦ ap (λ cs. with_card cs card) (so_far.joined region before) ∙ with_card-again (list_at old region) card
-    | inr never ↦ ap (λ cs. with_card cs card) (so_far.others region never)
-  ]
-
-  pub joins_more : Joins card (regions ++ region ∷ []) old (slice_set now region (with_card (list_at now region) card))
-  joins_more = record {
-    count = length-set now region (with_card (list_at now region) card) ∙ so_far.count;
-    joined = λ r h. elim (cases_eq r region) [
-      | inl is ↦ list_at-set_same now region _ r within is ∙ here ∙ ap (λ q. with_card (list_at old q) card) (sym is)
-      | inr ne ↦ elim (Contains-push_cases regions region r h) [
-        | inl before ↦ list_at-set_other now region _ r ne ∙ so_far.joined r before
-        | inr is ↦ absurd (ne (sym is))
-      ]
-    ];
-    others = λ r never. elim (cases_eq r region) [
-      | inl is ↦ absurd (never (subst (Contains (regions ++ region ∷ [])) (sym is) (Contains-push regions region)))
-      | inr ne ↦ list_at-set_other now region _ r ne ∙ so_far.others r (λ h. never (Contains-append_left regions (region ∷ []) r h))
-    ];
-  }
+-- one region more, whose list gains the card
+pub joins_more : (card : ℕ) (regions : List ℕ) (old now new : List (List ℕ)) (region : ℕ) → Joins card regions old now → length new ≡ length now → list_at new region ≡ with_card (list_at now region) card
+    → ((r : ℕ) → (r ≡ region → ⊥) → list_at new r ≡ list_at now r) → Joins card (regions ++ region ∷ []) old new
+joins_more card regions old now new region so_far long at apart =
+    let here : with_card (list_at now region) card ≡ with_card (list_at old region) card = elim (has_cases regions region) [
+      | inl before ↦ ap (λ cs. with_card cs card) (so_far.joined region before) ∙ with_card-again (list_at old region) card
+      | inr never ↦ ap (λ cs. with_card cs card) (so_far.others region never)
+    ] in
+    record {
+      count = long ∙ so_far.count;
+      joined = λ r h. elim (cases_eq r region) [
+        | inl is ↦ ap (list_at new) is ∙ at ∙ here ∙ ap (λ q. with_card (list_at old q) card) (sym is)
+        | inr ne ↦ elim (Contains-push_cases regions region r h) [
+          | inl before ↦ apart r ne ∙ so_far.joined r before
+          | inr is ↦ absurd (ne (sym is))
+        ]
+      ];
+      others = λ r never. elim (cases_eq r region) [
+        | inl is ↦ absurd (never (subst (Contains (regions ++ region ∷ [])) (sym is) (Contains-push regions region)))
+        | inr ne ↦ apart r ne ∙ so_far.others r (λ h. never (Contains-append_left regions (region ∷ []) r h))
+      ];
+    }
 
 -- what the lists contain afterwards
 module _ (card : ℕ) (regions : List ℕ) (old new : List (List ℕ)) (joins : Joins card regions old new) where
@@ -186,7 +182,7 @@ All-with_cards P cards more all also = All_by_member P (with_cards cards more) (
 ])
 
 -- no list has a card
-none_listed : (n k : ℕ) → list_at (replicate n []) k ≡ []
+pub none_listed : (n k : ℕ) → list_at (replicate n []) k ≡ []
 none_listed zero k = refl
 none_listed (suc n) zero = refl
 none_listed (suc n) (suc k) = none_listed n k

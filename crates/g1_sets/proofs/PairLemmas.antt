@@ -77,7 +77,7 @@ from_pairs first (cards ∷ lists) p h = elim (Contains-append_cases (map (λ (c
   | inr rest ↦ let r : (k : ℕ) × (p.1 ≡ first + 1 + k) × Contains (list_at lists k) p.0 = from_pairs (first + 1) lists p rest in (suc r.0, omega (arith, r.1), r.2)
 ]
 
-in_none : {X : Type 0} (k : ℕ) (card : ℕ) → Contains (list_at [] k) card → X
+pub in_none : {X : Type 0} (k : ℕ) (card : ℕ) → Contains (list_at [] k) card → X
 in_none k card (j, lt, e) = absurd (omega (arith, lt))
 
 to_all : (first : ℕ) (lists : List (List ℕ)) (k card region : ℕ) → region ≡ first + k → Contains (list_at lists k) card → Contains {X = ℕ × ℕ} (pairs_from first lists) (card, region)
@@ -110,7 +110,7 @@ joined_pairs card regions old new joins = same_pairs _ _
 
 -- some cards joined one region
 module _ (lists : List (List ℕ)) (region : ℕ) (cards : List ℕ) (within : region < length lists) where
-  many_cases : (p : ℕ × ℕ) → Contains (list_at (slice_set lists region (with_cards (list_at lists region) cards)) p.1) p.0 → Contains (list_at lists p.1) p.0 ⊎ (Contains cards p.0 × (p.1 ≡ region))
+  pub many_cases : (p : ℕ × ℕ) → Contains (list_at (slice_set lists region (with_cards (list_at lists region) cards)) p.1) p.0 → Contains (list_at lists p.1) p.0 ⊎ (Contains cards p.0 × (p.1 ≡ region))
   many_cases p h = elim (cases_eq p.1 region) [
     | inl is ↦ elim (Contains-with_cards_cases (list_at lists region) cards p.0 (subst (λ cs. Contains cs p.0) (list_at-set_same lists region _ p.1 within is) h)) [
       | inl before ↦ inl (subst (λ r. Contains (list_at lists r) p.0) (sym is) before)
@@ -119,13 +119,13 @@ module _ (lists : List (List ℕ)) (region : ℕ) (cards : List ℕ) (within : r
     | inr ne ↦ inl (subst (λ cs. Contains cs p.0) (list_at-set_other lists region _ p.1 ne) h)
   ]
 
-  many_old : (p : ℕ × ℕ) → Contains (list_at lists p.1) p.0 → Contains (list_at (slice_set lists region (with_cards (list_at lists region) cards)) p.1) p.0
+  pub many_old : (p : ℕ × ℕ) → Contains (list_at lists p.1) p.0 → Contains (list_at (slice_set lists region (with_cards (list_at lists region) cards)) p.1) p.0
   many_old p h = elim (cases_eq p.1 region) [
     | inl is ↦ subst (λ cs. Contains cs p.0) (sym (list_at-set_same lists region _ p.1 within is)) (Contains-with_cards_old (list_at lists region) cards p.0 (subst (λ r. Contains (list_at lists r) p.0) is h))
     | inr ne ↦ subst (λ cs. Contains cs p.0) (sym (list_at-set_other lists region _ p.1 ne)) h
   ]
 
-  many_new : (p : ℕ × ℕ) → Contains cards p.0 → p.1 ≡ region → Contains (list_at (slice_set lists region (with_cards (list_at lists region) cards)) p.1) p.0
+  pub many_new : (p : ℕ × ℕ) → Contains cards p.0 → p.1 ≡ region → Contains (list_at (slice_set lists region (with_cards (list_at lists region) cards)) p.1) p.0
   many_new p h is = subst (λ cs. Contains cs p.0) (sym (list_at-set_same lists region _ p.1 within is)) (Contains-with_cards (list_at lists region) cards p.0 h)
 
   pub many_pairs : pairs_of (slice_set lists region (with_cards (list_at lists region) cards)) ≡ set.union (pairs_of lists) (of_region cards region)

@@ -1,44 +1,36 @@
 -- Room for a card in the sets of some regions.
-use Rattle.std.proofs.Common.{◌≡◌, inl, inr, ℕ, ◌<◌, ◌≤◌, List, [], ◌∷◌, ◌++◌, length, get_or, sym, ap, ◌∙◌, subst, arith}
-use Rattle.std.specs.Prelude.{Contains, All, slice_set, slice_index}
+use Rattle.std.proofs.Common.{◌≡◌, ◌⊎◌, inl, inr, ℕ, ◌<◌, ◌≤◌, ◌+◌, List, length, get_or, take, sym, ap, ◌∙◌, subst, arith}
+use Rattle.std.specs.Prelude.{slice_set, slice_index}
 use Rattle.std.proofs.lemmas.Bool.{cases_eq}
 use Rattle.std.proofs.lemmas.List.{get_or-set_same, get_or-set_other}
-use Rattle.std.proofs.lemmas.List.Elements.{All-push}
-use Rattle.g1_sets.specs.Pairs.{list_at, with_card}
-use Rattle.g1_sets.specs.Members.{HasRoom, HaveRoom}
-use Rattle.g1_sets.proofs.ListLemmas.{to_list, Contains-with_card, list_at-set_same, list_at-set_other}
+use Rattle.std.proofs.lemmas.List.Elements.{All-more}
+use Rattle.g1_layout.specs.declared.region_set.RegionSet.{RegionSet}
+use Rattle.g1_layout.specs.Regions.{HasRegion, Gains}
+use Rattle.g1_sets.specs.Members.{HaveRoom}
 
-All_by : {X : Type 0} (P Q : X → Type 0) (xs : List X) → ((x : X) → P x → Q x) → All P xs → All Q xs
-All_by P Q xs each all k d lt = each (get_or xs k d) (all k d lt)
+-- one region more that is in the row, or has room
+pub room_more : (row : RegionSet) (rooms regions : List ℕ) (i region : ℕ) → i < length regions → region ≡ get_or regions i region → HasRegion row region ⊎ 0 < slice_index rooms region → HaveRoom row rooms (take i regions)
+    → HaveRoom row rooms (take (i + 1) regions)
+room_more row rooms regions i region lt is here before =
+    All-more (λ r. HasRegion row r ⊎ 0 < slice_index rooms r) regions i region lt before (subst (λ r. HasRegion row r ⊎ 0 < slice_index rooms r) is here)
 
-more : (card : ℕ) (cards : List ℕ) (m n : ℕ) → m ≤ n → HasRoom card cards m → HasRoom card cards n
-more card cards m n le (inl there) = inl there
-more card cards m n le (inr room) = inr (omega (arith, le, room))
+module _ (rooms regions : List ℕ) (n room : ℕ) where
+  -- the room of a region grows
+  pub room_grown : (row : RegionSet) → n < length rooms → slice_index rooms n ≤ room → HaveRoom row rooms regions → HaveRoom row (slice_set rooms n room) regions
+  room_grown row within grows before k d lt = elim (before k d lt) [
+    | inl there ↦ inl there
+    | inr some ↦ elim (cases_eq (get_or regions k d) n) [
+      | inl is ↦ inr (omega (arith, ap (slice_index (slice_set rooms n room)) is ∙ get_or-set_same rooms n room 0 within, ap (slice_index rooms) is))
+      | inr ne ↦ inr (omega (arith, get_or-set_other rooms n (get_or regions k d) room 0 ne))
+    ]
+  ]
 
--- the room of one region grows, and then suffices for the card there too
-module _ (card : ℕ) (regions : List ℕ) (lists : List (List ℕ)) (rooms : List ℕ) (region room : ℕ) where
-  pub room_made : region < length rooms → slice_index rooms region ≤ room → HasRoom card (list_at lists region) room → HaveRoom card regions lists rooms
-      → HaveRoom card (regions ++ region ∷ []) lists (slice_set rooms region room)
-  room_made within grows here before =
-      let same : slice_index (slice_set rooms region room) region ≡ room = get_or-set_same rooms region room 0 within in
-      All-push (λ r. HasRoom card (list_at lists r) (slice_index (slice_set rooms region room) r)) regions region
-      (All_by (λ r. HasRoom card (list_at lists r) (slice_index rooms r)) (λ r. HasRoom card (list_at lists r) (slice_index (slice_set rooms region room) r)) regions (λ r has. elim (cases_eq r region) [
-        | inl is ↦
-            let at : slice_index (slice_set rooms region room) r ≡ room = ap (λ q. slice_index (slice_set rooms region room) q) is ∙ same in
-            let was : slice_index rooms r ≡ slice_index rooms region = ap (λ q. slice_index rooms q) is in
-            more card (list_at lists r) (slice_index rooms r) (slice_index (slice_set rooms region room) r) (omega (arith, at, was, grows)) has
-        | inr ne ↦ subst (λ n. HasRoom card (list_at lists r) n) (sym (get_or-set_other rooms region r room 0 ne)) has
-      ]) before)
-      (subst (λ n. HasRoom card (list_at lists region) n) (sym same) here)
-
-  -- a card that was inserted needs no room
-  pub room_kept : region < length lists → HaveRoom card regions lists rooms → HaveRoom card regions (slice_set lists region (with_card (list_at lists region) card)) (slice_set rooms region room)
-  room_kept within before =
-      All_by (λ r. HasRoom card (list_at lists r) (slice_index rooms r)) (λ r. HasRoom card (list_at (slice_set lists region (with_card (list_at lists region) card)) r) (slice_index (slice_set rooms region room) r)) regions (λ r has. elim (cases_eq r region) [
-        | inl is ↦ inl (to_list (list_at (slice_set lists region (with_card (list_at lists region) card)) r) card
-            (subst (λ cs. Contains cs card) (sym (list_at-set_same lists region (with_card (list_at lists region) card) r within is)) (Contains-with_card (list_at lists region) card)))
-        | inr ne ↦
-            let list : list_at (slice_set lists region (with_card (list_at lists region) card)) r ≡ list_at lists r = list_at-set_other lists region (with_card (list_at lists region) card) r ne in
-            let number : slice_index (slice_set rooms region room) r ≡ slice_index rooms r = get_or-set_other rooms region r room 0 ne in
-            subst (λ n. HasRoom card (list_at (slice_set lists region (with_card (list_at lists region) card)) r) n) (sym number) (subst (λ cs. HasRoom card cs (slice_index rooms r)) (sym list) has)
-      ]) before
+  -- a region of the row needs none
+  pub room_kept : (old new : RegionSet) → Gains old n new → HaveRoom old rooms regions → HaveRoom new (slice_set rooms n room) regions
+  room_kept old new gains before k d lt = elim (cases_eq (get_or regions k d) n) [
+    | inl is ↦ inl ((gains (get_or regions k d)).1 (inr is))
+    | inr ne ↦ elim (before k d lt) [
+      | inl there ↦ inl ((gains (get_or regions k d)).1 (inl there))
+      | inr some ↦ inr (omega (arith, get_or-set_other rooms n (get_or regions k d) room 0 ne))
+    ]
+  ]

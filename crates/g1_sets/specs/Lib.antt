@@ -1,4 +1,5 @@
 pub mod Ascending
-pub mod Pairs
 pub mod Hasher
 pub mod Members
+pub mod Pairs
+pub mod Rows

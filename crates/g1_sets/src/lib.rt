@@ -10,6 +10,7 @@
 mod ascending;
 mod hasher;
 mod members;
+mod rows;
 mod sets;
 #[cfg(test)]
 mod tests;

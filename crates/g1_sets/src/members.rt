@@ -1,46 +1,37 @@
 //! The set of one region, and the sets of all.
-ghost use Rattle.std.specs.Prelude.{◌≡◌, ◌<◌, ◌≤◌, ◌+◌, ◌^◌, length, slice_index, slice_set, sum_by, All, IsTrue, OnOk};
+ghost use Rattle.std.specs.Prelude.{◌≡◌, ◌<◌, ◌≤◌, ◌+◌, ◌^◌, length, slice_index, slice_set, sum_by, All, OnOk};
 ghost use Rattle.indexmap.specs.IndexSet.{spare};
-ghost use Rattle.g1_sets.specs.Members.{lists_of, rooms_of, HasRoom, HaveRoom};
+ghost use Rattle.g1_sets.specs.Members.{lists_of, rooms_of, HaveRoom};
 ghost use Rattle.g1_sets.specs.Pairs.{list_at, with_card, with_cards, Joins};
+ghost use Rattle.g1_sets.specs.Rows.{IsRowOf};
 
 use crate::hasher::CardHasher;
-use g1_layout::{Card, NoMemory, Region};
+use g1_layout::{Card, NoMemory, Region, RegionSet};
 use indexmap::IndexSet;
 use std::hash::BuildHasherDefault;
 
 // The cards of one region. Their numbers are the heap's own, so nobody chooses them to collide.
 pub(crate) type Members = IndexSet<Card, BuildHasherDefault<CardHasher>>;
 
-// Makes room for the card where it is not there. A set with room is not searched.
-fn make_room(members: &mut Members, card: Card) -> Result<(), NoMemory>
+// Makes room for one card more, where there is none.
+fn make_room(members: &mut Members) -> Result<(), NoMemory>
     ensures cards { members.new.keys ≡ members.old.keys }
-    ensures room { OnOk result (HasRoom card members.new.keys (spare members.new)) }
+    ensures room { OnOk result (0 < spare members.new) }
     ensures kept { spare members.old ≤ spare members.new }
 {
-    if members.len() == members.capacity() && !members.contains(&card) {
+    if members.len() == members.capacity() {
         members.reserve(1)?;
     }
     Ok(())
 }
 
 // Inserts the card into a set with room.
-fn insert_reserved(members: &mut Members, card: Card)
+fn insert(members: &mut Members, card: Card)
     requires { 0 < spare members.old }
     ensures cards { members.new.keys ≡ with_card members.old.keys card }
     ensures room { spare members.old ≤ spare members.new + 1 }
 {
     members.insert(card).unwrap();
-}
-
-// Inserts the card. A set with no room has it already.
-fn insert(members: &mut Members, card: Card)
-    requires { HasRoom card members.old.keys (spare members.old) }
-    ensures cards { members.new.keys ≡ with_card members.old.keys card }
-{
-    if members.len() < members.capacity() {
-        insert_reserved(members, card);
-    }
 }
 
 // Inserts the cards into a set with room for all of them.
@@ -49,47 +40,43 @@ fn insert_cards(members: &mut Members, cards: &[Card])
     ensures { members.new.keys ≡ with_cards members.old.keys cards.now }
 {
     for card in cards {
-        insert_reserved(members, *card);
+        insert(members, *card);
     }
 }
 
-// Whether the card is in the sets of all the regions. The first set that lacks it ends the search.
-pub(crate) fn have_all(sets: &[Members], card: Card, regions: &[Region]) -> bool
-    requires { All (λ region. region < length sets.now) regions.now }
-    ensures { IsTrue result → Joins card regions.now (lists_of sets.now) (lists_of sets.now) }
-{
-    for region in regions {
-        if !sets[region.number() as usize].contains(&card) {
-            return false;
-        }
-    }
-    true
-}
-
-// Makes room for the card in each of the regions that lacks it.
+// Makes room for one card more in each of the regions that are not in the card's row.
 pub(crate) fn make_rooms(
     sets: &mut [Members],
-    card: Card,
+    row: &RegionSet,
     regions: &[Region],
 ) -> Result<(), NoMemory>
-    requires { All (λ region. region < length sets.old) regions.now }
+    requires limit { length sets.old ≤ 256 }
+    requires within { All (λ region. region < length sets.old) regions.now }
     ensures cards { lists_of sets.new ≡ lists_of sets.old }
-    ensures room { OnOk result (HaveRoom card regions.now (lists_of sets.new) (rooms_of sets.new)) }
+    ensures room { OnOk result (HaveRoom row.now (rooms_of sets.new) regions.now) }
 {
     for region in regions {
-        make_room(&mut sets[region.number() as usize], card)?;
+        if !row.contains(*region) {
+            make_room(&mut sets[region.number() as usize])?;
+        }
     }
     Ok(())
 }
 
-// Inserts the card into the sets of the regions.
-pub(crate) fn insert_into(sets: &mut [Members], card: Card, regions: &[Region])
+// Inserts the card into the sets of the regions, and the regions into its row.
+pub(crate) fn insert_into(sets: &mut [Members], row: &mut RegionSet, card: Card, regions: &[Region])
+    requires limit { length sets.old ≤ 256 }
     requires within { All (λ region. region < length sets.old) regions.now }
-    requires room { HaveRoom card regions.now (lists_of sets.old) (rooms_of sets.old) }
-    ensures { Joins card regions.now (lists_of sets.old) (lists_of sets.new) }
+    requires row { IsRowOf (lists_of sets.old) card row.old }
+    requires room { HaveRoom row.old (rooms_of sets.old) regions.now }
+    ensures joins { Joins card regions.now (lists_of sets.old) (lists_of sets.new) }
+    ensures row { IsRowOf (lists_of sets.new) card row.new }
 {
     for region in regions {
-        insert(&mut sets[region.number() as usize], card);
+        if !row.contains(*region) {
+            insert(&mut sets[region.number() as usize], card);
+            row.insert(*region);
+        }
     }
 }
 

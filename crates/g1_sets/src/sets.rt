@@ -1,15 +1,15 @@
 //! The sets of all regions, and what is recorded in them.
-ghost use Rattle.std.specs.Prelude.{◌≡◌, ◌<◌, length, replicate, [], Some, slice_get, slice_set, All, IfOk, OnOk, OnErr};
+ghost use Rattle.std.specs.Prelude.{◌≡◌, ◌↔◌, ◌<◌, ℕ, length, replicate, [], Some, slice_get, slice_set, All, IsTrue, IfOk, OnOk, OnErr};
 ghost use Rattle.std.specs.FinSet as set;
 ghost use Rattle.g1_layout.specs.Shape.{card_count};
+ghost use Rattle.g1_layout.specs.Regions.{HasRegion};
 ghost use Rattle.g1_sets.specs.Members.{lists_of};
 ghost use Rattle.g1_sets.specs.Pairs.{list_at, of_card, of_region, with_cards, without, new_pairs, AreCardsOf, AreTied, Joins};
 
 use crate::ascending::ascending;
-use crate::members::{
-    Members, have_all, insert_into, insert_many, make_room_for, make_rooms, total,
-};
-use g1_layout::{Card, Layout, NoMemory, Region};
+use crate::members::{Members, insert_into, insert_many, make_room_for, make_rooms, total};
+use crate::rows::{add_region, remove_region};
+use g1_layout::{Card, Layout, NoMemory, Region, RegionSet};
 use indexmap::IndexSet;
 use std::alloc::Global;
 use std::hash::BuildHasherDefault;
@@ -24,11 +24,14 @@ pub struct Sets {
     alloc: Global,
     layout: Layout,
     sets: Vec<Members>,
+    // By card: the regions whose sets have it. They spare a look-up where a pair is recorded already.
+    rows: Vec<RegionSet>,
 }
 
 impl Model for Sets {
     ghost use Rattle.g1_sets.specs.Members.{lists_of};
-    ghost use Rattle.g1_sets.specs.Pairs.{Pairs, pairs_code, pairs_of, AreLists};
+    ghost use Rattle.g1_sets.specs.Pairs.{Pairs, pairs_code, pairs_of};
+    ghost use Rattle.g1_sets.specs.Rows.{AreSets};
 
     ghost Value = { Pairs };
 
@@ -36,7 +39,7 @@ impl Model for Sets {
 
     ghost view = { λ a. record { layout = a.layout; pairs = pairs_of (lists_of a.sets.items); lists = lists_of a.sets.items } };
 
-    ghost invariant = { λ a. AreLists a.layout (lists_of a.sets.items) };
+    ghost invariant = { λ a. AreSets a.layout (lists_of a.sets.items) a.rows.items };
 }
 
 // A set of no card for each region.
@@ -53,27 +56,35 @@ fn empty_sets(alloc: Global, regions: u32) -> Result<Vec<Members>, NoMemory>
 impl Sets {
     /// Sets of no card, one for each region of the layout.
     ///
-    /// It takes memory for one row of a set a region, and a set takes none until its first card.
-    /// `NoMemory` where that growth was refused.
+    /// It takes memory for one row of a set a region and for 32 bytes a card; a set takes none until its first card.
+    /// `NoMemory` where one of these growths was refused.
     pub fn new(alloc: Global, layout: Layout) -> Result<Sets, NoMemory>
         ensures { IfOk result (λ sets. sets ≡ new_pairs layout) }
     {
-        let (regions, _, _) = layout.counts();
+        let (regions, cards, _) = layout.counts();
         let sets = empty_sets(alloc, regions)?;
+        let rows = Vec::from_elem(alloc, RegionSet::new(), (regions * cards) as usize)?;
         Ok(Sets {
             alloc,
             layout,
             sets,
+            rows,
         })
+    }
+
+    /// The regions for which the card is recorded. Constant time.
+    pub fn regions_of(&self, card: Card) -> &RegionSet
+        requires { card < card_count self.now.layout }
+        ensures { (region : ℕ) → HasRegion result.now region ↔ IsTrue (set.contains self.now.pairs (card, region)) }
+    {
+        &self.rows[card.number() as usize]
     }
 
     /// Records the card for each of the regions: a card that is new to a region goes last there.
     ///
     /// `NoMemory` where a growth was refused: then nothing has changed. Room is asked in each set
     /// that is full and lacks the card, before the card goes into any. A region may be named twice.
-    /// Cost: one look-up a region where the card is in all of the sets, which asks for no growth.
-    /// Otherwise one more, up to the first set that lacks the card; and a set that grows is searched
-    /// once more.
+    /// Cost: one look at a bit for a region whose set has the card, and one insert for each other.
     pub fn record(&mut self, card: Card, regions: &[Region]) -> Result<(), NoMemory>
         requires card { card < card_count self.old.layout }
         requires regions { All (λ region. region < self.old.layout.regions) regions.now }
@@ -82,12 +93,13 @@ impl Sets {
         ensures lists { OnOk result (Joins card regions.now self.old.lists self.new.lists) }
         ensures err { OnErr result (self.new ≡ self.old) }
     {
-        if have_all(self.sets.as_slice(), card, regions) {
-            return Ok(());
-        }
+        let _ = self.layout.counts();
+        let at = card.number() as usize;
+        let mut row = self.rows[at];
         let sets = self.sets.as_mut_slice();
-        make_rooms(sets, card, regions)?;
-        insert_into(sets, card, regions);
+        make_rooms(sets, &row, regions)?;
+        insert_into(sets, &mut row, card, regions);
+        self.rows[at] = row;
         Ok(())
     }
 
@@ -95,7 +107,7 @@ impl Sets {
     ///
     /// `NoMemory` where a growth was refused: then nothing has changed. Room for as many cards as
     /// are named is asked first, in one growth at most, so a list that names cards which are there
-    /// may ask for more than it needs. Cost: one look-up a card.
+    /// may ask for more than it needs. Cost: one insert a card.
     pub fn record_many(&mut self, cards: &[Card], region: Region) -> Result<(), NoMemory>
         requires cards { All (λ card. card < card_count self.old.layout) cards.now }
         requires region { region < self.old.layout.regions }
@@ -104,9 +116,11 @@ impl Sets {
         ensures lists { OnOk result (self.new.lists ≡ slice_set self.old.lists region (with_cards (list_at self.old.lists region) cards.now)) }
         ensures err { OnErr result (self.new ≡ self.old) }
     {
+        let _ = self.layout.counts();
         let sets = self.sets.as_mut_slice();
         make_room_for(sets, region, cards.len())?;
         insert_many(sets, region, cards);
+        add_region(self.rows.as_mut_slice(), cards, region);
         Ok(())
     }
 
@@ -152,14 +166,17 @@ impl Sets {
     /// Empties the region's set, and takes no memory.
     ///
     /// The set keeps its room: a region that is used again mostly needs as much, and then records
-    /// without a growth. Cost: one step for each 16 cards of that room.
+    /// without a growth. Cost: one step for each of its cards and for each 16 cards of that room.
     pub fn clear(&mut self, region: Region)
         requires { region < self.old.layout.regions }
         ensures layout { self.new.layout ≡ self.old.layout }
         ensures pairs { self.new.pairs ≡ without self.old.pairs region }
         ensures lists { self.new.lists ≡ slice_set self.old.lists region [] }
     {
-        self.sets[region.number() as usize].clear();
+        let _ = self.layout.counts();
+        let members = &mut self.sets[region.number() as usize];
+        remove_region(self.rows.as_mut_slice(), members.as_slice(), region);
+        members.clear();
     }
 
     /// The cards of the region's set, ascending, each once.

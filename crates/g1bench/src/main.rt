@@ -49,6 +49,7 @@ fn measured(rt: &HostRuntime, plan: &Plan) -> Result<u64, NoMemory> {
     let times = plan.times;
     match plan.call {
         Call::Slots => workload.walk_slots(times),
+        Call::OwnPlaces => workload.walk_own_places(times),
         Call::Places => workload.walk_places(times),
         Call::Null => workload.store_nulls(times),
         Call::SameRegion => workload.store_in_region(times),

@@ -4,8 +4,10 @@ use g1_layout::Layout;
 /// What is done again and again.
 #[derive(Clone, Copy, Debug)]
 pub enum Call {
-    /// No call: the walk over the slots alone, which the next two calls make too.
+    /// No call: the walk over the slots alone, which a store of null makes too.
     Slots,
+    /// No call: the walk over slots and listed places of their regions, which a store in the same region makes too.
+    OwnPlaces,
     /// No call: the walk over slots and places alone, which the other stores make too.
     Places,
     /// A store of null.
@@ -65,6 +67,7 @@ fn number_of(word: &String) -> Option<u32> {
 fn call_of(word: &str) -> Option<Call> {
     match word {
         "slots" => Some(Call::Slots),
+        "own-places" => Some(Call::OwnPlaces),
         "places" => Some(Call::Places),
         "null" => Some(Call::Null),
         "same-region" => Some(Call::SameRegion),

@@ -7,14 +7,13 @@ use g1_layout::{Kind, Layout, NoMemory, Slot};
 use g1_log::{Buffer, Log};
 use std::alloc::Global;
 
-// The cards that fill a log.
-const LOG: u32 = 256;
-
 /// A core, one log, and a checksum of what the calls answered.
 #[derive(Drop)]
 pub struct Workload {
     core: Core,
     log: Log,
+    // By card, a place of its own region. It stands in memory, so that no compiler knows where a store leads.
+    own: Vec<u32>,
     checksum: u64,
 }
 
@@ -22,13 +21,12 @@ impl Workload {
     /// A heap in which each card refers into as many regions after its own, by its first slots; all of it is recorded, and
     /// nothing is pending.
     pub fn new(alloc: Global, layout: Layout, references: u32) -> Result<Workload, NoMemory> {
-        let Some(config) = Config::new(LOG, 10, 4, 1024, 5) else {
-            unreachable!();
-        };
+        let config = Config::default();
         let core = Core::new(alloc, layout, config)?;
         let mut workload = Workload {
             core,
-            log: Log::new(LOG as usize),
+            log: config.new_log(),
+            own: own_places(alloc, layout)?,
             checksum: 0,
         };
         for index in 0..references {
@@ -64,6 +62,16 @@ impl Workload {
         }
     }
 
+    /// Looks at the first slots of so many cards, and at the listed places of their regions.
+    pub fn walk_own_places(&mut self, times: u32) {
+        for card in 0..times {
+            let Some((slot, place)) = self.own_reference_of(card) else {
+                return;
+            };
+            self.add(u64::from(slot.number() ^ place.number()));
+        }
+    }
+
     /// Stores null into the first slots of so many cards.
     pub fn store_nulls(&mut self, times: u32) {
         for card in 0..times {
@@ -74,13 +82,13 @@ impl Workload {
         }
     }
 
-    /// Stores a place of the same region into the first slots of so many cards.
+    /// Stores the listed places of their regions into the first slots of so many cards.
     pub fn store_in_region(&mut self, times: u32) {
         for card in 0..times {
-            let Some(slot) = self.slot_on(card, 0) else {
+            let Some((slot, place)) = self.own_reference_of(card) else {
                 return;
             };
-            self.store(slot, Some(slot));
+            self.store(slot, Some(place));
         }
     }
 
@@ -222,6 +230,16 @@ impl Workload {
         Some((slot, place))
     }
 
+    // The first slot of a card, and the listed place of its region.
+    fn own_reference_of(&self, card: u32) -> Option<(Slot, Slot)>
+        ensures { IfSome result (λ store. (store.0 < slot_count self.now.core.state.table.layout) × (store.1 < slot_count self.now.core.state.table.layout)) }
+    {
+        let slot = self.slot_on(card, 0)?;
+        let number = self.own.get(card as usize)?;
+        let place = self.core.layout().slot(*number)?;
+        Some((slot, place))
+    }
+
     // Stores. A full log is looked at, as whoever is handed one does.
     fn store(&mut self, slot: Slot, target: Option<Slot>)
         requires slot { slot < slot_count self.old.core.state.table.layout }
@@ -256,6 +274,19 @@ impl Workload {
     fn add(&mut self, number: u64) {
         self.checksum = self.checksum.wrapping_add(number);
     }
+}
+
+// By card, the number of its last slot.
+fn own_places(alloc: Global, layout: Layout) -> Result<Vec<u32>, NoMemory> {
+    let (_, _, slots) = layout.counts();
+    let cards = layout.card_count();
+    let mut places = Vec::with_capacity(alloc, cards as usize)?;
+    for number in 0..cards {
+        if let Some(card) = layout.card(number) {
+            places.push(layout.slot_at(card, slots - 1).number())?;
+        }
+    }
+    Ok(places)
 }
 
 // The number of the card that a buffer has got last. It is a call of its own, so that the buffer has to stand in memory.

@@ -2,14 +2,15 @@
 //!
 //! The heap has 4 regions of 2 cards of 4 slots: card `c` has the slots from `4 * c` on, region `r` those from `8 * r` on.
 ghost use Rattle.std.specs.Prelude.{◌≤◌, All};
-ghost use Rattle.g1_log.specs.Ends.{IsSenderOf, IsTakerOf, capacity_of};
+ghost use Rattle.std.proofs.Props.{props};
+ghost use Rattle.g1_log.specs.Ends.{IsSenderOf, IsTakerOf};
 
 use crate::Refusal;
 use crate::book::Book;
-use crate::entry::Call;
-use crate::steps::{CallerEnds, FlushReply};
+use crate::lent_book::LentBook;
+use crate::steps::{FlushReply, Mutator, empty_line, refine, work};
 use crate::tests::{Want, assert_entries, assert_set, book, has_cards, region, slot, store_call};
-use g1_core::{Fill, RefineReply, StoreReply};
+use g1_core::{Call, Fill, RefineReply, StoreReply};
 use g1_layout::Kind;
 use g1_log::{Line, Log, Sender, Taker};
 use std::process::Abort;
@@ -18,6 +19,56 @@ use std::test::Fail;
 
 mod growths;
 mod rounds;
+
+/// A caller's ends of the line, at a book that is lent.
+#[derive(Drop)]
+struct CallerEnds<'a> {
+    line: &'a Line,
+    mutator: Mutator,
+    taker: Taker,
+    ghost of: { IsSenderOf line.now mutator.sender × IsTakerOf line.now taker } by { Prim.hlevel props },
+}
+
+impl CallerEnds<'_> {
+    fn flush<R: Wait>(&mut self, rt: &R, book: &mut Book, number: u32) -> FlushReply {
+        let mut calls = LentBook::new(book, number);
+        self.mutator.flush(rt, self.line, &mut calls)
+    }
+
+    fn refine<R: Wait>(
+        &mut self,
+        rt: &R,
+        book: &mut Book,
+        number: u32,
+    ) -> Result<RefineReply, Refusal> {
+        let mut calls = LentBook::new(book, number);
+        refine(rt, self.line, &mut self.taker, &mut calls)
+    }
+
+    fn work<R: Wait>(
+        &mut self,
+        rt: &R,
+        book: &mut Book,
+        number: u32,
+    ) -> Result<RefineReply, Refusal> {
+        let start = book.config().start();
+        let mut calls = LentBook::new(book, number);
+        work(rt, self.line, &mut self.taker, &mut calls, start)
+    }
+
+    fn pause<R: Wait>(rt: &R, callers: &mut [CallerEnds<'_>]) {
+        for at in 0..callers.len() {
+            callers[at].stop(rt, at == 0);
+        }
+    }
+
+    fn stop<R: Wait>(&mut self, rt: &R, takes: bool) {
+        if takes {
+            empty_line(rt, self.line, &mut self.taker);
+        }
+        self.mutator.stop();
+    }
+}
 
 /// A caller with an empty log that `size` cards fill, and with one of the senders and one of the takers.
 fn caller<'a>(
@@ -29,7 +80,6 @@ fn caller<'a>(
 ) -> CallerEnds<'a>
     requires senders { All (IsSenderOf line.now) senders.old.items }
     requires takers { All (IsTakerOf line.now) takers.old.items }
-    requires line { capacity_of line.now ≤ 1024 }
     requires low { 1 ≤ size }
     requires high { size ≤ 256 }
     ensures senders { All (IsSenderOf line.now) senders.new.items }
@@ -37,7 +87,12 @@ fn caller<'a>(
 {
     let sender = senders.pop().expect(rt, "a sender for each caller");
     let taker = takers.pop().expect(rt, "a taker for each caller");
-    CallerEnds::new(line, Log::new(size), sender, taker)
+    let log = Log::new(size);
+    CallerEnds {
+        line,
+        mutator: Mutator { log, sender },
+        taker,
+    }
 }
 
 /// Stores a reference to the place.
@@ -52,7 +107,9 @@ fn store<R: Abort + Wait>(
     assert!(rt; number < book.mutators());
     let from = slot(rt, book, from);
     let to = slot(rt, book, to);
-    ends.store(rt, book, number, from, Some(to))
+    let mut calls = LentBook::new(book, number);
+    ends.mutator
+        .store(rt, ends.line, &mut calls, from, Some(to))
 }
 
 /// Checks a logged store: what became of its log, and which cards a help refined. It is not short.

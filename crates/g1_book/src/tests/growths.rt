@@ -5,7 +5,7 @@ use g1_core::RefineReply;
 use std::test::Fail;
 
 /// A new book. A refused one is tried again.
-fn opened(rt: &impl Abort, alloc: Global, log: u32) -> Result<Book, NoMemory> {
+fn opened(rt: &impl Abort, alloc: Global, log: usize) -> Result<Book, NoMemory> {
     match book(rt, alloc, log, 4, 20) {
         Ok(opened) => Ok(opened),
         Err(NoMemory) => book(rt, alloc, log, 4, 20),

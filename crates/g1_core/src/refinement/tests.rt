@@ -15,7 +15,7 @@ use std::test::Fail;
 
 /// A core with this hot limit and a ring of this capacity, whose cards 0, 1 and 2 are dirty: they hold into regions
 /// 1, 2 and 0.
-fn dirty_core(rt: &impl Abort, alloc: Global, hot: u32, ring: u32) -> Result<Core, NoMemory> {
+fn dirty_core(rt: &impl Abort, alloc: Global, hot: u32, ring: usize) -> Result<Core, NoMemory> {
     let layout = Layout::new(4, 2, 4).expect(rt, "a layout within the limits");
     let config = Config::new(256, 1, hot, ring, 1).expect(rt, "settings within the limits");
     let mut core = Core::new(alloc, layout, config)?;

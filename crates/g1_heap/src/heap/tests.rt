@@ -83,36 +83,72 @@ fn a_card_that_refers_into_two_regions_is_read_once(rt: HostRuntime) {
     assert_eq!(rt; heap.reads(), 4);
 }
 
-// The slots of card 0 refer into the regions 64 to 1, in falling order.
+// Card 0 refers into the regions 2 and 1, and card 1 into region 1.
 #[test]
-fn a_lent_list_of_targets_is_emptied_first(rt: HostRuntime) {
+fn a_lent_list_has_the_regions_that_are_not_known(rt: HostRuntime) {
     let layout = layout_of(&rt, 3, 2, 4);
     let mut heap = Heap::new(rt.alloc(), layout).expect(&rt, "memory");
-    store(&rt, &mut heap, 0, 23);
-    store(&rt, &mut heap, 4, 8);
-    let mut targets = TargetList::new();
+    for (slot, place) in [(0, 23), (1, 8), (4, 8)] {
+        store(&rt, &mut heap, slot, place);
+    }
+    let mut targets = ArrayVec::new();
     assert!(rt; targets.as_slice().is_empty());
-    let card = card_of(&rt, &heap, 0);
-    heap.list_targets(card, &mut targets);
-    assert!(rt;
-        targets
-            .as_slice()
-            .iter()
-            .map(|region| region.number())
-            .eq([2])
-    );
-    let card = card_of(&rt, &heap, 1);
-    heap.list_targets(card, &mut targets);
-    assert!(rt;
-        targets
-            .as_slice()
-            .iter()
-            .map(|region| region.number())
-            .eq([1])
-    );
-    assert_eq!(rt; heap.reads(), 8);
+    let mut known = RegionSet::new();
+    assert_listed(&rt, &mut heap, 0, &known, &mut targets, &[2, 1]);
+    assert_listed(&rt, &mut heap, 1, &known, &mut targets, &[1]);
+    known.insert(layout.region(2).expect(&rt, "a region of the heap"));
+    assert_listed(&rt, &mut heap, 0, &known, &mut targets, &[1]);
+    known.insert(layout.region(1).expect(&rt, "a region of the heap"));
+    assert_listed(&rt, &mut heap, 0, &known, &mut targets, &[]);
+    assert_eq!(rt; heap.reads(), 16);
 }
 
+fn assert_listed(
+    rt: &impl Abort,
+    heap: &mut Heap,
+    card: u32,
+    known: &RegionSet,
+    targets: &mut ArrayVec<Region, 64>,
+    want: &[u32],
+) {
+    let card = card_of(rt, heap, card);
+    heap.list_targets(card, known, targets);
+    assert!(rt;
+        targets
+            .as_slice()
+            .iter()
+            .map(|region| region.number())
+            .eq(want.iter().copied())
+    );
+}
+
+// One reference on a card of nulls, at each slot in turn: in a whole group of slots, and behind the last one.
+#[test]
+fn one_reference_is_found_wherever_it_stands(rt: HostRuntime) {
+    for slots in [1, 7, 8, 12, 64] {
+        let layout = layout_of(&rt, 3, 2, slots);
+        let mut heap = Heap::new(rt.alloc(), layout).expect(&rt, "memory");
+        for slot in slots..2 * slots {
+            store(&rt, &mut heap, slot, 4 * slots);
+            let card = card_of(&rt, &heap, 1);
+            let targets = heap.targets(card);
+            assert!(rt;
+                targets
+                    .as_slice()
+                    .iter()
+                    .copied()
+                    .map(Region::number)
+                    .eq([2]),
+                "slot {slot} of cards of {slots}"
+            );
+            let slot = slot_of(&rt, &heap, slot);
+            heap.set(slot, None);
+        }
+        assert_eq!(rt; heap.reads(), u64::from(slots * slots));
+    }
+}
+
+// The slots of card 0 refer into the regions 64 to 1, in falling order.
 #[test]
 fn a_card_of_64_slots_refers_into_64_regions(rt: HostRuntime) {
     let layout = layout_of(&rt, 65, 1, 64);

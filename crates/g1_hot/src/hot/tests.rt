@@ -19,7 +19,7 @@ struct Fixture {
 }
 
 impl Fixture {
-    fn new(rt: &impl Abort, alloc: Global, limit: u32, capacity: u32) -> Result<Fixture, NoMemory>
+    fn new(rt: &impl Abort, alloc: Global, limit: u32, capacity: usize) -> Result<Fixture, NoMemory>
         requires limit { limit ≤ 255 }
         requires some { 1 ≤ capacity }
         requires most { capacity ≤ 4096 }

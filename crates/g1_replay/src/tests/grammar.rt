@@ -1,6 +1,8 @@
 //! Lines that were read by hand, on a heap of 4 regions, 8 cards and 32 slots, with two mutators.
 
 use crate::command::Command;
+use crate::command_line::Mode;
+use crate::dialect::Dialect;
 use crate::fault::TraceFault;
 use crate::grammar::read_command;
 use crate::header::read_header;
@@ -24,7 +26,14 @@ fn region(rt: &impl Abort, number: u32) -> Region {
 }
 
 fn read(rt: &impl Abort, line: &[u8]) -> Result<Option<Command>, TraceFault> {
-    read_command(heap(rt), 2, line)
+    read_command(
+        heap(rt),
+        Dialect {
+            mode: Mode::Run,
+            mutators: 2,
+        },
+        line,
+    )
 }
 
 fn commands_of(rt: &impl Abort, lines: &[&[u8]], want: Command) {

@@ -3,6 +3,8 @@
 ghost use Rattle.std.specs.Prelude.{Some};
 
 use crate::command::Command;
+use crate::command_line::Mode;
+use crate::dialect::Dialect;
 use crate::fault::TraceFault;
 use crate::lines::READ_LIMIT;
 use crate::next::{Next, read_next};
@@ -49,7 +51,15 @@ fn walk<R: BufRead>(input: &mut R) -> (u32, Result<(), Stop>, u64) {
     };
     let mut commands = 0u32;
     for _ in 0..100 {
-        match read_next(&mut source, layout, 2, input) {
+        match read_next(
+            &mut source,
+            layout,
+            Dialect {
+                mode: Mode::Run,
+                mutators: 2,
+            },
+            input,
+        ) {
             Ok(Next::End) => return (commands, Ok(()), source.number),
             Ok(Next::Blank) => {}
             Ok(Next::Do(_)) => commands = commands.saturating_add(1),
@@ -210,7 +220,15 @@ fn last_reads(rt: HostRuntime) {
         let heap = read_heap(&mut source, &mut input);
         assert_eq!(rt; heap.is_ok(), read);
         if let Ok(layout) = heap {
-            let next = read_next(&mut source, layout, 2, &mut input);
+            let next = read_next(
+                &mut source,
+                layout,
+                Dialect {
+                    mode: Mode::Run,
+                    mutators: 2,
+                },
+                &mut input,
+            );
             assert_eq!(rt; next, want);
         }
         assert_eq!(rt; source.reads, READ_LIMIT);
@@ -236,7 +254,15 @@ fn lines_one_by_one(rt: HostRuntime) {
         (Next::End, b""),
     ];
     for (want, left) in steps {
-        let next = read_next(&mut source, layout, 2, &mut input);
+        let next = read_next(
+            &mut source,
+            layout,
+            Dialect {
+                mode: Mode::Run,
+                mutators: 2,
+            },
+            &mut input,
+        );
         assert_eq!(rt; next, Ok(want));
         assert!(rt; input == left);
     }

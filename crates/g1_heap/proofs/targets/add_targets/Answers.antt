@@ -1,38 +1,48 @@
-use Rattle.std.proofs.Common.{length, ◌≡◌, ◌⊎◌, ◌↔◌, ◌∙◌, ap, arith, refl, subst, sym, ℕ}
-use Rattle.std.proofs.lemmas.List.{length_push}
-use Rattle.g1_heap.specs.declared.region_set.RegionSet.{RegionSet}
-use Rattle.g1_heap.specs.Regions.{HasRegion}
-use Rattle.g1_heap.proofs.CellLemmas.{ref_of-slot}
-use Rattle.g1_heap.proofs.TargetLemmas.{listed_null, listed_known, listed_fresh, listed_all}
+use Rattle.std.proofs.Common.{◌≡◌, ◌∙◌, ◌+◌, ◌-◌, ◌*◌, ◌/◌, ◌<◌, arith, ap, length, get_or, take, drop, refl, subst, sym, ℕ}
+use Rattle.std.proofs.lemmas.List.{get_or-take, get_or-drop}
+use Rattle.arrayvec.specs.ArrayVec.{ArrayVec, array_vec_len}
+use Rattle.g1_heap.specs.Listing.{IsListedUpTo}
+use Rattle.g1_heap.proofs.CellLemmas.{ref_of-null}
+use Rattle.g1_heap.proofs.ListingLemmas.{listed_none, listed_nulls, listed_as}
+use Rattle.g1_heap.proofs.TargetLemmas.{listed_all}
 use Rattle.g1_heap.proofs.targets.add_targets.Goals as goal
-use Rattle.g1_heap.proofs.targets.add_targets.Goals.{in-Some+then-insert, in-Some+else-insert, in_default}
+use Rattle.g1_heap.proofs.targets.add_targets.Goals.{then-has_reference, else-has_reference}
 
-pub loop-word-preserved : goal.loop-word-preserved
-loop-word-preserved c =
-    let made = ref_of-slot c.args.layout.now _ c.slot.result c.slot.ensures in
-    elim c.match-slot.branch [
-      | in-Some+then-insert w ↦ record {
-        room = omega (arith, ap length w.targets-is, ap length w.push.ensures, length_push c.loop-word.targets w.region_of-region.result);
-        so_far = listed_fresh _ _ _ _ c.loop-word.known c.match-slot.known c.loop-word.targets c.match-slot.targets c.slot.result w.in-Some.place w.region_of-region.result c.loop-word-test.true made w.in-Some.is w.region_of-region.ensures.quotient w.if-insert.ensures.new
-            (subst (λ (known : RegionSet). (r : ℕ) → HasRegion known r ↔ (HasRegion c.loop-word.known r ⊎ (r ≡ w.region_of-region.result))) (sym w.known-is) w.insert.ensures.added)
-            (w.targets-is ∙ w.push.ensures)
-            c.loop-word.invariant.so_far;
+pub loop-group-init : goal.loop-group-init
+loop-group-init c = record {
+  room = omega (arith, ap length c.requires.empty);
+  listed = listed_as c.args.layout.now _ c.insert.new.self 0 c.insert.new.self c.insert.new.self _ c.args.targets.now.items refl c.requires.empty (listed_none c.args.layout.now _ c.insert.new.self);
+}
+
+pub loop-group-preserved : goal.loop-group-preserved
+loop-group-preserved c =
+    let row = take (c.number-first.result + c.counts-slots.result.2 - c.number-first.result) (drop c.number-first.result c.args.words.now) in
+    let at : ℕ = c.loop-group.group * 8 in
+    let next : at + 8 ≡ (c.loop-group.group + 1) * 8 = omega arith in
+    elim c.if-has_reference.branch [
+      | then-has_reference w ↦ record {
+        room = omega (arith, ap array_vec_len w.targets-is, w.add_each.ensures.room);
+        listed = subst (λ n. IsListedUpTo c.args.layout.now row c.insert.new.self n c.if-has_reference.seen c.if-has_reference.targets.items) next
+            (listed_as c.args.layout.now row c.insert.new.self (at + 8) _ c.if-has_reference.seen _ c.if-has_reference.targets.items w.seen-is (ap (λ (v : ArrayVec ℕ). v.items) w.targets-is) (w.add_each.ensures.listed c.insert.new.self c.loop-group.invariant.listed));
       }
-      | in-Some+else-insert w ↦ record {
-        room = omega (arith, ap length w.targets-is);
-        so_far = listed_known _ _ _ _ c.loop-word.known c.match-slot.known c.loop-word.targets c.match-slot.targets c.slot.result w.in-Some.place w.region_of-region.result made w.in-Some.is w.region_of-region.ensures.quotient w.if-insert.ensures.new
-            (subst (λ (known : RegionSet). (r : ℕ) → HasRegion known r ↔ (HasRegion c.loop-word.known r ⊎ (r ≡ w.region_of-region.result))) (sym w.known-is) w.insert.ensures.added)
-            w.targets-is
-            c.loop-word.invariant.so_far;
-      }
-      | in_default w ↦ record {
-        room = omega (arith, ap length w.targets-is);
-        so_far = listed_null _ _ _ _ c.loop-word.known c.match-slot.known c.loop-word.targets c.match-slot.targets c.slot.result made w.in_default.is w.known-is
-            w.targets-is
-            c.loop-word.invariant.so_far;
+      | else-has_reference w ↦ record {
+        room = omega (arith, ap array_vec_len w.targets-is, c.loop-group.invariant.room);
+        listed = subst (λ n. IsListedUpTo c.args.layout.now row c.insert.new.self n c.if-has_reference.seen c.if-has_reference.targets.items) next
+            (listed_as c.args.layout.now row c.insert.new.self (at + 8) _ c.if-has_reference.seen _ c.if-has_reference.targets.items w.seen-is (ap (λ (v : ArrayVec ℕ). v.items) w.targets-is)
+            (listed_nulls c.args.layout.now row c.insert.new.self at (at + 8) c.loop-group.seen c.loop-group.targets.items (omega arith) (λ k from lt.
+            let j : k - at < 8 = omega arith in
+            let is : at + (k - at) ≡ k = omega arith in
+            let null : get_or row k 0 ≡ 4294967295 = ap (λ n. get_or row n 0) (sym is) ∙ sym (get_or-take (at + 8 - at) (drop at row) (k - at) 0 (omega arith) ∙ get_or-drop at row (k - at) 0) ∙ c.has_reference.ensures w.if-has_reference.false (k - at) j in
+            ref_of-null c.args.layout.now (get_or row k 0) (omega (arith, null, c.counts-slots.ensures.shape.total)))
+            c.loop-group.invariant.listed));
       }
     ]
 
 pub returns : goal.returns
-returns c = listed_all c.args.layout.now c.args.words.now c.args.card _ c.number-first.result c.counts-slots.result.2
-    refl (omega arith) c.counts-slots.ensures.slots c.counts-slots.ensures.shape (omega arith) c.loop-word.word-index c.loop-word.known c.loop-word.targets c.loop-word-test.false c.loop-word.invariant.so_far
+returns c =
+    let row = take (c.number-first.result + c.counts-slots.result.2 - c.number-first.result) (drop c.number-first.result c.args.words.now) in
+    let groups : c.loop-group.group ≡ length row / 8 = omega (arith, c.loop-group-test.false, c.loop-group.auto.group-end) in
+    listed_all c.args.layout.now c.args.words.now c.args.card c.region_of_card.result c.number-first.result c.counts-slots.result.2
+    c.region_of_card.ensures.quotient (c.number-first.ensures ∙ c.first_slot.ensures.first) c.counts-slots.ensures.slots c.counts-slots.ensures.shape (omega arith)
+    c.args.known.now c.insert.new.self c.add_each-2.new.seen _ c.add_each-2.new.targets.items c.insert.ensures (omega arith)
+    (c.add_each-2.ensures.listed c.insert.new.self (subst (λ n. IsListedUpTo c.args.layout.now row c.insert.new.self (n * 8) c.loop-group.seen c.loop-group.targets.items) groups c.loop-group.invariant.listed))

@@ -1,23 +1,23 @@
-use Rattle.std.proofs.Common.{[]}
-use Rattle.g1_replay.proofs.PutLemmas.{appends_none}
-use Rattle.g1_replay.proofs.ToldLemmas.{head_told, unopened_told, told_all}
-use Rattle.g1_replay.proofs.EndLemmas.{nothing_written}
+use Rattle.std.proofs.lemmas.Result.{err_from_is_err_and}
+use Rattle.g1_replay.proofs.ToldLemmas.{head_told, unopened_told, played_told}
 use Rattle.g1_replay.proofs.engine.play_trace.Goals as goal
 
-pub returns-in-Err : goal.returns-in-Err
-returns-in-Err g c = (
-  [],
-  head_told _ _ _ _ _ _ c.in-Err.stop c.in-Err.ensures,
-  nothing_written _ c.args.source.now.number c.read_heap.new.source.number (g.R.Read.remaining c.args.input.now) (g.R.Read.remaining c.read_heap.new.input) c.in-Err.stop c.in-Err.ensures,
-)
+pub returns-in_err-layout : goal.returns-in_err-layout
+returns-in_err-layout g c =
+    let p = err_from_is_err_and c.from_residual.result c.from_residual.ensures.1 in
+    rw (p.1, p.2) (head_told _ _ _ _ _ _ _ _ c.in_err-layout.ensures.stops (c.in_err-layout.ensures.read _))
 
-pub returns-in-Err-new : goal.returns-in-Err-new
-returns-in-Err-new g c = ([], unopened_told _ _ _ _ c.in-Ok.layout _ _ _ c.in-Ok.ensures.1 c.in-Ok.ensures.2, appends_none _)
+pub returns-in_err-line : goal.returns-in_err-line
+returns-in_err-line g c =
+    let p = err_from_is_err_and c.from_residual-in_err-line.result c.from_residual-in_err-line.ensures.1 in
+    rw (p.1, p.2) (unopened_told _ _ _ _ c.in_ok-layout.layout _ _ _ (c.in_ok-layout.ensures.read _))
 
-pub returns-in-Err-open : goal.returns-in-Err-open
-returns-in-Err-open g c = ([], unopened_told _ _ _ _ c.in-Ok.layout _ _ _ c.in-Ok.ensures.1 c.in-Ok.ensures.2, appends_none _)
+pub returns-in_err-machinery : goal.returns-in_err-machinery
+returns-in_err-machinery g c =
+    let p = err_from_is_err_and c.from_residual-in_err-machinery.result c.from_residual-in_err-machinery.ensures.1 in
+    rw (p.1, p.2) (unopened_told _ _ _ _ c.in_ok-layout.layout _ _ _ (c.in_ok-layout.ensures.read _))
 
 pub returns : goal.returns
 returns g c =
-    let h = c.in-Ok.ensures in
-    told_all _ _ _ _ _ c.in-Ok.layout _ _ _ _ _ _ _ h.0 c.follow-result.result c.in-Ok-open.ensures.book h.1 h.2 c.follow-result.ensures c.entries-history.ensures.history.run
+    played_told (λ s. s.book) _ _ _ _ _ c.in_ok-layout.layout c.in_ok-machinery.machinery c.play_lines-result.new.player _ _ _ _ _ c.play_lines-result.result c.in_ok-machinery.ensures.book (c.in_ok-layout.ensures.read _)
+    c.play_lines-result.ensures.followed c.entries-history.ensures.history

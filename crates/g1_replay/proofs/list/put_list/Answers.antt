@@ -2,7 +2,8 @@ use Rattle.std.proofs.Common.{◌≡◌, ◌++◌, List, ℕ, append_assoc, ap, 
 use Rattle.std.specs.Io.KnownBytes.{Appends}
 use Rattle.g1_replay.specs.Bytes.{AppendsFront}
 use Rattle.g1_replay.specs.Text.{list_text}
-use Rattle.g1_replay.proofs.PutLemmas.{appends_then, puts_failed, front_more, front_then}
+use Rattle.std.proofs.KnownBytes.{Appends-trans}
+use Rattle.g1_replay.proofs.PutLemmas.{puts_failed, front_more, front_then}
 use Rattle.g1_replay.proofs.ListLemmas.{list_apart, list_parts, cut_apart}
 use Rattle.g1_replay.proofs.list.put_list.Goals as goal
 
@@ -24,6 +25,6 @@ loop-rest-preserved g c =
     let parts : c.loop-rest.rest.now ≡ block ++ behind = cut_apart c.min.result c.loop-rest.rest.now block behind c.split_at.ensures.front c.split_at.ensures.back in (
       inv.0 ++ block,
       subst (λ (l : List ℕ). Appends (g.W.Write.contents c.args.output.now) (g.W.Write.contents c.put_block.new.output) l) (sym (list_apart inv.0 block))
-          (appends_then _ _ _ (list_text inv.0) (list_text block) inv.1 c.in_ok-put_block.ensures),
+          (Appends-trans _ _ _ (list_text inv.0) (list_text block) inv.1 c.in_ok-put_block.ensures),
       inv.2 ∙ ap (λ l. inv.0 ++ l) parts ∙ sym (append_assoc inv.0 block behind),
     )

@@ -1,11 +1,12 @@
-use Rattle.std.proofs.Common.{List, ℕ, ◌^◌, ◌-◌}
-use Rattle.std.specs.Io.KnownBytes.{Consumes}
-use Rattle.g1_replay.specs.Reading.{Skips}
+use Rattle.std.proofs.Common.{[], None, true, ◌^◌, ◌-◌}
+use Rattle.std.specs.Prelude.{Ok}
+use Rattle.g1_replay.specs.declared.dialect.Dialect.{Dialect}
+use Rattle.g1_replay.specs.Reading.{Reads}
 use Rattle.g1_replay.proofs.opening.read_heap.Given as goal
 
 -- what was passed over so far
 abbrev pub invariant-lines : goal.invariant-lines
-invariant-lines g l = (front : List ℕ) × Consumes (g.R.Read.remaining l.fn.input) (g.R.Read.remaining l.input) front × Skips l.fn.source.number front l.source.number
+invariant-lines g l = (d : Dialect) → Reads d None l.fn.source.number l.source.number (g.R.Read.remaining l.fn.input) (g.R.Read.remaining l.input) None [] (Ok true)
 
 abbrev pub decreases-lines : goal.decreases-lines
 decreases-lines g l = 2 ^ 40 - l.source.reads

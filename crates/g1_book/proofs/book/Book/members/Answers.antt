@@ -1,15 +1,14 @@
-use Rattle.std.proofs.Common.{◌≡◌, [], ◌∷◌, ◌++◌, ◌∙◌, refl}
-use Rattle.g1_core.specs.Run as run
-use Rattle.g1_book.proofs.HistoryLemmas.{history_entered, call_entered}
+use Rattle.std.proofs.Common.{◌≡◌, [], ◌∷◌, ◌++◌, refl}
 use Rattle.g1_core.specs.Calls.{members_entry}
+use Rattle.g1_book.proofs.HistoryLemmas.{history_entered, call_entered}
 use Rattle.g1_book.proofs.book.Book.members.Goals as goal
 
--- what was pushed is the entry of the answer
-pushed : (c : goal.After-push_reserved) → c.push_reserved.new.self.items ≡ c.self.inside.entries.items ++ members_entry c.args.caller c.args.region c.in_ok-cards.cards ∷ []
-pushed c = c.push_reserved.ensures.items ∙ (λ i. c.in_ok-make_room.ensures.items i ++ record { caller = c.args.caller; call = run.Members c.args.region; reply = run.Cards (c.in_ok-copy.ensures i); refined = c.new.ensures i } ∷ [])
+-- what was entered is the call with its answer
+entered : (c : goal.After-enter) → c.enter.new.entries.items ≡ c.self.inside.entries.items ++ members_entry c.args.caller c.args.region c.in_ok-cards.cards ∷ []
+entered c = cc c.in_ok-copy.ensures
 
 pub invariant_of-self-2 : goal.invariant_of-self-2
-invariant_of-self-2 c = history_entered _ _ _ _ _ _ _ c.self.invariant c.in_ok-make_room.ensures.room (pushed c) (c.in_ok-cards.ensures.step c.args.caller)
+invariant_of-self-2 c = history_entered _ _ _ _ _ _ _ c.self.invariant c.in_ok-make_room.ensures.room (entered c) (c.in_ok-cards.ensures.step c.args.caller)
 
 pub returns-clause-entered : goal.returns-clause-entered
-returns-clause-entered c = call_entered _ _ _ _ _ _ _ _ c.self.view_is (pushed c) refl (c.in_ok-cards.ensures.step c.args.caller)
+returns-clause-entered c = call_entered _ _ _ _ _ _ _ _ c.self.view_is (entered c) refl (c.in_ok-cards.ensures.step c.args.caller)

@@ -1,5 +1,5 @@
 use Rattle.std.proofs.Common.{ap, subst, sym, ◌∙◌}
-use Rattle.g1_core.specs.Table.{IsCovered}
+use Rattle.g1_core.specs.Table.{Table, IsCovered}
 use Rattle.g1_core.specs.Machine.{Machine}
 use Rattle.g1_core.proofs.TableLemmas.{refined_covered}
 use Rattle.g1_core.proofs.machinery.Core.drain.Goals as goal
@@ -12,3 +12,24 @@ returns-in_default-members-clause-cover c = subst IsCovered (sym c.in-Ok.ensures
 
 pub returns-clause-cover : goal.returns-clause-cover
 returns-clause-cover c = subst IsCovered (sym (ap (λ (m : Machine). m.state.table) c.reset_counts.ensures ∙ c.in-Ok.ensures.ok.drains.table)) (refined_covered c.drain_pending.new.refined.items c.args.self.now.state.table c.layout-layout.ensures.cover)
+
+pub returns-in_default-clause-later : goal.returns-in_default-clause-later
+returns-in_default-clause-later c = record {
+  layout = ap (λ (t : Table). t.layout) c.in_default.ensures.err.drains.table;
+  settings = c.in_default.ensures.err.drains.settings;
+  sound = c.layout-after.ensures.sound;
+}
+
+pub returns-in_default-members-clause-later : goal.returns-in_default-members-clause-later
+returns-in_default-members-clause-later c = record {
+  layout = ap (λ (t : Table). t.layout) c.in-Ok.ensures.ok.drains.table;
+  settings = c.in-Ok.ensures.ok.drains.settings;
+  sound = c.layout-after-in_default-members.ensures.sound;
+}
+
+pub returns-clause-later : goal.returns-clause-later
+returns-clause-later c = record {
+  layout = ap (λ (m : Machine). m.state.table.layout) c.reset_counts.ensures ∙ ap (λ (t : Table). t.layout) c.in-Ok.ensures.ok.drains.table;
+  settings = ap (λ (m : Machine). m.settings) c.reset_counts.ensures ∙ c.in-Ok.ensures.ok.drains.settings;
+  sound = c.layout-after-2.ensures.sound;
+}

@@ -1,4 +1,6 @@
-use Rattle.std.proofs.Common.{refl}
+use Rattle.std.proofs.Common.{ap, refl}
+use Rattle.g1_core.specs.Table.{Table}
+use Rattle.g1_core.specs.Redirect.{IsShortRedirect, IsWholeRedirect}
 use Rattle.g1_core.specs.Calls.{redirect_entry}
 use Rattle.g1_core.specs.declared.reply.Redirected.TheVariants as answers
 use Rattle.g1_core.proofs.DrainLemmas.{step_keeps_cover}
@@ -43,3 +45,18 @@ returns-clause-step c = whole_at_step c.args.self.now c.args.from c.args.to c.re
 pub returns-clause-cover : goal.returns-clause-cover
 returns-clause-cover c = step_keeps_cover c.args.self.now.state.table.layout c.args.self.now.state.table c.reset_counts.new.self.state.table (redirect_entry 0 c.args.from c.args.to (answers.Moved c.in-Ok-move_references.slots c.of-refined-2.result)) refl c.layout-layout.ensures.shape c.layout-layout.ensures.cover
     (whole_at_step c.args.self.now c.args.from c.args.to c.requires.from c.requires.to c.requires.apart c.drain_pending.new.refined.items c.of-refined-2.result c.of-refined-2.ensures c.reset_counts.new.self c.drain_pending.new.self c.in-Ok.ensures.ok c.move_references.new.self c.in-Ok-move_references.slots c.in-Ok-move_references.ensures.moved c.reset_counts.ensures c.in-Ok-move_references.ensures.count 0)
+
+pub returns-in_default-clause-later : goal.returns-in_default-clause-later
+returns-in_default-clause-later c =
+    let t : IsShortRedirect c.args.self.now c.args.from c.of-refined.result c.drain_pending.new.self = short_drained_at c.args.self.now c.args.from c.args.to c.requires.from c.requires.to c.requires.apart c.drain_pending.new.refined.items c.of-refined.result c.of-refined.ensures c.drain_pending.new.self c.in_default.ensures.err in
+    record { layout = ap (λ (t : Table). t.layout) t.table; settings = t.settings; sound = c.layout-after.ensures.sound }
+
+pub returns-in_default-move_references-clause-later : goal.returns-in_default-move_references-clause-later
+returns-in_default-move_references-clause-later c =
+    let t : IsShortRedirect c.args.self.now c.args.from c.of-refined-in_default-move_references.result c.move_references.new.self = short_read_at c.args.self.now c.args.from c.args.to c.requires.from c.requires.to c.requires.apart c.drain_pending.new.refined.items c.of-refined-in_default-move_references.result c.of-refined-in_default-move_references.ensures c.move_references.new.self c.drain_pending.new.self c.in-Ok.ensures.ok c.in_default-move_references.ensures.err in
+    record { layout = ap (λ (t : Table). t.layout) t.table; settings = t.settings; sound = c.layout-after-in_default-move_references.ensures.sound }
+
+pub returns-clause-later : goal.returns-clause-later
+returns-clause-later c =
+    let t : IsWholeRedirect c.args.self.now c.args.from c.args.to c.of-refined-2.result c.reset_counts.new.self = whole_at c.args.self.now c.args.from c.args.to c.requires.from c.requires.to c.requires.apart c.drain_pending.new.refined.items c.of-refined-2.result c.of-refined-2.ensures c.reset_counts.new.self c.drain_pending.new.self c.in-Ok.ensures.ok c.move_references.new.self c.in-Ok-move_references.slots c.in-Ok-move_references.ensures.moved c.reset_counts.ensures in
+    record { layout = ap (λ (t : Table). t.layout) t.table; settings = t.settings; sound = c.layout-after-2.ensures.sound }

@@ -1,10 +1,12 @@
-use Rattle.std.proofs.Common.{subst}
+use Rattle.std.proofs.Common.{refl, subst}
 use Rattle.g1_core.specs.Table.{IsCovered}
 use Rattle.g1_core.specs.Machine.{Machine, IsPlaced}
+use Rattle.g1_core.specs.Calls.{refine_entry}
 use Rattle.g1_core.proofs.PartLemmas.{parts_placed}
 use Rattle.g1_core.proofs.OpeningLemmas.{idle_step}
 use Rattle.g1_core.proofs.TurnLemmas.{turned_step}
 use Rattle.g1_core.proofs.RefineLemmas.{turned_covered}
+use Rattle.g1_core.proofs.SoundLemmas.{same_later, seen_sound, step_later}
 use Rattle.g1_core.proofs.machinery.Core.refine.Goals as goal
 
 pub returns-in_default-clause-step : goal.returns-in_default-clause-step
@@ -18,3 +20,17 @@ pub returns-clause-cover : goal.returns-clause-cover
 returns-clause-cover c = turned_covered c.args.self.now.state c.turn_all.new.self.state c.cards.result.now c.in_ok-reply.reply
     (subst (λ (m : Machine). IsPlaced m.state) c.self.view_is (parts_placed c.self.inside.heap c.self.inside.sets.pairs c.self.inside.hot c.self.inside.pending c.self.invariant.parts))
     (subst (λ (m : Machine). IsCovered m.state.table) c.self.view_is c.self.invariant.parts.cover) c.in_ok-reply.ensures.turned
+
+pub returns-in_default-clause-later : goal.returns-in_default-clause-later
+returns-in_default-clause-later c = same_later c.args.self.now c.args.self.now refl refl
+    (seen_sound c.self.inside.heap c.self.inside.sets c.self.inside.hot c.self.inside.pending c.self.invariant c.self.inside.config c.args.self.now c.self.view_is)
+
+pub returns-clause-later : goal.returns-clause-later
+returns-clause-later c = step_later c.args.self.now c.turn_all.new.self (refine_entry 0 c.in_ok-reply.reply)
+    (turned_step 0 c.args.self.now.state c.turn_all.new.self.state c.cards.result.now c.in_ok-reply.reply
+    (subst (λ (m : Machine). IsPlaced m.state) c.self.view_is (parts_placed c.self.inside.heap c.self.inside.sets.pairs c.self.inside.hot c.self.inside.pending c.self.invariant.parts)) c.in_ok-reply.ensures.turned)
+    c.turn_all.ensures.settings c.layout-after.ensures.sound
+
+pub returns-in_err-reply-clause-later : goal.returns-in_err-reply-clause-later
+returns-in_err-reply-clause-later c = same_later c.args.self.now c.turn_all.new.self c.in_err-reply.ensures.err c.turn_all.ensures.settings
+    (seen_sound c.self.inside.heap c.self.inside.sets c.self.inside.hot c.self.inside.pending c.self.invariant c.self.inside.config c.args.self.now c.self.view_is)

@@ -4,6 +4,7 @@ use Rattle.g1_heap.specs.declared.mark.Mark.TheVariants.{Dirty}
 use Rattle.g1_heap.specs.Cells.{Cells, with_mark}
 use Rattle.g1_core.specs.Machine.{Machine}
 use Rattle.g1_core.proofs.StoreLemmas.{logged_at, plain_at, IsStored, stored_step, few_cards}
+use Rattle.g1_core.proofs.SoundLemmas.{stored_later}
 use Rattle.g1_core.proofs.machinery.Core.store.Goals as goal
 
 pub overflow_add-self : goal.overflow_add-self
@@ -22,6 +23,13 @@ returns-then-not-logs-clause-cover c =
     plain_at c.self.inside.heap c.self.inside.sets c.self.inside.hot c.self.inside.pending c.self.inside.config c.args.self.now c.self.invariant c.self.view_is
     c.args.slot c.args.target c.kind-kind.result c.kind-kind.ensures c.requires.target c.set.new.self (λ e. true≢false (sym (c.is_logged-logs.ensures.1 e) ∙ c.if-not-logs.true)) c.set.ensures in
     t.core.parts.cover
+
+pub returns-then-not-logs-clause-later : goal.returns-then-not-logs-clause-later
+returns-then-not-logs-clause-later c =
+    let t : IsStored c.set.new.self c.self.inside.sets c.self.inside.hot c.self.inside.pending c.self.inside.config c.args.self.now c.args.slot c.args.target =
+    plain_at c.self.inside.heap c.self.inside.sets c.self.inside.hot c.self.inside.pending c.self.inside.config c.args.self.now c.self.invariant c.self.view_is
+    c.args.slot c.args.target c.kind-kind.result c.kind-kind.ensures c.requires.target c.set.new.self (λ e. true≢false (sym (c.is_logged-logs.ensures.1 e) ∙ c.if-not-logs.true)) c.set.ensures in
+    stored_later c.set.new.self c.self.inside.sets c.self.inside.hot c.self.inside.pending c.self.inside.config c.args.self.now c.args.slot c.args.target t
 
 pub invariant_of-self-in_default : goal.invariant_of-self-in_default
 invariant_of-self-in_default c =
@@ -55,6 +63,14 @@ returns-in_default-clause-cover c =
     (c.layout-layout.ensures.layout ∙ ap (λ (h : Cells). h.layout) c.set.ensures) c.card_of-card.ensures.quotient c.card_of-card.ensures.within refl (c.set_mark.ensures ∙ ap (λ (h : Cells). with_mark h c.card_of-card.result Dirty) c.set.ensures) in
     t.core.parts.cover
 
+pub returns-in_default-clause-later : goal.returns-in_default-clause-later
+returns-in_default-clause-later c =
+    let t : IsStored c.set_mark.new.self c.self.inside.sets c.self.inside.hot (c.self.inside.pending + 1) c.self.inside.config c.args.self.now c.args.slot c.args.target =
+    logged_at c.self.inside.heap c.self.inside.sets c.self.inside.hot c.self.inside.pending c.self.inside.config c.args.self.now c.self.invariant c.self.view_is
+    c.args.slot c.args.target c.kind-kind.result c.kind-kind.ensures c.requires.target c.set_mark.new.self (c.self.inside.pending + 1) c.card_of-card.result c.layout-layout.result (c.is_logged-logs.ensures.0 c.if-not-logs.false)
+    (c.layout-layout.ensures.layout ∙ ap (λ (h : Cells). h.layout) c.set.ensures) c.card_of-card.ensures.quotient c.card_of-card.ensures.within refl (c.set_mark.ensures ∙ ap (λ (h : Cells). with_mark h c.card_of-card.result Dirty) c.set.ensures) in
+    stored_later c.set_mark.new.self c.self.inside.sets c.self.inside.hot (c.self.inside.pending + 1) c.self.inside.config c.args.self.now c.args.slot c.args.target t
+
 pub invariant_of-self-2 : goal.invariant_of-self-2
 invariant_of-self-2 c =
     let t : IsStored c.set_mark.new.self c.self.inside.sets c.self.inside.hot (c.self.inside.pending + 1) c.self.inside.config c.args.self.now c.args.slot c.args.target =
@@ -86,3 +102,11 @@ returns-clause-cover c =
     c.args.slot c.args.target c.kind-kind.result c.kind-kind.ensures c.requires.target c.set_mark.new.self (c.self.inside.pending + 1) c.card_of-card.result c.layout-layout.result (c.is_logged-logs.ensures.0 c.if-not-logs.false)
     (c.layout-layout.ensures.layout ∙ ap (λ (h : Cells). h.layout) c.set.ensures) c.card_of-card.ensures.quotient c.card_of-card.ensures.within refl (c.set_mark.ensures ∙ ap (λ (h : Cells). with_mark h c.card_of-card.result Dirty) c.set.ensures) in
     t.core.parts.cover
+
+pub returns-clause-later : goal.returns-clause-later
+returns-clause-later c =
+    let t : IsStored c.set_mark.new.self c.self.inside.sets c.self.inside.hot (c.self.inside.pending + 1) c.self.inside.config c.args.self.now c.args.slot c.args.target =
+    logged_at c.self.inside.heap c.self.inside.sets c.self.inside.hot c.self.inside.pending c.self.inside.config c.args.self.now c.self.invariant c.self.view_is
+    c.args.slot c.args.target c.kind-kind.result c.kind-kind.ensures c.requires.target c.set_mark.new.self (c.self.inside.pending + 1) c.card_of-card.result c.layout-layout.result (c.is_logged-logs.ensures.0 c.if-not-logs.false)
+    (c.layout-layout.ensures.layout ∙ ap (λ (h : Cells). h.layout) c.set.ensures) c.card_of-card.ensures.quotient c.card_of-card.ensures.within refl (c.set_mark.ensures ∙ ap (λ (h : Cells). with_mark h c.card_of-card.result Dirty) c.set.ensures) in
+    stored_later c.set_mark.new.self c.self.inside.sets c.self.inside.hot (c.self.inside.pending + 1) c.self.inside.config c.args.self.now c.args.slot c.args.target t

@@ -1,9 +1,8 @@
-use Rattle.std.proofs.Common.{◌≡◌, ◌↔◌, sym, subst, ℕ, List, rules}
-use Rattle.std.specs.Prelude.{Contains}
-use Rattle.g1_heap.specs.Cells.{HoldsIn}
+use Rattle.g1_heap.proofs.TargetLemmas.{targets_of_none}
 use Rattle.g1_heap.proofs.heap.Heap.targets.Goals as goal
 
+pub returns-clause-regions : goal.returns-clause-regions
+returns-clause-regions c = targets_of_none c.args.self.now.layout c.args.self.now.refs c.args.card c.new.result c.list_targets.new.targets.items c.new.ensures c.list_targets.ensures.regions
+
 pub returns-clause-holds : goal.returns-clause-holds
-returns-clause-holds c =
-    let same : c.in-Ok.targets.items ≡ c.list_targets.new.targets = search rules in
-    subst (λ (rs : List ℕ). (r : ℕ) → Contains rs r ↔ HoldsIn c.args.self.now.layout c.args.self.now.refs c.args.card r) (sym same) c.list_targets.ensures.holds
+returns-clause-holds c = (returns-clause-regions c).holds

@@ -9,11 +9,11 @@ use Rattle.g1_sets.proofs.sets.Sets.len.Goals as goal
 
 pub overflow_cast-result : goal.overflow_cast-result
 overflow_cast-result c =
-    let list : list_at (lists_of c.self.inside.sets.items) c.args.region ≡ c.index.result.now.keys = list_here c.self.inside.sets.items c.number.result c.args.region c.index.result.now c.self.inside.layout.regions c.index.ensures c.number.ensures c.self.invariant.count (subst (λ (s : Pairs). c.args.region < s.layout.regions) (sym c.self.view_is) c.requires) in
-    let few : length (list_at (lists_of c.self.inside.sets.items) c.args.region) ≤ card_count c.self.inside.layout = few_listed c.self.inside.layout (lists_of c.self.inside.sets.items) c.self.invariant c.args.region in
+    let list : list_at (lists_of c.self.inside.sets.items) c.args.region ≡ c.index.result.now.keys = list_here c.self.inside.sets.items c.number.result c.args.region c.index.result.now c.self.inside.layout.regions c.index.ensures c.number.ensures c.self.invariant.of_heap.count (subst (λ (s : Pairs). c.args.region < s.layout.regions) (sym c.self.view_is) c.requires) in
+    let few : length (list_at (lists_of c.self.inside.sets.items) c.args.region) ≤ card_count c.self.inside.layout = few_listed c.self.inside.layout (lists_of c.self.inside.sets.items) c.self.invariant.of_heap c.args.region in
     let same : length (list_at (lists_of c.self.inside.sets.items) c.args.region) ≡ length c.index.result.now.keys = ap length list in
     let most : card_count c.self.inside.layout ≤ 65536 = few_cards c.self.inside.layout c.counts.ensures.shape in
     omega (arith, few, same, most, c.len.ensures.len)
 
 pub returns-clause-tied : goal.returns-clause-tied
-returns-clause-tied c = subst AreTied c.self.view_is (tied c.self.inside.layout (lists_of c.self.inside.sets.items) c.self.invariant)
+returns-clause-tied c = subst AreTied c.self.view_is (tied c.self.inside.layout (lists_of c.self.inside.sets.items) c.self.invariant.of_heap)

@@ -1,0 +1,43 @@
+-- Calls of one caller, as they were answered.
+use Rattle.std.specs.Prelude.{◌≡◌, ℕ, List, [], ◌∷◌, ◌++◌, Option, Result, Ok, Err}
+use Rattle.std.proofs.Common.{sym, subst}
+use Rattle.g1_log.specs.declared.buffer.Buffer.{Buffer}
+use Rattle.g1_core.specs.declared.reply.StoreReply.{StoreReply}
+use Rattle.g1_core.specs.declared.reply.RefineReply.{RefineReply}
+use Rattle.g1_core.specs.declared.entry.Entry.{Entry}
+use Rattle.g1_core.specs.Calls.{store_entry, refine_entry}
+use Rattle.g1_book.specs.declared.refusal.Refusal.{Refusal}
+
+-- a store or a refinement with its answer, or a call that was refused
+pub data Made : Type 0 where
+  Stored : (slot : ℕ) (target : Option ℕ) (reply : StoreReply) → Made
+  Refined : (buffer : Option (List ℕ)) (reply : RefineReply) → Made
+  Refused : (refusal : Refusal) → Made
+
+-- the call of a store, and of a refinement, by its result
+abbrev pub stores : ℕ → Option ℕ → Result (StoreReply × Option Buffer) Refusal → Made
+stores slot target (Ok answer) = Stored slot target answer.0
+stores slot target (Err refusal) = Refused refusal
+
+abbrev pub refines : Option (List ℕ) → Result RefineReply Refusal → Made
+refines buffer (Ok reply) = Refined buffer reply
+refines buffer (Err refusal) = Refused refusal
+
+-- the entries that calls make
+abbrev pub entries_of : ℕ → List Made → List Entry
+entries_of caller [] = []
+entries_of caller (Stored slot target reply ∷ ms) = store_entry caller slot target reply ∷ entries_of caller ms
+entries_of caller (Refined buffer reply ∷ ms) = refine_entry caller reply ∷ entries_of caller ms
+entries_of caller (Refused refusal ∷ ms) = entries_of caller ms
+
+-- These calls, one after the other, where `call` says what one of them does.
+abbrev pub AreCalls : {S : Type 0} → (S → Made → S → Type 0) → S → List Made → S → Type 0
+AreCalls call old [] new = new ≡ old
+AreCalls call old (m ∷ []) new = call old m new
+AreCalls {S} call old (m ∷ n ∷ ms) new = (mid : S) × call old m mid × AreCalls call mid (n ∷ ms) new
+
+pub calls_then : {S : Type 0} (call : S → Made → S → Type 0) (old mid new : S) (xs ys : List Made) → AreCalls call old xs mid → AreCalls call mid ys new → AreCalls call old (xs ++ ys) new
+calls_then call old mid new [] ys h k = subst (λ b. AreCalls call b ys new) h k
+calls_then call old mid new (x ∷ []) [] h k = subst (call old x) (sym k) h
+calls_then call old mid new (x ∷ []) (y ∷ ys) h k = (mid, h, k)
+calls_then call old mid new (x ∷ z ∷ xs) ys h k = (h.0, h.1, calls_then call h.0 mid new (z ∷ xs) ys h.2 k)

@@ -1,0 +1,57 @@
+//! A book that threads share, with the line of completed buffers beside its lock.
+//!
+//! Each caller makes the steps of a caller over the locked book ([`steps`]) and asks it questions ([`calls`]), from a
+//! thread of its own. How a book is shared, and how it comes back, stands in [`opening`].
+ghost use Rattle.std.specs.Prelude.{◌≡◌};
+
+mod calls;
+mod opening;
+mod steps;
+
+use crate::counted::Counted;
+use crate::ledgers::Frame;
+use g1_log::Line;
+use std::alloc::Global;
+use std::marker::Model;
+use std::sync::ledger::Ledger;
+use std::sync::{Mutex, MutexGuard, Wait};
+
+/// A counted book under a lock, and the line of completed buffers beside it (docs/PROFILE.md, The history under a lock).
+///
+/// Every call takes it by `&`, and a caller by `&mut`: so callers call beside each other, each from its own thread. The
+/// lock is held for one call of the book at a time, and never while a buffer is put into the line or taken from it.
+/// Contracts see the line.
+#[derive(Drop)]
+pub struct Shared<M: Frame, S: Ledger> {
+    counted: Mutex<Counted<M, S>>,
+    line: Line,
+    alloc: Global,
+    start: usize,
+}
+
+impl<M: Frame, S: Ledger> Model for Shared<M, S> {
+    ghost use Rattle.g1_log.specs.declared.line.Line.{Line as L};
+
+    ghost Value = { L };
+
+    ghost view = { λ s. s.line };
+}
+
+impl<M: Frame, S: Ledger> Shared<M, S> {
+    ghost use Rattle.std.specs.Sync.Mutex.{mutex_guard_value};
+    ghost use Rattle.g1_core.specs.Table.{IsCovered};
+    ghost use Rattle.g1_book.specs.History.{IsHistory, table_in, terms_of};
+
+    /// The counted book, until the guard is dropped. It waits for the lock.
+    ///
+    /// Its history is a permitted run that ends in the core's table, whatever the threads did.
+    pub fn lock<R: Wait>(&self, rt: &R) -> MutexGuard<'_, Counted<M, S>>
+        ensures history { IsHistory (mutex_guard_value result) }
+        ensures terms { terms_of (mutex_guard_value result) ≡ M.terms }
+        ensures cover { IsCovered (table_in (mutex_guard_value result)) }
+    {
+        let guard = self.counted.lock(rt);
+        let _entries = guard.book().entries();
+        guard
+    }
+}

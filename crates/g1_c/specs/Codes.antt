@@ -1,0 +1,27 @@
+-- The words that cross to C.
+use Rattle.std.specs.Prelude.{ℕ, Option, Some, None, ◌==◌, if◌then◌else◌}
+use Rattle.g1_layout.specs.declared.kind.Kind.{Kind}
+use Rattle.g1_layout.specs.declared.kind.Kind.TheVariants.{Null, SameRegion, AlreadyDirty, Logged}
+use Rattle.g1_core.specs.Machine.{Machine}
+use Rattle.g1_core.specs.Run.{stored}
+
+-- the word of a kind of store
+abbrev pub kind_word : Kind → ℕ
+kind_word Null = 0
+kind_word SameRegion = 1
+kind_word AlreadyDirty = 2
+kind_word Logged = 3
+
+-- the reference that a word stands for: the greatest word is null
+abbrev pub reference_of : ℕ → Option ℕ
+reference_of word = if word == 4294967295 then None else Some word
+
+-- what holds from one machine to the next, of a handle that is open before and after
+abbrev pub Between : Option Machine → Option Machine → (Machine → Machine → Type 0) → Type 0
+Between None new Q = ⊥
+Between (Some old) None Q = ⊥
+Between (Some old) (Some new) Q = Q old new
+
+-- a store changes the table, and nothing else
+abbrev pub stored_machine : Machine → ℕ → Option ℕ → Machine
+stored_machine m slot target = record { state = record { table = stored m.state.table slot target; ring = m.state.ring }; settings = m.settings; reads = m.reads }

@@ -1,0 +1,101 @@
+//! Opening and closing a handle.
+ghost use Rattle.std.specs.Prelude.{◌≡◌, ◌<◌, Some, None, IfOk, IsSome};
+ghost use Rattle.g1_layout.specs.Shape.{Shape};
+ghost use Rattle.g1_core.specs.Settings.{Settings};
+ghost use Rattle.g1_core.specs.Machine.{Machine, new_machine};
+
+use crate::code::{DONE, Refusal};
+use crate::handle::Handle;
+use core::mem::replace_with;
+use g1_core::{Config, Core};
+use g1_layout::Layout;
+use raw_box::RawBox;
+use std::alloc::Global;
+
+/// How many regions, cards a region and slots a card a heap has.
+#[repr(C)]
+#[derive(Clone, Copy, Debug)]
+pub struct Counts {
+    /// How many regions.
+    pub regions: u32,
+    /// How many cards a region has.
+    pub cards: u32,
+    /// How many slots a card has.
+    pub slots: u32,
+}
+
+/// Opens a closed handle on a new heap: all slots null, no card pending, nothing recorded. `hot` is the count of refinements from
+/// which on a card is hot, and `ring` how many cards the hot ring holds.
+#[unsafe(no_mangle)]
+pub extern "C" fn g1_open(
+    alloc: Global,
+    handle: &mut Handle,
+    counts: &Counts,
+    hot: u32,
+    ring: u32,
+) -> u32
+    ensures new { result ≡ 0 → handle.new.value ≡ Some (new_machine (record { regions = counts.now.regions; cards = counts.now.cards; slots = counts.now.slots }) (record { log = 256; limit = 10; hot = hot; ring = ring; start = 5 })) }
+    ensures closed { result ≡ 0 → handle.old.value ≡ None }
+    ensures refused { 0 < result → handle.new.value ≡ handle.old.value }
+{
+    match new_core(alloc, counts, hot, ring) {
+        Ok(core) => replace_with(handle, core, open_in),
+        Err(refusal) => refusal.word(),
+    }
+}
+
+/// A core of its own on the heap.
+fn new_core(alloc: Global, counts: &Counts, hot: u32, ring: u32) -> Result<Box<Core>, Refusal>
+    ensures { IfOk result (λ core. core.value ≡ new_machine (record { regions = counts.now.regions; cards = counts.now.cards; slots = counts.now.slots }) (record { log = 256; limit = 10; hot = hot; ring = ring; start = 5 })) }
+{
+    let Some(layout) = Layout::new(counts.regions, counts.cards, counts.slots) else {
+        return Err(Refusal::BadLayout);
+    };
+    let log = Config::LOG.default as usize;
+    let limit = Config::LIMIT.default as usize;
+    let start = Config::START.default as usize;
+    let Some(config) = Config::new(log, limit, hot, ring as usize, start) else {
+        return Err(Refusal::BadSettings);
+    };
+    let Ok(core) = Core::new(alloc, layout, config) else {
+        return Err(Refusal::NoMemory);
+    };
+    match Box::new(alloc, core) {
+        Ok(core) => Ok(core),
+        Err(_) => Err(Refusal::NoMemory),
+    }
+}
+
+/// Puts a core into a handle that is closed.
+fn open_in(handle: Handle, core: Box<Core>) -> (Handle, u32)
+    ensures new { result.1 ≡ 0 → result.0.value ≡ Some core.value }
+    ensures closed { result.1 ≡ 0 → handle.value ≡ None }
+    ensures refused { 0 < result.1 → result.0.value ≡ handle.value }
+{
+    match handle.into_raw_box() {
+        Some(kept) => (Handle::of(kept), Refusal::AlreadyOpen.word()),
+        None => (Handle::of(RawBox::of(core)), DONE),
+    }
+}
+
+/// Closes a handle, and gives back all memory that it held. The handle may be opened again.
+#[unsafe(no_mangle)]
+pub extern "C" fn g1_close(alloc: Global, handle: &mut Handle) -> u32
+    ensures closed { handle.new.value ≡ None }
+    ensures done { IsSome handle.old.value → result ≡ 0 }
+    ensures refused { 0 < result → handle.old.value ≡ None }
+{
+    replace_with(handle, alloc, close_in)
+}
+
+fn close_in(handle: Handle, alloc: Global) -> (Handle, u32)
+    ensures closed { result.0.value ≡ None }
+    ensures done { IsSome handle.value → result.1 ≡ 0 }
+    ensures refused { 0 < result.1 → handle.value ≡ None }
+{
+    let Some(core) = handle.into_raw_box() else {
+        return (Handle::closed(alloc), Refusal::NotOpen.word());
+    };
+    let _core = core.into_box();
+    (Handle::closed(alloc), DONE)
+}

@@ -1,0 +1,71 @@
+//! The words that calls answer.
+ghost use Rattle.std.specs.Prelude.{◌≡◌, ◌<◌};
+ghost use Rattle.g1_c.specs.Codes.{kind_word};
+
+use g1_layout::Kind;
+
+/// The call did what its name says.
+pub(crate) const DONE: u32 = 0;
+
+/// A growth was refused in the middle: what was done by then stands.
+pub(crate) const SHORT: u32 = 1;
+
+/// A list that was answered has more cards than the heap has, which cannot be.
+pub(crate) const LONG: u32 = 2;
+
+/// Why a call was refused: nothing has changed then. Words up to 7 are left to what was done.
+#[derive(Clone, Copy, Debug, PartialEq, Eq)]
+pub enum Refusal {
+    /// The handle is closed.
+    NotOpen,
+    /// The handle that was to be opened is open.
+    AlreadyOpen,
+    /// A growth was refused before anything changed.
+    NoMemory,
+    /// The counts of the heap are outside their limits.
+    BadLayout,
+    /// The hot limit or the ring's size is outside its limits.
+    BadSettings,
+    /// The heap has no such slot.
+    NoSlot,
+    /// The heap has no such card.
+    NoCard,
+    /// The heap has no such region.
+    NoRegion,
+    /// An array is too small.
+    NoRoom,
+    /// More cards than a log has.
+    TooManyCards,
+}
+
+impl Refusal {
+    /// The word that C gets.
+    pub(crate) fn word(self) -> u32
+        ensures { 7 < result }
+    {
+        match self {
+            Refusal::NotOpen => 8,
+            Refusal::AlreadyOpen => 9,
+            Refusal::NoMemory => 10,
+            Refusal::BadLayout => 11,
+            Refusal::BadSettings => 12,
+            Refusal::NoSlot => 13,
+            Refusal::NoCard => 14,
+            Refusal::NoRegion => 15,
+            Refusal::NoRoom => 16,
+            Refusal::TooManyCards => 17,
+        }
+    }
+}
+
+/// The word of a kind of store.
+pub(crate) fn kind_word(kind: Kind) -> u32
+    ensures { result ≡ kind_word kind }
+{
+    match kind {
+        Kind::Null => 0,
+        Kind::SameRegion => 1,
+        Kind::AlreadyDirty => 2,
+        Kind::Logged => 3,
+    }
+}

@@ -1,0 +1,70 @@
+//! Stores.
+ghost use Rattle.std.specs.Prelude.{◌≡◌, ◌<◌, ◌≤◌, IfSome};
+ghost use Rattle.g1_layout.specs.Shape.{slot_count};
+ghost use Rattle.g1_core.specs.Run.{kind_of};
+ghost use Rattle.g1_c.specs.Codes.{kind_word, reference_of, Between, stored_machine};
+
+use crate::code::{Refusal, kind_word};
+use crate::handle::Handle;
+use core::mem::replace_with;
+use g1_core::Core;
+use g1_layout::{Layout, Slot};
+use g1_log::Log;
+use raw_box::RawBox;
+use std::alloc::Global;
+
+/// The word for null.
+const NULL: u32 = 4_294_967_295;
+
+/// Stores a reference into a slot, or null, and answers the kind of store: 0 null, 1 same region, 2 dirty, 3 logged. Where it is 3
+/// the caller logs the slot's card. Takes no memory and constant time.
+#[unsafe(no_mangle)]
+pub extern "C" fn g1_store(alloc: Global, handle: &mut Handle, slot: u32, target: u32) -> u32
+    ensures kind { result ≤ 3 → Between handle.old.value handle.new.value (λ old new. result ≡ kind_word (kind_of old.state.table slot (reference_of target))) }
+    ensures machine { result ≤ 3 → Between handle.old.value handle.new.value (λ old new. new ≡ stored_machine old slot (reference_of target)) }
+    ensures refused { 3 < result → handle.new.value ≡ handle.old.value }
+{
+    replace_with(handle, (alloc, slot, target), store_in)
+}
+
+fn store_in(handle: Handle, words: (Global, u32, u32)) -> (Handle, u32)
+    ensures kind { result.1 ≤ 3 → Between handle.value result.0.value (λ old new. result.1 ≡ kind_word (kind_of old.state.table words.1 (reference_of words.2))) }
+    ensures machine { result.1 ≤ 3 → Between handle.value result.0.value (λ old new. new ≡ stored_machine old words.1 (reference_of words.2)) }
+    ensures refused { 3 < result.1 → result.0.value ≡ handle.value }
+{
+    let Some(core) = handle.into_raw_box() else {
+        return (Handle::closed(words.0), Refusal::NotOpen.word());
+    };
+    let mut core = core.into_box();
+    let code = store_one(&mut core, words.1, words.2);
+    (Handle::of(RawBox::of(core)), code)
+}
+
+fn store_one(core: &mut Core, slot: u32, target: u32) -> u32
+    ensures kind { result ≤ 3 → result ≡ kind_word (kind_of core.old.state.table slot (reference_of target)) }
+    ensures machine { result ≤ 3 → core.new ≡ stored_machine core.old slot (reference_of target) }
+    ensures refused { 3 < result → core.new ≡ core.old }
+{
+    let layout = core.layout();
+    let Some(slot) = layout.slot(slot) else {
+        return Refusal::NoSlot.word();
+    };
+    let Some(target) = reference(layout, target) else {
+        return Refusal::NoSlot.word();
+    };
+    let mut log = Log::new(256);
+    let (reply, _buffer) = core.store(&mut log, slot, target);
+    kind_word(reply.kind)
+}
+
+/// The reference of a word, or `None` where the heap has no such slot.
+fn reference(layout: Layout, word: u32) -> Option<Option<Slot>>
+    ensures value { IfSome result (λ target. target ≡ reference_of word) }
+    ensures within { IfSome result (λ target. IfSome target (λ place. place < slot_count layout)) }
+{
+    if word == NULL {
+        return Some(None);
+    }
+    let slot = layout.slot(word)?;
+    Some(Some(slot))
+}

@@ -1,0 +1,83 @@
+-- How long the lists of a reply can be.
+use Rattle.std.proofs.Common.{◌≡◌, Bool, true, false, if◌then◌else◌, ℕ, zero, suc, ◌≤◌, ◌+◌, List, [], ◌∷◌, length, take, Option, Some, None, ap, subst, arith}
+use Rattle.std.specs.Prelude.{Contains}
+use Rattle.std.specs.FinSet as set
+use Rattle.std.proofs.lemmas.List.{length-append}
+use Rattle.std.proofs.lemmas.List.Elements.{All-contains}
+use Rattle.g1_hot.specs.declared.offer.Offer.{Offer}
+use Rattle.g1_hot.specs.declared.offer.Offer.TheVariants.{Cold, Kept, Out}
+use Rattle.g1_core.specs.declared.reply.RefineReply.{RefineReply}
+use Rattle.g1_core.specs.Table.{Table, IsPending, AreRefinable, refined}
+use Rattle.g1_core.specs.Machine.{State}
+use Rattle.g1_core.specs.Turns.{Round, refined_by, hot_by, skipped_by, offer_to, turn, turns, start}
+use Rattle.g1_core.specs.Refinement.{IsTurned}
+use Rattle.g1_core.proofs.SetLemmas.{All_by_member}
+use Rattle.g1_core.proofs.MarkLemmas.{one_less}
+use Rattle.g1_core.proofs.TurnLemmas.{front_apart, rest_distinct, pending_but}
+
+-- no more cards are refined than are pending
+pub refined_few : (t : Table) (cards : List ℕ) → AreRefinable t cards → length cards ≤ set.len t.pending
+refined_few t [] h = omega arith
+refined_few t (x ∷ xs) h =
+    let rest : AreRefinable (refined (x ∷ []) t) xs = record {
+      distinct = rest_distinct x xs h.distinct;
+      pending = All_by_member (IsPending (refined (x ∷ []) t)) xs (λ q c. pending_but t x q (All-contains (IsPending t) (x ∷ xs) q h.pending (suc c.0, omega (arith, c.1), c.2)) (λ e. front_apart x xs h.distinct (subst (Contains xs) e c)));
+    } in
+    let fewer = one_less t.pending x (h.pending 0 x (omega arith)) in
+    let few = refined_few (refined (x ∷ []) t) xs rest in
+    omega arith
+
+-- a turn refines one card at most, and a card that it skips is not refined
+one_at_most : (card : ℕ) (o : Option Offer) → length (refined_by card o) + skipped_by o ≤ 1
+one_at_most card None = omega arith
+one_at_most card (Some Cold) = omega arith
+one_at_most card (Some Kept) = omega arith
+one_at_most card (Some (Out oldest)) = omega arith
+
+turns_few : (cards : List ℕ) (r : Round) → length (turns r cards).refined + (turns r cards).skipped ≤ length r.refined + r.skipped + length cards
+turns_few [] r = omega arith
+turns_few (card ∷ cards) r =
+    let more : length (turn r card).refined ≡ length r.refined + length (refined_by card (offer_to r.state card)) = length-append r.refined (refined_by card (offer_to r.state card)) in
+    let one = one_at_most card (offer_to r.state card) in
+    let rest = turns_few cards (turn r card) in
+    omega arith
+
+taken_few : (n : ℕ) (xs : List ℕ) → length (take n xs) ≤ length xs
+taken_few zero xs = omega arith
+taken_few (suc n) [] = omega arith
+taken_few (suc n) (x ∷ xs) = omega (arith, taken_few n xs)
+
+-- no more cards are refined or skipped than the buffer has
+pub turned_few : (old : State) (cards : List ℕ) (reply : RefineReply) (new : State) → IsTurned old cards reply new → length reply.refined + reply.skipped ≤ length cards
+turned_few old cards reply new h =
+    let is : length reply.refined ≡ length (turns (start old) (take h.many cards)).refined = ap (λ (r : Round). length r.refined) h.turned in
+    let skipped : reply.skipped ≡ (turns (start old) (take h.many cards)).skipped = ap (λ (r : Round). r.skipped) h.turned in
+    let few = turns_few (take h.many cards) (start old) in
+    let some : length (take h.many cards) ≤ length cards = taken_few h.many cards in
+    omega arith
+
+-- nor does a turn count more than one hot card
+hot_one : (o : Option Offer) → hot_by o ≤ 1
+hot_one None = omega arith
+hot_one (Some Cold) = omega arith
+hot_one (Some Kept) = omega arith
+hot_one (Some (Out oldest)) = omega arith
+
+turns_hot_few : (cards : List ℕ) (r : Round) → (turns r cards).hot ≤ r.hot + length cards
+turns_hot_few [] r = omega arith
+turns_hot_few (card ∷ cards) r =
+    let one = hot_one (offer_to r.state card) in
+    let rest = turns_hot_few cards (turn r card) in
+    omega arith
+
+none_or_one : (short : Bool) (n : ℕ) → n ≡ (if short then 0 else 1) → n ≤ 1
+none_or_one true n is = omega arith
+none_or_one false n is = omega arith
+
+-- nor are more hot, and at most one buffer is done
+pub turned_counts : (old : State) (cards : List ℕ) (reply : RefineReply) (new : State) → IsTurned old cards reply new → (reply.taken ≤ 1) × (reply.hot ≤ length cards)
+turned_counts old cards reply new h =
+    let hot : reply.hot ≡ (turns (start old) (take h.many cards)).hot = ap (λ (r : Round). r.hot) h.turned in
+    let few = turns_hot_few (take h.many cards) (start old) in
+    let some : length (take h.many cards) ≤ length cards = taken_few h.many cards in
+    (none_or_one reply.short reply.taken h.taken, omega arith)

@@ -1,0 +1,21 @@
+use Rattle.std.proofs.Common.{◌≡◌, ap, ◌∙◌, arith}
+use Rattle.g1_heap.specs.Cells.{Cells}
+use Rattle.g1_sets.specs.Pairs.{Pairs}
+use Rattle.g1_core.specs.Adoption.{marks_for}
+use Rattle.g1_core.proofs.AdoptionLemmas.{adopted_core, adopted_is}
+use Rattle.g1_core.proofs.machinery.Core.adopt.Goals as goal
+
+cells_are : (c : goal.After-new-4) → c.mark_cards-pending.new.heap ≡ record { layout = c.args.layout; refs = c.args.refs.now; marks = marks_for c.args.marked.now; reads = 0 }
+cells_are c = c.mark_cards-pending.ensures.heap
+    ∙ ((λ i. let h : Cells = c.set_references.ensures i in record { layout = h.layout; refs = h.refs; marks = marks_for c.args.marked.now; reads = h.reads })
+    ∙ (λ i. let h : Cells = c.in_ok-heap.ensures i in record { layout = h.layout; refs = c.args.refs.now; marks = marks_for c.args.marked.now; reads = h.reads }))
+
+pub invariant_of-result : goal.invariant_of-result
+invariant_of-result c = adopted_core c.args.layout c.args.config c.args.refs.now c.args.marked.now c.args.pairs.now c.hot.result c.ring.result c.mark_cards-pending.result c.mark_cards-pending.new.heap c.record_pairs.new.sets c.in_ok-hot.hot
+    (omega (arith, c.ring.ensures.within)) c.hot.ensures.count c.ring.ensures.cards c.layout.ensures.cells (cells_are c) (c.in_ok-record_pairs.ensures.layout ∙ ap (λ (s : Pairs). s.layout) c.in_ok-sets.ensures) c.in_ok-record_pairs.ensures.pairs
+    c.in_ok-hot.ensures c.mark_cards-pending.ensures.pending c.requires.pairs c.requires.cover
+
+pub returns : goal.returns
+returns c = adopted_is c.args.layout c.args.config c.args.refs.now c.args.marked.now c.args.pairs.now c.hot.result c.ring.result c.mark_cards-pending.result c.mark_cards-pending.new.heap c.record_pairs.new.sets c.in_ok-hot.hot
+    (omega (arith, c.ring.ensures.within)) c.hot.ensures.count c.ring.ensures.cards c.layout.ensures.cells (cells_are c) (c.in_ok-record_pairs.ensures.layout ∙ ap (λ (s : Pairs). s.layout) c.in_ok-sets.ensures) c.in_ok-record_pairs.ensures.pairs
+    c.in_ok-hot.ensures c.mark_cards-pending.ensures.pending c.requires.pairs c.requires.cover

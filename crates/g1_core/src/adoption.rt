@@ -1,0 +1,157 @@
+//! Adoption: a core that is made of a table, and the pairs of a core's table.
+ghost use Rattle.std.specs.Prelude.{◌≡◌, ◌<◌, ◌^◌, ◌↔◌, ◌⊎◌, ℕ, All, Contains, IfSome, IfOk, OnOk, length, replicate};
+ghost use Rattle.std.specs.FinSet as set;
+ghost use Rattle.g1_layout.specs.Shape.{slot_count, card_count};
+ghost use Rattle.g1_sets.specs.Pairs.{list_at, AreTied};
+ghost use Rattle.g1_heap.specs.declared.mark.Mark.TheVariants.{Clean};
+ghost use Rattle.g1_core.specs.Table.{IsCovered};
+ghost use Rattle.g1_core.specs.Machine.{pending_of};
+ghost use Rattle.g1_core.specs.Adoption.{IsPairOf, marks_for, table_with, adopted_machine};
+
+use crate::config::Config;
+use crate::machinery::Core;
+use arrayvec::ArrayVec;
+use g1_heap::{Heap, Mark};
+use g1_hot::Hot;
+use g1_layout::{Card, Layout, NoMemory, Region, Slot};
+use g1_sets::Sets;
+use std::alloc::Global;
+
+impl Core {
+    /// A core of a table that is there already: `refs` has what each slot refers to, in the order of the slots, `marked`
+    /// says of each card whether it is pending, and `pairs` has the recorded pairs of a card and a region, in any order.
+    ///
+    /// Each marked card is dirty, every other one clean. Each count is 0, the ring is empty, and no slot was read. Every
+    /// place, card and region must be of the heap, each pair's card must lie outside its region, and cover must hold: the
+    /// card of a slot that refers into another region is marked, or its pair is listed.
+    ///
+    /// Takes the memory that [`Core::new`] takes, and what the remembered sets need for the pairs. `NoMemory` where a
+    /// growth was refused; what was taken is given back.
+    pub fn adopt(
+        alloc: Global,
+        layout: Layout,
+        config: Config,
+        refs: &[Option<Slot>],
+        marked: &[bool],
+        pairs: &[(Card, Region)],
+    ) -> Result<Core, NoMemory>
+        requires slots { length refs.now ≡ slot_count layout }
+        requires places { All (λ target. IfSome target (λ place. place < slot_count layout)) refs.now }
+        requires cards { length marked.now ≡ card_count layout }
+        requires pairs { All (IsPairOf layout) pairs.now }
+        requires cover { IsCovered (table_with layout refs.now marked.now pairs.now) }
+        ensures { IfOk result (λ core. core ≡ adopted_machine layout config refs.now marked.now pairs.now) }
+    {
+        let mut heap = Heap::new(alloc, layout)?;
+        let mut sets = Sets::new(alloc, layout)?;
+        let hot = Hot::new(alloc, layout, config.hot(), config.ring())?;
+        record_pairs(&mut sets, pairs)?;
+        set_references(&mut heap, refs);
+        let pending = mark_cards(&mut heap, marked);
+        let _ = heap.layout();
+        Ok(Core {
+            alloc,
+            config,
+            heap,
+            sets,
+            hot,
+            pending,
+            targets: ArrayVec::new(),
+        })
+    }
+
+    /// The recorded pairs of a card and a region: what [`Core::adopt`] is given of a core's remembered sets.
+    ///
+    /// `NoMemory` where the room for the list was refused.
+    pub fn pairs(&self) -> Result<Vec<(Card, Region)>, NoMemory>
+        ensures recorded { IfOk result (λ pairs. set.from_list pairs.items ≡ self.now.state.table.recorded) }
+        ensures within { IfOk result (λ pairs. All (IsPairOf self.now.state.table.layout) pairs.items) }
+    {
+        let pairs = all_pairs(self.alloc, self.heap.layout(), &self.sets)?;
+        Ok(pairs)
+    }
+}
+
+// The recorded pairs, by region.
+fn all_pairs(alloc: Global, layout: Layout, sets: &Sets) -> Result<Vec<(Card, Region)>, NoMemory>
+    requires { sets.now.layout ≡ layout }
+    ensures pairs { IfOk result (λ pairs. set.from_list pairs.items ≡ sets.now.pairs) }
+    ensures tied { AreTied sets.now }
+{
+    let (regions, _, _) = layout.counts();
+    let Some(first) = layout.region(0) else {
+        unreachable!()
+    };
+    let _len = sets.len(first);
+    let mut pairs = Vec::new(alloc);
+    for number in 0..regions {
+        let Some(region) = layout.region(number) else {
+            unreachable!()
+        };
+        add_pairs(&mut pairs, sets, region)?;
+    }
+    Ok(pairs)
+}
+
+// Adds the pairs at a region.
+fn add_pairs(pairs: &mut Vec<(Card, Region)>, sets: &Sets, region: Region) -> Result<(), NoMemory>
+    requires { region < sets.now.layout.regions }
+    ensures pairs { OnOk result ((x : ℕ × ℕ) → Contains pairs.new.items x ↔ (Contains pairs.old.items x ⊎ ((x.1 ≡ region) × Contains (list_at sets.now.lists region) x.0))) }
+{
+    for index in 0..sets.len(region) {
+        pairs.push((sets.at(region, index), region))?;
+    }
+    Ok(())
+}
+
+// Records the pairs.
+fn record_pairs(sets: &mut Sets, pairs: &[(Card, Region)]) -> Result<(), NoMemory>
+    requires empty { sets.old.pairs ≡ set.empty }
+    requires pairs { All (IsPairOf sets.old.layout) pairs.now }
+    ensures layout { OnOk result (sets.new.layout ≡ sets.old.layout) }
+    ensures pairs { OnOk result (sets.new.pairs ≡ set.from_list pairs.now) }
+{
+    for number in 0..pairs.len() {
+        let pair = pairs[number];
+        sets.record(pair.0, &[pair.1])?;
+    }
+    Ok(())
+}
+
+// Writes every slot.
+fn set_references(heap: &mut Heap, refs: &[Option<Slot>])
+    requires slots { length refs.now ≡ slot_count heap.old.layout }
+    requires places { All (λ target. IfSome target (λ place. place < slot_count heap.old.layout)) refs.now }
+    ensures { heap.new ≡ record { layout = heap.old.layout; refs = refs.now; marks = heap.old.marks; reads = heap.old.reads } }
+{
+    let layout = heap.layout();
+    let (_, _, _) = layout.counts();
+    for number in 0..refs.len() {
+        let Some(slot) = layout.slot(number as u32) else {
+            unreachable!()
+        };
+        heap.set(slot, refs[number]);
+    }
+}
+
+// Marks cards dirty where all are clean, and answers how many.
+fn mark_cards(heap: &mut Heap, marked: &[bool]) -> u32
+    requires clean { heap.old.marks ≡ replicate (card_count heap.old.layout) Clean }
+    requires cards { length marked.now ≡ card_count heap.old.layout }
+    ensures heap { heap.new ≡ record { layout = heap.old.layout; refs = heap.old.refs; marks = marks_for marked.now; reads = heap.old.reads } }
+    ensures pending { result ≡ set.len (pending_of heap.new.marks) }
+{
+    let layout = heap.layout();
+    let (_, _, _) = layout.counts();
+    let mut pending = 0;
+    for number in 0..marked.len() {
+        let Some(card) = layout.card(number as u32) else {
+            unreachable!()
+        };
+        if marked[number] {
+            heap.set_mark(card, Mark::Dirty);
+            pending += 1;
+        }
+    }
+    pending
+}

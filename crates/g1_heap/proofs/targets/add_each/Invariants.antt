@@ -1,0 +1,10 @@
+use Rattle.std.proofs.Common.{◌≤◌, ◌+◌, length}
+use Rattle.g1_layout.specs.declared.region_set.RegionSet.{RegionSet}
+use Rattle.g1_heap.specs.Listing.{IsListedUpTo}
+use Rattle.g1_heap.proofs.targets.add_each.Given as goal
+
+abbrev pub invariant-loop-word : goal.invariant-loop-word
+invariant-loop-word l = record {
+  room : length l.targets.items ≤ l.from + l.word-index;
+  listed : (known : RegionSet) → IsListedUpTo l.layout l.row known l.from l.fn.seen l.fn.targets.items → IsListedUpTo l.layout l.row known (l.from + l.word-index) l.seen l.targets.items;
+}

@@ -1,0 +1,10 @@
+pub mod Plain
+pub mod Cover
+pub mod Steps
+pub mod Allowed
+pub mod Calls
+pub mod Closing
+pub mod Ends
+pub mod Opening
+pub mod Numbers
+pub mod Draining

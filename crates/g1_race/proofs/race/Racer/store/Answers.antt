@@ -1,0 +1,57 @@
+use Rattle.std.proofs.Common.{ℕ, ◌≡◌, ◌<◌, ◌≤◌, ◌+◌, IfSome, ap, sym, subst, ◌∙◌, arith}
+use Rattle.g1_layout.specs.Shape.{slot_count}
+use Rattle.g1_race.specs.declared.view.Shape.{Shape}
+use Rattle.g1_race.specs.declared.view.View.{View}
+use Rattle.g1_race.specs.Race.{card_of, looked, word_of}
+use Rattle.g1_race.specs.Members.{racer_view}
+use Rattle.g1_race.proofs.Calls.{word_fits, other_region, card_below, owes_card, still_owes, write_owed, look_owed, dirty_owed, sits_wrote, sits_looked, races_of}
+use Rattle.g1_race.proofs.race.Racer.store.Goals as goal
+
+pub store-requires : goal.store-requires
+store-requires c =
+    let race = c.args.race.now in
+    let r = races_of c.args.race.now.table.shared.table_id c.args.race.now.shape c.args.self.now c.requires.race in
+    let p = c.number-place.result in
+    let slots : race.shape.slots ≡ slot_count race.layout = ap (λ (k : Shape). k.slots) race.laid in
+    let lt : p < race.shape.slots = omega (arith, c.number-place.ensures, c.requires.slot, slots) in
+    (r.table, omega (arith, race.words_are, lt), write_owed race _ _ p c.word_of-word.result r.idle r.history lt (subst (λ (x : ℕ). x ≤ race.shape.slots) (sym c.word_of-word.ensures) (word_fits c.args.target race.shape.slots (subst (λ (n : ℕ). IfSome c.args.target (λ t. t < n)) (sym slots) c.requires.target))))
+
+pub load-requires : goal.load-requires
+load-requires c =
+    let race = c.args.race.now in
+    let r = races_of c.args.race.now.table.shared.table_id c.args.race.now.shape c.args.self.now c.requires.race in
+    let e = c.store.ensures in
+    let v = racer_view c.args.self.now in
+    let n = c.word_of-word.result in
+    let p = c.number-place.result in
+    let slots : race.shape.slots ≡ slot_count race.layout = ap (λ (k : Shape). k.slots) race.laid in
+    let lt : p < race.shape.slots = omega (arith, c.number-place.ensures, c.requires.slot, slots) in
+    let t = c.number.result in
+    let is : n ≡ t + 1 = c.word_of-word.ensures ∙ (ap word_of c.in-Some.is ∙ ap (λ (x : ℕ). x + 1) (sym c.number.ensures)) in
+    let below = card_below race.shape p race.shaped lt in
+    let u = ap (λ me. me.0) e.2 in (
+      e.0 ∙ r.table,
+      omega (arith, race.words_are, below),
+      look_owed race _ _ (card_of race.shape p) (sits_wrote race.shape v _ p n r.idle u) (ap (λ (w : View). w.owed) u ∙ owes_card race.shape v p n r.idle (other_region race.shape p t n is c.if-place-shape.false)) below,
+    )
+
+pub swap-requires : goal.swap-requires
+swap-requires c =
+    let race = c.args.race.now in
+    let r = races_of c.args.race.now.table.shared.table_id c.args.race.now.shape c.args.self.now c.requires.race in
+    let e = c.store.ensures in
+    let l = c.load.ensures in
+    let v = racer_view c.args.self.now in
+    let n = c.word_of-word.result in
+    let p = c.number-place.result in
+    let slots : race.shape.slots ≡ slot_count race.layout = ap (λ (k : Shape). k.slots) race.laid in
+    let lt : p < race.shape.slots = omega (arith, c.number-place.ensures, c.requires.slot, slots) in
+    let t = c.number.result in
+    let is : n ≡ t + 1 = c.word_of-word.ensures ∙ (ap word_of c.in-Some.is ∙ ap (λ (x : ℕ). x + 1) (sym c.number.ensures)) in
+    let below = card_below race.shape p race.shaped lt in
+    let u = ap (λ me. me.0) l.2 ∙ ap (λ me. looked me.0 c.load.result) e.2 in (
+      l.0 ∙ (e.0 ∙ r.table),
+      omega (arith, race.words_are, below),
+      dirty_owed race _ _ (card_of race.shape p) (sits_looked race.shape v _ p n c.load.result r.idle u)
+          (ap (λ (w : View). w.owed) u ∙ still_owes race.shape v p n c.load.result r.idle (other_region race.shape p t n is c.if-place-shape.false) c.if-load-eq1.false) below,
+    )

@@ -1,0 +1,119 @@
+//! A race that is over: what its slots refer to, which of its cards are dirty, and which pairs were recorded.
+ghost use Rattle.std.specs.Prelude.{◌≡◌, ◌+◌, ◌<◌, ◌↔◌, IsTrue, IfSome, Contains};
+ghost use Rattle.g1_core.specs.Table.{target_of, IsPending, IsRecorded};
+ghost use mathlib.Core.Option.{some};
+ghost use lib.ListN.{get_elem?};
+ghost use Rattle.g1_layout.specs.Shape.{slot_count, card_count};
+ghost use Rattle.g1_race.specs.Race.{In};
+ghost use Rattle.g1_race.specs.Over.{refs_of, marks_of, table_of};
+
+use crate::view::Shape;
+use g1_layout::{Card, Layout, Region, Slot};
+use std::alloc::Global;
+use std::marker::Model;
+
+/// A race that is over, with no thread at it any more ([`Race::close`](crate::Race::close)).
+///
+/// Its model is a table: the layout, the words of slots and marks, and the recorded pairs. Each slot that refers into another
+/// region has its card dirty or its pair recorded, and each pair has its card outside its region.
+pub struct Closed {
+    pub(crate) words: atomic_table::Closed<(), Global>,
+    pub(crate) layout: Layout,
+    pub(crate) shape: Shape,
+    pub(crate) lists: Vec<Vec<(Card, Region)>>,
+}
+
+impl Model for Closed {
+    ghost use Rattle.std.specs.Prelude.{◌≡◌, ◌+◌, map};
+    ghost use Rattle.std.specs.Slots.{slots_items, slots_len, IsFull};
+    ghost use Rattle.g1_race.specs.Over.{Ended, IsEnded, joined};
+
+    ghost Value = { Ended };
+
+    ghost view = { λ a. record { layout = a.layout; words = slots_items a.words.words; pairs = joined (map (λ v. v.items) a.lists.items) } };
+
+    ghost invariant = { λ a. IsEnded a.shape a.layout (slots_items a.words.words) (map (λ v. v.items) a.lists.items) × (slots_len a.words.words ≡ a.shape.slots + a.shape.cards) × (slots_len a.words.slots ≡ 0) × IsFull a.words.words };
+}
+
+impl Drop for Closed {
+    fn drop(self) {
+        let Closed {
+            words,
+            layout: _,
+            shape: _,
+            lists: _,
+        } = self;
+        words.free();
+    }
+}
+
+impl Closed {
+    /// What the slot refers to, or None for null. Reads one word.
+    pub fn target(&self, slot: Slot) -> Option<Slot>
+        requires { slot < slot_count self.now.layout }
+        ensures target { result ≡ target_of (table_of self.now) slot }
+        ensures within { IfSome result (λ place. place < slot_count self.now.layout) }
+    {
+        self.target_at(slot.number() as usize)
+    }
+
+    /// Whether the card is dirty: stored to since it was last refined, or dirty from the beginning. Reads one word.
+    pub fn marked(&self, card: Card) -> bool
+        requires { card < card_count self.now.layout }
+        ensures { IsTrue result ↔ IsPending (table_of self.now) card }
+    {
+        self.marked_at(card.number() as usize)
+    }
+
+    /// Whether the pair was recorded, by a sweeper or before the race. Looks through the recorded pairs one by one.
+    pub fn has(&self, card: Card, region: Region) -> bool
+        ensures { IsTrue result ↔ IsRecorded (table_of self.now) card region }
+    {
+        self.lists_pair(card, region)
+    }
+
+    // Whether some list has the pair.
+    fn lists_pair(&self, card: Card, region: Region) -> bool
+        ensures { IsTrue result ↔ Contains self.now.pairs (card, region) }
+    {
+        for list in &self.lists {
+            if is_in(list, card, region) {
+                return true;
+            }
+        }
+        false
+    }
+
+    // As `target`, by the number of the slot.
+    fn target_at(&self, slot: usize) -> Option<Slot>
+        requires { slot < slot_count self.now.layout }
+        ensures refers { get_elem? (refs_of self.now) slot ≡ some result }
+        ensures within { IfSome result (λ place. place < slot_count self.now.layout) }
+    {
+        let word = self.words.word(slot);
+        if word == 0 {
+            return None;
+        }
+        self.layout.slot(word as u32 - 1)
+    }
+
+    // As `marked`, by the number of the card.
+    fn marked_at(&self, card: usize) -> bool
+        requires { card < card_count self.now.layout }
+        ensures { get_elem? (marks_of self.now) card ≡ some result }
+    {
+        self.words.word(self.shape.slots + card) == 1
+    }
+}
+
+// Whether the list has the pair.
+fn is_in(list: &[(Card, Region)], card: Card, region: Region) -> bool
+    ensures { IsTrue result ↔ In list.now (card, region) }
+{
+    for pair in list {
+        if pair.0.number() == card.number() && pair.1.number() == region.number() {
+            return true;
+        }
+    }
+    false
+}

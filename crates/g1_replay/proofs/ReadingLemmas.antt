@@ -1,0 +1,125 @@
+-- Lines that were read: one, and one after another.
+use Rattle.std.proofs.Common.{◌≡◌, ◌≢◌, ℕ, ◌+◌, ◌<◌, ◌≤◌, List, [], ◌∷◌, ◌++◌, refl, length, sym, ap, ◌∙◌, subst, arith, append_assoc, append-nil, Option, Some, None, true, false, rules}
+use Rattle.std.specs.Prelude.{Bool, Result, Ok, Err, nat_lt, option_to_list}
+use Rattle.std.proofs.KnownBytes.{Consumes-nil, Consumes-trans}
+use Rattle.std.proofs.lemmas.Bool.{ne_eqb}
+use Rattle.std.proofs.lemmas.List.{length-append}
+use Rattle.std.specs.Io.KnownBytes.{Consumes, IsAtEnd}
+use Rattle.g1_layout.specs.Shape.{Shape}
+use Rattle.g1_replay.specs.declared.command.Command.{Command}
+use Rattle.g1_replay.specs.declared.dialect.Dialect.{Dialect}
+use Rattle.g1_replay.specs.declared.fault.TraceFault.{TraceFault}
+use Rattle.g1_replay.specs.declared.fault.TraceFault.TheVariants.{TooLong, Cut, NoHeader}
+use Rattle.g1_replay.specs.declared.stop.Stop.{Stop}
+use Rattle.g1_replay.specs.declared.stop.Stop.TheVariants.{Fault, ReadFailed}
+use Rattle.g1_replay.specs.Grammar.{read_command, read_header}
+use Rattle.g1_replay.specs.Lines.{IsPart, ReadsLine}
+use Rattle.g1_replay.specs.Reading.{IsLeft, Passes, IsReadStop, Reads}
+use Rattle.g1_replay.specs.Trace.{Trace, read_on, read_line, after_line, at_end, before, faulty}
+
+-- bytes of one line
+scan : (line : List ℕ) (d : Dialect) (heap : Option Shape) (n : ℕ) (begun x : List ℕ) → IsPart line → length begun + length line ≤ 64
+    → read_on d heap n begun (line ++ x) ≡ read_on d heap n (begun ++ line) x
+scan [] d heap n begun x p h = ap (λ w. read_on d heap n w x) (sym (append-nil begun))
+scan (b ∷ line) d heap n begun x p h =
+    let room : nat_lt (length begun) 64 ≡ true = search rules in
+    let rest = scan line d heap n (begun ++ b ∷ []) x p.1 (simp length-append (omega arith)) in
+    rw (ne_eqb _ _ p.0, room) (rest ∙ ap (λ w. read_on d heap n w x) (append_assoc begun (b ∷ []) line))
+
+-- a whole line
+line_done : (line : List ℕ) (d : Dialect) (heap : Option Shape) (n : ℕ) → IsPart line → length line ≤ 64
+    → (x : List ℕ) → read_on d heap n [] ((line ++ 10 ∷ []) ++ x) ≡ after_line heap n (read_line d heap line) (λ opened. read_on d opened (n + 1) [] x)
+line_done line d heap n p h x = ap (λ w. read_on d heap n [] w) (append_assoc line (10 ∷ []) x) ∙ scan line d heap n [] (10 ∷ x) p (omega arith)
+
+line_too_long : (line : List ℕ) (d : Dialect) (heap : Option Shape) (n b : ℕ) → IsPart line → length line ≡ 64 → b ≢ 10
+    → (x : List ℕ) → read_on d heap n [] ((line ++ b ∷ []) ++ x) ≡ faulty heap n TooLong
+line_too_long line d heap n b p h ne x =
+    let full : nat_lt (length line) 64 ≡ false = rw h refl in
+    ap (λ w. read_on d heap n [] w) (append_assoc line (b ∷ []) x) ∙ scan line d heap n [] (b ∷ x) p (omega arith) ∙ rw (ne_eqb _ _ ne, full) refl
+
+end_cut : (line : List ℕ) (heap : Option Shape) (n : ℕ) → 0 < length line → at_end heap n line ≡ faulty heap n Cut
+end_cut [] heap n h = absurd (omega arith)
+end_cut (b ∷ line) heap n h = refl
+
+line_cut : (line : List ℕ) (d : Dialect) (heap : Option Shape) (n : ℕ) → IsPart line → 0 < length line → length line ≤ 64
+    → (x : List ℕ) → x ≡ [] → read_on d heap n [] (line ++ x) ≡ faulty heap n Cut
+line_cut line d heap n p some h x e = ap (λ w. read_on d heap n [] (line ++ w)) e ∙ scan line d heap n [] [] p (omega arith) ∙ end_cut line heap n some
+
+-- known bytes at the end leave nothing
+pub left_none : (rd : Option (List ℕ)) (x : List ℕ) → IsAtEnd rd → IsLeft rd x → x ≡ []
+left_none None x e h = absurd h
+left_none (Some left) x e h = h ∙ e
+
+-- a line that was not read to its end, or is too long
+pub line_stopped : (d : Dialect) (heap : Option Shape) (n : ℕ) (rd rd' : Option (List ℕ)) (stop : Stop) (line : List ℕ) → ReadsLine rd rd' (Err stop) line → Reads d heap n n rd rd' heap [] (Err stop)
+line_stopped d heap n rd rd' (Fault TooLong) line h =
+    record { lines = []; rest = line ++ h.0 ∷ []; consumed = h.1; passed = λ x. refl; met = λ x _. line_too_long line d heap n h.0 h.3 h.4 h.2 x }
+line_stopped d heap n rd rd' (Fault Cut) line h =
+    record { lines = []; rest = line; consumed = h.0; passed = λ x. refl; met = λ x e. line_cut line d heap n h.2 h.3 h.4 x (left_none rd' x h.1 e) }
+line_stopped d heap n rd rd' (Fault f) line h = absurd h
+line_stopped d heap n rd rd' ReadFailed line h = record { lines = []; rest = line; consumed = h.0; passed = λ x. refl; met = (h.1, h.2) }
+line_stopped d heap n rd rd' stop line h = absurd h
+
+pub line_stop : (rd rd' : Option (List ℕ)) (stop : Stop) (line : List ℕ) → ReadsLine rd rd' (Err stop) line → IsReadStop stop
+line_stop rd rd' (Fault f) line h = tt
+line_stop rd rd' ReadFailed line h = tt
+line_stop rd rd' stop line h = absurd h
+
+-- no line, before the header and behind it
+pub no_header : (d : Dialect) (n : ℕ) (rd rd' : Option (List ℕ)) (line : List ℕ) → ReadsLine rd rd' (Ok false) line → Reads d None n n rd rd' None [] (Err (Fault NoHeader))
+no_header d n rd rd' line h = record { lines = []; rest = []; consumed = h.0; passed = λ x. refl; met = λ x e. ap (λ w. read_on d None n [] w) (left_none rd' x h.1 e) }
+
+pub no_line : (d : Dialect) (l : Shape) (n : ℕ) (rd rd' : Option (List ℕ)) (line : List ℕ) → ReadsLine rd rd' (Ok false) line → Reads d (Some l) n n rd rd' (Some l) [] (Ok false)
+no_line d l n rd rd' line h = record { lines = []; rest = []; consumed = h.0; passed = λ x. refl; met = (refl, h.1, refl) }
+
+-- a whole line without a fault
+line_read : (d : Dialect) (heap opened : Option Shape) (n : ℕ) (rd rd' : Option (List ℕ)) (line : List ℕ) (cs : List Command)
+    → ReadsLine rd rd' (Ok true) line → Ok (opened, cs) ≡ read_line d heap line → Reads d heap n (n + 1) rd rd' opened cs (Ok true)
+line_read d heap opened n rd rd' line cs h e = record {
+  lines = line ++ 10 ∷ [];
+  rest = [];
+  consumed = subst (λ (w : List ℕ). Consumes rd rd' w) (sym (append-nil (line ++ 10 ∷ []))) h.0;
+  passed = λ x. line_done line d heap n h.1 h.2 x ∙ ap (λ r. after_line heap n r (λ to. read_on d to (n + 1) [] x)) (sym e);
+  met = refl;
+}
+
+pub header_read : (d : Dialect) (heap : Option Shape) (n : ℕ) (rd rd' : Option (List ℕ)) (line : List ℕ) → ReadsLine rd rd' (Ok true) line → Ok heap ≡ read_header line → Reads d None n (n + 1) rd rd' heap [] (Ok true)
+header_read d heap n rd rd' line h e = line_read d None heap n rd rd' line [] h (rw (← e) refl)
+
+pub command_read : (d : Dialect) (l : Shape) (n : ℕ) (rd rd' : Option (List ℕ)) (line : List ℕ) (o : Option Command) → ReadsLine rd rd' (Ok true) line → Ok o ≡ read_command l d line
+    → Reads d (Some l) n (n + 1) rd rd' (Some l) (option_to_list o) (Ok true)
+command_read d l n rd rd' line o h e = line_read d (Some l) (Some l) n rd rd' line (option_to_list o) h (rw (← e) refl)
+
+-- a whole line with a fault
+line_faulty : (d : Dialect) (heap : Option Shape) (n : ℕ) (rd rd' : Option (List ℕ)) (line : List ℕ) (f : TraceFault) → ReadsLine rd rd' (Ok true) line → Err f ≡ read_line d heap line
+    → Reads d heap n n rd rd' heap [] (Err (Fault f))
+line_faulty d heap n rd rd' line f h e = record {
+  lines = [];
+  rest = line ++ 10 ∷ [];
+  consumed = h.0;
+  passed = λ x. refl;
+  met = λ x _. line_done line d heap n h.1 h.2 x ∙ ap (λ r. after_line heap n r (λ to. read_on d to (n + 1) [] x)) (sym e);
+}
+
+pub header_faulty : (d : Dialect) (n : ℕ) (rd rd' : Option (List ℕ)) (line : List ℕ) (f : TraceFault) → ReadsLine rd rd' (Ok true) line → Err f ≡ read_header line → Reads d None n n rd rd' None [] (Err (Fault f))
+header_faulty d n rd rd' line f h e = line_faulty d None n rd rd' line f h (rw (← e) refl)
+
+pub command_faulty : (d : Dialect) (l : Shape) (n : ℕ) (rd rd' : Option (List ℕ)) (line : List ℕ) (f : TraceFault) → ReadsLine rd rd' (Ok true) line → Err f ≡ read_command l d line
+    → Reads d (Some l) n n rd rd' (Some l) [] (Err (Fault f))
+command_faulty d l n rd rd' line f h e = line_faulty d (Some l) n rd rd' line f h (rw (← e) refl)
+
+-- lines, and then more
+pub reads_none : (d : Dialect) (heap : Option Shape) (n : ℕ) (rd : Option (List ℕ)) → Reads d heap n n rd rd heap [] (Ok true)
+reads_none d heap n rd = record { lines = []; rest = []; consumed = Consumes-nil rd; passed = λ x. refl; met = refl }
+
+pub reads_then : (d : Dialect) (a b c : Option Shape) (n n' n2 : ℕ) (rd rd' rd2 : Option (List ℕ)) (cs ds : List Command) (r : Result Bool Stop)
+    → Reads d a n n' rd rd' b cs (Ok true) → Reads d b n' n2 rd' rd2 c ds r → Reads d a n n2 rd rd2 c (cs ++ ds) r
+reads_then d a b c n n' n2 rd rd' rd2 cs ds r p q = record {
+  lines = p.lines ++ q.lines;
+  rest = q.rest;
+  consumed = subst (λ (w : List ℕ). Consumes rd rd2 w) (ap (λ w. (p.lines ++ w) ++ (q.lines ++ q.rest)) p.met ∙ ap (λ w. w ++ (q.lines ++ q.rest)) (append-nil p.lines) ∙ sym (append_assoc p.lines q.lines q.rest))
+      (Consumes-trans rd rd' rd2 (p.lines ++ p.rest) (q.lines ++ q.rest) p.consumed q.consumed);
+  passed = λ x. ap (λ w. read_on d a n [] w) (append_assoc p.lines q.lines x) ∙ p.passed (q.lines ++ x) ∙ ap (before cs) (q.passed x)
+      ∙ ap (λ (w : List Command). record { heap = (read_on d c n2 [] x).heap; commands = w; fault = (read_on d c n2 [] x).fault }) (sym (append_assoc cs ds _));
+  met = q.met;
+}

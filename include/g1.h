@@ -1,0 +1,138 @@
+/*
+ * The remembered-set machinery of a heap in regions, for C and C++.
+ *
+ * A struct g1 is a checked shadow of a runtime's references. The heap has regions of cards of slots, each numbered from 0 in the
+ * order of the heap: card c has the slots from c * slots on, and region r the cards from r * cards on. A slot holds null or refers
+ * to a place, which is named by its slot's number. The runtime tells the library of each reference store; refinement and pauses
+ * read the references that they were told of, and no memory of the runtime's.
+ *
+ * A card's way: g1_store marks the slot's card and answers G1_LOGGED once; the caller puts the card into an array of its own
+ * thread, its dirty card queue, and hands full arrays to g1_refine, which records where the card refers to. An evacuation pause
+ * calls g1_drain, which refines all that is still pending and answers the remembered set of a region. An array that is lost costs
+ * nothing but time: its cards stay pending, and the next drain refines them.
+ *
+ * Linking: libg1_c.a, and the toolchain's liblibc_c.a after it. The code is for x86-64-v2.
+ *
+ * What nothing can test, and every call asks for:
+ *   - a handle was made of zeros (struct g1 handle = {0};), is at one place at a time, and was written by these calls alone;
+ *   - one call at a time uses a handle. Calls from several threads are put in order by the caller, by a lock for instance;
+ *   - each pointer points to what its type says, and to an array of as many elements as the length after it says. It is not null,
+ *     even for a length of 0. No array that a call writes overlaps anything else that is passed;
+ *   - malloc, realloc and free are of one allocator, and align as C asks;
+ *   - no call is made in a signal handler, or in the forked child of a process with threads.
+ *
+ * A number does not know its heap: a slot of one heap is taken by another that has a slot of that number.
+ */
+#ifndef G1_H
+#define G1_H
+
+#include <stddef.h>
+#include <stdint.h>
+
+#ifdef __cplusplus
+extern "C" {
+#endif
+
+/* The machinery of one heap, or nothing where the word is null. */
+struct g1 {
+    void *core;
+};
+
+/* The target of a store of null. */
+#define G1_NULL UINT32_C(4294967295)
+
+/* What a store was. Only a store that was logged has a card for the caller's dirty card queue. */
+enum g1_kind {
+    G1_STORED_NULL = 0,        /* the target is null */
+    G1_STORED_SAME_REGION = 1, /* the slot and its target lie in one region */
+    G1_STORED_DIRTY = 2,       /* the slot's card was pending already */
+    G1_STORED_LOGGED = 3       /* the slot's card was clean, and is pending now */
+};
+
+/* What the other calls answer. From 8 on, and of g1_store too, the call was refused, and nothing has changed. */
+enum g1_code {
+    G1_DONE = 0,
+    G1_SHORT = 1,          /* memory was refused in the middle: what the call says was done stands, and no more was */
+    G1_LONG = 2,           /* a list did not fit its array, though that has room for every card; no proof rules it out */
+    G1_NOT_OPEN = 8,       /* the handle is closed */
+    G1_ALREADY_OPEN = 9,   /* the handle that was to be opened is open */
+    G1_NO_MEMORY = 10,     /* memory was refused before anything changed */
+    G1_BAD_LAYOUT = 11,    /* the counts of the heap are outside their limits */
+    G1_BAD_SETTINGS = 12,  /* the hot limit or the ring's size is outside its limits */
+    G1_NO_SLOT = 13,       /* the heap has no such slot */
+    G1_NO_CARD = 14,       /* the heap has no such card */
+    G1_NO_REGION = 15,     /* the heap has no such region */
+    G1_NO_ROOM = 16,       /* an array is too small */
+    G1_TOO_MANY_CARDS = 17 /* more than G1_LOG cards at once */
+};
+
+/* How many cards g1_refine takes at most. */
+#define G1_LOG 256
+
+/* The counts of a heap: 1 to 256 regions, 1 to 256 cards a region, 1 to 64 slots a card, and at most 1,048,576 slots in all. */
+struct g1_counts {
+    uint32_t regions;
+    uint32_t cards;
+    uint32_t slots;
+};
+
+/* What a refinement counted. */
+struct g1_tally {
+    uint32_t refined; /* cards that were refined */
+    uint32_t hot;     /* cards that were found hot */
+    uint32_t skipped; /* cards that were not dirty */
+};
+
+/*
+ * Opens a closed handle on a new heap: each slot is null, no card is pending, nothing is recorded. `hot` is the count of refinements
+ * from which on a card is hot (0 to 255), and `ring` how many cards the hot ring holds (1 to 4096). It takes 4 bytes a slot, 34 bytes
+ * a card and the ring.
+ *
+ * G1_DONE, G1_ALREADY_OPEN, G1_NO_MEMORY, G1_BAD_LAYOUT or G1_BAD_SETTINGS.
+ */
+uint32_t g1_open(struct g1 *handle, const struct g1_counts *counts, uint32_t hot, uint32_t ring);
+
+/*
+ * Closes a handle, and gives all its memory back. It may be opened again.
+ *
+ * G1_DONE or G1_NOT_OPEN.
+ */
+uint32_t g1_close(struct g1 *handle);
+
+/*
+ * Stores a reference to the place `target`, or null (G1_NULL), into a slot. Constant time, no memory.
+ *
+ * A kind of store (enum g1_kind), G1_NOT_OPEN, or G1_NO_SLOT for the slot or the target. Where the kind is G1_STORED_LOGGED, the caller
+ * puts card slot / slots into its dirty card queue.
+ */
+uint32_t g1_store(struct g1 *handle, uint32_t slot, uint32_t target);
+
+/*
+ * Refines the cards of a dirty card queue in order, at most G1_LOG of them. A card that is not dirty is skipped, so cards may come
+ * twice or late. A cold card becomes clean, and the regions that it refers into are recorded; a hot one waits in the ring, from which
+ * it may push the oldest card, which is refined in its place. The cards that were refined stand first in `refined`, in order, as many
+ * as tally->refined says; it has room for at least as many cards as are given.
+ *
+ * G1_DONE. G1_SHORT: the cards before one had their turns, and that one and the later ones are as they were; hand them in again.
+ * G1_NOT_OPEN, G1_NO_MEMORY, G1_NO_CARD, G1_NO_ROOM or G1_TOO_MANY_CARDS: nothing has changed, and the tally is 0.
+ */
+uint32_t g1_refine(struct g1 *handle, const uint32_t *cards, size_t cards_length, uint32_t *refined, size_t refined_length,
+                   struct g1_tally *tally);
+
+/*
+ * Refines all that is pending, and answers the remembered set of a region: the cards outside the region that refer into it, and
+ * only cards that did at some time, ascending, each once. They stand first in `cards`, as many as `count` says. The
+ * cards that were refined stand first in `refined`, in order, as many as `refined_count` says. Each array has room for every card of
+ * the heap.
+ *
+ * G1_DONE. G1_SHORT: just the cards in `refined` were refined, the others are pending as before; `count` is 0. Drain again.
+ * G1_NOT_OPEN, G1_NO_MEMORY, G1_NO_REGION or G1_NO_ROOM: nothing has changed, and both counts are 0.
+ */
+uint32_t g1_drain(struct g1 *handle, uint32_t region, uint32_t *cards, size_t cards_length, uint32_t *count, uint32_t *refined,
+                  size_t refined_length, uint32_t *refined_count);
+
+#ifdef __cplusplus
+}
+#endif
+
+#endif
