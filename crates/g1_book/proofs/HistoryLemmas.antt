@@ -14,7 +14,8 @@ use Rattle.g1_core.specs.Calls.{drain_entry}
 use Rattle.g1_core.specs.declared.reply.Drained.{Drained}
 use Rattle.g1_core.specs.declared.reply.Drained.TheVariants.{Cards, Short}
 use Rattle.g1_core.proofs.TableLemmas.{opening_covered}
-use Rattle.g1_core.proofs.RunLemmas.{permitted_step, run_covered, run_layout, has_slots, drain_exact}
+use Rattle.g1_core.proofs.RunLemmas.{permitted_step, run_covered, run_layout, has_slots}
+use Rattle.g1_core.proofs.SinceLemmas.{drain_exact}
 use Rattle.g1_book.specs.History.{History, IsHistory, IsEntered, AnswersExactly, table_in, layout_in}
 
 -- one more entry

@@ -18,7 +18,8 @@ use Rattle.g1_core.specs.declared.reply.ClearReply.TheVariants as clear_reply
 use Rattle.g1_core.specs.Calls.{members_entry, clear_entry}
 use Rattle.g1_core.specs.Run.{IsAllowed, IsPermitted, table_of, drained, IsExact}
 use Rattle.g1_core.proofs.StoreLemmas.{none_refinable}
-use Rattle.g1_core.proofs.RunLemmas.{permitted_parts, drain_exact, has_slots}
+use Rattle.g1_core.proofs.RunLemmas.{permitted_parts, has_slots}
+use Rattle.g1_core.proofs.SinceLemmas.{drain_exact}
 use Rattle.g1_core.proofs.TableLemmas.{nothing_refers}
 
 abbrev heap : Shape

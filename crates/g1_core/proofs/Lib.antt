@@ -2,7 +2,10 @@ pub mod SetLemmas
 pub mod TableLemmas
 pub mod MovedLemmas
 pub mod RunLemmas
+pub mod SinceLemmas
 pub mod OutsideLemmas
+pub mod AdoptingLemmas
+pub mod AdoptedPairLemmas
 pub mod AdoptionLemmas
 pub mod SoundLemmas
 pub mod MarkLemmas

@@ -8,7 +8,7 @@ use Rattle.g1_log.specs.declared.ends.Sender.{Sender}
 use Rattle.g1_log.specs.declared.ends.Taker.{Taker}
 use Rattle.g1_log.specs.Line.{IsLineState, maker, sender_made, new_sender, taker_made, new_taker, newcomer, keeper, put_by, taken_by, IsSenderView}
 use Rattle.g1_log.specs.Ends.{IsNewSender, AreNewSenders, IsNewTaker}
-use Rattle.g1_log.proofs.Keeps.{makes_sender, makes_taker, opens}
+use Rattle.g1_log.proofs.Passing.{makes_sender, makes_taker, opens}
 
 pub AreNewSenders-push : (line : Line) (k : ℕ) (ss : List Sender) (j : ℕ) (s : Sender) → j ≡ k + length ss → AreNewSenders line k ss → IsNewSender line j s → AreNewSenders line k (ss ++ s ∷ [])
 AreNewSenders-push line k [] j s e h new = let d : j ≡ k = omega arith in (subst (λ n. IsNewSender line n s) d new, tt)

@@ -10,7 +10,8 @@ use Rattle.g1_log.specs.declared.view.View.{View}
 use Rattle.g1_log.specs.Line.{one_if, parcel, numbered, put_weight, taken_weight, holding, put_by, IsDelivered}
 use Rattle.g1_log.specs.Once.{named, senders_numbered, EachOnce, NoOther, NoStranger, EachParcelStandsOnce}
 use Rattle.g1_log.proofs.Sums.{at_most_total, all_none, none_too, only}
-use Rattle.g1_log.proofs.Keeps.{over, over_none, one_view, queue_none_over, taken_none_over, test_none}
+use Rattle.g1_log.proofs.Parcels.{over, over_none, test_none}
+use Rattle.g1_log.proofs.Putting.{one_view, queue_none_over, taken_none_over}
 
 named_other : (i k : ℕ) (test : Buffer → Bool) (q : Parcel) → q.sender ≢ i → named i k test q ≡ 0
 named_other i k test q ne = grind (arith, nat_tests)

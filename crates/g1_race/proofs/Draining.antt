@@ -18,9 +18,10 @@ use Rattle.g1_race.specs.Begin.{Begun}
 use Rattle.g1_race.specs.Race.{BeganInto, AmongStores, IsKnown, IsCrossing, IsShape, crosses, History, In, card_of, region_at, last_to, IsMarked, histories_of, shape_of, Among, IsOver}
 use Rattle.g1_race.specs.Over.{Ended, table_of}
 use Rattle.g1_race.specs.Drain.{HadInto, IsExactAfter}
-use Rattle.g1_race.proofs.Calls.{other_region}
-use Rattle.g1_race.proofs.Steps.{last_in}
-use Rattle.g1_race.proofs.Ends.{in_contains, word_back, word_refers, crosses_some, outside_of, region_of_quotient, table_covered}
+use Rattle.g1_race.proofs.StoreCalls.{other_region}
+use Rattle.g1_race.proofs.Reading.{last_in}
+use Rattle.g1_race.proofs.Places.{in_contains}
+use Rattle.g1_race.proofs.Ends.{word_back, word_refers, crosses_some, outside_of, region_of_quotient, table_covered}
 
 -- card c holds into region r, which it lies outside of
 abbrev pub HoldsInto : Shape → List ℕ → ℕ → ℕ → Type 0

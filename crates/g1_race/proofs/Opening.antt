@@ -11,7 +11,7 @@ use Rattle.g1_core.specs.Machine.{pending_of}
 use Rattle.g1_core.proofs.OpeningLemmas.{none_pending}
 use Rattle.g1_core.specs.Adoption.{marks_for}
 use Rattle.g1_race.specs.Over.{target_of, marks_of, refs_of, table_of}
-use Rattle.g1_race.proofs.Steps.{zeros}
+use Rattle.g1_race.proofs.AtBeginning.{zeros}
 
 pub both_ok : {A E : Type 0} {P Q R : A → Type 0} (x : Result A E) → IfOk x P → IfOk x Q → ((a : A) → P a → Q a → R a) → IfOk x R
 both_ok (Ok a) p q f = f a p q

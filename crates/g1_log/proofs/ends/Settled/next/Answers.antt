@@ -1,6 +1,6 @@
 use Rattle.std.proofs.Common.{◌≡◌, Some, IfSome, true, false, rules, subst}
 use Rattle.crossbeam_queue.specs.Passes.{view}
-use Rattle.g1_log.proofs.Keeps.{drains, learns_rest}
+use Rattle.g1_log.proofs.Ending.{drains, learns_rest}
 use Rattle.g1_log.proofs.ends.Settled.next.Goals as goal
 
 pub pop_as-self-requires-clause-rule : goal.pop_as-self-requires-clause-rule

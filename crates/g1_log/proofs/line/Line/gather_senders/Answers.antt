@@ -3,7 +3,7 @@ use Rattle.std.proofs.lemmas.Iterator.Adapters.{YieldsList-from_vec}
 use Rattle.std.proofs.lemmas.Iterator.Consumers.{YieldsList-turn}
 use Rattle.g1_log.specs.Line.{whole}
 use Rattle.g1_log.specs.Ends.{IsSenderOf}
-use Rattle.g1_log.proofs.Keeps.{gathers}
+use Rattle.g1_log.proofs.Merging.{gathers}
 use Rattle.g1_log.proofs.line.Line.gather_senders.Goals as goal
 
 pub absorb-requires-clause-rule : goal.absorb-requires-clause-rule

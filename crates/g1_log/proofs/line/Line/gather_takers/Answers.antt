@@ -2,7 +2,7 @@ use Rattle.std.proofs.Common.{◌≡◌, ◌∙◌, length, vec_len, sym, rules,
 use Rattle.std.proofs.lemmas.Iterator.Adapters.{YieldsList-from_vec}
 use Rattle.std.proofs.lemmas.Iterator.Consumers.{YieldsList-turn}
 use Rattle.g1_log.specs.Ends.{IsTakerOf}
-use Rattle.g1_log.proofs.Keeps.{gathers}
+use Rattle.g1_log.proofs.Merging.{gathers}
 use Rattle.g1_log.proofs.line.Line.gather_takers.Goals as goal
 
 pub absorb-requires-clause-rule : goal.absorb-requires-clause-rule

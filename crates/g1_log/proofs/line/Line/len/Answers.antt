@@ -1,4 +1,4 @@
-use Rattle.g1_log.proofs.Keeps.{admits}
+use Rattle.g1_log.proofs.Passing.{admits}
 use Rattle.g1_log.proofs.line.Line.len.Goals as goal
 
 pub pass-pass-requires : goal.pass-pass-requires

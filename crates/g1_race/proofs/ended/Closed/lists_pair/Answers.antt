@@ -2,7 +2,7 @@ use Rattle.std.proofs.Common.{ℕ, ◌+◌, List, Vec, Global, IsTrue, true, fal
 use Rattle.std.proofs.lemmas.List.Elements.{Contains-append_left, Contains-append_right, Contains-append_cases}
 use Rattle.g1_race.specs.Race.{In}
 use Rattle.g1_race.specs.Over.{joined}
-use Rattle.g1_race.proofs.Ends.{in_contains, contains_in, lists_split}
+use Rattle.g1_race.proofs.Places.{in_contains, contains_in, lists_split}
 use Rattle.g1_race.proofs.ended.Closed.lists_pair.Goals as goal
 
 pub returns-then-is_in : goal.returns-then-is_in

@@ -9,8 +9,10 @@ use Rattle.g1_race.specs.declared.race.Racer.{Racer}
 use Rattle.g1_race.specs.declared.race.Sweeper.{Sweeper}
 use Rattle.g1_race.specs.Members.{race_begun, racer_view, sweeper_view, pairs_kept, RacerOf}
 use Rattle.g1_race.proofs.Allowed.{enters_blank}
-use Rattle.g1_race.proofs.Closing.{race_is_over, known_are, covered_by_lists}
-use Rattle.g1_race.proofs.Ends.{contains_listed, listed_contains, known_within, ended_covered}
+use Rattle.g1_race.proofs.Closing.{race_is_over, covered_by_lists}
+use Rattle.g1_race.proofs.Lists.{known_are}
+use Rattle.g1_race.proofs.Places.{contains_listed, listed_contains}
+use Rattle.g1_race.proofs.Ends.{known_within, ended_covered}
 use Rattle.g1_race.proofs.race.Race.close.Goals as goal
 
 pub load_new_seat-registrar-requires : goal.load_new_seat-registrar-requires

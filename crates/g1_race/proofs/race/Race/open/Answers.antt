@@ -5,7 +5,7 @@ use Rattle.g1_race.specs.Over.{table_of}
 use Rattle.g1_race.specs.Drain.{began}
 use Rattle.g1_race.proofs.Opening.{both_ok, opening_table}
 use Rattle.g1_race.specs.Race.{IsBegun}
-use Rattle.g1_race.proofs.Steps.{zeros, null_begun}
+use Rattle.g1_race.proofs.AtBeginning.{zeros, null_begun}
 use Rattle.g1_race.proofs.race.Race.open.Goals as goal
 
 pub begin-requires-clause-begun : goal.begin-requires-clause-begun

@@ -1,0 +1,105 @@
+-- References, marks and pairs that are taken over one by one.
+use Rattle.std.proofs.Common.{◌≡◌, inl, inr, ℕ, zero, suc, ◌+◌, ◌<◌, Bool, true, false, List, [], ◌∷◌, ◌++◌, length, take, drop, set as list_set, get_or, Contains, refl, sym, ap, ◌∙◌, subst, arith, replicate}
+use Rattle.std.specs.FinSet as set
+use Rattle.std.proofs.lemmas.Bool.{or_cases, or_left, or_right, false_from_ne_true}
+use Rattle.std.proofs.lemmas.List.{get_or-map, length-map, length-replicate}
+use Rattle.std.proofs.lemmas.List.Elements.{Contains-append_left, Contains-append_right, Contains-append_cases}
+use Rattle.g1_layout.specs.Sets.{pair_cmp, PairSet}
+use Rattle.g1_heap.specs.declared.mark.Mark.{Mark}
+use Rattle.g1_heap.specs.declared.mark.Mark.TheVariants.{Clean, Dirty}
+use Rattle.g1_sets.specs.Pairs.{of_card}
+use Rattle.g1_core.specs.Machine.{pending_of}
+use Rattle.g1_core.specs.Adoption.{mark_for, marks_for}
+use Rattle.g1_core.proofs.SetLemmas.{pair_total, same_pairs, in_pairs, to_pairs}
+use Rattle.g1_core.proofs.MarkLemmas.{from_pending, pending_marked, one_more}
+use Rattle.g1_core.proofs.OpeningLemmas.{all_clean}
+
+module _ {X : Type 0} where
+  -- the first i items are new, and the others old: one more becomes new
+  put_suc : (xs ys : List X) (i : ℕ) (d : X) → i < length xs → i < length ys → list_set (take i xs ++ drop i ys) i (get_or xs i d) ≡ take (suc i) xs ++ drop (suc i) ys
+  put_suc [] ys i d lt lt' = absurd (omega arith)
+  put_suc (x ∷ xs) [] i d lt lt' = absurd (omega arith)
+  put_suc (x ∷ xs) (y ∷ ys) zero d lt lt' = refl
+  put_suc (x ∷ xs) (y ∷ ys) (suc i) d lt lt' = ap (λ (l : List X). x ∷ l) (put_suc xs ys i d (omega arith) (omega arith))
+
+  keep_suc : (xs ys : List X) (i : ℕ) (d : X) → i < length xs → i < length ys → get_or xs i d ≡ get_or ys i d → take i xs ++ drop i ys ≡ take (suc i) xs ++ drop (suc i) ys
+  keep_suc [] ys i d lt lt' e = absurd (omega arith)
+  keep_suc (x ∷ xs) [] i d lt lt' e = absurd (omega arith)
+  keep_suc (x ∷ xs) (y ∷ ys) zero d lt lt' e = ap (λ (z : X). z ∷ ys) (sym e)
+  keep_suc (x ∷ xs) (y ∷ ys) (suc i) d lt lt' e = ap (λ (l : List X). x ∷ l) (keep_suc xs ys i d (omega arith) (omega arith) e)
+
+  next_suc : (i : ℕ) (xs ys : List X) → take (suc i) xs ++ drop (suc i) ys ≡ take (i + 1) xs ++ drop (i + 1) ys
+  next_suc i xs ys = ap (λ (n : ℕ). take n xs ++ drop n ys) (let e : suc i ≡ i + 1 = omega arith in e)
+
+  pub put_next : (xs ys : List X) (i : ℕ) (d : X) → i < length xs → i < length ys → list_set (take i xs ++ drop i ys) i (get_or xs i d) ≡ take (i + 1) xs ++ drop (i + 1) ys
+  put_next xs ys i d lt lt' = put_suc xs ys i d lt lt' ∙ next_suc i xs ys
+
+  pub keep_next : (xs ys : List X) (i : ℕ) (d : X) → i < length xs → i < length ys → get_or xs i d ≡ get_or ys i d → take i xs ++ drop i ys ≡ take (i + 1) xs ++ drop (i + 1) ys
+  keep_next xs ys i d lt lt' e = keep_suc xs ys i d lt lt' e ∙ next_suc i xs ys
+
+  pub at_place : (xs ys : List X) (i : ℕ) (d : X) → i < length xs → i < length ys → (get_or (take i xs ++ drop i ys) i d ≡ get_or ys i d) × (i < length (take i xs ++ drop i ys))
+  at_place [] ys i d lt lt' = absurd (omega arith)
+  at_place (x ∷ xs) [] i d lt lt' = absurd (omega arith)
+  at_place (x ∷ xs) (y ∷ ys) zero d lt lt' = (refl, omega arith)
+  at_place (x ∷ xs) (y ∷ ys) (suc i) d lt lt' = let h = at_place xs ys i d (omega arith) (omega arith) in let lt : i < length (take i xs ++ drop i ys) = h.1 in (h.0, omega arith)
+
+  pub take_suc : (xs : List X) (i : ℕ) (d : X) → i < length xs → take (suc i) xs ≡ take i xs ++ get_or xs i d ∷ []
+  take_suc [] i d lt = absurd (omega arith)
+  take_suc (x ∷ xs) zero d lt = refl
+  take_suc (x ∷ xs) (suc i) d lt = ap (λ (l : List X). x ∷ l) (take_suc xs i d (omega arith))
+
+-- one more pair is recorded
+module _ (pairs : List (ℕ × ℕ)) (i : ℕ) (p : ℕ × ℕ) (lt : i < length pairs) (is : p ≡ get_or pairs i p) where
+  abbrev one : PairSet
+  one = of_card p.0 (p.1 ∷ [])
+
+  abbrev before : PairSet
+  before = set.from_list (take i pairs)
+
+  whole : take (i + 1) pairs ≡ take i pairs ++ p ∷ []
+  whole = ap (λ (n : ℕ). take n pairs) (let e : i + 1 ≡ suc i = omega arith in e) ∙ (take_suc pairs i p lt ∙ ap (λ (q : ℕ × ℕ). take i pairs ++ q ∷ []) (sym is))
+
+  on : (x : ℕ × ℕ) → set.contains (set.union before one) x ≡ true → set.contains (set.from_list {R = pair_cmp} (take (i + 1) pairs)) x ≡ true
+  on x h = to_pairs (take (i + 1) pairs) x (subst (λ (l : List (ℕ × ℕ)). Contains l x) (sym whole) (elim (or_cases _ _ (sym (set.contains-union pair_total before one x) ∙ h)) [
+    | inl a ↦ Contains-append_left (take i pairs) (p ∷ []) x (in_pairs (take i pairs) x a)
+    | inr b ↦ Contains-append_right (take i pairs) (p ∷ []) x (in_pairs (p ∷ []) x b)
+  ]))
+
+  back : (x : ℕ × ℕ) → set.contains (set.from_list {R = pair_cmp} (take (i + 1) pairs)) x ≡ true → set.contains (set.union before one) x ≡ true
+  back x h = set.contains-union pair_total before one x ∙ elim (Contains-append_cases (take i pairs) (p ∷ []) x (subst (λ (l : List (ℕ × ℕ)). Contains l x) whole (in_pairs (take (i + 1) pairs) x h))) [
+    | inl a ↦ or_left _ _ (to_pairs (take i pairs) x a)
+    | inr b ↦ or_right _ _ (to_pairs (p ∷ []) x b)
+  ]
+
+  pub record_next : set.union (set.from_list {R = pair_cmp} (take i pairs)) (of_card p.0 (p.1 ∷ [])) ≡ set.from_list (take (i + 1) pairs)
+  record_next = same_pairs _ _ on back
+
+-- one more card is marked, or is not
+module _ (marked : List Bool) (n i : ℕ) (lt : i < length marked) (count : length marked ≡ n) where
+  abbrev pub done : ℕ → List Mark
+  done j = take j (marks_for marked) ++ drop j (replicate n Clean)
+
+  few : i < length (marks_for marked)
+  few = omega (arith, length-map marked mark_for)
+
+  inside : i < length (replicate {A = Mark} n Clean)
+  inside = omega (arith, length-replicate {A = Mark} n Clean)
+
+  flag : (b : Bool) → get_or marked i false ≡ b → get_or (marks_for marked) i Clean ≡ mark_for b
+  flag b e = get_or-map mark_for marked i false Clean lt ∙ ap mark_for e
+
+  clean : get_or (done i) i Clean ≡ Clean
+  clean = (at_place (marks_for marked) (replicate n Clean) i Clean few inside).0 ∙ all_clean n i
+
+  pub marked_next : get_or marked i false ≡ true → list_set (done i) i Dirty ≡ done (i + 1)
+  marked_next e = ap (λ (m : Mark). list_set (done i) i m) (sym (flag true e)) ∙ put_next (marks_for marked) (replicate n Clean) i Clean few inside
+
+  pub clean_next : get_or marked i false ≡ false → done i ≡ done (i + 1)
+  clean_next e = keep_next (marks_for marked) (replicate n Clean) i Clean few inside (flag false e ∙ sym (all_clean n i))
+
+  dirty_clean : ◌≡◌ {A = Mark} Dirty Clean → ⊥
+  dirty_clean e = absurd (cc (e))
+
+  pub one_pending : set.len (pending_of (list_set (done i) i Dirty)) ≡ set.len (pending_of (done i)) + 1
+  one_pending = ap set.len (pending_marked (done i) i Dirty (at_place (marks_for marked) (replicate n Clean) i Clean few inside).1 dirty_clean)
+      ∙ one_more (pending_of (done i)) i (false_from_ne_true _ (λ h. from_pending (done i) i h clean))
