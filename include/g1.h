@@ -6,10 +6,11 @@
  * to a place, which is named by its slot's number. The runtime tells the library of each reference store; refinement and pauses
  * read the references that they were told of, and no memory of the runtime's.
  *
- * A card's way: g1_store marks the slot's card and answers G1_LOGGED once; the caller puts the card into an array of its own
+ * A card's way: g1_store marks the slot's card and answers G1_STORED_LOGGED once; the caller puts the card into an array of its own
  * thread, its dirty card queue, and hands full arrays to g1_refine, which records where the card refers to. An evacuation pause
- * calls g1_drain, which refines all that is still pending and answers the remembered set of a region. An array that is lost costs
- * nothing but time: its cards stay pending, and the next drain refines them.
+ * calls g1_drain, which refines all that is still pending and answers the remembered set of a region; once the region is evacuated,
+ * g1_clear empties that set, or g1_redirect moves the references into the region as well. An array that is lost costs nothing but
+ * time: its cards stay pending, and the next drain refines them.
  *
  * Linking: libg1_c.a, and the toolchain's liblibc_c.a after it. The code is for x86-64-v2.
  *
@@ -38,7 +39,7 @@ struct g1 {
     void *core;
 };
 
-/* The target of a store of null. */
+/* Null, as the target of a store and as what a slot refers to. */
 #define G1_NULL UINT32_C(4294967295)
 
 /* What a store was. Only a store that was logged has a card for the caller's dirty card queue. */
@@ -49,21 +50,24 @@ enum g1_kind {
     G1_STORED_LOGGED = 3       /* the slot's card was clean, and is pending now */
 };
 
-/* What the other calls answer. From 8 on, and of g1_store too, the call was refused, and nothing has changed. */
+/* What the other calls answer. From 8 on, and of g1_store and g1_is_pending too, the call was refused, and nothing has changed. */
 enum g1_code {
     G1_DONE = 0,
-    G1_SHORT = 1,          /* memory was refused in the middle: what the call says was done stands, and no more was */
-    G1_LONG = 2,           /* a list did not fit its array, though that has room for every card; no proof rules it out */
-    G1_NOT_OPEN = 8,       /* the handle is closed */
-    G1_ALREADY_OPEN = 9,   /* the handle that was to be opened is open */
-    G1_NO_MEMORY = 10,     /* memory was refused before anything changed */
-    G1_BAD_LAYOUT = 11,    /* the counts of the heap are outside their limits */
-    G1_BAD_SETTINGS = 12,  /* the hot limit or the ring's size is outside its limits */
-    G1_NO_SLOT = 13,       /* the heap has no such slot */
-    G1_NO_CARD = 14,       /* the heap has no such card */
-    G1_NO_REGION = 15,     /* the heap has no such region */
-    G1_NO_ROOM = 16,       /* an array is too small */
-    G1_TOO_MANY_CARDS = 17 /* more than G1_LOG cards at once */
+    G1_SHORT = 1,            /* memory was refused in the middle: what the call says was done stands, and no more was */
+    G1_LONG = 2,             /* a list did not fit its array, though that has room for every card; no proof rules it out */
+    G1_NOT_OPEN = 8,         /* the handle is closed */
+    G1_ALREADY_OPEN = 9,     /* the handle that was to be opened is open */
+    G1_NO_MEMORY = 10,       /* memory was refused before anything changed */
+    G1_BAD_LAYOUT = 11,      /* the counts of the heap are outside their limits */
+    G1_BAD_SETTINGS = 12,    /* the hot limit or the ring's size is outside its limits */
+    G1_NO_SLOT = 13,         /* the heap has no such slot */
+    G1_NO_CARD = 14,         /* the heap has no such card */
+    G1_NO_REGION = 15,       /* the heap has no such region */
+    G1_NO_ROOM = 16,         /* an array is too small */
+    G1_TOO_MANY_CARDS = 17,  /* more than G1_LOG cards at once */
+    G1_SAME_REGION = 18,     /* references were to be moved from a region to itself */
+    G1_STILL_PENDING = 19,   /* a clear, while cards are pending */
+    G1_STILL_REFERENCED = 20 /* a clear, while a slot outside the region refers into it */
 };
 
 /* How many cards g1_refine takes at most. */
@@ -81,6 +85,12 @@ struct g1_tally {
     uint32_t refined; /* cards that were refined */
     uint32_t hot;     /* cards that were found hot */
     uint32_t skipped; /* cards that were not dirty */
+};
+
+/* How much is pending and recorded. */
+struct g1_totals {
+    uint32_t pending;  /* cards that are pending */
+    uint32_t recorded; /* pairs of a card and a region into which it is recorded to refer */
 };
 
 /*
@@ -130,6 +140,60 @@ uint32_t g1_refine(struct g1 *handle, const uint32_t *cards, size_t cards_length
  */
 uint32_t g1_drain(struct g1 *handle, uint32_t region, uint32_t *cards, size_t cards_length, uint32_t *count, uint32_t *refined,
                   size_t refined_length, uint32_t *refined_count);
+
+/*
+ * Answers what a slot refers to: `target` is the place, or G1_NULL. Constant time, no memory.
+ *
+ * G1_DONE. G1_NOT_OPEN or G1_NO_SLOT: `target` is G1_NULL.
+ */
+uint32_t g1_target(struct g1 *handle, uint32_t slot, uint32_t *target);
+
+/*
+ * Whether a card is pending, that is dirty or held in the hot ring: 1 where it is, 0 where it is not. Constant time, no memory.
+ *
+ * 0, 1, G1_NOT_OPEN or G1_NO_CARD.
+ */
+uint32_t g1_is_pending(struct g1 *handle, uint32_t card);
+
+/*
+ * Answers how many cards are pending and how many pairs of a card and a region are recorded. It takes time in the number of regions,
+ * and no memory.
+ *
+ * G1_DONE. G1_NOT_OPEN: both totals are 0.
+ */
+uint32_t g1_status(struct g1 *handle, struct g1_totals *totals);
+
+/*
+ * Answers the remembered set of a region as it is recorded, and refines nothing: its cards, ascending, each once, stand first in
+ * `cards`, as many as `count` says. Cards that are pending may be missing in it, so a pause calls g1_drain. It takes memory for the
+ * list, which it gives back.
+ *
+ * G1_DONE. G1_NO_ROOM: `count` is how many cards there are, more than the array has room for, and nothing is written to it.
+ * G1_NOT_OPEN, G1_NO_MEMORY or G1_NO_REGION: `count` is 0, and nothing is written to the array.
+ */
+uint32_t g1_members(struct g1 *handle, uint32_t region, uint32_t *cards, size_t cards_length, uint32_t *count);
+
+/*
+ * Empties the remembered set of a region, once nothing is pending and no slot outside the region refers into it: the region was
+ * evacuated, and what referred into it was stored anew and drained. (g1_redirect does all that in one call.) No memory; it reads the
+ * slots of the region's members.
+ *
+ * G1_DONE: `detail` is 0. G1_STILL_PENDING: `detail` is how many cards are pending; drain first. G1_STILL_REFERENCED: `detail` is the
+ * least slot of the heap that lies outside the region and refers into it. G1_NOT_OPEN or G1_NO_REGION: `detail` is 0.
+ */
+uint32_t g1_clear(struct g1 *handle, uint32_t region, uint32_t *detail);
+
+/*
+ * Refines all that is pending, as g1_drain does, moves each reference into the region `from` from a slot outside it to the same offset
+ * of the region `to`, and empties the remembered set of `from`. Slots inside `from` stay as they are. `moved` is how many slots changed.
+ * The cards that were refined stand first in `refined`, in order, as many as `refined_count` says; it has room for every card of the
+ * heap.
+ *
+ * G1_DONE. G1_SHORT: just the cards in `refined` were refined, and no slot has changed; `moved` is 0. Redirect again.
+ * G1_NOT_OPEN, G1_NO_MEMORY, G1_NO_REGION for either region, G1_SAME_REGION or G1_NO_ROOM: nothing has changed, and both counts are 0.
+ */
+uint32_t g1_redirect(struct g1 *handle, uint32_t from, uint32_t to, uint32_t *moved, uint32_t *refined, size_t refined_length,
+                     uint32_t *refined_count);
 
 #ifdef __cplusplus
 }

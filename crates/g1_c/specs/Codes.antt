@@ -1,7 +1,9 @@
 -- The words that cross to C.
-use Rattle.std.specs.Prelude.{ℕ, Option, Some, None, ◌==◌, if◌then◌else◌}
+use Rattle.std.specs.Prelude.{◌≡◌, ◌⊎◌, ℕ, Option, Some, None, ◌==◌, if◌then◌else◌}
 use Rattle.g1_layout.specs.declared.kind.Kind.{Kind}
 use Rattle.g1_layout.specs.declared.kind.Kind.TheVariants.{Null, SameRegion, AlreadyDirty, Logged}
+use Rattle.g1_core.specs.declared.reply.ClearReply.{ClearReply}
+use Rattle.g1_core.specs.declared.reply.ClearReply.TheVariants.{Cleared, Pending, StillReferenced}
 use Rattle.g1_core.specs.Machine.{Machine}
 use Rattle.g1_core.specs.Run.{stored}
 
@@ -16,11 +18,24 @@ kind_word Logged = 3
 abbrev pub reference_of : ℕ → Option ℕ
 reference_of word = if word == 4294967295 then None else Some word
 
+-- the reply of a clear that C is told by a word and a number
+abbrev pub cleared_of : ℕ → ℕ → ClearReply
+cleared_of word number = if word == 0 then Cleared else if word == 19 then Pending number else StillReferenced number
+
+-- The words of a clear's reply: no number goes with one that was granted.
+abbrev pub IsClearWord : ℕ → ℕ → Type 0
+IsClearWord word number = ((word ≡ 0) × (number ≡ 0)) ⊎ (word ≡ 19) ⊎ (word ≡ 20)
+
 -- what holds from one machine to the next, of a handle that is open before and after
 abbrev pub Between : Option Machine → Option Machine → (Machine → Machine → Type 0) → Type 0
 Between None new Q = ⊥
 Between (Some old) None Q = ⊥
 Between (Some old) (Some new) Q = Q old new
+
+-- what holds of the machine of a handle that is open
+abbrev pub OfOpen : Option Machine → (Machine → Type 0) → Type 0
+OfOpen None Q = ⊥
+OfOpen (Some machine) Q = Q machine
 
 -- a store changes the table, and nothing else
 abbrev pub stored_machine : Machine → ℕ → Option ℕ → Machine

@@ -1,3 +1,4 @@
 pub mod Own
 pub mod Codes
 pub mod Replies
+pub mod Queries

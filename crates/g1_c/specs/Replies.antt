@@ -1,12 +1,17 @@
 -- What the words that C gets stand for.
-use Rattle.std.specs.Prelude.{◌≡◌, ◌≤◌, ℕ, Option, Some, None, List, length, ◌==◌, not, if◌then◌else◌, ⊤}
+use Rattle.std.specs.Prelude.{◌≡◌, ◌≤◌, ◌+◌, ◌*◌, ℕ, Option, Some, None, List, length, ◌==◌, not, if◌then◌else◌, ⊤}
 use Rattle.g1_core.specs.Table.{IsCovered}
 use Rattle.g1_core.specs.Machine.{Machine, IsLater}
 use Rattle.g1_core.specs.Run.{IsStep}
 use Rattle.g1_core.specs.Pause.{IsDrainOf}
 use Rattle.g1_core.specs.Refinement.{IsTurned}
-use Rattle.g1_core.specs.Calls.{drain_entry, refine_entry}
+use Rattle.g1_core.specs.Calls.{clear_entry, drain_entry, redirect_entry, refine_entry}
+use Rattle.g1_core.specs.Clearing.{member_count}
+use Rattle.g1_core.specs.Redirect.{IsRedirectOf}
+use Rattle.std.specs.FinSet as set
 use Rattle.g1_core.specs.declared.reply.RefineReply.{RefineReply}
+use Rattle.g1_core.specs.declared.reply.ClearReply.{ClearReply}
+use Rattle.g1_core.specs.declared.reply.Redirected.{Redirected}
 use Rattle.g1_core.specs.declared.reply.Drained.{Drained}
 use Rattle.g1_core.specs.declared.reply.Drained.TheVariants as drained
 use Rattle.g1_c.specs.declared.pause.Drain.{Drain}
@@ -38,6 +43,20 @@ abbrev pub FitsIn : ℕ → ℕ → Drain → Type 0
 FitsIn room refined_room (Whole cards refined) = (length cards ≤ room) × (length cards ≤ 65536) × (length refined ≤ refined_room) × (length refined ≤ 65536)
 FitsIn room refined_room (Short refined) = (length refined ≤ refined_room) × (length refined ≤ 65536)
 FitsIn room refined_room Long = ⊤
+
+-- A clear of the region got the reply.
+pub record ClearsTo (old : Machine) (region : ℕ) (reply : ClearReply) (new : Machine) : Type 0 where
+  pub step : (caller : ℕ) → IsStep old.state.table (clear_entry caller region reply) new.state.table
+  pub ring : new.state.ring ≡ old.state.ring
+  pub unread : 1 ≤ set.len old.state.table.pending → new.reads ≡ old.reads
+  pub reads : new.reads ≤ old.reads + member_count old.state.table region * old.state.table.layout.slots
+  pub later : IsLater old new
+
+-- A redirect from one region to another answered this.
+pub record RedirectsTo (old : Machine) (from to : ℕ) (answer : Redirected) (new : Machine) : Type 0 where
+  pub redirected : IsRedirectOf old from to answer new
+  pub step : (caller : ℕ) → IsStep old.state.table (redirect_entry caller from to answer) new.state.table
+  pub later : IsLater old new
 
 -- Nothing but the count of reads has changed.
 abbrev pub IsLeft : Option Machine → Option Machine → Type 0

@@ -13,6 +13,18 @@ pub(crate) const SHORT: u32 = 1;
 /// A list that was answered has more cards than the heap has, which cannot be.
 pub(crate) const LONG: u32 = 2;
 
+/// An array is too small.
+pub(crate) const NO_ROOM: u32 = 16;
+
+/// A clear was refused, since cards are pending.
+pub(crate) const STILL_PENDING: u32 = 19;
+
+/// A clear was refused, since a slot outside the region refers into it.
+pub(crate) const STILL_REFERENCED: u32 = 20;
+
+/// The word for null.
+pub(crate) const NULL: u32 = 4_294_967_295;
+
 /// Why a call was refused: nothing has changed then. Words up to 7 are left to what was done.
 #[derive(Clone, Copy, Debug, PartialEq, Eq)]
 pub enum Refusal {
@@ -36,12 +48,16 @@ pub enum Refusal {
     NoRoom,
     /// More cards than a log has.
     TooManyCards,
+    /// References were to be moved from a region to itself.
+    SameRegion,
 }
 
 impl Refusal {
     /// The word that C gets.
     pub(crate) fn word(self) -> u32
-        ensures { 7 < result }
+        ensures refused { 7 < result }
+        ensures apart { result < 19 }
+        ensures room { result ≡ 16 → self ≡ Refusal.NoRoom }
     {
         match self {
             Refusal::NotOpen => 8,
@@ -52,8 +68,9 @@ impl Refusal {
             Refusal::NoSlot => 13,
             Refusal::NoCard => 14,
             Refusal::NoRegion => 15,
-            Refusal::NoRoom => 16,
+            Refusal::NoRoom => NO_ROOM,
             Refusal::TooManyCards => 17,
+            Refusal::SameRegion => 18,
         }
     }
 }

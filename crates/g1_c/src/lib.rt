@@ -2,7 +2,8 @@
 //! (`include/g1.h` tells each call to a C programmer).
 //!
 //! It is a checked shadow of a runtime's references, and has to be told of each store. [`handle`] has the handle, [`calls`]
-//! opens and closes it, [`store`], [`refinement`] and [`pause`] have a card's way, and [`code`] the answers.
+//! opens and closes it, [`store`], [`refinement`] and [`pause`] have a card's way, [`clearing`] and [`redirection`] what may follow an
+//! evacuation, [`queries`] and [`members`] the questions, and [`code`] the answers.
 //!
 //! What a word or an array can get wrong is looked at here, before anything changes, and answered by a refusal; so is a handle
 //! that is closed. What only the caller can know is left to the caller: that a handle is zeros or was opened here, that one call
@@ -11,9 +12,13 @@
 #![tactic(auto)]
 
 pub mod calls;
+pub mod clearing;
 pub mod code;
 pub mod handle;
 mod list;
+pub mod members;
 pub mod pause;
+pub mod queries;
+pub mod redirection;
 pub mod refinement;
 pub mod store;

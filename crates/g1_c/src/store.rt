@@ -4,7 +4,7 @@ ghost use Rattle.g1_layout.specs.Shape.{slot_count};
 ghost use Rattle.g1_core.specs.Run.{kind_of};
 ghost use Rattle.g1_c.specs.Codes.{kind_word, reference_of, Between, stored_machine};
 
-use crate::code::{Refusal, kind_word};
+use crate::code::{NULL, Refusal, kind_word};
 use crate::handle::Handle;
 use core::mem::replace_with;
 use g1_core::Core;
@@ -12,9 +12,6 @@ use g1_layout::{Layout, Slot};
 use g1_log::Log;
 use raw_box::RawBox;
 use std::alloc::Global;
-
-/// The word for null.
-const NULL: u32 = 4_294_967_295;
 
 /// Stores a reference into a slot, or null, and answers the kind of store: 0 null, 1 same region, 2 dirty, 3 logged. Where it is 3
 /// the caller logs the slot's card. Takes no memory and constant time.

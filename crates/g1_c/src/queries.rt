@@ -1,0 +1,147 @@
+//! Questions: what a slot refers to, whether a card is pending, and how much is pending and recorded.
+ghost use Rattle.std.specs.Prelude.{◌≡◌, ◌<◌, ◌≤◌, ◌==◌, true, IfOk, OnErr, IfSome};
+ghost use Rattle.g1_layout.specs.Shape.{slot_count};
+ghost use Rattle.g1_core.specs.declared.reply.Status.{Status};
+ghost use Rattle.g1_c.specs.Codes.{Between, OfOpen, reference_of};
+ghost use Rattle.g1_c.specs.Queries.{RefersTo, IsToldPending, HasStatus};
+
+use crate::code::{DONE, NULL, Refusal};
+use crate::handle::Handle;
+use core::mem::replace_with;
+use g1_core::{Core, Status};
+use g1_layout::{Layout, Slot};
+use raw_box::RawBox;
+use std::alloc::Global;
+
+/// How much is pending and recorded.
+#[repr(C)]
+#[derive(Clone, Copy, Debug)]
+pub struct Totals {
+    /// How many cards are pending.
+    pub pending: u32,
+    /// How many pairs of a card and a region are recorded.
+    pub recorded: u32,
+}
+
+/// Answers what a slot refers to: the place, or the word for null. One slot is read.
+#[unsafe(no_mangle)]
+pub extern "C" fn g1_target(alloc: Global, handle: &mut Handle, slot: u32, target: &mut u32) -> u32
+    ensures target { result ≡ 0 → Between handle.old.value handle.new.value (λ old new. RefersTo old slot (reference_of target.new) new) }
+    ensures null { 0 < result → target.new ≡ 4294967295 }
+    ensures refused { 0 < result → handle.new.value ≡ handle.old.value }
+{
+    *target = NULL;
+    match replace_with(handle, (alloc, slot), target_in) {
+        Err(refusal) => refusal.word(),
+        Ok(word) => {
+            *target = word;
+            DONE
+        }
+    }
+}
+
+fn target_in(handle: Handle, words: (Global, u32)) -> (Handle, Result<u32, Refusal>)
+    ensures target { IfOk result.1 (λ word. Between handle.value result.0.value (λ old new. RefersTo old words.1 (reference_of word) new)) }
+    ensures refused { OnErr result.1 (result.0.value ≡ handle.value) }
+{
+    let Some(core) = handle.into_raw_box() else {
+        return (Handle::closed(words.0), Err(Refusal::NotOpen));
+    };
+    let mut core = core.into_box();
+    let answer = target_one(&mut core, words.1);
+    (Handle::of(RawBox::of(core)), answer)
+}
+
+fn target_one(core: &mut Core, slot: u32) -> Result<u32, Refusal>
+    ensures target { IfOk result (λ word. RefersTo core.old slot (reference_of word) core.new) }
+    ensures refused { OnErr result (core.new ≡ core.old) }
+{
+    let layout = core.layout();
+    let Some(slot) = layout.slot(slot) else {
+        return Err(Refusal::NoSlot);
+    };
+    Ok(word_of(layout, core.target(slot)))
+}
+
+/// The word of a reference.
+fn word_of(layout: Layout, target: Option<Slot>) -> u32
+    requires { IfSome target (λ place. place < slot_count layout) }
+    ensures { reference_of result ≡ target }
+{
+    let _limit = layout.slot_count();
+    match target {
+        None => NULL,
+        Some(place) => place.number(),
+    }
+}
+
+/// Whether a card is pending: 1 where it is, 0 where it is not.
+#[unsafe(no_mangle)]
+pub extern "C" fn g1_is_pending(alloc: Global, handle: &mut Handle, card: u32) -> u32
+    ensures pending { result ≤ 1 → OfOpen handle.old.value (λ machine. IsToldPending machine card (result == 1)) }
+    ensures same { handle.new.value ≡ handle.old.value }
+{
+    replace_with(handle, (alloc, card), is_pending_in)
+}
+
+fn is_pending_in(handle: Handle, words: (Global, u32)) -> (Handle, u32)
+    ensures pending { result.1 ≤ 1 → OfOpen handle.value (λ machine. IsToldPending machine words.1 (result.1 == 1)) }
+    ensures same { result.0.value ≡ handle.value }
+{
+    let Some(core) = handle.into_raw_box() else {
+        return (Handle::closed(words.0), Refusal::NotOpen.word());
+    };
+    let core = core.into_box();
+    let answer = is_pending_one(&core, words.1);
+    (Handle::of(RawBox::of(core)), answer)
+}
+
+fn is_pending_one(core: &Core, card: u32) -> u32
+    ensures { result ≤ 1 → IsToldPending core.now card (result == 1) }
+{
+    let Some(card) = core.layout().card(card) else {
+        return Refusal::NoCard.word();
+    };
+    core.is_pending(card) as u32
+}
+
+/// Answers how many cards are pending and how many pairs are recorded.
+#[unsafe(no_mangle)]
+pub extern "C" fn g1_status(alloc: Global, handle: &mut Handle, totals: &mut Totals) -> u32
+    ensures totals { result ≡ 0 → OfOpen handle.old.value (λ machine. HasStatus machine (record { pending = totals.new.pending; recorded = totals.new.recorded })) }
+    ensures none { 0 < result → (totals.new.pending ≡ 0) × (totals.new.recorded ≡ 0) }
+    ensures same { handle.new.value ≡ handle.old.value }
+{
+    *totals = Totals {
+        pending: 0,
+        recorded: 0,
+    };
+    match replace_with(handle, alloc, status_in) {
+        Err(refusal) => refusal.word(),
+        Ok(status) => {
+            *totals = Totals {
+                pending: status.pending,
+                recorded: status.recorded,
+            };
+            DONE
+        }
+    }
+}
+
+fn status_in(handle: Handle, alloc: Global) -> (Handle, Result<Status, Refusal>)
+    ensures status { IfOk result.1 (λ status. OfOpen handle.value (λ machine. HasStatus machine status)) }
+    ensures same { result.0.value ≡ handle.value }
+{
+    let Some(core) = handle.into_raw_box() else {
+        return (Handle::closed(alloc), Err(Refusal::NotOpen));
+    };
+    let core = core.into_box();
+    let status = status_one(&core);
+    (Handle::of(RawBox::of(core)), Ok(status))
+}
+
+fn status_one(core: &Core) -> Status
+    ensures { HasStatus core.now result }
+{
+    core.status()
+}
