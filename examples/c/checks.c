@@ -1,7 +1,8 @@
 // Calls of the library that C can get wrong, and random calls beside a plain table of references: `checks [CALLS]`.
 //
-// The table here is a C array that each store writes. At each drain every slot is scanned: a card that refers into the region from
-// outside has to be answered, each answer lies outside the region and referred into it at some time before, and they ascend.
+// The table here is a C array that each store and each redirect writes. At each drain every slot is scanned: a card that refers into
+// the region from outside has to be answered, each answer lies outside the region and referred into it since its set was last cleared,
+// and they ascend.
 #include "g1.h"
 
 #include <stdio.h>
@@ -32,16 +33,37 @@ static void answers(uint32_t answer, uint32_t expected, const char *what) {
 static const struct g1_counts small = {4, 2, 4};
 
 static uint32_t cards[65536], refined[65536];
-static uint32_t count, refined_count;
+static uint32_t count, refined_count, moved;
 
 static uint32_t drain(struct g1 *handle, uint32_t region) {
     return g1_drain(handle, region, cards, 65536, &count, refined, 65536, &refined_count);
 }
 
+static uint32_t members(struct g1 *handle, uint32_t region, size_t room) {
+    return g1_members(handle, region, cards, room, &count);
+}
+
+static uint32_t redirect(struct g1 *handle, uint32_t from, uint32_t to) {
+    return g1_redirect(handle, from, to, &moved, refined, 65536, &refined_count);
+}
+
+// What a slot refers to, or a word that is neither a place nor null where the call was refused.
+static uint32_t target_of(struct g1 *handle, uint32_t slot) {
+    uint32_t target = 0;
+    return g1_target(handle, slot, &target) == G1_DONE ? target : ALL - 1;
+}
+
+// Whether so many cards are pending and so many pairs recorded.
+static int has(struct g1 *handle, uint32_t pending, uint32_t recorded) {
+    struct g1_totals totals;
+    return g1_status(handle, &totals) == G1_DONE && totals.pending == pending && totals.recorded == recorded;
+}
+
 static void closed_handles(void) {
     struct g1 handle = {0};
     struct g1_tally tally = {7, 7, 7};
-    uint32_t one[1] = {0};
+    struct g1_totals totals = {7, 7};
+    uint32_t one[1] = {0}, word = 7;
     for (int round = 0; round < 2; round++) {
         answers(g1_store(&handle, 0, 8), G1_NOT_OPEN, "store on a closed handle");
         answers(g1_refine(&handle, one, 1, refined, 1, &tally), G1_NOT_OPEN, "refine on a closed handle");
@@ -49,6 +71,21 @@ static void closed_handles(void) {
         count = refined_count = 7;
         answers(drain(&handle, 0), G1_NOT_OPEN, "drain on a closed handle");
         check(count == 0 && refined_count == 0, "the counts of a refused drain");
+        totals = (struct g1_totals){7, 7};
+        answers(g1_status(&handle, &totals), G1_NOT_OPEN, "status of a closed handle");
+        check(totals.pending == 0 && totals.recorded == 0, "the totals of a refused status");
+        answers(g1_target(&handle, 0, &word), G1_NOT_OPEN, "target on a closed handle");
+        check(word == G1_NULL, "the target of a refused call");
+        answers(g1_is_pending(&handle, 0), G1_NOT_OPEN, "is_pending on a closed handle");
+        count = 7;
+        answers(members(&handle, 0, 65536), G1_NOT_OPEN, "members on a closed handle");
+        check(count == 0, "the count of refused members");
+        word = 7;
+        answers(g1_clear(&handle, 0, &word), G1_NOT_OPEN, "clear on a closed handle");
+        check(word == 0, "the detail of a refused clear");
+        moved = refined_count = 7;
+        answers(redirect(&handle, 0, 1), G1_NOT_OPEN, "redirect on a closed handle");
+        check(moved == 0 && refined_count == 0, "the counts of a refused redirect");
         answers(g1_close(&handle), G1_NOT_OPEN, "close of a closed handle");
         check(handle.core == NULL, "a closed handle stays closed");
         answers(g1_open(&handle, &small, 4, 8), G1_DONE, "open");
@@ -128,6 +165,123 @@ static void rooms(void) {
     g1_close(&handle);
 }
 
+static void questions(void) {
+    struct g1 handle = {0};
+    uint32_t word = 7;
+    g1_open(&handle, &small, 4, 8);
+    check(has(&handle, 0, 0), "a new heap has nothing pending or recorded");
+    check(target_of(&handle, 0) == G1_NULL && target_of(&handle, 31) == G1_NULL, "a new heap is all null");
+    g1_store(&handle, 0, 8);
+    g1_store(&handle, 1, 31);
+    g1_store(&handle, 4, 6);
+    g1_store(&handle, 9, 0);
+    check(target_of(&handle, 0) == 8 && target_of(&handle, 1) == 31 && target_of(&handle, 4) == 6, "what was stored");
+    answers(g1_is_pending(&handle, 0), 1, "a card with a store across regions");
+    answers(g1_is_pending(&handle, 1), 0, "a card with a store in one region");
+    answers(g1_is_pending(&handle, 2), 1, "another card with a store across regions");
+    check(has(&handle, 2, 0), "two cards are pending, and nothing is recorded");
+    answers(members(&handle, 1, 8), G1_DONE, "members before a drain");
+    check(count == 0, "a pending card is not recorded yet");
+    drain(&handle, 1);
+    check(has(&handle, 0, 3), "card 0 is recorded for regions 1 and 3, and card 2 for region 0");
+    answers(g1_is_pending(&handle, 0), 0, "a drained card");
+    answers(g1_store(&handle, 0, G1_NULL), G1_STORED_NULL, "null in its place");
+    check(target_of(&handle, 0) == G1_NULL, "is what the slot refers to");
+    word = 7;
+    answers(g1_target(&handle, 32, &word), G1_NO_SLOT, "target of no such slot");
+    check(word == G1_NULL, "the target of no such slot");
+    answers(g1_target(&handle, ALL, &word), G1_NO_SLOT, "target of the greatest slot");
+    answers(g1_is_pending(&handle, 8), G1_NO_CARD, "no such card is pending");
+    answers(g1_is_pending(&handle, ALL), G1_NO_CARD, "the greatest card is not pending");
+    g1_close(&handle);
+}
+
+static void member_rooms(void) {
+    struct g1 handle = {0};
+    g1_open(&handle, &small, 4, 8);
+    g1_store(&handle, 20, 8);
+    g1_store(&handle, 0, 8);
+    g1_store(&handle, 28, 9);
+    drain(&handle, 0);
+    cards[0] = cards[1] = cards[2] = 77;
+    answers(members(&handle, 1, 2), G1_NO_ROOM, "room for 2 of 3 members");
+    check(count == 3 && cards[0] == 77 && cards[1] == 77, "three are needed, and nothing is written");
+    answers(members(&handle, 1, 0), G1_NO_ROOM, "no room for 3 members");
+    check(count == 3, "three are needed");
+    answers(members(&handle, 1, 3), G1_DONE, "room for 3 members");
+    check(count == 3 && cards[0] == 0 && cards[1] == 5 && cards[2] == 7, "the members ascend");
+    answers(members(&handle, 2, 0), G1_DONE, "no room for no member");
+    check(count == 0, "a region without members");
+    count = 7;
+    answers(members(&handle, 4, 8), G1_NO_REGION, "members of no such region");
+    check(count == 0, "no member of no such region");
+    answers(members(&handle, ALL, 8), G1_NO_REGION, "members of the greatest region");
+    check(has(&handle, 0, 3), "nothing of all that has changed what is recorded");
+    g1_close(&handle);
+}
+
+static void clears(void) {
+    struct g1 handle = {0};
+    uint32_t detail = 7;
+    g1_open(&handle, &small, 4, 8);
+    answers(g1_clear(&handle, 1, &detail), G1_DONE, "clear of a set that is empty");
+    check(detail == 0, "no detail of a clear that is done");
+    g1_store(&handle, 20, 9);
+    g1_store(&handle, 3, 8);
+    answers(g1_clear(&handle, 1, &detail), G1_STILL_PENDING, "clear while cards are pending");
+    check(detail == 2, "two cards are pending");
+    answers(g1_clear(&handle, 2, &detail), G1_STILL_PENDING, "clear of another region");
+    drain(&handle, 1);
+    answers(g1_clear(&handle, 1, &detail), G1_STILL_REFERENCED, "clear while a slot refers into the region");
+    check(detail == 3, "slot 3 is the least");
+    g1_store(&handle, 3, G1_NULL);
+    answers(g1_clear(&handle, 1, &detail), G1_STILL_REFERENCED, "clear while another slot does");
+    check(detail == 20, "slot 20 is left");
+    detail = 7;
+    answers(g1_clear(&handle, 4, &detail), G1_NO_REGION, "clear of no such region");
+    check(detail == 0, "no detail of no such region");
+    answers(g1_clear(&handle, ALL, &detail), G1_NO_REGION, "clear of the greatest region");
+    check(has(&handle, 0, 2), "the refused clears left both pairs");
+    g1_store(&handle, 20, G1_NULL);
+    answers(g1_clear(&handle, 1, &detail), G1_DONE, "clear once no slot does");
+    check(has(&handle, 0, 0), "nothing is recorded any more");
+    answers(members(&handle, 1, 8), G1_DONE, "members after a clear");
+    check(count == 0, "a cleared region has none");
+    g1_close(&handle);
+}
+
+// Slots 3 and 20 refer into region 1, from the regions 0 and 2, and slot 9 from within it.
+static void redirects(void) {
+    struct g1 handle = {0};
+    g1_open(&handle, &small, 4, 8);
+    g1_store(&handle, 20, 9);
+    g1_store(&handle, 3, 8);
+    g1_store(&handle, 9, 10);
+    answers(redirect(&handle, 1, 1), G1_SAME_REGION, "redirect from a region to itself");
+    answers(redirect(&handle, 4, 1), G1_NO_REGION, "redirect from no such region");
+    answers(redirect(&handle, 1, 4), G1_NO_REGION, "redirect to no such region");
+    answers(redirect(&handle, 4, 4), G1_NO_REGION, "redirect from no such region to itself");
+    answers(redirect(&handle, ALL, 1), G1_NO_REGION, "redirect from the greatest region");
+    answers(redirect(&handle, 1, ALL), G1_NO_REGION, "redirect to the greatest region");
+    moved = refined_count = 7;
+    answers(g1_redirect(&handle, 1, 2, &moved, refined, 7, &refined_count), G1_NO_ROOM, "redirect with room for 7 of 8 cards");
+    check(moved == 0 && refined_count == 0, "the counts of a redirect without room");
+    answers(g1_redirect(&handle, 1, 2, &moved, refined, 0, &refined_count), G1_NO_ROOM, "redirect with no room at all");
+    check(has(&handle, 2, 0) && target_of(&handle, 3) == 8, "nothing of all that has refined or moved anything");
+    answers(g1_redirect(&handle, 1, 2, &moved, refined, 8, &refined_count), G1_DONE, "redirect from region 1 to region 2");
+    check(moved == 2 && refined_count == 2 && refined[0] == 0 && refined[1] == 5, "two slots moved, two cards were refined");
+    check(target_of(&handle, 3) == 16 && target_of(&handle, 20) == 17, "to the same offsets of region 2");
+    check(target_of(&handle, 9) == 10, "a slot inside region 1 stays");
+    check(has(&handle, 0, 1), "card 0 alone lies outside region 2");
+    answers(members(&handle, 2, 8), G1_DONE, "members of region 2");
+    check(count == 1 && cards[0] == 0, "card 0 is the member");
+    answers(members(&handle, 1, 8), G1_DONE, "members of region 1");
+    check(count == 0, "region 1 has none");
+    answers(redirect(&handle, 1, 2), G1_DONE, "redirect of a region that nothing enters");
+    check(moved == 0 && refined_count == 0, "moves nothing");
+    g1_close(&handle);
+}
+
 // With a hot limit of 0 each card waits in the ring, and one that is pushed out is refined.
 static void ring(void) {
     struct g1 handle = {0};
@@ -162,6 +316,11 @@ static uint32_t region_of(uint32_t slot) {
     return slot / (CARDS * SLOTS);
 }
 
+// Whether a slot lies outside the region and refers into it.
+static int enters(uint32_t slot, uint32_t region) {
+    return table[slot] != G1_NULL && region_of(table[slot]) == region && region_of(slot) != region;
+}
+
 // What a drain of the region answered, beside a scan of all slots.
 static int is_exact(uint32_t region) {
     memset(scan, 0, sizeof scan);
@@ -172,7 +331,58 @@ static int is_exact(uint32_t region) {
         scan[cards[i]] = 1;
     }
     for (uint32_t slot = 0; slot < ALL_SLOTS; slot++) {
-        if (table[slot] != G1_NULL && region_of(table[slot]) == region && region_of(slot) != region && !scan[slot / SLOTS]) {
+        if (enters(slot, region) && !scan[slot / SLOTS]) {
+            return 0;
+        }
+    }
+    return 1;
+}
+
+// The members of a region, just after a drain of it that was exact: those that the drain answered.
+static int has_same_members(struct g1 *handle, uint32_t region) {
+    uint32_t drained = count;
+    if (members(handle, region, ALL_CARDS) != G1_DONE || count != drained) {
+        return 0;
+    }
+    for (uint32_t i = 0; i < count; i++) {
+        if (cards[i] >= ALL_CARDS || !scan[cards[i]]) {
+            return 0;
+        }
+    }
+    return 1;
+}
+
+// A clear of a region, where nothing is pending, beside a scan of all slots.
+static int clears_rightly(struct g1 *handle, uint32_t region) {
+    uint32_t least = 0, detail = 7;
+    while (least < ALL_SLOTS && !enters(least, region)) {
+        least++;
+    }
+    uint32_t answer = g1_clear(handle, region, &detail);
+    if (least < ALL_SLOTS) {
+        return answer == G1_STILL_REFERENCED && detail == least;
+    }
+    for (uint32_t card = 0; card < ALL_CARDS; card++) {
+        held[card][region] = 0;
+    }
+    return answer == G1_DONE && detail == 0;
+}
+
+// A redirect beside the table, whose references are moved too. No slot enters the region after it, so that a clear is granted.
+static int redirects_rightly(struct g1 *handle, uint32_t from, uint32_t to) {
+    uint32_t slots = 0;
+    for (uint32_t slot = 0; slot < ALL_SLOTS; slot++) {
+        if (enters(slot, from)) {
+            table[slot] = to * CARDS * SLOTS + table[slot] % (CARDS * SLOTS);
+            held[slot / SLOTS][to] |= region_of(slot) != to;
+            slots++;
+        }
+    }
+    if (redirect(handle, from, to) != G1_DONE || moved != slots || !clears_rightly(handle, from)) {
+        return 0;
+    }
+    for (uint32_t slot = 0; slot < ALL_SLOTS; slot++) {
+        if (target_of(handle, slot) != table[slot]) {
             return 0;
         }
     }
@@ -184,15 +394,19 @@ static void random_calls(long calls) {
     struct g1_counts counts = {REGIONS, CARDS, SLOTS};
     struct g1_tally tally;
     uint32_t log[G1_LOG], length = 0;
-    long drains = 0, refinements = 0, refusals = 0, wrong = 0, members = 0;
+    long drains = 0, refinements = 0, refusals = 0, wrong = 0, answered = 0;
     g1_open(&handle, &counts, 2, 6);
     memset(table, 255, sizeof table);
     for (long call = 0; call < calls; call++) {
         uint32_t choice = below(1000);
         if (choice < 5) {
             uint32_t region = below(REGIONS);
+            if (choice == 0) {
+                wrong += !redirects_rightly(&handle, region, (region + 1) % REGIONS);
+            }
             wrong += drain(&handle, region) != G1_DONE || !is_exact(region);
-            members += count;
+            answered += count;
+            wrong += !has_same_members(&handle, region) || !clears_rightly(&handle, region);
             length = 0;
             drains++;
         } else if (choice < 15 || length == G1_LOG) {
@@ -218,6 +432,7 @@ static void random_calls(long calls) {
                 wrong += kind != G1_STORED_DIRTY && kind != G1_STORED_LOGGED;
                 held[slot / SLOTS][region_of(target)] = 1;
             }
+            wrong += kind == G1_STORED_LOGGED && g1_is_pending(&handle, slot / SLOTS) != 1;
             if (kind == G1_STORED_LOGGED) {
                 log[length++] = slot / SLOTS;
             }
@@ -227,10 +442,10 @@ static void random_calls(long calls) {
         wrong += drain(&handle, region) != G1_DONE || !is_exact(region);
     }
     answers(g1_close(&handle), G1_DONE, "close after random calls");
-    printf("%ld random calls: %ld drains with %ld members, %ld refinements, %ld refusals, %ld wrong\n", calls, drains, members,
+    printf("%ld random calls: %ld drains with %ld members, %ld refinements, %ld refusals, %ld wrong\n", calls, drains, answered,
            refinements, refusals, wrong);
     check(wrong == 0, "random calls beside a scan");
-    check(calls < 100000 || (drains > 100 && members > 1000 && refinements > 100), "random calls of every sort");
+    check(calls < 100000 || (drains > 100 && answered > 1000 && refinements > 100), "random calls of every sort");
 }
 
 int main(int number, char **words) {
@@ -239,6 +454,10 @@ int main(int number, char **words) {
     stores();
     rooms();
     ring();
+    questions();
+    member_rooms();
+    clears();
+    redirects();
     random_calls(number > 1 ? atol(words[1]) : 1000000);
     printf("%u passed, %u failed\n", passed, failed);
     return failed != 0;
