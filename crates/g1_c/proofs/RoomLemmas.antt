@@ -1,12 +1,11 @@
 -- How long the lists are that a core answers: no longer than the heap has cards.
-use Rattle.std.proofs.Common.{◌≡◌, ℕ, ◌<◌, ◌≤◌, List, length, arith}
-use Rattle.std.specs.Prelude.{Contains, All}
+use Rattle.std.proofs.Common.{ℕ, ◌<◌, ◌≤◌, List, length, arith}
 use Rattle.std.proofs.lemmas.Bool.{eqb-true}
 use Rattle.std.proofs.lemmas.List.Elements.{All-contains}
 use Rattle.std.proofs.lemmas.Map.Steps.{length-le_from_distinct_below}
 use Rattle.std.proofs.lemmas.Map.Views.{length-le_from_below, Contains-from_any}
 use Rattle.std.proofs.lemmas.Map.Keys.{sorted_from_strictly_increasing}
-use Rattle.g1_layout.specs.Shape.{Shape, IsShape, card_count}
+use Rattle.g1_layout.specs.Shape.{card_count}
 use Rattle.g1_layout.proofs.ShapeLemmas.{card_count_limit}
 use Rattle.g1_core.specs.Table.{IsPending, AreRefinable, AreMembers}
 use Rattle.g1_core.specs.Machine.{State, IsSound}

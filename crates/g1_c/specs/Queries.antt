@@ -2,7 +2,7 @@
 use Rattle.std.specs.Prelude.{◌≡◌, ◌≤◌, ◌<◌, ◌+◌, ◌-◌, ◌^◌, ℕ, Bool, List, Option, length, min}
 use Rattle.std.specs.FinSet as set
 use Rattle.g1_core.specs.Table.{target_of, AreMembers}
-use Rattle.g1_core.specs.Machine.{Machine, IsLater}
+use Rattle.g1_core.specs.Machine.{Machine}
 use Rattle.g1_core.specs.Run.{IsStep}
 use Rattle.g1_core.specs.Calls.{target_entry, pending_entry, members_entry, status_entry}
 use Rattle.g1_core.specs.declared.reply.Status.{Status}

@@ -1,5 +1,6 @@
 -- What the words that C gets stand for.
 use Rattle.std.specs.Prelude.{◌≡◌, ◌≤◌, ◌+◌, ◌*◌, ℕ, Option, Some, None, List, length, ◌==◌, not, if◌then◌else◌, ⊤}
+use Rattle.std.specs.FinSet as set
 use Rattle.g1_core.specs.Table.{IsCovered}
 use Rattle.g1_core.specs.Machine.{Machine, IsLater}
 use Rattle.g1_core.specs.Run.{IsStep}
@@ -8,7 +9,6 @@ use Rattle.g1_core.specs.Refinement.{IsTurned}
 use Rattle.g1_core.specs.Calls.{clear_entry, drain_entry, redirect_entry, refine_entry}
 use Rattle.g1_core.specs.Clearing.{member_count}
 use Rattle.g1_core.specs.Redirect.{IsRedirectOf}
-use Rattle.std.specs.FinSet as set
 use Rattle.g1_core.specs.declared.reply.RefineReply.{RefineReply}
 use Rattle.g1_core.specs.declared.reply.ClearReply.{ClearReply}
 use Rattle.g1_core.specs.declared.reply.Redirected.{Redirected}

@@ -1,6 +1,5 @@
 //! The clear.
 ghost use Rattle.std.specs.Prelude.{◌≡◌, ◌≢◌, ◌<◌, IfOk, OnErr};
-ghost use Rattle.g1_core.specs.declared.reply.ClearReply.{ClearReply};
 ghost use Rattle.g1_c.specs.Codes.{Between, cleared_of, IsClearWord};
 ghost use Rattle.g1_c.specs.Replies.{ClearsTo, IsLeft};
 

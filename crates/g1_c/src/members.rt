@@ -1,6 +1,5 @@
 //! The remembered set of a region, as it is recorded.
 ghost use Rattle.std.specs.Prelude.{◌≡◌, ◌≢◌, ◌<◌, ◌≤◌, length, take, IfOk, IfErr};
-ghost use Rattle.g1_c.specs.declared.code.Refusal.{Refusal};
 ghost use Rattle.g1_c.specs.Codes.{OfOpen};
 ghost use Rattle.g1_c.specs.Queries.{HasMembers, LacksRoom, IsListed};
 

@@ -1,7 +1,6 @@
 //! Questions: what a slot refers to, whether a card is pending, and how much is pending and recorded.
-ghost use Rattle.std.specs.Prelude.{◌≡◌, ◌<◌, ◌≤◌, ◌==◌, true, IfOk, OnErr, IfSome};
+ghost use Rattle.std.specs.Prelude.{◌≡◌, ◌<◌, ◌≤◌, ◌==◌, IfOk, OnErr, IfSome};
 ghost use Rattle.g1_layout.specs.Shape.{slot_count};
-ghost use Rattle.g1_core.specs.declared.reply.Status.{Status};
 ghost use Rattle.g1_c.specs.Codes.{Between, OfOpen, reference_of};
 ghost use Rattle.g1_c.specs.Queries.{RefersTo, IsToldPending, HasStatus};
 

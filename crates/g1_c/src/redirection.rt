@@ -1,7 +1,6 @@
 //! The redirect.
 ghost use Rattle.std.specs.Prelude.{◌≡◌, ◌<◌, ◌≤◌, length, take, IfOk, OnErr};
 ghost use Rattle.g1_core.specs.Calls.{redirect_refined};
-ghost use Rattle.g1_core.specs.declared.reply.Redirected.{Redirected};
 ghost use Rattle.g1_c.specs.Codes.{Between};
 ghost use Rattle.g1_c.specs.Replies.{RedirectsTo};
 

@@ -1,7 +1,5 @@
 -- There are no more members than cards.
-use Rattle.std.proofs.Common.{◌≡◌, ◌≤◌, ℕ, length, subst, arith}
-use Rattle.g1_core.specs.Machine.{State, IsSound}
-use Rattle.g1_core.specs.Table.{AreMembers}
+use Rattle.std.proofs.Common.{◌≤◌, ℕ, length, subst, arith}
 use Rattle.g1_c.specs.Queries.{HasMembers}
 use Rattle.g1_c.proofs.RoomLemmas.{few_members, fits_words}
 use Rattle.g1_c.proofs.members.members_one.Goals as goal

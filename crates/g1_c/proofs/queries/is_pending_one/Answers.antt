@@ -1,5 +1,5 @@
 -- The word is 1 just where the answer is yes.
-use Rattle.std.proofs.Common.{◌≡◌, ◌≤◌, ◌==◌, ℕ, Bool, true, false, subst}
+use Rattle.std.proofs.Common.{◌==◌, ℕ, Bool, true, false, subst}
 use mir.Val.{bool_byte}
 use Rattle.g1_core.specs.Machine.{Machine}
 use Rattle.g1_c.specs.Queries.{IsToldPending}

@@ -1,5 +1,5 @@
 -- The word stands for what the core answers.
-use Rattle.std.proofs.Common.{◌≡◌, ℕ, Option, sym, subst}
+use Rattle.std.proofs.Common.{ℕ, Option, sym, subst}
 use Rattle.g1_c.specs.Codes.{reference_of}
 use Rattle.g1_c.specs.Queries.{RefersTo}
 use Rattle.g1_c.proofs.queries.target_one.Goals as goal
