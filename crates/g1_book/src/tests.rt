@@ -18,6 +18,7 @@ use std::alloc::Global;
 use std::process::Abort;
 
 mod answers;
+mod crew;
 mod full;
 mod growths;
 mod shared;
