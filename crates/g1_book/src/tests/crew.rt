@@ -8,6 +8,7 @@ use crate::desk::Step;
 
 mod local;
 mod meeting;
+mod whole;
 
 /// The slot of this number.
 fn slot_in(rt: &impl Abort, layout: Layout, number: u32) -> Slot
