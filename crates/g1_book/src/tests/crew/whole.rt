@@ -35,7 +35,8 @@ const ROUNDS: u32 = 4_000;
 /// A number below the bound that depends on both others.
 fn scattered(of: u32, turn: u32, below: u32) -> u32 {
     let seed = (u64::from(of) << 32 | u64::from(turn)).wrapping_mul(0x9E37_79B9_7F4A_7C15);
-    ((seed >> 32) as u32).checked_rem(below).unwrap_or(0)
+    let mixed = (seed ^ (seed >> 29)).wrapping_mul(0xBF58_476D_1CE4_E5B9);
+    ((mixed >> 32) as u32).checked_rem(below).unwrap_or(0)
 }
 
 /// What this caller is to do: stores from slots all over the heap to others, or rounds.
