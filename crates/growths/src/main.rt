@@ -21,6 +21,7 @@ mod logs;
 mod machinery;
 mod numbers;
 mod outcome;
+mod race;
 mod sets;
 
 use outcome::Failure;
@@ -43,5 +44,6 @@ fn play<R: Wait + Print + Eprint + AllocGlobal>(rt: &R) -> Result<(), Failure> {
     sets::play(rt)?;
     machinery::play(rt)?;
     history::play(rt)?;
-    callers::play(rt)
+    callers::play(rt)?;
+    race::play(rt)
 }
