@@ -1,46 +1,75 @@
-//! Makes one call of the core a number of times, on a heap of a given layout, and prints a checksum of what it answered.
+//! Makes calls a number of times, and prints a checksum of what they answered.
 //!
-//! What a call costs in instructions is the difference of two runs under callgrind, by the difference of their numbers of
-//! calls: making the heap and recording its references is the same in both. `measure` in this folder prints the table.
+//! With six words it makes one call of the core, on a heap of a given layout. What a call costs in instructions is the difference
+//! of two runs under callgrind, by the difference of their numbers of calls: making the heap and recording its references is the
+//! same in both. `measure` in this folder prints the table.
 //!
-//! - [`plan`]: the arguments.
+//! With five words it makes rounds of stores by one thread or several, and also prints how many nanoseconds the threads spent in
+//! the loops of stores, added up. `measure-threads` prints the tables.
+//!
+//! - [`plan`]: the six words.
 //! - [`workload`]: the heap whose calls are measured.
+//! - [`timed`]: the five words.
+//! - [`list`]: the stores of a round.
+//! - [`meter`]: the sums over the threads.
+//! - [`alone`], [`locked`], [`raced`]: where the stores are made.
 #![tactic(auto)]
 
+mod alone;
+mod list;
+mod locked;
+mod meter;
 mod plan;
+mod raced;
+mod timed;
 mod workload;
 
 use g1_layout::NoMemory;
 use plan::{Call, Plan, read_plan};
 use std::env;
 use std::process::ExitCode;
+use timed::{print_time, read_timed};
 use workload::Workload;
 
-const USAGE: &str = "usage: g1bench CALL TIMES REGIONS CARDS SLOTS REFERENCES\n";
+const USAGE: &str = "usage: g1bench CALL TIMES REGIONS CARDS SLOTS REFERENCES
+       g1bench BARRIER TARGET THREADS ROUNDS STORES
+";
 
 fn main(rt: HostRuntime) -> ExitCode {
-    let Some(plan) = plan_of(&rt) else {
-        let _ = rt.eprint(USAGE);
-        return ExitCode::from(1);
-    };
-    let Ok(checksum) = measured(&rt, &plan) else {
+    let Some(words) = words_of(&rt) else {
         let _ = rt.eprint("no memory\n");
         return ExitCode::from(3);
     };
-    let Ok(()) = println!(&rt; "checksum {checksum}") else {
-        return ExitCode::from(5);
-    };
-    ExitCode::from(0)
+    if let Some(plan) = read_plan(words.as_slice()) {
+        return print_calls(&rt, &plan);
+    }
+    if let Some(timed) = read_timed(words.as_slice()) {
+        return print_time(&rt, rt.alloc(), timed);
+    }
+    let _ = rt.eprint(USAGE);
+    ExitCode::from(1)
 }
 
-// What the command line asks for.
-fn plan_of(rt: &HostRuntime) -> Option<Plan> {
+// The words of the command line after the program's name.
+fn words_of(rt: &HostRuntime) -> Option<Vec<String>> {
     let words = env::args(rt).ok()?;
     let mut texts = Vec::new(rt.alloc());
     for word in words.skip(1) {
         texts.push(word).ok()?;
     }
-    read_plan(texts.as_slice())
+    Some(texts)
+}
+
+// Makes the calls that are planned, and prints their checksum.
+fn print_calls(rt: &HostRuntime, plan: &Plan) -> ExitCode {
+    let Ok(checksum) = measured(rt, plan) else {
+        let _ = rt.eprint("no memory\n");
+        return ExitCode::from(3);
+    };
+    let Ok(()) = println!(rt; "checksum {checksum}") else {
+        return ExitCode::from(5);
+    };
+    ExitCode::from(0)
 }
 
 // The checksum of the calls that are planned.

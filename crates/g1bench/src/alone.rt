@@ -1,0 +1,114 @@
+//! The same stores by one thread, without a lock: the loop alone, at a core and at a book.
+ghost use Rattle.std.specs.Prelude.{◌≡◌, ◌<◌, ◌≤◌};
+ghost use Rattle.g1_book.specs.History.{layout_in};
+
+use crate::list::list_of;
+use crate::meter::{Meter, now};
+use crate::timed::Timed;
+use g1_book::Book;
+use g1_core::{Config, Core};
+use g1_layout::{Kind, Layout, NoMemory};
+use g1_log::{Buffer, Log};
+use std::alloc::Global;
+use std::rt::Clock;
+
+/// Goes over the list and stores nothing.
+pub fn walk<R: Clock>(rt: &R, alloc: Global, timed: Timed, meter: &Meter) -> Result<(), NoMemory> {
+    let list = list_of(alloc, timed.layout, timed.target, 0, timed.stores)?;
+    for _ in 0..timed.rounds {
+        let began = now(rt);
+        let checksum = walk_list(timed.layout, list.as_slice());
+        meter.add(rt, began, Some(checksum));
+    }
+    Ok(())
+}
+
+// The sum of the slots that a place is stored to.
+fn walk_list(layout: Layout, list: &[(u32, u32)]) -> u64 {
+    let mut checksum: u64 = 0;
+    for (slot, place) in list {
+        let Some(slot) = layout.slot(*slot) else {
+            return checksum;
+        };
+        if layout.slot(*place).is_some() {
+            checksum = checksum.wrapping_add(u64::from(slot.number()));
+        }
+    }
+    checksum
+}
+
+/// Makes the stores at a core.
+pub fn core<R: Clock>(rt: &R, alloc: Global, timed: Timed, meter: &Meter) -> Result<(), NoMemory> {
+    let list = list_of(alloc, timed.layout, timed.target, 0, timed.stores)?;
+    let config = Config::default();
+    let mut core = Core::new(alloc, timed.layout, config)?;
+    let mut log = config.new_log();
+    for _ in 0..timed.rounds {
+        let began = now(rt);
+        let checksum = store_at_core(&mut core, &mut log, list.as_slice());
+        meter.add(rt, began, Some(checksum));
+    }
+    Ok(())
+}
+
+// Makes the stores of the list. A full log is looked at.
+fn store_at_core(core: &mut Core, log: &mut Log, list: &[(u32, u32)]) -> u64 {
+    let mut checksum: u64 = 0;
+    for (slot, place) in list {
+        let layout = core.layout();
+        let Some(slot) = layout.slot(*slot) else {
+            return checksum;
+        };
+        let (reply, buffer) = core.store(log, slot, layout.slot(*place));
+        if reply.kind == Kind::Logged {
+            checksum = checksum.wrapping_add(1);
+        }
+        if let Some(buffer) = buffer {
+            checksum = checksum.wrapping_add(last_of(&buffer));
+        }
+    }
+    checksum
+}
+
+/// Makes the stores at a book, by its one mutator.
+pub fn book<R: Clock>(rt: &R, alloc: Global, timed: Timed, meter: &Meter) -> Result<(), NoMemory> {
+    let list = list_of(alloc, timed.layout, timed.target, 0, timed.stores)?;
+    let config = Config::default();
+    let mut book = Book::open(alloc, timed.layout, config, 1, 1_000_000)?;
+    let mut log = config.new_log();
+    for _i in 0..timed.rounds {
+        let began = now(rt);
+        let checksum = store_at_book(&mut book, &mut log, list.as_slice());
+        meter.add(rt, began, checksum);
+    }
+    Ok(())
+}
+
+// Makes the stores of the list. `None` where one was refused.
+fn store_at_book(book: &mut Book, log: &mut Log, list: &[(u32, u32)]) -> Option<u64>
+    requires { 0 < book.old.mutators }
+    ensures { book.new.mutators ≡ book.old.mutators }
+{
+    let mut checksum: u64 = 0;
+    for (slot, place) in list {
+        let layout = book.layout();
+        let slot = layout.slot(*slot)?;
+        let (reply, buffer) = book.store(0, log, slot, layout.slot(*place)).ok()?;
+        if reply.kind == Kind::Logged {
+            checksum = checksum.wrapping_add(1);
+        }
+        if let Some(buffer) = buffer {
+            checksum = checksum.wrapping_add(last_of(&buffer));
+        }
+    }
+    Some(checksum)
+}
+
+// The number of the card that a buffer has got last.
+#[inline(never)]
+fn last_of(buffer: &Buffer) -> u64 {
+    match buffer.cards().last() {
+        Some(card) => u64::from(card.number()),
+        None => 0,
+    }
+}

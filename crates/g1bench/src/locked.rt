@@ -1,0 +1,114 @@
+//! Stores at a book under a lock, by callers that have each a thread and cards of their own.
+ghost use Rattle.std.specs.Prelude.{◌≡◌, ◌<◌, ◌≤◌, []};
+ghost use Rattle.g1_book.specs.Callers.{IsCallerOf, mark_of};
+ghost use Rattle.g1_book.specs.History.{terms_of};
+
+use crate::list::{List, lists_of};
+use crate::meter::{Meter, now};
+use crate::timed::Timed;
+use g1_book::{Book, Caller, Frame, Shared};
+use g1_core::Config;
+use g1_layout::{Kind, Layout, NoMemory};
+use std::alloc::Global;
+use std::marker::Brand;
+use std::rt::Clock;
+use std::sync::Wait;
+use std::sync::ledger::{Blank, Ledger};
+use std::thread::{self, Threads};
+
+/// Makes the stores by so many callers.
+pub fn lock<R: Threads + Wait + Sync + Clock>(
+    rt: &R,
+    alloc: Global,
+    timed: Timed,
+    meter: &Meter,
+) -> Result<(), NoMemory>
+    requires { (1 ≤ timed.threads) × (timed.threads ≤ 4) }
+{
+    let lists = lists_of(alloc, timed.layout, timed.target, timed.stores)?;
+    let threads = timed.threads;
+    let book = Book::open(alloc, timed.layout, Config::default(), threads, 1_000_000)?;
+    let (made, stored) = (
+        Blank::new(u64::from(threads)),
+        Blank::new(u64::from(threads)),
+    );
+    share::<Brand, Brand, R>(rt, made, stored, book, &lists, timed, meter)
+}
+
+// The callers of the book, in their threads.
+fn share<M: Frame + Send + Sync, S: Ledger + Send + Sync, R: Threads + Wait + Sync + Clock>(
+    rt: &R,
+    made: Blank,
+    stored: Blank,
+    book: Book,
+    lists: &Vec<List>,
+    timed: Timed,
+    meter: &Meter,
+) -> Result<(), NoMemory>
+    requires made { (made.name ≡ M.name) × (made.parts ≡ M.parts) × (made.parts ≡ timed.threads) }
+    requires stored { (stored.name ≡ S.name) × (stored.parts ≡ S.parts) × (stored.parts ≡ timed.threads) }
+    requires terms { terms_of book ≡ M.terms }
+    requires layout { timed.layout ≡ M.terms.layout }
+    requires empty { book.entries ≡ [] }
+    requires threads { (M.terms.mutators ≡ timed.threads) × (timed.threads ≤ 4) }
+{
+    let Ok((shared, mut callers)) = Shared::<M, S>::open(made, stored, book, timed.threads) else {
+        return Err(NoMemory);
+    };
+    let shared = &shared;
+    thread::for_each_mut(
+        rt,
+        callers.as_mut_slice(),
+        4,
+        &|k, caller| run(rt, shared, caller, k, lists, timed, meter),
+    );
+    Ok(())
+}
+
+// The rounds of one caller.
+fn run<M: Frame, S: Ledger, R: Wait + Clock>(
+    rt: &R,
+    shared: &Shared<M, S>,
+    caller: &mut Caller<M, S>,
+    k: usize,
+    lists: &Vec<List>,
+    timed: Timed,
+    meter: &Meter,
+)
+    requires mine { IsCallerOf shared.now caller.old }
+    requires mutator { caller.old.counts.number < M.terms.mutators }
+    requires layout { timed.layout ≡ M.terms.layout }
+{
+    let Some(list) = lists.get(k) else {
+        return;
+    };
+    for _i in 0..timed.rounds {
+        let began = now(rt);
+        let checksum = store(rt, shared, caller, timed.layout, list.as_slice());
+        meter.add(rt, began, checksum);
+    }
+}
+
+// Makes the stores of the list. `None` where one was refused.
+fn store<M: Frame, S: Ledger, R: Wait>(
+    rt: &R,
+    shared: &Shared<M, S>,
+    caller: &mut Caller<M, S>,
+    layout: Layout,
+    list: &[(u32, u32)],
+) -> Option<u64>
+    requires mine { IsCallerOf shared.now caller.old }
+    requires mutator { caller.old.counts.number < M.terms.mutators }
+    requires layout { layout ≡ M.terms.layout }
+    ensures { mark_of caller.new ≡ mark_of caller.old }
+{
+    let mut checksum: u64 = 0;
+    for (slot, place) in list {
+        let slot = layout.slot(*slot)?;
+        let reply = shared.store(rt, caller, slot, layout.slot(*place)).ok()?;
+        if reply.kind == Kind::Logged {
+            checksum = checksum.wrapping_add(1);
+        }
+    }
+    Some(checksum)
+}

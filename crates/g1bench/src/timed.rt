@@ -1,0 +1,149 @@
+//! Rounds of stores by the clock, in one thread or several.
+ghost use Rattle.std.specs.Prelude.{◌≡◌, ◌<◌, ◌≤◌, IfSome};
+
+use crate::list::Target;
+use crate::meter::Meter;
+use crate::{alone, locked, raced};
+use g1_layout::{Layout, NoMemory};
+use std::alloc::Global;
+use std::process::ExitCode;
+use std::rt::Clock;
+use std::sync::Wait;
+use std::thread::Threads;
+
+/// Where the stores are made.
+#[derive(Clone, Copy, Debug)]
+pub enum Barrier {
+    /// Nowhere: the loop alone.
+    Walk,
+    /// At a core.
+    Core,
+    /// At a book.
+    Book,
+    /// At a book under a lock.
+    Locked,
+    /// In a race.
+    Raced,
+}
+
+/// One run.
+#[derive(Clone, Copy, Debug)]
+pub struct Timed {
+    /// Where the stores are made.
+    pub barrier: Barrier,
+    /// What is stored.
+    pub target: Target,
+    /// How many threads.
+    pub threads: u32,
+    /// How many rounds each thread makes.
+    pub rounds: u32,
+    /// How many stores a thread makes in a round.
+    pub stores: u32,
+    /// The heap.
+    pub layout: Layout,
+}
+
+impl Timed {
+    // Whether the stores are logged.
+    fn logs(&self) -> bool {
+        self.target == Target::NextRegion
+    }
+}
+
+/// The run of these words: where, what, and the numbers of threads, rounds and stores a round. `None` where one of them is missing
+/// or is none, for other numbers of threads than 1 to 4, and for a run that no barrier of that kind can make.
+pub fn read_timed(words: &[String]) -> Option<Timed>
+    ensures { IfSome result (λ t. (1 ≤ t.threads) × (t.threads ≤ 4)) }
+{
+    let [barrier, target, threads, rounds, stores] = words else {
+        return None;
+    };
+    let timed = Timed {
+        barrier: barrier_of(barrier.as_str())?,
+        target: target_of(target.as_str())?,
+        threads: threads.as_str().parse::<u32>().ok()?,
+        rounds: rounds.as_str().parse::<u32>().ok()?,
+        stores: stores.as_str().parse::<u32>().ok()?,
+        layout: Layout::new(256, 256, 16)?,
+    };
+    if timed.threads < 1 || timed.threads > 4 || !is_possible(&timed) {
+        return None;
+    }
+    Some(timed)
+}
+
+// No card is cleaned, so it is logged once. At a book, whose history ends, nothing is logged; and where no thread shares anything,
+// there is one.
+fn is_possible(timed: &Timed) -> bool {
+    if timed.logs() && timed.rounds > 1 {
+        return false;
+    }
+    match timed.barrier {
+        Barrier::Raced => true,
+        Barrier::Locked => !timed.logs(),
+        Barrier::Book => timed.threads == 1 && !timed.logs(),
+        Barrier::Core => timed.threads == 1,
+        Barrier::Walk => timed.threads == 1,
+    }
+}
+
+fn barrier_of(word: &str) -> Option<Barrier> {
+    match word {
+        "walk" => Some(Barrier::Walk),
+        "core" => Some(Barrier::Core),
+        "book" => Some(Barrier::Book),
+        "locked" => Some(Barrier::Locked),
+        "raced" => Some(Barrier::Raced),
+        _ => None,
+    }
+}
+
+fn target_of(word: &str) -> Option<Target> {
+    match word {
+        "null" => Some(Target::Null),
+        "same-region" => Some(Target::SameRegion),
+        "next-region" => Some(Target::NextRegion),
+        _ => None,
+    }
+}
+
+/// Makes the run, and prints how long the loops of stores took in all threads together, and the checksum.
+pub fn print_time<R: Threads + Wait + Sync + Clock + Print + Eprint>(
+    rt: &R,
+    alloc: Global,
+    timed: Timed,
+) -> ExitCode
+    requires { (1 ≤ timed.threads) × (timed.threads ≤ 4) }
+{
+    let meter = Meter::new();
+    let Ok(()) = run(rt, alloc, timed, &meter) else {
+        let _ = rt.eprint("no memory\n");
+        return ExitCode::from(3);
+    };
+    let Some((nanoseconds, checksum)) = meter.sums() else {
+        let _ = rt.eprint("a store was refused, or there is no clock\n");
+        return ExitCode::from(4);
+    };
+    let Ok(()) = println!(rt; "nanoseconds {nanoseconds}\nchecksum {checksum}") else {
+        return ExitCode::from(5);
+    };
+    ExitCode::from(0)
+}
+
+// Makes the run.
+fn run<R: Threads + Wait + Sync + Clock>(
+    rt: &R,
+    alloc: Global,
+    timed: Timed,
+    meter: &Meter,
+) -> Result<(), NoMemory>
+    requires { (1 ≤ timed.threads) × (timed.threads ≤ 4) }
+{
+    match timed.barrier {
+        Barrier::Walk => alone::walk(rt, alloc, timed, meter),
+        Barrier::Core => alone::core(rt, alloc, timed, meter),
+        Barrier::Book => alone::book(rt, alloc, timed, meter),
+        Barrier::Locked => locked::lock(rt, alloc, timed, meter),
+        Barrier::Raced => raced::race(rt, alloc, timed, meter),
+    }
+}
