@@ -1,16 +1,18 @@
 //! Replays the examples and says which of them print what is written beside them (crates/examples/data/README.md).
 #![tactic(auto)]
 
-use g1_replay::{End, Mode, read_options, run};
+use g1_replay::{End, Mode, crew, read_options, run};
 use std::fs::{self, Files};
 use std::io;
 use std::sync::Wait;
+use std::thread::Threads;
 
-const NAMES: [&str; 7] = [
+const NAMES: [&str; 8] = [
     "one_reference",
     "hot_card",
     "full_line_and_help",
     "cleared_and_redirected",
+    "crew_of_two",
     "fault",
     "recorded_compiler",
     "recorded_threads",
@@ -28,7 +30,10 @@ fn main(rt: HostRuntime) -> io::Result<()> {
 }
 
 // What is printed, and the end, are those that are written beside the trace.
-fn is_as_written<R: Files + Wait + AllocGlobal>(rt: &R, name: &str) -> io::Result<bool> {
+fn is_as_written<R: Files + Threads + Wait + Sync + AllocGlobal>(
+    rt: &R,
+    name: &str,
+) -> io::Result<bool> {
     let alloc = rt.alloc();
     let args = part(rt, name, "args")?;
     let trace = part(rt, name, "trace")?;
@@ -39,11 +44,15 @@ fn is_as_written<R: Files + Wait + AllocGlobal>(rt: &R, name: &str) -> io::Resul
     for word in args.lines() {
         words.push(word)?;
     }
-    let Ok((Mode::Run, options)) = read_options(alloc, words.as_slice()) else {
+    let Ok((mode, options)) = read_options(alloc, words.as_slice()) else {
         return Ok(false);
     };
+    let mut input = trace.as_bytes();
     let mut printed: Vec<u8> = Vec::new(alloc);
-    let end = run(rt, alloc, &mut trace.as_bytes(), &mut printed, &options);
+    let end = match mode {
+        Mode::Run => run(rt, alloc, &mut input, &mut printed, &options),
+        Mode::Crew => crew(rt, alloc, &mut input, &mut printed, &options),
+    };
     Ok(printed.as_slice() == wanted.as_bytes() && status.as_str().trim_end() == status_of(end))
 }
 

@@ -56,7 +56,7 @@ all_consumed xs None front c = absurd c
 all_consumed xs (Some ys) front c = (ys, refl, c)
 
 -- the trace of all bytes, by what was read of them
-whole_trace : (d : Dialect) (xs : List ℕ) (rd' : Option (List ℕ)) (n : ℕ) (heap : Option Shape) (cs : List Command) → Reads d None 1 n (Some xs) rd' heap cs (Ok false) → read_trace d xs ≡ record { heap = heap; commands = cs; fault = None }
+pub whole_trace : (d : Dialect) (xs : List ℕ) (rd' : Option (List ℕ)) (n : ℕ) (heap : Option Shape) (cs : List Command) → Reads d None 1 n (Some xs) rd' heap cs (Ok false) → read_trace d xs ≡ record { heap = heap; commands = cs; fault = None }
 whole_trace d xs rd' n None cs t = let none = t.met.2 in cc
 whole_trace d xs rd' n (Some l) cs t =
     let all = all_consumed xs rd' (t.lines ++ t.rest) t.consumed in
@@ -64,7 +64,7 @@ whole_trace d xs rd' n (Some l) cs t =
     let same : xs ≡ t.lines ++ [] = all.2 ∙ ap (λ l. (t.lines ++ t.rest) ++ l) none ∙ append-nil (t.lines ++ t.rest) ∙ ap (λ l. t.lines ++ l) t.met.0 in
     ap (read_trace d) same ∙ t.passed [] ∙ ap (λ (w : List Command). record { heap = Some l; commands = w; fault = None }) (append-nil cs)
 
-faulty_trace : (d : Dialect) (xs : List ℕ) (rd' : Option (List ℕ)) (n : ℕ) (heap : Option Shape) (cs : List Command) (f : TraceFault) → Reads d None 1 n (Some xs) rd' heap cs (Err (Fault f))
+pub faulty_trace : (d : Dialect) (xs : List ℕ) (rd' : Option (List ℕ)) (n : ℕ) (heap : Option Shape) (cs : List Command) (f : TraceFault) → Reads d None 1 n (Some xs) rd' heap cs (Err (Fault f))
     → read_trace d xs ≡ record { heap = heap; commands = cs; fault = Some (n, f) }
 faulty_trace d xs rd' n heap cs f t =
     let all = all_consumed xs rd' (t.lines ++ t.rest) t.consumed in
@@ -72,7 +72,7 @@ faulty_trace d xs rd' n heap cs f t =
     ∙ ap (λ (w : List Command). record { heap = heap; commands = w; fault = Some (n, f) }) (append-nil cs)
 
 -- all commands were done
-all_done : (cs done undone : List Command) → cs ≡ done ++ undone → undone ≡ [] → cs ≡ done
+pub all_done : (cs done undone : List Command) → cs ≡ done ++ undone → undone ≡ [] → cs ≡ done
 all_done cs done undone e none = e ∙ ap (λ w. done ++ w) none ∙ append-nil done
 
 pub whole_output : (d : Dialect) (history n : ℕ) (rd rd' out out' : Option (List ℕ)) (r : Result (Unit {0}) Stop) (text : List ℕ) (end : End) → Told d history 1 n rd rd' r text

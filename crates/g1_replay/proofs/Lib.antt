@@ -9,3 +9,7 @@ pub mod ReadingLemmas
 pub mod ToldLemmas
 pub mod WordLemmas
 pub mod AnswerLemmas
+pub mod DrainLemmas
+pub mod RanLemmas
+pub mod CrewLemmas
+pub mod ScriptLemmas

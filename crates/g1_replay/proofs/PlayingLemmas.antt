@@ -5,7 +5,7 @@ use Rattle.g1_layout.specs.Shape.{Shape}
 use Rattle.g1_replay.specs.declared.command.Command.{Command}
 use Rattle.g1_replay.specs.declared.dialect.Dialect.{Dialect}
 use Rattle.g1_replay.specs.declared.stop.Stop.{Stop}
-use Rattle.g1_replay.specs.declared.stop.Stop.TheVariants.{Fault, NoMemory, BookFull, ReadFailed, WriteFailed}
+use Rattle.g1_replay.specs.declared.stop.Stop.TheVariants.{Fault, NoMemory, BookFull, NoThread, ReadFailed, WriteFailed}
 use Rattle.g1_replay.specs.Playing.{IsUndone, Does, MayStop, Follows, written_by}
 use Rattle.g1_replay.specs.Reading.{IsReadStop, Reads}
 use Rattle.g1_replay.proofs.PutLemmas.{puts_none, puts_then}
@@ -17,6 +17,7 @@ none_undone (Ok b) h = refl
 none_undone (Err (Fault f)) h = refl
 none_undone (Err NoMemory) h = omega arith
 none_undone (Err BookFull) h = absurd (h refl)
+none_undone (Err NoThread) h = refl
 none_undone (Err ReadFailed) h = refl
 none_undone (Err WriteFailed) h = refl
 

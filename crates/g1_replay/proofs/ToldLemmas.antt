@@ -11,7 +11,7 @@ use Rattle.g1_book.specs.Lent.{Grows}
 use Rattle.g1_replay.specs.declared.command.Command.{Command}
 use Rattle.g1_replay.specs.declared.dialect.Dialect.{Dialect}
 use Rattle.g1_replay.specs.declared.stop.Stop.{Stop}
-use Rattle.g1_replay.specs.declared.stop.Stop.TheVariants.{Fault, NoMemory, BookFull, ReadFailed, WriteFailed}
+use Rattle.g1_replay.specs.declared.stop.Stop.TheVariants.{Fault, NoMemory, BookFull, NoThread, ReadFailed, WriteFailed}
 use Rattle.g1_replay.specs.Output.{Told, ended}
 use Rattle.g1_replay.specs.Pieces.{entries_of}
 use Rattle.g1_replay.specs.Playing.{IsOpened, IsFull, IsUndone, HasPlayed, Follows, Writes}
@@ -78,17 +78,19 @@ undone_as (Ok done) undone h = h
 undone_as (Err (Fault f)) undone h = h
 undone_as (Err NoMemory) undone h = h
 undone_as (Err BookFull) undone h = h
+undone_as (Err NoThread) undone h = h
 undone_as (Err ReadFailed) undone h = h
 undone_as (Err WriteFailed) undone h = h
 
-full_as : (r : Result (Unit {0}) Stop) → r ≡ Err BookFull → ended r ≡ Err BookFull
+pub full_as : (r : Result (Unit {0}) Stop) → r ≡ Err BookFull → ended r ≡ Err BookFull
 full_as r e = ap ended e
 
-written_as : (out out' : Option (List ℕ)) (r : Result (Unit {0}) Stop) (text : List ℕ) → Writes out out' (ended r) text → Writes out out' r text
+pub written_as : (out out' : Option (List ℕ)) (r : Result (Unit {0}) Stop) (text : List ℕ) → Writes out out' (ended r) text → Writes out out' r text
 written_as out out' (Ok done) text w = w
 written_as out out' (Err (Fault f)) text w = w
 written_as out out' (Err NoMemory) text w = w
 written_as out out' (Err BookFull) text w = w
+written_as out out' (Err NoThread) text w = w
 written_as out out' (Err ReadFailed) text w = w
 written_as out out' (Err WriteFailed) text w = w
 

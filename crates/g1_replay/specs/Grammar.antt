@@ -4,6 +4,8 @@ use Rattle.std.specs.Str.{bytes_eq}
 use Rattle.g1_layout.specs.Shape.{Shape, slot_count, card_count}
 use Rattle.g1_replay.specs.declared.command.Command.{Command}
 use Rattle.g1_replay.specs.declared.command.Command.TheVariants.{Store, Flush, Refine, Work, Target, Pending, Members, Status, Drain, Clear, Redirect}
+use Rattle.g1_replay.specs.declared.command_line.Mode.{Mode}
+use Rattle.g1_replay.specs.declared.command_line.Mode.TheVariants.{Run, Crew}
 use Rattle.g1_replay.specs.declared.dialect.Dialect.{Dialect}
 use Rattle.g1_replay.specs.declared.fault.TraceFault.{TraceFault}
 use Rattle.g1_replay.specs.declared.fault.TraceFault.TheVariants.{NoHeader, NoCommand, BadHeap, Twice}
@@ -14,11 +16,17 @@ use Rattle.g1_replay.specs.Places.{read_none, read_one, read_two, read_three, mu
 abbrev pub redirect_of : ℕ → ℕ → Result Command TraceFault
 redirect_of a b = if a == b then Err Twice else Ok (Redirect a b)
 
+-- whether the traces of a subcommand have nothing but the calls of mutators
+abbrev pub is_script : Mode → Bool
+is_script Run = false
+is_script Crew = true
+
 -- the commands: for each first word, the places behind it and what it asks for
 unfoldable pub read_named : Shape → Dialect → List ℕ → List (List ℕ) → Result Command TraceFault
 read_named l d name words =
     if bytes_eq name (codes "store") then (read_three (mutator_place d.mutators) (slot_place l) (target_place l) words >>= λ v. Ok (Store v.0 v.1 v.2))
     else if bytes_eq name (codes "flush") then (read_one (mutator_place d.mutators) words >>= λ v. Ok (Flush v))
+    else if is_script d.mode then Err NoCommand
     else if bytes_eq name (codes "refine") then (read_none words >>= λ _. Ok Refine)
     else if bytes_eq name (codes "work") then (read_none words >>= λ _. Ok Work)
     else if bytes_eq name (codes "target") then (read_one (slot_place l) words >>= λ v. Ok (Target v))

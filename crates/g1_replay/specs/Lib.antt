@@ -14,3 +14,5 @@ pub mod Output
 pub mod Playing
 pub mod Stops
 pub mod Laws
+pub mod Crew
+pub mod Scripts

@@ -11,12 +11,12 @@ use Rattle.g1_replay.specs.declared.end.End.TheVariants.{Whole, Refused, Stopped
 use Rattle.g1_replay.specs.declared.fault.TraceFault.{TraceFault}
 use Rattle.g1_replay.specs.declared.options.Options.{Options}
 use Rattle.g1_replay.specs.declared.stop.Stop.{Stop}
-use Rattle.g1_replay.specs.declared.stop.Stop.TheVariants.{Fault, NoMemory, BookFull, ReadFailed, WriteFailed}
+use Rattle.g1_replay.specs.declared.stop.Stop.TheVariants.{Fault, NoMemory, BookFull, NoThread, ReadFailed, WriteFailed}
 use Rattle.g1_replay.specs.Bytes.{AppendsFront}
 use Rattle.g1_replay.specs.Pieces.{Piece, Walks, lines_of, entries_of}
 use Rattle.g1_replay.specs.Playing.{IsUndone}
 use Rattle.g1_replay.specs.Reading.{Reads}
-use Rattle.g1_replay.specs.Text.{fault_line, no_memory_line, book_full_line, read_failed_line}
+use Rattle.g1_replay.specs.Text.{fault_line, no_memory_line, book_full_line, no_thread_line, read_failed_line}
 use Rattle.g1_replay.specs.Trace.{read_trace, faulty, before}
 
 -- the end of the input, or what stopped the replay
@@ -47,6 +47,7 @@ ending_line n (Ok done) = []
 ending_line n (Err (Fault f)) = fault_line n f
 ending_line n (Err NoMemory) = no_memory_line
 ending_line n (Err BookFull) = book_full_line
+ending_line n (Err NoThread) = no_thread_line
 ending_line n (Err ReadFailed) = read_failed_line
 ending_line n (Err WriteFailed) = []
 
@@ -55,6 +56,7 @@ end_of (Ok done) = Whole
 end_of (Err (Fault f)) = Refused
 end_of (Err NoMemory) = Stopped
 end_of (Err BookFull) = Stopped
+end_of (Err NoThread) = Stopped
 end_of (Err ReadFailed) = EndReadFailed
 end_of (Err WriteFailed) = EndWriteFailed
 

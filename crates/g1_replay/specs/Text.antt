@@ -133,12 +133,19 @@ fault_text Twice = codes "same region twice"
 abbrev pub fault_line : (number : ℕ) → TraceFault → List ℕ
 fault_line number fault = counted (codes "line ") number ++ codes ": " ++ fault_text fault ++ codes "\n"
 
+-- so many stores
+abbrev pub stores_text : ℕ → List ℕ
+stores_text stores = counted (codes "stores ") stores ++ codes "\n"
+
 -- The lines of the other ends.
 abbrev pub no_memory_line : List ℕ
 no_memory_line = codes "no memory\n"
 
 abbrev pub book_full_line : List ℕ
 book_full_line = codes "book full\n"
+
+abbrev pub no_thread_line : List ℕ
+no_thread_line = codes "no thread\n"
 
 abbrev pub read_failed_line : List ℕ
 read_failed_line = codes "read failed\n"

@@ -1,13 +1,15 @@
 //! What a command line means.
-ghost use Rattle.std.specs.Prelude.{◌≡◌, ◌≤◌, List, [], true, IfSome, IfOk, IfErr, OnOk, map, option_map, string_bytes};
+ghost use Rattle.std.specs.Prelude.{◌≡◌, ◌≤◌, List, [], Some, true, IfSome, IfOk, IfErr, OnOk, map, string_bytes};
 ghost use Rattle.clap.specs.Words.{Row, app_of, fault_of, found_of, kind_of, rows_of, subcommand_rows_of, takes};
 ghost use Rattle.g1_replay.specs.Settings.{AreWithin};
-ghost use Rattle.g1_replay.specs.CommandLine.{AreRead, IsLine, IsRead, line_app};
+ghost use Rattle.g1_replay.specs.CommandLine.{AreFor, AreSettingsRead, IsLine, IsLocal, IsRead, crew_app, line_app, mode_name, run_app, with_shared};
+ghost use Rattle.g1_replay.specs.declared.command_line.Mode.TheVariants.{Run as RunMode, Crew as CrewMode};
 
 use crate::options::Options;
-use crate::settings::{HISTORY, HOT, LIMIT, LOG, MUTATORS, RING, START, Setting};
+use crate::settings::{HISTORY, HOT, LIMIT, LOG, MUTATORS, REFINERS, RING, ROUNDS, START, Setting};
 use clap::error::ErrorKind;
 use clap::{ArgMatches, Command, Error};
+use g1_core::Config;
 use std::alloc::{AllocError, Global};
 
 /// What the program does with the trace.
@@ -15,6 +17,8 @@ use std::alloc::{AllocError, Global};
 pub enum Mode {
     /// Each line is a call, made in the order of the trace.
     Run,
+    /// The stores and flushes of each mutator are made by a thread of its own, while others refine.
+    Crew,
 }
 
 /// Why the program doesn't start: the command line was refused, asks for help, or memory was refused.
@@ -26,7 +30,8 @@ pub struct LineFault {
 
 const ABOUT: &str = "Replays traces for the remembered-set log of a region-based garbage collector";
 
-const AFTER_HELP: &str = "'g1replay run --help' has the options, an example and the exit statuses.";
+const AFTER_HELP: &str =
+    "'g1replay COMMAND --help' has the options of a command, an example and the exit statuses.";
 
 const RUN_ABOUT: &str =
     "Reads a trace on standard input and prints the reply of each command on standard output";
@@ -50,12 +55,41 @@ Exit status:
   4  a read of standard input failed: 'read failed' is printed
   5  a write to standard output failed";
 
-/// What the command line means; its first word is the program's name. `Run` comes with the options of `run`: those that
-/// aren't given have their defaults. An unknown word, an option given twice, a value that is no decimal whole number or
-/// outside its limits, a missing subcommand and a wish for help are refused with a text for standard error.
+const CREW_ABOUT: &str =
+    "Reads a trace on standard input, runs each mutator in a thread of its own, then drains each region";
+
+const CREW_AFTER_HELP: &str = "\
+Each option takes one decimal whole number, and may be given once. Behind its header the trace has
+'store' and 'flush' and no other command. It is read whole before any thread is started.
+
+Example, with logs that one card fills:
+  printf 'heap 4 2 4\\nstore 0 0 8\\nstore 1 16 8\\n' | g1replay crew --mutators 2 --log 1
+It makes a heap of 4 regions of 2 cards of 4 slots. Two threads store a reference to slot 8, which
+lies in region 1, into slot 0 and into slot 16, while a third refines. It prints
+  stores 2
+  drained
+  drained 0 4
+  drained
+  drained
+which is how many stores were made and, for each region in turn, the cards to scan for references
+into it. They may differ from run to run where a slot is stored to more than once.
+
+Exit status:
+  0  the whole trace was done
+  1  the command line was refused, or help was asked for
+  2  the trace was refused: the line printed says which line, and why
+  3  memory or a thread was refused, or the history is full: 'no memory', 'no thread' or 'book full'
+     is printed
+  4  a read of standard input failed: 'read failed' is printed
+  5  a write to standard output failed";
+
+/// What the command line means; its first word is the program's name. `Run` and `Crew` come with the options of their own
+/// subcommand: those that aren't given, and those that only the other one has, have their defaults. An unknown word, an
+/// option given twice, a value that is no decimal whole number or outside its limits, a missing subcommand and a wish for
+/// help are refused with a text for standard error.
 pub fn read_options(alloc: Global, words: &[&str]) -> Result<(Mode, Options), LineFault>
     ensures within { IfOk result (λ p. AreWithin p.1) }
-    ensures read { IfOk result (λ p. IsLine (map (λ w. w.now) words.now) p.1) }
+    ensures read { IfOk result (λ p. IsLine (map (λ w. w.now) words.now) p.0 p.1) }
     ensures taken { OnOk result (fault_of line_app (map (λ w. w.now) words.now) ≡ []) }
 
     // Words that the line takes are refused for want of memory alone.
@@ -68,8 +102,8 @@ pub fn read_options(alloc: Global, words: &[&str]) -> Result<(Mode, Options), Li
         Ok(matches) => matches,
         Err(error) => return Err(LineFault::of(alloc, &error)),
     };
-    match run_options(&matches) {
-        Some(options) => Ok((Mode::Run, options)),
+    match asked(&matches) {
+        Some(asked) => Ok(asked),
         None => Err(LineFault::silent(alloc)),
     }
 }
@@ -78,45 +112,108 @@ pub fn read_options(alloc: Global, words: &[&str]) -> Result<(Mode, Options), Li
 fn line<'a>(alloc: Global) -> Result<Command<'a>, AllocError>
     ensures { IfOk result (λ c. app_of c ≡ line_app) }
 {
+    let run = run_command(alloc)?;
+    let crew = crew_command(alloc)?;
+    Command::new(alloc, "g1replay")
+        .about(ABOUT)
+        .after_help(AFTER_HELP)
+        .arg_required_else_help(true)
+        .subcommand_required(true)
+        .subcommand(run)?
+        .subcommand(crew)
+}
+
+// The subcommand `run`.
+fn run_command<'a>(alloc: Global) -> Result<Command<'a>, AllocError>
+    ensures app { IfOk result (λ c. app_of c ≡ run_app) }
+    ensures local { IfOk result IsLocal }
+{
     let run = Command::new(alloc, "run")
         .about(RUN_ABOUT)
-        .after_help(RUN_AFTER_HELP)
+        .after_help(RUN_AFTER_HELP);
+    with_shared(alloc, run)
+}
+
+// The subcommand `crew`.
+fn crew_command<'a>(alloc: Global) -> Result<Command<'a>, AllocError>
+    ensures app { IfOk result (λ c. app_of c ≡ crew_app) }
+    ensures local { IfOk result IsLocal }
+{
+    let crew = Command::new(alloc, "crew")
+        .about(CREW_ABOUT)
+        .after_help(CREW_AFTER_HELP);
+    with_shared(alloc, crew)?
+        .arg(REFINERS.argument(alloc))?
+        .arg(ROUNDS.argument(alloc))
+}
+
+// The subcommand with the options that all have.
+fn with_shared<'a>(alloc: Global, command: Command<'a>) -> Result<Command<'a>, AllocError>
+    requires { IsLocal command }
+    ensures app { IfOk result (λ c. app_of c ≡ with_shared (app_of command.entry)) }
+    ensures local { IfOk result IsLocal }
+{
+    command
         .arg(MUTATORS.argument(alloc))?
         .arg(LOG.argument(alloc))?
         .arg(LIMIT.argument(alloc))?
         .arg(HOT.argument(alloc))?
         .arg(RING.argument(alloc))?
         .arg(START.argument(alloc))?
-        .arg(HISTORY.argument(alloc))?;
-    Command::new(alloc, "g1replay")
-        .about(ABOUT)
-        .after_help(AFTER_HELP)
-        .arg_required_else_help(true)
-        .subcommand_required(true)
-        .subcommand(run)
+        .arg(HISTORY.argument(alloc))
 }
 
-// The options of `run`.
-fn run_options(matches: &ArgMatches<'_>) -> Option<Options>
-    ensures { IfSome result (λ o. (rows : List Row)
-        × (option_map (λ p. p.1) (subcommand_rows_of matches.now) ≡ Some rows) × AreRead rows o) }
+// The subcommand that was asked for, with its options.
+fn asked(matches: &ArgMatches<'_>) -> Option<(Mode, Options)>
+    ensures { IfSome result (λ p. (rows : List Row)
+        × (subcommand_rows_of matches.now ≡ Some (mode_name p.0, rows)) × AreFor p.0 rows p.1) }
 {
-    options_of(matches.subcommand_matches("run")?)
+    if let Some(run) = matches.subcommand_matches("run") {
+        return Some((Mode::Run, run_options(run)?));
+    }
+    let crew = matches.subcommand_matches("crew")?;
+    Some((Mode::Crew, crew_options(crew)?))
 }
 
-// The options that the subcommand's matches have.
-fn options_of(matches: &ArgMatches<'_>) -> Option<Options>
-    ensures { IfSome result (AreRead (rows_of (found_of matches.now))) }
+// The options of `run` that the subcommand's matches have.
+fn run_options(matches: &ArgMatches<'_>) -> Option<Options>
+    ensures { IfSome result (AreFor RunMode (rows_of (found_of matches.now))) }
 {
     Some(Options {
         mutators: value(matches, &MUTATORS)?,
-        log: value(matches, &LOG)?,
-        limit: value(matches, &LIMIT)?,
-        hot: value(matches, &HOT)?,
-        ring: value(matches, &RING)?,
-        start: value(matches, &START)?,
+        config: config(matches)?,
         history: value(matches, &HISTORY)?,
+        refiners: 1,
+        rounds: 100,
     })
+}
+
+// The settings of the core.
+fn config(matches: &ArgMatches<'_>) -> Option<Config>
+    ensures { IfSome result (AreSettingsRead (rows_of (found_of matches.now))) }
+{
+    let log = value(matches, &LOG)?;
+    let limit = value(matches, &LIMIT)?;
+    let hot = value(matches, &HOT)?;
+    let ring = value(matches, &RING)?;
+    let start = value(matches, &START)?;
+    Config::new(
+        log as usize,
+        limit as usize,
+        hot,
+        ring as usize,
+        start as usize,
+    )
+}
+
+// The options of `crew`: those of `run` and its own.
+fn crew_options(matches: &ArgMatches<'_>) -> Option<Options>
+    ensures { IfSome result (AreFor CrewMode (rows_of (found_of matches.now))) }
+{
+    let mut options = run_options(matches)?;
+    options.refiners = value(matches, &REFINERS)?;
+    options.rounds = value(matches, &ROUNDS)?;
+    Some(options)
 }
 
 // The value of an option. The parser has found it within its limits, which is tested once more for the proof.

@@ -1,7 +1,8 @@
 //! A trace is read line by line, the calls of each line are made, and its output line is written.
-ghost use Rattle.std.specs.Prelude.{◌≡◌, ℕ, List, [], ◌++◌, ◌<◌, ◌≤◌, ◌^◌, Ok, true, Result, IfSome, OnOk};
+ghost use Rattle.std.specs.Prelude.{◌≡◌, ℕ, List, [], ◌++◌, ◌<◌, ◌≤◌, ◌^◌, ◌⊎◌, Ok, true, Result, IfSome, IfErr, OnOk};
 ghost use Rattle.g1_replay.specs.Playing.{Follows, Writes};
 ghost use Rattle.g1_replay.specs.Output.{Told, IsEnded, ended, ending_line, end_or_failed, IsWholeOutput, IsRefusedOutput};
+ghost use Rattle.g1_replay.specs.Reading.{IsReadStop};
 ghost use Rattle.g1_replay.specs.declared.command_line.Mode.TheVariants.{Run};
 ghost use Rattle.g1_replay.specs.declared.stop.Stop.{Stop};
 
@@ -14,7 +15,7 @@ use crate::opening::read_heap;
 use crate::options::Options;
 use crate::output::WriteFailed;
 use crate::player::Player;
-use crate::print::{put_book_full, put_fault, put_no_memory, put_read_failed};
+use crate::print::{put_book_full, put_fault, put_no_memory, put_no_thread, put_read_failed};
 use crate::source::Source;
 use crate::stop::Stop;
 use g1_layout::Layout;
@@ -37,6 +38,7 @@ fn play_line<T: Wait, P: Player, R: BufRead, W: Write>(
     ensures followed { Follows P.did P.full dialect layout source.old.number source.new.number player.old player.new (R.remaining input.old) (R.remaining input.new) (W.contents output.old) (W.contents output.new) result }
     ensures more { result ≡ Ok true → source.old.reads < source.new.reads }
     ensures limit { result ≡ Ok true → source.new.reads ≤ 2 ^ 40 }
+    ensures stops { IfErr result (λ stop. IsReadStop stop ⊎ P.stops stop) }
     ensures takes { OnOk result (P.takes player.new layout dialect) }
 {
     match read_next(source, layout, dialect, input)? {
@@ -61,6 +63,7 @@ pub(crate) fn play_lines<T: Wait, P: Player, R: BufRead, W: Write>(
 ) -> Result<(), Stop>
     requires { P.takes player.old layout dialect }
     ensures followed { Follows P.did P.full dialect layout source.old.number source.new.number player.old player.new (R.remaining input.old) (R.remaining input.new) (W.contents output.old) (W.contents output.new) (ended result) }
+    ensures stops { IfErr result (λ stop. IsReadStop stop ⊎ P.stops stop) }
     ensures takes { OnOk result (P.takes player.new layout dialect) }
 {
     'lines: while play_line(rt, source, layout, dialect, input, player, output)? {}
@@ -80,7 +83,7 @@ fn play_trace<T: Wait, R: BufRead, W: Write>(
         × Writes (W.contents output.old) (W.contents output.new) result text }
 {
     let layout = read_heap(source, input)?;
-    let capacity = options.limit as usize;
+    let capacity = options.config.limit();
     let mutators = options.mutators;
     let (line, senders, takers) = Line::new(alloc, capacity, mutators, mutators)?;
     let mut machinery = Machinery::open(alloc, layout, options, &line, senders, takers)?;
@@ -103,6 +106,7 @@ pub(crate) fn put_end<W: Write>(output: &mut W, number: u64, outcome: Result<(),
         Err(Stop::Fault(fault)) => end_unless(put_fault(output, number, fault), End::Refused),
         Err(Stop::NoMemory) => end_unless(put_no_memory(output), End::Stopped),
         Err(Stop::BookFull) => end_unless(put_book_full(output), End::Stopped),
+        Err(Stop::NoThread) => end_unless(put_no_thread(output), End::Stopped),
         Err(Stop::ReadFailed) => end_unless(put_read_failed(output), End::ReadFailed),
     }
 }

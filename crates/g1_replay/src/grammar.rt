@@ -3,9 +3,10 @@
 ghost use Rattle.std.specs.Prelude.{◌≡◌, ℕ, [], IfOk, IfSome};
 ghost use Rattle.g1_replay.specs.Words.{words_from};
 ghost use Rattle.g1_layout.specs.Shape.{IsShape};
-ghost use Rattle.g1_replay.specs.Grammar.{read_named, read_command, redirect_of, IsCommandOf};
+ghost use Rattle.g1_replay.specs.Grammar.{is_script, read_named, read_command, redirect_of, IsCommandOf};
 
 use crate::command::Command;
+use crate::command_line::Mode;
 use crate::dialect::Dialect;
 use crate::fault::TraceFault;
 use crate::places::{
@@ -22,6 +23,16 @@ fn redirect(from: Region, to: Region) -> Result<Command, TraceFault>
         return Err(TraceFault::Twice);
     }
     Ok(Command::Redirect { from, to })
+}
+
+// Whether its traces have nothing but the calls of mutators, which are their scripts.
+fn is_script(mode: Mode) -> bool
+    ensures { result ≡ is_script mode }
+{
+    match mode {
+        Mode::Run => false,
+        Mode::Crew => true,
+    }
 }
 
 // The command of a first word and the words behind it.
@@ -42,6 +53,9 @@ fn named(layout: Layout, dialect: Dialect, name: &[u8], words: &[u8]) -> Result<
     if is(name, b"flush") {
         let mutator = one_mutator(dialect.mutators, words)?;
         return Ok(Command::Flush { mutator });
+    }
+    if is_script(dialect.mode) {
+        return Err(TraceFault::NoCommand);
     }
     if is(name, b"refine") {
         nothing(words)?;

@@ -83,11 +83,11 @@ impl<'a> Machinery<'a> {
         ensures book { IfOk result (λ machinery. IsOpened layout options.now.mutators options.now.history machinery.book) }
         ensures callers { IfOk result (λ machinery. vec_len machinery.callers ≡ options.now.mutators) }
     {
-        let callers = callers_of(alloc, line, senders, takers, options.log as usize)?;
+        let callers = callers_of(alloc, line, senders, takers, options.config.log())?;
         let book = Book::open(
             alloc,
             layout,
-            options.config(),
+            options.config,
             options.mutators,
             options.history as usize,
         )?;

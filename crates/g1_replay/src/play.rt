@@ -4,7 +4,7 @@ ghost use Rattle.g1_layout.specs.Shape.{slot_count, card_count};
 ghost use Rattle.g1_book.specs.History.{layout_in};
 ghost use Rattle.g1_replay.specs.Grammar.{IsCommandOf};
 ghost use Rattle.g1_replay.specs.Laws.{played_none, played_then};
-ghost use Rattle.g1_replay.specs.Playing.{IsAnswered, IsFull, HasPlayed};
+ghost use Rattle.g1_replay.specs.Playing.{IsAnswered, IsFull, HasPlayed, MayStop};
 
 use crate::answer::{Answer, put_answer};
 use crate::command::Command;
@@ -24,6 +24,8 @@ impl Player for Machinery<'_> {
 
     ghost full = { λ s. IsFull s.book };
 
+    ghost stops = { MayStop };
+
     /// Makes the calls of a command and writes its output line.
     fn play<T: Wait, W: Write>(
         &mut self,
@@ -37,6 +39,8 @@ impl Player for Machinery<'_> {
         put_answer(output, &answer)?;
         Ok(())
     }
+
+    ghost may_stop = { λ stop may. may };
 
     ghost none = { λ s. played_none s.book };
 
@@ -184,7 +188,15 @@ fn drain<T: Wait>(rt: &T, machinery: &mut Machinery<'_>, region: Region) -> Resu
     ensures callers { vec_len machinery.new.callers ≡ vec_len machinery.old.callers }
 {
     Ends::stand_still(rt, machinery.callers.as_mut_slice());
-    match machinery.book.drain(0, region) {
+    drain_book(&mut machinery.book, region)
+}
+
+/// The first caller's drain, where all logs are empty or given up.
+pub(crate) fn drain_book(book: &mut Book, region: Region) -> Result<Answer, Refusal>
+    requires { region < (layout_in book.old).regions }
+    ensures { IsAnswered book.old book.new (Command.Drain region) result }
+{
+    match book.drain(0, region) {
         Ok(drained) => Ok(Answer::Drained(drained)),
         Err(refusal) => Err(refusal),
     }

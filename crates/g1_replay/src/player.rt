@@ -20,6 +20,7 @@ pub(crate) trait Player {
     ghost use Rattle.g1_layout.specs.Shape.{Shape};
     ghost use Rattle.g1_replay.specs.declared.command.Command.{Command};
     ghost use Rattle.g1_replay.specs.declared.dialect.Dialect.{Dialect};
+    ghost use Rattle.g1_replay.specs.declared.stop.Stop.{Stop};
 
     /// It takes commands over this heap, in this dialect.
     ghost takes: { Self → Shape → Dialect → Type 0 };
@@ -29,6 +30,9 @@ pub(crate) trait Player {
 
     /// It takes no more, since its book is full.
     ghost full: { Self → Type 0 };
+
+    /// What may stop a command.
+    ghost stops: { Stop → Type 0 };
 
     /// Does what a command asks for, and writes its text. A command that is refused leaves nothing done.
     fn play<T: Wait, W: Write>(
@@ -42,8 +46,10 @@ pub(crate) trait Player {
         requires takes { takes self.old layout dialect }
         requires command { IsCommandOf layout dialect.mutators command }
         ensures played { Does did full (command ∷ []) self.old self.new (W.contents output.old) (W.contents output.new) (more_may_come result) }
-        ensures stops { IfErr result MayStop }
+        ensures stops { IfErr result stops }
         ensures takes { OnOk result (takes self.new layout dialect) };
+
+    ghost may_stop: { (stop : Stop) → stops stop → MayStop stop };
 
     ghost none: { (s : Self) → did s [] [] s };
 

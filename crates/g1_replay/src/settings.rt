@@ -80,6 +80,24 @@ pub(crate) const HISTORY: Setting = Setting {
     help: "Calls that the history takes: 1 to 1000000",
 };
 
+pub(crate) const REFINERS: Setting = Setting {
+    name: "refiners",
+    unit: "COUNT",
+    least: 1,
+    most: 4,
+    default: "1",
+    help: "Threads that refine while the mutators store: 1 to 4",
+};
+
+pub(crate) const ROUNDS: Setting = Setting {
+    name: "rounds",
+    unit: "COUNT",
+    least: 0,
+    most: 10_000,
+    default: "100",
+    help: "Rounds of 'work' that each of these threads makes: 0 to 10000",
+};
+
 impl Setting {
     /// The argument that the command line has for this option.
     pub(crate) fn argument<'a>(&self, alloc: Global) -> Arg<'a>

@@ -3,8 +3,9 @@ ghost use Rattle.std.specs.Prelude.{◌≡◌};
 
 use crate::fault::TraceFault;
 use crate::output::WriteFailed;
-use g1_book::Refusal;
+use g1_book::{NotStarted, Refusal};
 use g1_layout::NoMemory;
+use std::alloc::AllocError;
 
 /// Why a replay goes no further (docs/TRACES.md, Faults, Ends).
 #[derive(Clone, Copy, Debug, PartialEq, Eq)]
@@ -15,6 +16,8 @@ pub enum Stop {
     NoMemory,
     /// The history has no room for a call.
     BookFull,
+    /// A thread could not be started.
+    NoThread,
     /// A read failed, or all reads were made.
     ReadFailed,
     /// A write failed.
@@ -41,6 +44,16 @@ impl From<NoMemory> for Stop {
     }
 }
 
+impl From<AllocError> for Stop {
+    ghost use Rattle.g1_replay.specs.declared.stop.Stop.TheVariants.{NoMemory as NoMemoryStop};
+
+    ghost from_gives = { λ _ stop. stop ≡ NoMemoryStop };
+
+    fn from(_refused: AllocError) -> Stop {
+        Stop::NoMemory
+    }
+}
+
 impl From<Refusal> for Stop {
     ghost use Rattle.g1_replay.specs.Stops.{stop_of};
 
@@ -51,6 +64,16 @@ impl From<Refusal> for Stop {
             Refusal::NoMemory => Stop::NoMemory,
             Refusal::BookFull => Stop::BookFull,
         }
+    }
+}
+
+impl From<NotStarted> for Stop {
+    ghost use Rattle.g1_replay.specs.declared.stop.Stop.TheVariants.{NoThread as NoThreadStop};
+
+    ghost from_gives = { λ _ stop. stop ≡ NoThreadStop };
+
+    fn from(_refused: NotStarted) -> Stop {
+        Stop::NoThread
     }
 }
 

@@ -1,4 +1,6 @@
 //! What no clause says: texts, that calls succeed, and traces that were worked out by hand.
+mod crew;
+mod crew_and_run;
 mod failing_ends;
 mod grammar;
 mod help;

@@ -1,15 +1,16 @@
 //! Replays a trace from standard input to standard output (docs/TRACES.md).
 #![tactic(auto)]
 
-use g1_replay::{End, LineFault, Mode, Options, read_options, run};
+use g1_replay::{End, LineFault, Mode, Options, crew, read_options, run};
 use std::io::{BufReader, BufWriter, Write};
 use std::process::ExitCode;
 use std::sync::Wait;
+use std::thread::Threads;
 use std::{env, io};
 
 fn main(rt: HostRuntime) -> ExitCode {
     match options(&rt) {
-        Ok((Mode::Run, options)) => ExitCode::from(status_of(replay(&rt, &options))),
+        Ok((mode, options)) => ExitCode::from(status_of(replay(&rt, mode, &options))),
         Err(fault) => {
             let _ = rt.eprint(fault.text.as_str());
             ExitCode::from(1)
@@ -57,7 +58,11 @@ fn not_text(rt: &HostRuntime, error: &io::Error) -> LineFault {
 }
 
 // Replays what standard input has.
-fn replay<R: Wait + Input + Print + AllocGlobal>(rt: &R, options: &Options) -> End {
+fn replay<R: Threads + Wait + Sync + Input + Print + AllocGlobal>(
+    rt: &R,
+    mode: Mode,
+    options: &Options,
+) -> End {
     let alloc = rt.alloc();
     let Ok(mut input) = BufReader::new(alloc, rt.reader()) else {
         return no_memory(rt);
@@ -65,7 +70,10 @@ fn replay<R: Wait + Input + Print + AllocGlobal>(rt: &R, options: &Options) -> E
     let Ok(mut output) = BufWriter::new(alloc, io::writer(rt)) else {
         return no_memory(rt);
     };
-    let end = run(rt, alloc, &mut input, &mut output, options);
+    let end = match mode {
+        Mode::Run => run(rt, alloc, &mut input, &mut output, options),
+        Mode::Crew => crew(rt, alloc, &mut input, &mut output, options),
+    };
     written_out(end, output)
 }
 

@@ -1,6 +1,6 @@
 //! The lines of a fault and of the other ends (docs/TRACES.md, Faults, Ends).
 ghost use Rattle.g1_replay.specs.Bytes.{Puts};
-ghost use Rattle.g1_replay.specs.Text.{fault_line, fault_text, counted, no_memory_line, book_full_line, read_failed_line};
+ghost use Rattle.g1_replay.specs.Text.{fault_line, fault_text, counted, no_memory_line, book_full_line, no_thread_line, read_failed_line};
 ghost use Rattle.std.specs.Prelude.{◌≡◌, codes, ◌++◌};
 
 use crate::fault::TraceFault;
@@ -63,6 +63,13 @@ pub fn put_book_full<W: Write>(output: &mut W) -> Result<(), WriteFailed>
     ensures { Puts (W.contents output.old) (W.contents output.new) result book_full_line }
 {
     put(output, b"book full\n")
+}
+
+/// Writes the line of a replay that ends because a thread could not be started.
+pub fn put_no_thread<W: Write>(output: &mut W) -> Result<(), WriteFailed>
+    ensures { Puts (W.contents output.old) (W.contents output.new) result no_thread_line }
+{
+    put(output, b"no thread\n")
 }
 
 /// Writes the line of a replay whose input could not be read to its end.

@@ -1,9 +1,9 @@
 //! The lines of a store and of a flush.
 ghost use Rattle.g1_replay.specs.Bytes.{Puts};
-ghost use Rattle.g1_replay.specs.Text.{store_text, flush_text, stored_line, counted, ending};
+ghost use Rattle.g1_replay.specs.Text.{store_text, flush_text, stored_line, stores_text, counted, ending};
 ghost use Rattle.std.specs.Prelude.{◌++◌, length};
 
-use crate::output::{WriteFailed, put_counted, put_either, put_ending, put_length};
+use crate::output::{WriteFailed, put, put_counted, put_either, put_ending, put_length};
 use g1_book::FlushReply;
 use g1_core::{CardList, Fill, StoreReply};
 use g1_layout::Kind;
@@ -67,4 +67,12 @@ fn put_helped<W: Write>(
 {
     put_length(output, words, refined)?;
     put_ending(output, short)
+}
+
+/// Writes the line of how many stores there were.
+pub fn put_stores<W: Write>(output: &mut W, stores: u32) -> Result<(), WriteFailed>
+    ensures { Puts (W.contents output.old) (W.contents output.new) result (stores_text stores) }
+{
+    put_counted(output, b"stores ", stores)?;
+    put(output, b"\n")
 }

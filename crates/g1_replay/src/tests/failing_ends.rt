@@ -1,6 +1,7 @@
 //! Readers and writers of the tests' own: that give or take one byte at a time, fail, or end early.
 ghost use Rattle.std.specs.Prelude.{Some};
 
+use super::options::config;
 use crate::{End, Options, run};
 use std::io;
 use std::io::{BufReader, ErrorKind, Read, Write};
@@ -12,7 +13,7 @@ const TRACE: &[u8] = b"heap 4 2 4\nstore 0 0 8\ndrain 1\n";
 
 /// A reader that gives one byte a read, and fails once when it has given some bytes.
 #[derive(Drop)]
-struct Fragile<'a> {
+pub(crate) struct Fragile<'a> {
     bytes: &'a [u8],
     room: usize,
     failed: bool,
@@ -34,7 +35,7 @@ impl<'a> Read for Fragile<'a> {
 }
 
 /// It has the whole trace.
-fn failing_after(room: usize) -> Fragile<'static> {
+pub(crate) fn failing_after(room: usize) -> Fragile<'static> {
     Fragile {
         bytes: TRACE,
         room,
@@ -44,10 +45,10 @@ fn failing_after(room: usize) -> Fragile<'static> {
 
 /// A writer that takes one byte a write, and when it has taken some bytes fails, or takes no more.
 #[derive(Drop)]
-struct Narrow {
-    bytes: Vec<u8>,
-    room: usize,
-    fails: bool,
+pub(crate) struct Narrow {
+    pub bytes: Vec<u8>,
+    pub room: usize,
+    pub fails: bool,
 }
 
 impl Write for Narrow {
@@ -178,12 +179,10 @@ fn every_beginning(rt: HostRuntime) -> Result<(), Fail> {
 fn full_book(rt: HostRuntime) -> Result<(), Fail> {
     let options = Options {
         mutators: 1,
-        log: 256,
-        limit: 10,
-        hot: 4,
-        ring: 1024,
-        start: 5,
+        config: config(&rt, 256, 10, 4, 1024, 5),
         history: 1,
+        refiners: 1,
+        rounds: 100,
     };
     let (printed, end) = replayed(&rt, TRACE, &options);
     assert_eq!(rt; end, End::Stopped);

@@ -1,16 +1,10 @@
 //! The texts of what is refused, and what a refused growth leaves.
 use super::help::is_refused;
+use super::options::config;
 use crate::{Mode, Options, read_options};
 
 #[test]
 fn words_that_the_line_does_not_know(rt: HostRuntime) {
-    let crew = "\
-error: unrecognized subcommand 'crew'
-
-Usage: g1replay <COMMAND>
-
-For more information, try '--help'.
-";
     let race = "\
 error: unrecognized subcommand 'race'
 
@@ -34,6 +28,13 @@ Usage: g1replay run [OPTIONS]
 
 For more information, try '--help'.
 ";
+    let pauses = "\
+error: unexpected argument '--pauses' found
+
+Usage: g1replay crew [OPTIONS]
+
+For more information, try '--help'.
+";
     let file = "\
 error: unexpected argument 'my.trace' found
 
@@ -41,10 +42,10 @@ Usage: g1replay run [OPTIONS]
 
 For more information, try '--help'.
 ";
-    is_refused(&rt, &["g1replay", "crew"], crew);
     is_refused(&rt, &["g1replay", "race", "--log", "1"], race);
     is_refused(&rt, &["g1replay", "--mutators", "2", "run"], option_before);
     is_refused(&rt, &["g1replay", "run", "--rounds", "1"], rounds);
+    is_refused(&rt, &["g1replay", "crew", "--pauses", "1"], pauses);
     is_refused(&rt, &["g1replay", "run", "my.trace"], file);
 }
 
@@ -99,7 +100,7 @@ For more information, try '--help'.
         }
     }
     let mut expected = Options::default();
-    expected.log = 7;
+    expected.config = config(&rt, 7, 10, 4, 1024, 5);
     match read_options(rt.alloc(), &["g1replay", "run", "--log", "7"]) {
         Ok((mode, options)) => {
             assert!(rt; mode == Mode::Run);

@@ -1,14 +1,30 @@
 //! The options that a command line gives.
 use super::help::is_refused;
 use crate::{Mode, Options, read_options};
+use g1_core::Config;
 use std::process::Abort;
 use std::test::Fail;
 
-/// The options of a line that is taken.
-fn taken(rt: &(impl Abort + AllocGlobal), words: &[&str]) -> Options {
+/// The settings of these numbers.
+pub(super) fn config(
+    rt: &impl Abort,
+    log: usize,
+    limit: usize,
+    hot: u32,
+    ring: usize,
+    start: usize,
+) -> Config {
+    match Config::new(log, limit, hot, ring, start) {
+        Some(config) => config,
+        None => panic!(rt; "a setting is outside its limits"),
+    }
+}
+
+/// The options of a line that is taken, and asks for this subcommand.
+fn taken(rt: &(impl Abort + AllocGlobal), wanted: Mode, words: &[&str]) -> Options {
     match read_options(rt.alloc(), words) {
         Ok((mode, options)) => {
-            assert!(rt; mode == Mode::Run);
+            assert!(rt; mode == wanted);
             options
         }
         Err(fault) => panic!(rt; "{words:?} was refused: {}", fault.text),
@@ -19,14 +35,13 @@ fn taken(rt: &(impl Abort + AllocGlobal), words: &[&str]) -> Options {
 fn defaults(rt: HostRuntime) {
     let expected = Options {
         mutators: 1,
-        log: 256,
-        limit: 10,
-        hot: 4,
-        ring: 1024,
-        start: 5,
+        config: config(&rt, 256, 10, 4, 1024, 5),
         history: 1_000_000,
+        refiners: 1,
+        rounds: 100,
     };
-    assert_eq!(rt; taken(&rt, &["g1replay", "run"]), expected);
+    assert_eq!(rt; taken(&rt, Mode::Run, &["g1replay", "run"]), expected);
+    assert_eq!(rt; taken(&rt, Mode::Crew, &["g1replay", "crew"]), expected);
     assert_eq!(rt; Options::default(), expected);
 }
 
@@ -52,25 +67,61 @@ fn each_option_goes_to_its_field(rt: HostRuntime) {
     ];
     let expected = Options {
         mutators: 5,
-        log: 22,
-        limit: 23,
-        hot: 24,
-        ring: 25,
-        start: 26,
+        config: config(&rt, 22, 23, 24, 25, 26),
         history: 27,
+        refiners: 1,
+        rounds: 100,
     };
-    assert_eq!(rt; taken(&rt, words.as_slice()), expected);
+    assert_eq!(rt; taken(&rt, Mode::Run, words.as_slice()), expected);
+}
+
+#[test]
+fn each_option_of_a_crew_goes_to_its_field(rt: HostRuntime) {
+    let words = [
+        "g1replay",
+        "crew",
+        "--rounds",
+        "28",
+        "--start",
+        "26",
+        "--history",
+        "27",
+        "--refiners",
+        "3",
+        "--ring",
+        "25",
+        "--hot",
+        "24",
+        "--limit",
+        "23",
+        "--log",
+        "22",
+        "--mutators",
+        "5",
+    ];
+    let expected = Options {
+        mutators: 5,
+        config: config(&rt, 22, 23, 24, 25, 26),
+        history: 27,
+        refiners: 3,
+        rounds: 28,
+    };
+    assert_eq!(rt; taken(&rt, Mode::Crew, words.as_slice()), expected);
 }
 
 #[test]
 fn one_option_leaves_the_others(rt: HostRuntime) {
     let mut log = Options::default();
-    log.log = 1;
-    assert_eq!(rt; taken(&rt, &["g1replay", "run", "--log=1"]), log);
+    log.config = config(&rt, 1, 10, 4, 1024, 5);
+    assert_eq!(rt; taken(&rt, Mode::Run, &["g1replay", "run", "--log=1"]), log);
     let mut history = Options::default();
     history.history = 2;
     assert_eq!(rt;
-        taken(&rt, &["g1replay", "run", "--history", "0000000002"]),
+        taken(
+            &rt,
+            Mode::Run,
+            &["g1replay", "run", "--history", "0000000002"]
+        ),
         history
     );
 }
@@ -79,12 +130,14 @@ fn one_option_leaves_the_others(rt: HostRuntime) {
 fn value_of(rt: &impl Abort, options: &Options, name: &str) -> u32 {
     match name {
         "--mutators" => options.mutators,
-        "--log" => options.log,
-        "--limit" => options.limit,
-        "--hot" => options.hot,
-        "--ring" => options.ring,
-        "--start" => options.start,
+        "--log" => options.config.log() as u32,
+        "--limit" => options.config.limit() as u32,
+        "--hot" => options.config.hot(),
+        "--ring" => options.config.ring() as u32,
+        "--start" => options.config.start() as u32,
         "--history" => options.history,
+        "--refiners" => options.refiners,
+        "--rounds" => options.rounds,
         _ => panic!(rt; "no option {name}"),
     }
 }
@@ -101,7 +154,12 @@ struct Limits {
 }
 
 /// The value is outside the limits, and the text says so.
-fn is_outside(rt: &(impl Abort + AllocGlobal), limits: &Limits, value: &str) -> Result<(), Fail> {
+fn is_outside(
+    rt: &(impl Abort + AllocGlobal),
+    subcommand: &str,
+    limits: &Limits,
+    value: &str,
+) -> Result<(), Fail> {
     let Limits { name, unit, .. } = limits;
     let (least, most) = (limits.least.0, limits.most.0);
     let word = format!(in rt.alloc(); "{name}={value}")?;
@@ -109,14 +167,35 @@ fn is_outside(rt: &(impl Abort + AllocGlobal), limits: &Limits, value: &str) -> 
         "error: invalid value '{value}' for '{name} <{unit}>': {value} is not in {least}..={most}\n\n\
          For more information, try '--help'.\n"
     )?;
-    is_refused(rt, &["g1replay", "run", word.as_str()], text.as_str());
+    is_refused(rt, &["g1replay", subcommand, word.as_str()], text.as_str());
     Ok(())
 }
 
 /// The value is taken, as this number.
-fn is_taken(rt: &(impl Abort + AllocGlobal), name: &str, value: (&str, u32)) {
-    let options = taken(rt, &["g1replay", "run", name, value.0]);
+fn is_taken(
+    rt: &(impl Abort + AllocGlobal),
+    (mode, subcommand): (Mode, &str),
+    name: &str,
+    value: (&str, u32),
+) {
+    let options = taken(rt, mode, &["g1replay", subcommand, name, value.0]);
     assert_eq!(rt; value_of(rt, &options, name), value.1, "{name}");
+}
+
+/// Each option is taken at its limits, and refused outside them.
+fn have_limits(
+    rt: &(impl Abort + AllocGlobal),
+    (mode, subcommand): (Mode, &str),
+    rows: &[Limits],
+) -> Result<(), Fail> {
+    for limits in rows {
+        is_taken(rt, (mode, subcommand), limits.name, limits.least);
+        is_taken(rt, (mode, subcommand), limits.name, limits.most);
+        is_outside(rt, subcommand, limits, limits.below)?;
+        is_outside(rt, subcommand, limits, limits.above)?;
+        is_outside(rt, subcommand, limits, "4294967297")?;
+    }
+    Ok(())
 }
 
 #[test]
@@ -179,12 +258,29 @@ fn each_option_has_its_limits(rt: HostRuntime) -> Result<(), Fail> {
             above: "1000001",
         },
     ];
-    for limits in &rows {
-        is_taken(&rt, limits.name, limits.least);
-        is_taken(&rt, limits.name, limits.most);
-        is_outside(&rt, limits, limits.below)?;
-        is_outside(&rt, limits, limits.above)?;
-        is_outside(&rt, limits, "4294967297")?;
-    }
-    Ok(())
+    have_limits(&rt, (Mode::Run, "run"), rows.as_slice())?;
+    have_limits(&rt, (Mode::Crew, "crew"), rows.as_slice())
+}
+
+#[test]
+fn the_refiners_and_their_rounds_have_limits(rt: HostRuntime) -> Result<(), Fail> {
+    let rows = [
+        Limits {
+            name: "--refiners",
+            unit: "COUNT",
+            below: "0",
+            least: ("1", 1),
+            most: ("4", 4),
+            above: "5",
+        },
+        Limits {
+            name: "--rounds",
+            unit: "COUNT",
+            below: "-1",
+            least: ("0", 0),
+            most: ("10000", 10_000),
+            above: "10001",
+        },
+    ];
+    have_limits(&rt, (Mode::Crew, "crew"), rows.as_slice())
 }

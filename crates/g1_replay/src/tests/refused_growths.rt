@@ -1,4 +1,5 @@
 //! Refused growths: under `rt try --test --fail-alloc N` the Nth growth of a test is refused.
+use super::options::config;
 use crate::{End, Options, run};
 use std::process::Abort;
 use std::sync::Wait;
@@ -29,16 +30,14 @@ fn a_refused_growth_is_said(rt: HostRuntime) -> Result<(), Fail> {
     Ok(())
 }
 
-fn replay<R: Wait + AllocGlobal>(rt: &R, output: &mut Vec<u8>) -> End {
+fn replay<R: Abort + Wait + AllocGlobal>(rt: &R, output: &mut Vec<u8>) -> End {
     let mut input = TRACE;
     let options = Options {
         mutators: 1,
-        log: 1,
-        limit: 1,
-        hot: 4,
-        ring: 1024,
-        start: 5,
+        config: config(rt, 1, 1, 4, 1024, 5),
         history: 100,
+        refiners: 1,
+        rounds: 100,
     };
     run(rt, rt.alloc(), &mut input, output, &options)
 }

@@ -1,0 +1,108 @@
+-- What the jobs of a crew come to, by its book.
+use Rattle.std.proofs.Common.{◌≡◌, ◌≤◌, ℕ, List, [], ◌++◌, length, refl, sym, subst, ap, ◌∙◌, append-nil, Option, inl, inr, arith}
+use Rattle.std.specs.Prelude.{Result, Ok, Err, IfErr, count_by}
+use Rattle.g1_layout.specs.Shape.{Shape}
+use Rattle.g1_core.specs.Table.{opening}
+use Rattle.g1_core.specs.declared.entry.Entry.{Entry}
+use Rattle.g1_core.specs.Run.{IsPermitted}
+use Rattle.g1_book.specs.Counts.{is_store}
+use Rattle.g1_book.specs.History.{History, IsHistory, Terms, layout_in}
+use Rattle.g1_replay.specs.declared.stop.Stop.{Stop}
+use Rattle.g1_replay.specs.declared.stop.Stop.TheVariants.{NoMemory, BookFull, NoThread, WriteFailed}
+use Rattle.g1_replay.specs.Bytes.{AppendsFront}
+use Rattle.g1_replay.specs.Crew.{drains, HasDrained, Ran, IsRunEnd, IsUnstarted}
+use Rattle.g1_replay.specs.Laws.{played_none}
+use Rattle.g1_replay.specs.Pieces.{entries_of}
+use Rattle.g1_replay.specs.Playing.{HasPlayed, IsFull, MayStop, Writes, written_by}
+use Rattle.g1_replay.specs.Text.{stores_text}
+use Rattle.g1_replay.proofs.PutLemmas.{front_more, puts_none, puts_then}
+use Rattle.std.specs.Io.KnownBytes.{Appends}
+
+-- a book with drains behind it is a run, and its text counts the stores in front of them
+ran_book : (old new : History) (k : ℕ) (r : Result (Unit {0}) Stop) (text : List ℕ) → HasPlayed old (drains k) text new → IsHistory new → IsRunEnd r → (r ≡ Err BookFull → IsFull new) → (r ≡ Ok tt → k ≡ (layout_in old).regions)
+    → Ran (layout_in old) old.limit r (stores_text (count_by is_store old.entries) ++ text)
+ran_book old new k r text p h ends full all =
+    let es : new.entries ≡ old.entries ++ entries_of p.pieces = p.grows.entries in
+    let most : new.limit ≡ old.limit = ap (λ (t : Terms). t.limit) p.grows.terms in
+    let shape : layout_in new ≡ layout_in old = ap (λ (t : Terms). t.layout) p.grows.terms in
+    record {
+      entries = old.entries;
+      drained = k;
+      pieces = p.pieces;
+      ends = ends;
+      walked = p.walked;
+      permitted = subst (λ (xs : List Entry). IsPermitted (opening (layout_in old)) xs) es (subst (λ (s : Shape). IsPermitted (opening s) new.entries) shape h.run);
+      within = subst (λ (xs : List Entry). length xs ≤ old.limit) es (subst (λ (n : ℕ). length new.entries ≤ n) most h.within);
+      full = λ e. ap (λ (xs : List Entry). length xs) (sym es) ∙ full e ∙ most;
+      all = all;
+      said = inr (ap (λ t. stores_text (count_by is_store old.entries) ++ t) p.said);
+    }
+
+may_end : (stop : Stop) → MayStop stop → IsRunEnd (Err stop)
+may_end NoMemory h = tt
+may_end BookFull h = tt
+may_end WriteFailed h = tt
+may_end stop h = absurd h
+
+ends_by : (r : Result (Unit {0}) Stop) → IfErr r MayStop → IsRunEnd r
+ends_by (Ok done) h = tt
+ends_by (Err stop) h = may_end stop h
+
+-- the count could not be written
+pub stores_failed : (h : History) (out out' : Option (List ℕ)) → IsHistory h → AppendsFront out out' (stores_text (count_by is_store h.entries))
+    → (text : List ℕ) × Ran (layout_in h) h.limit (Err WriteFailed) text × Writes {V = Unit {0}} out out' (Err WriteFailed) text
+stores_failed h out out' history w =
+    (stores_text (count_by is_store h.entries) ++ [], ran_book h h 0 (Err WriteFailed) [] (played_none h) history tt (λ e. cc) (λ e. cc), front_more out out' (stores_text (count_by is_store h.entries)) [] w)
+
+-- the count was written, and drains behind it
+pub book_written : (old new : History) (out mid_out out' : Option (List ℕ)) (r : Result (Unit {0}) Stop) → IfErr r MayStop → IsHistory new → Appends out mid_out (stores_text (count_by is_store old.entries))
+    → HasDrained (layout_in old).regions old new mid_out out' r → (text : List ℕ) × Ran (layout_in old) old.limit r text × Writes out out' r text
+book_written old new out mid_out out' r stops history w d =
+    (stores_text (count_by is_store old.entries) ++ d.text, ran_book old new d.drained r d.text d.played history (ends_by r stops) d.filled d.all, puts_then out mid_out out' (written_by r) (stores_text (count_by is_store old.entries)) d.text w d.written)
+
+-- a job was refused, and nothing was written
+pub job_refused : (h : History) (stop : Stop) (out : Option (List ℕ)) → IsHistory h → MayStop stop → (stop ≡ BookFull → IsFull h) → (text : List ℕ) × Ran (layout_in h) h.limit (Err stop) text × Writes {V = Unit {0}} out out (Err stop) text
+job_refused h stop out history may full = (
+  [],
+  record {
+    entries = h.entries;
+    drained = 0;
+    pieces = [];
+    ends = may_end stop may;
+    walked = tt;
+    permitted = subst (λ (xs : List Entry). IsPermitted (opening (layout_in h)) xs) (sym (append-nil h.entries)) history.run;
+    within = subst (λ (xs : List Entry). length xs ≤ h.limit) (sym (append-nil h.entries)) history.within;
+    full = λ e. ap (λ (xs : List Entry). length xs) (append-nil h.entries) ∙ full cc;
+    all = λ e. cc;
+    said = inl (stop, refl, refl, refl);
+  },
+  puts_none out (written_by {V = Unit {0}} (Err stop)),
+)
+
+unstarted_end : (stop : Stop) → IsUnstarted stop → IsRunEnd (Err stop)
+unstarted_end NoMemory h = tt
+unstarted_end NoThread h = tt
+unstarted_end stop h = absurd h
+
+unstarted_room : (stop : Stop) → IsUnstarted stop → stop ≡ BookFull → ⊥
+unstarted_room BookFull h e = h
+unstarted_room stop h e = cc
+
+-- no job was run
+pub not_started : (l : Shape) (history : ℕ) (stop : Stop) (out : Option (List ℕ)) → IsUnstarted stop → (text : List ℕ) × Ran l history (Err stop) text × Writes {V = Unit {0}} out out (Err stop) text
+not_started l history stop out h = (
+  [],
+  record {
+    entries = [];
+    drained = 0;
+    pieces = [];
+    ends = unstarted_end stop h;
+    walked = tt;
+    permitted = tt;
+    within = omega arith;
+    full = λ e. absurd (unstarted_room stop h cc);
+    all = λ e. cc;
+    said = inl (stop, refl, refl, refl);
+  },
+  puts_none out (written_by {V = Unit {0}} (Err stop)),
+)

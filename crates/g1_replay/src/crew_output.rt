@@ -1,0 +1,109 @@
+//! What a crew prints of its book: how many stores there were, and a drain of each region.
+ghost use Rattle.std.specs.Prelude.{◌≡◌, ℕ, List, [], ◌∷◌, ◌<◌, ◌≤◌, IfErr, count_by, length};
+ghost use Rattle.g1_book.specs.Counts.{is_store};
+ghost use Rattle.g1_book.specs.History.{IsHistory, layout_in};
+ghost use Rattle.g1_replay.specs.Crew.{HasDrained, Ran};
+ghost use Rattle.g1_replay.specs.Playing.{Does, HasPlayed, IsFull, MayStop, Writes};
+ghost use Rattle.g1_replay.specs.Reading.{more_may_come};
+
+use crate::answer::put_answer;
+use crate::command::Command;
+use crate::play::drain_book;
+use crate::print::put_stores;
+use crate::stop::Stop;
+use g1_book::{Book, Call, Entry, Refusal};
+use g1_layout::{Layout, Region};
+use std::io::Write;
+
+// Whether the call of the entry is a store.
+fn is_store(entry: &Entry) -> bool
+    ensures { result ≡ is_store entry.now }
+{
+    match entry.call {
+        Call::Store { .. } => true,
+        _ => false,
+    }
+}
+
+// How many of the entries are stores.
+fn count_stores(entries: &[Entry]) -> u32
+    requires { length entries.now ≤ 1000000 }
+    ensures { result ≡ count_by is_store entries.now }
+{
+    let mut count = 0;
+    for entry in entries {
+        if is_store(entry) {
+            count += 1;
+        }
+    }
+    count
+}
+
+// The first caller's drain of a region, and its line.
+fn put_drain<W: Write>(book: &mut Book, region: Region, output: &mut W) -> Result<(), Stop>
+    requires { region < (layout_in book.old).regions }
+    ensures played { Does HasPlayed IsFull (Command.Drain region ∷ []) book.old book.new (W.contents output.old) (W.contents output.new) (more_may_come result) }
+    ensures stops { IfErr result MayStop }
+{
+    let answer = drain_book(book, region)?;
+    put_answer(output, &answer)?;
+    Ok(())
+}
+
+// The drains of all regions, in order.
+fn put_drains<W: Write>(book: &mut Book, layout: Layout, output: &mut W) -> Result<(), Stop>
+    requires { layout_in book.old ≡ layout }
+    ensures drained { HasDrained layout.regions book.old book.new (W.contents output.old) (W.contents output.new) result }
+    ensures stops { IfErr result MayStop }
+{
+    let (regions, _, _) = layout.counts();
+    for number in 0..regions {
+        let Some(region) = layout.region(number) else {
+            unreachable!()
+        };
+        put_drain(book, region, output)?;
+    }
+    Ok(())
+}
+
+// How many stores there were, and the drains of all regions.
+fn put_book<W: Write>(book: &mut Book, output: &mut W) -> Result<(), Stop>
+    ensures { (text : List ℕ) × Ran (layout_in book.old) book.old.limit result text × Writes (W.contents output.old) (W.contents output.new) result text }
+{
+    let layout = book.layout();
+    let count = count_stores(book.entries());
+    put_stores(output, count)?;
+    let result = put_drains(book, layout, output);
+    let _history = book.entries();
+    result
+}
+
+// Why a crew ends that was refused a call: the history is full, or memory was refused.
+fn stop_of(book: &Book, refusal: Refusal, history: u32) -> Stop
+    requires { book.now.limit ≡ history }
+    ensures full { result ≡ Stop.BookFull → IsFull book.now }
+    ensures history { IsHistory book.now }
+    ensures stops { MayStop result }
+{
+    let made = book.entries().len();
+    if refusal == Refusal::BookFull && made == history as usize {
+        return Stop::BookFull;
+    }
+    Stop::NoMemory
+}
+
+/// Writes what comes of the crew's book, where no call was refused.
+pub(crate) fn put_crew<W: Write>(
+    book: &mut Book,
+    refused: Option<Refusal>,
+    history: u32,
+    output: &mut W,
+) -> Result<(), Stop>
+    requires { book.old.limit ≡ history }
+    ensures { (text : List ℕ) × Ran (layout_in book.old) history result text × Writes (W.contents output.old) (W.contents output.new) result text }
+{
+    match refused {
+        Some(refusal) => Err(stop_of(book, refusal, history)),
+        None => put_book(book, output),
+    }
+}

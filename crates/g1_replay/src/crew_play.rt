@@ -1,0 +1,126 @@
+//! A trace is read to its end, the lines of each mutator are made by a thread of its own, and what has come of it is
+//! written.
+ghost use Rattle.std.specs.Prelude.{◌≡◌, ℕ, List, ◌++◌, All, Result, IfSome};
+ghost use Rattle.g1_replay.specs.Crew.{Crewed, IsRefusedCrew, IsWholeCrew, Ran};
+ghost use Rattle.g1_replay.specs.Grammar.{IsCommandOf};
+ghost use Rattle.g1_replay.specs.Output.{IsEnded, ending_line};
+ghost use Rattle.g1_replay.specs.Playing.{Writes};
+ghost use Rattle.g1_replay.specs.declared.command_line.Mode.TheVariants.{Crew};
+ghost use Rattle.g1_replay.specs.declared.stop.Stop.{Stop};
+
+use crate::command::Command;
+use crate::command_line::Mode;
+use crate::crew_jobs::run_jobs;
+use crate::crew_output::put_crew;
+use crate::dialect::Dialect;
+use crate::end::End;
+use crate::engine::{play_lines, put_end};
+use crate::listing::Listing;
+use crate::opening::read_heap;
+use crate::options::Options;
+use crate::source::Source;
+use crate::stop::Stop;
+use g1_book::Book;
+use g1_layout::Layout;
+use std::alloc::Global;
+use std::io::{BufRead, Write};
+use std::marker::Brand;
+use std::sync::Wait;
+use std::sync::ledger::Blank;
+use std::thread::Threads;
+
+// Runs the scripts of the commands, and writes what has come of it.
+fn run_commands<T: Threads + Wait + Sync, W: Write>(
+    rt: &T,
+    alloc: Global,
+    layout: Layout,
+    commands: &[Command],
+    output: &mut W,
+    options: &Options,
+) -> Result<(), Stop>
+    requires { All (IsCommandOf layout options.now.mutators) commands.now }
+    ensures { (text : List ℕ) × Ran layout options.now.history result text × Writes (W.contents output.old) (W.contents output.new) result text }
+{
+    let count = u64::from(options.mutators + options.refiners);
+    let book = Book::open(
+        alloc,
+        layout,
+        options.config,
+        options.mutators,
+        options.history as usize,
+    )?;
+    let blanks = (Blank::new(count), Blank::new(count));
+    let (mut book, refused) = run_jobs::<T, Brand, Brand>(
+        rt, alloc, blanks, book, commands, options,
+    )?;
+    put_crew(&mut book, refused, options.history, output)
+}
+
+// The whole trace and then its scripts, but for the line of the end.
+fn play_crew<T: Threads + Wait + Sync, R: BufRead, W: Write>(
+    rt: &T,
+    alloc: Global,
+    source: &mut Source,
+    input: &mut R,
+    output: &mut W,
+    options: &Options,
+) -> Result<(), Stop>
+    ensures { (text : List ℕ) × Crewed (record { mode = Crew; mutators = options.now.mutators }) options.now.history source.old.number source.new.number (R.remaining input.old) (R.remaining input.new) result text
+        × Writes (W.contents output.old) (W.contents output.new) result text }
+{
+    let layout = read_heap(source, input)?;
+    let dialect = Dialect {
+        mode: Mode::Crew,
+        mutators: options.mutators,
+    };
+    let mut listing = Listing {
+        commands: Vec::new(alloc),
+    };
+    play_lines(rt, source, layout, dialect, input, &mut listing, output)?;
+    run_commands(
+        rt,
+        alloc,
+        layout,
+        listing.commands.as_slice(),
+        output,
+        options,
+    )
+}
+
+/// Replays a trace by a crew: reads all of it, makes the calls of each mutator in a thread of its own with the refiners
+/// beside them, and writes how many stores were made and what a drain of each region answers (docs/TRACES.md).
+///
+/// What is written is how many stores a permitted run of the plain table has, the lines of the drains that end this run,
+/// of each region in order, and then the line of the end, if it has one. `Whole` comes only where the trace has no fault
+/// and all regions were drained, and `Refused` only where it has one: then nothing was run, and the fault's line is all
+/// that was written. With `Stopped` the threads were refused a call, memory or a thread, and its line is all, or a drain
+/// was refused, and its line stands behind those of the drains before it; `book full` is written only where the run has
+/// as many entries as `options` allows. With `ReadFailed` nothing was run; with `WriteFailed` a beginning of such a text
+/// was written.
+///
+/// Which cards are refined between two stores is free. So what is written of a trace that stores to a slot twice may
+/// differ between two runs.
+///
+/// It keeps the commands and the scripts, asks the reader for bytes at most 2^40 times, and tries no failed read or write
+/// again. A line is one write or a few, so give it a writer with a buffer. Its threads wait for the lock of the book; all
+/// of them have been joined when it returns.
+pub fn crew<T: Threads + Wait + Sync, R: BufRead, W: Write>(
+    rt: &T,
+    alloc: Global,
+    input: &mut R,
+    output: &mut W,
+    options: &Options,
+) -> End
+    ensures told { (number : ℕ) × (outcome : Result (Unit {0}) Stop) × (text : List ℕ)
+        × Crewed (record { mode = Crew; mutators = options.now.mutators }) options.now.history 1 number (R.remaining input.old) (R.remaining input.new) outcome text
+        × IsEnded (W.contents output.old) (W.contents output.new) outcome (text ++ ending_line number outcome) result }
+    ensures whole { result ≡ End.Whole → IfSome (R.remaining input.old) (λ bytes. IsWholeCrew (record { mode = Crew; mutators = options.now.mutators }) options.now.history bytes (W.contents output.old) (W.contents output.new)) }
+    ensures refused { result ≡ End.Refused → IfSome (R.remaining input.old) (λ bytes. IsRefusedCrew (record { mode = Crew; mutators = options.now.mutators }) bytes (W.contents output.old) (W.contents output.new)) }
+{
+    let mut source = Source {
+        reads: 0,
+        number: 1,
+    };
+    let outcome = play_crew(rt, alloc, &mut source, input, output, options);
+    put_end(output, source.number, outcome)
+}

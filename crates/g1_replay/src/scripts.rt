@@ -1,0 +1,58 @@
+//! The scripts of a crew: what each caller is to do.
+ghost use Rattle.std.specs.Prelude.{◌≡◌, IfOk};
+ghost use Rattle.std.specs.List.{filter_map};
+ghost use Rattle.g1_replay.specs.Scripts.{step_for, IsScriptOf};
+
+use crate::command::Command;
+use crate::options::Options;
+use g1_book::{Script, Step};
+use g1_layout::NoMemory;
+use std::alloc::Global;
+
+// What the command asks of this mutator, if it is the mutator's.
+fn step_of(mutator: u32, command: Command) -> Option<Step>
+    ensures { result ≡ step_for mutator command }
+{
+    match command {
+        Command::Store {
+            mutator: by,
+            slot,
+            target,
+        } if by == mutator => Some(Step::Store(slot, target)),
+        Command::Flush { mutator: by } if by == mutator => Some(Step::Flush),
+        _ => None,
+    }
+}
+
+// The calls of this mutator, in the order of the trace.
+fn steps_of(alloc: Global, commands: &[Command], mutator: u32) -> Result<Vec<Step>, NoMemory>
+    ensures { IfOk result (λ steps. steps.items ≡ filter_map (step_for mutator) commands.now) }
+{
+    let mut steps = Vec::new(alloc);
+    for command in commands {
+        let Some(step) = step_of(mutator, *command) else {
+            continue;
+        };
+        steps.reserve(1)?;
+        steps.push_reserved(step);
+    }
+    Ok(steps)
+}
+
+/// What the caller of this number is to do: the calls of its mutator in the order of the trace, or rounds of refinement.
+///
+/// `NoMemory` where a growth of the calls was refused.
+pub(crate) fn script_for(
+    alloc: Global,
+    commands: &[Command],
+    number: u32,
+    options: &Options,
+) -> Result<Script, NoMemory>
+    ensures { IfOk result (IsScriptOf options.now.mutators options.now.rounds number commands.now) }
+{
+    if number < options.mutators {
+        let steps = steps_of(alloc, commands, number)?;
+        return Ok(Script::Mutate(steps));
+    }
+    Ok(Script::Refine(options.rounds))
+}

@@ -1,0 +1,186 @@
+//! Crews: what they print where the threads leave no choice, and how they end.
+ghost use Rattle.std.specs.Prelude.{◌≤◌};
+
+use super::failing_ends::{Narrow, failing_after};
+use crate::{End, Mode, Options, crew, read_options};
+use g1_core::Config;
+use std::io::BufReader;
+use std::process::Abort;
+use std::sync::Wait;
+use std::test::Fail;
+use std::thread::Threads;
+
+const WORDS: [&str; 10] = [
+    "g1replay",
+    "crew",
+    "--mutators",
+    "2",
+    "--refiners",
+    "1",
+    "--rounds",
+    "3",
+    "--log",
+    "1",
+];
+
+/// The trace prints just this, and ends so.
+fn is_played<R: Abort + Threads + Wait + Sync + AllocGlobal>(
+    rt: &R,
+    trace: &str,
+    options: &Options,
+    printed: &str,
+    wanted: End,
+) -> Result<(), Fail> {
+    let alloc = rt.alloc();
+    let mut input = trace.as_bytes();
+    let mut output: Vec<u8> = Vec::new(alloc);
+    let end = crew(rt, alloc, &mut input, &mut output, options);
+    let text = String::from_utf8_lossy(alloc, output.as_slice())?;
+    assert_eq!(rt; text.as_str(), printed);
+    assert_eq!(rt; end, wanted);
+    Ok(())
+}
+
+/// One mutator, whose log no card fills, and a refiner that makes no round.
+fn without_rounds(history: u32) -> Options
+    requires { (1 ≤ history) × (history ≤ 1000000) }
+{
+    Options {
+        mutators: 1,
+        config: Config::default(),
+        history,
+        refiners: 1,
+        rounds: 0,
+    }
+}
+
+/// Each mutator stores a reference into region 1.
+#[test]
+fn two_mutators(rt: HostRuntime) -> Result<(), Fail> {
+    let (mode, options) = read_options(rt.alloc(), &WORDS)?;
+    assert!(&rt; mode == Mode::Crew);
+    is_played(
+        &rt,
+        "heap 4 2 4\nstore 0 0 8\nstore 1 16 8\nflush 0\n",
+        &options,
+        "stores 2\ndrained\ndrained 0 4\ndrained\ndrained\n",
+        End::Whole,
+    )
+}
+
+/// A drain is no call of a mutator, and nothing in front of it is run.
+#[test]
+fn a_fault_prints_its_line_alone(rt: HostRuntime) -> Result<(), Fail> {
+    let (_, options) = read_options(rt.alloc(), &WORDS)?;
+    is_played(
+        &rt,
+        "heap 4 2 4\nstore 0 0 8\ndrain 1\n",
+        &options,
+        "line 3: no such command\n",
+        End::Refused,
+    )
+}
+
+/// No other command belongs to a script, and that comes before the number of its words.
+#[test]
+fn scripts_have_stores_and_flushes_alone(rt: HostRuntime) -> Result<(), Fail> {
+    let options = without_rounds(1000);
+    for line in [
+        "refine",
+        "work",
+        "target 0",
+        "pending 0",
+        "members 0",
+        "status",
+        "drain",
+        "clear 0",
+        "redirect 0 1",
+    ] {
+        let trace = format!(in rt.alloc(); "heap 4 2 4\nstore 0 0 8\n{line}\n")?;
+        is_played(
+            &rt,
+            trace.as_str(),
+            &options,
+            "line 3: no such command\n",
+            End::Refused,
+        )?;
+    }
+    is_played(
+        &rt,
+        "heap 4 2 4\nflush\n",
+        &options,
+        "line 2: wrong words\n",
+        End::Refused,
+    )
+}
+
+/// A trace of nothing but its header drains all regions of an empty heap.
+#[test]
+fn an_empty_trace(rt: HostRuntime) -> Result<(), Fail> {
+    is_played(
+        &rt,
+        "heap 2 1 1\n",
+        &without_rounds(2),
+        "stores 0\ndrained\ndrained\n",
+        End::Whole,
+    )
+}
+
+/// The history has room for one of two stores.
+#[test]
+fn a_store_that_the_book_has_no_room_for(rt: HostRuntime) -> Result<(), Fail> {
+    is_played(
+        &rt,
+        "heap 4 2 4\nstore 0 0 8\nstore 0 4 8\n",
+        &without_rounds(1),
+        "book full\n",
+        End::Stopped,
+    )
+}
+
+/// The history has room for the store and one of four drains.
+#[test]
+fn a_drain_that_the_book_has_no_room_for(rt: HostRuntime) -> Result<(), Fail> {
+    is_played(
+        &rt,
+        "heap 4 2 4\nstore 0 0 8\n",
+        &without_rounds(2),
+        "stores 1\ndrained\nbook full\n",
+        End::Stopped,
+    )
+}
+
+/// After 23 bytes, the whole first two lines, and after 25, in the middle of the third, nothing is run.
+#[test]
+fn a_read_that_fails(rt: HostRuntime) -> Result<(), Fail> {
+    for room in [23, 25] {
+        let mut input = BufReader::new(rt.alloc(), failing_after(room))?;
+        let mut output: Vec<u8> = Vec::new(rt.alloc());
+        let options = without_rounds(1000);
+        let end = crew(&rt, rt.alloc(), &mut input, &mut output, &options);
+        assert_eq!(rt; end, End::ReadFailed);
+        assert!(rt; output.as_slice() == b"read failed\n".as_slice());
+    }
+    Ok(())
+}
+
+/// Of the two lines a beginning is written, and nothing after a failed write; a write that takes no byte is one.
+#[test]
+fn writes_that_fail(rt: HostRuntime) -> Result<(), Fail> {
+    let whole = b"stores 0\ndrained\n".as_slice();
+    for room in 0..whole.len() {
+        for fails in [true, false] {
+            let mut input = b"heap 1 1 1\n".as_slice();
+            let mut output = Narrow {
+                bytes: Vec::new(rt.alloc()),
+                room,
+                fails,
+            };
+            let options = without_rounds(1000);
+            let end = crew(&rt, rt.alloc(), &mut input, &mut output, &options);
+            assert_eq!(rt; end, End::WriteFailed);
+            assert!(rt; output.bytes.as_slice() == &whole[..room]);
+        }
+    }
+    Ok(())
+}

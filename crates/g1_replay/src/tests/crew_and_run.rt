@@ -1,0 +1,63 @@
+//! A crew of many threads against one that makes the same calls in their order.
+use super::options::config;
+use crate::{End, Options, crew, run};
+use std::alloc::Global;
+use std::fmt::Write;
+use std::process::Abort;
+use std::test::Fail;
+
+/// How many stores there are.
+const STORES: u32 = 100_000;
+
+/// The trace: a store into each of so many slots, by eight mutators in turn.
+fn stores(alloc: Global) -> Result<String, Fail> {
+    let mut trace = String::from_str(alloc, "heap 64 64 32\n")?;
+    for slot in 0..STORES {
+        let mutator = slot % 8;
+        let target = slot * 7919 % 131_072;
+        writeln!(trace, "store {mutator} {slot} {target}")?;
+    }
+    Ok(trace)
+}
+
+/// The drains of all regions behind it.
+fn with_drains(mut trace: String) -> Result<String, Fail> {
+    for region in 0..64 {
+        writeln!(trace, "drain {region}")?;
+    }
+    Ok(trace)
+}
+
+/// Eight mutators and four refiners, with short logs and a short line, so that all of them refine.
+fn eight_mutators(rt: &impl Abort) -> Options {
+    Options {
+        mutators: 8,
+        config: config(rt, 16, 4, 4, 1024, 1),
+        history: 1_000_000,
+        refiners: 4,
+        rounds: 2_000,
+    }
+}
+
+/// Where each slot is stored to once, the drains of a crew answer what those of its stores one by one do.
+#[test]
+fn drains_after_stores_in_any_order(rt: HostRuntime) -> Result<(), Fail> {
+    let options = eight_mutators(&rt);
+    let trace = stores(rt.alloc())?;
+    let mut by_crew: Vec<u8> = Vec::new(rt.alloc());
+    let mut input = trace.as_bytes();
+    let end = crew(&rt, rt.alloc(), &mut input, &mut by_crew, &options);
+    assert_eq!(rt; end, End::Whole);
+    let trace = with_drains(trace)?;
+    let mut one_by_one: Vec<u8> = Vec::new(rt.alloc());
+    let mut input = trace.as_bytes();
+    let end = run(&rt, rt.alloc(), &mut input, &mut one_by_one, &options);
+    assert_eq!(rt; end, End::Whole);
+    let drains = by_crew
+        .as_slice()
+        .strip_prefix(b"stores 100000\n")
+        .expect(&rt, "all stores are counted");
+    assert_eq!(rt; drains.iter().filter(|byte| **byte == b'\n').count(), 64);
+    assert!(rt; one_by_one.as_slice().ends_with(drains));
+    Ok(())
+}
