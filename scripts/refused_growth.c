@@ -8,6 +8,8 @@
 #include <stddef.h>
 #include <stdio.h>
 #include <stdlib.h>
+#include <sys/syscall.h>
+#include <unistd.h>
 
 static void *(*real_malloc)(size_t);
 static void *(*real_realloc)(void *, size_t);
@@ -37,6 +39,13 @@ __attribute__((destructor)) static void end(void) {
         fprintf(report, "%ld %ld\n", growths, blocks);
         fclose(report);
     }
+}
+
+/* A program that may start threads ends by this call, which runs no destructor. */
+void _exit(int status) {
+    end();
+    for (;;)
+        syscall(SYS_exit_group, status);
 }
 
 static int is_refused(void) {
