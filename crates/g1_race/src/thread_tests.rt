@@ -19,10 +19,11 @@ struct Plan {
     spread: bool,
 }
 
-// A number that depends on both, from 0 up to the bound.
+// A number below the bound that depends on both others.
 fn scattered(k: u32, turn: u32, below: u32) -> u32 {
-    let seed = (k as u64 * 0x1_0000_0000 + turn as u64).wrapping_mul(0x9E37_79B9_7F4A_7C15);
-    ((seed >> 32) as u32).checked_rem(below).unwrap_or(0)
+    let seed = (u64::from(k) << 32 | u64::from(turn)).wrapping_mul(0x9E37_79B9_7F4A_7C15);
+    let mixed = (seed ^ (seed >> 29)).wrapping_mul(0xBF58_476D_1CE4_E5B9);
+    ((mixed >> 32) as u32).checked_rem(below).unwrap_or(0)
 }
 
 // The slot and the place of racer k's store at this turn. Every other store of slot 8k alone is of null.
