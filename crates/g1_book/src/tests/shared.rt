@@ -19,6 +19,7 @@ mod answers;
 mod full;
 mod guard;
 mod pause;
+mod threads;
 
 /// A caller, and the shared book that made it.
 #[derive(Drop)]
