@@ -2,16 +2,13 @@
 //! leaves.
 //!
 //! The heap has 4 regions of 2 cards of 4 slots: card `c` has the slots from `4 * c` on, region `r` those from `8 * r` on.
-ghost use Rattle.std.specs.Prelude.{◌≡◌, ◌≤◌, ◌<◌, [], IfOk};
+ghost use Rattle.std.specs.Prelude.{◌≤◌, ◌<◌};
 ghost use Rattle.g1_layout.specs.Shape.{slot_count, card_count};
 ghost use Rattle.g1_book.specs.History.{layout_in};
 
 use crate::book::Book;
 use crate::refusal::Refusal;
-use crate::steps::FlushReply;
-use g1_core::{
-    Call, CardList, ClearReply, Config, Drained, Fill, Redirected, RefineReply, Reply, StoreReply,
-};
+use g1_core::{Call, CardList, ClearReply, Config, Drained, Fill, Redirected, Reply, StoreReply};
 use g1_layout::{Card, Kind, Layout, NoMemory, Region, Slot};
 use g1_log::{Buffer, Log};
 use std::alloc::Global;
@@ -21,7 +18,6 @@ mod answers;
 mod crew;
 mod full;
 mod growths;
-mod shared;
 
 /// A new book for two mutators, with logs of `log` cards, a line of `limit` buffers and room for `history` entries.
 pub(crate) fn book(
@@ -33,7 +29,6 @@ pub(crate) fn book(
 ) -> Result<Book, NoMemory>
     requires low { 1 ≤ history }
     requires high { history ≤ 1000000 }
-    ensures { IfOk result (λ book. book.entries ≡ []) }
 {
     let layout = Layout::new(4, 2, 4).expect(rt, "a layout within the limits");
     let config = Config::new(log, limit, 4, 4, 5).expect(rt, "settings within the limits");
@@ -98,44 +93,6 @@ pub(crate) fn has_cards(list: &CardList, numbers: &[u32]) -> bool {
             .iter()
             .zip(numbers)
             .all(|(card, number)| card.number() == *number)
-}
-
-/// Checks a logged store: what became of its log, and which cards a help refined. It is not short.
-pub(crate) fn assert_stored(rt: &impl Abort, reply: &StoreReply, fill: Fill, refined: &[u32]) {
-    assert_eq!(rt; (reply.kind, reply.fill), (Kind::Logged, fill));
-    assert!(rt; has_cards(&reply.refined, refined));
-    assert!(rt; !reply.short);
-}
-
-/// Checks a flush: how many cards, what became of the log, and which cards a help refined. It is not short.
-pub(crate) fn assert_flushed(
-    rt: &impl Abort,
-    reply: &FlushReply,
-    cards: u32,
-    fill: Fill,
-    refined: &[u32],
-) {
-    assert_eq!(rt; (reply.cards, reply.fill), (cards, fill));
-    assert!(rt; has_cards(&reply.refined, refined));
-    assert!(rt; !reply.short);
-}
-
-/// Checks a whole refinement: buffers taken, cards refined, skipped, and buffers left. None is hot.
-pub(crate) fn assert_refined(
-    rt: &impl Abort,
-    reply: &RefineReply,
-    taken: u32,
-    refined: &[u32],
-    skipped: u32,
-    left: u32,
-) {
-    assert_eq!(rt;
-        (reply.taken, reply.hot, reply.skipped),
-        (taken, 0, skipped)
-    );
-    assert!(rt; has_cards(&reply.refined, refined), "{:?}", reply.refined);
-    assert_eq!(rt; reply.left, left);
-    assert!(rt; !reply.short);
 }
 
 /// A reply as a test writes it, with numbers in place of cards and slots.
