@@ -21,3 +21,5 @@ pub mod Ends
 pub mod Opening
 pub mod Numbers
 pub mod Draining
+pub mod Parts
+pub mod Resuming

@@ -3,7 +3,9 @@ use Rattle.std.specs.Prelude.{◌≡◌, ℕ, ◌+◌, ◌-◌, ◌<◌, ◌==�
 use Rattle.g1_layout.specs.Shape as layout
 use Rattle.g1_layout.specs.Shape.{slot_count}
 use Rattle.g1_core.specs.Table.{Table}
-use Rattle.g1_core.specs.Adoption.{table_with, IsPairOf}
+use Rattle.g1_core.specs.Settings.{Settings}
+use Rattle.g1_core.specs.Machine.{Machine}
+use Rattle.g1_core.specs.Adoption.{table_with, adopted_machine, IsPairOf}
 use Rattle.g1_race.specs.declared.view.Shape.{Shape}
 use Rattle.g1_race.specs.Race.{IsShape, Bounded, IsCovered, Listed, shape_of}
 
@@ -30,6 +32,10 @@ marks_of e = map (λ n. n == 1) (drop (slot_count e.layout) e.words)
 -- the table of references, pending cards and recorded pairs that it makes
 abbrev pub table_of : Ended → Table
 table_of e = table_with e.layout (refs_of e) (marks_of e) e.pairs
+
+-- the core that it makes
+abbrev pub core_of : Ended → Settings → Machine
+core_of e settings = adopted_machine e.layout settings (refs_of e) (marks_of e) e.pairs
 
 -- what the parts of a closed race keep
 pub record IsEnded (k : Shape) (l : layout.Shape) (words : List ℕ) (lists : List (List (ℕ × ℕ))) : Type 0 where

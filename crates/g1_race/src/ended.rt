@@ -85,7 +85,7 @@ impl Closed {
     }
 
     // As `target`, by the number of the slot.
-    fn target_at(&self, slot: usize) -> Option<Slot>
+    pub(crate) fn target_at(&self, slot: usize) -> Option<Slot>
         requires { slot < slot_count self.now.layout }
         ensures refers { get_elem? (refs_of self.now) slot ≡ some result }
         ensures within { IfSome result (λ place. place < slot_count self.now.layout) }
@@ -98,7 +98,7 @@ impl Closed {
     }
 
     // As `marked`, by the number of the card.
-    fn marked_at(&self, card: usize) -> bool
+    pub(crate) fn marked_at(&self, card: usize) -> bool
         requires { card < card_count self.now.layout }
         ensures { get_elem? (marks_of self.now) card ≡ some result }
     {

@@ -18,11 +18,13 @@
 mod begin;
 mod ended;
 mod geometry;
+mod into_core;
 pub mod laws;
 mod open;
 mod over;
 mod race;
 mod racer;
+mod resume;
 mod rule;
 mod sweeper;
 mod view;
@@ -32,8 +34,3 @@ pub use ended::Closed;
 pub use race::{Race, Racer, Sweeper};
 pub use rule::{Place, RaceRule, RaceTable};
 pub use view::{Shape, View};
-
-#[cfg(test)]
-mod tests;
-#[cfg(test)]
-mod thread_tests;

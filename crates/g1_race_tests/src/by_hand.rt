@@ -1,55 +1,7 @@
 //! Races of two racers and one sweeper over the heap `4 2 4`: slot 0 lies in card 0 and region 0, slot 8 in region 1.
-ghost use Rattle.std.specs.Prelude.{◌≡◌, IfOk};
-ghost use Rattle.arrayvec.specs.ArrayVec.{array_vec_len};
-ghost use Rattle.g1_race.specs.Race.{shape_of};
-ghost use Rattle.g1_race.specs.Members.{race_id, race_layout, race_shape, racer_race, sweeper_race};
-
-use crate::{Closed, Race, Racer, Sweeper};
+use crate::small::{close_small, open_small};
 use g1_layout::{Kind, Layout};
-use std::alloc::{AllocError, Global};
 use std::test::Fail;
-
-fn open_small(alloc: Global, layout: Layout) -> Result<(Race, Racer, Racer, Sweeper), AllocError>
-    ensures layout { IfOk result (λ r. race_layout r.0 ≡ layout) }
-    ensures shape { IfOk result (λ r. race_shape r.0 ≡ shape_of layout 3) }
-    ensures members { IfOk result (λ r. (racer_race r.1 ≡ race_id r.0) × (racer_race r.2 ≡ race_id r.0) × (sweeper_race r.3 ≡ race_id r.0)) }
-    ensures room { IfOk result (λ r. (array_vec_len r.1.log ≡ 0) × (array_vec_len r.2.log ≡ 0)) }
-{
-    let Ok((race, mut racers, mut sweepers)) = Race::open(alloc, layout, 2, 1) else {
-        return Err(AllocError);
-    };
-    let (Some(mut second), Some(mut first), Some(sweeper)) = (
-        racers.pop(),
-        racers.pop(),
-        sweepers.pop(),
-    ) else {
-        unreachable!()
-    };
-    first.take_log();
-    second.take_log();
-    Ok((race, first, second, sweeper))
-}
-
-fn close_small(
-    alloc: Global,
-    race: Race,
-    first: Racer,
-    second: Racer,
-    sweeper: Sweeper,
-) -> Result<Closed, AllocError>
-    requires members { (race_shape race).members ≡ 3 }
-    requires first { racer_race first ≡ race_id race }
-    requires second { racer_race second ≡ race_id race }
-    requires sweeper { sweeper_race sweeper ≡ race_id race }
-    ensures { IfOk result (λ o. o.layout ≡ race_layout race) }
-{
-    let mut racers = Vec::new(alloc);
-    racers.push(first)?;
-    racers.push(second)?;
-    let mut sweepers = Vec::new(alloc);
-    sweepers.push(sweeper)?;
-    Ok(race.close(racers, sweepers))
-}
 
 #[test]
 fn a_card_is_logged_once_and_refined_with_all_its_pairs(rt: HostRuntime) -> Result<(), Fail> {

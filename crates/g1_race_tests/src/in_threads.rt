@@ -1,22 +1,24 @@
 //! Races whose racers and sweepers run in threads of their own.
-ghost use Rattle.std.specs.Prelude.{◌≡◌, ◌<◌, ◌≤◌, All, vec_len, IfOk, IfSome};
+ghost use Rattle.std.specs.Prelude.{◌≡◌, ◌+◌, ◌<◌, ◌≤◌, All, vec_len, IfOk, IfSome};
 ghost use Rattle.g1_layout.specs.Shape.{slot_count};
-ghost use Rattle.g1_race.specs.Members.{race_id, race_layout, racer_race, sweeper_race};
+ghost use Rattle.g1_race.specs.Members.{race_id, race_layout, race_shape, racer_race, sweeper_race};
 
-use crate::{Closed, Race, Racer, Sweeper};
 use g1_layout::{Layout, NoMemory, Slot};
+use g1_race::{Closed, Race, Racer, Sweeper};
 use std::alloc::Global;
 use std::test::Fail;
 use std::thread::{self, Threads};
 
 // What the threads of a race do: racer k makes these stores, and each sweeper refines each of the first cards in so many rounds.
 #[derive(Clone, Copy)]
-struct Plan {
-    stores: u32,
-    rounds: u32,
-    cards: u32,
+pub(crate) struct Plan {
+    pub(crate) stores: u32,
+    pub(crate) rounds: u32,
+    pub(crate) cards: u32,
     // whether the stores go all over the heap, or to slot 8k alone
-    spread: bool,
+    pub(crate) spread: bool,
+    // the number of the first store, by which the stores of one race differ from those of another
+    pub(crate) first: u32,
 }
 
 // A number below the bound that depends on both others.
@@ -48,7 +50,12 @@ fn store_all(race: &Race, racer: &mut Racer, plan: Plan, k: u32)
     ensures race { racer_race racer.new ≡ racer_race racer.old }
 {
     for turn in 0..plan.stores {
-        if let Some((slot, target)) = nth_store(race.layout(), plan, k, turn) {
+        if let Some((slot, target)) = nth_store(
+            race.layout(),
+            plan,
+            k,
+            turn.wrapping_add(plan.first),
+        ) {
             if !racer.has_room() {
                 racer.take_log();
             }
@@ -110,20 +117,19 @@ fn all_refine<R: Threads + Sync>(
     sweepers
 }
 
-// A whole race.
-fn raced<R: Threads + Sync>(
+// All racers store, and all sweepers refine beside them.
+pub(crate) fn run_race<R: Threads + Sync>(
     rt: &R,
-    alloc: Global,
-    layout: Layout,
-    racers: u32,
-    sweepers: u32,
+    race: Race,
+    racers: Vec<Racer>,
+    sweepers: Vec<Sweeper>,
     plan: Plan,
-) -> Result<Closed, NoMemory>
-    requires racers { (1 ≤ racers) × (racers ≤ 8) }
-    requires sweepers { (1 ≤ sweepers) × (sweepers ≤ 4) }
-    ensures { IfOk result (λ closed. closed.layout ≡ layout) }
+) -> Closed
+    requires count { vec_len racers + vec_len sweepers ≡ (race_shape race).members }
+    requires racers { All (λ r. racer_race r ≡ race_id race) racers.items }
+    requires sweepers { All (λ w. sweeper_race w ≡ race_id race) sweepers.items }
+    ensures { result.layout ≡ race_layout race }
 {
-    let (race, racers, sweepers) = Race::open(alloc, layout, racers, sweepers)?;
     let shared = &race;
     let (racers, sweepers) = thread::join(
         rt,
@@ -138,7 +144,24 @@ fn raced<R: Threads + Sync>(
             ensures len { vec_len result ≡ vec_len sweepers }
         { all_refine(rt, shared, sweepers, plan) },
     );
-    Ok(race.close(racers, sweepers))
+    race.close(racers, sweepers)
+}
+
+// A whole race over a heap of nulls.
+fn raced<R: Threads + Sync>(
+    rt: &R,
+    alloc: Global,
+    layout: Layout,
+    racers: u32,
+    sweepers: u32,
+    plan: Plan,
+) -> Result<Closed, NoMemory>
+    requires racers { (1 ≤ racers) × (racers ≤ 8) }
+    requires sweepers { (1 ≤ sweepers) × (sweepers ≤ 4) }
+    ensures { IfOk result (λ closed. closed.layout ≡ layout) }
+{
+    let (race, racers, sweepers) = Race::open(alloc, layout, racers, sweepers)?;
+    Ok(run_race(rt, race, racers, sweepers, plan))
 }
 
 // Whether each card that holds into a region is dirty or has the pair.
@@ -186,6 +209,7 @@ fn race_in_threads(rt: HostRuntime) -> Result<(), Fail> {
         rounds: 20,
         cards: 8,
         spread: false,
+        first: 0,
     };
     let closed = raced(&rt, rt.alloc(), layout, 4, 2, plan)?;
     let mut stored: u64 = 0;
@@ -210,6 +234,7 @@ fn race_over_the_largest_heap(rt: HostRuntime) -> Result<(), Fail> {
         rounds: 20,
         cards: 64,
         spread: true,
+        first: 0,
     };
     let closed = raced(&rt, rt.alloc(), layout, 8, 4, plan)?;
     assert!(rt; is_covered(&closed));

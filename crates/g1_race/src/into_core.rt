@@ -1,0 +1,79 @@
+//! A race that is over becomes a core.
+ghost use Rattle.std.specs.Prelude.{◌≡◌, ◌+◌, IfOk, IfErr, length};
+ghost use Rattle.g1_layout.specs.Shape.{slot_count, card_count};
+ghost use Rattle.g1_race.specs.Over.{refs_of, marks_of, core_of};
+
+use crate::ended::Closed;
+use g1_core::{Config, Core};
+use g1_layout::{Card, NoMemory, Region, Slot};
+use std::alloc::Global;
+
+impl Closed {
+    /// A core of this table: each slot refers to what it referred to when the race ended, the cards that were dirty then are
+    /// pending, and the pairs that the sweepers recorded, or that were recorded before the race, are recorded. Nothing is counted,
+    /// nothing was read and the hot ring is empty.
+    ///
+    /// Takes the memory of a core ([`Core::adopt`]), and for the time of the call 8 bytes for each slot, one for each card and
+    /// those of the pairs. `NoMemory` where a growth was refused: the race comes back as it was, and the call can be made again.
+    pub fn into_core(self, alloc: Global, config: Config) -> Result<Core, (Closed, NoMemory)>
+        ensures core { IfOk result (λ core. core ≡ core_of self config) }
+        ensures refused { IfErr result (λ e. e.0 ≡ self) }
+    {
+        match self.adopted(alloc, config) {
+            Ok(core) => Ok(core),
+            Err(error) => Err((self, error)),
+        }
+    }
+
+    // The core of this table.
+    fn adopted(&self, alloc: Global, config: Config) -> Result<Core, NoMemory>
+        ensures { IfOk result (λ core. core ≡ core_of self.now config) }
+    {
+        let refs = self.refs(alloc)?;
+        let marked = self.marks(alloc)?;
+        let pairs = self.pairs(alloc)?;
+        Core::adopt(alloc, self.layout, config, &refs, &marked, &pairs)
+    }
+
+    // How many slots and cards there are.
+    fn counts(&self) -> (usize, usize)
+        ensures slots { result.0 ≡ slot_count self.now.layout }
+        ensures cards { result.1 ≡ card_count self.now.layout }
+        ensures sized { length self.now.words ≡ slot_count self.now.layout + card_count self.now.layout }
+    {
+        (self.shape.slots, self.shape.cards)
+    }
+
+    // What each slot refers to.
+    fn refs(&self, alloc: Global) -> Result<Vec<Option<Slot>>, NoMemory>
+        ensures { IfOk result (λ refs. refs.items ≡ refs_of self.now) }
+    {
+        let mut refs = Vec::new(alloc);
+        for slot in 0..self.counts().0 {
+            refs.push(self.target_at(slot))?;
+        }
+        Ok(refs)
+    }
+
+    // Whether each card is dirty.
+    fn marks(&self, alloc: Global) -> Result<Vec<bool>, NoMemory>
+        ensures { IfOk result (λ marks. marks.items ≡ marks_of self.now) }
+    {
+        let mut marks = Vec::new(alloc);
+        for card in 0..self.counts().1 {
+            marks.push(self.marked_at(card))?;
+        }
+        Ok(marks)
+    }
+
+    // The recorded pairs.
+    fn pairs(&self, alloc: Global) -> Result<Vec<(Card, Region)>, NoMemory>
+        ensures { IfOk result (λ pairs. pairs.items ≡ self.now.pairs) }
+    {
+        let mut pairs = Vec::new(alloc);
+        for list in &self.lists {
+            pairs.extend_from_slice(list)?;
+        }
+        Ok(pairs)
+    }
+}

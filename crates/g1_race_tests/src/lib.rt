@@ -1,0 +1,13 @@
+//! Tests of `g1_race` through its public calls: races played by hand, races that become cores and go on, and races of threads.
+#![tactic(auto)]
+
+#[cfg(test)]
+mod again;
+#[cfg(test)]
+mod by_hand;
+#[cfg(test)]
+mod cycles;
+#[cfg(test)]
+mod in_threads;
+#[cfg(test)]
+mod small;
