@@ -53,22 +53,12 @@ fn is_as_written<R: Files + Threads + Wait + Sync + AllocGlobal>(
         Mode::Run => run(rt, alloc, &mut input, &mut printed, &options),
         Mode::Crew => crew(rt, alloc, &mut input, &mut printed, &options),
     };
-    Ok(printed.as_slice() == wanted.as_bytes() && status.as_str().trim_end() == status_of(end))
+    let ended = format!(in alloc; "{}\n", end.status())?;
+    Ok(printed.as_slice() == wanted.as_bytes() && status.as_str() == ended.as_str())
 }
 
 // One file of an example.
 fn part<R: Files + AllocGlobal>(rt: &R, name: &str, kind: &str) -> io::Result<String> {
     let path = format!(in rt.alloc(); "{name}.{kind}")?;
     fs::read_to_string(rt, path.as_str())
-}
-
-// The exit status of an end.
-fn status_of(end: End) -> &'static str {
-    match end {
-        End::Whole => "0",
-        End::Refused => "2",
-        End::Stopped => "3",
-        End::ReadFailed => "4",
-        End::WriteFailed => "5",
-    }
 }

@@ -16,3 +16,4 @@ pub mod Stops
 pub mod Laws
 pub mod Crew
 pub mod Scripts
+pub mod Status

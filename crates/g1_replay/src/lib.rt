@@ -28,6 +28,7 @@ mod print;
 mod scripts;
 mod settings;
 mod source;
+mod status;
 mod stop;
 mod words;
 

@@ -10,7 +10,7 @@ use std::{env, io};
 
 fn main(rt: HostRuntime) -> ExitCode {
     match options(&rt) {
-        Ok((mode, options)) => ExitCode::from(status_of(replay(&rt, mode, &options))),
+        Ok((mode, options)) => ExitCode::from(replay(&rt, mode, &options).status()),
         Err(fault) => {
             let _ = rt.eprint(fault.text.as_str());
             ExitCode::from(1)
@@ -91,16 +91,5 @@ fn no_memory(rt: &impl Print) -> End {
     match println!(rt; "no memory") {
         Ok(()) => End::Stopped,
         Err(_) => End::WriteFailed,
-    }
-}
-
-// The exit status of an end.
-fn status_of(end: End) -> u8 {
-    match end {
-        End::Whole => 0,
-        End::Refused => 2,
-        End::Stopped => 3,
-        End::ReadFailed => 4,
-        End::WriteFailed => 5,
     }
 }

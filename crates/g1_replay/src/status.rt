@@ -1,0 +1,20 @@
+//! The exit status that tells how a replay ended.
+ghost use Rattle.std.specs.Prelude.{◌≡◌};
+ghost use Rattle.g1_replay.specs.Status.{exit_status};
+
+use crate::end::End;
+
+impl End {
+    /// The exit status of a program that ends so (docs/TRACES.md, Ends). 1 is no end's: a command line that is refused has it.
+    pub fn status(self) -> u8
+        ensures { result ≡ exit_status self }
+    {
+        match self {
+            End::Whole => 0,
+            End::Refused => 2,
+            End::Stopped => 3,
+            End::ReadFailed => 4,
+            End::WriteFailed => 5,
+        }
+    }
+}
