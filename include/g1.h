@@ -55,6 +55,7 @@ enum g1_code {
     G1_DONE = 0,
     G1_SHORT = 1,            /* memory was refused in the middle: what the call says was done stands, and no more was */
     G1_LONG = 2,             /* a list did not fit its array, though that has room for every card; no proof rules it out */
+    G1_STOPPED = 3,          /* a store of several names no slot of the heap: those before it were made, and it and the later ones not */
     G1_NOT_OPEN = 8,         /* the handle is closed */
     G1_ALREADY_OPEN = 9,     /* the handle that was to be opened is open */
     G1_NO_MEMORY = 10,       /* memory was refused before anything changed */
@@ -64,13 +65,13 @@ enum g1_code {
     G1_NO_CARD = 14,         /* the heap has no such card */
     G1_NO_REGION = 15,       /* the heap has no such region */
     G1_NO_ROOM = 16,         /* an array is too small */
-    G1_TOO_MANY_CARDS = 17,  /* more than G1_LOG cards at once */
+    G1_TOO_MANY_CARDS = 17,  /* more than G1_LOG cards, or stores, at once */
     G1_SAME_REGION = 18,     /* references were to be moved from a region to itself */
     G1_STILL_PENDING = 19,   /* a clear, while cards are pending */
     G1_STILL_REFERENCED = 20 /* a clear, while a slot outside the region refers into it */
 };
 
-/* How many cards g1_refine takes at most. */
+/* How many cards g1_refine takes at most, and how many stores g1_store_all. */
 #define G1_LOG 256
 
 /* The counts of a heap: 1 to 256 regions, 1 to 256 cards a region, 1 to 64 slots a card, and at most 1,048,576 slots in all. */
@@ -78,6 +79,18 @@ struct g1_counts {
     uint32_t regions;
     uint32_t cards;
     uint32_t slots;
+};
+
+/* One store of several: `target` is a place, or G1_NULL. */
+struct g1_reference {
+    uint32_t slot;
+    uint32_t target;
+};
+
+/* What several stores counted. */
+struct g1_batch {
+    uint32_t stored; /* stores that were made */
+    uint32_t logged; /* how many of them were logged */
 };
 
 /* What a refinement counted. */
@@ -116,6 +129,17 @@ uint32_t g1_close(struct g1 *handle);
  * puts card slot / slots into its dirty card queue.
  */
 uint32_t g1_store(struct g1 *handle, uint32_t slot, uint32_t target);
+
+/*
+ * Makes stores in order, each as g1_store, at most G1_LOG of them. The cards of those that were logged stand first in `cards`, in
+ * order, as many as batch->logged says, for the caller's dirty card queue; it has room for at least as many cards as stores are given. No memory.
+ *
+ * G1_DONE: batch->stored is stores_length. G1_STOPPED: the store at the place batch->stored names a slot or a target that the heap
+ * does not have; those before it were made, and those from it on were not.
+ * G1_NOT_OPEN, G1_NO_ROOM or G1_TOO_MANY_CARDS: nothing has changed, and both counts are 0.
+ */
+uint32_t g1_store_all(struct g1 *handle, const struct g1_reference *stores, size_t stores_length, uint32_t *cards, size_t cards_length,
+                      struct g1_batch *batch);
 
 /*
  * Refines the cards of a dirty card queue in order, at most G1_LOG of them. A card that is not dirty is skipped, so cards may come

@@ -137,6 +137,41 @@ static void stores(void) {
     g1_close(&handle);
 }
 
+static void batches(void) {
+    struct g1 handle = {0};
+    struct g1_batch batch = {7, 7};
+    struct g1_reference stores[257] = {{0, 8}, {0, 7}, {4, 31}, {4, G1_NULL}, {3, 9}, {8, 0}};
+    answers(g1_store_all(&handle, stores, 6, cards, 6, &batch), G1_NOT_OPEN, "several stores on a closed handle");
+    check(batch.stored == 0 && batch.logged == 0, "the counts of refused stores");
+    answers(g1_store_all(&handle, stores, 0, cards, 0, &batch), G1_NOT_OPEN, "no stores on a closed handle");
+    g1_open(&handle, &small, 4, 8);
+    batch = (struct g1_batch){7, 7};
+    answers(g1_store_all(&handle, stores, 6, cards, 5, &batch), G1_NO_ROOM, "room for 5 of 6 stores");
+    check(batch.stored == 0 && batch.logged == 0, "the counts of stores without room");
+    answers(g1_store_all(&handle, stores, 257, cards, 257, &batch), G1_TOO_MANY_CARDS, "257 stores");
+    check(has(&handle, 0, 0) && target_of(&handle, 0) == G1_NULL, "nothing of all that was stored");
+    answers(g1_store_all(&handle, stores, 0, cards, 0, &batch), G1_DONE, "no stores");
+    check(batch.stored == 0 && batch.logged == 0, "the counts of no stores");
+    cards[3] = 77;
+    answers(g1_store_all(&handle, stores, 6, cards, 6, &batch), G1_DONE, "six stores");
+    check(batch.stored == 6 && batch.logged == 3, "three of six are logged");
+    check(cards[0] == 0 && cards[1] == 1 && cards[2] == 2 && cards[3] == 77, "their cards, in order");
+    check(target_of(&handle, 0) == 7 && target_of(&handle, 4) == G1_NULL && target_of(&handle, 3) == 9, "the last store of a slot stays");
+    static const struct g1_reference bad[] = {{32, 0}, {ALL, 0}, {12, 32}, {12, ALL - 1}};
+    for (size_t i = 0; i < sizeof bad / sizeof *bad; i++) {
+        struct g1_reference some[3] = {{16, (uint32_t)(8 + i)}, bad[i], {20, 0}};
+        answers(g1_store_all(&handle, some, 3, cards, 3, &batch), G1_STOPPED, "a store that names no slot");
+        check(batch.stored == 1 && batch.logged == (i == 0), "it is the second");
+        check(target_of(&handle, 16) == 8 + i && target_of(&handle, 20) == G1_NULL, "the first was made, the third was not");
+    }
+    for (size_t i = 0; i < 256; i++) {
+        stores[i] = (struct g1_reference){(uint32_t)(i % 32), (uint32_t)((i * 7) % 32)};
+    }
+    answers(g1_store_all(&handle, stores, 256, cards, 256, &batch), G1_DONE, "256 stores");
+    check(batch.stored == 256, "all are made");
+    g1_close(&handle);
+}
+
 static void rooms(void) {
     struct g1 handle = {0};
     struct g1_tally tally;
@@ -452,6 +487,7 @@ int main(int number, char **words) {
     closed_handles();
     counts_and_settings();
     stores();
+    batches();
     rooms();
     ring();
     questions();

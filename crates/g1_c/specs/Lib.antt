@@ -2,3 +2,4 @@ pub mod Own
 pub mod Codes
 pub mod Replies
 pub mod Queries
+pub mod Batch

@@ -13,6 +13,9 @@ pub(crate) const SHORT: u32 = 1;
 /// A list that was answered has more cards than the heap has, which cannot be.
 pub(crate) const LONG: u32 = 2;
 
+/// A store of several names a slot or a place that the heap does not have: those before it were made.
+pub(crate) const STOPPED: u32 = 3;
+
 /// An array is too small.
 pub(crate) const NO_ROOM: u32 = 16;
 
@@ -46,7 +49,7 @@ pub enum Refusal {
     NoRegion,
     /// An array is too small.
     NoRoom,
-    /// More cards than a log has.
+    /// More cards or stores than a log has cards.
     TooManyCards,
     /// References were to be moved from a region to itself.
     SameRegion,

@@ -2,7 +2,7 @@
 //! (`include/g1.h` tells each call to a C programmer).
 //!
 //! It is a checked shadow of a runtime's references, and has to be told of each store. [`handle`] has the handle, [`calls`]
-//! opens and closes it, [`store`], [`refinement`] and [`pause`] have a card's way, [`clearing`] and [`redirection`] what may follow an
+//! opens and closes it, [`store`], [`batch`], [`refinement`] and [`pause`] have a card's way, [`clearing`] and [`redirection`] what may follow an
 //! evacuation, [`queries`] and [`members`] the questions, and [`code`] the answers.
 //!
 //! What a word or an array can get wrong is looked at here, before anything changes, and answered by a refusal; so is a handle
@@ -11,6 +11,7 @@
 //! no thread and no lock inside.
 #![tactic(auto)]
 
+pub mod batch;
 pub mod calls;
 pub mod clearing;
 pub mod code;

@@ -55,7 +55,7 @@ fn store_one(core: &mut Core, slot: u32, target: u32) -> u32
 }
 
 /// The reference of a word, or `None` where the heap has no such slot.
-fn reference(layout: Layout, word: u32) -> Option<Option<Slot>>
+pub(crate) fn reference(layout: Layout, word: u32) -> Option<Option<Slot>>
     ensures value { IfSome result (λ target. target ≡ reference_of word) }
     ensures within { IfSome result (λ target. IfSome target (λ place. place < slot_count layout)) }
 {

@@ -1,0 +1,74 @@
+// Stores of one kind, to be counted: `cost null|same-region|dirty|logged|queued STORES`, on the heap 256 64 8. See the script measure
+// beside. `queued` are logged stores whose cards go into an array that is handed over once it is full.
+#include "g1.h"
+
+#include <stdint.h>
+#include <stdlib.h>
+#include <string.h>
+
+enum { REGIONS = 256, CARDS = 64, SLOTS = 8, ALL_CARDS = REGIONS * CARDS, REGION_SLOTS = CARDS * SLOTS, ALL_SLOTS = ALL_CARDS * SLOTS };
+
+static uint32_t slots[ALL_CARDS], targets[ALL_CARDS];
+static uint32_t handed_over[G1_LOG];
+
+// The loops that callgrind counts.
+__attribute__((noinline)) static size_t run(struct g1 *heap, size_t stores) {
+    size_t sum = 0;
+    for (size_t i = 0; i < stores; i++) {
+        sum += g1_store(heap, slots[i], targets[i]);
+    }
+    return sum;
+}
+
+__attribute__((noinline)) static size_t run_queued(struct g1 *heap, size_t stores) {
+    uint32_t queue[G1_LOG];
+    size_t length = 0, sum = 0;
+    for (size_t i = 0; i < stores; i++) {
+        uint32_t kind = g1_store(heap, slots[i], targets[i]);
+        sum += kind;
+        if (kind == G1_STORED_LOGGED) {
+            queue[length++] = slots[i] / SLOTS;
+            if (length == G1_LOG) {
+                memcpy(handed_over, queue, sizeof queue);
+                length = 0;
+            }
+        }
+    }
+    return sum;
+}
+
+static void set_up(struct g1 *heap, uint32_t kind) {
+    for (uint32_t i = 0; i < ALL_CARDS; i++) {
+        slots[i] = i * SLOTS;
+        targets[i] = (slots[i] + ALL_SLOTS / 2) % ALL_SLOTS;
+        if (kind == G1_STORED_DIRTY) {
+            g1_store(heap, slots[i], targets[i]);
+        } else if (kind == G1_STORED_NULL) {
+            targets[i] = G1_NULL;
+        } else if (kind == G1_STORED_SAME_REGION) {
+            targets[i] = slots[i] / REGION_SLOTS * REGION_SLOTS;
+        }
+    }
+}
+
+int main(int number, char **words) {
+    static const char *const names[] = {"null", "same-region", "dirty", "logged", "queued"};
+    struct g1_counts counts = {REGIONS, CARDS, SLOTS};
+    struct g1 heap = {0};
+    uint32_t at = 0;
+    if (number < 3) {
+        return 1;
+    }
+    size_t stores = (size_t)atol(words[2]);
+    while (at < 5 && strcmp(words[1], names[at]) != 0) {
+        at++;
+    }
+    if (at == 5 || stores > ALL_CARDS || g1_open(&heap, &counts, 4, 1024) != G1_DONE) {
+        return 1;
+    }
+    uint32_t kind = at < 4 ? at : G1_STORED_LOGGED;
+    set_up(&heap, kind);
+    size_t sum = at < 4 ? run(&heap, stores) : run_queued(&heap, stores);
+    g1_close(&heap);
+    return sum != kind * stores || handed_over[0] >= ALL_CARDS;
+}

@@ -1,0 +1,30 @@
+//! Stores a reference into region 1, and asks at a pause which cards have to be scanned.
+use g1::{Counts, Drained, Heap, Kind, Refusal, LOG};
+
+fn main() -> Result<(), Refusal> {
+    // 4 regions of 2 cards of 4 slots; a card is hot from 4 refinements on, and the ring holds 1,024 hot cards
+    let counts = Counts {
+        regions: 4,
+        cards: 2,
+        slots: 4,
+    };
+    let mut heap = Heap::open(counts, 4, 1024)?;
+
+    // a thread's dirty card queue
+    let mut queue = Vec::with_capacity(LOG);
+    let (slot, place) = (heap.slot(0).expect("a slot"), heap.slot(8));
+    if let Kind::Logged(card) = heap.store(slot, place)? {
+        queue.push(card);
+    }
+    if queue.len() == LOG {
+        heap.refine(&queue)?;
+        queue.clear();
+    }
+
+    let region = heap.region(1).expect("a region");
+    match heap.drain(region)? {
+        Drained::Cards { members, .. } => members.iter().for_each(|card| println!("scan card {}", card.number())),
+        Drained::Short { .. } => println!("out of memory: drain again"),
+    }
+    Ok(())
+}

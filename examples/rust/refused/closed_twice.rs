@@ -1,0 +1,17 @@
+//! error[E0382]
+use g1::{Counts, Heap};
+
+fn main() {
+    let heap = Heap::open(
+        Counts {
+            regions: 4,
+            cards: 2,
+            slots: 4,
+        },
+        4,
+        8,
+    )
+    .unwrap();
+    drop(heap);
+    drop(heap);
+}

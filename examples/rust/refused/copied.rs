@@ -1,0 +1,16 @@
+//! error[E0599]
+use g1::{Counts, Heap};
+
+fn main() {
+    let heap = Heap::open(
+        Counts {
+            regions: 4,
+            cards: 2,
+            slots: 4,
+        },
+        4,
+        8,
+    )
+    .unwrap();
+    let _copy = heap.clone();
+}
