@@ -185,7 +185,7 @@ impl Kept {
                 let now = self.book.entries().len();
                 check(rt, now == entries.saturating_add(1), "how many entries")?;
                 let last = self.book.entries().last().ok_or(Failure::Wrong)?;
-                entered(rt, ask, last, order, answer)
+                entered(rt, ask.name(), last, order, answer)
             }
         }
     }
@@ -297,10 +297,10 @@ impl Kept {
     }
 }
 
-// Whether the entry is that of the call. Answers `None` where the call was whole, and else how many cards it refined.
-fn entered(
+/// Whether the entry is that of the call of this name. Answers `None` where the call was whole, and else how many cards it refined.
+pub(crate) fn entered(
     rt: &impl Eprint,
-    ask: Ask<'_>,
+    call: &str,
     entry: &Entry,
     order: &[u32],
     answer: Answer<'_>,
@@ -308,7 +308,7 @@ fn entered(
     check(rt, entry.caller == 0, "whose entry it is")?;
     let refined = numbers_of(entry.refined.as_slice())?;
     if is_short(&entry.reply) {
-        short(rt, ask.name(), refined.len());
+        short(rt, call, refined.len());
         check(
             rt,
             order.starts_with(refined.as_slice()),

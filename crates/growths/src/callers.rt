@@ -174,8 +174,8 @@ impl Ends<'_> {
     }
 }
 
-// A help refines these cards, or where it is short the first of them.
-fn is_helped(
+/// A help refines these cards, or where it is short the first of them.
+pub(crate) fn is_helped(
     rt: &impl Eprint,
     step: &str,
     refined: &CardList,

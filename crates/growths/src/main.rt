@@ -23,6 +23,7 @@ mod numbers;
 mod outcome;
 mod race;
 mod sets;
+mod shared;
 
 use outcome::Failure;
 use std::process::ExitCode;
@@ -45,5 +46,6 @@ fn play<R: Wait + Print + Eprint + AllocGlobal>(rt: &R) -> Result<(), Failure> {
     machinery::play(rt)?;
     history::play(rt)?;
     callers::play(rt)?;
+    shared::play(rt)?;
     race::play(rt)
 }

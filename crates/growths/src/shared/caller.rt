@@ -1,0 +1,223 @@
+//! The calls of a shared book's caller, and what a refused one leaves.
+ghost use Rattle.std.specs.Prelude.{◌≡◌};
+ghost use Rattle.std.proofs.Props.{props};
+ghost use Rattle.g1_book.specs.Callers.{IsCallerOf};
+
+use crate::books::{Answer, Ask, entered};
+use crate::callers::is_helped;
+use crate::numbers::{card, region, slot};
+use crate::outcome::{Failure, check, refused};
+use g1_book::{Caller, FlushReply, Frame, Shared};
+use g1_core::{Fill, RefineReply, StoreReply};
+use g1_layout::Layout;
+use std::sync::Wait;
+use std::sync::ledger::Ledger;
+
+/// A shared book, and its only caller, which is a mutator.
+#[derive(Drop)]
+pub(crate) struct SharedCaller<'a, M: Frame, S: Ledger> {
+    pub(crate) shared: &'a Shared<M, S>,
+    pub(crate) caller: Caller<M, S>,
+    ghost of: { IsCallerOf shared.now caller } by { Prim.hlevel props },
+}
+
+impl<M: Frame, S: Ledger> SharedCaller<'_, M, S> {
+    /// How many of its calls were entered, and how many of these are stores.
+    pub(crate) fn counts(&self) -> (u64, u64) {
+        (self.caller.made(), self.caller.stored())
+    }
+
+    fn layout<R: Wait>(&self, rt: &R) -> Layout
+        ensures { result ≡ M.terms.layout }
+    {
+        self.shared.lock(rt).book().layout()
+    }
+
+    fn store<R: Wait>(&mut self, rt: &R, from: u32, to: u32) -> Result<StoreReply, Failure> {
+        let mutators = self.shared.lock(rt).book().mutators();
+        if self.caller.number() >= mutators {
+            return Err(Failure::Wrong);
+        }
+        let layout = self.layout(rt);
+        let from = slot(&layout, from)?;
+        let to = slot(&layout, to)?;
+        Ok(self.shared.store(rt, &mut self.caller, from, Some(to))?)
+    }
+
+    fn flush<R: Wait>(&mut self, rt: &R) -> Result<FlushReply, Failure> {
+        let mutators = self.shared.lock(rt).book().mutators();
+        if self.caller.number() >= mutators {
+            return Err(Failure::Wrong);
+        }
+        Ok(self.shared.flush(rt, &mut self.caller))
+    }
+
+    pub(crate) fn refine<R: Wait>(&mut self, rt: &R) -> Result<RefineReply, Failure> {
+        Ok(self.shared.refine(rt, &mut self.caller)?)
+    }
+
+    pub(crate) fn work<R: Wait>(&mut self, rt: &R) -> Result<RefineReply, Failure> {
+        Ok(self.shared.work(rt, &mut self.caller)?)
+    }
+
+    /// Whether so many calls were entered since, and as many entries as calls are in the history.
+    pub(crate) fn has_made<R: Wait + Eprint>(
+        &self,
+        rt: &R,
+        before: (u64, u64),
+        least: u64,
+        most: u64,
+    ) -> Result<(), Failure> {
+        let (calls, _) = self.counts();
+        let made = calls.saturating_sub(before.0);
+        let is = least <= made && made <= most;
+        check(rt, is, "how many calls were entered")?;
+        let entries = self.shared.lock(rt).book().entries().len();
+        check(rt, entries as u64 == calls, "how many entries there are")
+    }
+
+    /// Stores a reference, again where that is refused, which leaves the caller's counts.
+    pub(crate) fn stored<R: Wait + Eprint>(
+        &mut self,
+        rt: &R,
+        reference: (u32, u32),
+        fill: Fill,
+        cards: &[u32],
+    ) -> Result<(), Failure> {
+        let (from, to) = reference;
+        let before = self.counts();
+        let reply = match self.store(rt, from, to) {
+            Err(Failure::NoMemory) => {
+                refused(rt, "Shared::store");
+                check(rt, self.counts() == before, "what a refused store left")?;
+                self.store(rt, from, to)?
+            }
+            answer => answer?,
+        };
+        check(rt, reply.fill == fill, "what became of the log")?;
+        is_helped(rt, "Shared::store", &reply.refined, reply.short, cards)?;
+        // a store is one entry, and its help another, unless that was refused
+        let most = if fill == Fill::Helped { 2 } else { 1 };
+        let is_refused = reply.short && reply.refined.is_empty();
+        self.has_made(rt, before, if is_refused { 1 } else { most }, most)?;
+        let (_, stores) = self.counts();
+        check(rt, stores == before.1.saturating_add(1), "how many stores")
+    }
+
+    /// Flushes the log into a full line, and refines what was in it. A short help may be no entry.
+    pub(crate) fn flushed<R: Wait + Eprint>(
+        &mut self,
+        rt: &R,
+        cards: &[u32],
+    ) -> Result<(), Failure> {
+        let before = self.counts();
+        let reply = self.flush(rt)?;
+        let is = reply.cards as usize == cards.len();
+        check(rt, is, "how many cards were flushed")?;
+        is_helped(rt, "Shared::flush", &reply.refined, reply.short, cards)?;
+        let is_refused = reply.short && reply.refined.is_empty();
+        self.has_made(rt, before, if is_refused { 0 } else { 1 }, 1)
+    }
+}
+
+/// The calls that are one call under the lock.
+impl<M: Frame, S: Ledger> SharedCaller<'_, M, S> {
+    /// Makes a call that refines these cards in this order. A refused one leaves the caller's counts, and a short one is
+    /// entered; either is made again, and takes up where it stopped.
+    pub(crate) fn made<R: Wait + Eprint>(
+        &mut self,
+        rt: &R,
+        ask: Ask<'_>,
+        order: &[u32],
+        answer: Answer<'_>,
+    ) -> Result<(), Failure> {
+        let Some(done) = self.attempt(rt, ask, order, answer)? else {
+            return Ok(());
+        };
+        let (_, rest) = order.split_at_checked(done).ok_or(Failure::Wrong)?;
+        let again = self.attempt(rt, ask, rest, answer)?;
+        check(rt, again.is_none(), "a call was refused twice")
+    }
+
+    // Makes the call once. Answers `None` where it was whole, and else how many cards were refined, which are the first ones.
+    fn attempt<R: Wait + Eprint>(
+        &mut self,
+        rt: &R,
+        ask: Ask<'_>,
+        order: &[u32],
+        answer: Answer<'_>,
+    ) -> Result<Option<usize>, Failure> {
+        let before = self.counts();
+        match self.call(rt, ask) {
+            Err(Failure::NoMemory) => {
+                refused(rt, name_of(ask));
+                self.has_made(rt, before, 0, 0)?;
+                Ok(Some(0))
+            }
+            Err(Failure::Wrong) => Err(Failure::Wrong),
+            Ok(()) => {
+                self.has_made(rt, before, 1, 1)?;
+                let guard = self.shared.lock(rt);
+                let last = guard.book().entries().last().ok_or(Failure::Wrong)?;
+                entered(rt, name_of(ask), last, order, answer)
+            }
+        }
+    }
+
+    fn call<R: Wait>(&mut self, rt: &R, ask: Ask<'_>) -> Result<(), Failure> {
+        let layout = self.layout(rt);
+        match ask {
+            Ask::Target(number) => {
+                let from = slot(&layout, number)?;
+                let _ = self.shared.target(rt, &mut self.caller, from)?;
+            }
+            Ask::Pending(number) => {
+                let card = card(&layout, number)?;
+                let _ = self.shared.is_pending(rt, &mut self.caller, card)?;
+            }
+            Ask::Members(number) => {
+                let of = region(&layout, number)?;
+                let _ = self.shared.members(rt, &mut self.caller, of)?;
+            }
+            Ask::Status => {
+                let _ = self.shared.status(rt, &mut self.caller)?;
+            }
+            Ask::Drain(number) => {
+                let of = region(&layout, number)?;
+                let _ = self.shared.drain(rt, &mut self.caller, of)?;
+            }
+            Ask::Clear(number) => {
+                let of = region(&layout, number)?;
+                let _ = self.shared.clear(rt, &mut self.caller, of)?;
+            }
+            Ask::Redirect(from, to) => return self.redirect(rt, from, to),
+            Ask::Store(..) | Ask::Refine(_) => return Err(Failure::Wrong),
+        }
+        Ok(())
+    }
+
+    fn redirect<R: Wait>(&mut self, rt: &R, from: u32, to: u32) -> Result<(), Failure> {
+        let layout = self.layout(rt);
+        let from = region(&layout, from)?;
+        let to = region(&layout, to)?;
+        if from == to {
+            return Err(Failure::Wrong);
+        }
+        let _ = self.shared.redirect(rt, &mut self.caller, from, to)?;
+        Ok(())
+    }
+}
+
+// The name that a refused call is told by.
+fn name_of(ask: Ask<'_>) -> &'static str {
+    match ask {
+        Ask::Target(_) => "Shared::target",
+        Ask::Pending(_) => "Shared::is_pending",
+        Ask::Members(_) => "Shared::members",
+        Ask::Status => "Shared::status",
+        Ask::Drain(_) => "Shared::drain",
+        Ask::Clear(_) => "Shared::clear",
+        Ask::Redirect(..) => "Shared::redirect",
+        Ask::Store(..) | Ask::Refine(_) => "no call that is asked",
+    }
+}
