@@ -1,12 +1,13 @@
 -- Several stores one after the other.
-use Rattle.std.specs.Prelude.{ℕ, List, [], ◌∷◌, ◌++◌, Option, Some, None, fold}
+use Rattle.std.specs.Prelude.{◌<◌, ℕ, List, [], ◌∷◌, ◌++◌, length, slice_index_or, Option, Some, None, fold}
+use Rattle.g1_layout.specs.Shape as layout
 use Rattle.g1_layout.specs.declared.kind.Kind.{Kind}
 use Rattle.g1_layout.specs.declared.kind.Kind.TheVariants.{Null, SameRegion, AlreadyDirty, Logged}
 use Rattle.g1_layout.specs.Shape.{card_of}
 use Rattle.g1_core.specs.Machine.{Machine}
 use Rattle.g1_core.specs.Run.{kind_of}
 use Rattle.g1_c.specs.declared.batch.Store.{Store}
-use Rattle.g1_c.specs.Codes.{reference_of, stored_machine}
+use Rattle.g1_c.specs.Codes.{reference_of, stored_machine, IsStoreOf}
 
 -- the machine after some stores, and the cards that they logged, in order
 pub record Made : Type 0 where
@@ -34,3 +35,7 @@ made m store = record {
 -- these stores, each after the one before
 abbrev pub made_all : Machine → List Store → Made
 made_all m stores = fold made (record { machine = m; cards = [] }) stores
+
+-- The store at this place names a slot or a target that the heap does not have.
+abbrev pub IsFaultAt : layout.Shape → List Store → ℕ → Type 0
+IsFaultAt l stores i = (i < length stores) × ((d : Store) → IsStoreOf l (slice_index_or stores i d).slot (slice_index_or stores i d).target → ⊥)

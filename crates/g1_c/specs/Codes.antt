@@ -1,5 +1,6 @@
 -- The words that cross to C.
-use Rattle.std.specs.Prelude.{◌≡◌, ◌⊎◌, ℕ, Option, Some, None, ◌==◌, if◌then◌else◌}
+use Rattle.std.specs.Prelude.{◌≡◌, ◌⊎◌, ◌<◌, ℕ, Option, Some, None, IfSome, ◌==◌, if◌then◌else◌}
+use Rattle.g1_layout.specs.Shape.{Shape, slot_count}
 use Rattle.g1_layout.specs.declared.kind.Kind.{Kind}
 use Rattle.g1_layout.specs.declared.kind.Kind.TheVariants.{Null, SameRegion, AlreadyDirty, Logged}
 use Rattle.g1_core.specs.declared.reply.ClearReply.{ClearReply}
@@ -17,6 +18,10 @@ kind_word Logged = 3
 -- the reference that a word stands for: the greatest word is null
 abbrev pub reference_of : ℕ → Option ℕ
 reference_of word = if word == 4294967295 then None else Some word
+
+-- The words name a slot of the heap, and a place of it or null.
+abbrev pub IsStoreOf : Shape → ℕ → ℕ → Type 0
+IsStoreOf l slot target = (slot < slot_count l) × IfSome (reference_of target) (λ place. place < slot_count l)
 
 -- the reply of a clear that C is told by a word and a number
 abbrev pub cleared_of : ℕ → ℕ → ClearReply

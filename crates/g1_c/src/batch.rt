@@ -1,7 +1,7 @@
 //! Several stores by one call.
-ghost use Rattle.std.specs.Prelude.{◌≡◌, ◌<◌, ◌≤◌, true, false, length, take, IfOk, OnErr, MatchOption};
-ghost use Rattle.g1_c.specs.Codes.{Between};
-ghost use Rattle.g1_c.specs.Batch.{Made, made, made_all, cards_of};
+ghost use Rattle.std.specs.Prelude.{◌≡◌, ◌<◌, ◌≤◌, true, false, length, take, IfOk, OnErr, IfSome, IfNone, MatchOption};
+ghost use Rattle.g1_c.specs.Codes.{Between, IsStoreOf};
+ghost use Rattle.g1_c.specs.Batch.{Made, made, made_all, cards_of, IsFaultAt};
 
 use crate::code::{DONE, Refusal, STOPPED};
 use crate::handle::Handle;
@@ -58,7 +58,7 @@ pub extern "C" fn g1_store_all(
 ) -> u32
     ensures made { result ≤ 3 → Between handle.old.value handle.new.value (λ old new. record { machine = new; cards = take batch.new.logged cards.new } ≡ made_all old (take batch.new.stored stores.now)) }
     ensures whole { result ≡ 0 → batch.new.stored ≡ length stores.now }
-    ensures stopped { result ≡ 3 → batch.new.stored < length stores.now }
+    ensures stopped { result ≡ 3 → IfSome handle.old.value (λ old. IsFaultAt old.state.table.layout stores.now batch.new.stored) }
     ensures refused { 3 < result → handle.new.value ≡ handle.old.value }
     ensures none { 3 < result → (batch.new.stored ≡ 0) × (batch.new.logged ≡ 0) }
 {
@@ -85,7 +85,7 @@ pub extern "C" fn g1_store_all(
 fn store_all_in(handle: Handle, words: (Global, &[Store])) -> (Handle, Result<Stored, Refusal>)
     ensures made { IfOk result.1 (λ answer. Between handle.value result.0.value (λ old new. record { machine = new; cards = answer.cards.items } ≡ made_all old (take answer.count words.entry.1.now))) }
     ensures whole { IfOk result.1 (λ answer. answer.is_whole ≡ true → answer.count ≡ length words.entry.1.now) }
-    ensures stopped { IfOk result.1 (λ answer. answer.is_whole ≡ false → answer.count < length words.entry.1.now) }
+    ensures stopped { IfOk result.1 (λ answer. answer.is_whole ≡ false → IfSome handle.value (λ old. IsFaultAt old.state.table.layout words.entry.1.now answer.count)) }
     ensures few { IfOk result.1 (λ answer. (length answer.cards.items ≤ answer.count) × (answer.count ≤ 256) × (answer.count ≤ length words.entry.1.now)) }
     ensures refused { OnErr result.1 (result.0.value ≡ handle.value) }
 {
@@ -104,7 +104,7 @@ fn store_each(core: &mut Core, stores: &[Store]) -> Stored
     requires { length stores.now ≤ 256 }
     ensures made { record { machine = core.new; cards = result.cards.items } ≡ made_all core.old (take result.count stores.now) }
     ensures whole { result.is_whole ≡ true → result.count ≡ length stores.now }
-    ensures stopped { result.is_whole ≡ false → result.count < length stores.now }
+    ensures stopped { result.is_whole ≡ false → IsFaultAt core.old.state.table.layout stores.now result.count }
     ensures few { (length result.cards.items ≤ result.count) × (result.count ≤ 256) × (result.count ≤ length stores.now) }
 {
     let mut cards: ArrayVec<Card, 256> = ArrayVec::new();
@@ -129,6 +129,8 @@ fn store_each(core: &mut Core, stores: &[Store]) -> Stored
 
 /// Makes one store, and answers its card where it is logged; `None` where the heap has no such slot or place.
 fn store_next(core: &mut Core, store: Store) -> Option<Option<Card>>
+    ensures layout { core.new.state.table.layout ≡ core.old.state.table.layout }
+    ensures none { IfNone result (IsStoreOf core.old.state.table.layout store.slot store.target → ⊥) }
     ensures made { MatchOption result (core.new ≡ core.old) (λ card. (cards : _) → record { machine = core.new; cards = cards_of cards card } ≡ made (record { machine = core.old; cards = cards }) store) }
 {
     let layout = core.layout();

@@ -1,6 +1,6 @@
 //! Questions: what a slot refers to, whether a card is pending, and how much is pending and recorded.
-ghost use Rattle.std.specs.Prelude.{◌≡◌, ◌<◌, ◌≤◌, ◌==◌, IfOk, OnErr, IfSome};
-ghost use Rattle.g1_layout.specs.Shape.{slot_count};
+ghost use Rattle.std.specs.Prelude.{◌≡◌, ◌<◌, ◌≤◌, ◌==◌, IfOk, OnErr, IfSome, IsSome};
+ghost use Rattle.g1_layout.specs.Shape.{slot_count, card_count};
 ghost use Rattle.g1_c.specs.Codes.{Between, OfOpen, reference_of};
 ghost use Rattle.g1_c.specs.Queries.{RefersTo, IsToldPending, HasStatus};
 
@@ -27,6 +27,7 @@ pub struct Totals {
 pub extern "C" fn g1_target(alloc: Global, handle: &mut Handle, slot: u32, target: &mut u32) -> u32
     ensures target { result ≡ 0 → Between handle.old.value handle.new.value (λ old new. RefersTo old slot (reference_of target.new) new) }
     ensures null { 0 < result → target.new ≡ 4294967295 }
+    ensures answered { IfSome handle.old.value (λ old. slot < slot_count old.state.table.layout → result ≡ 0) }
     ensures refused { 0 < result → handle.new.value ≡ handle.old.value }
 {
     *target = NULL;
@@ -41,6 +42,7 @@ pub extern "C" fn g1_target(alloc: Global, handle: &mut Handle, slot: u32, targe
 
 fn target_in(handle: Handle, words: (Global, u32)) -> (Handle, Result<u32, Refusal>)
     ensures target { IfOk result.1 (λ word. Between handle.value result.0.value (λ old new. RefersTo old words.1 (reference_of word) new)) }
+    ensures answered { OnErr result.1 (IfSome handle.value (λ old. slot_count old.state.table.layout ≤ words.1)) }
     ensures refused { OnErr result.1 (result.0.value ≡ handle.value) }
 {
     let Some(core) = handle.into_raw_box() else {
@@ -53,6 +55,7 @@ fn target_in(handle: Handle, words: (Global, u32)) -> (Handle, Result<u32, Refus
 
 fn target_one(core: &mut Core, slot: u32) -> Result<u32, Refusal>
     ensures target { IfOk result (λ word. RefersTo core.old slot (reference_of word) core.new) }
+    ensures answered { OnErr result (slot_count core.old.state.table.layout ≤ slot) }
     ensures refused { OnErr result (core.new ≡ core.old) }
 {
     let layout = core.layout();
@@ -78,6 +81,7 @@ fn word_of(layout: Layout, target: Option<Slot>) -> u32
 #[unsafe(no_mangle)]
 pub extern "C" fn g1_is_pending(alloc: Global, handle: &mut Handle, card: u32) -> u32
     ensures pending { result ≤ 1 → OfOpen handle.old.value (λ machine. IsToldPending machine card (result == 1)) }
+    ensures answered { IfSome handle.old.value (λ machine. card < card_count machine.state.table.layout → result ≤ 1) }
     ensures same { handle.new.value ≡ handle.old.value }
 {
     replace_with(handle, (alloc, card), is_pending_in)
@@ -85,6 +89,7 @@ pub extern "C" fn g1_is_pending(alloc: Global, handle: &mut Handle, card: u32) -
 
 fn is_pending_in(handle: Handle, words: (Global, u32)) -> (Handle, u32)
     ensures pending { result.1 ≤ 1 → OfOpen handle.value (λ machine. IsToldPending machine words.1 (result.1 == 1)) }
+    ensures answered { IfSome handle.value (λ machine. words.1 < card_count machine.state.table.layout → result.1 ≤ 1) }
     ensures same { result.0.value ≡ handle.value }
 {
     let Some(core) = handle.into_raw_box() else {
@@ -96,7 +101,8 @@ fn is_pending_in(handle: Handle, words: (Global, u32)) -> (Handle, u32)
 }
 
 fn is_pending_one(core: &Core, card: u32) -> u32
-    ensures { result ≤ 1 → IsToldPending core.now card (result == 1) }
+    ensures pending { result ≤ 1 → IsToldPending core.now card (result == 1) }
+    ensures answered { card < card_count core.now.state.table.layout → result ≤ 1 }
 {
     let Some(card) = core.layout().card(card) else {
         return Refusal::NoCard.word();
@@ -109,6 +115,7 @@ fn is_pending_one(core: &Core, card: u32) -> u32
 pub extern "C" fn g1_status(alloc: Global, handle: &mut Handle, totals: &mut Totals) -> u32
     ensures totals { result ≡ 0 → OfOpen handle.old.value (λ machine. HasStatus machine (record { pending = totals.new.pending; recorded = totals.new.recorded })) }
     ensures none { 0 < result → (totals.new.pending ≡ 0) × (totals.new.recorded ≡ 0) }
+    ensures answered { IsSome handle.old.value → result ≡ 0 }
     ensures same { handle.new.value ≡ handle.old.value }
 {
     *totals = Totals {
@@ -129,6 +136,7 @@ pub extern "C" fn g1_status(alloc: Global, handle: &mut Handle, totals: &mut Tot
 
 fn status_in(handle: Handle, alloc: Global) -> (Handle, Result<Status, Refusal>)
     ensures status { IfOk result.1 (λ status. OfOpen handle.value (λ machine. HasStatus machine status)) }
+    ensures answered { OnErr result.1 (IsSome handle.value → ⊥) }
     ensures same { result.0.value ≡ handle.value }
 {
     let Some(core) = handle.into_raw_box() else {

@@ -1,8 +1,8 @@
 //! Stores.
-ghost use Rattle.std.specs.Prelude.{◌≡◌, ◌<◌, ◌≤◌, IfSome};
+ghost use Rattle.std.specs.Prelude.{◌≡◌, ◌<◌, ◌≤◌, IfSome, IfNone};
 ghost use Rattle.g1_layout.specs.Shape.{slot_count};
 ghost use Rattle.g1_core.specs.Run.{kind_of};
-ghost use Rattle.g1_c.specs.Codes.{kind_word, reference_of, Between, stored_machine};
+ghost use Rattle.g1_c.specs.Codes.{kind_word, reference_of, IsStoreOf, Between, stored_machine};
 
 use crate::code::{NULL, Refusal, kind_word};
 use crate::handle::Handle;
@@ -19,6 +19,7 @@ use std::alloc::Global;
 pub extern "C" fn g1_store(alloc: Global, handle: &mut Handle, slot: u32, target: u32) -> u32
     ensures kind { result ≤ 3 → Between handle.old.value handle.new.value (λ old new. result ≡ kind_word (kind_of old.state.table slot (reference_of target))) }
     ensures machine { result ≤ 3 → Between handle.old.value handle.new.value (λ old new. new ≡ stored_machine old slot (reference_of target)) }
+    ensures taken { IfSome handle.old.value (λ old. IsStoreOf old.state.table.layout slot target → result ≤ 3) }
     ensures refused { 3 < result → handle.new.value ≡ handle.old.value }
 {
     replace_with(handle, (alloc, slot, target), store_in)
@@ -27,6 +28,7 @@ pub extern "C" fn g1_store(alloc: Global, handle: &mut Handle, slot: u32, target
 fn store_in(handle: Handle, words: (Global, u32, u32)) -> (Handle, u32)
     ensures kind { result.1 ≤ 3 → Between handle.value result.0.value (λ old new. result.1 ≡ kind_word (kind_of old.state.table words.1 (reference_of words.2))) }
     ensures machine { result.1 ≤ 3 → Between handle.value result.0.value (λ old new. new ≡ stored_machine old words.1 (reference_of words.2)) }
+    ensures taken { IfSome handle.value (λ old. IsStoreOf old.state.table.layout words.1 words.2 → result.1 ≤ 3) }
     ensures refused { 3 < result.1 → result.0.value ≡ handle.value }
 {
     let Some(core) = handle.into_raw_box() else {
@@ -40,6 +42,7 @@ fn store_in(handle: Handle, words: (Global, u32, u32)) -> (Handle, u32)
 fn store_one(core: &mut Core, slot: u32, target: u32) -> u32
     ensures kind { result ≤ 3 → result ≡ kind_word (kind_of core.old.state.table slot (reference_of target)) }
     ensures machine { result ≤ 3 → core.new ≡ stored_machine core.old slot (reference_of target) }
+    ensures taken { IsStoreOf core.old.state.table.layout slot target → result ≤ 3 }
     ensures refused { 3 < result → core.new ≡ core.old }
 {
     let layout = core.layout();
@@ -58,6 +61,7 @@ fn store_one(core: &mut Core, slot: u32, target: u32) -> u32
 pub(crate) fn reference(layout: Layout, word: u32) -> Option<Option<Slot>>
     ensures value { IfSome result (λ target. target ≡ reference_of word) }
     ensures within { IfSome result (λ target. IfSome target (λ place. place < slot_count layout)) }
+    ensures none { IfNone result (IfSome (reference_of word) (λ place. place < slot_count layout) → ⊥) }
 {
     if word == NULL {
         return Some(None);

@@ -6,4 +6,5 @@ use Rattle.g1_c.proofs.batch.store_each.Given as goal
 abbrev pub invariant-loop-i : goal.invariant-loop-i
 invariant-loop-i l =
     (record { machine = l.core; cards = l.cards.items } ≡ made_all l.initial.core (take l.i l.stores)) ×
-    (length l.cards.items ≤ l.i)
+    (length l.cards.items ≤ l.i) ×
+    (l.core.state.table.layout ≡ l.initial.core.state.table.layout)

@@ -9,7 +9,7 @@ told : (m : Machine) (card : ℕ) (answer : Bool) → IsToldPending m card answe
 told m card true h = h
 told m card false h = h
 
-pub returns : goal.returns
-returns c = λ _.
+pub returns-clause-pending : goal.returns-clause-pending
+returns-clause-pending c = λ _.
     told c.args.core.now c.args.card c.is_pending.result
     (subst (λ (card : ℕ). IsToldPending c.args.core.now card c.is_pending.result) c.in-Some.ensures.1 (record { pending = c.is_pending.ensures.pending; step = c.is_pending.ensures.step }))
