@@ -6,31 +6,52 @@ use std::test::Fail;
 
 /// A new book. A refused one is tried again.
 fn opened(rt: &impl Abort, alloc: Global, log: usize) -> Result<Book, NoMemory> {
-    match book(rt, alloc, log, 4, 20) {
+    match book(rt, alloc, log, 4, 60) {
         Ok(opened) => Ok(opened),
-        Err(NoMemory) => book(rt, alloc, log, 4, 20),
+        Err(NoMemory) => book(rt, alloc, log, 4, 60),
     }
 }
 
-/// Checks the history's length, which cards are pending and how many pairs are recorded.
-fn assert_state(rt: &impl Abort, book: &Book, entries: usize, pending: &[u32], recorded: usize) {
-    assert_eq!(rt; book.entries().len(), entries);
-    let counts = book.core.status();
+/// How many entries there are, but for the test's own questions.
+fn made(book: &Book) -> usize {
+    book.entries()
+        .iter()
+        .filter(|entry| entry.caller != ASKER)
+        .count()
+}
+
+/// Whether the card is pending, by a question of the test itself. A refused one is asked again.
+fn is_pending(rt: &impl Abort, book: &mut Book, number: u32) -> Result<bool, Refusal> {
+    let card = card(rt, book, number);
+    match book.is_pending(ASKER, card) {
+        Ok(pending) => Ok(pending),
+        Err(_) => book.is_pending(ASKER, card),
+    }
+}
+
+/// Checks how many entries there are, which cards are pending and how many pairs are recorded.
+fn assert_state(
+    rt: &impl Abort,
+    book: &mut Book,
+    entries: usize,
+    pending: &[u32],
+    recorded: usize,
+) -> Result<(), Refusal> {
+    assert_eq!(rt; made(book), entries);
+    let counts = counts(book)?;
     assert_eq!(rt;
         (counts.pending as usize, counts.recorded as usize),
         (pending.len(), recorded)
     );
     for number in 0..8 {
-        let card = card(rt, book, number);
-        assert_eq!(rt;
-            book.core.is_pending(card),
-            pending.contains(&number),
-            "card {number}"
-        );
+        let is_pending = is_pending(rt, book, number)?;
+        assert_eq!(rt; is_pending, pending.contains(&number), "card {number}");
     }
+    Ok(())
 }
 
-/// Stores, and stores again where a growth was refused, which leaves book and log.
+/// Stores the reference of a further card, and stores again where a growth was refused, which leaves book and log. All
+/// entries before it are such stores.
 fn stored(
     rt: &impl Abort,
     book: &mut Book,
@@ -38,13 +59,13 @@ fn stored(
     from: u32,
     to: u32,
 ) -> Result<Option<Buffer>, Refusal> {
-    let (entries, cards, before) = (book.entries().len(), log.len(), book.core.status());
+    let (entries, cards) = (made(book), log.len());
     let made = match store(rt, book, 0, log, from, Some(to)) {
         Ok(made) => made,
         Err(refusal) => {
             assert_eq!(rt; refusal, Refusal::NoMemory);
-            assert_eq!(rt; (book.entries().len(), log.len()), (entries, cards));
-            assert_eq!(rt; book.core.status(), before);
+            assert_eq!(rt; (made(book), log.len()), (entries, cards));
+            assert_eq!(rt; counts(book)?.pending as usize, entries);
             store(rt, book, 0, log, from, Some(to))?
         }
     };
@@ -81,11 +102,11 @@ fn assert_all_recorded(rt: &impl Abort, book: &mut Book) -> Result<(), Refusal> 
 fn a_refused_store_is_made_again(rt: HostRuntime) -> Result<(), Fail> {
     let (mut book, buffer) = four_stored(&rt, rt.alloc())?;
     assert!(rt; buffer.is_some());
-    assert_state(&rt, &book, 4, &[0, 1, 2, 7], 0);
+    assert_state(&rt, &mut book, 4, &[0, 1, 2, 7], 0)?;
     let mut log = Log::new(2);
     let _ = stored(&rt, &mut book, &mut log, 16, 8)?;
     assert_eq!(rt; log.len(), 1);
-    assert_state(&rt, &book, 5, &[0, 1, 2, 4, 7], 0);
+    assert_state(&rt, &mut book, 5, &[0, 1, 2, 4, 7], 0)?;
     Ok(())
 }
 
@@ -94,20 +115,20 @@ fn a_refused_store_is_made_again(rt: HostRuntime) -> Result<(), Fail> {
 fn a_refused_refinement_is_made_again(rt: HostRuntime) -> Result<(), Fail> {
     let (mut book, buffer) = four_stored(&rt, rt.alloc())?;
     match book.refine(0, buffer.as_ref()) {
-        Ok(reply) => assert_refined(&rt, &book, &reply),
+        Ok(reply) => assert_refined(&rt, &mut book, &reply)?,
         Err(refusal) => {
             assert_eq!(rt; refusal, Refusal::NoMemory);
-            assert_state(&rt, &book, 4, &[0, 1, 2, 7], 0);
+            assert_state(&rt, &mut book, 4, &[0, 1, 2, 7], 0)?;
         }
     }
     let last = book.refine(0, buffer.as_ref())?;
     assert!(rt; !last.short && last.taken == 1);
-    assert_eq!(rt; book.core.status().pending, 0);
+    assert_eq!(rt; counts(&mut book)?.pending, 0);
     Ok(assert_all_recorded(&rt, &mut book)?)
 }
 
 /// Checks what a refinement of the cards 0, 1, 2 and 7 left, which one growth at most has cut short.
-fn assert_refined(rt: &impl Abort, book: &Book, reply: &RefineReply) {
+fn assert_refined(rt: &impl Abort, book: &mut Book, reply: &RefineReply) -> Result<(), Refusal> {
     let pending = match reply.refined.len() {
         0 => [0, 1, 2, 7].as_slice(),
         1 => &[1, 2, 7],
@@ -115,9 +136,10 @@ fn assert_refined(rt: &impl Abort, book: &Book, reply: &RefineReply) {
         3 => &[7],
         _ => &[],
     };
-    assert_state(rt, book, 5, pending, reply.refined.len());
+    assert_state(rt, book, 5, pending, reply.refined.len())?;
     assert_eq!(rt; reply.short, !pending.is_empty());
     assert_eq!(rt; reply.taken, if reply.short { 0 } else { 1 });
+    Ok(())
 }
 
 /// Questions change nothing, whether they are refused or answered.
@@ -127,10 +149,10 @@ fn refused_questions_are_asked_again(rt: HostRuntime) -> Result<(), Fail> {
         let (mut book, _) = four_stored(&rt, rt.alloc())?;
         if let Err(refusal) = asked(&rt, &mut book, question) {
             assert_eq!(rt; refusal, Refusal::NoMemory);
-            assert_state(&rt, &book, 4, &[0, 1, 2, 7], 0);
+            assert_state(&rt, &mut book, 4, &[0, 1, 2, 7], 0)?;
             asked(&rt, &mut book, question)?;
         }
-        assert_state(&rt, &book, 5, &[0, 1, 2, 7], 0);
+        assert_state(&rt, &mut book, 5, &[0, 1, 2, 7], 0)?;
     }
     Ok(())
 }
@@ -156,13 +178,13 @@ fn refused_members_are_asked_again(rt: HostRuntime) -> Result<(), Fail> {
     let (mut book, buffer) = four_stored(&rt, rt.alloc())?;
     drained_until_whole(&rt, &mut book, 3)?;
     drop(buffer);
-    let entries = book.entries().len();
+    let entries = made(&book);
     let last = region(&rt, &book, 3);
     let cards = match book.members(0, last) {
         Ok(cards) => cards,
         Err(refusal) => {
             assert_eq!(rt; refusal, Refusal::NoMemory);
-            assert_state(&rt, &book, entries, &[], 4);
+            assert_state(&rt, &mut book, entries, &[], 4)?;
             let last = region(&rt, &book, 3);
             book.members(0, last)?
         }
@@ -171,23 +193,20 @@ fn refused_members_are_asked_again(rt: HostRuntime) -> Result<(), Fail> {
     Ok(assert_all_recorded(&rt, &mut book)?)
 }
 
-/// Drains the region until it is whole. A refused drain changes nothing; in a short one each card is refined and listed,
+/// Drains the region of a book with four entries until it is whole. A refused drain changes nothing; in a short one each card is refined and listed,
 /// or pending as before.
 fn drained_until_whole(rt: &impl Abort, book: &mut Book, of: u32) -> Result<(), Refusal> {
-    let before = book.core.status();
-    let entries = book.entries().len();
     let region = region(rt, book, of);
     match book.drain(0, region) {
         Ok(Drained::Cards { .. }) => return Ok(()),
         Ok(Drained::Short { refined }) => {
-            assert_eq!(rt; book.entries().len(), entries.saturating_add(1));
-            let left = book.core.status().pending as usize;
-            assert_eq!(rt; left.saturating_add(refined.len()), before.pending as usize);
+            assert_eq!(rt; made(book), 5);
+            let left = counts(book)?.pending as usize;
+            assert_eq!(rt; left.saturating_add(refined.len()), 4);
         }
         Err(refusal) => {
             assert_eq!(rt; refusal, Refusal::NoMemory);
-            assert_eq!(rt; book.entries().len(), entries);
-            assert_eq!(rt; book.core.status(), before);
+            assert_state(rt, book, 4, &[0, 1, 2, 7], 0)?;
         }
     }
     assert_set(rt, book, of, &[0, 2])
@@ -208,7 +227,7 @@ fn a_refused_clear_is_made_again(rt: HostRuntime) -> Result<(), Fail> {
         Ok(answer) => answer,
         Err(refusal) => {
             assert_eq!(rt; refusal, Refusal::NoMemory);
-            assert_state(&rt, &book, 4, &[0, 1, 2, 7], 0);
+            assert_state(&rt, &mut book, 4, &[0, 1, 2, 7], 0)?;
             let last = region(&rt, &book, 3);
             book.clear(0, last)?
         }
@@ -225,7 +244,7 @@ fn a_refused_redirect_is_made_again(rt: HostRuntime) -> Result<(), Fail> {
         Ok((moved, _)) => moved,
         Err(refusal) => {
             assert_eq!(rt; refusal, Refusal::NoMemory);
-            assert_state(&rt, &book, 4, &[0, 1, 2, 7], 0);
+            assert_state(&rt, &mut book, 4, &[0, 1, 2, 7], 0)?;
             None
         }
     };

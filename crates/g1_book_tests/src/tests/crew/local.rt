@@ -6,12 +6,7 @@ ghost use Rattle.g1_log.specs.Ends.{IsSenderOf, IsTakerOf};
 ghost use Rattle.g1_book.specs.History.{layout_in};
 
 use super::*;
-use crate::desk::{Desk, Outcome};
-use crate::lent_book::LentBook;
-use crate::local_desk::LocalDesk;
-use crate::opening::open_line;
-use crate::steps::Mutator;
-use crate::worker::{mutate, refiner};
+use g1_book::{Desk, LentBook, LocalDesk, Mutator, Outcome, mutate, open_line, refiner};
 use g1_log::{Line, Taker};
 use std::sync::Wait;
 use std::test::Fail;

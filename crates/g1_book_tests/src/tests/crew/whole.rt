@@ -6,12 +6,7 @@ ghost use Rattle.g1_book.specs.Callers.{IsCallerOf};
 ghost use Rattle.g1_book.specs.History.{terms_of};
 
 use super::*;
-use crate::caller::Caller;
-use crate::desk::Script;
-use crate::job::{Job, run_crew};
-use crate::ledgers::Frame;
-use crate::shared::Shared;
-use crate::shared_desk::SharedDesk;
+use g1_book::{Caller, Frame, Job, Script, Shared, SharedDesk, run_crew};
 use std::marker::{Brand, Send};
 use std::sync::Wait;
 use std::sync::ledger::{Blank, Ledger};
@@ -182,7 +177,7 @@ fn assert_drained(rt: &impl Abort, book: &mut Book, of: u32) -> Result<(), Refus
     }
     for number in 0..SLOTS {
         let from = slot(rt, book, number);
-        let Some(place) = book.core.target(from) else {
+        let Some(place) = book.target(0, from)? else {
             continue;
         };
         if place.number() / 32 == of && number / 32 != of {

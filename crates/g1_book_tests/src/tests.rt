@@ -2,13 +2,15 @@
 //! leaves.
 //!
 //! The heap has 4 regions of 2 cards of 4 slots: card `c` has the slots from `4 * c` on, region `r` those from `8 * r` on.
-ghost use Rattle.std.specs.Prelude.{◌≤◌, ◌<◌};
+ghost use Rattle.std.specs.Prelude.{◌≡◌, ◌≤◌, ◌<◌, [], IfOk};
 ghost use Rattle.g1_layout.specs.Shape.{slot_count, card_count};
 ghost use Rattle.g1_book.specs.History.{layout_in};
 
-use crate::book::Book;
-use crate::refusal::Refusal;
-use g1_core::{Call, CardList, ClearReply, Config, Drained, Fill, Redirected, Reply, StoreReply};
+use g1_book::{Book, FlushReply, Refusal};
+use g1_core::{
+    Call, CardList, ClearReply, Config, Drained, Fill, Redirected, RefineReply, Reply, Status,
+    StoreReply,
+};
 use g1_layout::{Card, Kind, Layout, NoMemory, Region, Slot};
 use g1_log::{Buffer, Log};
 use std::alloc::Global;
@@ -18,6 +20,7 @@ mod answers;
 mod crew;
 mod full;
 mod growths;
+mod steps;
 
 /// A new book for two mutators, with logs of `log` cards, a line of `limit` buffers and room for `history` entries.
 pub(crate) fn book(
@@ -29,6 +32,7 @@ pub(crate) fn book(
 ) -> Result<Book, NoMemory>
     requires low { 1 ≤ history }
     requires high { history ≤ 1000000 }
+    ensures { IfOk result (λ book. book.entries ≡ []) }
 {
     let layout = Layout::new(4, 2, 4).expect(rt, "a layout within the limits");
     let config = Config::new(log, limit, 4, 4, 5).expect(rt, "settings within the limits");
@@ -85,6 +89,17 @@ pub(crate) fn store(
     book.store(caller, log, from, to)
 }
 
+// The caller of the questions that a test asks for itself.
+const ASKER: u32 = 9;
+
+/// How much is pending and recorded, by a question of the test itself. A refused one is asked again.
+pub(crate) fn counts(book: &mut Book) -> Result<Status, Refusal> {
+    match book.status(ASKER) {
+        Ok(status) => Ok(status),
+        Err(_) => book.status(ASKER),
+    }
+}
+
 /// Whether the list has just these cards, in this order.
 pub(crate) fn has_cards(list: &CardList, numbers: &[u32]) -> bool {
     list.len() == numbers.len()
@@ -93,6 +108,44 @@ pub(crate) fn has_cards(list: &CardList, numbers: &[u32]) -> bool {
             .iter()
             .zip(numbers)
             .all(|(card, number)| card.number() == *number)
+}
+
+/// Checks a logged store: what became of its log, and which cards a help refined. It is not short.
+pub(crate) fn assert_stored(rt: &impl Abort, reply: &StoreReply, fill: Fill, refined: &[u32]) {
+    assert_eq!(rt; (reply.kind, reply.fill), (Kind::Logged, fill));
+    assert!(rt; has_cards(&reply.refined, refined));
+    assert!(rt; !reply.short);
+}
+
+/// Checks a flush: how many cards, what became of the log, and which cards a help refined. It is not short.
+pub(crate) fn assert_flushed(
+    rt: &impl Abort,
+    reply: &FlushReply,
+    cards: u32,
+    fill: Fill,
+    refined: &[u32],
+) {
+    assert_eq!(rt; (reply.cards, reply.fill), (cards, fill));
+    assert!(rt; has_cards(&reply.refined, refined));
+    assert!(rt; !reply.short);
+}
+
+/// Checks a whole refinement: buffers taken, cards refined, skipped, and buffers left. None is hot.
+pub(crate) fn assert_refined(
+    rt: &impl Abort,
+    reply: &RefineReply,
+    taken: u32,
+    refined: &[u32],
+    skipped: u32,
+    left: u32,
+) {
+    assert_eq!(rt;
+        (reply.taken, reply.hot, reply.skipped),
+        (taken, 0, skipped)
+    );
+    assert!(rt; has_cards(&reply.refined, refined), "{:?}", reply.refined);
+    assert_eq!(rt; reply.left, left);
+    assert!(rt; !reply.short);
 }
 
 /// A reply as a test writes it, with numbers in place of cards and slots.
@@ -160,6 +213,16 @@ pub(crate) fn assert_entries(rt: &impl Abort, book: &Book, wanted: &[WantedEntry
             "cards of entry {at}: {:?}",
             entry.refined
         );
+    }
+}
+
+/// Checks that the history is so many stores, and that none of their cards was refined: then they are pending.
+pub(crate) fn assert_stores(rt: &impl Abort, book: &Book, stores: usize) {
+    let entries = book.entries();
+    assert_eq!(rt; entries.len(), stores);
+    for entry in entries {
+        assert!(rt; matches!(entry.call, Call::Store { .. }));
+        assert!(rt; entry.refined.is_empty());
     }
 }
 

@@ -4,9 +4,7 @@ ghost use Rattle.g1_layout.specs.Shape.{slot_count};
 ghost use Rattle.g1_book.specs.Ask.{ScriptFits};
 
 use super::*;
-use crate::desk::{Desk, Script};
-use crate::job::{Job, NotStarted, run_crew};
-use crate::steps::FlushReply;
+use g1_book::{Desk, FlushReply, Job, NotStarted, Script, run_crew};
 use g1_core::RefineReply;
 use std::alloc::AllocError;
 use std::hint;

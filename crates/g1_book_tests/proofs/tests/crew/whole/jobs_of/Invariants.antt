@@ -3,7 +3,7 @@ use Rattle.std.specs.Vec.Iter.{into_iter_len, into_iter_items}
 use Rattle.g1_layout.specs.Shape.{slot_count}
 use Rattle.g1_book.specs.Ask.{ScriptFits}
 use Rattle.g1_book.specs.Callers.{IsCallerOf}
-use Rattle.g1_book.proofs.tests.crew.whole.jobs_of.Given as goal
+use Rattle.g1_book_tests.proofs.tests.crew.whole.jobs_of.Given as goal
 
 abbrev pub invariant-loop-caller : goal.invariant-loop-caller
 invariant-loop-caller g l =

@@ -1,5 +1,5 @@
 use Rattle.g1_book.specs.History.{terms_of}
-use Rattle.g1_book.proofs.tests.crew.whole.a_crew_makes_all_calls_and_loses_no_reference.Given as goal
+use Rattle.g1_book_tests.proofs.tests.crew.whole.a_crew_makes_all_calls_and_loses_no_reference.Given as goal
 
 abbrev pub ghosts-run_all-M-Ledger : goal.ghosts-run_all-M-Ledger
 ghosts-run_all-M-Ledger g a = record { name = a.made.name; parts = a.made.parts }

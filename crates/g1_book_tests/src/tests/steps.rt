@@ -5,11 +5,11 @@ ghost use Rattle.std.specs.Prelude.{◌≤◌, All};
 ghost use Rattle.std.proofs.Props.{props};
 ghost use Rattle.g1_log.specs.Ends.{IsSenderOf, IsTakerOf};
 
-use crate::Refusal;
-use crate::book::Book;
-use crate::lent_book::LentBook;
-use crate::steps::{FlushReply, Mutator, empty_line, refine, work};
-use crate::tests::{Want, assert_entries, assert_set, book, has_cards, region, slot, store_call};
+use crate::tests::{
+    Want, assert_entries, assert_flushed, assert_refined, assert_set, assert_stored, assert_stores,
+    book, counts, has_cards, region, slot, store_call,
+};
+use g1_book::{Book, FlushReply, LentBook, Mutator, Refusal, empty_line, refine, work};
 use g1_core::{Call, Fill, RefineReply, StoreReply};
 use g1_layout::Kind;
 use g1_log::{Line, Log, Sender, Taker};
@@ -110,37 +110,6 @@ fn store<R: Abort + Wait>(
     let mut calls = LentBook::new(book, number);
     ends.mutator
         .store(rt, ends.line, &mut calls, from, Some(to))
-}
-
-/// Checks a logged store: what became of its log, and which cards a help refined. It is not short.
-fn assert_stored(rt: &impl Abort, reply: &StoreReply, fill: Fill, refined: &[u32]) {
-    assert_eq!(rt; (reply.kind, reply.fill), (Kind::Logged, fill));
-    assert!(rt; has_cards(&reply.refined, refined));
-    assert!(rt; !reply.short);
-}
-
-fn assert_flushed(rt: &impl Abort, reply: &FlushReply, cards: u32, fill: Fill, refined: &[u32]) {
-    assert_eq!(rt; (reply.cards, reply.fill), (cards, fill));
-    assert!(rt; has_cards(&reply.refined, refined));
-    assert!(rt; !reply.short);
-}
-
-/// Checks a whole refinement: buffers taken, cards refined, skipped, and buffers left. None is hot.
-fn assert_refined(
-    rt: &impl Abort,
-    reply: &RefineReply,
-    taken: u32,
-    refined: &[u32],
-    skipped: u32,
-    left: u32,
-) {
-    assert_eq!(rt;
-        (reply.taken, reply.hot, reply.skipped),
-        (taken, 0, skipped)
-    );
-    assert!(rt; has_cards(&reply.refined, refined), "{:?}", reply.refined);
-    assert_eq!(rt; reply.left, left);
-    assert!(rt; !reply.short);
 }
 
 /// Checks which cards a region's remembered set has as it is recorded.
@@ -255,8 +224,7 @@ fn a_refused_help_is_short(rt: HostRuntime) -> Result<(), Fail> {
     assert!(rt; helped.refined.is_empty() && helped.short);
     let refused = store(&rt, &mut book, &mut ends, 0, 8, 16);
     assert_eq!(rt; refused.err(), Some(Refusal::BookFull));
-    assert_eq!(rt; book.entries().len(), 2);
-    assert_eq!(rt; book.core.status().pending, 2);
+    assert_stores(&rt, &book, 2);
     Ok(())
 }
 
@@ -284,7 +252,7 @@ fn a_pause_empties_logs_and_line(rt: HostRuntime) -> Result<(), Fail> {
         );
     }
     assert_eq!(rt; book.entries().len(), 6);
-    assert_eq!(rt; book.core.status().pending, 6);
+    assert_eq!(rt; counts(&mut book)?.pending, 6);
     assert_set(&rt, &mut book, 3, &[0, 1, 2, 3, 4, 5])?;
     CallerEnds::pause(&rt, &mut all[..0]);
     Ok(())

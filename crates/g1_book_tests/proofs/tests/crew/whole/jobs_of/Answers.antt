@@ -3,7 +3,7 @@ use Rattle.std.proofs.lemmas.List.Elements.{All-rest, All-push}
 use Rattle.g1_layout.specs.Shape.{slot_count}
 use Rattle.g1_book.specs.Ask.{ScriptFits}
 use Rattle.g1_book.specs.Callers.{IsCallerOf}
-use Rattle.g1_book.proofs.tests.crew.whole.jobs_of.Goals as goal
+use Rattle.g1_book_tests.proofs.tests.crew.whole.jobs_of.Goals as goal
 
 pub loop-caller-preserved : goal.loop-caller-preserved
 loop-caller-preserved g c =

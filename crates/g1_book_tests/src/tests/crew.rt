@@ -4,7 +4,7 @@ ghost use Rattle.g1_layout.specs.Shape.{slot_count};
 ghost use Rattle.g1_book.specs.Ask.{StepFits};
 
 use super::*;
-use crate::desk::Step;
+use g1_book::Step;
 
 mod local;
 mod meeting;

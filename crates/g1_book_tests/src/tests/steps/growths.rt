@@ -53,20 +53,18 @@ fn a_help_without_memory_is_short(rt: HostRuntime) -> Result<(), Fail> {
     let mut ends = caller(&rt, &line, &mut senders, &mut takers, 1);
     let _ = stored(&rt, &mut book, &mut ends, 0)?;
     for (from, card) in [(4, 1), (8, 2), (12, 3), (16, 4)] {
-        let pending = book.core.status().pending;
+        let pending = counts(&mut book)?.pending;
         let entries = book.entries().len();
         let reply = stored(&rt, &mut book, &mut ends, from)?;
         assert_eq!(rt; (reply.kind, reply.fill), (Kind::Logged, Fill::Helped));
-        let left = book.core.status().pending;
+        let made = book.entries().len();
+        let left = counts(&mut book)?.pending;
         if reply.short {
             assert!(rt; reply.refined.is_empty());
             assert_eq!(rt; left, pending.saturating_add(1));
         } else {
             assert!(rt; has_cards(&reply.refined, &[card]));
-            assert_eq!(rt;
-                (left, book.entries().len()),
-                (pending, entries.saturating_add(2))
-            );
+            assert_eq!(rt; (left, made), (pending, entries.saturating_add(2)));
         }
     }
     assert_set(&rt, &mut book, 3, &[0, 1, 2, 3, 4])?;
@@ -84,11 +82,11 @@ fn a_round_without_memory_loses_no_card(rt: HostRuntime) -> Result<(), Fail> {
         let _ = stored(&rt, &mut book, &mut ends, from)?;
     }
     match ends.work(&rt, &mut book, 0) {
-        Ok(reply) => assert_round(&rt, &book, &reply),
+        Ok(reply) => assert_round(&rt, &mut book, &reply)?,
         Err(refusal) => {
             assert_eq!(rt; refusal, Refusal::NoMemory);
             assert_eq!(rt; book.entries().len(), 6);
-            assert_eq!(rt; book.core.status().pending, 6);
+            assert_eq!(rt; counts(&mut book)?.pending, 6);
             assert!(rt; line.len(&rt) >= 5);
         }
     }
@@ -97,14 +95,15 @@ fn a_round_without_memory_loses_no_card(rt: HostRuntime) -> Result<(), Fail> {
 }
 
 /// Checks a round that refined five buffers, or fewer where it is short.
-fn assert_round(rt: &impl Abort, book: &Book, reply: &RefineReply) {
+fn assert_round(rt: &impl Abort, book: &mut Book, reply: &RefineReply) -> Result<(), Refusal> {
     let refined = reply.refined.len();
     let made = book.entries().len().saturating_sub(6);
     assert!(rt; has_cards(&reply.refined, &[0, 1, 2, 3, 4]) || reply.short && refined < 5);
     assert_eq!(rt; reply.taken as usize, refined);
     assert!(rt; made == refined || reply.short && made == refined.saturating_add(1));
-    let left = book.core.status().pending as usize;
+    let left = counts(book)?.pending as usize;
     assert_eq!(rt; left.saturating_add(refined), 6);
+    Ok(())
 }
 
 /// Drains region 3 until that is whole, and checks its set.

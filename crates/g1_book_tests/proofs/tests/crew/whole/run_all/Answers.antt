@@ -1,6 +1,6 @@
 use Rattle.std.proofs.Common.{rules, arith, ◌≡◌, length, vec_len}
 use Rattle.std.proofs.lemmas.List.Elements.{length_all_zip}
-use Rattle.g1_book.proofs.tests.crew.whole.run_all.Goals as goal
+use Rattle.g1_book_tests.proofs.tests.crew.whole.run_all.Goals as goal
 
 pub jobs_of-requires-clause-of : goal.jobs_of-requires-clause-of
 jobs_of-requires-clause-of g c k d h =

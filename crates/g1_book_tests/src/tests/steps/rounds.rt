@@ -78,7 +78,7 @@ fn a_round_is_short_where_the_history_is_full(rt: HostRuntime) -> Result<(), Fai
     assert_eq!(rt; (reply.taken, reply.left), (2, 3));
     assert!(rt; has_cards(&reply.refined, &[0, 1]) && reply.short);
     assert_eq!(rt; line.len(&rt), 2);
-    assert_eq!(rt; book.core.status().pending, 3);
+    assert_eq!(rt; book.entries().len(), 7);
     Ok(())
 }
 
@@ -94,7 +94,6 @@ fn a_full_history_refuses_a_round(rt: HostRuntime) -> Result<(), Fail> {
     assert_eq!(rt; line.len(&rt), 4);
     assert_eq!(rt; ends.refine(&rt, &mut book, 0).err(), full);
     assert_eq!(rt; line.len(&rt), 3);
-    assert_eq!(rt; book.entries().len(), 5);
-    assert_eq!(rt; book.core.status().pending, 5);
+    assert_stores(&rt, &book, 5);
     Ok(())
 }
