@@ -20,6 +20,7 @@ mod answers;
 mod crew;
 mod full;
 mod growths;
+mod shared;
 mod steps;
 
 /// A new book for two mutators, with logs of `log` cards, a line of `limit` buffers and room for `history` entries.

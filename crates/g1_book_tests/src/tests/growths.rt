@@ -102,7 +102,6 @@ fn assert_all_recorded(rt: &impl Abort, book: &mut Book) -> Result<(), Refusal> 
 fn a_refused_store_is_made_again(rt: HostRuntime) -> Result<(), Fail> {
     let (mut book, buffer) = four_stored(&rt, rt.alloc())?;
     assert!(rt; buffer.is_some());
-    assert_state(&rt, &mut book, 4, &[0, 1, 2, 7], 0)?;
     let mut log = Log::new(2);
     let _ = stored(&rt, &mut book, &mut log, 16, 8)?;
     assert_eq!(rt; log.len(), 1);

@@ -1,0 +1,113 @@
+//! What a pause does to the callers that are lent.
+ghost use Rattle.std.specs.Prelude.{◌≡◌, []};
+ghost use Rattle.g1_book.specs.History.{terms_of};
+ghost use Rattle.g1_book.specs.Callers.{IsCallerOf};
+
+use super::*;
+use std::test::Fail;
+
+struct NoCaller;
+
+impl Play for NoCaller {
+    fn play<M: Frame, S: Ledger, R: Wait + Abort>(
+        &self,
+        rt: &R,
+        callers: &mut [SharedCaller<'_, M, S>],
+    ) -> Result<(), Refusal> {
+        let caller = first(rt, callers);
+        for from in [0, 4, 8] {
+            let _ = caller.store(rt, from, Some(24))?;
+        }
+        pause_nobody(rt, caller.shared);
+        assert_flushed(rt, &caller.flush(rt), 1, Fill::Full, &[]);
+        assert_refined(rt, &caller.refine(rt)?, 1, &[0, 1], 0, 1);
+        assert_refined(rt, &caller.refine(rt)?, 1, &[2], 0, 0);
+        Ok(())
+    }
+}
+
+fn pause_nobody<M: Frame, S: Ledger, R: Wait>(rt: &R, shared: &Shared<M, S>) {
+    let mut nobody: [Caller<M, S>; 0] = [];
+    shared.pause(rt, &mut nobody);
+}
+
+/// Lent no caller, a pause leaves the log of each and the line.
+#[test]
+fn a_pause_without_callers_does_nothing(rt: HostRuntime) -> Result<(), Fail> {
+    let book = book(&rt, rt.alloc(), 2, 4, 10)?;
+    let mut book = played(&rt, rt.alloc(), book, 2, &NoCaller)?;
+    assert_eq!(rt; book.entries().len(), 5);
+    assert_eq!(rt; counts(&mut book)?.pending, 0);
+    Ok(())
+}
+
+/// Stores a reference to slot 24.
+fn store_from<M: Frame, S: Ledger, R: Wait + Abort>(
+    rt: &R,
+    shared: &Shared<M, S>,
+    caller: &mut Caller<M, S>,
+    from: u32,
+) -> Result<(), Refusal>
+    requires { IsCallerOf shared.now caller.old }
+    ensures { IsCallerOf shared.now caller.new }
+{
+    let from = slot(rt, shared.lock(rt).book(), from);
+    let to = slot(rt, shared.lock(rt).book(), 24);
+    assert!(rt; caller.number() < shared.lock(rt).book().mutators());
+    let _ = shared.store(rt, caller, from, Some(to))?;
+    Ok(())
+}
+
+/// Two callers whose stores leave a card in each log and two buffers in the line; then a pause.
+fn paused<M: Frame, S: Ledger, R: Wait + Abort>(
+    rt: &R,
+    made: Blank,
+    stored: Blank,
+    book: Book,
+) -> Result<(), Refusal>
+    requires made { (made.name ≡ M.name) × (made.parts ≡ M.parts) × (made.parts ≡ 2) }
+    requires stored { (stored.name ≡ S.name) × (stored.parts ≡ S.parts) × (stored.parts ≡ 2) }
+    requires terms { terms_of book ≡ M.terms }
+    requires empty { book.entries ≡ [] }
+{
+    assert!(rt; book.mutators() == 2);
+    let (shared, mut callers) = opened::<M, S>(made, stored, book, 2)?;
+    let mut one = callers.take_last();
+    let mut zero = callers.take_last();
+    store_from(rt, &shared, &mut zero, 0)?;
+    store_from(rt, &shared, &mut zero, 4)?;
+    store_from(rt, &shared, &mut zero, 8)?;
+    store_from(rt, &shared, &mut one, 12)?;
+    store_from(rt, &shared, &mut one, 16)?;
+    store_from(rt, &shared, &mut one, 20)?;
+    let mut both = [zero, one];
+    shared.pause(rt, &mut both);
+    assert_eq!(rt; shared.lock(rt).book().entries().len(), 6);
+    assert_emptied(rt, &shared, &mut both[0])?;
+    assert_emptied(rt, &shared, &mut both[1])?;
+    Ok(())
+}
+
+/// Checks that log and line are empty, and that six cards are pending.
+fn assert_emptied<M: Frame, S: Ledger, R: Wait + Abort>(
+    rt: &R,
+    shared: &Shared<M, S>,
+    caller: &mut Caller<M, S>,
+) -> Result<(), Refusal>
+    requires { IsCallerOf shared.now caller.old }
+{
+    assert_eq!(rt; (caller.made(), caller.stored()), (3, 3));
+    assert_refined(rt, &shared.work(rt, caller)?, 0, &[], 0, 0);
+    assert!(rt; caller.number() < shared.lock(rt).book().mutators());
+    assert_flushed(rt, &shared.flush(rt, caller), 0, Fill::No, &[]);
+    assert_eq!(rt; shared.status(rt, caller)?.pending, 6);
+    Ok(())
+}
+
+#[test]
+fn a_pause_empties_the_logs_of_two_callers_and_the_line(rt: HostRuntime) -> Result<(), Fail> {
+    let book = book(&rt, rt.alloc(), 2, 4, 20)?;
+    let (made, stored) = (Blank::new(2), Blank::new(2));
+    paused::<Brand, Brand, HostRuntime>(&rt, made, stored, book)?;
+    Ok(())
+}
