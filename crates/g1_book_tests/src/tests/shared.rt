@@ -160,6 +160,16 @@ fn opened<M: Frame, S: Ledger>(
     }
 }
 
+/// The caller with the book that made it.
+fn shared_caller<'a, M: Frame, S: Ledger>(
+    shared: &'a Shared<M, S>,
+    caller: Caller<M, S>,
+) -> SharedCaller<'a, M, S>
+    requires { IsCallerOf shared.now caller }
+{
+    SharedCaller { shared, caller }
+}
+
 /// The callers with the book that made them, in order.
 fn shared_callers<'a, M: Frame, S: Ledger>(
     alloc: Global,
@@ -170,7 +180,7 @@ fn shared_callers<'a, M: Frame, S: Ledger>(
 {
     let mut all = Vec::with_capacity(alloc, callers.len())?;
     for caller in callers {
-        all.push(SharedCaller { shared, caller })?;
+        all.push(shared_caller(shared, caller))?;
     }
     Ok(all)
 }

@@ -1,5 +1,5 @@
 //! What a pause does to the callers that are lent.
-ghost use Rattle.std.specs.Prelude.{◌≡◌, []};
+ghost use Rattle.std.specs.Prelude.{◌≡◌, [], All, IfOk};
 ghost use Rattle.g1_book.specs.History.{terms_of};
 ghost use Rattle.g1_book.specs.Callers.{IsCallerOf};
 
@@ -41,26 +41,51 @@ fn a_pause_without_callers_does_nothing(rt: HostRuntime) -> Result<(), Fail> {
     Ok(())
 }
 
-/// Stores a reference to slot 24.
-fn store_from<M: Frame, S: Ledger, R: Wait + Abort>(
+/// The caller, once it has stored references to slot 24 in the first slots of three cards.
+fn stored<M: Frame, S: Ledger, R: Wait + Abort>(
     rt: &R,
     shared: &Shared<M, S>,
-    caller: &mut Caller<M, S>,
-    from: u32,
-) -> Result<(), Refusal>
-    requires { IsCallerOf shared.now caller.old }
-    ensures { IsCallerOf shared.now caller.new }
+    mut caller: Caller<M, S>,
+) -> Caller<M, S>
+    requires { IsCallerOf shared.now caller }
+    ensures { IsCallerOf shared.now result }
 {
-    let from = slot(rt, shared.lock(rt).book(), from);
-    let to = slot(rt, shared.lock(rt).book(), 24);
-    assert!(rt; caller.number() < shared.lock(rt).book().mutators());
-    let _ = shared.store(rt, caller, from, Some(to))?;
-    Ok(())
+    for from in [0, 4, 8] {
+        let first = if caller.number() == 0 {
+            from
+        } else {
+            12 + from
+        };
+        let from = slot(rt, shared.lock(rt).book(), first);
+        let to = slot(rt, shared.lock(rt).book(), 24);
+        assert!(rt; caller.number() < shared.lock(rt).book().mutators());
+        let reply = shared.store(rt, &mut caller, from, Some(to));
+        assert!(rt; reply.is_ok());
+    }
+    caller
+}
+
+/// The callers, once each has stored.
+fn all_stored<M: Frame, S: Ledger, R: Wait + Abort>(
+    rt: &R,
+    alloc: Global,
+    shared: &Shared<M, S>,
+    callers: Vec<Caller<M, S>>,
+) -> Result<Vec<Caller<M, S>>, NoMemory>
+    requires { All (IsCallerOf shared.now) callers.items }
+    ensures { IfOk result (λ all. All (IsCallerOf shared.now) all.items) }
+{
+    let mut all = Vec::with_capacity(alloc, callers.len())?;
+    for caller in callers {
+        all.push(stored(rt, shared, caller))?;
+    }
+    Ok(all)
 }
 
 /// Two callers whose stores leave a card in each log and two buffers in the line; then a pause.
 fn paused<M: Frame, S: Ledger, R: Wait + Abort>(
     rt: &R,
+    alloc: Global,
     made: Blank,
     stored: Blank,
     book: Book,
@@ -71,20 +96,24 @@ fn paused<M: Frame, S: Ledger, R: Wait + Abort>(
     requires empty { book.entries ≡ [] }
 {
     assert!(rt; book.mutators() == 2);
-    let (shared, mut callers) = opened::<M, S>(made, stored, book, 2)?;
-    let mut one = callers.take_last();
-    let mut zero = callers.take_last();
-    store_from(rt, &shared, &mut zero, 0)?;
-    store_from(rt, &shared, &mut zero, 4)?;
-    store_from(rt, &shared, &mut zero, 8)?;
-    store_from(rt, &shared, &mut one, 12)?;
-    store_from(rt, &shared, &mut one, 16)?;
-    store_from(rt, &shared, &mut one, 20)?;
-    let mut both = [zero, one];
-    shared.pause(rt, &mut both);
+    let (shared, callers) = opened::<M, S>(made, stored, book, 2)?;
+    let mut callers = all_stored(rt, alloc, &shared, callers)?;
+    shared.pause(rt, callers.as_mut_slice());
     assert_eq!(rt; shared.lock(rt).book().entries().len(), 6);
-    assert_emptied(rt, &shared, &mut both[0])?;
-    assert_emptied(rt, &shared, &mut both[1])?;
+    assert_all_emptied(rt, &shared, callers)
+}
+
+/// Checks that a pause has emptied each caller's log and the line.
+fn assert_all_emptied<M: Frame, S: Ledger, R: Wait + Abort>(
+    rt: &R,
+    shared: &Shared<M, S>,
+    callers: Vec<Caller<M, S>>,
+) -> Result<(), Refusal>
+    requires { All (IsCallerOf shared.now) callers.items }
+{
+    for caller in callers {
+        assert_emptied(rt, shared, caller)?;
+    }
     Ok(())
 }
 
@@ -92,15 +121,15 @@ fn paused<M: Frame, S: Ledger, R: Wait + Abort>(
 fn assert_emptied<M: Frame, S: Ledger, R: Wait + Abort>(
     rt: &R,
     shared: &Shared<M, S>,
-    caller: &mut Caller<M, S>,
+    mut caller: Caller<M, S>,
 ) -> Result<(), Refusal>
-    requires { IsCallerOf shared.now caller.old }
+    requires { IsCallerOf shared.now caller }
 {
     assert_eq!(rt; (caller.made(), caller.stored()), (3, 3));
-    assert_refined(rt, &shared.work(rt, caller)?, 0, &[], 0, 0);
+    assert_refined(rt, &shared.work(rt, &mut caller)?, 0, &[], 0, 0);
     assert!(rt; caller.number() < shared.lock(rt).book().mutators());
-    assert_flushed(rt, &shared.flush(rt, caller), 0, Fill::No, &[]);
-    assert_eq!(rt; shared.status(rt, caller)?.pending, 6);
+    assert_flushed(rt, &shared.flush(rt, &mut caller), 0, Fill::No, &[]);
+    assert_eq!(rt; shared.status(rt, &mut caller)?.pending, 6);
     Ok(())
 }
 
@@ -108,6 +137,6 @@ fn assert_emptied<M: Frame, S: Ledger, R: Wait + Abort>(
 fn a_pause_empties_the_logs_of_two_callers_and_the_line(rt: HostRuntime) -> Result<(), Fail> {
     let book = book(&rt, rt.alloc(), 2, 4, 20)?;
     let (made, stored) = (Blank::new(2), Blank::new(2));
-    paused::<Brand, Brand, HostRuntime>(&rt, made, stored, book)?;
+    paused::<Brand, Brand, HostRuntime>(&rt, rt.alloc(), made, stored, book)?;
     Ok(())
 }
