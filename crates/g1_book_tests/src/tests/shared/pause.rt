@@ -97,10 +97,23 @@ fn paused<M: Frame, S: Ledger, R: Wait + Abort>(
 {
     assert!(rt; book.mutators() == 2);
     let (shared, callers) = opened::<M, S>(made, stored, book, 2)?;
-    let mut callers = all_stored(rt, alloc, &shared, callers)?;
-    shared.pause(rt, callers.as_mut_slice());
+    let callers = all_stored(rt, alloc, &shared, callers)?;
+    let callers = stopped(rt, &shared, callers);
     assert_eq!(rt; shared.lock(rt).book().entries().len(), 6);
     assert_all_emptied(rt, &shared, callers)
+}
+
+/// The callers, after a pause that was lent all of them.
+fn stopped<M: Frame, S: Ledger, R: Wait>(
+    rt: &R,
+    shared: &Shared<M, S>,
+    mut callers: Vec<Caller<M, S>>,
+) -> Vec<Caller<M, S>>
+    requires { All (IsCallerOf shared.now) callers.items }
+    ensures { All (IsCallerOf shared.now) result.items }
+{
+    shared.pause(rt, callers.as_mut_slice());
+    callers
 }
 
 /// Checks that a pause has emptied each caller's log and the line.
