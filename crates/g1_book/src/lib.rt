@@ -35,8 +35,6 @@ mod shared;
 mod shared_desk;
 mod steps;
 mod store;
-#[cfg(test)]
-mod tests;
 mod worker;
 
 pub use book::Book;

@@ -6,8 +6,6 @@
 mod mutator;
 mod refiner;
 mod standstill;
-#[cfg(test)]
-mod tests;
 
 pub use mutator::{FlushReply, Mutator};
 pub use refiner::{refine, work};

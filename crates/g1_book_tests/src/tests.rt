@@ -1,0 +1,262 @@
+//! What no clause says: that the calls succeed, with answers and entries worked by hand, and what a refused growth
+//! leaves.
+//!
+//! The heap has 4 regions of 2 cards of 4 slots: card `c` has the slots from `4 * c` on, region `r` those from `8 * r` on.
+ghost use Rattle.std.specs.Prelude.{◌≡◌, ◌≤◌, ◌<◌, [], IfOk};
+ghost use Rattle.g1_layout.specs.Shape.{slot_count, card_count};
+ghost use Rattle.g1_book.specs.History.{layout_in};
+
+use g1_book::{Book, FlushReply, Refusal};
+use g1_core::{
+    Call, CardList, ClearReply, Config, Drained, Fill, Redirected, RefineReply, Reply, Status,
+    StoreReply,
+};
+use g1_layout::{Card, Kind, Layout, NoMemory, Region, Slot};
+use g1_log::{Buffer, Log};
+use std::alloc::Global;
+use std::process::Abort;
+
+mod answers;
+mod crew;
+mod full;
+mod growths;
+mod shared;
+mod steps;
+
+/// A new book for two mutators, with logs of `log` cards, a line of `limit` buffers and room for `history` entries.
+pub(crate) fn book(
+    rt: &impl Abort,
+    alloc: Global,
+    log: usize,
+    limit: usize,
+    history: usize,
+) -> Result<Book, NoMemory>
+    requires low { 1 ≤ history }
+    requires high { history ≤ 1000000 }
+    ensures { IfOk result (λ book. book.entries ≡ []) }
+{
+    let layout = Layout::new(4, 2, 4).expect(rt, "a layout within the limits");
+    let config = Config::new(log, limit, 4, 4, 5).expect(rt, "settings within the limits");
+    Book::open(alloc, layout, config, 2, history)
+}
+
+pub(crate) fn slot(rt: &impl Abort, book: &Book, number: u32) -> Slot
+    ensures { result < slot_count (layout_in book.now) }
+{
+    book.layout().slot(number).expect(rt, "a slot of the heap")
+}
+
+pub(crate) fn card(rt: &impl Abort, book: &Book, number: u32) -> Card
+    ensures { result < card_count (layout_in book.now) }
+{
+    book.layout().card(number).expect(rt, "a card of the heap")
+}
+
+pub(crate) fn region(rt: &impl Abort, book: &Book, number: u32) -> Region
+    ensures { result < (layout_in book.now).regions }
+{
+    book.layout()
+        .region(number)
+        .expect(rt, "a region of the heap")
+}
+
+/// The call that stores a reference to the place, or null.
+pub(crate) fn store_call(rt: &impl Abort, book: &Book, from: u32, to: Option<u32>) -> Call {
+    let to = match to {
+        Some(place) => Some(slot(rt, book, place)),
+        None => None,
+    };
+    Call::Store {
+        slot: slot(rt, book, from),
+        target: to,
+    }
+}
+
+/// Stores a reference to the place, or null.
+pub(crate) fn store(
+    rt: &impl Abort,
+    book: &mut Book,
+    caller: u32,
+    log: &mut Log,
+    from: u32,
+    to: Option<u32>,
+) -> Result<(StoreReply, Option<Buffer>), Refusal> {
+    assert!(rt; caller < book.mutators());
+    let from = slot(rt, book, from);
+    let to = match to {
+        Some(place) => Some(slot(rt, book, place)),
+        None => None,
+    };
+    book.store(caller, log, from, to)
+}
+
+// The caller of the questions that a test asks for itself.
+const ASKER: u32 = 9;
+
+/// How much is pending and recorded, by a question of the test itself. A refused one is asked again.
+pub(crate) fn counts(book: &mut Book) -> Result<Status, Refusal> {
+    match book.status(ASKER) {
+        Ok(status) => Ok(status),
+        Err(_) => book.status(ASKER),
+    }
+}
+
+/// Whether the list has just these cards, in this order.
+pub(crate) fn has_cards(list: &CardList, numbers: &[u32]) -> bool {
+    list.len() == numbers.len()
+        && list
+            .as_slice()
+            .iter()
+            .zip(numbers)
+            .all(|(card, number)| card.number() == *number)
+}
+
+/// Checks a logged store: what became of its log, and which cards a help refined. It is not short.
+pub(crate) fn assert_stored(rt: &impl Abort, reply: &StoreReply, fill: Fill, refined: &[u32]) {
+    assert_eq!(rt; (reply.kind, reply.fill), (Kind::Logged, fill));
+    assert!(rt; has_cards(&reply.refined, refined));
+    assert!(rt; !reply.short);
+}
+
+/// Checks a flush: how many cards, what became of the log, and which cards a help refined. It is not short.
+pub(crate) fn assert_flushed(
+    rt: &impl Abort,
+    reply: &FlushReply,
+    cards: u32,
+    fill: Fill,
+    refined: &[u32],
+) {
+    assert_eq!(rt; (reply.cards, reply.fill), (cards, fill));
+    assert!(rt; has_cards(&reply.refined, refined));
+    assert!(rt; !reply.short);
+}
+
+/// Checks a whole refinement: buffers taken, cards refined, skipped, and buffers left. None is hot.
+pub(crate) fn assert_refined(
+    rt: &impl Abort,
+    reply: &RefineReply,
+    taken: u32,
+    refined: &[u32],
+    skipped: u32,
+    left: u32,
+) {
+    assert_eq!(rt;
+        (reply.taken, reply.hot, reply.skipped),
+        (taken, 0, skipped)
+    );
+    assert!(rt; has_cards(&reply.refined, refined), "{:?}", reply.refined);
+    assert_eq!(rt; reply.left, left);
+    assert!(rt; !reply.short);
+}
+
+/// A reply as a test writes it, with numbers in place of cards and slots.
+#[derive(Drop)]
+pub(crate) enum Want<'a> {
+    Stored(Kind, Fill),
+    Refined(u32, u32, u32),
+    Target(Option<u32>),
+    Pending(bool),
+    Cards(&'a [u32]),
+    Status(u32, u32),
+    Short,
+    Clear(ClearReply),
+    Moved(u32),
+}
+
+/// Whether the reply is the one that is wanted. None of stores and refinements is short.
+pub(crate) fn is_wanted(reply: &Reply, want: &Want<'_>) -> bool {
+    match reply {
+        Reply::Stored { kind, fill, short } => {
+            matches!(want, Want::Stored(k, f) if *kind == *k && *fill == *f && !*short)
+        }
+        Reply::Refined {
+            taken,
+            hot,
+            skipped,
+            left,
+            short,
+        } => {
+            matches!(want, Want::Refined(t, h, s) if *taken == *t && *hot == *h && *skipped == *s)
+                && *left == 0
+                && !*short
+        }
+        Reply::Target(place) => {
+            matches!(want, Want::Target(p) if place.map(|slot| slot.number()) == *p)
+        }
+        Reply::Pending(answer) => matches!(want, Want::Pending(a) if *answer == *a),
+        Reply::Cards(cards) => matches!(want, Want::Cards(numbers) if has_cards(cards, numbers)),
+        Reply::Status(status) => {
+            matches!(want, Want::Status(p, r) if status.pending == *p && status.recorded == *r)
+        }
+        Reply::Short => matches!(want, Want::Short),
+        Reply::Clear(answer) => matches!(want, Want::Clear(a) if *answer == *a),
+        Reply::Moved(slots) => matches!(want, Want::Moved(n) if *slots == *n),
+    }
+}
+
+/// An entry as a test writes it: caller, call, reply and refined cards.
+pub(crate) type WantedEntry<'a> = (u32, Call, Want<'a>, &'a [u32]);
+
+/// Checks that the history is just these entries.
+pub(crate) fn assert_entries(rt: &impl Abort, book: &Book, wanted: &[WantedEntry<'_>]) {
+    let entries = book.entries();
+    assert_eq!(rt; entries.len(), wanted.len());
+    for (at, (entry, want)) in entries.iter().zip(wanted).enumerate() {
+        assert_eq!(rt; entry.caller, want.0, "caller of entry {at}");
+        assert_eq!(rt; entry.call, want.1, "call of entry {at}");
+        assert!(rt;
+            is_wanted(&entry.reply, &want.2),
+            "reply of entry {at}: {:?}",
+            entry.reply
+        );
+        assert!(rt;
+            has_cards(&entry.refined, want.3),
+            "cards of entry {at}: {:?}",
+            entry.refined
+        );
+    }
+}
+
+/// Checks that the history is so many stores, and that none of their cards was refined: then they are pending.
+pub(crate) fn assert_stores(rt: &impl Abort, book: &Book, stores: usize) {
+    let entries = book.entries();
+    assert_eq!(rt; entries.len(), stores);
+    for entry in entries {
+        assert!(rt; matches!(entry.call, Call::Store { .. }));
+        assert!(rt; entry.refined.is_empty());
+    }
+}
+
+/// Drains the region, and checks the set that it answers.
+pub(crate) fn assert_set(
+    rt: &impl Abort,
+    book: &mut Book,
+    of: u32,
+    set: &[u32],
+) -> Result<(), Refusal> {
+    let region = region(rt, book, of);
+    match book.drain(0, region)? {
+        Drained::Cards { cards, .. } => {
+            assert!(rt; has_cards(&cards, set), "the set of region {of}: {cards:?}");
+            Ok(())
+        }
+        Drained::Short { .. } => Err(Refusal::NoMemory),
+    }
+}
+
+/// Redirects, and answers how many slots were moved, if any were, and which cards were refined.
+pub(crate) fn redirect(
+    rt: &impl Abort,
+    book: &mut Book,
+    caller: u32,
+    from: u32,
+    to: u32,
+) -> Result<(Option<u32>, CardList), Refusal> {
+    let from = region(rt, book, from);
+    let to = region(rt, book, to);
+    assert!(rt; from.number() != to.number());
+    match book.redirect(caller, from, to)? {
+        Redirected::Moved { slots, refined } => Ok((Some(slots), refined)),
+        Redirected::Short { refined } => Ok((None, refined)),
+    }
+}

@@ -1,0 +1,145 @@
+//! What the calls of a local desk and its workers answer, worked by hand.
+//!
+//! The heap has 4 regions of 2 cards of 4 slots: card `c` has the slots from `4 * c` on, region `r` those from `8 * r` on.
+ghost use Rattle.std.specs.Prelude.{◌≡◌, ◌≤◌, true, nat_lt, IfOk};
+ghost use Rattle.g1_log.specs.Ends.{IsSenderOf, IsTakerOf};
+ghost use Rattle.g1_book.specs.History.{layout_in};
+
+use super::*;
+use g1_book::{Desk, LentBook, LocalDesk, Mutator, Outcome, mutate, open_line, refiner};
+use g1_log::{Line, Taker};
+use std::sync::Wait;
+use std::test::Fail;
+
+/// A new book for one mutator, with the settings where nobody chooses.
+fn plain_book(rt: &impl Abort, alloc: Global, history: usize) -> Result<Book, NoMemory>
+    requires low { 1 ≤ history }
+    requires high { history ≤ 1000000 }
+    ensures { IfOk result (λ book. book.mutators ≡ 1) }
+{
+    let layout = Layout::new(4, 2, 4).expect(rt, "a layout within the limits");
+    Book::open(alloc, layout, Config::default(), 1, history)
+}
+
+/// A line, and the mutator and the taker of one caller.
+fn ends(rt: &impl Abort, alloc: Global, config: Config) -> Result<(Line, Mutator, Taker), NoMemory>
+    ensures sender { IfOk result (λ made. IsSenderOf made.0 made.1.sender) }
+    ensures taker { IfOk result (λ made. IsTakerOf made.0 made.2) }
+{
+    let (line, mutators, takers) = open_line(alloc, config, 1, 1)?;
+    let mutator = mutators.into_iter().next().expect(rt, "a mutator");
+    let taker = takers.into_iter().next().expect(rt, "a taker");
+    Ok((line, mutator, taker))
+}
+
+/// The desk of caller 0 at the book.
+fn desk_at<'a, R>(
+    rt: &'a R,
+    line: &'a Line,
+    book: &'a mut Book,
+    mutator: Mutator,
+    taker: Taker,
+) -> LocalDesk<'a, R, LentBook<'a>>
+    requires one { book.old.mutators ≡ 1 }
+    requires sender { IsSenderOf line.now mutator.sender }
+    requires taker { IsTakerOf line.now taker }
+    ensures may { nat_lt result.calls.caller result.calls.book.now.mutators ≡ true }
+    ensures layout { layout_in result.calls.book.now ≡ layout_in book.old }
+{
+    let start = book.config().start();
+    LocalDesk::new(rt, line, LentBook::new(book, 0), mutator, taker, start)
+}
+
+/// A store whose log is flushed leaves one completed buffer in the line, where a round begins at five.
+#[test]
+fn a_desk_stores_flushes_and_begins_no_round(rt: HostRuntime) -> Result<(), Fail> {
+    let mut book = plain_book(&rt, rt.alloc(), 10)?;
+    let layout = book.layout();
+    let (line, mutator, taker) = ends(&rt, rt.alloc(), book.config())?;
+    let mut desk = desk_at(&rt, &line, &mut book, mutator, taker);
+    let stored = desk.store(slot_in(&rt, layout, 0), Some(slot_in(&rt, layout, 8)))?;
+    assert_eq!(rt; (stored.kind, stored.fill), (Kind::Logged, Fill::No));
+    let flushed = desk.flush()?;
+    assert_eq!(rt; (flushed.cards, flushed.fill), (1, Fill::Full));
+    let reply = desk.work()?;
+    assert_eq!(rt; (reply.taken, reply.left), (0, 1));
+    Ok(())
+}
+
+/// Makes the calls of a script at a desk of caller 0, and then three rounds.
+fn worked<R: Abort + Wait>(
+    rt: &R,
+    alloc: Global,
+    book: &mut Book,
+    wishes: &[Wish],
+) -> Result<(Outcome, Outcome), NoMemory>
+    requires { book.old.mutators ≡ 1 }
+{
+    let steps = steps_of(rt, alloc, book.layout(), wishes)?;
+    let (line, mutator, taker) = ends(rt, alloc, book.config())?;
+    let mut desk = desk_at(rt, &line, book, mutator, taker);
+    let made = mutate(&mut desk, steps.as_slice());
+    Ok((made, refiner(&mut desk, 3)))
+}
+
+/// Stores of the cards 0, 1, 2 and so on into region 3, each of which is logged. A flush is a call without an entry.
+#[test]
+fn a_full_book_ends_a_script(rt: HostRuntime) -> Result<(), Fail> {
+    let full = Refusal::BookFull;
+    let stores = [
+        Some((0, 24)),
+        Some((4, 24)),
+        Some((8, 24)),
+        Some((12, 24)),
+        None,
+    ];
+    let between = [
+        Some((0, 24)),
+        Some((4, 24)),
+        None,
+        Some((8, 24)),
+        Some((12, 24)),
+    ];
+    for (history, wishes, made) in [
+        (3, stores, Err((3, full))),
+        (3, between, Err((4, full))),
+        (4, stores, Ok(5)),
+    ] {
+        let mut book = plain_book(&rt, rt.alloc(), history)?;
+        let (outcome, rounds) = worked(&rt, rt.alloc(), &mut book, wishes.as_slice())?;
+        assert_eq!(rt; outcome, made);
+        assert_eq!(rt; rounds, Ok(3));
+        assert_eq!(rt; book.entries().len(), history);
+    }
+    Ok(())
+}
+
+/// Five buffers of one card begin a round of four calls, and leave one. A book that is full at the first of them ends the
+/// rounds, and at a later one only that round.
+#[test]
+fn a_full_book_ends_a_round(rt: HostRuntime) -> Result<(), Fail> {
+    let wishes = [
+        Some((0, 24)),
+        None,
+        Some((4, 24)),
+        None,
+        Some((8, 24)),
+        None,
+        Some((12, 24)),
+        None,
+        Some((16, 24)),
+        None,
+    ];
+    for (history, entries, rounds) in [
+        (5, 5, Err((0, Refusal::BookFull))),
+        (7, 7, Ok(3)),
+        (20, 9, Ok(3)),
+    ] {
+        let mut book = plain_book(&rt, rt.alloc(), history)?;
+        let (outcome, refined) = worked(&rt, rt.alloc(), &mut book, wishes.as_slice())?;
+        assert_eq!(rt; outcome, Ok(10));
+        assert_eq!(rt; refined, rounds);
+        assert_eq!(rt; book.entries().len(), entries);
+    }
+    Ok(())
+}

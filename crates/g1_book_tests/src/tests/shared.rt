@@ -1,0 +1,250 @@
+//! A shared book: that callers' calls succeed beside each other, with answers and entries worked by hand.
+ghost use Rattle.std.specs.Prelude.{◌≡◌, ◌<◌, ◌≤◌, [], vec_len, All, IfOk};
+ghost use Rattle.std.proofs.Props.{props};
+ghost use Rattle.g1_layout.specs.Shape.{slot_count, card_count};
+ghost use Rattle.g1_book.specs.Callers.{IsCallerOf};
+ghost use Rattle.g1_book.specs.History.{terms_of};
+
+use super::*;
+use g1_book::{Caller, Frame, Shared};
+use std::marker::Brand;
+use std::sync::Wait;
+use std::sync::ledger::{Blank, Ledger};
+
+mod answers;
+mod full;
+mod growths;
+mod guard;
+mod pause;
+mod threads;
+
+/// A caller, and the shared book that made it.
+#[derive(Drop)]
+struct SharedCaller<'a, M: Frame, S: Ledger> {
+    shared: &'a Shared<M, S>,
+    caller: Caller<M, S>,
+    ghost mine: { IsCallerOf shared.now caller } by { Prim.hlevel props },
+}
+
+impl<M: Frame, S: Ledger> SharedCaller<'_, M, S> {
+    fn slot<R: Wait + Abort>(&self, rt: &R, number: u32) -> Slot
+        ensures { result < slot_count M.terms.layout }
+    {
+        slot(rt, self.shared.lock(rt).book(), number)
+    }
+
+    fn card<R: Wait + Abort>(&self, rt: &R, number: u32) -> Card
+        ensures { result < card_count M.terms.layout }
+    {
+        card(rt, self.shared.lock(rt).book(), number)
+    }
+
+    fn region<R: Wait + Abort>(&self, rt: &R, number: u32) -> Region
+        ensures { result < M.terms.layout.regions }
+    {
+        region(rt, self.shared.lock(rt).book(), number)
+    }
+
+    /// Checks that the caller is a mutator.
+    fn assert_mutator<R: Wait + Abort>(&self, rt: &R)
+        ensures { self.now.caller.counts.number < M.terms.mutators }
+    {
+        assert!(rt; self.caller.number() < self.shared.lock(rt).book().mutators());
+    }
+
+    fn store<R: Wait + Abort>(
+        &mut self,
+        rt: &R,
+        from: u32,
+        to: Option<u32>,
+    ) -> Result<StoreReply, Refusal> {
+        self.assert_mutator(rt);
+        let from = self.slot(rt, from);
+        let to = match to {
+            Some(place) => Some(self.slot(rt, place)),
+            None => None,
+        };
+        self.shared.store(rt, &mut self.caller, from, to)
+    }
+
+    fn flush<R: Wait + Abort>(&mut self, rt: &R) -> FlushReply {
+        self.assert_mutator(rt);
+        self.shared.flush(rt, &mut self.caller)
+    }
+
+    fn refine<R: Wait>(&mut self, rt: &R) -> Result<RefineReply, Refusal> {
+        self.shared.refine(rt, &mut self.caller)
+    }
+
+    fn work<R: Wait>(&mut self, rt: &R) -> Result<RefineReply, Refusal> {
+        self.shared.work(rt, &mut self.caller)
+    }
+
+    fn target<R: Wait + Abort>(&mut self, rt: &R, of: u32) -> Result<Option<Slot>, Refusal> {
+        let of = self.slot(rt, of);
+        self.shared.target(rt, &mut self.caller, of)
+    }
+
+    fn is_pending<R: Wait + Abort>(&mut self, rt: &R, of: u32) -> Result<bool, Refusal> {
+        let of = self.card(rt, of);
+        self.shared.is_pending(rt, &mut self.caller, of)
+    }
+
+    fn members<R: Wait + Abort>(&mut self, rt: &R, of: u32) -> Result<CardList, Refusal> {
+        let of = self.region(rt, of);
+        self.shared.members(rt, &mut self.caller, of)
+    }
+
+    fn status<R: Wait>(&mut self, rt: &R) -> Result<Status, Refusal> {
+        self.shared.status(rt, &mut self.caller)
+    }
+
+    fn drain<R: Wait + Abort>(&mut self, rt: &R, of: u32) -> Result<Drained, Refusal> {
+        let of = self.region(rt, of);
+        self.shared.drain(rt, &mut self.caller, of)
+    }
+
+    fn clear<R: Wait + Abort>(&mut self, rt: &R, of: u32) -> Result<ClearReply, Refusal> {
+        let of = self.region(rt, of);
+        self.shared.clear(rt, &mut self.caller, of)
+    }
+
+    fn redirect<R: Wait + Abort>(
+        &mut self,
+        rt: &R,
+        from: u32,
+        to: u32,
+    ) -> Result<Redirected, Refusal> {
+        let from = self.region(rt, from);
+        let to = self.region(rt, to);
+        assert!(rt; from.number() != to.number());
+        self.shared.redirect(rt, &mut self.caller, from, to)
+    }
+}
+
+/// What the callers of a shared book do, from when it is opened until it is finished.
+trait Play {
+    fn play<M: Frame, S: Ledger, R: Wait + Abort>(
+        &self,
+        rt: &R,
+        callers: &mut [SharedCaller<'_, M, S>],
+    ) -> Result<(), Refusal>;
+}
+
+/// The first of the callers.
+fn first<'a, 'b, M: Frame, S: Ledger>(
+    rt: &impl Abort,
+    callers: &'a mut [SharedCaller<'b, M, S>],
+) -> &'a mut SharedCaller<'b, M, S> {
+    callers.first_mut().expect(rt, "a caller")
+}
+
+/// The shared book, and its callers.
+fn opened<M: Frame, S: Ledger>(
+    made: Blank,
+    stored: Blank,
+    book: Book,
+    callers: u32,
+) -> Result<(Shared<M, S>, Vec<Caller<M, S>>), Refusal>
+    requires made { (made.name ≡ M.name) × (made.parts ≡ M.parts) × (made.parts ≡ callers) }
+    requires stored { (stored.name ≡ S.name) × (stored.parts ≡ S.parts) × (stored.parts ≡ callers) }
+    requires terms { terms_of book ≡ M.terms }
+    requires empty { book.entries ≡ [] }
+    requires callers { (M.terms.mutators ≤ callers) × (callers ≤ 12) }
+    ensures len { IfOk result (λ opened. vec_len opened.1 ≡ callers) }
+    ensures mine { IfOk result (λ opened. All (IsCallerOf opened.0) opened.1.items) }
+{
+    match Shared::<M, S>::open(made, stored, book, callers) {
+        Ok(opened) => Ok(opened),
+        Err(_) => Err(Refusal::NoMemory),
+    }
+}
+
+/// The caller with the book that made it.
+fn shared_caller<'a, M: Frame, S: Ledger>(
+    shared: &'a Shared<M, S>,
+    caller: Caller<M, S>,
+) -> SharedCaller<'a, M, S>
+    requires { IsCallerOf shared.now caller }
+{
+    SharedCaller { shared, caller }
+}
+
+/// The callers with the book that made them, in order.
+fn shared_callers<'a, M: Frame, S: Ledger>(
+    alloc: Global,
+    shared: &'a Shared<M, S>,
+    callers: Vec<Caller<M, S>>,
+) -> Result<Vec<SharedCaller<'a, M, S>>, NoMemory>
+    requires { All (IsCallerOf shared.now) callers.items }
+{
+    let mut all = Vec::with_capacity(alloc, callers.len())?;
+    for caller in callers {
+        all.push(shared_caller(shared, caller))?;
+    }
+    Ok(all)
+}
+
+/// The callers alone.
+fn bare_callers<M: Frame, S: Ledger>(
+    alloc: Global,
+    callers: Vec<SharedCaller<'_, M, S>>,
+) -> Result<Vec<Caller<M, S>>, NoMemory> {
+    let mut all = Vec::with_capacity(alloc, callers.len())?;
+    for SharedCaller { shared: _, caller } in callers {
+        all.push(caller)?;
+    }
+    Ok(all)
+}
+
+/// Opens the shared book, lets its callers play, and finishes it.
+fn share<M: Frame, S: Ledger, P: Play, R: Wait + Abort>(
+    rt: &R,
+    alloc: Global,
+    made: Blank,
+    stored: Blank,
+    book: Book,
+    callers: u32,
+    play: &P,
+) -> Result<Book, Refusal>
+    requires made { (made.name ≡ M.name) × (made.parts ≡ M.parts) × (made.parts ≡ callers) }
+    requires stored { (stored.name ≡ S.name) × (stored.parts ≡ S.parts) × (stored.parts ≡ callers) }
+    requires terms { terms_of book ≡ M.terms }
+    requires empty { book.entries ≡ [] }
+    requires callers { (1 ≤ callers) × (M.terms.mutators ≤ callers) × (callers ≤ 12) }
+{
+    let (shared, all) = opened::<M, S>(made, stored, book, callers)?;
+    let all = played_by(rt, alloc, &shared, all, play)?;
+    assert!(rt; all.len() == callers as usize);
+    Ok(shared.finish(all))
+}
+
+/// The callers, once they have played.
+fn played_by<M: Frame, S: Ledger, P: Play, R: Wait + Abort>(
+    rt: &R,
+    alloc: Global,
+    shared: &Shared<M, S>,
+    callers: Vec<Caller<M, S>>,
+    play: &P,
+) -> Result<Vec<Caller<M, S>>, Refusal>
+    requires { All (IsCallerOf shared.now) callers.items }
+{
+    let mut playing = shared_callers(alloc, shared, callers)?;
+    play.play(rt, playing.as_mut_slice())?;
+    Ok(bare_callers(alloc, playing)?)
+}
+
+/// Shares the book among so many callers, lets them play, and gives it back.
+fn played<P: Play, R: Wait + Abort>(
+    rt: &R,
+    alloc: Global,
+    book: Book,
+    callers: u32,
+    play: &P,
+) -> Result<Book, Refusal>
+    requires { book.entries ≡ [] }
+{
+    assert!(rt; 1 <= callers && book.mutators() <= callers && callers <= 12);
+    let (made, stored) = (Blank::new(callers as u64), Blank::new(callers as u64));
+    share::<Brand, Brand, P, R>(rt, alloc, made, stored, book, callers, play)
+}

@@ -1,0 +1,71 @@
+//! Calls of the book itself, by who holds the lock.
+ghost use Rattle.std.specs.Prelude.{◌≡◌, []};
+ghost use Rattle.g1_book.specs.History.{terms_of};
+
+use super::*;
+use std::test::Fail;
+
+/// A store and two questions under one lock, and how many calls and stores the caller has made after each.
+fn under_one_lock<M: Frame, S: Ledger, R: Wait + Abort>(
+    rt: &R,
+    made: Blank,
+    stored: Blank,
+    book: Book,
+) -> Result<Book, Refusal>
+    requires made { (made.name ≡ M.name) × (made.parts ≡ M.parts) × (made.parts ≡ 2) }
+    requires stored { (stored.name ≡ S.name) × (stored.parts ≡ S.parts) × (stored.parts ≡ 2) }
+    requires terms { terms_of book ≡ M.terms }
+    requires empty { book.entries ≡ [] }
+{
+    assert!(rt; book.mutators() == 2);
+    let (shared, mut callers) = opened::<M, S>(made, stored, book, 2)?;
+    call_by_hand(rt, &shared, &mut callers[0])?;
+    assert!(rt; callers.len() == 2);
+    Ok(shared.finish(callers))
+}
+
+fn call_by_hand<M: Frame, S: Ledger, R: Wait + Abort>(
+    rt: &R,
+    shared: &Shared<M, S>,
+    caller: &mut Caller<M, S>,
+) -> Result<(), Refusal> {
+    let mut guard = shared.lock(rt);
+    let from = slot(rt, guard.book(), 0);
+    let to = slot(rt, guard.book(), 8);
+    let of = region(rt, guard.book(), 1);
+    assert!(rt; caller.number() < guard.book().mutators());
+    let (reply, buffer) = guard.store(caller, from, Some(to))?;
+    assert_stored(rt, &reply, Fill::Full, &[]);
+    assert!(rt; buffer.is_some());
+    assert_eq!(rt; (caller.made(), caller.stored()), (1, 1));
+    assert!(rt; guard.members(caller, of)?.is_empty());
+    assert_eq!(rt; (caller.made(), caller.stored()), (2, 1));
+    assert_eq!(rt; guard.status(caller)?.pending, 1);
+    assert_eq!(rt; (caller.made(), caller.stored()), (3, 1));
+    assert_eq!(rt; guard.book().entries().len(), 3);
+    Ok(())
+}
+
+#[test]
+fn the_guard_makes_the_calls_of_the_book(rt: HostRuntime) -> Result<(), Fail> {
+    let book = book(&rt, rt.alloc(), 1, 10, 10)?;
+    let (made, stored) = (Blank::new(2), Blank::new(2));
+    let book = under_one_lock::<Brand, Brand, HostRuntime>(&rt, made, stored, book)?;
+    let wanted = [
+        (
+            0,
+            store_call(&rt, &book, 0, Some(8)),
+            Want::Stored(Kind::Logged, Fill::Full),
+            [].as_slice(),
+        ),
+        (
+            0,
+            Call::Members(region(&rt, &book, 1)),
+            Want::Cards(&[]),
+            [].as_slice(),
+        ),
+        (0, Call::Status, Want::Status(1, 0), [].as_slice()),
+    ];
+    assert_entries(&rt, &book, &wanted);
+    Ok(())
+}

@@ -1,0 +1,155 @@
+//! What a pause does to the callers that are lent.
+ghost use Rattle.std.specs.Prelude.{◌≡◌, [], All, IfOk};
+ghost use Rattle.g1_book.specs.History.{terms_of};
+ghost use Rattle.g1_book.specs.Callers.{IsCallerOf};
+
+use super::*;
+use std::test::Fail;
+
+struct NoCaller;
+
+impl Play for NoCaller {
+    fn play<M: Frame, S: Ledger, R: Wait + Abort>(
+        &self,
+        rt: &R,
+        callers: &mut [SharedCaller<'_, M, S>],
+    ) -> Result<(), Refusal> {
+        let caller = first(rt, callers);
+        for from in [0, 4, 8] {
+            let _ = caller.store(rt, from, Some(24))?;
+        }
+        pause_nobody(rt, caller.shared);
+        assert_flushed(rt, &caller.flush(rt), 1, Fill::Full, &[]);
+        assert_refined(rt, &caller.refine(rt)?, 1, &[0, 1], 0, 1);
+        assert_refined(rt, &caller.refine(rt)?, 1, &[2], 0, 0);
+        Ok(())
+    }
+}
+
+fn pause_nobody<M: Frame, S: Ledger, R: Wait>(rt: &R, shared: &Shared<M, S>) {
+    let mut nobody: [Caller<M, S>; 0] = [];
+    shared.pause(rt, &mut nobody);
+}
+
+/// Lent no caller, a pause leaves the log of each and the line.
+#[test]
+fn a_pause_without_callers_does_nothing(rt: HostRuntime) -> Result<(), Fail> {
+    let book = book(&rt, rt.alloc(), 2, 4, 10)?;
+    let mut book = played(&rt, rt.alloc(), book, 2, &NoCaller)?;
+    assert_eq!(rt; book.entries().len(), 5);
+    assert_eq!(rt; counts(&mut book)?.pending, 0);
+    Ok(())
+}
+
+/// The caller, once it has stored references to slot 24 in the first slots of three cards.
+fn stored<M: Frame, S: Ledger, R: Wait + Abort>(
+    rt: &R,
+    shared: &Shared<M, S>,
+    mut caller: Caller<M, S>,
+) -> Caller<M, S>
+    requires { IsCallerOf shared.now caller }
+    ensures { IsCallerOf shared.now result }
+{
+    for from in [0, 4, 8] {
+        let first = if caller.number() == 0 {
+            from
+        } else {
+            12 + from
+        };
+        let from = slot(rt, shared.lock(rt).book(), first);
+        let to = slot(rt, shared.lock(rt).book(), 24);
+        assert!(rt; caller.number() < shared.lock(rt).book().mutators());
+        let reply = shared.store(rt, &mut caller, from, Some(to));
+        assert!(rt; reply.is_ok());
+    }
+    caller
+}
+
+/// The callers, once each has stored.
+fn all_stored<M: Frame, S: Ledger, R: Wait + Abort>(
+    rt: &R,
+    alloc: Global,
+    shared: &Shared<M, S>,
+    callers: Vec<Caller<M, S>>,
+) -> Result<Vec<Caller<M, S>>, NoMemory>
+    requires { All (IsCallerOf shared.now) callers.items }
+    ensures { IfOk result (λ all. All (IsCallerOf shared.now) all.items) }
+{
+    let mut all = Vec::with_capacity(alloc, callers.len())?;
+    for caller in callers {
+        all.push(stored(rt, shared, caller))?;
+    }
+    Ok(all)
+}
+
+/// Two callers whose stores leave a card in each log and two buffers in the line; then a pause.
+fn paused<M: Frame, S: Ledger, R: Wait + Abort>(
+    rt: &R,
+    alloc: Global,
+    made: Blank,
+    stored: Blank,
+    book: Book,
+) -> Result<(), Refusal>
+    requires made { (made.name ≡ M.name) × (made.parts ≡ M.parts) × (made.parts ≡ 2) }
+    requires stored { (stored.name ≡ S.name) × (stored.parts ≡ S.parts) × (stored.parts ≡ 2) }
+    requires terms { terms_of book ≡ M.terms }
+    requires empty { book.entries ≡ [] }
+{
+    assert!(rt; book.mutators() == 2);
+    let (shared, callers) = opened::<M, S>(made, stored, book, 2)?;
+    let callers = all_stored(rt, alloc, &shared, callers)?;
+    let callers = stopped(rt, &shared, callers);
+    assert_eq!(rt; shared.lock(rt).book().entries().len(), 6);
+    assert_all_emptied(rt, &shared, callers)
+}
+
+/// The callers, after a pause that was lent all of them.
+fn stopped<M: Frame, S: Ledger, R: Wait>(
+    rt: &R,
+    shared: &Shared<M, S>,
+    mut callers: Vec<Caller<M, S>>,
+) -> Vec<Caller<M, S>>
+    requires { All (IsCallerOf shared.now) callers.items }
+    ensures { All (IsCallerOf shared.now) result.items }
+{
+    shared.pause(rt, callers.as_mut_slice());
+    callers
+}
+
+/// Checks that a pause has emptied each caller's log and the line.
+fn assert_all_emptied<M: Frame, S: Ledger, R: Wait + Abort>(
+    rt: &R,
+    shared: &Shared<M, S>,
+    callers: Vec<Caller<M, S>>,
+) -> Result<(), Refusal>
+    requires { All (IsCallerOf shared.now) callers.items }
+{
+    for caller in callers {
+        assert_emptied(rt, shared, caller)?;
+    }
+    Ok(())
+}
+
+/// Checks that log and line are empty, and that six cards are pending.
+fn assert_emptied<M: Frame, S: Ledger, R: Wait + Abort>(
+    rt: &R,
+    shared: &Shared<M, S>,
+    mut caller: Caller<M, S>,
+) -> Result<(), Refusal>
+    requires { IsCallerOf shared.now caller }
+{
+    assert_eq!(rt; (caller.made(), caller.stored()), (3, 3));
+    assert_refined(rt, &shared.work(rt, &mut caller)?, 0, &[], 0, 0);
+    assert!(rt; caller.number() < shared.lock(rt).book().mutators());
+    assert_flushed(rt, &shared.flush(rt, &mut caller), 0, Fill::No, &[]);
+    assert_eq!(rt; shared.status(rt, &mut caller)?.pending, 6);
+    Ok(())
+}
+
+#[test]
+fn a_pause_empties_the_logs_of_two_callers_and_the_line(rt: HostRuntime) -> Result<(), Fail> {
+    let book = book(&rt, rt.alloc(), 2, 4, 20)?;
+    let (made, stored) = (Blank::new(2), Blank::new(2));
+    paused::<Brand, Brand, HostRuntime>(&rt, rt.alloc(), made, stored, book)?;
+    Ok(())
+}

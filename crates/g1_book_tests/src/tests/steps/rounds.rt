@@ -1,0 +1,99 @@
+//! Refinements and rounds, worked by hand.
+use super::*;
+
+/// Five stores that each complete a buffer, of the cards 0 to 4, which hold into region 3.
+fn five_completed<R: Abort + Wait>(
+    rt: &R,
+    book: &mut Book,
+    ends: &mut CallerEnds<'_>,
+) -> Result<(), Refusal> {
+    for from in [0, 4, 8, 12, 16] {
+        assert_stored(rt, &store(rt, book, ends, 0, from, 24)?, Fill::Full, &[]);
+    }
+    Ok(())
+}
+
+/// With start threshold 5, a round begins at five completed buffers, and leaves one: a quarter of 5, rounded down.
+#[test]
+fn a_round_leaves_a_quarter(rt: HostRuntime) -> Result<(), Fail> {
+    let mut book = book(&rt, rt.alloc(), 1, 10, 20)?;
+    let (line, mut senders, mut takers) = Line::new(rt.alloc(), 10, 1, 1)?;
+    let mut ends = caller(&rt, &line, &mut senders, &mut takers, 1);
+    five_completed(&rt, &mut book, &mut ends)?;
+    assert_refined(&rt, &ends.work(&rt, &mut book, 0)?, 4, &[0, 1, 2, 3], 0, 1);
+    assert_members(&rt, &mut book, 3, &[0, 1, 2, 3])?;
+    let entries = book.entries();
+    assert_eq!(rt; entries.len(), 10);
+    for (entry, card) in entries.iter().skip(5).zip(&[0, 1, 2, 3]) {
+        assert_eq!(rt; (entry.caller, entry.call), (0, Call::Refine));
+        assert!(rt; has_cards(&entry.refined, &[*card]));
+    }
+    Ok(())
+}
+
+#[test]
+fn no_round_begins_below_the_threshold(rt: HostRuntime) -> Result<(), Fail> {
+    let mut book = book(&rt, rt.alloc(), 1, 10, 20)?;
+    let (line, mut senders, mut takers) = Line::new(rt.alloc(), 10, 1, 1)?;
+    let mut ends = caller(&rt, &line, &mut senders, &mut takers, 1);
+    for from in [0, 4, 8, 12] {
+        let _ = store(&rt, &mut book, &mut ends, 0, from, 24)?;
+    }
+    assert_refined(&rt, &ends.work(&rt, &mut book, 0)?, 0, &[], 0, 4);
+    assert_eq!(rt; book.entries().len(), 4);
+    assert_eq!(rt; line.len(&rt), 4);
+    Ok(())
+}
+
+/// A card that a drain refined and a store logged again stands in two buffers: the younger one's turn skips it.
+#[test]
+fn a_stale_card_is_skipped(rt: HostRuntime) -> Result<(), Fail> {
+    let mut book = book(&rt, rt.alloc(), 1, 10, 20)?;
+    let (line, mut senders, mut takers) = Line::new(rt.alloc(), 10, 1, 1)?;
+    let mut ends = caller(&rt, &line, &mut senders, &mut takers, 1);
+    let _ = store(&rt, &mut book, &mut ends, 0, 0, 8)?;
+    assert_set(&rt, &mut book, 1, &[0])?;
+    assert_stored(
+        &rt,
+        &store(&rt, &mut book, &mut ends, 0, 0, 8)?,
+        Fill::Full,
+        &[],
+    );
+    assert_refined(&rt, &ends.refine(&rt, &mut book, 0)?, 1, &[0], 0, 1);
+    assert_refined(&rt, &ends.refine(&rt, &mut book, 0)?, 1, &[], 1, 0);
+    assert_refined(&rt, &ends.refine(&rt, &mut book, 0)?, 0, &[], 0, 0);
+    assert_eq!(rt; book.entries().len(), 6);
+    Ok(())
+}
+
+/// Seven entries have room for two calls of the round. The third is refused, and its buffer given up: the reply is short,
+/// and what is left is what the second call saw.
+#[test]
+fn a_round_is_short_where_the_history_is_full(rt: HostRuntime) -> Result<(), Fail> {
+    let mut book = book(&rt, rt.alloc(), 1, 10, 7)?;
+    let (line, mut senders, mut takers) = Line::new(rt.alloc(), 10, 1, 1)?;
+    let mut ends = caller(&rt, &line, &mut senders, &mut takers, 1);
+    five_completed(&rt, &mut book, &mut ends)?;
+    let reply = ends.work(&rt, &mut book, 0)?;
+    assert_eq!(rt; (reply.taken, reply.left), (2, 3));
+    assert!(rt; has_cards(&reply.refined, &[0, 1]) && reply.short);
+    assert_eq!(rt; line.len(&rt), 2);
+    assert_eq!(rt; book.entries().len(), 7);
+    Ok(())
+}
+
+/// Where the first call of a round is refused, that is the answer.
+#[test]
+fn a_full_history_refuses_a_round(rt: HostRuntime) -> Result<(), Fail> {
+    let mut book = book(&rt, rt.alloc(), 1, 10, 5)?;
+    let (line, mut senders, mut takers) = Line::new(rt.alloc(), 10, 1, 1)?;
+    let mut ends = caller(&rt, &line, &mut senders, &mut takers, 1);
+    five_completed(&rt, &mut book, &mut ends)?;
+    let full = Some(Refusal::BookFull);
+    assert_eq!(rt; ends.work(&rt, &mut book, 0).err(), full);
+    assert_eq!(rt; line.len(&rt), 4);
+    assert_eq!(rt; ends.refine(&rt, &mut book, 0).err(), full);
+    assert_eq!(rt; line.len(&rt), 3);
+    assert_stores(&rt, &book, 5);
+    Ok(())
+}
