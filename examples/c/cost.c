@@ -1,5 +1,6 @@
 // Stores of one kind, to be counted: `cost null|same-region|dirty|logged|queued STORES`, on the heap 256 64 8. See the script measure
-// beside. `queued` are logged stores whose cards go into an array that is handed over once it is full.
+// beside. `queued` are logged stores whose cards go into an array that is handed over once it is full. `cost drain CARDS` is one drain
+// with so many cards pending, each with one reference that is recorded already.
 #include "g1.h"
 
 #include <stdint.h>
@@ -37,6 +38,28 @@ __attribute__((noinline)) static size_t run_queued(struct g1 *heap, size_t store
     return sum;
 }
 
+static uint32_t cards[ALL_CARDS], refined[ALL_CARDS];
+
+// Returns how many cards the drain refined.
+__attribute__((noinline)) static size_t run_drain(struct g1 *heap) {
+    uint32_t count, refined_count;
+    uint32_t code = g1_drain(heap, 0, cards, ALL_CARDS, &count, refined, ALL_CARDS, &refined_count);
+    return code == G1_DONE ? refined_count : 0;
+}
+
+// Makes cards pending whose references are recorded.
+static size_t drain(struct g1 *heap, size_t pending) {
+    for (uint32_t i = 0; i < ALL_CARDS; i++) {
+        g1_store(heap, i * SLOTS, (i * SLOTS + ALL_SLOTS / 2) % ALL_SLOTS);
+    }
+    uint32_t count, refined_count;
+    g1_drain(heap, 0, cards, ALL_CARDS, &count, refined, ALL_CARDS, &refined_count);
+    for (uint32_t i = 0; i < pending; i++) {
+        g1_store(heap, i * SLOTS, (i * SLOTS + ALL_SLOTS / 2) % ALL_SLOTS);
+    }
+    return run_drain(heap);
+}
+
 static void set_up(struct g1 *heap, uint32_t kind) {
     for (uint32_t i = 0; i < ALL_CARDS; i++) {
         slots[i] = i * SLOTS;
@@ -52,7 +75,8 @@ static void set_up(struct g1 *heap, uint32_t kind) {
 }
 
 int main(int number, char **words) {
-    static const char *const names[] = {"null", "same-region", "dirty", "logged", "queued"};
+    static const char *const names[] = {"null", "same-region", "dirty", "logged", "queued", "drain"};
+    enum { QUEUED = 4, DRAIN = 5, KINDS = 6 };
     struct g1_counts counts = {REGIONS, CARDS, SLOTS};
     struct g1 heap = {0};
     uint32_t at = 0;
@@ -60,15 +84,20 @@ int main(int number, char **words) {
         return 1;
     }
     size_t stores = (size_t)atol(words[2]);
-    while (at < 5 && strcmp(words[1], names[at]) != 0) {
+    while (at < KINDS && strcmp(words[1], names[at]) != 0) {
         at++;
     }
-    if (at == 5 || stores > ALL_CARDS || g1_open(&heap, &counts, 4, 1024) != G1_DONE) {
+    if (at == KINDS || stores > ALL_CARDS || g1_open(&heap, &counts, 4, 1024) != G1_DONE) {
         return 1;
     }
-    uint32_t kind = at < 4 ? at : G1_STORED_LOGGED;
+    if (at == DRAIN) {
+        size_t drained = drain(&heap, stores);
+        g1_close(&heap);
+        return drained != stores;
+    }
+    uint32_t kind = at < QUEUED ? at : G1_STORED_LOGGED;
     set_up(&heap, kind);
-    size_t sum = at < 4 ? run(&heap, stores) : run_queued(&heap, stores);
+    size_t sum = at < QUEUED ? run(&heap, stores) : run_queued(&heap, stores);
     g1_close(&heap);
     return sum != kind * stores || handed_over[0] >= ALL_CARDS;
 }
