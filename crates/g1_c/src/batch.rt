@@ -48,6 +48,9 @@ pub struct Stored {
 
 /// Makes stores in order, at most 256, up to the first that names a slot or a place that the heap does not have. The cards of those that
 /// were logged stand first in `cards`, which has room for as many as stores are given. Takes no memory.
+///
+/// The word is 0 where all were made, and 3 where they stopped early: `batch` counts those that were made. At a closed handle, with more
+/// than 256 stores or with too small an array it is that refusal's ([`Refusal`]), and nothing has changed.
 #[unsafe(no_mangle)]
 pub extern "C" fn g1_store_all(
     alloc: Global,

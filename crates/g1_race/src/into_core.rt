@@ -11,7 +11,7 @@ use std::alloc::Global;
 impl Closed {
     /// A core of this table: each slot refers to what it referred to when the race ended, the cards that were dirty then are
     /// pending, and the pairs that the sweepers recorded, or that were recorded before the race, are recorded. Nothing is counted,
-    /// nothing was read and the hot ring is empty.
+    /// nothing was read and the hot ring is empty (docs/PROFILE.md, Racing stores).
     ///
     /// Takes the memory of a core ([`Core::adopt`]), and for the time of the call 8 bytes for each slot, one for each card and
     /// those of the pairs. `NoMemory` where a growth was refused: the race comes back as it was, and the call can be made again.

@@ -16,7 +16,7 @@ use std::alloc::Global;
 
 impl Race {
     /// Opens a race that begins with a core's whole table, with 1 to 8 racers and 1 to 4 sweepers: each slot refers to what it
-    /// refers to in the core, the pending cards are dirty, and the recorded pairs are recorded.
+    /// refers to in the core, the pending cards are dirty, and the recorded pairs are recorded (docs/PROFILE.md, Racing stores).
     ///
     /// No racer has stored and no sweeper has refined. A card that is dirty from the beginning stands in no racer's log: a sweep
     /// of that card, or a drain after the race, refines it. The settings and the refinement counts go with the core.
