@@ -6,10 +6,6 @@ use Rattle.g1_core.specs.Machine.{Machine}
 use Rattle.g1_core.specs.Table.{Table, opening, IsCovered}
 use Rattle.g1_core.specs.declared.entry.Entry.{Entry}
 use Rattle.g1_core.specs.Run.{IsStep, IsAllowed, IsPermitted, table_of, drained}
-use Rattle.g1_core.specs.declared.reply.Redirected.{Redirected}
-use Rattle.g1_core.specs.declared.reply.Redirected.TheVariants as redirected
-use Rattle.g1_core.specs.Redirect.{IsRedirectOf}
-use Rattle.g1_core.specs.Pause.{IsDrainOf}
 use Rattle.g1_core.specs.Calls.{drain_entry}
 use Rattle.g1_core.specs.declared.reply.Drained.{Drained}
 use Rattle.g1_core.specs.declared.reply.Drained.TheVariants.{Cards, Short}
@@ -37,14 +33,19 @@ history_entered m n mutators limit entries now e h room is step =
 
 -- and the call was entered
 pub call_entered : (old : History) (m n : Machine) (mutators limit : ℕ) (entries now : List Entry) (e : Entry) → record { machine = m; mutators = mutators; entries = entries; limit = limit } ≡ old
-    → now ≡ entries ++ e ∷ [] → n.settings ≡ m.settings → IsStep m.state.table e n.state.table → IsEntered old e (record { machine = n; mutators = mutators; entries = now; limit = limit })
-call_entered old m n mutators limit entries now e was is settings step =
+    → now ≡ entries ++ e ∷ [] → n.settings ≡ m.settings → m.reads ≤ n.reads → IsStep m.state.table e n.state.table → IsEntered old e (record { machine = n; mutators = mutators; entries = now; limit = limit })
+call_entered old m n mutators limit entries now e was is settings reads step =
     let layout = ap (λ (t : Table). t.layout) step.after ∙ run_layout m.state.table (e ∷ []) in
     subst (λ h. IsEntered h e (record { machine = n; mutators = mutators; entries = now; limit = limit })) was (record {
       entries = is;
       step = step;
       terms = λ i. record { layout = layout i; settings = settings i; mutators = mutators; limit = limit };
+      reads = reads;
     })
+
+-- the reads of a question that reads no slot
+pub not_fewer : (reads : ℕ) → reads ≤ reads
+not_fewer reads = omega arith
 
 -- cover holds after every history
 pub history_covered : (h : History) → IsHistory h → IsCovered (table_in h)
@@ -55,11 +56,3 @@ pub drain_is_exact : (h : History) (caller region : ℕ) (answer : Drained) → 
 drain_is_exact h caller region (Cards cards done) is allowed =
     drain_exact (layout_in h) (has_slots (layout_in h) is.shape) h.entries is.run caller region cards done (subst (λ t. IsAllowed t (drained caller region cards done)) is.last allowed)
 drain_is_exact h caller region (Short done) is allowed = tt
-
-pub drain_settings : (old : Machine) (region : ℕ) (answer : Drained) (new : Machine) → IsDrainOf old region answer new → new.settings ≡ old.settings
-drain_settings old region (Cards cards done) new h = h.0.settings
-drain_settings old region (Short done) new h = h.drains.settings
-
-pub redirect_settings : (old : Machine) (from to : ℕ) (answer : Redirected) (new : Machine) → IsRedirectOf old from to answer new → new.settings ≡ old.settings
-redirect_settings old from to (redirected.Moved slots done) new h = h.settings
-redirect_settings old from to (redirected.Short done) new h = h.settings

@@ -19,9 +19,10 @@ use Rattle.g1_core.specs.declared.reply.ClearReply.TheVariants as clear_reply
 use Rattle.g1_core.specs.Run.{written, settled, table_after, table_of, HeldSince, IsExact}
 use Rattle.g1_core.specs.Machine.{State}
 use Rattle.g1_core.specs.Refinement.{IsRefined}
+use Rattle.g1_core.specs.Calls.{drain_cards}
 use Rattle.g1_core.specs.declared.reply.Drained.{Drained}
 use Rattle.g1_core.specs.declared.reply.Drained.TheVariants.{Cards, Short}
-use Rattle.g1_book.specs.History.{History, AnswersExactly, layout_in, cards_in, drain_cards}
+use Rattle.g1_book.specs.History.{History, AnswersExactly, layout_in, cards_in}
 use Rattle.g1_core.proofs.SetLemmas.{All_by_member}
 use Rattle.g1_core.proofs.TableLemmas.{is_slot}
 use Rattle.g1_core.proofs.RunLemmas.{run_layout}

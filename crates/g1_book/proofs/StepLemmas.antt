@@ -11,7 +11,7 @@ use Rattle.g1_core.specs.declared.reply.StoreReply.{StoreReply}
 use Rattle.g1_core.specs.Machine.{State}
 use Rattle.g1_core.specs.declared.entry.Entry.{Entry}
 use Rattle.g1_core.specs.Calls.{store_entry, refine_entry}
-use Rattle.g1_book.specs.History.{History, IsEntered, IsUnchanged}
+use Rattle.g1_book.specs.History.{History, IsEntered}
 use Rattle.g1_book.specs.declared.refusal.Refusal.{Refusal}
 use Rattle.g1_book.specs.Made.{Made, Stored, Refined, Refused, AreCalls, entries_of}
 use Rattle.g1_book.specs.Lent.{Grows, IsBookCall}
@@ -42,8 +42,8 @@ grows_none h = record { entries = sym (append-nil h.entries); terms = refl }
 pub grows_entered : (old : History) (e : Entry) (new : History) → IsEntered old e new → Grows old (e ∷ []) new
 grows_entered old e new h = record { entries = h.entries; terms = h.terms }
 
-pub grows_unchanged : (old new : History) → IsUnchanged old new → Grows old [] new
-grows_unchanged old new h = record { entries = h.entries ∙ sym (append-nil old.entries); terms = h.terms }
+grows_unchanged : (old new : History) → new ≡ old → Grows old [] new
+grows_unchanged old new same = subst (λ b. Grows old [] b) (sym same) (grows_none old)
 
 pub grows_then : (a b c : History) (es fs : List Entry) → Grows a es b → Grows b fs c → Grows a (es ++ fs) c
 grows_then a b c es fs g h = record { entries = h.entries ∙ ap (λ xs. xs ++ fs) g.entries ∙ append_assoc a.entries es fs; terms = h.terms ∙ g.terms }
@@ -60,7 +60,7 @@ entries_more caller (Refined buffer reply) ms = refl
 entries_more caller (Refused refusal) ms = refl
 
 pub calls_grow : (caller : ℕ) (old new : History) (ms : List Made) → AreCalls (IsBookCall caller) old ms new → Grows old (entries_of caller ms) new
-calls_grow caller old new [] h = subst (λ b. Grows old [] b) (sym h) (grows_none old)
+calls_grow caller old new [] h = grows_unchanged old new h
 calls_grow caller old new (m ∷ []) h = call_grows caller old new m h
 calls_grow caller old new (m ∷ n ∷ ms) h = subst (λ es. Grows old es new) (entries_more caller m (n ∷ ms)) (grows_then old h.0 new (entries_of caller (m ∷ [])) (entries_of caller (n ∷ ms)) (call_grows caller old h.0 m h.1) (calls_grow caller h.0 new (n ∷ ms) h.2))
 

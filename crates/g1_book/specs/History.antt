@@ -52,17 +52,12 @@ pub record IsHistory (h : History) : Type 0 where
 abbrev pub opened : Shape → Settings → ℕ → ℕ → History
 opened layout settings mutators limit = record { machine = new_machine layout settings; mutators = mutators; entries = []; limit = limit }
 
--- The call was made and entered, once: the entry is a step of the plain table.
+-- The call was made and entered, once: the entry is a step of the plain table, and the count of reads has not fallen.
 pub record IsEntered (old : History) (e : Entry) (new : History) : Type 0 where
   pub entries : new.entries ≡ old.entries ++ e ∷ []
   pub step : IsStep (table_in old) e (table_in new)
   pub terms : terms_of new ≡ terms_of old
-
--- The call was refused: nothing has changed but the count of reads.
-pub record IsUnchanged (old new : History) : Type 0 where
-  pub entries : new.entries ≡ old.entries
-  pub state : new.machine.state ≡ old.machine.state
-  pub terms : terms_of new ≡ terms_of old
+  pub reads : old.machine.reads ≤ new.machine.reads
 
 -- A drain of the region that is not short answers exactly the cards that references and history say.
 abbrev pub AnswersExactly : History → ℕ → Drained → Type 0
@@ -73,8 +68,3 @@ AnswersExactly h region (Short refined) = Unit {0}
 abbrev pub cards_in : Option (List ℕ) → ℕ
 cards_in None = 0
 cards_in (Some cards) = length cards
-
--- the cards that a drain answers, none where it is short
-abbrev pub drain_cards : Drained → List ℕ
-drain_cards (Cards cards refined) = cards
-drain_cards (Short refined) = []

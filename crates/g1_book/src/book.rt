@@ -9,8 +9,8 @@ use std::marker::Model;
 /// A core and the history of its calls (docs/PROFILE.md, The history).
 ///
 /// Its entries are a permitted run of the plain table, which ends in the core's table. Each call appends one entry with
-/// its caller and just the reply that it gives, or is refused and changes nothing but the count of reads. `BookFull`
-/// comes exactly where the history has as many entries as it may have, and before `NoMemory`: then no memory is asked.
+/// its caller and just the reply that it gives, or is refused and changes nothing. `BookFull` comes exactly where
+/// the history has as many entries as it may have, and before `NoMemory`: then no memory is asked.
 /// Otherwise room for the entry, and for its copies of the lists of the reply, is made before the core is called.
 /// Growing the history is amortised over its entries.
 #[derive(Drop)]
@@ -36,6 +36,7 @@ impl Model for Book {
 }
 
 impl Book {
+    ghost use Rattle.g1_core.specs.Machine.{IsSound};
     ghost use Rattle.g1_core.specs.Table.{IsCovered};
     ghost use Rattle.g1_book.specs.History.{IsHistory, opened, table_in, layout_in};
 
@@ -95,12 +96,15 @@ impl Book {
     }
 
     /// The calls so far, oldest first: a permitted run of the plain table, from the opening table to the core's. Where a
-    /// slot refers into another region, its card is pending or recorded for that region. Constant time.
+    /// slot refers into another region, its card is pending or recorded for that region. What references, pending cards
+    /// and recorded pairs name lies in the heap, and the hot ring holds distinct cards, each of them pending. Constant time.
     pub fn entries(&self) -> &[Entry]
         ensures entries { result.now ≡ self.now.entries }
         ensures history { IsHistory self.now }
         ensures cover { IsCovered (table_in self.now) }
+        ensures sound { IsSound self.now.machine.state }
     {
+        let _layout = self.core.layout();
         self.entries.as_slice()
     }
 }

@@ -5,13 +5,14 @@ ghost use Rattle.g1_layout.specs.Shape.{slot_count, card_count, card_of};
 ghost use Rattle.g1_core.specs.Barrier.{logged, buffer_of, fill_of};
 ghost use Rattle.g1_core.specs.Calls.{store_entry, refine_entry, target_entry, pending_entry, members_entry, status_entry, drain_entry, clear_entry, redirect_entry};
 ghost use Rattle.g1_core.specs.Clearing.{member_count};
+ghost use Rattle.g1_core.specs.Machine.{IsOnlyRead};
 ghost use Rattle.g1_core.specs.Pause.{IsDrainOf};
 ghost use Rattle.g1_core.specs.Redirect.{IsRedirectOf};
-ghost use Rattle.g1_core.specs.Refinement.{IsRefined};
+ghost use Rattle.g1_core.specs.Refinement.{IsRefined, AreCardsRead};
 ghost use Rattle.g1_core.specs.Table.{target_of, AreMembers};
 ghost use Rattle.g1_book.specs.Counts.{one_call, one_store, is_store};
 ghost use Rattle.g1_book.specs.Callers.{called_once, HandsOut};
-ghost use Rattle.g1_book.specs.History.{IsEntered, IsUnchanged, AnswersExactly, table_in, terms_of};
+ghost use Rattle.g1_book.specs.History.{IsEntered, AnswersExactly, table_in, terms_of};
 
 use crate::book::Book;
 use crate::caller::{Caller, Counts};
@@ -106,10 +107,11 @@ impl<M: Frame, S: Ledger> Counted<M, S> {
     ) -> Result<RefineReply, Refusal>
         ensures entered { IfOk result (λ reply. IsEntered self.old (refine_entry counts.old.number reply) self.new) }
         ensures refined { IfOk result (λ reply. IsRefined self.old.machine.state (option_map (λ b. b.now) buffer.entry) reply self.new.machine.state) }
+        ensures reads { IfOk result (λ reply. AreCardsRead self.old.machine reply self.new.machine) }
         ensures numbers { IfOk result (λ reply. (reply.taken ≤ 1) × (length reply.refined + reply.skipped ≤ 256) × (reply.hot ≤ 256)) }
         ensures counts { OnOk result (counts.new ≡ one_call counts.old) }
         ensures full { (result ≡ Err Refusal.BookFull) ↔ (length self.old.entries ≡ self.old.limit) }
-        ensures err { OnErr result (IsUnchanged self.old self.new × (counts.new ≡ counts.old)) }
+        ensures err { OnErr result ((self.new ≡ self.old) × (counts.new ≡ counts.old)) }
     {
         let reply = self.book.refine(counts.number(), buffer)?;
         let _entries = self.book.entries();
@@ -170,9 +172,10 @@ impl<M: Frame, S: Ledger> Counted<M, S> {
     ) -> Result<RefineReply, Refusal>
         ensures entered { IfOk result (λ reply. IsEntered self.old (refine_entry caller.old.counts.number reply) self.new) }
         ensures refined { IfOk result (λ reply. IsRefined self.old.machine.state (option_map (λ b. b.now) buffer.entry) reply self.new.machine.state) }
+        ensures reads { IfOk result (λ reply. AreCardsRead self.old.machine reply self.new.machine) }
         ensures made { OnOk result (caller.new ≡ called_once caller.old) }
         ensures full { (result ≡ Err Refusal.BookFull) ↔ (length self.old.entries ≡ self.old.limit) }
-        ensures err { OnErr result (IsUnchanged self.old self.new × (caller.new ≡ caller.old)) }
+        ensures err { OnErr result ((self.new ≡ self.old) × (caller.new ≡ caller.old)) }
     {
         self.refine_by(&mut caller.counts, buffer)
     }
@@ -264,7 +267,7 @@ impl<M: Frame, S: Ledger> Counted<M, S> {
     ) -> Result<ClearReply, Refusal>
         requires { region < M.terms.layout.regions }
         ensures entered { IfOk result (λ answer. IsEntered self.old (clear_entry caller.old.counts.number region answer) self.new) }
-        ensures refused { IfOk result (λ answer. answer ≢ ClearReply.Cleared → self.new.machine.state ≡ self.old.machine.state) }
+        ensures refused { IfOk result (λ answer. answer ≢ ClearReply.Cleared → IsOnlyRead self.old.machine self.new.machine) }
         ensures reads { self.new.machine.reads ≤ self.old.machine.reads + member_count (table_in self.old) region * M.terms.layout.slots }
         ensures made { OnOk result (caller.new ≡ called_once caller.old) }
         ensures full { (result ≡ Err Refusal.BookFull) ↔ (length self.old.entries ≡ self.old.limit) }

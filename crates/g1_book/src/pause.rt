@@ -1,8 +1,7 @@
 //! Drains and clears, entered.
 ghost use Rattle.std.specs.Prelude.{◌≡◌, ◌≢◌, ◌≤◌, ◌<◌, ◌+◌, ◌*◌, ◌↔◌, length, IfOk, OnErr, vec_len, vec_capacity};
 ghost use Rattle.std.specs.FinSet as set;
-ghost use Rattle.g1_core.specs.Calls.{drain_reply, drain_refined};
-ghost use Rattle.g1_book.specs.History.{drain_cards};
+ghost use Rattle.g1_core.specs.Calls.{drain_cards, drain_reply, drain_refined};
 
 use crate::book::Book;
 use crate::refusal::Refusal;
@@ -13,6 +12,7 @@ use g1_layout::{Card, Region};
 impl Book {
     ghost use Rattle.g1_core.specs.Calls.{drain_entry, clear_entry};
     ghost use Rattle.g1_core.specs.Clearing.{member_count};
+    ghost use Rattle.g1_core.specs.Machine.{IsOnlyRead};
     ghost use Rattle.g1_core.specs.Pause.{IsDrainOf};
     ghost use Rattle.g1_book.specs.History.{IsEntered, AnswersExactly, table_in, layout_in};
 
@@ -62,7 +62,7 @@ impl Book {
         ensures ring { self.new.machine.state.ring ≡ self.old.machine.state.ring }
         ensures unread { 1 ≤ set.len (table_in self.old).pending → self.new.machine.reads ≡ self.old.machine.reads }
         ensures reads { self.new.machine.reads ≤ self.old.machine.reads + member_count (table_in self.old) region * (layout_in self.old).slots }
-        ensures refused { IfOk result (λ answer. answer ≢ ClearReply.Cleared → self.new.machine.state ≡ self.old.machine.state) }
+        ensures refused { IfOk result (λ answer. answer ≢ ClearReply.Cleared → IsOnlyRead self.old.machine self.new.machine) }
         ensures full { (result ≡ Err Refusal.BookFull) ↔ (length self.old.entries ≡ self.old.limit) }
         ensures err { OnErr result (self.new ≡ self.old) }
     {

@@ -10,21 +10,22 @@ use g1_log::Buffer;
 
 impl Book {
     ghost use Rattle.g1_core.specs.Calls.{refine_entry};
-    ghost use Rattle.g1_core.specs.Refinement.{IsRefined};
-    ghost use Rattle.g1_book.specs.History.{IsEntered, IsUnchanged};
+    ghost use Rattle.g1_core.specs.Refinement.{IsRefined, AreCardsRead};
+    ghost use Rattle.g1_book.specs.History.{IsEntered};
 
     /// Refines a lent buffer, as the core does, and enters it: its cards take their turns, oldest first. `None` refines
     /// nothing, and is entered too (docs/PROFILE.md, Refinement).
     ///
     /// A short reply is entered. `BookFull` exactly where the history is full; `NoMemory` where room for the entry, for
-    /// its list or for the reply's was refused. Either changes nothing but the count of reads. The entry's list takes 4
-    /// bytes for each refined card.
+    /// its list or for the reply's was refused. Either changes nothing. The entry's list takes 4 bytes for each refined
+    /// card.
     pub fn refine(&mut self, caller: u32, buffer: Option<&Buffer>) -> Result<RefineReply, Refusal>
         ensures entered { IfOk result (λ reply. IsEntered self.old (refine_entry caller reply) self.new) }
         ensures refined { IfOk result (λ reply. IsRefined self.old.machine.state (option_map (λ b. b.now) buffer.entry) reply self.new.machine.state) }
+        ensures reads { IfOk result (λ reply. AreCardsRead self.old.machine reply self.new.machine) }
         ensures counts { IfOk result (λ reply. (reply.taken ≤ 1) × (length reply.refined + reply.skipped ≤ 256) × (reply.hot ≤ 256)) }
         ensures full { (result ≡ Err Refusal.BookFull) ↔ (length self.old.entries ≡ self.old.limit) }
-        ensures err { OnErr result (IsUnchanged self.old self.new) }
+        ensures err { OnErr result (self.new ≡ self.old) }
     {
         make_room(&mut self.entries, self.limit)?;
         let room = Vec::with_capacity(self.alloc, cards_in(buffer))?;

@@ -4,7 +4,7 @@ use g1_layout::NoMemory;
 use std::alloc::AllocError;
 use thiserror::Error;
 
-/// Why a call was not made. Nothing has changed but, where memory was refused, the count of reads.
+/// Why a call was not made. Nothing has changed.
 #[derive(Clone, Copy, Debug, PartialEq, Eq, Error)]
 pub enum Refusal {
     /// A growth was refused.

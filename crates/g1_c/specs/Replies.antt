@@ -2,10 +2,10 @@
 use Rattle.std.specs.Prelude.{◌≡◌, ◌≤◌, ◌+◌, ◌*◌, ℕ, Option, Some, None, List, length, ◌==◌, not, if◌then◌else◌, ⊤}
 use Rattle.std.specs.FinSet as set
 use Rattle.g1_core.specs.Table.{IsCovered}
-use Rattle.g1_core.specs.Machine.{Machine, IsLater}
+use Rattle.g1_core.specs.Machine.{Machine, IsLater, IsOnlyRead}
 use Rattle.g1_core.specs.Run.{IsStep}
 use Rattle.g1_core.specs.Pause.{IsDrainOf}
-use Rattle.g1_core.specs.Refinement.{IsTurned}
+use Rattle.g1_core.specs.Refinement.{IsTurned, AreCardsRead}
 use Rattle.g1_core.specs.Calls.{clear_entry, drain_entry, redirect_entry, refine_entry}
 use Rattle.g1_core.specs.Clearing.{member_count}
 use Rattle.g1_core.specs.Redirect.{IsRedirectOf}
@@ -20,6 +20,7 @@ use Rattle.g1_c.specs.declared.pause.Drain.TheVariants.{Whole, Short, Long}
 -- A refinement of these cards got the reply.
 pub record RefinesTo (old : Machine) (cards : List ℕ) (reply : RefineReply) (new : Machine) : Type 0 where
   pub turned : IsTurned old.state cards reply new.state
+  pub reads : AreCardsRead old reply new
   pub step : (caller : ℕ) → IsStep old.state.table (refine_entry caller reply) new.state.table
   pub later : IsLater old new
 
@@ -63,4 +64,4 @@ abbrev pub IsLeft : Option Machine → Option Machine → Type 0
 IsLeft None None = ⊤
 IsLeft None (Some new) = ⊥
 IsLeft (Some old) None = ⊥
-IsLeft (Some old) (Some new) = (new.state ≡ old.state) × (new.settings ≡ old.settings)
+IsLeft (Some old) (Some new) = IsOnlyRead old new

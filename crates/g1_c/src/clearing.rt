@@ -1,5 +1,6 @@
 //! The clear.
 ghost use Rattle.std.specs.Prelude.{◌≡◌, ◌≢◌, ◌<◌, IfOk, OnErr};
+ghost use Rattle.g1_core.specs.Machine.{IsOnlyRead};
 ghost use Rattle.g1_c.specs.Codes.{Between, cleared_of, IsClearWord};
 ghost use Rattle.g1_c.specs.Replies.{ClearsTo, IsLeft};
 
@@ -49,7 +50,7 @@ fn clear_in(handle: Handle, words: (Global, u32)) -> (Handle, Result<(u32, u32),
 fn clear_one(core: &mut Core, region: u32) -> Result<(u32, u32), Refusal>
     ensures cleared { IfOk result (λ answer. ClearsTo core.old region (cleared_of answer.0 answer.1) core.new) }
     ensures words { IfOk result (λ answer. IsClearWord answer.0 answer.1) }
-    ensures left { IfOk result (λ answer. 0 < answer.0 → (core.new.state ≡ core.old.state) × (core.new.settings ≡ core.old.settings)) }
+    ensures left { IfOk result (λ answer. 0 < answer.0 → IsOnlyRead core.old core.new) }
     ensures refused { OnErr result (core.new ≡ core.old) }
 {
     let layout = core.layout();

@@ -1,7 +1,7 @@
 //! Refinement.
 ghost use Rattle.std.specs.Prelude.{◌≡◌, ◌<◌, ◌≤◌, length, take, false, true, if◌then◌else◌, IfOk, OnErr};
 ghost use Rattle.g1_c.specs.Codes.{Between};
-ghost use Rattle.g1_c.specs.Replies.{RefinesTo, reply_of, IsLeft};
+ghost use Rattle.g1_c.specs.Replies.{RefinesTo, reply_of};
 
 use crate::code::{DONE, Refusal, SHORT};
 use crate::handle::Handle;
@@ -37,7 +37,7 @@ pub extern "C" fn g1_refine(
     tally: &mut Tally,
 ) -> u32
     ensures refined { result ≤ 3 → Between handle.old.value handle.new.value (λ old new. RefinesTo old cards.now (reply_of result (take tally.new.refined refined.new) tally.new.hot tally.new.skipped) new) }
-    ensures refused { 3 < result → IsLeft handle.old.value handle.new.value }
+    ensures refused { 3 < result → handle.new.value ≡ handle.old.value }
     ensures none { 3 < result → (tally.new.refined ≡ 0) × (tally.new.hot ≡ 0) × (tally.new.skipped ≡ 0) }
 {
     *tally = Tally {
@@ -76,7 +76,7 @@ fn refine_in(handle: Handle, words: (Global, &[u32])) -> (Handle, Result<RefineR
     ensures refined { IfOk result.1 (λ reply. Between handle.value result.0.value (λ old new. RefinesTo old words.entry.1.now reply new)) }
     ensures taken { IfOk result.1 (λ reply. (reply.taken ≡ (if reply.short then 0 else 1)) × (reply.left ≡ 0)) }
     ensures few { IfOk result.1 (λ reply. (length reply.refined ≤ length words.entry.1.now) × (length reply.refined ≤ 256)) }
-    ensures refused { OnErr result.1 (IsLeft handle.value result.0.value) }
+    ensures refused { OnErr result.1 (result.0.value ≡ handle.value) }
 {
     let Some(core) = handle.into_raw_box() else {
         return (Handle::closed(words.0), Err(Refusal::NotOpen));
@@ -90,7 +90,7 @@ fn refine_one(core: &mut Core, cards: &[u32]) -> Result<RefineReply, Refusal>
     ensures refined { IfOk result (λ reply. RefinesTo core.old cards.now reply core.new) }
     ensures taken { IfOk result (λ reply. (reply.taken ≡ (if reply.short then 0 else 1)) × (reply.left ≡ 0)) }
     ensures few { IfOk result (λ reply. (length reply.refined ≤ length cards.now) × (length reply.refined ≤ 256)) }
-    ensures refused { OnErr result ((core.new.state ≡ core.old.state) × (core.new.settings ≡ core.old.settings)) }
+    ensures refused { OnErr result (core.new ≡ core.old) }
 {
     let buffer = buffer_of(core.layout(), cards)?;
     match core.refine(Some(&buffer)) {

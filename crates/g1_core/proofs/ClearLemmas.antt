@@ -80,6 +80,7 @@ pub record IsClearedTo (m : Machine) (region : ℕ) (answer : ClearReply) (heap 
   pub core : IsCore heap sets ring pending
   pub step : (caller : ℕ) → IsStep m.state.table (clear_entry caller region answer) (table_from heap sets.pairs)
   pub unread : 1 ≤ set.len m.state.table.pending → heap.reads ≡ m.reads
+  pub grown : m.reads ≤ heap.reads
   pub reads : heap.reads ≤ m.reads + member_count m.state.table region * m.state.table.layout.slots
 
 module _ (heap : Cells) (sets : Pairs) (ring : Ring) (pending : ℕ) (settings : Settings) (core : IsCore heap sets ring pending) (region : ℕ) (within : region < heap.layout.regions) where
@@ -95,6 +96,7 @@ module _ (heap : Cells) (sets : Pairs) (ring : Ring) (pending : ℕ) (settings :
     core = core;
     step = λ caller. clear_step caller t t region (clear_reply.Pending pending) within (λ after. (refl, core.parts.known, omega arith)) refl;
     unread = λ _. refl;
+    grown = omega arith;
     reads = omega arith;
   }
 
@@ -137,6 +139,7 @@ module _ (heap : Cells) (sets : Pairs) (ring : Ring) (pending : ℕ) (settings :
       core = record { layouts = core.layouts ∙ sym layout_is; parts = with_cells sets.pairs (subst IsCovered (sym same_table) core.parts.cover) (subst AreOutside (sym same_table) core.parts.outside) };
       step = λ caller. clear_step caller t (table_from now sets.pairs) region (clear_reply.StillReferenced slot) within (λ after. (refl, empty, first_enters t region (list_at sets.lists region) empty core.parts.cover recorded slot least)) same_table;
       unread = contradicted;
+      grown = read.grown;
       reads = few_reads;
     }
 
@@ -158,6 +161,7 @@ module _ (heap : Cells) (sets : Pairs) (ring : Ring) (pending : ℕ) (settings :
             };
             step = cleared_step;
             unread = contradicted;
+            grown = read.grown;
             reads = few_reads;
           }
 

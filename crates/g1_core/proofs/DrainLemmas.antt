@@ -27,6 +27,7 @@ pub short_ring : (old new : Machine) (cards : List ℕ) → IsRingDrained old ca
 short_ring old new cards h = record {
   order = record { held = cards; dirty = []; bound = 0; parts = sym (append-nil cards); ring = h.order; below = none_below old.state; turn = inr refl };
   tried = length cards + 1;
+  each = omega arith;
   most = omega arith;
   drains = h.drains;
 }
@@ -56,6 +57,7 @@ module _ (a b : Machine) (xs : List ℕ) (n : ℕ) (h : IsRingDrained a xs n b) 
       record {
         order = record { held = xs; dirty = k.gone; bound = k.bound; parts = k.listed; ring = whole_ring ∙ sym (append-nil xs) ∙ ap (λ (ys : List ℕ). xs ++ ys) (sym gone); below = below_same k.bound k.gone k.below; turn = inl gone };
         tried = n + (length k.gone + 1);
+        each = omega (arith, many, exact);
         most = omega (arith, many, exact);
         drains = subst (λ (cs : List ℕ). Drains a cs (n + (length k.gone + 1)) c) (sym k.listed) (drains_both a b c xs k.gone n (length k.gone + 1) h.drains k.drains);
       }
@@ -90,6 +92,7 @@ pub short_whole : (old mid : Machine) (cards : List ℕ) → IsAllDrained old ca
 short_whole old mid cards h = record {
   order = record { held = h.order.held; dirty = h.order.dirty; bound = h.order.bound; parts = h.order.parts; ring = h.order.ring ∙ ap (λ (ys : List ℕ). h.order.held ++ ys) (sym h.left); below = h.order.below; turn = inl h.left };
   tried = length cards;
+  each = omega arith;
   most = omega arith;
   drains = h.drains;
 }

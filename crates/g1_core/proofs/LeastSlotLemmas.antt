@@ -16,16 +16,17 @@ use Rattle.g1_core.proofs.MarkLemmas.{one_of}
 
 -- reads add up
 pub read_none : (heap : Cells) (most : ℕ) → AreRead heap heap most
-read_none heap most = record { cells = refl; few = omega arith }
+read_none heap most = record { cells = refl; grown = omega arith; few = omega arith }
 
 pub read_more : (a b c : Cells) (m n k : ℕ) → AreRead a b m → AreRead b c n → m + n ≤ k → AreRead a c k
 read_more a b c m n k first second fits = record {
   cells = second.cells ∙ ap (λ (h : Cells). let r : Cells = record { layout = h.layout; refs = h.refs; marks = h.marks; reads = c.reads } in r) first.cells;
+  grown = omega (arith, first.grown, second.grown);
   few = omega (arith, first.few, second.few);
 }
 
 pub read_at_most : (a b : Cells) (m k : ℕ) → AreRead a b m → m ≤ k → AreRead a b k
-read_at_most a b m k read fits = record { cells = read.cells; few = omega (arith, read.few) }
+read_at_most a b m k read fits = record { cells = read.cells; grown = read.grown; few = omega (arith, read.few) }
 
 -- reads leave the table
 pub read_table : (heap now : Cells) (most : ℕ) (pairs : PairSet) → AreRead heap now most → table_from now pairs ≡ table_from heap pairs

@@ -29,3 +29,4 @@ pub mod LeastSlotLemmas
 pub mod OpeningLemmas
 pub mod RefinedLemmas
 pub mod LengthLemmas
+pub mod ReadLemmas

@@ -48,7 +48,7 @@ module _ (heap : Cells) (sets : Pairs) (ring : Ring) (pending : ℕ) (settings :
   -- they are only read
   pub members_read : (sets' : Pairs) → sets' ≡ sets → AreMembersRead machine from (machine_from now sets'.pairs ring settings)
   members_read sets' same = subst (λ (s : Pairs). AreMembersRead machine from (machine_from now s.pairs ring settings)) (sym same)
-      (subst (λ (m : Machine). AreMembersRead m from (machine_from now sets.pairs ring settings)) view (record { state = ap (λ (h : Cells). state_from h sets.pairs ring) read.cells; settings = refl; reads = few_read }))
+      (subst (λ (m : Machine). AreMembersRead m from (machine_from now sets.pairs ring settings)) view (record { state = ap (λ (h : Cells). state_from h sets.pairs ring) read.cells; settings = refl; grown = read.grown; reads = few_read }))
 
   pub members_core : (sets' : Pairs) → sets' ≡ sets → IsCore now sets' ring pending
   members_core sets' same = subst (λ (s : Pairs). IsCore now s ring pending) (sym same) (read_core heap now sets ring pending _ core read)
@@ -90,6 +90,7 @@ module _ (heap : Cells) (sets : Pairs) (ring : Ring) (pending : ℕ) (settings :
           moved = record {
             state = moved_state heap sets ring pending core from to apart to_inside none_pending tied gaining gains now heap' sets' _ read (layout ∙ more_layout) ep eh;
             settings = refl;
+            grown = omega (arith, reads, read.grown);
             reads = omega (arith, reads, few_read);
           };
         })

@@ -1,5 +1,5 @@
 -- What every core keeps, and every call leaves.
-use Rattle.std.proofs.Common.{◌≡◌, ◌∙◌, ℕ, ◌<◌, length, Option, sym, ap, subst, arith}
+use Rattle.std.proofs.Common.{◌≡◌, ◌∙◌, ℕ, ◌<◌, ◌≤◌, length, Option, sym, ap, subst, arith}
 use Rattle.g1_sets.specs.Pairs.{Pairs}
 use Rattle.g1_heap.specs.Cells.{Cells}
 use Rattle.g1_hot.specs.Ring.{Ring}
@@ -25,9 +25,9 @@ module _ (heap : Cells) (sets : Pairs) (ring : Ring) (pending : ℕ) (core : IsC
     ring = parts_placed heap sets.pairs ring pending core.parts;
   }
 
-  -- of a machine that has kept its layout and its settings
-  pub core_later : (settings : Settings) (old : Machine) → heap.layout ≡ old.state.table.layout → settings ≡ old.settings → IsLater old (machine_from heap sets.pairs ring settings)
-  core_later settings old layout same = record { layout = layout; settings = same; sound = core_sound }
+  -- of a machine that has kept its layout, its settings and its reads
+  pub core_later : (settings : Settings) (old : Machine) → heap.layout ≡ old.state.table.layout → settings ≡ old.settings → heap.reads ≡ old.reads → IsLater old (machine_from heap sets.pairs ring settings)
+  core_later settings old layout same reads = record { layout = layout; settings = same; sound = core_sound; reads = omega (arith, reads) }
 
   -- of the core itself
   pub seen_sound : (settings : Settings) (m : Machine) → machine_from heap sets.pairs ring settings ≡ m → IsSound m.state
@@ -36,12 +36,12 @@ module _ (heap : Cells) (sets : Pairs) (ring : Ring) (pending : ℕ) (core : IsC
 -- of a store
 pub stored_later : (heap : Cells) (sets : Pairs) (ring : Ring) (pending : ℕ) (settings : Settings) (m : Machine) (slot : ℕ) (target : Option ℕ) → IsStored heap sets ring pending settings m slot target → IsLater m (machine_from heap sets.pairs ring settings)
 stored_later heap sets ring pending settings m slot target t =
-    core_later heap sets ring pending t.core settings m (ap (λ (m : Machine). m.state.table.layout) t.machine) (ap (λ (m : Machine). m.settings) t.machine)
+    core_later heap sets ring pending t.core settings m (ap (λ (m : Machine). m.state.table.layout) t.machine) (ap (λ (m : Machine). m.settings) t.machine) (ap (λ (m : Machine). m.reads) t.machine)
 
 -- of a step of the plain table
-pub step_later : (old new : Machine) (e : Entry) → IsStep old.state.table e new.state.table → new.settings ≡ old.settings → IsSound new.state → IsLater old new
-step_later old new e step settings sound = record { layout = ap (λ (t : Table). t.layout) step.after ∙ layout_after old.state.table e; settings = settings; sound = sound }
+pub step_later : (old new : Machine) (e : Entry) → IsStep old.state.table e new.state.table → new.settings ≡ old.settings → IsSound new.state → old.reads ≤ new.reads → IsLater old new
+step_later old new e step settings sound reads = record { layout = ap (λ (t : Table). t.layout) step.after ∙ layout_after old.state.table e; settings = settings; sound = sound; reads = reads }
 
 -- where the state stayed
-pub same_later : (old new : Machine) → new.state ≡ old.state → new.settings ≡ old.settings → IsSound old.state → IsLater old new
-same_later old new state settings sound = record { layout = ap (λ (s : State). s.table.layout) state; settings = settings; sound = subst IsSound (sym state) sound }
+pub same_later : (old new : Machine) → new.state ≡ old.state → new.settings ≡ old.settings → IsSound old.state → old.reads ≤ new.reads → IsLater old new
+same_later old new state settings sound reads = record { layout = ap (λ (s : State). s.table.layout) state; settings = settings; sound = subst IsSound (sym state) sound; reads = reads }

@@ -35,6 +35,11 @@ abbrev pub drain_reply : Drained → Reply
 drain_reply (drained.Cards cards refined) = reply.Cards cards
 drain_reply (drained.Short refined) = reply.Short
 
+-- the cards that a drain answers, none where it is short
+abbrev pub drain_cards : Drained → List ℕ
+drain_cards (drained.Cards cards refined) = cards
+drain_cards (drained.Short refined) = []
+
 abbrev pub drain_refined : Drained → List ℕ
 drain_refined (drained.Cards cards refined) = refined
 drain_refined (drained.Short refined) = refined

@@ -72,11 +72,18 @@ pub record IsSound (s : State) : Type 0 where
   pub cover : IsCovered s.table
   pub ring : IsPlaced s
 
--- What every call leaves: a sound core of the same layout and settings.
+-- What every call leaves: a sound core of the same layout and settings, whose count of reads has not fallen.
 pub record IsLater (old new : Machine) : Type 0 where
   pub layout : new.state.table.layout ≡ old.state.table.layout
   pub settings : new.settings ≡ old.settings
   pub sound : IsSound new.state
+  pub reads : old.reads ≤ new.reads
+
+-- Nothing but the count of reads has changed, which has not fallen.
+pub record IsOnlyRead (old new : Machine) : Type 0 where
+  pub state : new.state ≡ old.state
+  pub settings : new.settings ≡ old.settings
+  pub reads : old.reads ≤ new.reads
 
 -- What the parts of a core keep: the cards with the mark held are just those in the ring, each once, the number of
 -- pending cards is known, each reference across regions is covered, and each recorded pair's card lies outside its region.

@@ -37,10 +37,11 @@ pub record Drains (old : Machine) (cards : List ℕ) (tried : ℕ) (new : Machin
   pub settings : new.settings ≡ old.settings
   pub reads : new.reads ≡ reads_after old.reads (tried * old.state.table.layout.slots)
 
--- A short drain refined some cards in the order of a drain, and read at most one card more. The counts stay.
+-- A short drain refined some cards in the order of a drain, and read these and at most one card more. The counts stay.
 pub record IsShortDrain (old : Machine) (cards : List ℕ) (new : Machine) : Type 0 where
   pub order : IsDrainOrder old.state cards new.state.ring.cards
   pub tried : ℕ
+  pub each : length cards ≤ tried
   pub most : tried ≤ length cards + 1
   pub drains : Drains old cards tried new
 

@@ -39,12 +39,14 @@ AreGaining l refs from to cards gaining = (card : ℕ) → Contains gaining card
 pub record IsMoved (old : Machine) (from to slots : ℕ) (new : Machine) : Type 0 where
   pub state : new.state ≡ record { table = moved from to old.state.table; ring = old.state.ring }
   pub settings : new.settings ≡ old.settings
+  pub grown : old.reads ≤ new.reads
   pub reads : new.reads ≤ old.reads + member_count old.state.table from * old.state.table.layout.slots
 
 -- Only the members of the region were read.
 pub record AreMembersRead (old : Machine) (from : ℕ) (new : Machine) : Type 0 where
   pub state : new.state ≡ old.state
   pub settings : new.settings ≡ old.settings
+  pub grown : old.reads ≤ new.reads
   pub reads : new.reads ≤ old.reads + member_count old.state.table from * old.state.table.layout.slots
 
 -- A whole redirect refined all that was pending, in the order of a drain, and then moved the references. Every count is 0.

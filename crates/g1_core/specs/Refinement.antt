@@ -1,7 +1,8 @@
 -- What a refinement of a lent buffer does.
-use Rattle.std.specs.Prelude.{◌≡◌, ◌≤◌, ℕ, false, List, [], Option, Some, None, length, take, if◌then◌else◌}
+use Rattle.std.specs.Prelude.{◌≡◌, ◌≤◌, ◌+◌, ◌*◌, ℕ, false, List, [], Option, Some, None, length, take, if◌then◌else◌}
+use Rattle.g1_heap.specs.Cells.{reads_after}
 use Rattle.g1_core.specs.declared.reply.RefineReply.{RefineReply}
-use Rattle.g1_core.specs.Machine.{State}
+use Rattle.g1_core.specs.Machine.{State, Machine}
 use Rattle.g1_core.specs.Turns.{Round, turns, start}
 
 -- the round that a reply tells
@@ -29,3 +30,10 @@ pub record IsIdle (reply : RefineReply) : Type 0 where
 abbrev pub IsRefined : State → Option (List ℕ) → RefineReply → State → Type 0
 IsRefined old None reply new = IsIdle reply × (new ≡ old)
 IsRefined old (Some cards) reply new = IsTurned old cards reply new
+
+-- The slots of each refined card were read, and where the reply is short those of at most one card more.
+pub record AreCardsRead (old : Machine) (reply : RefineReply) (new : Machine) : Type 0 where
+  pub tried : ℕ
+  pub each : length reply.refined ≤ tried
+  pub most : tried ≤ length reply.refined + (if reply.short then 1 else 0)
+  pub reads : new.reads ≡ reads_after old.reads (tried * old.state.table.layout.slots)

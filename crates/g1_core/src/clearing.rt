@@ -15,7 +15,7 @@ use g1_sets::Sets;
 
 impl Core {
     ghost use Rattle.g1_core.specs.Table.{IsCovered};
-    ghost use Rattle.g1_core.specs.Machine.{IsLater};
+    ghost use Rattle.g1_core.specs.Machine.{IsLater, IsOnlyRead};
     ghost use Rattle.g1_core.specs.Run.{IsStep};
     ghost use Rattle.g1_core.specs.Calls.{clear_entry};
     ghost use Rattle.g1_core.specs.Clearing.{member_count};
@@ -31,9 +31,8 @@ impl Core {
     pub fn clear(&mut self, region: Region) -> ClearReply
         requires { region < self.old.state.table.layout.regions }
         ensures step { (caller : ℕ) → IsStep self.old.state.table (clear_entry caller region result) self.new.state.table }
-        ensures refused { result ≢ ClearReply.Cleared → self.new.state ≡ self.old.state }
+        ensures refused { result ≢ ClearReply.Cleared → IsOnlyRead self.old self.new }
         ensures ring { self.new.state.ring ≡ self.old.state.ring }
-        ensures settings { self.new.settings ≡ self.old.settings }
         ensures unread { 1 ≤ set.len self.old.state.table.pending → self.new.reads ≡ self.old.reads }
         ensures reads { self.new.reads ≤ self.old.reads + member_count self.old.state.table region * self.old.state.table.layout.slots }
         ensures cover { IsCovered self.new.state.table }
@@ -104,6 +103,7 @@ fn refers_into(heap: &mut Heap, slot: Slot, region: Region) -> bool
     ensures heap { AreRead heap.old heap.new 1 }
 {
     let layout = heap.layout();
+    let _reads = heap.reads();
     match heap.get(slot) {
         Some(place) => layout.region_of(place) == region,
         None => false,

@@ -1,5 +1,5 @@
 //! The pause: what is still pending is refined, and then a remembered set is trusted.
-ghost use Rattle.std.specs.Prelude.{◌≡◌, ◌<◌, ◌≤◌, ◌+◌, ◌*◌, ◌++◌, ◌∷◌, [], ℕ, true, false, length, slice_index, slice_get, IfOk, OnOk, OnErr, IfSome, IfNone, Some, nat_lt, vec_len, vec_capacity};
+ghost use Rattle.std.specs.Prelude.{◌≡◌, ◌<◌, ◌≤◌, ◌+◌, ◌*◌, ◌++◌, ◌∷◌, [], ℕ, true, false, length, slice_index, slice_get, IfOk, OnOk, OnErr, IfSome, IfNone, Some, nat_lt, vec_len, vec_capacity, All};
 ghost use Rattle.std.specs.FinSet as set;
 ghost use Rattle.g1_layout.specs.Shape.{card_count};
 
@@ -15,7 +15,7 @@ impl Core {
     ghost use Rattle.g1_core.specs.Machine.{IsLater};
     ghost use Rattle.g1_core.specs.Run.{IsStep};
     ghost use Rattle.g1_core.specs.Turns.{is_dirty};
-    ghost use Rattle.g1_core.specs.Calls.{drain_entry};
+    ghost use Rattle.g1_core.specs.Calls.{drain_cards, drain_entry};
     ghost use Rattle.g1_core.specs.Pause.{Drains, IsDrainOf, IsShortDrain, IsDrainOrder, IsRingDrained, IsCardDrained, IsCardRead, IsDirtyDrained, IsDirtyStopped, IsAllDrained, reset_machine};
 
     /// Refines the oldest card of the ring, which leaves it; nothing is counted.
@@ -146,12 +146,14 @@ impl Core {
     pub fn drain(&mut self, region: Region) -> Result<Drained, NoMemory>
         requires { region < self.old.state.table.layout.regions }
         ensures drained { IfOk result (λ answer. IsDrainOf self.old region answer self.new) }
+        ensures within { IfOk result (λ answer. All (λ card. card < card_count self.old.state.table.layout) (drain_cards answer)) }
         ensures step { IfOk result (λ answer. (caller : ℕ) → IsStep self.old.state.table (drain_entry caller region answer) self.new.state.table) }
         ensures err { OnErr result (self.new ≡ self.old) }
         ensures cover { IsCovered self.new.state.table }
         ensures later { IsLater self.old self.new }
     {
         let _layout = self.layout();
+        let _reads = self.reads();
         let mut refined = self.room_for_pending()?;
         let Ok(()) = self.drain_pending(&mut refined) else {
             let _after = self.layout();

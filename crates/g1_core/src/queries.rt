@@ -1,5 +1,5 @@
 //! Questions to a core: they refine nothing and change nothing but the count of reads.
-ghost use Rattle.std.specs.Prelude.{◌≡◌, ◌<◌, ◌^◌, ℕ, IfOk};
+ghost use Rattle.std.specs.Prelude.{◌≡◌, ◌<◌, ◌^◌, ℕ, All, IfOk, IfSome};
 ghost use Rattle.std.specs.FinSet as set;
 ghost use Rattle.g1_layout.specs.Shape.{slot_count, card_count};
 
@@ -49,10 +49,12 @@ impl Core {
     pub fn target(&mut self, slot: Slot) -> Option<Slot>
         requires { slot < slot_count self.old.state.table.layout }
         ensures target { result ≡ target_of self.old.state.table slot }
+        ensures within { IfSome result (λ place. place < slot_count self.old.state.table.layout) }
         ensures machine { self.new ≡ record { state = self.old.state; settings = self.old.settings; reads = reads_after self.old.reads 1 } }
         ensures step { (caller : ℕ) → IsStep self.old.state.table (target_entry caller slot result) self.new.state.table }
         ensures later { IsLater self.old self.new }
     {
+        let _reads = self.reads();
         self.heap.get(slot)
     }
 
@@ -76,6 +78,7 @@ impl Core {
     pub fn members(&self, region: Region) -> Result<CardList, NoMemory>
         requires { region < self.now.state.table.layout.regions }
         ensures members { IfOk result (λ cards. AreMembers self.now.state.table region cards) }
+        ensures within { IfOk result (λ cards. All (λ card. card < card_count self.now.state.table.layout) cards) }
         ensures step { IfOk result (λ cards. (caller : ℕ) → IsStep self.now.state.table (members_entry caller region cards) self.now.state.table) }
     {
         let cards = self.sets.cards(region)?;

@@ -37,6 +37,7 @@ fn change_of(heap: &mut Heap, slot: Slot, from: Region, to: Region) -> Option<Ch
     ensures heap { AreRead heap.old heap.new 1 }
 {
     let layout = heap.layout();
+    let _reads = heap.reads();
     let place = heap.get(slot)?;
     if layout.region_of(slot) == from || layout.region_of(place) != from {
         return None;
@@ -160,6 +161,7 @@ impl Core {
         ensures later { IsLater self.old self.new }
     {
         let _layout = self.layout();
+        let _reads = self.reads();
         let mut refined = self.room_for_pending()?;
         let Ok(()) = self.drain_pending(&mut refined) else {
             let _after = self.layout();

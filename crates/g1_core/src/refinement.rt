@@ -1,5 +1,5 @@
 //! Refinement: the cards of a completed buffer take their turns, and what each holds is recorded.
-ghost use Rattle.std.specs.Prelude.{◌≡◌, ◌<◌, ◌≤◌, ◌+◌, ◌++◌, ◌↔◌, [], ℕ, false, IfOk, OnErr, IsTrue, length, slice_index_or, vec_len, vec_capacity, option_map, if◌then◌else◌};
+ghost use Rattle.std.specs.Prelude.{◌≡◌, ◌<◌, ◌≤◌, ◌+◌, ◌*◌, ◌++◌, ◌↔◌, [], ℕ, false, IfOk, OnErr, IsTrue, length, slice_index_or, vec_len, vec_capacity, option_map, if◌then◌else◌};
 ghost use Rattle.g1_layout.specs.Shape.{card_count};
 ghost use Rattle.g1_heap.specs.declared.mark.Mark.TheVariants.{Clean, Dirty};
 ghost use Rattle.g1_core.specs.Turns.{refined_by, hot_by, skipped_by};
@@ -17,10 +17,11 @@ use std::alloc::Global;
 mod tests;
 
 impl Core {
+    ghost use Rattle.g1_heap.specs.Cells.{reads_after};
     ghost use Rattle.g1_core.specs.Table.{IsCovered};
     ghost use Rattle.g1_core.specs.Machine.{IsLater};
     ghost use Rattle.g1_core.specs.Turns.{offer_to, state_after};
-    ghost use Rattle.g1_core.specs.Refinement.{IsTurned, IsRefined};
+    ghost use Rattle.g1_core.specs.Refinement.{IsTurned, IsRefined, AreCardsRead};
     ghost use Rattle.g1_core.specs.Calls.{refine_entry};
     ghost use Rattle.g1_core.specs.Run.{IsStep};
 
@@ -35,17 +36,18 @@ impl Core {
     /// taken whole; that card and all later ones are as they were, and dirty cards among them stay pending. `NoMemory`
     /// where room for the reply's list was refused: no card had its turn.
     ///
-    /// Reads the slots of each refined card once. Takes memory for the list, one card's room for each card of the
+    /// Reads the slots of each refined card once, and where it is short those of at most one card more. Takes memory for the list, one card's room for each card of the
     /// buffer, and for what the remembered sets gain.
     pub fn refine(&mut self, buffer: Option<&Buffer>) -> Result<RefineReply, NoMemory>
         ensures turned { IfOk result (λ reply. IsRefined self.old.state (option_map (λ b. b.now) buffer.entry) reply self.new.state) }
         ensures step { IfOk result (λ reply. (caller : ℕ) → IsStep self.old.state.table (refine_entry caller reply) self.new.state.table) }
         ensures cover { IsCovered self.new.state.table }
-        ensures err { OnErr result (self.new.state ≡ self.old.state) }
-        ensures settings { self.new.settings ≡ self.old.settings }
+        ensures reads { IfOk result (λ reply. AreCardsRead self.old reply self.new) }
+        ensures err { OnErr result (self.new ≡ self.old) }
         ensures later { IsLater self.old self.new }
     {
         let alloc = self.alloc;
+        let _reads = self.reads();
         let Some(buffer) = buffer else {
             return Ok(idle(alloc));
         };
@@ -58,9 +60,11 @@ impl Core {
     fn turn_all(&mut self, cards: &[Card]) -> Result<RefineReply, NoMemory>
         requires few { length cards.now ≤ 256 }
         ensures turned { IfOk result (λ reply. IsTurned self.old.state cards.now reply self.new.state) }
-        ensures err { OnErr result (self.new.state ≡ self.old.state) }
+        ensures reads { IfOk result (λ reply. AreCardsRead self.old reply self.new) }
+        ensures err { OnErr result (self.new ≡ self.old) }
         ensures settings { self.new.settings ≡ self.old.settings }
     {
+        let _reads = self.reads();
         let mut tally = Tally::new(self.alloc, cards.len())?;
         for card in cards {
             let Ok(offer) = self.turn(*card) else {
@@ -75,9 +79,12 @@ impl Core {
     fn turn(&mut self, card: Card) -> Result<Option<Offer>, NoMemory>
         ensures offer { IfOk result (λ offer. offer ≡ offer_to self.old.state card) }
         ensures state { IfOk result (λ offer. self.new.state ≡ state_after self.old.state card offer) }
+        ensures reads { IfOk result (λ offer. self.new.reads ≡ reads_after self.old.reads (length (refined_by card offer) * self.old.state.table.layout.slots)) }
         ensures err { OnErr result (self.new.state ≡ self.old.state) }
+        ensures tried { OnErr result (self.new.reads ≡ reads_after self.old.reads self.old.state.table.layout.slots) }
         ensures settings { self.new.settings ≡ self.old.settings }
     {
+        let _reads = self.reads();
         let dirty = is_dirty(&self.heap, card);
         if !dirty {
             return Ok(None);

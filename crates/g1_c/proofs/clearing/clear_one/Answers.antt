@@ -16,4 +16,4 @@ returns-clause-cleared c =
 pub returns-clause-left : goal.returns-clause-left
 returns-clause-left c = λ some.
     let refused : c.clear.result ≢ Cleared = subst (λ (reply : ClearReply). reply ≢ Cleared) c.words_of.ensures.reply (not_cleared c.words_of.result.0 c.words_of.result.1 some) in
-    (c.clear.ensures.refused refused, c.clear.ensures.settings)
+    c.clear.ensures.refused refused

@@ -2,7 +2,7 @@ use Rattle.std.proofs.Common.{◌≡◌, ℕ, length, ap, [], ◌∷◌, ◌++�
 use Rattle.g1_layout.specs.Shape.{card_count}
 use Rattle.g1_core.specs.Calls.{drain_entry}
 use Rattle.g1_book.specs.History.{History, AnswersExactly}
-use Rattle.g1_book.proofs.HistoryLemmas.{history_entered, call_entered, drain_is_exact, drain_settings}
+use Rattle.g1_book.proofs.HistoryLemmas.{history_entered, call_entered, drain_is_exact}
 use Rattle.g1_core.proofs.LengthLemmas.{refined_few}
 use Rattle.g1_book.proofs.RoomLemmas.{drained_few}
 use Rattle.g1_book.proofs.book.Book.drain.Goals as goal
@@ -23,7 +23,7 @@ pub invariant_of-self-2 : goal.invariant_of-self-2
 invariant_of-self-2 c = history_entered _ _ _ _ _ _ _ c.self.invariant c.in_ok-make_room.ensures.room (entered c) (c.in_ok-answer.ensures.step c.args.caller)
 
 pub returns-clause-entered : goal.returns-clause-entered
-returns-clause-entered c = call_entered _ _ _ _ _ _ _ _ c.self.view_is (entered c) (drain_settings _ c.args.region c.in_ok-answer.answer _ c.in_ok-answer.ensures.drained) (c.in_ok-answer.ensures.step c.args.caller)
+returns-clause-entered c = call_entered _ _ _ _ _ _ _ _ c.self.view_is (entered c) c.in_ok-answer.ensures.later.settings c.in_ok-answer.ensures.later.reads (c.in_ok-answer.ensures.step c.args.caller)
 
 pub returns-clause-exact : goal.returns-clause-exact
 returns-clause-exact c = subst (λ (h : History). AnswersExactly h c.args.region c.in_ok-answer.answer) c.self.view_is (drain_is_exact (record { machine = c.self.inside.core; mutators = c.self.inside.mutators; entries = c.self.inside.entries.items; limit = c.self.inside.limit }) c.args.caller c.args.region c.in_ok-answer.answer c.self.invariant (c.in_ok-answer.ensures.step c.args.caller).allowed)

@@ -1,6 +1,6 @@
 use Rattle.std.proofs.Common.{◌≡◌, ℕ, length, ap, [], ◌∷◌, ◌++◌, ◌∙◌, arith}
 use Rattle.g1_core.specs.Calls.{redirect_entry}
-use Rattle.g1_book.proofs.HistoryLemmas.{history_entered, call_entered, redirect_settings}
+use Rattle.g1_book.proofs.HistoryLemmas.{history_entered, call_entered}
 use Rattle.g1_core.proofs.LengthLemmas.{refined_few}
 use Rattle.g1_book.proofs.book.Book.redirect.Goals as goal
 
@@ -15,4 +15,4 @@ pub invariant_of-self-2 : goal.invariant_of-self-2
 invariant_of-self-2 c = history_entered _ _ _ _ _ _ _ c.self.invariant c.in_ok-make_room.ensures.room (entered c) (c.in_ok-answer.ensures.step c.args.caller)
 
 pub returns-clause-entered : goal.returns-clause-entered
-returns-clause-entered c = call_entered _ _ _ _ _ _ _ _ c.self.view_is (entered c) (redirect_settings _ c.args.from c.args.to c.in_ok-answer.answer _ c.in_ok-answer.ensures.redirected) (c.in_ok-answer.ensures.step c.args.caller)
+returns-clause-entered c = call_entered _ _ _ _ _ _ _ _ c.self.view_is (entered c) c.in_ok-answer.ensures.later.settings c.in_ok-answer.ensures.later.reads (c.in_ok-answer.ensures.step c.args.caller)

@@ -15,7 +15,7 @@ pub invariant_of-self-2 : goal.invariant_of-self-2
 invariant_of-self-2 c = history_entered _ _ _ _ _ _ _ c.self.invariant c.in_ok-make_room.ensures.room (entered c) (c.in_ok-reply.ensures.step c.args.caller)
 
 pub returns-clause-entered : goal.returns-clause-entered
-returns-clause-entered c = call_entered _ _ _ _ _ _ _ _ c.self.view_is (entered c) c.in_ok-reply.ensures.settings (c.in_ok-reply.ensures.step c.args.caller)
+returns-clause-entered c = call_entered _ _ _ _ _ _ _ _ c.self.view_is (entered c) c.in_ok-reply.ensures.later.settings c.in_ok-reply.ensures.later.reads (c.in_ok-reply.ensures.step c.args.caller)
 
 pub returns-clause-counts : goal.returns-clause-counts
 returns-clause-counts c =

@@ -1,6 +1,5 @@
-use Rattle.std.proofs.Common.{◌≡◌, [], ◌∷◌, ◌++◌, ap}
+use Rattle.std.proofs.Common.{◌≡◌, [], ◌∷◌, ◌++◌}
 use Rattle.g1_core.specs.Calls.{target_entry}
-use Rattle.g1_core.specs.Machine.{Machine}
 use Rattle.g1_book.proofs.HistoryLemmas.{history_entered, call_entered}
 use Rattle.g1_book.proofs.book.Book.target.Goals as goal
 
@@ -12,4 +11,4 @@ pub invariant_of-self-2 : goal.invariant_of-self-2
 invariant_of-self-2 c = history_entered _ _ _ _ _ _ _ c.self.invariant c.in_ok-make_room.ensures.room (entered c) (c.target-target.ensures.step c.args.caller)
 
 pub returns-clause-entered : goal.returns-clause-entered
-returns-clause-entered c = call_entered _ _ _ _ _ _ _ _ c.self.view_is (entered c) (ap (λ (m : Machine). m.settings) c.target-target.ensures.machine) (c.target-target.ensures.step c.args.caller)
+returns-clause-entered c = call_entered _ _ _ _ _ _ _ _ c.self.view_is (entered c) c.target-target.ensures.later.settings c.target-target.ensures.later.reads (c.target-target.ensures.step c.args.caller)

@@ -1,5 +1,6 @@
-use Rattle.std.proofs.Common.{refl, ap, subst}
-use Rattle.g1_core.specs.Machine.{Machine, machine_from}
+use Rattle.std.proofs.Common.{refl, ap, subst, ◌∙◌, arith}
+use Rattle.g1_heap.specs.Cells.{Cells}
+use Rattle.g1_core.specs.Machine.{Machine, state_from, machine_from}
 use Rattle.g1_core.specs.Run.{IsStep}
 use Rattle.g1_core.specs.Calls.{clear_entry}
 use Rattle.g1_core.specs.declared.reply.ClearReply.TheVariants as clear_reply
@@ -15,7 +16,7 @@ returns-then-self-gt0-clause-step c = λ caller.
 
 pub returns-then-self-gt0-clause-later : goal.returns-then-self-gt0-clause-later
 returns-then-self-gt0-clause-later c = same_later c.args.self.now c.args.self.now refl refl
-    (seen_sound c.self.inside.heap c.self.inside.sets c.self.inside.hot c.self.inside.pending c.self.invariant c.self.inside.config c.args.self.now c.self.view_is)
+    (seen_sound c.self.inside.heap c.self.inside.sets c.self.inside.hot c.self.inside.pending c.self.invariant c.self.inside.config c.args.self.now c.self.view_is) (omega arith)
 
 pub invariant_of-self : goal.invariant_of-self
 invariant_of-self c =
@@ -37,7 +38,7 @@ returns-in-Some-clause-later c =
     entered_at c.self.inside.heap c.self.inside.sets c.self.inside.hot c.self.inside.pending c.self.inside.config c.args.self.now c.self.invariant c.self.view_is c.args.region c.requires
     c.least_entering.new.heap c.if-self-gt0.false c.least_entering.ensures.tied c.least_entering.ensures.heap c.in-Some.slot c.in-Some.ensures.least in
     step_later c.args.self.now (machine_from c.least_entering.new.heap c.self.inside.sets.pairs c.self.inside.hot c.self.inside.config) (clear_entry 0 c.args.region (clear_reply.StillReferenced c.in-Some.slot)) (t.step 0) (ap (λ (m : Machine). m.settings) c.self.view_is)
-    (core_sound c.least_entering.new.heap c.self.inside.sets c.self.inside.hot c.self.inside.pending t.core)
+    (core_sound c.least_entering.new.heap c.self.inside.sets c.self.inside.hot c.self.inside.pending t.core) t.grown
 
 pub returns-in-Some-clause-reads : goal.returns-in-Some-clause-reads
 returns-in-Some-clause-reads c =
@@ -66,7 +67,7 @@ returns-clause-later c =
     granted_at c.self.inside.heap c.self.inside.sets c.self.inside.hot c.self.inside.pending c.self.inside.config c.args.self.now c.self.invariant c.self.view_is c.args.region c.requires
     c.least_entering.new.heap c.if-self-gt0.false c.least_entering.ensures.tied c.least_entering.ensures.heap c.clear.new.self c.clear.ensures.layout c.clear.ensures.pairs c.in_default.ensures.least in
     step_later c.args.self.now (machine_from c.least_entering.new.heap c.clear.new.self.pairs c.self.inside.hot c.self.inside.config) (clear_entry 0 c.args.region clear_reply.Cleared) (t.step 0) (ap (λ (m : Machine). m.settings) c.self.view_is)
-    (core_sound c.least_entering.new.heap c.clear.new.self c.self.inside.hot c.self.inside.pending t.core)
+    (core_sound c.least_entering.new.heap c.clear.new.self c.self.inside.hot c.self.inside.pending t.core) t.grown
 
 pub returns-clause-reads : goal.returns-clause-reads
 returns-clause-reads c =
@@ -81,3 +82,17 @@ returns-clause-cover c =
     granted_at c.self.inside.heap c.self.inside.sets c.self.inside.hot c.self.inside.pending c.self.inside.config c.args.self.now c.self.invariant c.self.view_is c.args.region c.requires
     c.least_entering.new.heap c.if-self-gt0.false c.least_entering.ensures.tied c.least_entering.ensures.heap c.clear.new.self c.clear.ensures.layout c.clear.ensures.pairs c.in_default.ensures.least in
     t.core.parts.cover
+
+pub returns-then-self-gt0-clause-refused : goal.returns-then-self-gt0-clause-refused
+returns-then-self-gt0-clause-refused c = λ _. record { state = refl; settings = refl; reads = omega arith }
+
+pub returns-in-Some-clause-refused : goal.returns-in-Some-clause-refused
+returns-in-Some-clause-refused c = λ _.
+    let t : IsClearedTo c.args.self.now c.args.region (clear_reply.StillReferenced c.in-Some.slot) c.least_entering.new.heap c.self.inside.sets c.self.inside.hot c.self.inside.pending =
+    entered_at c.self.inside.heap c.self.inside.sets c.self.inside.hot c.self.inside.pending c.self.inside.config c.args.self.now c.self.invariant c.self.view_is c.args.region c.requires
+    c.least_entering.new.heap c.if-self-gt0.false c.least_entering.ensures.tied c.least_entering.ensures.heap c.in-Some.slot c.in-Some.ensures.least in
+    record {
+      state = ap (λ (h : Cells). state_from h c.self.inside.sets.pairs c.self.inside.hot) c.least_entering.ensures.heap.cells ∙ ap (λ (m : Machine). m.state) c.self.view_is;
+      settings = ap (λ (m : Machine). m.settings) c.self.view_is;
+      reads = t.grown;
+    }

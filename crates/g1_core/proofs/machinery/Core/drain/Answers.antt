@@ -1,7 +1,10 @@
-use Rattle.std.proofs.Common.{ap, subst, sym, ◌∙◌}
+use Rattle.std.proofs.Common.{◌<◌, ap, subst, sym, ◌∙◌, arith}
+use Rattle.std.specs.Prelude.{All}
+use Rattle.g1_layout.specs.Shape.{card_count}
 use Rattle.g1_core.specs.Table.{Table, IsCovered}
 use Rattle.g1_core.specs.Machine.{Machine}
 use Rattle.g1_core.proofs.TableLemmas.{refined_covered}
+use Rattle.g1_core.proofs.ReadLemmas.{reads_grow}
 use Rattle.g1_core.proofs.machinery.Core.drain.Goals as goal
 
 pub returns-in_default-clause-cover : goal.returns-in_default-clause-cover
@@ -18,6 +21,7 @@ returns-in_default-clause-later c = record {
   layout = ap (λ (t : Table). t.layout) c.in_default.ensures.err.drains.table;
   settings = c.in_default.ensures.err.drains.settings;
   sound = c.layout-after.ensures.sound;
+  reads = reads_grow _ _ _ c.reads-reads.ensures.bound c.in_default.ensures.err.drains.reads;
 }
 
 pub returns-in_default-members-clause-later : goal.returns-in_default-members-clause-later
@@ -25,6 +29,7 @@ returns-in_default-members-clause-later c = record {
   layout = ap (λ (t : Table). t.layout) c.in-Ok.ensures.ok.drains.table;
   settings = c.in-Ok.ensures.ok.drains.settings;
   sound = c.layout-after-in_default-members.ensures.sound;
+  reads = reads_grow _ _ _ c.reads-reads.ensures.bound c.in-Ok.ensures.ok.drains.reads;
 }
 
 pub returns-clause-later : goal.returns-clause-later
@@ -32,4 +37,14 @@ returns-clause-later c = record {
   layout = ap (λ (m : Machine). m.state.table.layout) c.reset_counts.ensures ∙ ap (λ (t : Table). t.layout) c.in-Ok.ensures.ok.drains.table;
   settings = ap (λ (m : Machine). m.settings) c.reset_counts.ensures ∙ c.in-Ok.ensures.ok.drains.settings;
   sound = c.layout-after-2.ensures.sound;
+  reads = reads_grow _ _ _ c.reads-reads.ensures.bound (ap (λ (m : Machine). m.reads) c.reset_counts.ensures ∙ c.in-Ok.ensures.ok.drains.reads);
 }
+
+pub returns-in_default-clause-within : goal.returns-in_default-clause-within
+returns-in_default-clause-within c = λ k d lt. absurd (omega (arith, lt))
+
+pub returns-in_default-members-clause-within : goal.returns-in_default-members-clause-within
+returns-in_default-members-clause-within c = λ k d lt. absurd (omega (arith, lt))
+
+pub returns-clause-within : goal.returns-clause-within
+returns-clause-within c = subst (λ (t : Table). All (λ card. card < card_count t.layout) c.in-Ok-members.cards) c.in-Ok.ensures.ok.drains.table c.in-Ok-members.ensures.within

@@ -1,9 +1,11 @@
-use Rattle.std.proofs.Common.{ap, refl}
+use Rattle.std.proofs.Common.{◌≤◌, ap, refl, arith}
 use Rattle.g1_core.specs.Table.{Table}
+use Rattle.g1_core.specs.Machine.{Machine}
 use Rattle.g1_core.specs.Redirect.{IsShortRedirect, IsWholeRedirect}
 use Rattle.g1_core.specs.Calls.{redirect_entry}
 use Rattle.g1_core.specs.declared.reply.Redirected.TheVariants as answers
 use Rattle.g1_core.proofs.DrainLemmas.{step_keeps_cover}
+use Rattle.g1_core.proofs.ReadLemmas.{reads_grow}
 use Rattle.g1_core.proofs.RedirectLemmas.{short_drained_at, short_drained_step, regions_after, short_read_at, short_read_step, whole_at, whole_at_step}
 use Rattle.g1_core.proofs.machinery.Core.redirect.Goals as goal
 
@@ -49,14 +51,16 @@ returns-clause-cover c = step_keeps_cover c.args.self.now.state.table.layout c.a
 pub returns-in_default-clause-later : goal.returns-in_default-clause-later
 returns-in_default-clause-later c =
     let t : IsShortRedirect c.args.self.now c.args.from c.of-refined.result c.drain_pending.new.self = short_drained_at c.args.self.now c.args.from c.args.to c.requires.from c.requires.to c.requires.apart c.drain_pending.new.refined.items c.of-refined.result c.of-refined.ensures c.drain_pending.new.self c.in_default.ensures.err in
-    record { layout = ap (λ (t : Table). t.layout) t.table; settings = t.settings; sound = c.layout-after.ensures.sound }
+    record { layout = ap (λ (t : Table). t.layout) t.table; settings = t.settings; sound = c.layout-after.ensures.sound; reads = reads_grow _ _ _ c.reads-reads.ensures.bound c.in_default.ensures.err.drains.reads }
 
 pub returns-in_default-move_references-clause-later : goal.returns-in_default-move_references-clause-later
 returns-in_default-move_references-clause-later c =
     let t : IsShortRedirect c.args.self.now c.args.from c.of-refined-in_default-move_references.result c.move_references.new.self = short_read_at c.args.self.now c.args.from c.args.to c.requires.from c.requires.to c.requires.apart c.drain_pending.new.refined.items c.of-refined-in_default-move_references.result c.of-refined-in_default-move_references.ensures c.move_references.new.self c.drain_pending.new.self c.in-Ok.ensures.ok c.in_default-move_references.ensures.err in
-    record { layout = ap (λ (t : Table). t.layout) t.table; settings = t.settings; sound = c.layout-after-in_default-move_references.ensures.sound }
+    let drained : c.args.self.now.reads ≤ c.drain_pending.new.self.reads = reads_grow _ _ _ c.reads-reads.ensures.bound c.in-Ok.ensures.ok.drains.reads in
+    record { layout = ap (λ (t : Table). t.layout) t.table; settings = t.settings; sound = c.layout-after-in_default-move_references.ensures.sound; reads = omega (arith, drained, c.in_default-move_references.ensures.err.grown) }
 
 pub returns-clause-later : goal.returns-clause-later
 returns-clause-later c =
     let t : IsWholeRedirect c.args.self.now c.args.from c.args.to c.of-refined-2.result c.reset_counts.new.self = whole_at c.args.self.now c.args.from c.args.to c.requires.from c.requires.to c.requires.apart c.drain_pending.new.refined.items c.of-refined-2.result c.of-refined-2.ensures c.reset_counts.new.self c.drain_pending.new.self c.in-Ok.ensures.ok c.move_references.new.self c.in-Ok-move_references.slots c.in-Ok-move_references.ensures.moved c.reset_counts.ensures in
-    record { layout = ap (λ (t : Table). t.layout) t.table; settings = t.settings; sound = c.layout-after-2.ensures.sound }
+    let drained : c.args.self.now.reads ≤ c.drain_pending.new.self.reads = reads_grow _ _ _ c.reads-reads.ensures.bound c.in-Ok.ensures.ok.drains.reads in
+    record { layout = ap (λ (t : Table). t.layout) t.table; settings = t.settings; sound = c.layout-after-2.ensures.sound; reads = omega (arith, drained, c.in-Ok-move_references.ensures.moved.grown, ap (λ (m : Machine). m.reads) c.reset_counts.ensures) }

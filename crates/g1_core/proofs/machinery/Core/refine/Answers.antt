@@ -1,4 +1,4 @@
-use Rattle.std.proofs.Common.{refl, subst}
+use Rattle.std.proofs.Common.{ℕ, length, refl, subst, ap, arith}
 use Rattle.g1_core.specs.Table.{IsCovered}
 use Rattle.g1_core.specs.Machine.{Machine, IsPlaced}
 use Rattle.g1_core.specs.Calls.{refine_entry}
@@ -6,6 +6,7 @@ use Rattle.g1_core.proofs.PartLemmas.{parts_placed}
 use Rattle.g1_core.proofs.OpeningLemmas.{idle_step}
 use Rattle.g1_core.proofs.TurnLemmas.{turned_step}
 use Rattle.g1_core.proofs.RefineLemmas.{turned_covered}
+use Rattle.g1_core.proofs.ReadLemmas.{reads_grow, none_read}
 use Rattle.g1_core.proofs.SoundLemmas.{same_later, seen_sound, step_later}
 use Rattle.g1_core.proofs.machinery.Core.refine.Goals as goal
 
@@ -23,14 +24,22 @@ returns-clause-cover c = turned_covered c.args.self.now.state c.turn_all.new.sel
 
 pub returns-in_default-clause-later : goal.returns-in_default-clause-later
 returns-in_default-clause-later c = same_later c.args.self.now c.args.self.now refl refl
-    (seen_sound c.self.inside.heap c.self.inside.sets c.self.inside.hot c.self.inside.pending c.self.invariant c.self.inside.config c.args.self.now c.self.view_is)
+    (seen_sound c.self.inside.heap c.self.inside.sets c.self.inside.hot c.self.inside.pending c.self.invariant c.self.inside.config c.args.self.now c.self.view_is) (omega arith)
+
+pub returns-in_default-clause-reads : goal.returns-in_default-clause-reads
+returns-in_default-clause-reads c = record {
+  tried = 0;
+  each = omega (arith, ap (length {A = ℕ}) c.idle.ensures.refined);
+  most = omega arith;
+  reads = none_read c.args.self.now.reads c.args.self.now.state.table.layout.slots 0 c.reads-reads.ensures.bound refl;
+}
 
 pub returns-clause-later : goal.returns-clause-later
 returns-clause-later c = step_later c.args.self.now c.turn_all.new.self (refine_entry 0 c.in_ok-reply.reply)
     (turned_step 0 c.args.self.now.state c.turn_all.new.self.state c.cards.result.now c.in_ok-reply.reply
     (subst (λ (m : Machine). IsPlaced m.state) c.self.view_is (parts_placed c.self.inside.heap c.self.inside.sets.pairs c.self.inside.hot c.self.inside.pending c.self.invariant.parts)) c.in_ok-reply.ensures.turned)
-    c.turn_all.ensures.settings c.layout-after.ensures.sound
+    c.turn_all.ensures.settings c.layout-after.ensures.sound (reads_grow _ _ _ c.reads-reads.ensures.bound c.in_ok-reply.ensures.reads.reads)
 
 pub returns-in_err-reply-clause-later : goal.returns-in_err-reply-clause-later
-returns-in_err-reply-clause-later c = same_later c.args.self.now c.turn_all.new.self c.in_err-reply.ensures.err c.turn_all.ensures.settings
-    (seen_sound c.self.inside.heap c.self.inside.sets c.self.inside.hot c.self.inside.pending c.self.invariant c.self.inside.config c.args.self.now c.self.view_is)
+returns-in_err-reply-clause-later c = same_later c.args.self.now c.turn_all.new.self (ap (λ (m : Machine). m.state) c.in_err-reply.ensures.err) c.turn_all.ensures.settings
+    (seen_sound c.self.inside.heap c.self.inside.sets c.self.inside.hot c.self.inside.pending c.self.invariant c.self.inside.config c.args.self.now c.self.view_is) (omega (arith, ap (λ (m : Machine). m.reads) c.in_err-reply.ensures.err))

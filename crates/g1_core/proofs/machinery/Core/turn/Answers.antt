@@ -1,10 +1,14 @@
-use Rattle.std.proofs.Common.{ap, ◌∙◌, sym, refl, Some}
+use Rattle.std.proofs.Common.{◌≡◌, ℕ, ◌*◌, length, ap, ◌∙◌, sym, refl, Some}
 use Rattle.std.proofs.lemmas.Bool.{true≢false}
+use Rattle.g1_hot.specs.declared.offer.Offer.{Offer}
 use Rattle.g1_hot.specs.declared.offer.Offer.TheVariants.{Out}
 use Rattle.g1_heap.specs.declared.mark.Mark.TheVariants.{Held}
-use Rattle.g1_heap.specs.Cells.{Cells, with_mark}
+use Rattle.g1_heap.specs.Cells.{Cells, with_mark, reads_after}
+use Rattle.g1_core.specs.Machine.{Machine}
+use Rattle.g1_core.specs.Turns.{refined_by}
 use Rattle.g1_core.proofs.RefinedLemmas.{refined_none}
 use Rattle.g1_core.proofs.RefineLemmas.{none_offered, dirty_pending, turned_cold, turned_kept, turned_out, IsTurnedTo}
+use Rattle.g1_core.proofs.ReadLemmas.{none_read, one_read}
 use Rattle.g1_core.proofs.machinery.Core.turn.Goals as goal
 
 pub returns-then-not-dirty-clause-offer : goal.returns-then-not-dirty-clause-offer
@@ -72,3 +76,21 @@ returns-in-Out-clause-state c =
     let t : IsTurnedTo c.args.self.now c.args.card (Some (Out c.in-Out.oldest)) c.set_mark-in-Out.new.self c.refine_card-in-Out.new.sets c.offer-in-Out.new.self c.refine_card-in-Out.new.pending = turned_out c.self.inside.heap c.self.inside.sets c.self.inside.hot c.self.inside.pending c.self.inside.config c.args.self.now c.self.invariant c.self.view_is c.args.card (c.is_dirty-dirty.ensures.dirty.0 c.if-not-dirty.false) (Out c.in-Out.oldest) (sym c.in-Out.is ∙ c.would-offer.ensures.answer) c.set_mark-in-Out.new.self c.refine_card-in-Out.new.sets c.offer-in-Out.new.self c.refine_card-in-Out.new.pending c.offer-in-Out.ensures.ring
     c.self.inside.heap.layout.slots c.in-Out.oldest refl (c.set_mark-in-Out.ensures ∙ ap (λ (h : Cells). with_mark h c.args.card Held) c.in_ok-refine_card-in-Out.ensures.cleaned) c.in_ok-refine_card-in-Out.ensures.pairs c.in_ok-refine_card-in-Out.ensures.layout c.in_ok-refine_card-in-Out.ensures.less in
     t.state
+
+pub returns-then-not-dirty-clause-reads : goal.returns-then-not-dirty-clause-reads
+returns-then-not-dirty-clause-reads c = none_read c.args.self.now.reads c.args.self.now.state.table.layout.slots 0 c.reads-reads.ensures.bound refl
+
+pub returns-in-Cold-clause-reads : goal.returns-in-Cold-clause-reads
+returns-in-Cold-clause-reads c =
+    ap (λ (h : Cells). h.reads) c.in_ok-refine_card-in-Cold.ensures.cleaned ∙ ap (λ (m : Machine). reads_after m.reads m.state.table.layout.slots) c.self.view_is
+    ∙ one_read c.args.self.now.reads c.args.self.now.state.table.layout.slots _ (ap (λ (o : Offer). length (refined_by c.args.card (Some o))) c.in-Cold.is)
+
+pub returns-in-Kept-clause-reads : goal.returns-in-Kept-clause-reads
+returns-in-Kept-clause-reads c =
+    ap (λ (h : Cells). h.reads) c.set_mark.ensures ∙ ap (λ (m : Machine). m.reads) c.self.view_is
+    ∙ none_read c.args.self.now.reads c.args.self.now.state.table.layout.slots _ c.reads-reads.ensures.bound (ap (λ (o : Offer). length (refined_by c.args.card (Some o))) c.in-Kept.is)
+
+pub returns-in-Out-clause-reads : goal.returns-in-Out-clause-reads
+returns-in-Out-clause-reads c =
+    ap (λ (h : Cells). h.reads) (c.set_mark-in-Out.ensures ∙ ap (λ (h : Cells). with_mark h c.args.card Held) c.in_ok-refine_card-in-Out.ensures.cleaned)
+    ∙ ap (λ (m : Machine). reads_after m.reads m.state.table.layout.slots) c.self.view_is ∙ one_read c.args.self.now.reads c.args.self.now.state.table.layout.slots 1 refl

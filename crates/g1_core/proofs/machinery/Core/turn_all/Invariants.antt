@@ -1,4 +1,5 @@
-use Rattle.std.proofs.Common.{◌≡◌, ◌≤◌, length, take, vec_len}
+use Rattle.std.proofs.Common.{◌≡◌, ◌≤◌, ◌*◌, length, take, vec_len}
+use Rattle.g1_heap.specs.Cells.{reads_after}
 use Rattle.g1_core.specs.Turns.{turns, start}
 use Rattle.g1_core.proofs.RefineLemmas.{round_at}
 use Rattle.g1_core.proofs.machinery.Core.turn_all.Given as goal
@@ -11,4 +12,6 @@ invariant-loop-card l = record {
   hot : l.tally.hot ≤ l.card-index;
   skipped : l.tally.skipped ≤ l.card-index;
   settings : l.self.settings ≡ l.fn.self.settings;
+  layout : l.self.state.table.layout ≡ l.fn.self.state.table.layout;
+  reads : l.self.reads ≡ reads_after l.fn.self.reads (length l.tally.refined.items * l.fn.self.state.table.layout.slots);
 }
