@@ -22,7 +22,7 @@ use Rattle.g1_core.proofs.RunLemmas.{permitted_parts, has_slots}
 use Rattle.g1_core.proofs.SinceLemmas.{drain_exact}
 use Rattle.g1_core.proofs.TableLemmas.{nothing_refers}
 
-abbrev heap : Shape
+abbrev pub heap : Shape
 heap = record { regions = 4; cards = 2; slots = 4 }
 
 heap_within : IsShape heap
@@ -33,13 +33,13 @@ abbrev stores : ℕ → Option ℕ → Kind → Entry
 stores slot target kind = record { caller = 0; call = Store slot target; reply = reply.Stored kind No false; refined = [] }
 
 -- slot 0, on card 0 in region 0, refers to place 8 in region 1
-abbrev first : Entry
+abbrev pub first : Entry
 first = stores 0 (Some 8) Logged
 
-abbrev start : Table
+abbrev pub start : Table
 start = opening heap
 
-nobody : (card : ℕ) → set.contains (start.pending) card ≡ false
+pub nobody : (card : ℕ) → set.contains (start.pending) card ≡ false
 nobody card = set.contains-empty nat_cmp card
 
 -- the kinds of store
@@ -60,7 +60,7 @@ pub store_outside_the_heap_is_no_call : IsAllowed start (stores 32 (Some 0) Logg
 store_outside_the_heap_is_no_call h = let below : 32 < 32 = h.numbers.0 in absurd (omega arith)
 
 -- after that store card 0 holds into region 1
-holding : Holds (table_of heap (first ∷ [])) 0 1
+pub holding : Holds (table_of heap (first ∷ [])) 0 1
 holding = record { slot = 0; place = 8; on_card = refl; refers = refl; into = refl; outside = λ e. absurd (omega arith) }
 
 -- what a whole drain of a region answers after that store

@@ -18,6 +18,7 @@ pub mod QueryLemmas
 pub mod RefineLemmas
 pub mod ClearLemmas
 pub mod Examples
+pub mod PauseExamples
 pub mod RedirectLemmas
 pub mod PlaceLemmas
 pub mod ChangeLemmas

@@ -1,0 +1,92 @@
+-- Worked pauses on the same heap: what a drain, a question for members and a redirect may answer, before and after the first store.
+use Rattle.std.proofs.Common.{◌≡◌, inl, inr, ℕ, ◌<◌, cond, true, List, [], ◌∷◌, Some, refl, sym, ap, ◌∙◌, subst, arith}
+use Rattle.std.specs.Prelude.{Contains}
+use Rattle.std.specs.FinSet as set
+use Rattle.std.specs.Ordering.{nat_cmp}
+use Rattle.std.specs.Cmp.{Equal-is}
+use Rattle.std.proofs.lemmas.Bool.{true≢false, and_parts, not-true, or_cases}
+use Rattle.std.proofs.lemmas.Cmp.{nat_cmp_total}
+use Rattle.std.proofs.lemmas.Map.Lookups.{exact_unsigned}
+use Rattle.g1_layout.specs.declared.kind.Kind.{Kind}
+use Rattle.g1_layout.specs.declared.kind.Kind.TheVariants.{AlreadyDirty, Logged}
+use Rattle.g1_layout.specs.Sets.{CardSet, set_of}
+use Rattle.g1_core.specs.Table.{Table, AreMembers, AreRefinable, IsPending, IsRecorded, refined}
+use Rattle.g1_core.specs.Calls.{members_entry}
+use Rattle.g1_core.specs.Run.{IsAllowed, drained, kind_of, pending_after, stored, table_of}
+use Rattle.g1_core.proofs.StoreLemmas.{none_refinable}
+use Rattle.g1_core.proofs.RefinedLemmas.{refined_none, refinable_push}
+use Rattle.g1_core.proofs.TableLemmas.{held_from_Holds, newly_recorded, pending_before, refined_pending, refined_recorded, store_marks}
+use Rattle.g1_core.proofs.SetLemmas.{in_list, in_set, same_cards}
+use Rattle.g1_core.proofs.MarkLemmas.{one_of, itself}
+use Rattle.g1_core.proofs.Examples.{heap, start, first, nobody, holding}
+
+-- nothing is recorded at the opening
+nothing_recorded : (card region : ℕ) → IsRecorded start card region → ⊥
+nothing_recorded card region r = true≢false (sym r ∙ set.contains-empty _ (card, region))
+
+no_members : (region : ℕ) → AreMembers start region []
+no_members region = record { ascending = λ k lt. absurd (omega (arith, lt)); recorded = λ card c. absurd (omega (arith, c.1)); all = λ card r. absurd (nothing_recorded card region r) }
+
+pub members_of_an_unused_region_are_none : IsAllowed start (members_entry 0 1 [])
+members_of_an_unused_region_are_none = record { numbers = omega arith; refines = none_refinable _; answers = (refl, no_members 1) }
+
+pub drain_of_an_unused_region_lists_no_card : IsAllowed start (drained 0 1 [] [])
+drain_of_an_unused_region_lists_no_card = record {
+  numbers = omega arith;
+  refines = none_refinable _;
+  answers = subst (λ (t : Table). (t.pending ≡ set.empty) × AreMembers t 1 []) (sym (refined_none start)) (refl, no_members 1);
+}
+
+-- once slot 0 refers to place 8, card 0 is pending and no other
+abbrev after : Table
+after = table_of heap (first ∷ [])
+
+is_stored : after ≡ stored start 0 (Some 8)
+is_stored = refined_none (stored start 0 (Some 8))
+
+waits : IsPending after 0
+waits = subst (λ (t : Table). IsPending t 0) (sym is_stored) (store_marks start 0 8 (λ e. absurd (omega (arith, e))))
+
+only_first : (q : ℕ) → IsPending after q → q ≡ 0
+only_first q p =
+    let kind : kind_of start 0 (Some 8) ≡ Logged = ap (λ b. cond b AlreadyDirty Logged) (nobody 0) in
+    let pending : after.pending ≡ set.insert set.empty 0 = ap (λ (t : Table). t.pending) is_stored ∙ ap (λ (k : Kind). pending_after k set.empty 0) kind in
+    let there : set.contains (set.insert set.empty 0) q ≡ true = ap (λ (s : CardSet). set.contains s q) (sym pending) ∙ p in
+    elim (or_cases _ _ (sym (set.contains-insert nat_cmp_total set.empty 0 q) ∙ there)) [
+      | inl same ↦ exact_unsigned q 0 ((Equal-is (nat_cmp q 0)).0 same)
+      | inr old ↦ absurd (true≢false (sym old ∙ nobody q))
+    ]
+
+refinable : AreRefinable after (0 ∷ [])
+refinable = refinable_push after [] 0 (none_refinable after) (subst (λ (t : Table). IsPending t 0) (sym (refined_none after)) waits)
+
+nothing_waits : (refined (0 ∷ []) after).pending ≡ set.empty
+nothing_waits = same_cards _ _
+    (λ q p. absurd (true≢false (sym (in_set (0 ∷ []) q (itself q 0 (only_first q (pending_before (0 ∷ []) after q p)))) ∙ not-true _ (and_parts _ _ (sym (refined_pending (0 ∷ []) after q) ∙ p)).1)))
+    (λ q p. absurd (true≢false (sym p ∙ nobody q)))
+
+one_member : AreMembers (refined (0 ∷ []) after) 1 (0 ∷ [])
+one_member = record {
+  ascending = λ k lt. absurd (omega (arith, lt));
+  recorded = λ card c. subst (λ (q : ℕ). IsRecorded (refined (0 ∷ []) after) q 1) (sym (one_of card 0 c)) (newly_recorded (0 ∷ []) after 0 1 (held_from_Holds after 0 1 holding) (in_set (0 ∷ []) 0 (itself 0 0 refl)));
+  all = λ card r. elim (or_cases _ _ (sym (refined_recorded (0 ∷ []) after (card, 1)) ∙ r)) [
+    | inl old ↦ absurd (nothing_recorded card 1 (ap (λ (t : Table). set.contains t.recorded (card, 1)) (sym is_stored) ∙ old))
+    | inr new ↦ in_list (0 ∷ []) card (and_parts _ _ new).1
+  ];
+}
+
+pub drain_lists_the_card_that_holds : IsAllowed after (drained 0 1 (0 ∷ []) (0 ∷ []))
+drain_lists_the_card_that_holds = record { numbers = omega arith; refines = refinable; answers = (nothing_waits, one_member) }
+
+pub drain_lists_no_card_too_many : IsAllowed after (drained 0 1 (0 ∷ 5 ∷ []) (0 ∷ [])) → ⊥
+drain_lists_no_card_too_many h =
+    let c : Contains (0 ∷ []) 5 = one_member.all 5 (h.answers.1.recorded 5 (1, omega arith, refl)) in
+    let five : 5 ≡ 0 = one_of 5 0 c in absurd (omega (arith, five))
+
+pub drain_lists_no_card_too_few : IsAllowed after (drained 0 1 [] (0 ∷ [])) → ⊥
+drain_lists_no_card_too_few h =
+    let c : Contains [] 0 = h.answers.1.all 0 (one_member.recorded 0 (itself 0 0 refl)) in absurd (omega (arith, c.1))
+
+pub drain_refines_all_that_waits : IsAllowed after (drained 0 1 [] []) → ⊥
+drain_refines_all_that_waits h =
+    true≢false (sym waits ∙ ap (λ (t : Table). set.contains t.pending 0) (sym (refined_none after)) ∙ ap (λ (s : CardSet). set.contains s 0) h.answers.0 ∙ nobody 0)
