@@ -21,7 +21,7 @@ pub enum Step {
 pub enum Script {
     /// To make these calls of a mutator, in order.
     Mutate(Vec<Step>),
-    /// To make so many rounds of refinement.
+    /// To make rounds of refinement, as many as this says.
     Refine(u32),
 }
 

@@ -14,7 +14,7 @@ use std::alloc::Global;
 
 /// A lent core, for a runtime that keeps no history: a history takes 80 bytes a call, and ends after 1,000,000.
 ///
-/// Any caller may store, and no call is refused but for want of memory.
+/// Any caller may store, and a call is refused only where memory is.
 #[derive(Drop)]
 pub struct LentCore<'a> {
     core: &'a mut Core,

@@ -40,7 +40,7 @@ fn make<D: Desk>(desk: &mut D, step: Step) -> Result<(), Refusal>
     Ok(())
 }
 
-/// Makes so many rounds of refinement. Answers how many were made: all of them, or with the refusal that ended the
+/// Makes `rounds` rounds of refinement. Answers how many were made: all of them, or with the refusal that ended the
 /// script, those before it.
 pub fn refiner<D: Desk>(desk: &mut D, rounds: u32) -> Outcome
     ensures { HasAsked D.did (replicate rounds AskWork) desk.old result desk.new }

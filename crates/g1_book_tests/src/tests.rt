@@ -217,7 +217,7 @@ pub(crate) fn assert_entries(rt: &impl Abort, book: &Book, wanted: &[WantedEntry
     }
 }
 
-/// Checks that the history is so many stores, and that none of their cards was refined: then they are pending.
+/// Checks that the history is `stores` stores, and that none of their cards was refined: then they are pending.
 pub(crate) fn assert_stores(rt: &impl Abort, book: &Book, stores: usize) {
     let entries = book.entries();
     assert_eq!(rt; entries.len(), stores);

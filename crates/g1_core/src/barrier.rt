@@ -43,7 +43,7 @@ impl Core {
     /// The slot gets the target. Where the store crosses regions and the slot's card is clean, the card becomes dirty
     /// and goes last into the lent log (kind `Logged`); every other store leaves the log alone. Where that fills the log,
     /// `fill` is `Full`, and the cards of the log are handed out as a completed buffer; the log is then empty. What becomes
-    /// of the buffer is the caller's affair: its cards are pending by their marks.
+    /// of the buffer is up to the caller: its cards are pending by their marks.
     ///
     /// It refines nothing, takes no memory, reads no slot, and takes constant time: a filtered store looks at one mark at
     /// most. The hand-over of a buffer moves 1,032 bytes.

@@ -137,8 +137,8 @@ impl Core {
     /// Refines all that is pending, and answers the remembered set of a region (docs/PROFILE.md, The pause).
     ///
     /// The cards of the hot ring come first, oldest first, and then the dirty cards, ascending; nothing is counted. A
-    /// whole drain answers the set of the region, ascending, each card once, and sets every count to 0. It reads the
-    /// slots of each card that it refines once, and no other slot.
+    /// whole drain answers the set of the region, ascending, each card once, and sets every count to 0. It adds
+    /// as many reads as the cards that it refines have slots.
     ///
     /// `NoMemory` where the room for the list of refined cards was refused: nothing has changed. Where a later growth
     /// is refused the answer is `Short`: just the listed cards were refined, the others are pending as before, the

@@ -36,8 +36,8 @@ impl Core {
     /// taken whole; that card and all later ones are as they were, and dirty cards among them stay pending. `NoMemory`
     /// where room for the reply's list was refused: no card had its turn.
     ///
-    /// Reads the slots of each refined card once, and where it is short those of at most one card more. Takes memory for the list, one card's room for each card of the
-    /// buffer, and for what the remembered sets gain.
+    /// Reads the slots of each refined card once, and where it is short those of at most one card more. Takes memory for
+    /// the list, one card's room for each card of the buffer, and for what the remembered sets gain.
     pub fn refine(&mut self, buffer: Option<&Buffer>) -> Result<RefineReply, NoMemory>
         ensures turned { IfOk result (λ reply. IsRefined self.old.state (option_map (λ b. b.now) buffer.entry) reply self.new.state) }
         ensures step { IfOk result (λ reply. (caller : ℕ) → IsStep self.old.state.table (refine_entry caller reply) self.new.state.table) }
@@ -165,7 +165,7 @@ struct Tally {
 }
 
 impl Tally {
-    /// No turn yet, with room for so many.
+    /// No turn yet, with room for a refined card of each of `turns` turns.
     fn new(alloc: Global, turns: usize) -> Result<Tally, NoMemory>
         ensures refined { IfOk result (λ tally. tally.refined.items ≡ []) }
         ensures room { IfOk result (λ tally. turns ≤ vec_capacity tally.refined) }

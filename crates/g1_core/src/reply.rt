@@ -65,9 +65,9 @@ pub enum Drained {
 pub enum ClearReply {
     /// The region's remembered set is empty.
     Cleared,
-    /// So many cards are pending; nothing has changed.
+    /// Cards are pending, as many as this says; nothing has changed.
     Pending(u32),
-    /// The least slot outside the region that refers into it; nothing has changed.
+    /// The least slot outside the region that refers into it; nothing but the count of reads has changed.
     StillReferenced(Slot),
 }
 

@@ -3,7 +3,7 @@
 //! [`Heap`] holds a reference or null for each slot, and a [`Mark`] for each card. A slot is reached by its calls alone, and each read of one
 //! is counted. Slots, cards and regions are `g1_layout`'s numbers.
 //!
-//! A store is [`Heap::set`] and [`Heap::set_mark`]; refinement cleans a card and asks for its [`Heap::targets`]; a pause goes from one dirty
+//! A store is [`Heap::set`] and [`Heap::set_mark`]; refinement asks for a card's [`Heap::targets`] and then cleans it; a pause goes from one dirty
 //! card to the next by [`Heap::next_dirty`]. What a card and a read are stands in docs/PROFILE.md, Card marks and Reads.
 #![tactic(auto)]
 

@@ -50,7 +50,7 @@ impl Model for Layout {
 }
 
 impl Layout {
-    /// A layout of so many regions, cards a region and slots a card.
+    /// A layout of `regions` regions of `cards` cards of `slots` slots.
     ///
     /// `None` exactly outside the limits: a count of 0, more than 256 regions, 256 cards a region or 64 slots a card,
     /// or more than 1,048,576 slots in all.

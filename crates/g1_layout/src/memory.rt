@@ -1,4 +1,4 @@
-//! The one error of want of memory, for every crate of the machinery.
+//! The out-of-memory error of every crate of the machinery.
 
 use std::alloc::{AllocError, AllocFailed};
 use thiserror::Error;

@@ -132,7 +132,7 @@ fn numbers_up_to(alloc: Global, room: usize) -> Result<Vec<u64>, NoMemory> {
     Ok(numbers)
 }
 
-// `?` makes the error of the allocator's two errors; no memory holds so many numbers.
+// `?` makes the error of the allocator's two errors; no memory holds that many numbers.
 #[test]
 fn a_refused_growth(rt: HostRuntime) -> Result<(), Fail> {
     assert_eq!(rt; numbers_up_to(rt.alloc(), 0)?.len(), 1);

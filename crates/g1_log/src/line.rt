@@ -67,8 +67,9 @@ impl Line {
 
     /// Puts a buffer last into the line, under this sender's next number.
     ///
-    /// `Err` hands the buffer back and uses up no number. It comes only if the queue was full at some moment of the call,
-    /// or if this sender has put 2^58 buffers. One step of the queue, which moves the buffer; no memory.
+    /// `Err` hands the buffer back and uses up no number. It comes only if the queue was full at some moment of the call
+    /// (the clause says so in part: docs/DECISIONS.md), or if this sender has put 2^58 buffers. One step of the queue,
+    /// which moves the buffer; no memory.
     pub fn put<R: Wait>(&self, rt: &R, sender: &mut Sender, buffer: Buffer) -> Result<(), Buffer>
         requires { IsSenderOf self.now sender.old }
         ensures same { IsSameSender sender.new sender.old }
@@ -96,8 +97,9 @@ impl Line {
 
     /// Takes the oldest parcel of the line.
     ///
-    /// `None` comes only if the queue was empty at some moment of the call. One step of the queue, which moves the
-    /// buffer; no memory.
+    /// `None` comes only if the queue was empty at some moment of the call (the clause says so in part: docs/DECISIONS.md).
+    /// No clause says that it is the oldest; the rule says that the numbers of each sender rise in what a taker takes. One
+    /// step of the queue, which moves the buffer; no memory.
     pub fn take<R: Wait>(&self, rt: &R, taker: &mut Taker) -> Option<Parcel>
         requires { IsTakerOf self.now taker.old }
         ensures same { IsSameTaker taker.new taker.old }
@@ -108,8 +110,8 @@ impl Line {
         self.queue.pop_as::<Takes, R>(rt, &mut taker.pass)
     }
 
-    /// How many parcels the queue held at some moment of the call: at most the capacity, and nothing else is claimed.
-    /// No memory.
+    /// How many parcels the queue held at some moment of the call. The clause says that they are at most the capacity, and
+    /// no more. No memory.
     pub fn len<R: Wait>(&self, rt: &R) -> usize
         ensures within { result ≤ capacity_of self.now }
         ensures few { result ≤ 1024 }

@@ -9,7 +9,7 @@ use std::alloc::Global;
 use std::test::Fail;
 use std::thread::{self, Threads};
 
-// What the threads of a race do: racer k makes these stores, and each sweeper refines each of the first cards in so many rounds.
+// What the threads of a race do: racer k makes these stores, and each sweeper refines each of the first `cards` cards in `rounds` rounds.
 #[derive(Clone, Copy)]
 pub(crate) struct Plan {
     pub(crate) stores: u32,

@@ -18,7 +18,7 @@ use std::marker::Model;
 /// The remembered sets of all regions of a heap.
 ///
 /// Cards and regions are numbers of the layout that the sets were made with. No card is recorded
-/// that the caller did not name; whether it lies outside the region is the caller's affair.
+/// that the caller did not name; whether it lies outside the region is up to the caller.
 #[derive(Drop)]
 pub struct Sets {
     alloc: Global,

@@ -16,7 +16,7 @@ use std::sync::Wait;
 use std::sync::ledger::{Blank, Ledger};
 use std::thread::{self, Threads};
 
-/// Makes the stores by so many callers.
+/// Makes the stores by `timed.threads` callers.
 pub fn lock<R: Threads + Wait + Sync + Clock>(
     rt: &R,
     alloc: Global,

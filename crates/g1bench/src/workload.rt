@@ -42,7 +42,7 @@ impl Workload {
         self.checksum
     }
 
-    /// Looks at the first slots of so many cards.
+    /// Looks at the first slots of `times` cards.
     pub fn walk_slots(&mut self, times: u32) {
         for card in 0..times {
             let Some(slot) = self.slot_on(card, 0) else {
@@ -52,7 +52,7 @@ impl Workload {
         }
     }
 
-    /// Looks at the first slots of so many cards, and at the places that they refer to.
+    /// Looks at the first slots of `times` cards, and at the places that they refer to.
     pub fn walk_places(&mut self, times: u32) {
         for card in 0..times {
             let Some((slot, place)) = self.reference_of(card, 0) else {
@@ -62,7 +62,7 @@ impl Workload {
         }
     }
 
-    /// Looks at the first slots of so many cards, and at the listed places of their regions.
+    /// Looks at the first slots of `times` cards, and at the listed places of their regions.
     pub fn walk_own_places(&mut self, times: u32) {
         for card in 0..times {
             let Some((slot, place)) = self.own_reference_of(card) else {
@@ -72,7 +72,7 @@ impl Workload {
         }
     }
 
-    /// Stores null into the first slots of so many cards.
+    /// Stores null into the first slots of `times` cards.
     pub fn store_nulls(&mut self, times: u32) {
         for card in 0..times {
             let Some(slot) = self.slot_on(card, 0) else {
@@ -82,7 +82,7 @@ impl Workload {
         }
     }
 
-    /// Stores the listed places of their regions into the first slots of so many cards.
+    /// Stores the listed places of their regions into the first slots of `times` cards.
     pub fn store_in_region(&mut self, times: u32) {
         for card in 0..times {
             let Some((slot, place)) = self.own_reference_of(card) else {
@@ -92,13 +92,13 @@ impl Workload {
         }
     }
 
-    /// Makes every card dirty, and then stores across regions into the first slots of so many of them.
+    /// Makes every card dirty, and then stores across regions into the first slots of `times` of them.
     pub fn store_again(&mut self, times: u32) {
         self.store_all(0);
         self.store_across(times);
     }
 
-    /// Stores across regions into the first slots of so many cards.
+    /// Stores across regions into the first slots of `times` cards.
     pub fn store_across(&mut self, times: u32) {
         for card in 0..times {
             let Some((slot, place)) = self.reference_of(card, 0) else {
@@ -108,7 +108,7 @@ impl Workload {
         }
     }
 
-    /// Stores across regions into the first slots of so many cards, and refines each full log.
+    /// Stores across regions into the first slots of `times` cards, and refines each full log.
     pub fn refine(&mut self, times: u32) -> Result<(), NoMemory> {
         for card in 0..times {
             let Some((slot, place)) = self.reference_of(card, 0) else {
@@ -119,13 +119,13 @@ impl Workload {
         Ok(())
     }
 
-    /// Stores across regions into the first slots of so many cards, and drains them.
+    /// Stores across regions into the first slots of `times` cards, and drains them.
     pub fn drain(&mut self, times: u32) -> Result<(), NoMemory> {
         self.store_across(times);
         self.drain_first()
     }
 
-    /// Drains the first region so many times.
+    /// Drains the first region `times` times.
     pub fn pause(&mut self, times: u32) -> Result<(), NoMemory> {
         for _ in 0..times {
             self.drain_first()?;
@@ -133,7 +133,7 @@ impl Workload {
         Ok(())
     }
 
-    /// Asks so many times for a clear of the first region.
+    /// Asks `times` times for a clear of the first region.
     pub fn clear(&mut self, times: u32) {
         for _ in 0..times {
             self.clear_first();
@@ -152,7 +152,7 @@ impl Workload {
         }
     }
 
-    /// Redirects the references into one region to another, then those into that one back, so many times in all.
+    /// Redirects the references into one region to another, then those into that one back, `times` times in all.
     pub fn redirect(&mut self, times: u32) -> Result<(), NoMemory> {
         for turn in 0..times {
             if turn % 2 == 0 {

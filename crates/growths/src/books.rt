@@ -9,7 +9,7 @@ use g1_core::{ClearReply, Config};
 use g1_layout::NoMemory;
 use g1_log::Log;
 
-/// The settings of the books: logs of so many cards, and a line of so many buffers. No card is found hot, and a round
+/// The settings of the books: logs of `log` cards, and a line of `limit` buffers. No card is found hot, and a round
 /// of refinement begins at five buffers.
 pub(crate) fn settings(log: usize, limit: usize) -> Result<Config, Failure> {
     Config::new(log, limit, 255, 4, 5).ok_or(Failure::Wrong)

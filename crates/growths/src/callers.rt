@@ -35,7 +35,7 @@ struct Ends<'a> {
     ghost of: { IsSenderOf line.now mutator.sender × IsTakerOf line.now taker } by { Prim.hlevel props },
 }
 
-// Plays a scenario on a new book and a new line, for logs of so many cards and so many buffers in the line.
+// Plays a scenario on a new book and a new line, for logs of `log` cards and a line of `limit` buffers.
 fn at_line<
     R: Wait + Eprint + AllocGlobal,
     F: FnOnce(&R, &mut Kept, &mut Ends<'_>) -> Result<(), Failure>,

@@ -7,7 +7,7 @@ use g1_core::{Config, Core, Drained, Redirected};
 use g1_layout::NoMemory;
 use g1_log::Log;
 
-/// A core whose cards are hot after so many refinements, with a ring of so many cards.
+/// A core whose cards are hot after `hot` refinements, with a ring of `ring` cards.
 pub(crate) fn new_core<R: Eprint + AllocGlobal>(
     rt: &R,
     hot: u32,
@@ -175,7 +175,7 @@ fn is_pending(core: &Core, number: u32) -> Result<bool, Failure> {
     Ok(core.is_pending(card))
 }
 
-/// Whether just these slots refer, each to its place, just these cards are pending, and so many pairs are recorded.
+/// Whether just these slots refer, each to its place, just these cards are pending, and `recorded` pairs are recorded.
 pub(crate) fn is_seen(
     rt: &impl Eprint,
     core: &mut Core,

@@ -29,7 +29,7 @@ pub(crate) fn play<R: Print + Eprint + AllocGlobal>(rt: &R) -> Result<(), Failur
     told(rt, "the members of a region", on_core(rt, 4, 4, listed))
 }
 
-// Plays a scenario on a new core, whose cards are hot after so many refinements, with a ring of so many cards.
+// Plays a scenario on a new core, whose cards are hot after `hot` refinements, with a ring of `ring` cards.
 fn on_core<R: Eprint + AllocGlobal, F: FnOnce(&R, &mut Core) -> Result<(), Failure>>(
     rt: &R,
     hot: u32,
@@ -159,7 +159,7 @@ fn members_of(rt: &impl Eprint, core: &mut Core, of: u32) -> Result<Numbers, Fai
     }
 }
 
-// Refines a buffer of these cards, of which the ones in the order are refined and so many found hot; where that was refused or
+// Refines a buffer of these cards, of which the ones in the order are refined and `hot` found hot; where that was refused or
 // is short, it is made again.
 fn refined(
     rt: &impl Eprint,

@@ -7,7 +7,7 @@ use arrayvec::ArrayVec;
 use g1_layout::{Card, Layout, Region, Slot};
 use g1_log::Buffer;
 
-/// A heap of so many regions, cards a region and slots a card.
+/// A heap of `regions` regions of `cards` cards of `slots` slots.
 pub(crate) fn layout(regions: u32, cards: u32, slots: u32) -> Result<Layout, Failure> {
     Layout::new(regions, cards, slots).ok_or(Failure::Wrong)
 }

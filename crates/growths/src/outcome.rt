@@ -42,7 +42,7 @@ pub(crate) fn refused(rt: &impl Eprint, call: &str) {
     let _ = eprintln!(rt; "refused: {call}");
 }
 
-/// Says that a call answered shortly, with so many cards refined.
+/// Says that a call answered shortly, with `cards` cards refined.
 pub(crate) fn short(rt: &impl Eprint, call: &str, cards: usize) {
     let _ = eprintln!(rt; "short: {call}, {cards} cards refined");
 }

@@ -26,7 +26,7 @@ pub(crate) fn play<R: Print + Eprint + AllocGlobal>(rt: &R) -> Result<(), Failur
     )
 }
 
-// Plays a scenario on new sets, for so many regions of so many cards.
+// Plays a scenario on new sets, for `regions` regions of `cards` cards.
 fn on_sets<R: Eprint + AllocGlobal, F: FnOnce(&R, &mut Numbered) -> Result<(), Failure>>(
     rt: &R,
     regions: u32,
@@ -51,7 +51,7 @@ impl Numbered {
     ghost use Rattle.std.specs.Prelude.{◌<◌, IfOk};
     ghost use Rattle.g1_layout.specs.Shape.{card_count};
 
-    // Sets of no card, for regions of so many cards.
+    // Sets of no card, for `regions` regions of `cards` cards.
     fn new<R: Eprint + AllocGlobal>(rt: &R, regions: u32, cards: u32) -> Result<Numbered, Failure> {
         let layout = layout(regions, cards, 1)?;
         let sets = match Sets::new(rt.alloc(), layout) {
@@ -77,7 +77,7 @@ impl Numbered {
         numbers::region(&self.layout, number)
     }
 
-    // Whether the region's set has just these cards and then those from 0 on, so many of them, in the order of insertion.
+    // Whether the region's set has just these cards and then `count` from 0 on, in the order of insertion.
     fn has_just(&self, region: u32, first: &[u32], count: u32) -> Result<bool, Failure> {
         let region = self.region(region)?;
         for index in 0..self.sets.len(region) {
@@ -177,7 +177,7 @@ fn most_listed(rt: &impl Eprint, sets: &mut Numbered) -> Result<(), Failure> {
     listed(rt, sets, 128, 1_100)
 }
 
-// The first region's set has so many cards, from its neighbour's first card on; they were recorded from the last to the first.
+// The first region's set has `members` cards, from its neighbour's first card on; they were recorded from the last to the first.
 fn listed(rt: &impl Eprint, sets: &mut Numbered, first: u32, members: u32) -> Result<(), Failure> {
     for card in (first..first.saturating_add(members)).rev() {
         if sets.record(card, 0, 0) == Err(Failure::NoMemory) {

@@ -25,7 +25,7 @@ pub(crate) fn completed<R: Wait>(rt: &R, line: &Line) -> u32
 /// Takes the oldest completed buffer from the line and refines it, as one call; where the line gave none, the call
 /// refines nothing (docs/PROFILE.md, The steps of a caller).
 ///
-/// `left` is how many buffers the line had after the take. Where the call is refused a buffer that was taken is given up,
+/// `left` is how many buffers the line had at some moment after the take. Where the call is refused a buffer that was taken is given up,
 /// and its cards stay pending.
 #[tactic(auto, using(crate::proofs::StepLemmas::gains_nothing, crate::proofs::StepLemmas::gains_single))]
 pub fn refine<C: Calls, R: Wait>(
@@ -91,8 +91,8 @@ pub fn work<C: Calls, R: Wait>(
     })
 }
 
-/// Makes so many calls of a round that has seen so many completed buffers, or fewer where the line is empty, one is
-/// short, or one is refused.
+/// Makes `count` calls of a round that has seen `seen` completed buffers, or fewer where the line is empty, one is short, or
+/// one is refused.
 #[tactic(auto, using(crate::proofs::RoundLemmas::round_begins))]
 fn run_round<C: Calls, R: Wait>(
     rt: &R,
@@ -177,7 +177,7 @@ const MOST_CARDS: usize = 256;
 impl Sums {
     ghost use Rattle.g1_book.specs.Rounds.{so_far, added};
 
-    /// No call yet, and so many buffers seen in the line.
+    /// No call yet, and `left` buffers seen in the line.
     fn new(alloc: Global, left: u32) -> Sums
         ensures numbers { (result.taken ≡ 0) × (result.hot ≡ 0) × (result.skipped ≡ 0) }
         ensures refined { result.refined.items ≡ [] }
@@ -213,7 +213,7 @@ impl Sums {
     }
 }
 
-/// How many calls a round makes at most, where it begins at `start` completed buffers and sees so many.
+/// How many calls a round makes at most, where it begins at `start` completed buffers and sees `seen`.
 fn round_size(start: usize, seen: u32) -> u32
     ensures size { result ≡ round_size start seen }
     ensures within { result ≤ seen }

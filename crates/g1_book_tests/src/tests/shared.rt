@@ -234,7 +234,7 @@ fn played_by<M: Frame, S: Ledger, P: Play, R: Wait + Abort>(
     Ok(bare_callers(alloc, playing)?)
 }
 
-/// Shares the book among so many callers, lets them play, and gives it back.
+/// Shares the book among `callers` callers, lets them play, and gives it back.
 fn played<P: Play, R: Wait + Abort>(
     rt: &R,
     alloc: Global,

@@ -51,7 +51,7 @@ fn put_place<W: Write>(output: &mut W, number: u64) -> Result<(), WriteFailed>
     put(output, b": ")
 }
 
-/// Writes the line of a replay that ends for want of memory.
+/// Writes the line of a replay that ends because memory was refused.
 pub fn put_no_memory<W: Write>(output: &mut W) -> Result<(), WriteFailed>
     ensures { Puts (W.contents output.old) (W.contents output.new) result no_memory_line }
 {

@@ -60,7 +60,7 @@ impl<M: Frame, S: Ledger> SharedCaller<'_, M, S> {
         Ok(self.shared.work(rt, &mut self.caller)?)
     }
 
-    /// Whether so many calls were entered since, and as many entries as calls are in the history.
+    /// Whether from `least` to `most` calls were entered since, and as many entries as calls are in the history.
     pub(crate) fn has_made<R: Wait + Eprint>(
         &self,
         rt: &R,
