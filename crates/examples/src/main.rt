@@ -7,12 +7,14 @@ use std::io;
 use std::sync::Wait;
 use std::thread::Threads;
 
-const NAMES: [&str; 8] = [
+const NAMES: [&str; 10] = [
     "one_reference",
     "hot_card",
     "full_line_and_help",
+    "round_of_work",
     "cleared_and_redirected",
     "crew_of_two",
+    "full_history",
     "fault",
     "recorded_compiler",
     "recorded_threads",

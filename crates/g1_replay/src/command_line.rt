@@ -39,6 +39,23 @@ const RUN_ABOUT: &str =
 const RUN_AFTER_HELP: &str = "\
 Each option takes one decimal whole number, and may be given once.
 
+A trace is lines of text. The first is 'heap R C S', a heap of R regions of C cards of S slots, and
+each other one is a command. M is a mutator, S and T are slots, C is a card, and R, A and B are
+regions, all of them numbers from 0:
+  store M S T   mutator M stores a reference to slot T, or 'null', into slot S
+  flush M       mutator M passes its log on as it is
+  refine        the oldest completed buffer is refined
+  work          a round of refinement
+  target S      what does slot S refer to?
+  pending C     is card C pending?
+  members R     which cards are in the remembered set of region R?
+  status        how many cards are pending, and how many pairs of a card and a region recorded?
+  drain R       a pause: what is pending is refined, and the remembered set of region R listed
+  clear R       empties the remembered set of region R, if nothing refers into the region any more
+  redirect A B  a pause, after which the references into region A refer into region B
+Empty lines, and lines that begin with '#', are passed over. To replay a file:
+  g1replay run < FILE
+
 Example, with logs that one card fills:
   printf 'heap 4 2 4\\nstore 0 0 8\\nrefine\\nmembers 1\\n' | g1replay run --log 1
 It makes a heap of 4 regions of 2 cards of 4 slots, stores a reference to slot 8, which lies
@@ -92,7 +109,7 @@ pub fn read_options(alloc: Global, words: &[&str]) -> Result<(Mode, Options), Li
     ensures read { IfOk result (λ p. IsLine (map (λ w. w.now) words.now) p.0 p.1) }
     ensures taken { OnOk result (fault_of line_app (map (λ w. w.now) words.now) ≡ []) }
 
-    // Words that the line takes are refused for want of memory alone.
+    // Words that the line takes are refused only with no text, as where memory was refused.
     ensures refused { IfErr result (λ f. takes line_app (map (λ w. w.now) words.now) ≡ true → string_bytes f.text ≡ []) }
 {
     let Ok(command) = line(alloc) else {
