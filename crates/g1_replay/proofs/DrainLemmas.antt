@@ -3,9 +3,10 @@ use Rattle.std.proofs.Common.{◌≡◌, ℕ, suc, ◌+◌, List, [], ◌∷◌,
 use Rattle.std.specs.Prelude.{Ok, Err}
 use Rattle.std.specs.Io.KnownBytes.{Appends}
 use Rattle.std.proofs.KnownBytes.{Appends-nil, Appends-trans}
+use Rattle.g1_core.specs.declared.entry.Call.TheVariants.{Drain}
 use Rattle.g1_book.specs.History.{History, Terms, layout_in}
 use Rattle.g1_replay.specs.declared.command.Command.{Command}
-use Rattle.g1_replay.specs.declared.command.Command.TheVariants.{Drain}
+use Rattle.g1_replay.specs.declared.command.Command.TheVariants.{Call}
 use Rattle.g1_replay.specs.declared.stop.Stop.{Stop}
 use Rattle.g1_replay.specs.Crew.{drains, HasDrained}
 use Rattle.g1_replay.specs.Laws.{played_none, played_then}
@@ -26,13 +27,13 @@ drained_none h out = record { text = []; played = played_none h; written = Appen
 pub drained_layout : (k : ℕ) (old new : History) (out out' : Option (List ℕ)) → Drained k old new out out' → layout_in new ≡ layout_in old
 drained_layout k old new out out' p = ap (λ (t : Terms). t.layout) p.played.grows.terms
 
-pub drained_more : (k : ℕ) (old mid new : History) (out mid_out out' : Option (List ℕ)) → Drained k old mid out mid_out → Does HasPlayed IsFull (Drain k ∷ []) mid new mid_out out' (Ok true) → Drained (k + 1) old new out out'
+pub drained_more : (k : ℕ) (old mid new : History) (out mid_out out' : Option (List ℕ)) → Drained k old mid out mid_out → Does HasPlayed IsFull (Call (Drain k) ∷ []) mid new mid_out out' (Ok true) → Drained (k + 1) old new out out'
 drained_more k old mid new out mid_out out' p q =
-    let same : Drain k ∷ [] ≡ q.done = all_done (Drain k ∷ []) q.done q.undone q.all q.stopped in
+    let same : Call (Drain k) ∷ [] ≡ q.done = all_done (Call (Drain k) ∷ []) q.done q.undone q.all q.stopped in
     let next : suc k ≡ k + 1 = omega arith in
     let more : Drained (suc k) old new out out' = record {
       text = p.text ++ q.text;
-      played = played_then old mid new (drains k) (Drain k ∷ []) p.text q.text p.played (subst (λ (cs : List Command). HasPlayed mid cs q.text new) (sym same) q.made);
+      played = played_then old mid new (drains k) (Call (Drain k) ∷ []) p.text q.text p.played (subst (λ (cs : List Command). HasPlayed mid cs q.text new) (sym same) q.made);
       written = Appends-trans _ _ _ _ _ p.written q.written;
     } in subst (λ j. Drained j old new out out') next more
 
@@ -46,18 +47,18 @@ one_done c (d ∷ []) undone e = inr cc
 one_done c (d ∷ x ∷ ds) undone e = cc
 
 -- one drain more, or not
-last_drain : (k : ℕ) (old mid new : History) (done : List Command) (xs ys : List ℕ) → (done ≡ []) ⊎ (done ≡ Drain k ∷ []) → HasPlayed old (drains k) xs mid → HasPlayed mid done ys new → (n : ℕ) × HasPlayed old (drains n) (xs ++ ys) new
+last_drain : (k : ℕ) (old mid new : History) (done : List Command) (xs ys : List ℕ) → (done ≡ []) ⊎ (done ≡ Call (Drain k) ∷ []) → HasPlayed old (drains k) xs mid → HasPlayed mid done ys new → (n : ℕ) × HasPlayed old (drains n) (xs ++ ys) new
 last_drain k old mid new done xs ys (inl e) p q =
     let none : HasPlayed mid [] ys new = subst (λ (cs : List Command). HasPlayed mid cs ys new) e q in
     (k, subst (λ (cs : List Command). HasPlayed old cs (xs ++ ys) new) (append-nil (drains k)) (played_then old mid new (drains k) [] xs ys p none))
 last_drain k old mid new done xs ys (inr e) p q =
-    (suc k, played_then old mid new (drains k) (Drain k ∷ []) xs ys p (subst (λ (cs : List Command). HasPlayed mid cs ys new) e q))
+    (suc k, played_then old mid new (drains k) (Call (Drain k) ∷ []) xs ys p (subst (λ (cs : List Command). HasPlayed mid cs ys new) e q))
 
 -- a drain that was refused, or whose line was not written
-pub drained_stopped : (regions k : ℕ) (old mid new : History) (out mid_out out' : Option (List ℕ)) (stop : Stop) → Drained k old mid out mid_out → Does HasPlayed IsFull (Drain k ∷ []) mid new mid_out out' (Err stop)
+pub drained_stopped : (regions k : ℕ) (old mid new : History) (out mid_out out' : Option (List ℕ)) (stop : Stop) → Drained k old mid out mid_out → Does HasPlayed IsFull (Call (Drain k) ∷ []) mid new mid_out out' (Err stop)
     → HasDrained regions old new out out' (Err stop)
 drained_stopped regions k old mid new out mid_out out' stop p q =
-    let last = last_drain k old mid new q.done p.text q.text (one_done (Drain k) q.done q.undone q.all) p.played q.made in
+    let last = last_drain k old mid new q.done p.text q.text (one_done (Call (Drain k)) q.done q.undone q.all) p.played q.made in
     record {
       drained = last.0;
       text = p.text ++ q.text;

@@ -1,5 +1,5 @@
 -- The line of the end, and the whole output where the end says what it is.
-use Rattle.std.proofs.Common.{◌≡◌, ℕ, List, [], ◌∷◌, ◌++◌, refl, sym, ap, ◌∙◌, subst, append-nil, append_assoc, ap₂, Option, Some, None, true, false}
+use Rattle.std.proofs.Common.{◌≡◌, ℕ, List, [], ◌∷◌, ◌++◌, refl, ap, ◌∙◌, subst, append-nil, append_assoc, ap₂, Option, Some, None, false}
 use Rattle.std.specs.Prelude.{Result, Ok, Err, IfSome, IfNone, IsSome}
 use Rattle.std.proofs.KnownBytes.{Appends-trans}
 use Rattle.std.specs.Io.KnownBytes.{Appends, Consumes}
@@ -12,14 +12,14 @@ use Rattle.g1_replay.specs.declared.end.End.{End}
 use Rattle.g1_replay.specs.declared.end.End.TheVariants.{Whole, Refused, Stopped, ReadFailed as EndReadFailed, WriteFailed as EndWriteFailed}
 use Rattle.g1_replay.specs.declared.fault.TraceFault.{TraceFault}
 use Rattle.g1_replay.specs.declared.stop.Stop.{Stop}
-use Rattle.g1_replay.specs.declared.stop.Stop.TheVariants.{Fault, NoMemory, BookFull, ReadFailed, WriteFailed}
+use Rattle.g1_replay.specs.declared.stop.Stop.TheVariants.{Fault, WriteFailed}
 use Rattle.g1_replay.specs.Bytes.{AppendsFront}
-use Rattle.g1_replay.specs.Output.{Told, IsEnded, ending_line, end_of, ended, IsWholeOutput, IsRefusedOutput}
+use Rattle.g1_replay.specs.Output.{Told, IsEnded, ending_line, end_of, IsWholeOutput, IsRefusedOutput}
 use Rattle.g1_replay.specs.Pieces.{entries_of}
 use Rattle.g1_replay.specs.Playing.{Writes}
 use Rattle.g1_replay.specs.Reading.{Reads, IsLeft}
 use Rattle.g1_replay.specs.Text.{fault_line}
-use Rattle.g1_replay.specs.Trace.{Trace, read_trace, read_on, before, faulty}
+use Rattle.g1_replay.specs.Trace.{read_trace, before}
 use Rattle.g1_replay.proofs.PutLemmas.{front_then}
 use Rattle.g1_replay.proofs.ReadingLemmas.{left_none}
 

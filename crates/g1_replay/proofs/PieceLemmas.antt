@@ -8,17 +8,11 @@ use Rattle.g1_layout.specs.declared.kind.Kind.TheVariants.{Logged}
 use Rattle.g1_core.specs.declared.reply.Fill.TheVariants.{No, Full, Helped}
 use Rattle.g1_core.specs.declared.reply.StoreReply.{StoreReply}
 use Rattle.g1_core.specs.declared.reply.RefineReply.{RefineReply}
-use Rattle.g1_core.specs.declared.reply.Status.{Status}
-use Rattle.g1_core.specs.declared.reply.Drained.{Drained}
-use Rattle.g1_core.specs.declared.reply.Drained.TheVariants as drained
-use Rattle.g1_core.specs.declared.reply.ClearReply.{ClearReply}
-use Rattle.g1_core.specs.declared.reply.Redirected.{Redirected}
-use Rattle.g1_core.specs.declared.reply.Redirected.TheVariants as redirected
 use Rattle.g1_core.specs.declared.entry.Entry.{Entry}
 use Rattle.g1_core.specs.declared.entry.Call.TheVariants.{Refine}
-use Rattle.g1_core.specs.Calls.{store_entry, refine_entry, target_entry, pending_entry, members_entry, status_entry, drain_entry, clear_entry, redirect_entry}
+use Rattle.g1_core.specs.Calls.{store_entry, refine_entry}
 use Rattle.g1_replay.specs.declared.command.Command.TheVariants as command
-use Rattle.g1_replay.specs.Text.{store_text, flush_text, refine_text, work_text, worked_line, target_text, pending_text, members_text, status_text, drain_text, clear_text, redirect_text}
+use Rattle.g1_replay.specs.Text.{store_text, flush_text, refine_text, work_text, worked_line}
 use Rattle.g1_replay.specs.Pieces.{plain_piece, IsCallBy, IsLineOf, taken_by, hot_in, skipped_in, is_any_short}
 
 -- A store that passed no buffer on, or whose buffer the line took.
@@ -99,26 +93,3 @@ work_says replies r taken refined hot skipped whole =
     let s : r.skipped ≡ sum_by (λ (e : Entry). skipped_in e.reply) (map (refine_entry 0) replies) = skipped ∙ sym (sum_by-map (λ (e : Entry). skipped_in e.reply) (refine_entry 0) replies) in
     let f : r.short ≡ is_any_short (map (refine_entry 0) replies) || r.short = short_in_all replies r.short whole in
     record { piece = are_refinements replies; line = same_line a b d s r.left f }
-
-pub target_says : (slot : ℕ) (target : Option ℕ) → IsLineOf (command.Target slot) (plain_piece (target_entry 0 slot target ∷ [])) (target_text target)
-target_says slot target = record { piece = (refl, refl); line = refl }
-
-pub pending_says : (card : ℕ) (answer : Bool) → IsLineOf (command.Pending card) (plain_piece (pending_entry 0 card answer ∷ [])) (pending_text answer)
-pending_says card answer = record { piece = (refl, refl); line = refl }
-
-pub members_says : (region : ℕ) (cards : List ℕ) → IsLineOf (command.Members region) (plain_piece (members_entry 0 region cards ∷ [])) (members_text cards)
-members_says region cards = record { piece = (refl, refl); line = refl }
-
-pub status_says : (status : Status) → IsLineOf command.Status (plain_piece (status_entry 0 status ∷ [])) (status_text status)
-status_says status = record { piece = (refl, refl); line = refl }
-
-pub drain_says : (region : ℕ) (answer : Drained) → IsLineOf (command.Drain region) (plain_piece (drain_entry 0 region answer ∷ [])) (drain_text answer)
-drain_says region (drained.Cards cards refined) = record { piece = (refl, refl); line = refl }
-drain_says region (drained.Short refined) = record { piece = (refl, refl); line = refl }
-
-pub clear_says : (region : ℕ) (answer : ClearReply) → IsLineOf (command.Clear region) (plain_piece (clear_entry 0 region answer ∷ [])) (clear_text answer)
-clear_says region answer = record { piece = (refl, refl); line = refl }
-
-pub redirect_says : (from to : ℕ) (answer : Redirected) → IsLineOf (command.Redirect from to) (plain_piece (redirect_entry 0 from to answer ∷ [])) (redirect_text answer)
-redirect_says from to (redirected.Moved slots refined) = record { piece = (refl, refl); line = refl }
-redirect_says from to (redirected.Short refined) = record { piece = (refl, refl); line = refl }

@@ -1,5 +1,5 @@
 -- Lines that were played: one, and one after another.
-use Rattle.std.proofs.Common.{◌≡◌, ℕ, List, [], ◌∷◌, ◌++◌, refl, sym, ap, ◌∙◌, subst, append_assoc, append-nil, Option, Some, true, arith}
+use Rattle.std.proofs.Common.{◌≡◌, ℕ, List, [], ◌∷◌, ◌++◌, refl, sym, ap, ◌∙◌, append_assoc, append-nil, Option, Some, true, arith}
 use Rattle.std.specs.Prelude.{Bool, Result, Ok, Err}
 use Rattle.g1_layout.specs.Shape.{Shape}
 use Rattle.g1_replay.specs.declared.command.Command.{Command}

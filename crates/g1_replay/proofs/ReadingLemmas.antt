@@ -14,8 +14,8 @@ use Rattle.g1_replay.specs.declared.stop.Stop.{Stop}
 use Rattle.g1_replay.specs.declared.stop.Stop.TheVariants.{Fault, ReadFailed}
 use Rattle.g1_replay.specs.Grammar.{read_command, read_header}
 use Rattle.g1_replay.specs.Lines.{IsPart, ReadsLine}
-use Rattle.g1_replay.specs.Reading.{IsLeft, Passes, IsReadStop, Reads}
-use Rattle.g1_replay.specs.Trace.{Trace, read_on, read_line, after_line, at_end, before, faulty}
+use Rattle.g1_replay.specs.Reading.{IsLeft, IsReadStop, Reads}
+use Rattle.g1_replay.specs.Trace.{read_on, read_line, after_line, at_end, before, faulty}
 
 -- bytes of one line
 scan : (line : List ℕ) (d : Dialect) (heap : Option Shape) (n : ℕ) (begun x : List ℕ) → IsPart line → length begun + length line ≤ 64

@@ -1,12 +1,12 @@
 -- From what was read and played to the text of a permitted run.
-use Rattle.std.proofs.Common.{◌≡◌, ◌≤◌, ℕ, List, [], ◌∷◌, ◌++◌, refl, length, sym, ap, ◌∙◌, subst, arith, Option, Some, None, true}
-use Rattle.std.specs.Prelude.{Bool, Result, Ok, Err, IfSome, IfNone}
+use Rattle.std.proofs.Common.{◌≡◌, ◌≤◌, ℕ, List, [], ◌++◌, refl, length, sym, ap, ◌∙◌, subst, arith, Option, Some, None, true}
+use Rattle.std.specs.Prelude.{Result, Ok, Err, IfSome, IfNone}
 use Rattle.std.proofs.KnownBytes.{Appends-nil}
 use Rattle.g1_layout.specs.Shape.{Shape}
 use Rattle.g1_core.specs.Table.{opening}
 use Rattle.g1_core.specs.declared.entry.Entry.{Entry}
 use Rattle.g1_core.specs.Run.{IsPermitted}
-use Rattle.g1_book.specs.History.{History, IsHistory, Terms, layout_in}
+use Rattle.g1_book.specs.History.{History, IsHistory, Terms}
 use Rattle.g1_book.specs.Lent.{Grows}
 use Rattle.g1_replay.specs.declared.command.Command.{Command}
 use Rattle.g1_replay.specs.declared.dialect.Dialect.{Dialect}

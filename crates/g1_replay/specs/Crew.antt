@@ -4,12 +4,13 @@ use Rattle.std.specs.Io.KnownBytes.{Appends}
 use Rattle.std.proofs.Common.{refl, sym, ap, ◌∙◌, subst, append-nil, append_assoc}
 use Rattle.g1_layout.specs.Shape.{Shape}
 use Rattle.g1_core.specs.Table.{opening}
+use Rattle.g1_core.specs.declared.entry.Call.TheVariants.{Drain}
 use Rattle.g1_core.specs.declared.entry.Entry.{Entry}
 use Rattle.g1_core.specs.Run.{IsPermitted}
 use Rattle.g1_book.specs.Counts.{is_store}
 use Rattle.g1_book.specs.History.{History}
 use Rattle.g1_replay.specs.declared.command.Command.{Command}
-use Rattle.g1_replay.specs.declared.command.Command.TheVariants.{Drain}
+use Rattle.g1_replay.specs.declared.command.Command.TheVariants.{Call}
 use Rattle.g1_replay.specs.declared.dialect.Dialect.{Dialect}
 use Rattle.g1_replay.specs.declared.fault.TraceFault.{TraceFault}
 use Rattle.g1_replay.specs.declared.stop.Stop.{Stop}
@@ -24,7 +25,7 @@ use Rattle.g1_replay.specs.Trace.{read_trace}
 -- the drains of the first regions, so many
 abbrev pub drains : ℕ → List Command
 drains zero = []
-drains (suc k) = drains k ++ Drain k ∷ []
+drains (suc k) = drains k ++ Call (Drain k) ∷ []
 
 -- The drains of the first regions were made and entered, and this is their text; at the end without a stop those of all regions. Where the book is
 -- full, it is full then.

@@ -1,9 +1,12 @@
 -- What a line of a trace means: the header, or a command.
-use Rattle.std.specs.Prelude.{◌≡◌, ◌≢◌, ℕ, ◌<◌, ◌*◌, List, [], ◌∷◌, ◌==◌, nat_lt, ◌&&◌, if◌then◌else◌, Bool, true, false, Result, Ok, Err, Option, Some, None, IfSome, codes}
+use Rattle.std.specs.Prelude.{◌≢◌, ℕ, ◌<◌, ◌*◌, List, [], ◌∷◌, ◌==◌, nat_lt, ◌&&◌, if◌then◌else◌, Bool, true, false, Result, Ok, Err, Option, Some, None, IfSome, codes}
 use Rattle.std.specs.Str.{bytes_eq}
 use Rattle.g1_layout.specs.Shape.{Shape, slot_count, card_count}
+use Rattle.g1_core.specs.declared.entry.Call.{Call}
+use Rattle.g1_core.specs.declared.entry.Call.TheVariants.{Target, Pending, Members, Status, Drain, Clear, Redirect}
 use Rattle.g1_replay.specs.declared.command.Command.{Command}
-use Rattle.g1_replay.specs.declared.command.Command.TheVariants.{Store, Flush, Refine, Work, Target, Pending, Members, Status, Drain, Clear, Redirect}
+use Rattle.g1_replay.specs.declared.command.Command.TheVariants as command
+use Rattle.g1_replay.specs.declared.command.Command.TheVariants.{Store, Flush, Refine, Work}
 use Rattle.g1_replay.specs.declared.command_line.Mode.{Mode}
 use Rattle.g1_replay.specs.declared.command_line.Mode.TheVariants.{Run, Crew}
 use Rattle.g1_replay.specs.declared.dialect.Dialect.{Dialect}
@@ -13,7 +16,7 @@ use Rattle.g1_replay.specs.Words.{words_from, is_remark_word, ◌>>=◌}
 use Rattle.g1_replay.specs.Places.{read_none, read_one, read_two, read_three, mutator_place, slot_place, target_place, card_place, region_place, number_place}
 
 -- two regions, which differ
-abbrev pub redirect_of : ℕ → ℕ → Result Command TraceFault
+abbrev pub redirect_of : ℕ → ℕ → Result Call TraceFault
 redirect_of a b = if a == b then Err Twice else Ok (Redirect a b)
 
 -- whether the traces of a subcommand have nothing but the calls of mutators
@@ -21,15 +24,10 @@ abbrev pub is_script : Mode → Bool
 is_script Run = false
 is_script Crew = true
 
--- the commands: for each first word, the places behind it and what it asks for
-unfoldable pub read_named : Shape → Dialect → List ℕ → List (List ℕ) → Result Command TraceFault
-read_named l d name words =
-    if bytes_eq name (codes "store") then (read_three (mutator_place d.mutators) (slot_place l) (target_place l) words >>= λ v. Ok (Store v.0 v.1 v.2))
-    else if bytes_eq name (codes "flush") then (read_one (mutator_place d.mutators) words >>= λ v. Ok (Flush v))
-    else if is_script d.mode then Err NoCommand
-    else if bytes_eq name (codes "refine") then (read_none words >>= λ _. Ok Refine)
-    else if bytes_eq name (codes "work") then (read_none words >>= λ _. Ok Work)
-    else if bytes_eq name (codes "target") then (read_one (slot_place l) words >>= λ v. Ok (Target v))
+-- the commands of one call: for each first word, the places behind it and what it asks for
+unfoldable pub read_call : Shape → List ℕ → List (List ℕ) → Result Call TraceFault
+read_call l name words =
+    if bytes_eq name (codes "target") then (read_one (slot_place l) words >>= λ v. Ok (Target v))
     else if bytes_eq name (codes "pending") then (read_one (card_place l) words >>= λ v. Ok (Pending v))
     else if bytes_eq name (codes "members") then (read_one (region_place l) words >>= λ v. Ok (Members v))
     else if bytes_eq name (codes "status") then (read_none words >>= λ _. Ok Status)
@@ -37,6 +35,16 @@ read_named l d name words =
     else if bytes_eq name (codes "clear") then (read_one (region_place l) words >>= λ v. Ok (Clear v))
     else if bytes_eq name (codes "redirect") then (read_two (region_place l) (region_place l) words >>= λ v. redirect_of v.0 v.1)
     else Err NoCommand
+
+-- the commands
+unfoldable pub read_named : Shape → Dialect → List ℕ → List (List ℕ) → Result Command TraceFault
+read_named l d name words =
+    if bytes_eq name (codes "store") then (read_three (mutator_place d.mutators) (slot_place l) (target_place l) words >>= λ v. Ok (Store v.0 v.1 v.2))
+    else if bytes_eq name (codes "flush") then (read_one (mutator_place d.mutators) words >>= λ v. Ok (Flush v))
+    else if is_script d.mode then Err NoCommand
+    else if bytes_eq name (codes "refine") then (read_none words >>= λ _. Ok Refine)
+    else if bytes_eq name (codes "work") then (read_none words >>= λ _. Ok Work)
+    else (read_call l name words >>= λ c. Ok (command.Call c))
 
 -- a line is empty, a remark or a command
 abbrev pub command_words : Shape → Dialect → List (List ℕ) → Result (Option Command) TraceFault
@@ -71,16 +79,21 @@ header_words (name ∷ words) = if is_remark_word name then Ok None else (do
 unfoldable pub read_header : List ℕ → Result (Option Shape) TraceFault
 read_header line = header_words (words_from [] line)
 
+-- the call is a question, a drain, a clear or a redirect, and its numbers are those of the heap
+abbrev pub IsCallOf : Shape → Call → Type 0
+IsCallOf l (Target slot) = slot < slot_count l
+IsCallOf l (Pending card) = card < card_count l
+IsCallOf l (Members region) = region < l.regions
+IsCallOf l Status = Unit {0}
+IsCallOf l (Drain region) = region < l.regions
+IsCallOf l (Clear region) = region < l.regions
+IsCallOf l (Redirect from to) = (from < l.regions) × (to < l.regions) × (from ≢ to)
+IsCallOf l _ = ⊥
+
 -- the command's numbers are those of mutators and of the heap
 abbrev pub IsCommandOf : Shape → ℕ → Command → Type 0
 IsCommandOf l m (Store mutator slot target) = (mutator < m) × (slot < slot_count l) × IfSome target (λ t. t < slot_count l)
 IsCommandOf l m (Flush mutator) = mutator < m
 IsCommandOf l m Refine = Unit {0}
 IsCommandOf l m Work = Unit {0}
-IsCommandOf l m (Target slot) = slot < slot_count l
-IsCommandOf l m (Pending card) = card < card_count l
-IsCommandOf l m (Members region) = region < l.regions
-IsCommandOf l m Status = Unit {0}
-IsCommandOf l m (Drain region) = region < l.regions
-IsCommandOf l m (Clear region) = region < l.regions
-IsCommandOf l m (Redirect a b) = (a < l.regions) × (b < l.regions) × (a ≢ b)
+IsCommandOf l m (command.Call call) = IsCallOf l call

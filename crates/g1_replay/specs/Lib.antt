@@ -9,7 +9,6 @@ pub mod Text
 pub mod Pieces
 pub mod Settings
 pub mod CommandLine
-pub mod Answers
 pub mod Output
 pub mod Playing
 pub mod Stops

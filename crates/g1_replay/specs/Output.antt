@@ -1,5 +1,5 @@
 -- What a replay writes: the text of a permitted run of the commands that were read.
-use Rattle.std.specs.Prelude.{◌≡◌, ◌≤◌, ℕ, List, [], ◌∷◌, ◌++◌, Bool, true, false, Result, Ok, Err, Option, Some, None, IfSome, IfNone, length}
+use Rattle.std.specs.Prelude.{◌≡◌, ◌≤◌, ℕ, List, [], ◌++◌, Bool, false, Result, Ok, Err, Option, Some, None, IfSome, IfNone, length}
 use Rattle.std.specs.Io.KnownBytes.{Appends}
 use Rattle.g1_layout.specs.Shape.{Shape}
 use Rattle.g1_core.specs.Table.{opening}
@@ -9,7 +9,6 @@ use Rattle.g1_replay.specs.declared.dialect.Dialect.{Dialect}
 use Rattle.g1_replay.specs.declared.end.End.{End}
 use Rattle.g1_replay.specs.declared.end.End.TheVariants.{Whole, Refused, Stopped, ReadFailed as EndReadFailed, WriteFailed as EndWriteFailed}
 use Rattle.g1_replay.specs.declared.fault.TraceFault.{TraceFault}
-use Rattle.g1_replay.specs.declared.options.Options.{Options}
 use Rattle.g1_replay.specs.declared.stop.Stop.{Stop}
 use Rattle.g1_replay.specs.declared.stop.Stop.TheVariants.{Fault, NoMemory, BookFull, NoThread, ReadFailed, WriteFailed}
 use Rattle.g1_replay.specs.Bytes.{AppendsFront}
@@ -17,7 +16,7 @@ use Rattle.g1_replay.specs.Pieces.{Piece, Walks, lines_of, entries_of}
 use Rattle.g1_replay.specs.Playing.{IsUndone}
 use Rattle.g1_replay.specs.Reading.{Reads}
 use Rattle.g1_replay.specs.Text.{fault_line, no_memory_line, book_full_line, no_thread_line, read_failed_line}
-use Rattle.g1_replay.specs.Trace.{read_trace, faulty, before}
+use Rattle.g1_replay.specs.Trace.{read_trace}
 
 -- the end of the input, or what stopped the replay
 abbrev pub ended : Result (Unit {0}) Stop → Result Bool Stop

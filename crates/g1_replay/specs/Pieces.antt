@@ -1,16 +1,15 @@
 -- The calls that each command of a trace makes, and the line that is printed of them.
-use Rattle.std.specs.Prelude.{◌≡◌, ℕ, ◌||◌, Bool, true, false, List, [], ◌∷◌, ◌++◌, All, sum_by, codes, length}
+use Rattle.std.specs.Prelude.{◌≡◌, ℕ, ◌||◌, Bool, true, false, List, [], ◌∷◌, ◌++◌, All, sum_by, length}
 use Rattle.g1_layout.specs.declared.kind.Kind.TheVariants.{Logged}
 use Rattle.g1_core.specs.declared.reply.Fill.TheVariants.{Full, Helped}
 use Rattle.g1_core.specs.declared.entry.Entry.{Entry}
 use Rattle.g1_core.specs.declared.entry.Call.{Call}
 use Rattle.g1_core.specs.declared.entry.Reply.{Reply}
-use Rattle.g1_core.specs.declared.entry.Call.TheVariants.{Store, Refine, Target, Pending, Members, Status, Drain, Clear, Redirect}
+use Rattle.g1_core.specs.declared.entry.Call.TheVariants.{Store, Refine}
 use Rattle.g1_core.specs.declared.entry.Reply.TheVariants as reply
-use Rattle.g1_core.specs.declared.reply.ClearReply.TheVariants as clear_reply
 use Rattle.g1_replay.specs.declared.command.Command.{Command}
 use Rattle.g1_replay.specs.declared.command.Command.TheVariants as command
-use Rattle.g1_replay.specs.Text.{stored_line, flushed_line, refined_line, worked_line, target_text, pending_text, members_text, status_text, drained_line, clear_text, redirected_line}
+use Rattle.g1_replay.specs.Text.{stored_line, flushed_line, refined_line, worked_line, call_line}
 
 -- What is printed of a command and stands in none of its calls: how many cards a flush moved, the length of the line
 -- that a round saw last, and whether a help, a later call of a round or its growth was refused.
@@ -50,32 +49,21 @@ IsPieceOf (command.Flush mutator) [] = Unit {0}
 IsPieceOf (command.Flush mutator) (help ∷ []) = IsCallBy mutator Refine help
 IsPieceOf command.Work entries = All (λ e. IsCallBy 0 Refine e) entries
 IsPieceOf command.Refine (e ∷ []) = IsCallBy 0 Refine e
-IsPieceOf (command.Target slot) (e ∷ []) = IsCallBy 0 (Target slot) e
-IsPieceOf (command.Pending card) (e ∷ []) = IsCallBy 0 (Pending card) e
-IsPieceOf (command.Members region) (e ∷ []) = IsCallBy 0 (Members region) e
-IsPieceOf command.Status (e ∷ []) = IsCallBy 0 Status e
-IsPieceOf (command.Drain region) (e ∷ []) = IsCallBy 0 (Drain region) e
-IsPieceOf (command.Clear region) (e ∷ []) = IsCallBy 0 (Clear region) e
-IsPieceOf (command.Redirect from to) (e ∷ []) = IsCallBy 0 (Redirect from to) e
+IsPieceOf (command.Call call) (e ∷ []) = IsCallBy 0 call e
 IsPieceOf _ _ = ⊥
 
--- the line of one call by its reply and refined cards, and nothing for a reply that no such call has
-abbrev pub call_line : Call → Reply → List ℕ → List ℕ
-call_line Refine (reply.Refined taken hot skipped left short) cards = refined_line taken (length cards) hot skipped short
-call_line (Target slot) (reply.Target target) cards = target_text target
-call_line (Pending card) (reply.Pending answer) cards = pending_text answer
-call_line (Members region) (reply.Cards members) cards = members_text members
-call_line Status (reply.Status status) cards = status_text status
-call_line (Drain region) (reply.Cards members) cards = drained_line members
-call_line (Drain region) reply.Short cards = codes "drained short\n"
-call_line (Clear region) (reply.Clear answer) cards = clear_text answer
-call_line (Redirect from to) (reply.Moved slots) cards = redirected_line slots
-call_line (Redirect from to) reply.Short cards = codes "redirected short\n"
-call_line _ _ _ = []
-
 abbrev pub one_call_line : List Entry → List ℕ
-one_call_line (e ∷ []) = call_line e.call e.reply e.refined
+one_call_line (e ∷ []) = call_line e.call e.reply
 one_call_line _ = []
+
+-- one refinement by its reply and refined cards, and nothing for another reply
+abbrev pub lone_refine_line : Reply → List ℕ → List ℕ
+lone_refine_line (reply.Refined taken hot skipped left short) cards = refined_line taken (length cards) hot skipped short
+lone_refine_line _ _ = []
+
+abbrev pub refine_line : List Entry → List ℕ
+refine_line (e ∷ []) = lone_refine_line e.reply e.refined
+refine_line _ = []
 
 abbrev pub taken_by : Reply → ℕ
 taken_by (reply.Refined taken hot skipped left short) = taken
@@ -129,8 +117,9 @@ work_line entries shown =
 abbrev pub line_of : Command → Piece → List ℕ
 line_of (command.Store mutator slot target) p = store_line p.entries p.shown
 line_of (command.Flush mutator) p = flush_line p.entries p.shown
+line_of command.Refine p = refine_line p.entries
 line_of command.Work p = work_line p.entries p.shown
-line_of _ p = one_call_line p.entries
+line_of (command.Call call) p = one_call_line p.entries
 
 -- The calls are a piece of the command, and this is its line.
 pub record IsLineOf (c : Command) (p : Piece) (text : List ℕ) : Type 0 where

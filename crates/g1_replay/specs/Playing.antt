@@ -1,19 +1,19 @@
 -- What is done with the commands of a trace, between two states of the reader, the writer and the one that plays.
 use Rattle.std.specs.Prelude.{◌≡◌, ◌≤◌, ℕ, List, [], ◌∷◌, ◌++◌, Bool, Result, Ok, Err, Option, Some, length}
 use Rattle.g1_layout.specs.Shape.{Shape}
+use Rattle.g1_core.specs.declared.entry.Call.{Call}
+use Rattle.g1_core.specs.declared.entry.Entry.{Entry}
 use Rattle.g1_book.specs.History.{History, layout_in}
 use Rattle.g1_book.specs.Lent.{Grows}
 use Rattle.g1_book.specs.declared.refusal.Refusal.{Refusal}
 use Rattle.g1_book.specs.declared.refusal.Refusal.TheVariants as refusal
-use Rattle.g1_replay.specs.declared.answer.Answer.{Answer}
 use Rattle.g1_replay.specs.declared.command.Command.{Command}
 use Rattle.g1_replay.specs.declared.dialect.Dialect.{Dialect}
 use Rattle.g1_replay.specs.declared.stop.Stop.{Stop}
-use Rattle.g1_replay.specs.declared.stop.Stop.TheVariants.{Fault, NoMemory, BookFull, ReadFailed, WriteFailed}
-use Rattle.g1_replay.specs.Answers.{answer_text}
+use Rattle.g1_replay.specs.declared.stop.Stop.TheVariants.{NoMemory, BookFull, WriteFailed}
 use Rattle.g1_replay.specs.Bytes.{Puts}
-use Rattle.g1_replay.specs.Pieces.{Piece, IsLineOf, Walks, lines_of, entries_of}
-use Rattle.g1_replay.specs.Reading.{Reads, more_may_come}
+use Rattle.g1_replay.specs.Pieces.{Piece, IsCallBy, IsLineOf, Walks, lines_of, entries_of}
+use Rattle.g1_replay.specs.Reading.{Reads}
 
 -- a new book over this layout, with these limits
 pub record IsOpened (layout : Shape) (mutators history : ℕ) (book : History) : Type 0 where
@@ -26,11 +26,24 @@ pub record IsOpened (layout : Shape) (mutators history : ℕ) (book : History) :
 abbrev pub IsFull : History → Type 0
 IsFull book = length book.entries ≡ book.limit
 
--- The calls of a command were made and entered, and this is what it answers; or the first of them was refused.
-abbrev pub IsAnswered : History → History → Command → Result Answer Refusal → Type 0
-IsAnswered old new c (Ok answer) = (p : Piece) × Grows old p.entries new × IsLineOf c p (answer_text answer)
-IsAnswered old new c (Err refusal.NoMemory) = Grows old [] new
-IsAnswered old new c (Err refusal.BookFull) = Grows old [] new × IsFull new
+-- A call was refused, and nothing was entered.
+abbrev pub IsRefused : History → History → Refusal → Type 0
+IsRefused old new refusal.NoMemory = Grows old [] new
+IsRefused old new refusal.BookFull = Grows old [] new × IsFull new
+
+-- The calls of a command were made and entered, and the answer has their text.
+abbrev pub IsDone : {V : Type 0} → (V → List ℕ) → History → History → Command → V → Type 0
+IsDone text old new c answer = (p : Piece) × Grows old p.entries new × IsLineOf c p (text answer)
+
+-- or the first of them was refused
+abbrev pub IsAnswered : {V : Type 0} → (V → List ℕ) → History → History → Command → Result V Refusal → Type 0
+IsAnswered text old new c (Ok answer) = IsDone text old new c answer
+IsAnswered text old new c (Err refusal) = IsRefused old new refusal
+
+-- One call of the first caller was made and entered, or it was refused.
+abbrev pub IsCalled : History → History → Call → Result (Unit {0}) Refusal → Type 0
+IsCalled old new call (Ok done) = (e : Entry) × Grows old (e ∷ []) new × IsCallBy 0 call e
+IsCalled old new call (Err refusal) = IsRefused old new refusal
 
 -- The calls of these commands were made and entered, and this is their text.
 pub record HasPlayed (old : History) (cs : List Command) (text : List ℕ) (new : History) : Type 0 where

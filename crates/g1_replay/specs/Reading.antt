@@ -1,10 +1,9 @@
 -- What the calls that read lines take from the reader, and which part of the trace that is.
-use Rattle.std.specs.Prelude.{◌≡◌, ◌≢◌, ℕ, ◌<◌, ◌≤◌, List, [], ◌∷◌, ◌++◌, length, Bool, true, false, Result, Ok, Err, Option, Some, None, IsSome}
+use Rattle.std.specs.Prelude.{◌≡◌, ℕ, ◌≤◌, List, [], ◌∷◌, ◌++◌, length, Bool, true, false, Result, Ok, Err, Option, Some, None, IsSome}
 use Rattle.std.specs.Io.KnownBytes.{Consumes, IsAtEnd}
 use Rattle.g1_layout.specs.Shape.{Shape}
 use Rattle.g1_replay.specs.declared.command.Command.{Command}
 use Rattle.g1_replay.specs.declared.dialect.Dialect.{Dialect}
-use Rattle.g1_replay.specs.declared.fault.TraceFault.TheVariants.{TooLong, Cut}
 use Rattle.g1_replay.specs.declared.next.Next.{Next}
 use Rattle.g1_replay.specs.declared.next.Next.TheVariants.{End, Blank, Do}
 use Rattle.g1_replay.specs.declared.stop.Stop.{Stop}

@@ -7,12 +7,12 @@ use Rattle.g1_core.specs.declared.reply.Fill.TheVariants.{No, Full, Helped}
 use Rattle.g1_core.specs.declared.reply.StoreReply.{StoreReply}
 use Rattle.g1_core.specs.declared.reply.RefineReply.{RefineReply}
 use Rattle.g1_core.specs.declared.reply.Status.{Status}
-use Rattle.g1_core.specs.declared.reply.Drained.{Drained}
-use Rattle.g1_core.specs.declared.reply.Drained.TheVariants as drained
+use Rattle.g1_core.specs.declared.entry.Call.{Call}
+use Rattle.g1_core.specs.declared.entry.Call.TheVariants as call
+use Rattle.g1_core.specs.declared.entry.Reply.{Reply}
+use Rattle.g1_core.specs.declared.entry.Reply.TheVariants as reply
 use Rattle.g1_core.specs.declared.reply.ClearReply.{ClearReply}
 use Rattle.g1_core.specs.declared.reply.ClearReply.TheVariants as clear_reply
-use Rattle.g1_core.specs.declared.reply.Redirected.{Redirected}
-use Rattle.g1_core.specs.declared.reply.Redirected.TheVariants as redirected
 use Rattle.g1_book.specs.declared.steps.mutator.FlushReply.{FlushReply}
 use Rattle.g1_replay.specs.declared.fault.TraceFault.{TraceFault}
 use Rattle.g1_replay.specs.declared.fault.TraceFault.TheVariants.{TooLong, Cut, NoHeader, NoCommand, Words, NotNumber, BadHeap, NoMutator, NoSlot, NoCard, NoRegion, Twice}
@@ -103,18 +103,23 @@ work_text r = worked_line r.taken (length r.refined) r.hot r.skipped r.left r.sh
 abbrev pub status_text : Status → List ℕ
 status_text s = status_line s.pending s.recorded
 
-abbrev pub drain_text : Drained → List ℕ
-drain_text (drained.Cards cards refined) = drained_line cards
-drain_text (drained.Short refined) = codes "drained short\n"
-
 abbrev pub clear_text : ClearReply → List ℕ
 clear_text clear_reply.Cleared = codes "cleared\n"
 clear_text (clear_reply.Pending cards) = still_pending_line cards
 clear_text (clear_reply.StillReferenced slot) = still_referenced_line slot
 
-abbrev pub redirect_text : Redirected → List ℕ
-redirect_text (redirected.Moved slots refined) = redirected_line slots
-redirect_text (redirected.Short refined) = codes "redirected short\n"
+-- The line of a call by its reply: a question, a drain, a clear or a redirect. Nothing for another, or for a reply that no such call has.
+abbrev pub call_line : Call → Reply → List ℕ
+call_line (call.Target slot) (reply.Target target) = target_text target
+call_line (call.Pending card) (reply.Pending answer) = pending_text answer
+call_line (call.Members region) (reply.Cards cards) = members_text cards
+call_line call.Status (reply.Status status) = status_text status
+call_line (call.Drain region) (reply.Cards cards) = drained_line cards
+call_line (call.Drain region) reply.Short = codes "drained short\n"
+call_line (call.Clear region) (reply.Clear answer) = clear_text answer
+call_line (call.Redirect from to) (reply.Moved slots) = redirected_line slots
+call_line (call.Redirect from to) reply.Short = codes "redirected short\n"
+call_line _ _ = []
 
 abbrev pub fault_text : TraceFault → List ℕ
 fault_text TooLong = codes "too long"

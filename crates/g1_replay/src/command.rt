@@ -1,5 +1,6 @@
 //! The commands of a trace.
-use g1_layout::{Card, Region, Slot};
+use g1_core::Call;
+use g1_layout::Slot;
 
 /// One command, with numbers that the heap of its trace has.
 #[derive(Clone, Copy, Debug, PartialEq, Eq)]
@@ -22,23 +23,6 @@ pub enum Command {
     Refine,
     /// A round of refinement.
     Work,
-    /// What does the slot refer to?
-    Target(Slot),
-    /// Is the card pending?
-    Pending(Card),
-    /// Which cards are in the region's remembered set?
-    Members(Region),
-    /// How much is pending and recorded?
-    Status,
-    /// The region's remembered set is drained.
-    Drain(Region),
-    /// The region's remembered set is to be cleared.
-    Clear(Region),
-    /// References into one region are moved to another.
-    Redirect {
-        /// The region that they refer into.
-        from: Region,
-        /// The region that they are moved to.
-        to: Region,
-    },
+    /// The first mutator asks, drains, clears or redirects: one call, and no store or refinement.
+    Call(Call),
 }

@@ -1,18 +1,15 @@
 //! What a crew prints of its book: how many stores there were, and a drain of each region.
-ghost use Rattle.std.specs.Prelude.{◌≡◌, ℕ, List, [], ◌∷◌, ◌<◌, ◌≤◌, IfErr, count_by, length};
+ghost use Rattle.std.specs.Prelude.{◌≡◌, ℕ, List, ◌≤◌, IfErr, count_by, length};
 ghost use Rattle.g1_book.specs.Counts.{is_store};
 ghost use Rattle.g1_book.specs.History.{IsHistory, layout_in};
 ghost use Rattle.g1_replay.specs.Crew.{HasDrained, Ran};
-ghost use Rattle.g1_replay.specs.Playing.{Does, HasPlayed, IsFull, MayStop, Writes};
-ghost use Rattle.g1_replay.specs.Reading.{more_may_come};
+ghost use Rattle.g1_replay.specs.Playing.{IsFull, MayStop, Writes};
 
-use crate::answer::put_answer;
-use crate::command::Command;
-use crate::play::drain_book;
+use crate::calls::play_call;
 use crate::print::put_stores;
 use crate::stop::Stop;
 use g1_book::{Book, Call, Entry, Refusal};
-use g1_layout::{Layout, Region};
+use g1_layout::Layout;
 use std::io::Write;
 
 // Whether the call of the entry is a store.
@@ -39,17 +36,6 @@ fn count_stores(entries: &[Entry]) -> u32
     count
 }
 
-// The first caller's drain of a region, and its line.
-fn put_drain<W: Write>(book: &mut Book, region: Region, output: &mut W) -> Result<(), Stop>
-    requires { region < (layout_in book.old).regions }
-    ensures played { Does HasPlayed IsFull (Command.Drain region ∷ []) book.old book.new (W.contents output.old) (W.contents output.new) (more_may_come result) }
-    ensures stops { IfErr result MayStop }
-{
-    let answer = drain_book(book, region)?;
-    put_answer(output, &answer)?;
-    Ok(())
-}
-
 // The drains of all regions, in order.
 fn put_drains<W: Write>(book: &mut Book, layout: Layout, output: &mut W) -> Result<(), Stop>
     requires { layout_in book.old ≡ layout }
@@ -61,7 +47,7 @@ fn put_drains<W: Write>(book: &mut Book, layout: Layout, output: &mut W) -> Resu
         let Some(region) = layout.region(number) else {
             unreachable!()
         };
-        put_drain(book, region, output)?;
+        play_call(book, Call::Drain(region), output)?;
     }
     Ok(())
 }

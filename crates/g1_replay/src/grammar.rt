@@ -3,7 +3,7 @@
 ghost use Rattle.std.specs.Prelude.{◌≡◌, ℕ, [], IfOk, IfSome};
 ghost use Rattle.g1_replay.specs.Words.{words_from};
 ghost use Rattle.g1_layout.specs.Shape.{IsShape};
-ghost use Rattle.g1_replay.specs.Grammar.{is_script, read_named, read_command, redirect_of, IsCommandOf};
+ghost use Rattle.g1_replay.specs.Grammar.{is_script, read_call, read_named, read_command, redirect_of, IsCallOf, IsCommandOf};
 
 use crate::command::Command;
 use crate::command_line::Mode;
@@ -13,17 +13,8 @@ use crate::places::{
     nothing, one_card, one_mutator, one_region, one_slot, store_places, two_regions,
 };
 use crate::words::{is, is_remark, split_word};
+use g1_core::Call;
 use g1_layout::{Layout, Region};
-
-// Two regions, which differ.
-fn redirect(from: Region, to: Region) -> Result<Command, TraceFault>
-    ensures { result ≡ redirect_of from to }
-{
-    if from == to {
-        return Err(TraceFault::Twice);
-    }
-    Ok(Command::Redirect { from, to })
-}
 
 // Whether its traces have nothing but the calls of mutators, which are their scripts.
 fn is_script(mode: Mode) -> bool
@@ -33,6 +24,54 @@ fn is_script(mode: Mode) -> bool
         Mode::Run => false,
         Mode::Crew => true,
     }
+}
+
+// Two regions, which differ.
+fn redirect(from: Region, to: Region) -> Result<Call, TraceFault>
+    ensures { result ≡ redirect_of from to }
+{
+    if from == to {
+        return Err(TraceFault::Twice);
+    }
+    Ok(Call::Redirect { from, to })
+}
+
+// The call of a first word and the words behind it.
+#[tactic(auto, unfolding(crate::specs::Grammar::read_call))]
+fn call_named(layout: Layout, name: &[u8], words: &[u8]) -> Result<Call, TraceFault>
+    requires { IsShape layout }
+    ensures read { result ≡ read_call layout name.now (words_from [] words.now) }
+    ensures valid { IfOk result (λ call. IsCallOf layout call) }
+{
+    if is(name, b"target") {
+        let slot = one_slot(layout, words)?;
+        return Ok(Call::Target(slot));
+    }
+    if is(name, b"pending") {
+        let card = one_card(layout, words)?;
+        return Ok(Call::Pending(card));
+    }
+    if is(name, b"members") {
+        let region = one_region(layout, words)?;
+        return Ok(Call::Members(region));
+    }
+    if is(name, b"status") {
+        nothing(words)?;
+        return Ok(Call::Status);
+    }
+    if is(name, b"drain") {
+        let region = one_region(layout, words)?;
+        return Ok(Call::Drain(region));
+    }
+    if is(name, b"clear") {
+        let region = one_region(layout, words)?;
+        return Ok(Call::Clear(region));
+    }
+    if is(name, b"redirect") {
+        let (from, to) = two_regions(layout, words)?;
+        return redirect(from, to);
+    }
+    Err(TraceFault::NoCommand)
 }
 
 // The command of a first word and the words behind it.
@@ -65,35 +104,8 @@ fn named(layout: Layout, dialect: Dialect, name: &[u8], words: &[u8]) -> Result<
         nothing(words)?;
         return Ok(Command::Work);
     }
-    if is(name, b"target") {
-        let slot = one_slot(layout, words)?;
-        return Ok(Command::Target(slot));
-    }
-    if is(name, b"pending") {
-        let card = one_card(layout, words)?;
-        return Ok(Command::Pending(card));
-    }
-    if is(name, b"members") {
-        let region = one_region(layout, words)?;
-        return Ok(Command::Members(region));
-    }
-    if is(name, b"status") {
-        nothing(words)?;
-        return Ok(Command::Status);
-    }
-    if is(name, b"drain") {
-        let region = one_region(layout, words)?;
-        return Ok(Command::Drain(region));
-    }
-    if is(name, b"clear") {
-        let region = one_region(layout, words)?;
-        return Ok(Command::Clear(region));
-    }
-    if is(name, b"redirect") {
-        let (from, to) = two_regions(layout, words)?;
-        return redirect(from, to);
-    }
-    Err(TraceFault::NoCommand)
+    let call = call_named(layout, name, words)?;
+    Ok(Command::Call(call))
 }
 
 /// The command of a line, or none where the line is empty or a remark (docs/TRACES.md, Commands).

@@ -1,7 +1,7 @@
 //! Traces: text commands for the machinery, and the replies as text.
 #![tactic(auto)]
 
-mod answer;
+mod calls;
 mod command;
 mod command_line;
 mod crew_jobs;

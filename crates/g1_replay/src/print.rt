@@ -10,8 +10,8 @@ pub mod refinements;
 pub mod stores;
 
 pub use ends::{put_book_full, put_fault, put_no_memory, put_no_thread, put_read_failed};
-pub use pauses::{put_clear_reply, put_drained, put_redirected};
-pub use questions::{put_members, put_pending, put_status, put_target};
+pub use pauses::{put_clear_reply, put_redirected};
+pub use questions::{put_status, put_target};
 pub use refinements::{put_refine_reply, put_work_reply};
 pub use stores::{put_flush_reply, put_store_reply, put_stores};
 

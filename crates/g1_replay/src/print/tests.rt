@@ -2,17 +2,17 @@
 //! that take little or fail leave.
 ghost use Rattle.std.specs.Prelude.{Some, []};
 
+use crate::calls::put_call;
 use crate::fault::TraceFault;
 use crate::list::put_list;
 use crate::output::{WriteFailed, put, put_number};
 use crate::print::{
-    put_book_full, put_clear_reply, put_drained, put_fault, put_flush_reply, put_members,
-    put_no_memory, put_pending, put_read_failed, put_redirected, put_refine_reply, put_status,
-    put_store_reply, put_target, put_work_reply,
+    put_book_full, put_fault, put_flush_reply, put_no_memory, put_read_failed, put_refine_reply,
+    put_store_reply, put_work_reply,
 };
 use g1_book::FlushReply;
-use g1_core::{CardList, ClearReply, Drained, Fill, Redirected, RefineReply, Status, StoreReply};
-use g1_layout::{Card, Kind, Layout, Slot};
+use g1_core::{Call, CardList, ClearReply, Fill, RefineReply, Reply, Status, StoreReply};
+use g1_layout::{Card, Kind, Layout, Region, Slot};
 use std::alloc::Global;
 use std::io;
 use std::io::{ErrorKind, Write};
@@ -75,11 +75,18 @@ fn slot(rt: &impl Abort, number: u32) -> Slot {
     layout(rt).slot(number).expect(rt, "a slot of the heap")
 }
 
+fn card(rt: &impl Abort, number: u32) -> Card {
+    layout(rt).card(number).expect(rt, "a card of the heap")
+}
+
+fn region(rt: &impl Abort, number: u32) -> Region {
+    layout(rt).region(number).expect(rt, "a region of the heap")
+}
+
 fn cards(rt: &impl Abort, alloc: Global, numbers: &[u32]) -> CardList {
     let mut list: Vec<Card> = Vec::new(alloc);
     for number in numbers {
-        let card = layout(rt).card(*number).expect(rt, "a card of the heap");
-        list.push(card).expect(rt, "memory for a card");
+        list.push(card(rt, *number)).expect(rt, "memory for a card");
     }
     CardList::of(list)
 }
@@ -215,59 +222,81 @@ fn refinements(rt: HostRuntime) -> Result<(), Fail> {
     Ok(())
 }
 
+/// Checks the line of a call with this reply.
+fn assert_line(rt: &impl Abort, alloc: Global, call: Call, reply: &Reply, want: &str) {
+    let mut output: Vec<u8> = Vec::new(alloc);
+    let result = put_call(&mut output, call, reply);
+    assert_written(rt, result, output.as_slice(), want);
+}
+
 #[test]
 fn questions(rt: HostRuntime) -> Result<(), Fail> {
-    let mut output: Vec<u8> = Vec::new(rt.alloc());
-    assert!(rt; put_target(&mut output, None).is_ok());
-    assert!(rt; put_target(&mut output, Some(slot(&rt, 0))).is_ok());
-    assert!(rt; put_target(&mut output, Some(slot(&rt, 262143))).is_ok());
-    assert!(rt; put_pending(&mut output, true).is_ok());
-    assert!(rt; put_pending(&mut output, false).is_ok());
-    assert!(rt; put_members(&mut output, &cards(&rt, rt.alloc(), &[])).is_ok());
-    assert!(rt; put_members(&mut output, &cards(&rt, rt.alloc(), &[0, 10, 4095])).is_ok());
-    let status = Status {
+    let target = Call::Target(slot(&rt, 3));
+    let (null, first, last) = (None, Some(slot(&rt, 0)), Some(slot(&rt, 262143)));
+    assert_line(&rt, rt.alloc(), target, &Reply::Target(null), "null\n");
+    assert_line(&rt, rt.alloc(), target, &Reply::Target(first), "slot 0\n");
+    assert_line(
+        &rt,
+        rt.alloc(),
+        target,
+        &Reply::Target(last),
+        "slot 262143\n",
+    );
+    let pending = Call::Pending(card(&rt, 3));
+    assert_line(&rt, rt.alloc(), pending, &Reply::Pending(true), "yes\n");
+    assert_line(&rt, rt.alloc(), pending, &Reply::Pending(false), "no\n");
+    let members = Call::Members(region(&rt, 3));
+    let none = Reply::Cards(cards(&rt, rt.alloc(), &[]));
+    let some = Reply::Cards(cards(&rt, rt.alloc(), &[0, 10, 4095]));
+    assert_line(&rt, rt.alloc(), members, &none, "cards\n");
+    assert_line(&rt, rt.alloc(), members, &some, "cards 0 10 4095\n");
+    let status = Reply::Status(Status {
         pending: 12,
         recorded: 0,
-    };
-    assert!(rt; put_status(&mut output, status).is_ok());
-    let want =
-        "null\nslot 0\nslot 262143\nyes\nno\ncards\ncards 0 10 4095\nstatus pending 12 recorded 0\n";
-    assert!(rt; output.as_slice() == want.as_bytes());
+    });
+    let want = "status pending 12 recorded 0\n";
+    assert_line(&rt, rt.alloc(), Call::Status, &status, want);
     Ok(())
 }
 
 #[test]
 fn pauses(rt: HostRuntime) -> Result<(), Fail> {
-    let mut output: Vec<u8> = Vec::new(rt.alloc());
-    let whole = Drained::Cards {
-        cards: cards(&rt, rt.alloc(), &[1, 2, 30]),
-        refined: cards(&rt, rt.alloc(), &[7]),
+    let drain = Call::Drain(region(&rt, 3));
+    let none = Reply::Cards(cards(&rt, rt.alloc(), &[]));
+    let some = Reply::Cards(cards(&rt, rt.alloc(), &[1, 2, 30]));
+    assert_line(&rt, rt.alloc(), drain, &none, "drained\n");
+    assert_line(&rt, rt.alloc(), drain, &some, "drained 1 2 30\n");
+    assert_line(&rt, rt.alloc(), drain, &Reply::Short, "drained short\n");
+    let rows = [
+        (ClearReply::Cleared, "cleared\n"),
+        (ClearReply::Pending(4), "refused: 4 pending\n"),
+        (
+            ClearReply::StillReferenced(slot(&rt, 17)),
+            "refused: still referenced by slot 17\n",
+        ),
+    ];
+    for (answer, want) in rows.iter() {
+        let clear = Call::Clear(region(&rt, 3));
+        assert_line(&rt, rt.alloc(), clear, &Reply::Clear(*answer), want);
+    }
+    let redirect = Call::Redirect {
+        from: region(&rt, 3),
+        to: region(&rt, 0),
     };
-    let empty = Drained::Cards {
-        cards: cards(&rt, rt.alloc(), &[]),
-        refined: cards(&rt, rt.alloc(), &[7]),
-    };
-    let short = Drained::Short {
-        refined: cards(&rt, rt.alloc(), &[7]),
-    };
-    assert!(rt; put_drained(&mut output, &whole).is_ok());
-    assert!(rt; put_drained(&mut output, &empty).is_ok());
-    assert!(rt; put_drained(&mut output, &short).is_ok());
-    assert!(rt; put_clear_reply(&mut output, ClearReply::Cleared).is_ok());
-    assert!(rt; put_clear_reply(&mut output, ClearReply::Pending(4)).is_ok());
-    assert!(rt; put_clear_reply(&mut output, ClearReply::StillReferenced(slot(&rt, 17))).is_ok());
-    let moved = Redirected::Moved {
-        slots: 6,
-        refined: cards(&rt, rt.alloc(), &[7]),
-    };
-    let refused = Redirected::Short {
-        refined: cards(&rt, rt.alloc(), &[7]),
-    };
-    assert!(rt; put_redirected(&mut output, &moved).is_ok());
-    assert!(rt; put_redirected(&mut output, &refused).is_ok());
-    let want =
-        "drained 1 2 30\ndrained\ndrained short\ncleared\nrefused: 4 pending\nrefused: still referenced by slot 17\nredirected 6\nredirected short\n";
-    assert!(rt; output.as_slice() == want.as_bytes());
+    assert_line(
+        &rt,
+        rt.alloc(),
+        redirect,
+        &Reply::Moved(6),
+        "redirected 6\n",
+    );
+    assert_line(
+        &rt,
+        rt.alloc(),
+        redirect,
+        &Reply::Short,
+        "redirected short\n",
+    );
     Ok(())
 }
 
@@ -344,17 +373,15 @@ fn a_list_of_more_than_one_block(rt: HostRuntime) -> Result<(), Fail> {
 #[test]
 fn a_failed_write_leaves_a_beginning(rt: HostRuntime) -> Result<(), Fail> {
     let whole = b"drained 1 20 300\n";
-    let answer = Drained::Cards {
-        cards: cards(&rt, rt.alloc(), &[1, 20, 300]),
-        refined: cards(&rt, rt.alloc(), &[]),
-    };
+    let call = Call::Drain(region(&rt, 3));
+    let reply = Reply::Cards(cards(&rt, rt.alloc(), &[1, 20, 300]));
     for room in 0..=whole.len() {
         let mut output = Narrow {
             bytes: Vec::new(rt.alloc()),
             room,
             failed: 0,
         };
-        let result = put_drained(&mut output, &answer);
+        let result = put_call(&mut output, call, &reply);
         assert!(rt; result.is_ok() == (room == whole.len()), "{room}");
         assert!(rt; output.bytes.as_slice() == &whole[..room], "{room}");
         assert!(rt; output.failed == u32::from(room < whole.len()), "{room}");

@@ -6,6 +6,7 @@ use crate::dialect::Dialect;
 use crate::fault::TraceFault;
 use crate::grammar::read_command;
 use crate::header::read_header;
+use g1_core::Call;
 use g1_layout::{Card, Layout, Region, Slot};
 use std::process::Abort;
 
@@ -52,16 +53,32 @@ fn commands_with_one_number_or_none(rt: HostRuntime) {
     );
     commands_of(&rt, &[b"refine", b" refine "], Command::Refine);
     commands_of(&rt, &[b"work"], Command::Work);
-    commands_of(&rt, &[b"target 31"], Command::Target(slot(&rt, 31)));
-    commands_of(&rt, &[b"pending 7"], Command::Pending(card(&rt, 7)));
-    commands_of(&rt, &[b"members 3"], Command::Members(region(&rt, 3)));
-    commands_of(&rt, &[b"status"], Command::Status);
+    commands_of(
+        &rt,
+        &[b"target 31"],
+        Command::Call(Call::Target(slot(&rt, 31))),
+    );
+    commands_of(
+        &rt,
+        &[b"pending 7"],
+        Command::Call(Call::Pending(card(&rt, 7))),
+    );
+    commands_of(
+        &rt,
+        &[b"members 3"],
+        Command::Call(Call::Members(region(&rt, 3))),
+    );
+    commands_of(&rt, &[b"status"], Command::Call(Call::Status));
     commands_of(
         &rt,
         &[b"drain 0", b"drain 00"],
-        Command::Drain(region(&rt, 0)),
+        Command::Call(Call::Drain(region(&rt, 0))),
     );
-    commands_of(&rt, &[b"clear 2"], Command::Clear(region(&rt, 2)));
+    commands_of(
+        &rt,
+        &[b"clear 2"],
+        Command::Call(Call::Clear(region(&rt, 2))),
+    );
 }
 
 #[test]
@@ -86,10 +103,10 @@ fn stores_and_redirects(rt: HostRuntime) {
         target: None,
     };
     commands_of(&rt, &[b"store 1 31 null"], null);
-    let redirect = Command::Redirect {
+    let redirect = Command::Call(Call::Redirect {
         from: region(&rt, 3),
         to: region(&rt, 0),
-    };
+    });
     commands_of(&rt, &[b"redirect 3 0"], redirect);
 }
 

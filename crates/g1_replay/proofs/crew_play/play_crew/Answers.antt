@@ -1,6 +1,4 @@
-use Rattle.std.proofs.Common.{All, ◌≡◌}
 use Rattle.std.proofs.lemmas.Result.{err_from_is_err_and}
-use Rattle.g1_replay.specs.Grammar.{IsCommandOf}
 use Rattle.g1_replay.proofs.CrewLemmas.{crew_unopened, crew_unread, crew_run}
 use Rattle.g1_replay.proofs.crew_play.play_crew.Goals as goal
 

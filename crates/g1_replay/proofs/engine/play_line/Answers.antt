@@ -1,6 +1,6 @@
 use Rattle.std.proofs.Common.{true, false}
 use Rattle.std.proofs.lemmas.Result.{err_from_is_err_and}
-use Rattle.g1_replay.proofs.PlayingLemmas.{line_passed, line_unread, line_played, line_stopped}
+use Rattle.g1_replay.proofs.PlayingLemmas.{line_passed, line_unread, line_stopped}
 use Rattle.g1_replay.proofs.engine.play_line.Goals as goal
 
 pub returns-in_err-read_next-clause-followed : goal.returns-in_err-read_next-clause-followed

@@ -1,7 +1,5 @@
-use Rattle.std.proofs.Common.{◌≡◌, Some, None, ℕ, List, true, subst, sym}
-use Rattle.std.specs.Prelude.{Ok}
+use Rattle.std.proofs.Common.{Some, None}
 use Rattle.std.proofs.lemmas.Result.{err_from_is_err_and}
-use Rattle.g1_replay.specs.Lines.{ReadsLine}
 use Rattle.g1_replay.proofs.ReadingLemmas.{line_stopped, command_read, command_faulty}
 use Rattle.g1_replay.proofs.next.read_next.Goals as goal
 

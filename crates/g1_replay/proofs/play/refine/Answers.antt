@@ -5,9 +5,9 @@ use Rattle.g1_book.specs.Steps.{buffer_in, called}
 use Rattle.g1_replay.proofs.AnswerLemmas.{refine_made}
 use Rattle.g1_replay.proofs.play.refine.Goals as goal
 
-pub returns-in-Ok-clause-answered : goal.returns-in-Ok-clause-answered
-returns-in-Ok-clause-answered g c =
-    let h = c.in-Ok.ensures.refined in
-    let made = subst (λ n. AreCalls (IsBookCall n) c.new-calls.result.book.now (Refined (buffer_in h.parcel) (called c.in-Ok.reply) ∷ []) c.refine.new.calls.book.now) c.new-calls.ensures.caller h.made.2 in
-    let by = refine_made c.new-calls.result.book.now c.refine.new.calls.book.now _ c.in-Ok.reply made in
+pub returns-clause-answered : goal.returns-clause-answered
+returns-clause-answered g c =
+    let h = c.in_ok-reply.ensures.refined in
+    let made = subst (λ n. AreCalls (IsBookCall n) c.new-calls.result.book.now (Refined (buffer_in h.parcel) (called c.in_ok-reply.reply) ∷ []) c.refine.new.calls.book.now) c.new-calls.ensures.caller h.made.2 in
+    let by = refine_made c.new-calls.result.book.now c.refine.new.calls.book.now _ c.in_ok-reply.reply made in
     search rules

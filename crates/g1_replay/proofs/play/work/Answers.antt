@@ -5,9 +5,9 @@ use Rattle.g1_book.specs.Rounds.{round_calls}
 use Rattle.g1_replay.proofs.AnswerLemmas.{work_made}
 use Rattle.g1_replay.proofs.play.work.Goals as goal
 
-pub returns-in-Ok-clause-answered : goal.returns-in-Ok-clause-answered
-returns-in-Ok-clause-answered g c =
-    let round = c.in-Ok.ensures.round.2 in
+pub returns-clause-answered : goal.returns-clause-answered
+returns-clause-answered g c =
+    let round = c.in_ok-reply.ensures.round.2 in
     let made = subst (λ n. AreCalls (IsBookCall n) c.new-calls.result.book.now (round_calls round.turns round.refused) c.work.new.calls.book.now) c.new-calls.ensures.caller round.made.2 in
     let by = work_made _ _ _ _ _ _ _ round c.new-calls.result.book.now c.work.new.calls.book.now made in
     search rules

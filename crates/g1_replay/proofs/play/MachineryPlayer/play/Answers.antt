@@ -2,15 +2,49 @@ use Rattle.std.proofs.lemmas.Result.{err_from_is_err_and}
 use Rattle.g1_replay.proofs.AnswerLemmas.{does_answer, does_front, does_refused}
 use Rattle.g1_replay.proofs.play.MachineryPlayer.play.Goals as goal
 
-pub returns-in_err-answer-clause-played : goal.returns-in_err-answer-clause-played
-returns-in_err-answer-clause-played g c =
+pub returns-in_err-reply-in-Store-clause-played : goal.returns-in_err-reply-in-Store-clause-played
+returns-in_err-reply-in-Store-clause-played g c =
     let p = err_from_is_err_and c.from_residual.result c.from_residual.ensures.1 in
-    rw (p.1, p.2) (does_refused (λ s. s.book) _ _ c.args.command _ _ c.in_err-answer.ensures.answered)
+    rw (c.in-Store.is, p.1, p.2) (does_refused (λ s. s.book) _ _ _ _ _ c.in_err-reply-in-Store.ensures.answered)
 
-pub returns-in_err-put_answer-clause-played : goal.returns-in_err-put_answer-clause-played
-returns-in_err-put_answer-clause-played g c =
-    let p = err_from_is_err_and c.from_residual-in_err-put_answer.result c.from_residual-in_err-put_answer.ensures.1 in
-    rw (p.1, p.2) (does_front (λ s. s.book) _ _ c.args.command c.in_ok-answer.answer _ _ c.in_ok-answer.ensures.answered c.in_err-put_answer.ensures)
+pub returns-in_err-put_store_reply-in-Store-clause-played : goal.returns-in_err-put_store_reply-in-Store-clause-played
+returns-in_err-put_store_reply-in-Store-clause-played g c =
+    let p = err_from_is_err_and c.from_residual-in_err-put_store_reply-in-Store.result c.from_residual-in_err-put_store_reply-in-Store.ensures.1 in
+    rw (c.in-Store.is, p.1, p.2) (does_front (λ s. s.book) _ _ _ _ _ _ c.in_ok-reply-in-Store.ensures.answered c.in_err-put_store_reply-in-Store.ensures)
 
-pub returns-clause-played : goal.returns-clause-played
-returns-clause-played g c = does_answer (λ s. s.book) _ _ c.args.command c.in_ok-answer.answer _ _ c.in_ok-answer.ensures.answered c.in_ok-put_answer.ensures
+pub returns-in_err-put_flush_reply-in-Flush-clause-played : goal.returns-in_err-put_flush_reply-in-Flush-clause-played
+returns-in_err-put_flush_reply-in-Flush-clause-played g c =
+    let p = err_from_is_err_and c.from_residual-in_err-put_flush_reply-in-Flush.result c.from_residual-in_err-put_flush_reply-in-Flush.ensures.1 in
+    rw (c.in-Flush.is, p.1, p.2) (does_front (λ s. s.book) _ _ _ _ _ _ c.flush-reply.ensures.answered c.in_err-put_flush_reply-in-Flush.ensures)
+
+pub returns-in_err-reply-in-Refine-clause-played : goal.returns-in_err-reply-in-Refine-clause-played
+returns-in_err-reply-in-Refine-clause-played g c =
+    let p = err_from_is_err_and c.from_residual-in_err-reply-in-Refine.result c.from_residual-in_err-reply-in-Refine.ensures.1 in
+    rw (c.in-Refine.is, p.1, p.2) (does_refused (λ s. s.book) _ _ _ _ _ c.in_err-reply-in-Refine.ensures.answered)
+
+pub returns-in_err-put_refine_reply-in-Refine-clause-played : goal.returns-in_err-put_refine_reply-in-Refine-clause-played
+returns-in_err-put_refine_reply-in-Refine-clause-played g c =
+    let p = err_from_is_err_and c.from_residual-in_err-put_refine_reply-in-Refine.result c.from_residual-in_err-put_refine_reply-in-Refine.ensures.1 in
+    rw (c.in-Refine.is, p.1, p.2) (does_front (λ s. s.book) _ _ _ _ _ _ c.in_ok-reply-in-Refine.ensures.answered c.in_err-put_refine_reply-in-Refine.ensures)
+
+pub returns-in_err-reply-in-Work-clause-played : goal.returns-in_err-reply-in-Work-clause-played
+returns-in_err-reply-in-Work-clause-played g c =
+    let p = err_from_is_err_and c.from_residual-in_err-reply-in-Work.result c.from_residual-in_err-reply-in-Work.ensures.1 in
+    rw (c.in-Work.is, p.1, p.2) (does_refused (λ s. s.book) _ _ _ _ _ c.in_err-reply-in-Work.ensures.answered)
+
+pub returns-in_err-put_work_reply-in-Work-clause-played : goal.returns-in_err-put_work_reply-in-Work-clause-played
+returns-in_err-put_work_reply-in-Work-clause-played g c =
+    let p = err_from_is_err_and c.from_residual-in_err-put_work_reply-in-Work.result c.from_residual-in_err-put_work_reply-in-Work.ensures.1 in
+    rw (c.in-Work.is, p.1, p.2) (does_front (λ s. s.book) _ _ _ _ _ _ c.in_ok-reply-in-Work.ensures.answered c.in_err-put_work_reply-in-Work.ensures)
+
+pub returns-in_ok-put_store_reply-in-Store-clause-played : goal.returns-in_ok-put_store_reply-in-Store-clause-played
+returns-in_ok-put_store_reply-in-Store-clause-played g c = rw c.in-Store.is (does_answer (λ s. s.book) _ _ _ _ _ _ c.in_ok-reply-in-Store.ensures.answered c.in_ok-put_store_reply-in-Store.ensures)
+
+pub returns-in_ok-put_flush_reply-in-Flush-clause-played : goal.returns-in_ok-put_flush_reply-in-Flush-clause-played
+returns-in_ok-put_flush_reply-in-Flush-clause-played g c = rw c.in-Flush.is (does_answer (λ s. s.book) _ _ _ _ _ _ c.flush-reply.ensures.answered c.in_ok-put_flush_reply-in-Flush.ensures)
+
+pub returns-in_ok-put_refine_reply-in-Refine-clause-played : goal.returns-in_ok-put_refine_reply-in-Refine-clause-played
+returns-in_ok-put_refine_reply-in-Refine-clause-played g c = rw c.in-Refine.is (does_answer (λ s. s.book) _ _ _ _ _ _ c.in_ok-reply-in-Refine.ensures.answered c.in_ok-put_refine_reply-in-Refine.ensures)
+
+pub returns-in_ok-put_work_reply-in-Work-clause-played : goal.returns-in_ok-put_work_reply-in-Work-clause-played
+returns-in_ok-put_work_reply-in-Work-clause-played g c = rw c.in-Work.is (does_answer (λ s. s.book) _ _ _ _ _ _ c.in_ok-reply-in-Work.ensures.answered c.in_ok-put_work_reply-in-Work.ensures)

@@ -1,6 +1,0 @@
-use Rattle.g1_replay.proofs.AnswerLemmas.{one_call}
-use Rattle.g1_replay.proofs.PieceLemmas.{members_says}
-use Rattle.g1_replay.proofs.play.members.Goals as goal
-
-pub returns-in-Ok : goal.returns-in-Ok
-returns-in-Ok c = one_call _ _ _ _ _ c.in-Ok.ensures.entered (members_says c.args.region c.in-Ok.cards)

@@ -1,0 +1,87 @@
+//! The questions, drains, clears and redirects of a trace: one call of the first caller each, and its line.
+ghost use Rattle.std.specs.Prelude.{◌∷◌, [], IfErr, codes};
+ghost use Rattle.g1_book.specs.History.{layout_in};
+ghost use Rattle.g1_replay.specs.Bytes.{Puts};
+ghost use Rattle.g1_replay.specs.Grammar.{IsCallOf};
+ghost use Rattle.g1_replay.specs.Playing.{Does, HasPlayed, IsCalled, IsFull, MayStop};
+ghost use Rattle.g1_replay.specs.Reading.{more_may_come};
+ghost use Rattle.g1_replay.specs.Text.{call_line};
+
+use crate::command::Command;
+use crate::list::put_cards;
+use crate::output::{WriteFailed, put, put_either};
+use crate::print::{put_clear_reply, put_redirected, put_status, put_target};
+use crate::stop::Stop;
+use g1_book::{Book, Refusal};
+use g1_core::{Call, Reply};
+use std::io::Write;
+
+/// Makes the call and writes the line of its entry.
+pub(crate) fn play_call<W: Write>(book: &mut Book, call: Call, output: &mut W) -> Result<(), Stop>
+    requires { IsCallOf (layout_in book.old) call }
+    ensures played { Does HasPlayed IsFull (Command.Call call ∷ []) book.old book.new (W.contents output.old) (W.contents output.new) (more_may_come result) }
+    ensures stops { IfErr result MayStop }
+{
+    make_call(book, call)?;
+    let Some(entry) = book.entries().last() else {
+        unreachable!()
+    };
+    put_call(output, entry.call, &entry.reply)?;
+    Ok(())
+}
+
+// The call of the book. Its answer stands in the entry.
+fn make_call(book: &mut Book, call: Call) -> Result<(), Refusal>
+    requires { IsCallOf (layout_in book.old) call }
+    ensures { IsCalled book.old book.new call result }
+{
+    match call {
+        Call::Target(slot) => {
+            book.target(0, slot)?;
+        }
+        Call::Pending(card) => {
+            book.is_pending(0, card)?;
+        }
+        Call::Members(region) => {
+            book.members(0, region)?;
+        }
+        Call::Status => {
+            book.status(0)?;
+        }
+        Call::Drain(region) => {
+            book.drain(0, region)?;
+        }
+        Call::Clear(region) => {
+            book.clear(0, region)?;
+        }
+        Call::Redirect { from, to } => {
+            book.redirect(0, from, to)?;
+        }
+        Call::Store { .. } | Call::Refine => unreachable!(),
+    }
+    Ok(())
+}
+
+/// Writes the line of a call with this reply, and nothing for a store, a refinement or a reply that no such call has.
+pub(crate) fn put_call<W: Write>(
+    output: &mut W,
+    call: Call,
+    reply: &Reply,
+) -> Result<(), WriteFailed>
+    ensures { Puts (W.contents output.old) (W.contents output.new) result (call_line call reply.now) }
+{
+    match (call, reply) {
+        (Call::Target(_), Reply::Target(place)) => put_target(output, *place),
+        (Call::Pending(_), Reply::Pending(answer)) => {
+            put_either(output, *answer, b"yes\n", b"no\n")
+        }
+        (Call::Members(_), Reply::Cards(cards)) => put_cards(output, b"cards", cards),
+        (Call::Status, Reply::Status(status)) => put_status(output, *status),
+        (Call::Drain(_), Reply::Cards(cards)) => put_cards(output, b"drained", cards),
+        (Call::Drain(_), Reply::Short) => put(output, b"drained short\n"),
+        (Call::Clear(_), Reply::Clear(reply)) => put_clear_reply(output, *reply),
+        (Call::Redirect { .. }, Reply::Moved(slots)) => put_redirected(output, *slots),
+        (Call::Redirect { .. }, Reply::Short) => put(output, b"redirected short\n"),
+        _ => Ok(()),
+    }
+}
