@@ -19,14 +19,15 @@ impl Closed {
         ensures core { IfOk result (λ core. core ≡ core_of self config) }
         ensures refused { IfErr result (λ e. e.0 ≡ self) }
     {
-        match self.adopted(alloc, config) {
+        match self.to_core(alloc, config) {
             Ok(core) => Ok(core),
             Err(error) => Err((self, error)),
         }
     }
 
-    // The core of this table.
-    fn adopted(&self, alloc: Global, config: Config) -> Result<Core, NoMemory>
+    /// As [`Closed::into_core`], and the race stays: for a caller that lets go of it only once it has the memory for all that it does
+    /// with the core.
+    pub fn to_core(&self, alloc: Global, config: Config) -> Result<Core, NoMemory>
         ensures { IfOk result (λ core. core ≡ core_of self.now config) }
     {
         let refs = self.refs(alloc)?;

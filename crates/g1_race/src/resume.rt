@@ -38,41 +38,42 @@ impl Race {
         ensures sweepers { IfOk result (λ r. AreFreshSweepers r.0 sweepers r.2) }
         ensures refused { IfErr result (λ e. IsSame core e.0) }
     {
-        match begin_from(alloc, &mut core, racers, sweepers) {
+        match Race::begin_from(alloc, &mut core, racers, sweepers) {
             Ok(members) => Ok(members),
             Err(e) => Err((core, e)),
         }
     }
-}
 
-// A race that begins with the core's table.
-fn begin_from(
-    alloc: Global,
-    core: &mut Core,
-    racers: u32,
-    sweepers: u32,
-) -> Result<(Race, Vec<Racer>, Vec<Sweeper>), NoMemory>
-    requires racers { racers ≤ 8 }
-    requires sweepers { sweepers ≤ 4 }
-    ensures layout { IfOk result (λ r. race_layout r.0 ≡ core.old.state.table.layout) }
-    ensures shape { IfOk result (λ r. race_shape r.0 ≡ shape_of core.old.state.table.layout (racers + sweepers)) }
-    ensures began { IfOk result (λ r. began (race_layout r.0) (race_begun r.0) ≡ core.old.state.table) }
-    ensures racers { IfOk result (λ r. AreFreshRacers r.0 racers r.1) }
-    ensures sweepers { IfOk result (λ r. AreFreshSweepers r.0 sweepers r.2) }
-    ensures same { IsSame core.old core.new }
-{
-    let layout = core.layout();
-    let shape = shape_of(layout, racers as usize + sweepers as usize);
-    let pairs = core.pairs()?;
-    let mut words = Vec::with_capacity(alloc, shape.slots + shape.cards)?;
-    push_slots(&mut words, core, layout)?;
-    push_marks(&mut words, core, layout)?;
-    let beginning = Beginning {
-        shape,
-        words,
-        pairs,
-    };
-    begin(alloc, layout, beginning, racers as usize, sweepers as usize)
+    /// As [`Race::resume`], and the core stays as it is, but for its count of reads: for a caller that lets go of the core only once it
+    /// has the memory for all that it does with the race.
+    pub fn begin_from(
+        alloc: Global,
+        core: &mut Core,
+        racers: u32,
+        sweepers: u32,
+    ) -> Result<(Race, Vec<Racer>, Vec<Sweeper>), NoMemory>
+        requires racers { (1 ≤ racers) × (racers ≤ 8) }
+        requires sweepers { (1 ≤ sweepers) × (sweepers ≤ 4) }
+        ensures layout { IfOk result (λ r. race_layout r.0 ≡ core.old.state.table.layout) }
+        ensures shape { IfOk result (λ r. race_shape r.0 ≡ shape_of core.old.state.table.layout (racers + sweepers)) }
+        ensures began { IfOk result (λ r. began (race_layout r.0) (race_begun r.0) ≡ core.old.state.table) }
+        ensures racers { IfOk result (λ r. AreFreshRacers r.0 racers r.1) }
+        ensures sweepers { IfOk result (λ r. AreFreshSweepers r.0 sweepers r.2) }
+        ensures same { IsSame core.old core.new }
+    {
+        let layout = core.layout();
+        let shape = shape_of(layout, racers as usize + sweepers as usize);
+        let pairs = core.pairs()?;
+        let mut words = Vec::with_capacity(alloc, shape.slots + shape.cards)?;
+        push_slots(&mut words, core, layout)?;
+        push_marks(&mut words, core, layout)?;
+        let beginning = Beginning {
+            shape,
+            words,
+            pairs,
+        };
+        begin(alloc, layout, beginning, racers as usize, sweepers as usize)
+    }
 }
 
 // Adds the words of the slots.

@@ -3,7 +3,7 @@ use Rattle.std.specs.Slots.{slots_items}
 use Rattle.g1_race.specs.declared.view.Shape.{Shape}
 use Rattle.g1_race.specs.Over.{Ended, IsEnded, refs_of, marks_of}
 use Rattle.g1_race.proofs.Parts.{parts_fit}
-use Rattle.g1_race.proofs.ended.Closed.adopted.Goals as goal
+use Rattle.g1_race.proofs.ended.Closed.to_core.Goals as goal
 
 pub adopt-requires : goal.adopt-requires
 adopt-requires c =

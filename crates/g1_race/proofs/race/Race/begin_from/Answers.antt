@@ -3,7 +3,7 @@ use Rattle.g1_core.specs.Machine.{State}
 use Rattle.g1_race.specs.Drain.{began}
 use Rattle.g1_race.proofs.Opening.{both_ok}
 use Rattle.g1_race.proofs.Resuming.{resumed_begun, resumed_within, resumed_table}
-use Rattle.g1_race.proofs.resume.begin_from.Goals as goal
+use Rattle.g1_race.proofs.race.Race.begin_from.Goals as goal
 
 pub begin-requires-clause-begun : goal.begin-requires-clause-begun
 begin-requires-clause-begun c =
