@@ -1,19 +1,20 @@
 //! Replays the examples and says which of them print what is written beside them (crates/examples/data/README.md).
 #![tactic(auto)]
 
-use g1_replay::{End, Mode, crew, read_options, run};
+use g1_replay::{End, Mode, crew, race, read_options, run};
 use std::fs::{self, Files};
 use std::io;
 use std::sync::Wait;
 use std::thread::Threads;
 
-const NAMES: [&str; 10] = [
+const NAMES: [&str; 11] = [
     "one_reference",
     "hot_card",
     "full_line_and_help",
     "round_of_work",
     "cleared_and_redirected",
     "crew_of_two",
+    "race_of_two",
     "full_history",
     "fault",
     "recorded_compiler",
@@ -54,6 +55,7 @@ fn is_as_written<R: Files + Threads + Wait + Sync + AllocGlobal>(
     let end = match mode {
         Mode::Run => run(rt, alloc, &mut input, &mut printed, &options),
         Mode::Crew => crew(rt, alloc, &mut input, &mut printed, &options),
+        Mode::Race => race(rt, alloc, &mut input, &mut printed, &options),
     };
     let ended = format!(in alloc; "{}\n", end.status())?;
     Ok(printed.as_slice() == wanted.as_bytes() && status.as_str() == ended.as_str())

@@ -11,7 +11,7 @@ use Rattle.g1_race.proofs.Reading.{null_stays}
 abbrev pub zeros : ℕ → List ℕ
 zeros n = replicate n 0
 
-at_zeros : (n i x : ℕ) → get_elem? (zeros n) i ≡ some x → x ≡ 0
+pub at_zeros : (n i x : ℕ) → get_elem? (zeros n) i ≡ some x → x ≡ 0
 at_zeros zero i x e = absurd (some-ne-none x (sym e))
 at_zeros (suc n) zero x e = sym (some-injective 0 x e)
 at_zeros (suc n) (suc i) x e = at_zeros n i x e

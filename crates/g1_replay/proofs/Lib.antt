@@ -11,5 +11,13 @@ pub mod WordLemmas
 pub mod AnswerLemmas
 pub mod DrainLemmas
 pub mod RanLemmas
+pub mod ScriptedLemmas
 pub mod CrewLemmas
+pub mod SweptLemmas
+pub mod PlacedLemmas
+pub mod StoreLemmas
+pub mod RanRaceLemmas
+pub mod LeftLemmas
+pub mod CoreDrainLemmas
+pub mod RaceLemmas
 pub mod ScriptLemmas

@@ -10,10 +10,12 @@ use Rattle.g1_book.specs.History.{History, IsHistory, Terms, layout_in}
 use Rattle.g1_replay.specs.declared.stop.Stop.{Stop}
 use Rattle.g1_replay.specs.declared.stop.Stop.TheVariants.{NoMemory, BookFull, NoThread, WriteFailed}
 use Rattle.g1_replay.specs.Bytes.{AppendsFront}
-use Rattle.g1_replay.specs.Crew.{drains, HasDrained, Ran, IsRunEnd, IsUnstarted}
+use Rattle.g1_replay.specs.Crew.{Ran}
+use Rattle.g1_replay.specs.Drains.{drains, HasDrained}
 use Rattle.g1_replay.specs.Laws.{played_none}
 use Rattle.g1_replay.specs.Pieces.{entries_of}
 use Rattle.g1_replay.specs.Playing.{HasPlayed, IsFull, MayStop, Writes, written_by}
+use Rattle.g1_replay.specs.Scripted.{IsRunEnd, IsUnstarted}
 use Rattle.g1_replay.specs.Text.{stores_text}
 use Rattle.g1_replay.proofs.PutLemmas.{front_more, puts_none, puts_then}
 use Rattle.std.specs.Io.KnownBytes.{Appends}
@@ -38,13 +40,13 @@ ran_book old new k r text p h ends full all =
       said = inr (ap (λ t. stores_text (count_by is_store old.entries) ++ t) p.said);
     }
 
-may_end : (stop : Stop) → MayStop stop → IsRunEnd (Err stop)
+pub may_end : (stop : Stop) → MayStop stop → IsRunEnd (Err stop)
 may_end NoMemory h = tt
 may_end BookFull h = tt
 may_end WriteFailed h = tt
 may_end stop h = absurd h
 
-ends_by : (r : Result (Unit {0}) Stop) → IfErr r MayStop → IsRunEnd r
+pub ends_by : (r : Result (Unit {0}) Stop) → IfErr r MayStop → IsRunEnd r
 ends_by (Ok done) h = tt
 ends_by (Err stop) h = may_end stop h
 
@@ -56,7 +58,7 @@ stores_failed h out out' history w =
 
 -- the count was written, and drains behind it
 pub book_written : (old new : History) (out mid_out out' : Option (List ℕ)) (r : Result (Unit {0}) Stop) → IfErr r MayStop → IsHistory new → Appends out mid_out (stores_text (count_by is_store old.entries))
-    → HasDrained (layout_in old).regions old new mid_out out' r → (text : List ℕ) × Ran (layout_in old) old.limit r text × Writes out out' r text
+    → HasDrained HasPlayed IsFull (layout_in old).regions old new mid_out out' r → (text : List ℕ) × Ran (layout_in old) old.limit r text × Writes out out' r text
 book_written old new out mid_out out' r stops history w d =
     (stores_text (count_by is_store old.entries) ++ d.text, ran_book old new d.drained r d.text d.played history (ends_by r stops) d.filled d.all, puts_then out mid_out out' (written_by r) (stores_text (count_by is_store old.entries)) d.text w d.written)
 
@@ -79,7 +81,7 @@ job_refused h stop out history may full = (
   puts_none out (written_by {V = Unit {0}} (Err stop)),
 )
 
-unstarted_end : (stop : Stop) → IsUnstarted stop → IsRunEnd (Err stop)
+pub unstarted_end : (stop : Stop) → IsUnstarted stop → IsRunEnd (Err stop)
 unstarted_end NoMemory h = tt
 unstarted_end NoThread h = tt
 unstarted_end stop h = absurd h

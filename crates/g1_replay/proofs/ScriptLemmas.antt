@@ -40,7 +40,7 @@ step_before : (slots : ℕ) (o : Option Step) (steps : List Step) → IfSome o (
 step_before slots None steps h all = all
 step_before slots (Some s) steps h all = All-cons (StepFits slots true) s steps h all
 
-steps_fit : (l : Shape) (m mutator : ℕ) (cs : List Command) → All (IsCommandOf l m) cs → All (StepFits (slot_count l) true) (filter_map (step_for mutator) cs)
+pub steps_fit : (l : Shape) (m mutator : ℕ) (cs : List Command) → All (IsCommandOf l m) cs → All (StepFits (slot_count l) true) (filter_map (step_for mutator) cs)
 steps_fit l m mutator [] all = All-nil (StepFits (slot_count l) true)
 steps_fit l m mutator (c ∷ cs) all =
     step_before (slot_count l) (step_for mutator c) (filter_map (step_for mutator) cs) (step_fits l m mutator c (All-head (IsCommandOf l m) c cs all)) (steps_fit l m mutator cs (All-tail (IsCommandOf l m) c cs all))

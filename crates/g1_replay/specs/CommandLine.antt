@@ -8,7 +8,7 @@ use Rattle.clap.specs.declared.builder.command.Command.TheViews.{out-Command}
 use Rattle.clap.specs.declared.builder.value_parser.ValueParser.TheVariants.{Signed}
 use Rattle.g1_core.specs.Settings.{Settings}
 use Rattle.g1_replay.specs.declared.command_line.Mode.{Mode}
-use Rattle.g1_replay.specs.declared.command_line.Mode.TheVariants.{Run, Crew}
+use Rattle.g1_replay.specs.declared.command_line.Mode.TheVariants.{Run, Crew, Race}
 use Rattle.g1_replay.specs.declared.options.Options.{Options}
 
 -- an option that takes one whole number, from `least` to `most`
@@ -35,15 +35,21 @@ with_shared a = with_rule (with_rule (with_rule (with_rule (with_rule (with_rule
     (option_rule (codes "start") 1 1024 (codes "5")))
     (option_rule (codes "history") 1 1000000 (codes "1000000"))
 
--- the subcommand `run`
+-- and with those that the subcommands with threads have
+abbrev pub with_threads : App → App
+with_threads a = with_rule (with_rule (with_shared a)
+    (option_rule (codes "refiners") 1 4 (codes "1")))
+    (option_rule (codes "rounds") 0 10000 (codes "100"))
+
+-- the subcommands
 abbrev pub run_app : App
 run_app = with_shared (new_app (codes "run"))
 
--- the subcommand `crew`
 abbrev pub crew_app : App
-crew_app = with_rule (with_rule (with_shared (new_app (codes "crew")))
-    (option_rule (codes "refiners") 1 4 (codes "1")))
-    (option_rule (codes "rounds") 0 10000 (codes "100"))
+crew_app = with_threads (new_app (codes "crew"))
+
+abbrev pub race_app : App
+race_app = with_threads (new_app (codes "race"))
 
 -- the program, which needs a subcommand
 abbrev pub line_top : App
@@ -51,7 +57,7 @@ line_top = on_top (λ s. record s { arg_required_else_help = true; subcommand_re
 
 -- the whole command line
 abbrev pub line_app : App
-line_app = with_subcommand (with_subcommand line_top run_app.top) crew_app.top
+line_app = with_subcommand (with_subcommand (with_subcommand line_top run_app.top) crew_app.top) race_app.top
 
 -- the number that stands for the option of this name, as given or by default
 abbrev pub IsRead : List Row → Text → ℕ → Type 0
@@ -75,11 +81,17 @@ pub record AreRead (rows : List Row) (o : Options) : Type 0 where
 abbrev pub mode_name : Mode → Text
 mode_name Run = codes "run"
 mode_name Crew = codes "crew"
+mode_name Race = codes "race"
 
--- the options of each subcommand: what only another one has is as by default
+-- the options of a subcommand with threads
+abbrev pub AreThreaded : List Row → Options → Type 0
+AreThreaded rows o = AreRead rows o × IsRead rows (codes "refiners") o.refiners × IsRead rows (codes "rounds") o.rounds
+
+-- the options of each subcommand: what only other ones have is as by default
 abbrev pub AreFor : Mode → List Row → Options → Type 0
 AreFor Run rows o = AreRead rows o × (o.refiners ≡ 1) × (o.rounds ≡ 100)
-AreFor Crew rows o = AreRead rows o × IsRead rows (codes "refiners") o.refiners × IsRead rows (codes "rounds") o.rounds
+AreFor Crew rows o = AreThreaded rows o
+AreFor Race rows o = AreThreaded rows o
 
 -- the words ask for this subcommand and give these options
 abbrev pub IsLine : List Text → Mode → Options → Type 0

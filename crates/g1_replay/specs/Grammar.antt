@@ -8,7 +8,7 @@ use Rattle.g1_replay.specs.declared.command.Command.{Command}
 use Rattle.g1_replay.specs.declared.command.Command.TheVariants as command
 use Rattle.g1_replay.specs.declared.command.Command.TheVariants.{Store, Flush, Refine, Work}
 use Rattle.g1_replay.specs.declared.command_line.Mode.{Mode}
-use Rattle.g1_replay.specs.declared.command_line.Mode.TheVariants.{Run, Crew}
+use Rattle.g1_replay.specs.declared.command_line.Mode.TheVariants.{Run, Crew, Race}
 use Rattle.g1_replay.specs.declared.dialect.Dialect.{Dialect}
 use Rattle.g1_replay.specs.declared.fault.TraceFault.{TraceFault}
 use Rattle.g1_replay.specs.declared.fault.TraceFault.TheVariants.{NoHeader, NoCommand, BadHeap, Twice}
@@ -23,6 +23,13 @@ redirect_of a b = if a == b then Err Twice else Ok (Redirect a b)
 abbrev pub is_script : Mode → Bool
 is_script Run = false
 is_script Crew = true
+is_script Race = true
+
+-- whether they have nothing but stores
+abbrev pub has_stores_alone : Mode → Bool
+has_stores_alone Run = false
+has_stores_alone Crew = false
+has_stores_alone Race = true
 
 -- the commands of one call: for each first word, the places behind it and what it asks for
 unfoldable pub read_call : Shape → List ℕ → List (List ℕ) → Result Call TraceFault
@@ -40,6 +47,7 @@ read_call l name words =
 unfoldable pub read_named : Shape → Dialect → List ℕ → List (List ℕ) → Result Command TraceFault
 read_named l d name words =
     if bytes_eq name (codes "store") then (read_three (mutator_place d.mutators) (slot_place l) (target_place l) words >>= λ v. Ok (Store v.0 v.1 v.2))
+    else if has_stores_alone d.mode then Err NoCommand
     else if bytes_eq name (codes "flush") then (read_one (mutator_place d.mutators) words >>= λ v. Ok (Flush v))
     else if is_script d.mode then Err NoCommand
     else if bytes_eq name (codes "refine") then (read_none words >>= λ _. Ok Refine)

@@ -1,7 +1,7 @@
 -- Pieces behind pieces, and plays that follow each other.
 use Rattle.std.proofs.Common.{◌≡◌, ℕ, List, [], ◌∷◌, ◌++◌, refl, sym, ◌∙◌, ap, subst, append_assoc, append-nil}
 use Rattle.g1_core.specs.declared.entry.Entry.{Entry}
-use Rattle.g1_book.specs.History.{History}
+use Rattle.g1_book.specs.History.{History, Terms, layout_in}
 use Rattle.g1_book.specs.Lent.{Grows}
 use Rattle.g1_replay.specs.declared.command.Command.{Command}
 use Rattle.g1_replay.specs.Playing.{HasPlayed}
@@ -48,3 +48,7 @@ played_one a b c p w g = record {
   grows = subst (λ (es : List Entry). Grows a es b) (sym (append-nil p.entries)) g;
   said = sym (append-nil (line_of c p));
 }
+
+-- the heap stays
+pub played_in : (a b : History) (cs : List Command) (xs : List ℕ) → HasPlayed a cs xs b → layout_in b ≡ layout_in a
+played_in a b cs xs p = ap (λ (t : Terms). t.layout) p.grows.terms

@@ -13,6 +13,13 @@ pub mod Output
 pub mod Playing
 pub mod Stops
 pub mod Laws
+pub mod Scripted
+pub mod Drains
 pub mod Crew
+pub mod Race
+pub mod CoreDrains
+pub mod RaceJobs
 pub mod Scripts
 pub mod Status
+pub mod Members
+pub mod MembersDid

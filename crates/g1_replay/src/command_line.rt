@@ -1,9 +1,9 @@
 //! What a command line means.
 ghost use Rattle.std.specs.Prelude.{◌≡◌, ◌≤◌, List, [], Some, true, IfSome, IfOk, IfErr, OnOk, map, string_bytes};
-ghost use Rattle.clap.specs.Words.{Row, app_of, fault_of, found_of, kind_of, rows_of, subcommand_rows_of, takes};
+ghost use Rattle.clap.specs.Words.{Row, app_of, fault_of, found_of, kind_of, new_app, rows_of, subcommand_rows_of, takes};
 ghost use Rattle.g1_replay.specs.Settings.{AreWithin};
-ghost use Rattle.g1_replay.specs.CommandLine.{AreFor, AreSettingsRead, IsLine, IsLocal, IsRead, crew_app, line_app, mode_name, run_app, with_shared};
-ghost use Rattle.g1_replay.specs.declared.command_line.Mode.TheVariants.{Run as RunMode, Crew as CrewMode};
+ghost use Rattle.g1_replay.specs.CommandLine.{AreFor, AreSettingsRead, AreThreaded, IsLine, IsLocal, IsRead, line_app, mode_name, with_shared, with_threads};
+ghost use Rattle.g1_replay.specs.declared.command_line.Mode.TheVariants.{Run as RunMode};
 
 use crate::options::Options;
 use crate::settings::{HISTORY, HOT, LIMIT, LOG, MUTATORS, REFINERS, RING, ROUNDS, START, Setting};
@@ -19,6 +19,8 @@ pub enum Mode {
     Run,
     /// The stores and flushes of each mutator are made by a thread of its own, while others refine.
     Crew,
+    /// The stores of each mutator are made by a thread of its own, with no lock around them, while others refine.
+    Race,
 }
 
 /// Why the program doesn't start: the command line was refused, asks for help, or memory was refused.
@@ -100,8 +102,37 @@ Exit status:
   4  a read of standard input failed: 'read failed' is printed
   5  a write to standard output failed";
 
-/// What the command line means; its first word is the program's name. `Run` and `Crew` come with the options of their own
-/// subcommand: those that aren't given, and those that only the other one has, have their defaults. An unknown word, an
+const RACE_ABOUT: &str =
+    "Reads a trace on standard input, races the stores of the mutators, then drains each region";
+
+const RACE_AFTER_HELP: &str = "\
+Each option takes one decimal whole number, and may be given once. Behind its header the trace has
+'store' and no other command. It is read whole before any thread is started. The stores of each
+mutator are made in a thread of its own, with no lock around them; --hot, --ring, --start and
+--history have no effect on what is printed.
+
+Example, with logs that one card fills:
+  printf 'heap 4 2 4\nstore 0 0 8\nstore 1 16 8\n' | g1replay race --mutators 2 --log 1
+It makes a heap of 4 regions of 2 cards of 4 slots. Two threads store a reference to slot 8, which
+lies in region 1, into slot 0 and into slot 16, while a third refines. It prints
+  stores 2
+  drained
+  drained 0 4
+  drained
+  drained
+which is how many stores were made and, for each region in turn, the cards to scan for references
+into it. They may differ from run to run where a slot is stored to more than once.
+
+Exit status:
+  0  the whole trace was done
+  1  the command line was refused, or help was asked for
+  2  the trace was refused: the line printed says which line, and why
+  3  memory or a thread was refused: 'no memory' or 'no thread' is printed
+  4  a read of standard input failed: 'read failed' is printed
+  5  a write to standard output failed";
+
+/// What the command line means; its first word is the program's name. Each mode comes with the options of its own
+/// subcommand: those that aren't given, and those that only others have, have their defaults. An unknown word, an
 /// option given twice, a value that is no decimal whole number or outside its limits, a missing subcommand and a wish for
 /// help are refused with a text for standard error.
 pub fn read_options(alloc: Global, words: &[&str]) -> Result<(Mode, Options), LineFault>
@@ -129,37 +160,39 @@ pub fn read_options(alloc: Global, words: &[&str]) -> Result<(Mode, Options), Li
 fn line<'a>(alloc: Global) -> Result<Command<'a>, AllocError>
     ensures { IfOk result (λ c. app_of c ≡ line_app) }
 {
-    let run = run_command(alloc)?;
-    let crew = crew_command(alloc)?;
+    let run = named(alloc, "run", RUN_ABOUT, RUN_AFTER_HELP);
+    let crew = named(alloc, "crew", CREW_ABOUT, CREW_AFTER_HELP);
+    let race = named(alloc, "race", RACE_ABOUT, RACE_AFTER_HELP);
+    let run = with_shared(alloc, run)?;
+    let crew = with_threads(alloc, crew)?;
+    let race = with_threads(alloc, race)?;
     Command::new(alloc, "g1replay")
         .about(ABOUT)
         .after_help(AFTER_HELP)
         .arg_required_else_help(true)
         .subcommand_required(true)
         .subcommand(run)?
-        .subcommand(crew)
+        .subcommand(crew)?
+        .subcommand(race)
 }
 
-// The subcommand `run`.
-fn run_command<'a>(alloc: Global) -> Result<Command<'a>, AllocError>
-    ensures app { IfOk result (λ c. app_of c ≡ run_app) }
-    ensures local { IfOk result IsLocal }
+// The subcommand of this name, which has no option yet.
+fn named<'a>(alloc: Global, name: &'a str, about: &'a str, after_help: &'a str) -> Command<'a>
+    ensures app { app_of result ≡ new_app name.now }
+    ensures local { IsLocal result }
 {
-    let run = Command::new(alloc, "run")
-        .about(RUN_ABOUT)
-        .after_help(RUN_AFTER_HELP);
-    with_shared(alloc, run)
+    Command::new(alloc, name)
+        .about(about)
+        .after_help(after_help)
 }
 
-// The subcommand `crew`.
-fn crew_command<'a>(alloc: Global) -> Result<Command<'a>, AllocError>
-    ensures app { IfOk result (λ c. app_of c ≡ crew_app) }
+// The subcommand with the options that those with threads have.
+fn with_threads<'a>(alloc: Global, command: Command<'a>) -> Result<Command<'a>, AllocError>
+    requires { IsLocal command }
+    ensures app { IfOk result (λ c. app_of c ≡ with_threads (app_of command.entry)) }
     ensures local { IfOk result IsLocal }
 {
-    let crew = Command::new(alloc, "crew")
-        .about(CREW_ABOUT)
-        .after_help(CREW_AFTER_HELP);
-    with_shared(alloc, crew)?
+    with_shared(alloc, command)?
         .arg(REFINERS.argument(alloc))?
         .arg(ROUNDS.argument(alloc))
 }
@@ -188,8 +221,11 @@ fn asked(matches: &ArgMatches<'_>) -> Option<(Mode, Options)>
     if let Some(run) = matches.subcommand_matches("run") {
         return Some((Mode::Run, run_options(run)?));
     }
-    let crew = matches.subcommand_matches("crew")?;
-    Some((Mode::Crew, crew_options(crew)?))
+    if let Some(crew) = matches.subcommand_matches("crew") {
+        return Some((Mode::Crew, threaded_options(crew)?));
+    }
+    let race = matches.subcommand_matches("race")?;
+    Some((Mode::Race, threaded_options(race)?))
 }
 
 // The options of `run` that the subcommand's matches have.
@@ -223,9 +259,9 @@ fn config(matches: &ArgMatches<'_>) -> Option<Config>
     )
 }
 
-// The options of `crew`: those of `run` and its own.
-fn crew_options(matches: &ArgMatches<'_>) -> Option<Options>
-    ensures { IfSome result (AreFor CrewMode (rows_of (found_of matches.now))) }
+// The options of a subcommand with threads: those of `run` and two more.
+fn threaded_options(matches: &ArgMatches<'_>) -> Option<Options>
+    ensures { IfSome result (AreThreaded (rows_of (found_of matches.now))) }
 {
     let mut options = run_options(matches)?;
     options.refiners = value(matches, &REFINERS)?;

@@ -2,15 +2,15 @@
 ghost use Rattle.std.specs.Prelude.{◌≡◌, ◌+◌, ◌≤◌, [], IfErr, IfOk, All, map, vec_len, vec_capacity};
 ghost use Rattle.g1_book.specs.Callers.{IsCallerOf};
 ghost use Rattle.g1_book.specs.History.{terms_of};
-ghost use Rattle.g1_replay.specs.Crew.{IsUnstarted};
 ghost use Rattle.g1_replay.specs.Grammar.{IsCommandOf};
-ghost use Rattle.g1_replay.specs.Scripts.{first_refusal, refusal_in, IsScriptOf};
+ghost use Rattle.g1_replay.specs.Scripted.{IsUnstarted};
+ghost use Rattle.g1_replay.specs.Scripts.{first_refusal, IsScriptOf};
 
 use crate::command::Command;
 use crate::options::Options;
-use crate::scripts::script_for;
+use crate::scripts::{refusal_of, script_for};
 use crate::stop::Stop;
-use g1_book::{Book, Caller, Frame, Job, Outcome, Refusal, Shared, SharedDesk, run_crew};
+use g1_book::{Book, Caller, Frame, Job, Refusal, Shared, SharedDesk, run_crew};
 use g1_layout::NoMemory;
 use std::alloc::Global;
 use std::marker::Send;
@@ -57,16 +57,6 @@ fn jobs_of<'a, T, M: Frame, S: Ledger>(
         jobs.push_reserved(job_of(rt, alloc, shared, caller, commands, options)?);
     }
     Ok(jobs)
-}
-
-// Why a job was refused, if it was.
-fn refusal_of(outcome: Option<Outcome>) -> Option<Refusal>
-    ensures { result ≡ refusal_in outcome }
-{
-    match outcome {
-        Some(Err((_, refusal))) => Some(refusal),
-        _ => None,
-    }
 }
 
 // The callers, and why the first job that was refused was.

@@ -1,15 +1,17 @@
 //! What a crew prints of its book: how many stores there were, and a drain of each region.
-ghost use Rattle.std.specs.Prelude.{◌≡◌, ℕ, List, ◌≤◌, IfErr, count_by, length};
+ghost use Rattle.std.specs.Prelude.{◌≡◌, ℕ, List, count_by};
 ghost use Rattle.g1_book.specs.Counts.{is_store};
 ghost use Rattle.g1_book.specs.History.{IsHistory, layout_in};
-ghost use Rattle.g1_replay.specs.Crew.{HasDrained, Ran};
-ghost use Rattle.g1_replay.specs.Playing.{IsFull, MayStop, Writes};
+ghost use Rattle.g1_replay.specs.Crew.{Ran};
+ghost use Rattle.g1_replay.specs.Laws.{played_in, played_none, played_then};
+ghost use Rattle.g1_replay.specs.Playing.{HasPlayed, IsFull, MayStop, Writes};
 
 use crate::calls::play_call;
+use crate::drains::{Drains, put_drains};
 use crate::print::put_stores;
 use crate::stop::Stop;
 use g1_book::{Book, Call, Entry, Refusal};
-use g1_layout::Layout;
+use g1_layout::Region;
 use std::io::Write;
 
 // Whether the call of the entry is a store.
@@ -23,8 +25,7 @@ fn is_store(entry: &Entry) -> bool
 }
 
 // How many of the entries are stores.
-fn count_stores(entries: &[Entry]) -> u32
-    requires { length entries.now ≤ 1000000 }
+fn count_stores(entries: &[Entry]) -> u64
     ensures { result ≡ count_by is_store entries.now }
 {
     let mut count = 0;
@@ -36,20 +37,23 @@ fn count_stores(entries: &[Entry]) -> u32
     count
 }
 
-// The drains of all regions, in order.
-fn put_drains<W: Write>(book: &mut Book, layout: Layout, output: &mut W) -> Result<(), Stop>
-    requires { layout_in book.old ≡ layout }
-    ensures drained { HasDrained layout.regions book.old book.new (W.contents output.old) (W.contents output.new) result }
-    ensures stops { IfErr result MayStop }
-{
-    let (regions, _, _) = layout.counts();
-    for number in 0..regions {
-        let Some(region) = layout.region(number) else {
-            unreachable!()
-        };
-        play_call(book, Call::Drain(region), output)?;
+impl Drains for Book {
+    ghost layout = { layout_in };
+
+    ghost did = { HasPlayed };
+
+    ghost full = { IsFull };
+
+    /// The first caller's drain of the region.
+    fn put_drain<W: Write>(&mut self, region: Region, output: &mut W) -> Result<(), Stop> {
+        play_call(self, Call::Drain(region), output)
     }
-    Ok(())
+
+    ghost none = { played_none };
+
+    ghost then = { played_then };
+
+    ghost stays = { played_in };
 }
 
 // How many stores there were, and the drains of all regions.

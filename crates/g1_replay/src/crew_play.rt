@@ -1,10 +1,11 @@
 //! A trace is read to its end, the lines of each mutator are made by a thread of its own, and what has come of it is
 //! written.
 ghost use Rattle.std.specs.Prelude.{◌≡◌, ℕ, List, ◌++◌, All, Result, IfSome};
-ghost use Rattle.g1_replay.specs.Crew.{Crewed, IsRefusedCrew, IsWholeCrew, Ran};
+ghost use Rattle.g1_replay.specs.Crew.{Crewed, IsWholeCrew, Ran};
 ghost use Rattle.g1_replay.specs.Grammar.{IsCommandOf};
 ghost use Rattle.g1_replay.specs.Output.{IsEnded, ending_line};
 ghost use Rattle.g1_replay.specs.Playing.{Writes};
+ghost use Rattle.g1_replay.specs.Scripted.{IsRefusedTrace};
 ghost use Rattle.g1_replay.specs.declared.command_line.Mode.TheVariants.{Crew};
 ghost use Rattle.g1_replay.specs.declared.stop.Stop.{Stop};
 
@@ -14,9 +15,8 @@ use crate::crew_jobs::run_jobs;
 use crate::crew_output::put_crew;
 use crate::dialect::Dialect;
 use crate::end::End;
-use crate::engine::{play_lines, put_end};
-use crate::listing::Listing;
-use crate::opening::read_heap;
+use crate::engine::put_end;
+use crate::listing::read_scripts;
 use crate::options::Options;
 use crate::source::Source;
 use crate::stop::Stop;
@@ -68,23 +68,12 @@ fn play_crew<T: Threads + Wait + Sync, R: BufRead, W: Write>(
     ensures { (text : List ℕ) × Crewed (record { mode = Crew; mutators = options.now.mutators }) options.now.history source.old.number source.new.number (R.remaining input.old) (R.remaining input.new) result text
         × Writes (W.contents output.old) (W.contents output.new) result text }
 {
-    let layout = read_heap(source, input)?;
     let dialect = Dialect {
         mode: Mode::Crew,
         mutators: options.mutators,
     };
-    let mut listing = Listing {
-        commands: Vec::new(alloc),
-    };
-    play_lines(rt, source, layout, dialect, input, &mut listing, output)?;
-    run_commands(
-        rt,
-        alloc,
-        layout,
-        listing.commands.as_slice(),
-        output,
-        options,
-    )
+    let (layout, commands) = read_scripts(rt, alloc, source, dialect, input, output)?;
+    run_commands(rt, alloc, layout, &commands, output, options)
 }
 
 /// Replays a trace by a crew: reads all of it, makes the calls of each mutator in a thread of its own with the refiners
@@ -115,7 +104,7 @@ pub fn crew<T: Threads + Wait + Sync, R: BufRead, W: Write>(
         × Crewed (record { mode = Crew; mutators = options.now.mutators }) options.now.history 1 number (R.remaining input.old) (R.remaining input.new) outcome text
         × IsEnded (W.contents output.old) (W.contents output.new) outcome (text ++ ending_line number outcome) result }
     ensures whole { result ≡ End.Whole → IfSome (R.remaining input.old) (λ bytes. IsWholeCrew (record { mode = Crew; mutators = options.now.mutators }) options.now.history bytes (W.contents output.old) (W.contents output.new)) }
-    ensures refused { result ≡ End.Refused → IfSome (R.remaining input.old) (λ bytes. IsRefusedCrew (record { mode = Crew; mutators = options.now.mutators }) bytes (W.contents output.old) (W.contents output.new)) }
+    ensures refused { result ≡ End.Refused → IfSome (R.remaining input.old) (λ bytes. IsRefusedTrace (record { mode = Crew; mutators = options.now.mutators }) bytes (W.contents output.old) (W.contents output.new)) }
 {
     let mut source = Source {
         reads: 0,

@@ -3,7 +3,7 @@
 ghost use Rattle.std.specs.Prelude.{◌≡◌, ℕ, [], IfOk, IfSome};
 ghost use Rattle.g1_replay.specs.Words.{words_from};
 ghost use Rattle.g1_layout.specs.Shape.{IsShape};
-ghost use Rattle.g1_replay.specs.Grammar.{is_script, read_call, read_named, read_command, redirect_of, IsCallOf, IsCommandOf};
+ghost use Rattle.g1_replay.specs.Grammar.{has_stores_alone, is_script, read_call, read_named, read_command, redirect_of, IsCallOf, IsCommandOf};
 
 use crate::command::Command;
 use crate::command_line::Mode;
@@ -23,6 +23,17 @@ fn is_script(mode: Mode) -> bool
     match mode {
         Mode::Run => false,
         Mode::Crew => true,
+        Mode::Race => true,
+    }
+}
+
+// Whether they have nothing but stores.
+fn has_stores_alone(mode: Mode) -> bool
+    ensures { result ≡ has_stores_alone mode }
+{
+    match mode {
+        Mode::Run | Mode::Crew => false,
+        Mode::Race => true,
     }
 }
 
@@ -88,6 +99,9 @@ fn named(layout: Layout, dialect: Dialect, name: &[u8], words: &[u8]) -> Result<
             slot,
             target,
         });
+    }
+    if has_stores_alone(dialect.mode) {
+        return Err(TraceFault::NoCommand);
     }
     if is(name, b"flush") {
         let mutator = one_mutator(dialect.mutators, words)?;

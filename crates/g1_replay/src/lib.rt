@@ -8,6 +8,7 @@ mod crew_jobs;
 mod crew_output;
 mod crew_play;
 mod dialect;
+mod drains;
 mod end;
 mod engine;
 mod fault;
@@ -25,6 +26,11 @@ mod places;
 mod play;
 mod player;
 mod print;
+mod race_desk;
+mod race_jobs;
+mod race_members;
+mod race_output;
+mod race_play;
 mod scripts;
 mod settings;
 mod source;
@@ -38,6 +44,7 @@ pub use end::End;
 pub use engine::run;
 pub use fault::TraceFault;
 pub use options::Options;
+pub use race_play::race;
 
 #[cfg(test)]
 mod tests;

@@ -76,6 +76,20 @@ pub(crate) fn put_counted<W: Write>(
     put_number(output, u64::from(number))
 }
 
+/// Writes words, a number, and words behind it.
+pub(crate) fn put_between<W: Write>(
+    output: &mut W,
+    before: &[u8],
+    number: u64,
+    behind: &[u8],
+) -> Result<(), WriteFailed>
+    ensures { Puts (W.contents output.old) (W.contents output.new) result (counted before.now number ++ behind.now) }
+{
+    put(output, before)?;
+    put_number(output, number)?;
+    put(output, behind)
+}
+
 /// Writes words and how many cards there are.
 pub(crate) fn put_length<W: Write>(
     output: &mut W,

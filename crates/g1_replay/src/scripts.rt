@@ -1,11 +1,11 @@
-//! The scripts of a crew: what each caller is to do.
+//! The scripts of a crew or a race: what each of its threads is to do, and why one was refused.
 ghost use Rattle.std.specs.Prelude.{◌≡◌, IfOk};
 ghost use Rattle.std.specs.List.{filter_map};
-ghost use Rattle.g1_replay.specs.Scripts.{step_for, IsScriptOf};
+ghost use Rattle.g1_replay.specs.Scripts.{refusal_in, step_for, IsScriptOf};
 
 use crate::command::Command;
 use crate::options::Options;
-use g1_book::{Script, Step};
+use g1_book::{Outcome, Refusal, Script, Step};
 use g1_layout::NoMemory;
 use std::alloc::Global;
 
@@ -55,4 +55,14 @@ pub(crate) fn script_for(
         return Ok(Script::Mutate(steps));
     }
     Ok(Script::Refine(options.rounds))
+}
+
+/// Why a job was refused, if it was.
+pub(crate) fn refusal_of(outcome: Option<Outcome>) -> Option<Refusal>
+    ensures { result ≡ refusal_in outcome }
+{
+    match outcome {
+        Some(Err((_, refusal))) => Some(refusal),
+        _ => None,
+    }
 }

@@ -6,6 +6,7 @@ mod grammar;
 mod help;
 mod line_faults;
 mod options;
+mod race;
 mod reading;
 mod refused_growths;
 mod worked_traces;

@@ -1,7 +1,7 @@
 //! Replays a trace from standard input to standard output (docs/TRACES.md).
 #![tactic(auto)]
 
-use g1_replay::{End, LineFault, Mode, Options, crew, read_options, run};
+use g1_replay::{End, LineFault, Mode, Options, crew, race, read_options, run};
 use std::io::{BufReader, BufWriter, Write};
 use std::process::ExitCode;
 use std::sync::Wait;
@@ -73,6 +73,7 @@ fn replay<R: Threads + Wait + Sync + Input + Print + AllocGlobal>(
     let end = match mode {
         Mode::Run => run(rt, alloc, &mut input, &mut output, options),
         Mode::Crew => crew(rt, alloc, &mut input, &mut output, options),
+        Mode::Race => race(rt, alloc, &mut input, &mut output, options),
     };
     written_out(end, output)
 }

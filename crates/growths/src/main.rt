@@ -22,6 +22,7 @@ mod machinery;
 mod numbers;
 mod outcome;
 mod race;
+mod race_and_core;
 mod sets;
 mod shared;
 
@@ -47,5 +48,6 @@ fn play<R: Wait + Print + Eprint + AllocGlobal>(rt: &R) -> Result<(), Failure> {
     history::play(rt)?;
     callers::play(rt)?;
     shared::play(rt)?;
-    race::play(rt)
+    race::play(rt)?;
+    race_and_core::play(rt)
 }

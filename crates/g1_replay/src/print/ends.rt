@@ -1,10 +1,10 @@
 //! The lines of a fault and of the other ends (docs/TRACES.md, Faults, Ends).
 ghost use Rattle.g1_replay.specs.Bytes.{Puts};
-ghost use Rattle.g1_replay.specs.Text.{fault_line, fault_text, counted, no_memory_line, book_full_line, no_thread_line, read_failed_line};
-ghost use Rattle.std.specs.Prelude.{◌≡◌, codes, ◌++◌};
+ghost use Rattle.g1_replay.specs.Text.{fault_line, fault_text, no_memory_line, book_full_line, no_thread_line, read_failed_line};
+ghost use Rattle.std.specs.Prelude.{◌≡◌};
 
 use crate::fault::TraceFault;
-use crate::output::{WriteFailed, put, put_number};
+use crate::output::{WriteFailed, put, put_between};
 use std::io::Write;
 
 impl TraceFault {
@@ -37,18 +37,9 @@ pub fn put_fault<W: Write>(
 ) -> Result<(), WriteFailed>
     ensures { Puts (W.contents output.old) (W.contents output.new) result (fault_line number fault) }
 {
-    put_place(output, number)?;
+    put_between(output, b"line ", number, b": ")?;
     put(output, fault.text().as_bytes())?;
     put(output, b"\n")
-}
-
-// The number of the line, in front of a fault's text.
-fn put_place<W: Write>(output: &mut W, number: u64) -> Result<(), WriteFailed>
-    ensures { Puts (W.contents output.old) (W.contents output.new) result (counted (codes "line ") number ++ codes ": ") }
-{
-    put(output, b"line ")?;
-    put_number(output, number)?;
-    put(output, b": ")
 }
 
 /// Writes the line of a replay that ends because memory was refused.

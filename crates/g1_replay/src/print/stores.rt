@@ -3,7 +3,7 @@ ghost use Rattle.g1_replay.specs.Bytes.{Puts};
 ghost use Rattle.g1_replay.specs.Text.{store_text, flush_text, stored_line, stores_text, counted, ending};
 ghost use Rattle.std.specs.Prelude.{◌++◌, length};
 
-use crate::output::{WriteFailed, put, put_counted, put_either, put_ending, put_length};
+use crate::output::{WriteFailed, put_between, put_counted, put_either, put_ending, put_length};
 use g1_book::FlushReply;
 use g1_core::{CardList, Fill, StoreReply};
 use g1_layout::Kind;
@@ -70,9 +70,8 @@ fn put_helped<W: Write>(
 }
 
 /// Writes the line of how many stores there were.
-pub fn put_stores<W: Write>(output: &mut W, stores: u32) -> Result<(), WriteFailed>
+pub fn put_stores<W: Write>(output: &mut W, stores: u64) -> Result<(), WriteFailed>
     ensures { Puts (W.contents output.old) (W.contents output.new) result (stores_text stores) }
 {
-    put_counted(output, b"stores ", stores)?;
-    put(output, b"\n")
+    put_between(output, b"stores ", stores, b"\n")
 }

@@ -1,10 +1,10 @@
-//! Crews: what they print where the threads leave no choice, and how they end.
+//! Crews, and how crews and races end.
 ghost use Rattle.std.specs.Prelude.{◌≤◌};
 
 use super::failing_ends::{Narrow, failing_after};
-use crate::{End, Mode, Options, crew, read_options};
+use crate::{End, Mode, Options, crew, race, read_options, run};
 use g1_core::Config;
-use std::io::BufReader;
+use std::io::{BufRead, BufReader, Write};
 use std::process::Abort;
 use std::sync::Wait;
 use std::test::Fail;
@@ -23,9 +23,25 @@ const WORDS: [&str; 10] = [
     "1",
 ];
 
+/// The subcommand's replay.
+pub(crate) fn replay<T: Threads + Wait + Sync + AllocGlobal, R: BufRead, W: Write>(
+    rt: &T,
+    mode: Mode,
+    input: &mut R,
+    output: &mut W,
+    options: &Options,
+) -> End {
+    match mode {
+        Mode::Run => run(rt, rt.alloc(), input, output, options),
+        Mode::Crew => crew(rt, rt.alloc(), input, output, options),
+        Mode::Race => race(rt, rt.alloc(), input, output, options),
+    }
+}
+
 /// The trace prints just this, and ends so.
-fn is_played<R: Abort + Threads + Wait + Sync + AllocGlobal>(
+pub(crate) fn is_played<R: Abort + Threads + Wait + Sync + AllocGlobal>(
     rt: &R,
+    mode: Mode,
     trace: &str,
     options: &Options,
     printed: &str,
@@ -34,7 +50,7 @@ fn is_played<R: Abort + Threads + Wait + Sync + AllocGlobal>(
     let alloc = rt.alloc();
     let mut input = trace.as_bytes();
     let mut output: Vec<u8> = Vec::new(alloc);
-    let end = crew(rt, alloc, &mut input, &mut output, options);
+    let end = replay(rt, mode, &mut input, &mut output, options);
     let text = String::from_utf8_lossy(alloc, output.as_slice())?;
     assert_eq!(rt; text.as_str(), printed);
     assert_eq!(rt; end, wanted);
@@ -42,7 +58,7 @@ fn is_played<R: Abort + Threads + Wait + Sync + AllocGlobal>(
 }
 
 /// One mutator, whose log no card fills, and a refiner that makes no round.
-fn without_rounds(history: u32) -> Options
+pub(crate) fn without_rounds(history: u32) -> Options
     requires { (1 ≤ history) × (history ≤ 1000000) }
 {
     Options {
@@ -61,6 +77,7 @@ fn two_mutators(rt: HostRuntime) -> Result<(), Fail> {
     assert!(&rt; mode == Mode::Crew);
     is_played(
         &rt,
+        Mode::Crew,
         "heap 4 2 4\nstore 0 0 8\nstore 1 16 8\nflush 0\n",
         &options,
         "stores 2\ndrained\ndrained 0 4\ndrained\ndrained\n",
@@ -74,6 +91,7 @@ fn a_fault_prints_its_line_alone(rt: HostRuntime) -> Result<(), Fail> {
     let (_, options) = read_options(rt.alloc(), &WORDS)?;
     is_played(
         &rt,
+        Mode::Crew,
         "heap 4 2 4\nstore 0 0 8\ndrain 1\n",
         &options,
         "line 3: no such command\n",
@@ -99,6 +117,7 @@ fn scripts_have_stores_and_flushes_alone(rt: HostRuntime) -> Result<(), Fail> {
         let trace = format!(in rt.alloc(); "heap 4 2 4\nstore 0 0 8\n{line}\n")?;
         is_played(
             &rt,
+            Mode::Crew,
             trace.as_str(),
             &options,
             "line 3: no such command\n",
@@ -107,6 +126,7 @@ fn scripts_have_stores_and_flushes_alone(rt: HostRuntime) -> Result<(), Fail> {
     }
     is_played(
         &rt,
+        Mode::Crew,
         "heap 4 2 4\nflush\n",
         &options,
         "line 2: wrong words\n",
@@ -119,6 +139,7 @@ fn scripts_have_stores_and_flushes_alone(rt: HostRuntime) -> Result<(), Fail> {
 fn an_empty_trace(rt: HostRuntime) -> Result<(), Fail> {
     is_played(
         &rt,
+        Mode::Crew,
         "heap 2 1 1\n",
         &without_rounds(2),
         "stores 0\ndrained\ndrained\n",
@@ -131,6 +152,7 @@ fn an_empty_trace(rt: HostRuntime) -> Result<(), Fail> {
 fn a_store_that_the_book_has_no_room_for(rt: HostRuntime) -> Result<(), Fail> {
     is_played(
         &rt,
+        Mode::Crew,
         "heap 4 2 4\nstore 0 0 8\nstore 0 4 8\n",
         &without_rounds(1),
         "book full\n",
@@ -143,6 +165,7 @@ fn a_store_that_the_book_has_no_room_for(rt: HostRuntime) -> Result<(), Fail> {
 fn a_drain_that_the_book_has_no_room_for(rt: HostRuntime) -> Result<(), Fail> {
     is_played(
         &rt,
+        Mode::Crew,
         "heap 4 2 4\nstore 0 0 8\n",
         &without_rounds(2),
         "stores 1\ndrained\nbook full\n",
@@ -153,13 +176,14 @@ fn a_drain_that_the_book_has_no_room_for(rt: HostRuntime) -> Result<(), Fail> {
 /// After 23 bytes, the whole first two lines, and after 25, in the middle of the third, nothing is run.
 #[test]
 fn a_read_that_fails(rt: HostRuntime) -> Result<(), Fail> {
-    for room in [23, 25] {
-        let mut input = BufReader::new(rt.alloc(), failing_after(room))?;
-        let mut output: Vec<u8> = Vec::new(rt.alloc());
-        let options = without_rounds(1000);
-        let end = crew(&rt, rt.alloc(), &mut input, &mut output, &options);
-        assert_eq!(rt; end, End::ReadFailed);
-        assert!(rt; output.as_slice() == b"read failed\n".as_slice());
+    for mode in [Mode::Crew, Mode::Race] {
+        for room in [23, 25] {
+            let mut input = BufReader::new(rt.alloc(), failing_after(room))?;
+            let mut output: Vec<u8> = Vec::new(rt.alloc());
+            let end = replay(&rt, mode, &mut input, &mut output, &without_rounds(1000));
+            assert_eq!(rt; end, End::ReadFailed);
+            assert!(rt; output.as_slice() == b"read failed\n".as_slice());
+        }
     }
     Ok(())
 }
@@ -168,18 +192,19 @@ fn a_read_that_fails(rt: HostRuntime) -> Result<(), Fail> {
 #[test]
 fn writes_that_fail(rt: HostRuntime) -> Result<(), Fail> {
     let whole = b"stores 0\ndrained\n".as_slice();
-    for room in 0..whole.len() {
-        for fails in [true, false] {
-            let mut input = b"heap 1 1 1\n".as_slice();
-            let mut output = Narrow {
-                bytes: Vec::new(rt.alloc()),
-                room,
-                fails,
-            };
-            let options = without_rounds(1000);
-            let end = crew(&rt, rt.alloc(), &mut input, &mut output, &options);
-            assert_eq!(rt; end, End::WriteFailed);
-            assert!(rt; output.bytes.as_slice() == &whole[..room]);
+    for mode in [Mode::Crew, Mode::Race] {
+        for room in 0..whole.len() {
+            for fails in [true, false] {
+                let mut input = b"heap 1 1 1\n".as_slice();
+                let mut output = Narrow {
+                    bytes: Vec::new(rt.alloc()),
+                    room,
+                    fails,
+                };
+                let end = replay(&rt, mode, &mut input, &mut output, &without_rounds(1000));
+                assert_eq!(rt; end, End::WriteFailed);
+                assert!(rt; output.bytes.as_slice() == &whole[..room]);
+            }
         }
     }
     Ok(())

@@ -1,6 +1,7 @@
-//! A crew of many threads against one that makes the same calls in their order.
+//! A crew and a race of many threads against one that makes the same calls in their order.
+use super::crew::replay;
 use super::options::config;
-use crate::{End, Options, crew, run};
+use crate::{End, Mode, Options};
 use std::alloc::Global;
 use std::fmt::Write;
 use std::process::Abort;
@@ -39,25 +40,27 @@ fn eight_mutators(rt: &impl Abort) -> Options {
     }
 }
 
-/// Where each slot is stored to once, the drains of a crew answer what those of its stores one by one do.
+/// Where each slot is stored to once, the drains of a crew and of a race answer what those of its stores one by one do.
 #[test]
 fn drains_after_stores_in_any_order(rt: HostRuntime) -> Result<(), Fail> {
     let options = eight_mutators(&rt);
-    let trace = stores(rt.alloc())?;
-    let mut by_crew: Vec<u8> = Vec::new(rt.alloc());
-    let mut input = trace.as_bytes();
-    let end = crew(&rt, rt.alloc(), &mut input, &mut by_crew, &options);
-    assert_eq!(rt; end, End::Whole);
-    let trace = with_drains(trace)?;
+    let scripts = stores(rt.alloc())?;
+    let trace = with_drains(stores(rt.alloc())?)?;
     let mut one_by_one: Vec<u8> = Vec::new(rt.alloc());
     let mut input = trace.as_bytes();
-    let end = run(&rt, rt.alloc(), &mut input, &mut one_by_one, &options);
+    let end = replay(&rt, Mode::Run, &mut input, &mut one_by_one, &options);
     assert_eq!(rt; end, End::Whole);
-    let drains = by_crew
-        .as_slice()
-        .strip_prefix(b"stores 100000\n")
-        .expect(&rt, "all stores are counted");
-    assert_eq!(rt; drains.iter().filter(|byte| **byte == b'\n').count(), 64);
-    assert!(rt; one_by_one.as_slice().ends_with(drains));
+    for mode in [Mode::Crew, Mode::Race] {
+        let mut by_threads: Vec<u8> = Vec::new(rt.alloc());
+        let mut input = scripts.as_bytes();
+        let end = replay(&rt, mode, &mut input, &mut by_threads, &options);
+        assert_eq!(rt; end, End::Whole);
+        let drains = by_threads
+            .as_slice()
+            .strip_prefix(b"stores 100000\n")
+            .expect(&rt, "all stores are counted");
+        assert_eq!(rt; drains.iter().filter(|byte| **byte == b'\n').count(), 64);
+        assert!(rt; one_by_one.as_slice().ends_with(drains));
+    }
     Ok(())
 }

@@ -11,6 +11,7 @@ Usage: g1replay <COMMAND>
 Commands:
   run   Reads a trace on standard input and prints the reply of each command on standard output
   crew  Reads a trace on standard input, runs each mutator in a thread of its own, then drains each region
+  race  Reads a trace on standard input, races the stores of the mutators, then drains each region
   help  Print this message or the help of the given subcommand(s)
 
 Options:
@@ -112,6 +113,49 @@ Exit status:
   5  a write to standard output failed
 ";
 
+const OF_RACE: &str = "\
+Reads a trace on standard input, races the stores of the mutators, then drains each region
+
+Usage: g1replay race [OPTIONS]
+
+Options:
+      --mutators <COUNT>   Mutators of the trace, numbered from 0: 1 to 8 [default: 1]
+      --log <CARDS>        Cards that fill a mutator's log: 1 to 256 [default: 256]
+      --limit <BUFFERS>    Completed buffers that may wait for refinement: 1 to 1024 [default: 10]
+      --hot <TIMES>        Refinements after which a card is hot, 0 for at once: 0 to 255 [default: 4]
+      --ring <CARDS>       Hot cards that are set aside: 1 to 4096 [default: 1024]
+      --start <BUFFERS>    Completed buffers that a round of 'work' wants: 1 to 1024 [default: 5]
+      --history <ENTRIES>  Calls that the history takes: 1 to 1000000 [default: 1000000]
+      --refiners <COUNT>   Threads that refine while the mutators store: 1 to 4 [default: 1]
+      --rounds <COUNT>     Rounds of 'work' that each of these threads makes: 0 to 10000 [default: 100]
+  -h, --help               Print help
+
+Each option takes one decimal whole number, and may be given once. Behind its header the trace has
+'store' and no other command. It is read whole before any thread is started. The stores of each
+mutator are made in a thread of its own, with no lock around them; --hot, --ring, --start and
+--history have no effect on what is printed.
+
+Example, with logs that one card fills:
+  printf 'heap 4 2 4\nstore 0 0 8\nstore 1 16 8\n' | g1replay race --mutators 2 --log 1
+It makes a heap of 4 regions of 2 cards of 4 slots. Two threads store a reference to slot 8, which
+lies in region 1, into slot 0 and into slot 16, while a third refines. It prints
+  stores 2
+  drained
+  drained 0 4
+  drained
+  drained
+which is how many stores were made and, for each region in turn, the cards to scan for references
+into it. They may differ from run to run where a slot is stored to more than once.
+
+Exit status:
+  0  the whole trace was done
+  1  the command line was refused, or help was asked for
+  2  the trace was refused: the line printed says which line, and why
+  3  memory or a thread was refused: 'no memory' or 'no thread' is printed
+  4  a read of standard input failed: 'read failed' is printed
+  5  a write to standard output failed
+";
+
 /// The line is refused with just this text.
 pub(super) fn is_refused(rt: &(impl Abort + AllocGlobal), words: &[&str], text: &str) {
     match read_options(rt.alloc(), words) {
@@ -151,6 +195,19 @@ fn help_of_crew(rt: HostRuntime) -> Result<(), Fail> {
         &rt,
         &["g1replay", "crew", "--rounds", "1", "--help"],
         OF_CREW,
+    );
+    Ok(())
+}
+
+#[test]
+fn help_of_race(rt: HostRuntime) -> Result<(), Fail> {
+    is_refused(&rt, &["g1replay", "race", "--help"], OF_RACE);
+    is_refused(&rt, &["g1replay", "race", "-h"], OF_RACE);
+    is_refused(&rt, &["g1replay", "help", "race"], OF_RACE);
+    is_refused(
+        &rt,
+        &["g1replay", "race", "--rounds", "1", "--help"],
+        OF_RACE,
     );
     Ok(())
 }

@@ -5,8 +5,8 @@ use crate::{Mode, Options, read_options};
 
 #[test]
 fn words_that_the_line_does_not_know(rt: HostRuntime) {
-    let race = "\
-error: unrecognized subcommand 'race'
+    let bench = "\
+error: unrecognized subcommand 'bench'
 
 Usage: g1replay <COMMAND>
 
@@ -42,7 +42,7 @@ Usage: g1replay run [OPTIONS]
 
 For more information, try '--help'.
 ";
-    is_refused(&rt, &["g1replay", "race", "--log", "1"], race);
+    is_refused(&rt, &["g1replay", "bench", "--log", "1"], bench);
     is_refused(&rt, &["g1replay", "--mutators", "2", "run"], option_before);
     is_refused(&rt, &["g1replay", "run", "--rounds", "1"], rounds);
     is_refused(&rt, &["g1replay", "crew", "--pauses", "1"], pauses);

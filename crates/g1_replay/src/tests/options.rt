@@ -42,6 +42,7 @@ fn defaults(rt: HostRuntime) {
     };
     assert_eq!(rt; taken(&rt, Mode::Run, &["g1replay", "run"]), expected);
     assert_eq!(rt; taken(&rt, Mode::Crew, &["g1replay", "crew"]), expected);
+    assert_eq!(rt; taken(&rt, Mode::Race, &["g1replay", "race"]), expected);
     assert_eq!(rt; Options::default(), expected);
 }
 
@@ -76,8 +77,8 @@ fn each_option_goes_to_its_field(rt: HostRuntime) {
 }
 
 #[test]
-fn each_option_of_a_crew_goes_to_its_field(rt: HostRuntime) {
-    let words = [
+fn each_option_of_threads_goes_to_its_field(rt: HostRuntime) {
+    let mut words = [
         "g1replay",
         "crew",
         "--rounds",
@@ -107,6 +108,8 @@ fn each_option_of_a_crew_goes_to_its_field(rt: HostRuntime) {
         rounds: 28,
     };
     assert_eq!(rt; taken(&rt, Mode::Crew, words.as_slice()), expected);
+    words[1] = "race";
+    assert_eq!(rt; taken(&rt, Mode::Race, words.as_slice()), expected);
 }
 
 #[test]
@@ -259,7 +262,8 @@ fn each_option_has_its_limits(rt: HostRuntime) -> Result<(), Fail> {
         },
     ];
     have_limits(&rt, (Mode::Run, "run"), rows.as_slice())?;
-    have_limits(&rt, (Mode::Crew, "crew"), rows.as_slice())
+    have_limits(&rt, (Mode::Crew, "crew"), rows.as_slice())?;
+    have_limits(&rt, (Mode::Race, "race"), rows.as_slice())
 }
 
 #[test]
@@ -282,5 +286,6 @@ fn the_refiners_and_their_rounds_have_limits(rt: HostRuntime) -> Result<(), Fail
             above: "10001",
         },
     ];
-    have_limits(&rt, (Mode::Crew, "crew"), rows.as_slice())
+    have_limits(&rt, (Mode::Crew, "crew"), rows.as_slice())?;
+    have_limits(&rt, (Mode::Race, "race"), rows.as_slice())
 }

@@ -16,4 +16,4 @@ pub returns : goal.returns
 returns g c =
     let count : c.count_stores-count.result ≡ count_by is_store c.args.book.now.entries = c.count_stores-count.ensures ∙ ap (λ (es : List Entry). count_by is_store es) c.entries.ensures.entries in
     let drained = rw c.layout-layout.ensures at c.put_drains-result.ensures.drained in
-    book_written c.args.book.now c.put_drains-result.new.book _ (g.W.Write.contents c.put_stores.new.output) _ c.put_drains-result.result c.put_drains-result.ensures.stops c.entries-history.ensures.history (rw count at c.in_ok-put_stores.ensures) drained
+    book_written c.args.book.now c.put_drains-result.new.left _ (g.W.Write.contents c.put_stores.new.output) _ c.put_drains-result.result c.put_drains-result.ensures.stops c.entries-history.ensures.history (rw count at c.in_ok-put_stores.ensures) drained

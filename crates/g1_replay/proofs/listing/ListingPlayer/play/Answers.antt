@@ -1,7 +1,7 @@
 use Rattle.std.proofs.lemmas.List.Elements.{All-push}
 use Rattle.std.proofs.lemmas.Result.{err_from_is_err_and}
 use Rattle.g1_replay.specs.Grammar.{IsCommandOf}
-use Rattle.g1_replay.proofs.CrewLemmas.{not_listed}
+use Rattle.g1_replay.proofs.ScriptedLemmas.{not_listed}
 use Rattle.g1_replay.proofs.listing.ListingPlayer.play.Goals as goal
 
 pub returns-in_err-reserve-clause-played : goal.returns-in_err-reserve-clause-played

@@ -1,0 +1,125 @@
+-- Drains of the core that a race has become.
+use Rattle.std.proofs.Common.{◌≡◌, ◌≢◌, ◌⊎◌, ℕ, List, [], ◌∷◌, ◌++◌, append-nil, ap, sym, subst, ◌∙◌, refl, inl, inr, ⊎_elim, Option, true, Contains, arith}
+use Rattle.std.specs.Prelude.{Bool, Result, Ok, Err}
+use Rattle.std.specs.FinSet as set
+use Rattle.std.specs.Ordering.{nat_cmp}
+use Rattle.std.specs.Io.KnownBytes.{Appends}
+use Rattle.std.proofs.KnownBytes.{Appends-nil}
+use Rattle.std.proofs.lemmas.Bool.{true≢false}
+use Rattle.g1_layout.specs.Shape.{Shape, card_of, region_of, region_of_card}
+use Rattle.g1_layout.specs.Sets.{CardSet}
+use Rattle.g1_core.specs.declared.reply.Drained.{Drained}
+use Rattle.g1_core.specs.declared.reply.Drained.TheVariants.{Cards, Short}
+use Rattle.g1_core.specs.Calls.{drain_entry, drain_reply}
+use Rattle.g1_core.specs.Machine.{Machine}
+use Rattle.g1_core.specs.Run.{IsStep}
+use Rattle.g1_core.specs.Table.{Table, Holds, IsCovered, IsRecorded, held, refined}
+use Rattle.g1_core.proofs.TableLemmas.{refined_covered, recorded_cases, region_of_slot, Holds_from_held}
+use Rattle.g1_race.specs.Over.{Ended, refs_of, table_of}
+use Rattle.g1_replay.specs.declared.command.Command.{Command}
+use Rattle.g1_core.specs.declared.entry.Call.TheVariants.{Drain}
+use Rattle.g1_replay.specs.declared.command.Command.TheVariants.{Call}
+use Rattle.g1_replay.specs.declared.stop.Stop.{Stop}
+use Rattle.g1_replay.specs.declared.stop.Stop.TheVariants.{NoMemory, WriteFailed}
+use Rattle.g1_replay.specs.Bytes.{AppendsFront}
+use Rattle.g1_replay.specs.CoreDrains.{AreDrains, CoreDrained}
+use Rattle.g1_replay.specs.Playing.{Does}
+use Rattle.g1_replay.specs.Race.{AreExact, IsExactAfter, drain_text, referring}
+use Rattle.g1_replay.specs.RaceJobs.{IsTableLeftBy}
+use Rattle.g1_replay.specs.Text.{call_line}
+
+-- what one drain of a core does
+abbrev pub Drives : ℕ → Machine → Machine → Option (List ℕ) → Option (List ℕ) → Result Bool Stop → Type 0
+Drives region old new out out' r = Does CoreDrained (λ (m : Machine). ⊥) (Call (Drain region) ∷ []) old new out out' r
+
+abbrev pub Steps : ℕ → Machine → Drained → Machine → Type 0
+Steps region old answer new = (caller : ℕ) → IsStep old.state.table (drain_entry caller region answer) new.state.table
+
+one_drain : (old new : Machine) (region : ℕ) (answer : Drained) → Steps region old answer new → CoreDrained old (Call (Drain region) ∷ []) (drain_text answer) new
+one_drain old new region answer s = record { answers = answer ∷ []; made = (new.state.table, s 0, refl); said = sym (append-nil (drain_text answer)) }
+
+-- the line of a drain's reply is that of its answer
+line_is : (region : ℕ) (answer : Drained) → call_line (Drain region) (drain_reply answer) ≡ drain_text answer
+line_is region (Cards cards refined) = refl
+line_is region (Short refined) = refl
+
+pub drives_whole : (old new : Machine) (region : ℕ) (answer : Drained) (out out' : Option (List ℕ)) → Steps region old answer new → Appends out out' (call_line (Drain region) (drain_reply answer)) → Drives region old new out out' (Ok true)
+drives_whole old new region answer out out' s w = record { done = Call (Drain region) ∷ []; undone = []; all = refl; stopped = refl; text = drain_text answer; made = one_drain old new region answer s; filled = λ e. cc; written = subst (λ (text : List ℕ). Appends out out' text) (line_is region answer) w }
+
+pub drives_front : (old new : Machine) (region : ℕ) (answer : Drained) (out out' : Option (List ℕ)) → Steps region old answer new → AppendsFront out out' (call_line (Drain region) (drain_reply answer)) → Drives region old new out out' (Err WriteFailed)
+drives_front old new region answer out out' s w = record { done = Call (Drain region) ∷ []; undone = []; all = refl; stopped = refl; text = drain_text answer; made = one_drain old new region answer s; filled = λ e. cc; written = subst (λ (text : List ℕ). AppendsFront out out' text) (line_is region answer) w }
+
+pub drives_refused : (old new : Machine) (region : ℕ) (out : Option (List ℕ)) → new ≡ old → Drives region old new out out (Err NoMemory)
+drives_refused old new region out same = record {
+  done = [];
+  undone = Call (Drain region) ∷ [];
+  all = refl;
+  stopped = omega arith;
+  text = [];
+  made = record { answers = []; made = ap (λ (m : Machine). m.state.table) same; said = refl };
+  filled = λ e. cc;
+  written = Appends-nil out;
+}
+
+-- a table to which drains of the first one led
+pub record IsFrom (first now : Table) : Type 0 where
+  pub layout : now.layout ≡ first.layout
+  pub refs : now.refs ≡ first.refs
+  pub recorded : (card region : ℕ) → IsRecorded now card region → IsRecorded first card region ⊎ Holds first card region
+  pub covered : IsCovered now
+
+pub from_itself : (t : Table) → IsCovered t → IsFrom t t
+from_itself t cover = record { layout = refl; refs = refl; recorded = λ card region r. inl r; covered = cover }
+
+-- what holds by one table's references holds by the other's
+holds_as : (s t : Table) (card region : ℕ) → s.layout ≡ t.layout → s.refs ≡ t.refs → Holds s card region → Holds t card region
+holds_as s t card region l r h =
+    let moved : Holds (record s { layout = t.layout }) card region = subst (λ (k : Shape). Holds (record s { layout = k }) card region) l h in
+    subst (λ (xs : List (Option ℕ)). Holds (record s { layout = t.layout; refs = xs }) card region) r moved
+
+refined_from : (first now : Table) (done : List ℕ) → IsFrom first now → IsFrom first (refined done now)
+refined_from first now done f = record {
+  layout = f.layout;
+  refs = f.refs;
+  recorded = λ card region r. ⊎_elim (λ (old : IsRecorded now card region). f.recorded card region old)
+      (λ (new : set.contains (held now) (card, region) ≡ true). inr (holds_as now first card region f.layout f.refs (Holds_from_held now card region new))) (recorded_cases done now card region r);
+  covered = refined_covered done now f.covered;
+}
+
+step_from : (first now next : Table) (region : ℕ) (answer : Drained) → IsFrom first now → IsStep now (drain_entry 0 region answer) next → IsFrom first next
+step_from first now next region (Cards cards done) f s = subst (λ (t : Table). IsFrom first t) (sym s.after) (refined_from first now done f)
+step_from first now next region (Short done) f s = subst (λ (t : Table). IsFrom first t) (sym s.after) (refined_from first now done f)
+
+module _ (e : Ended) (mutators : ℕ) (commands : List Command) (left : IsTableLeftBy mutators commands e) where
+  -- a whole drain's list
+  exact_list : (now next : Table) (region : ℕ) (cards done : List ℕ) → IsFrom (table_of e) now → IsStep now (drain_entry 0 region (Cards cards done)) next → IsExactAfter e.layout commands (refs_of e) region cards
+  exact_list now next region cards done f s = record {
+    ascending = s.allowed.answers.1.ascending;
+    outside = λ card c. ⊎_elim (λ (r : IsRecorded (table_of e) card region). (left.pairs card region r).2) (λ (h : Holds (table_of e) card region). h.outside) (had card c);
+    every = every;
+    only = λ card c. left.had card region (had card c);
+  }
+    where
+      had : (card : ℕ) → Contains cards card → IsRecorded (table_of e) card region ⊎ Holds (table_of e) card region
+      had card c = ⊎_elim (λ (old : IsRecorded now card region). f.recorded card region old)
+          (λ (new : set.contains (held now) (card, region) ≡ true). inr (holds_as now (table_of e) card region f.layout f.refs (Holds_from_held now card region new)))
+          (recorded_cases done now card region (s.allowed.answers.1.recorded card c))
+
+      every : (card : ℕ) → Holds (referring e.layout (refs_of e)) card region → Contains cards card
+      every card h =
+          let there : Holds now card region = holds_as (referring e.layout (refs_of e)) now card region (sym f.layout) (sym f.refs) h in
+          let cover : IsCovered (refined done now) = refined_covered done now f.covered in
+          let across : region_of now.layout there.slot ≢ region_of now.layout there.place = λ q. there.outside (ap (region_of_card now.layout) (sym there.on_card) ∙ (region_of_slot now.layout there.slot ∙ (q ∙ there.into))) in
+          elim (cover there.slot there.place (record { refers = there.refers; across = across })) [
+            | inl p ↦ absurd (true≢false (sym p ∙ ap (λ (x : CardSet). set.contains x (card_of now.layout there.slot)) s.allowed.answers.0 ∙ set.contains-empty nat_cmp _))
+            | inr q ↦ s.allowed.answers.1.all card (subst (λ (p : ℕ × ℕ). set.contains (refined done now).recorded p ≡ true) (ap (λ (c : ℕ). (c, region_of now.layout there.place)) there.on_card ∙ ap (λ (r : ℕ). (card, r)) there.into) q)
+          ]
+
+  pub are_exact : (now last : Table) (drains : List Command) (answers : List Drained) → IsFrom (table_of e) now → AreDrains now drains answers last → AreExact e.layout commands (refs_of e) drains answers
+  are_exact now last [] [] f d = tt
+  are_exact now last [] (a ∷ answers) f d = absurd d
+  are_exact now last (Call (Drain region) ∷ drains) [] f d = absurd d
+  are_exact now last (Call (Drain region) ∷ drains) (Cards cards done ∷ answers) f d =
+      (exact_list now d.0 region cards done f d.1, are_exact d.0 last drains answers (step_from (table_of e) now d.0 region (Cards cards done) f d.1) d.2)
+  are_exact now last (Call (Drain region) ∷ drains) (Short done ∷ answers) f d = are_exact d.0 last drains answers (step_from (table_of e) now d.0 region (Short done) f d.1) d.2
+  are_exact now last (c ∷ drains) answers f d = absurd d

@@ -1,0 +1,82 @@
+-- Lists whose items fit their places, and lists of members, by kinds.
+use Rattle.std.proofs.Common.{◌≡◌, ℕ, zero, suc, ◌+◌, List, [], ◌∷◌, ◌++◌, length, map, ap, sym, subst, ◌∙◌, refl, arith, append_assoc, All, Option, Some, None}
+use Rattle.std.specs.Prelude.{sum_by}
+use Rattle.std.specs.List.{filter_map}
+use Rattle.std.proofs.lemmas.List.{map-append}
+use Rattle.std.proofs.lemmas.List.Elements.{filter_map-append, All-nil, All-cons, All-head, All-tail}
+use Rattle.std.proofs.lemmas.List.Sums.{sum_by-cons, sum_by_push}
+use Rattle.g1_log.specs.declared.ends.Sender.{Sender}
+use Rattle.g1_log.specs.declared.ends.Taker.{Taker}
+use Rattle.g1_log.specs.declared.line.Line.{Line}
+use Rattle.g1_log.specs.Ends.{sender_rights, taker_rights, IsSenderOf, IsTakerOf}
+use Rattle.g1_race.specs.declared.race.Race.{Race}
+use Rattle.g1_race.specs.Members.{race_id, racer_race, sweeper_race}
+use Rattle.g1_replay.specs.declared.race_desk.Member.{Member}
+use Rattle.g1_replay.specs.declared.race_desk.Member.TheVariants.{Racing, Sweeping}
+use Rattle.g1_replay.specs.Members.{IsMemberOf, member_rights}
+use Rattle.g1_replay.specs.RaceJobs.{AllFrom, racer_in, sender_in, sweeper_in, taker_in}
+
+module _ {A : Type 0} (P : ℕ → A → Type 0) where
+  pub all_from_push : (k : ℕ) (xs : List A) (x : A) → AllFrom P k xs → P (k + length xs) x → AllFrom P k (xs ++ x ∷ [])
+  all_from_push k [] x all h = (subst (λ n. P n x) (let e : k + 0 ≡ k = omega arith in e) h, tt)
+  all_from_push k (y ∷ ys) x all h = (all.0, all_from_push (suc k) ys x all.1 (subst (λ n. P n x) (let e : k + suc (length ys) ≡ suc k + length ys = omega arith in e) h))
+
+  -- one item more, whose place is how many there were
+  pub all_from_next : (xs now : List A) (n : ℕ) (x : A) → now ≡ xs ++ x ∷ [] → n ≡ length xs → AllFrom P 0 xs → P n x → AllFrom P 0 now
+  all_from_next xs now n x e len all h = subst (AllFrom P 0) (sym e) (all_from_push 0 xs x all (subst (λ m. P m x) (let f : n ≡ 0 + length xs = omega (arith, len) in f) h))
+
+  pub all_from_rest : (k : ℕ) (x : A) (rest xs : List A) → xs ≡ x ∷ rest → AllFrom P k xs → P k x × AllFrom P (suc k) rest
+  all_from_rest k x rest xs e all = subst (AllFrom P k) e all
+
+-- one item goes from a list into another
+pub list_moves : {A B : Type 0} (f : A → B) (xs now : List A) (ys rest : List B) (x : A) (y : B) (all : List B) → now ≡ xs ++ x ∷ [] → ys ≡ y ∷ rest → f x ≡ y → map f xs ++ ys ≡ all → map f now ++ rest ≡ all
+list_moves f xs now ys rest x y all p q e was =
+    ap (λ l. map f l ++ rest) p ∙ ap (λ l. l ++ rest) (map-append f xs (x ∷ [])) ∙ append_assoc (map f xs) (f x ∷ []) rest ∙ ap (λ z. map f xs ++ z ∷ rest) e ∙ ap (λ l. map f xs ++ l) (sym q) ∙ was
+
+-- the first of the members that are left is sorted in behind those that were
+pub sorted_more : {D B : Type 0} (member : D → Member) (kind : Member → Option B) (old new all : List B) (ds rest : List D) (d : D) (m : Member) → new ≡ old ++ filter_map kind (m ∷ []) → ds ≡ d ∷ rest → m ≡ member d
+    → old ++ filter_map kind (map member ds) ≡ all → new ++ filter_map kind (map member rest) ≡ all
+sorted_more member kind old new all ds rest d m p q e was =
+    ap (λ l. l ++ filter_map kind (map member rest)) p ∙ append_assoc old (filter_map kind (m ∷ [])) (filter_map kind (map member rest))
+    ∙ ap (λ l. old ++ l) (sym (filter_map-append kind (m ∷ []) (map member rest)))
+    ∙ ap (λ (x : Member). old ++ filter_map kind (x ∷ map member rest)) e ∙ ap (λ l. old ++ filter_map kind (map member l)) (sym q) ∙ was
+
+-- the kinds of members, sorted
+
+pub racers_of : (race : Race) (line : Line) (ms : List Member) → All (IsMemberOf race line) ms → All (λ r. racer_race r ≡ race_id race) (filter_map racer_in ms)
+racers_of race line [] all = All-nil (λ r. racer_race r ≡ race_id race)
+racers_of race line (Racing r s ∷ ms) all = All-cons (λ r. racer_race r ≡ race_id race) r (filter_map racer_in ms) (All-head (IsMemberOf race line) (Racing r s) ms all).0 (racers_of race line ms (All-tail (IsMemberOf race line) (Racing r s) ms all))
+racers_of race line (Sweeping w t ∷ ms) all = racers_of race line ms (All-tail (IsMemberOf race line) (Sweeping w t) ms all)
+
+pub sweepers_of : (race : Race) (line : Line) (ms : List Member) → All (IsMemberOf race line) ms → All (λ w. sweeper_race w ≡ race_id race) (filter_map sweeper_in ms)
+sweepers_of race line [] all = All-nil (λ w. sweeper_race w ≡ race_id race)
+sweepers_of race line (Racing r s ∷ ms) all = sweepers_of race line ms (All-tail (IsMemberOf race line) (Racing r s) ms all)
+sweepers_of race line (Sweeping w t ∷ ms) all = All-cons (λ w. sweeper_race w ≡ race_id race) w (filter_map sweeper_in ms) (All-head (IsMemberOf race line) (Sweeping w t) ms all).0 (sweepers_of race line ms (All-tail (IsMemberOf race line) (Sweeping w t) ms all))
+
+pub senders_of : (race : Race) (line : Line) (ms : List Member) → All (IsMemberOf race line) ms → All (IsSenderOf line) (filter_map sender_in ms)
+senders_of race line [] all = All-nil (IsSenderOf line)
+senders_of race line (Racing r s ∷ ms) all = All-cons (IsSenderOf line) s (filter_map sender_in ms) (All-head (IsMemberOf race line) (Racing r s) ms all).1 (senders_of race line ms (All-tail (IsMemberOf race line) (Racing r s) ms all))
+senders_of race line (Sweeping w t ∷ ms) all = senders_of race line ms (All-tail (IsMemberOf race line) (Sweeping w t) ms all)
+
+pub takers_of : (race : Race) (line : Line) (ms : List Member) → All (IsMemberOf race line) ms → All (IsTakerOf line) (filter_map taker_in ms)
+takers_of race line [] all = All-nil (IsTakerOf line)
+takers_of race line (Racing r s ∷ ms) all = takers_of race line ms (All-tail (IsMemberOf race line) (Racing r s) ms all)
+takers_of race line (Sweeping w t ∷ ms) all = All-cons (IsTakerOf line) t (filter_map taker_in ms) (All-head (IsMemberOf race line) (Sweeping w t) ms all).1 (takers_of race line ms (All-tail (IsMemberOf race line) (Sweeping w t) ms all))
+
+pub sorted_length : (ms : List Member) → length (filter_map racer_in ms) + length (filter_map sweeper_in ms) ≡ length ms
+sorted_length [] = refl
+sorted_length (Racing r s ∷ ms) = let rest = sorted_length ms in omega (arith, rest)
+sorted_length (Sweeping w t ∷ ms) = let rest = sorted_length ms in omega (arith, rest)
+
+pub sorted_rights : (ms : List Member) → sum_by sender_rights (filter_map sender_in ms) + sum_by taker_rights (filter_map taker_in ms) ≡ sum_by member_rights ms
+sorted_rights [] = refl
+sorted_rights (Racing r s ∷ ms) = let rest = sorted_rights ms in omega (arith, rest, sum_by-cons sender_rights s (filter_map sender_in ms), sum_by-cons member_rights (Racing r s) ms)
+sorted_rights (Sweeping w t ∷ ms) = let rest = sorted_rights ms in omega (arith, rest, sum_by-cons taker_rights t (filter_map taker_in ms), sum_by-cons member_rights (Sweeping w t) ms)
+
+-- rights that go from an end into a member
+pub rights_move : {Y : Type 0} (h : Y → ℕ) (ms now : List Member) (ys rest : List Y) (m : Member) (y : Y) (total : ℕ) → now ≡ ms ++ m ∷ [] → ys ≡ rest ++ y ∷ [] → member_rights m ≡ h y → sum_by member_rights ms + sum_by h ys ≡ total
+    → sum_by member_rights now + sum_by h rest ≡ total
+rights_move h ms now ys rest m y total p q e was =
+    let a : sum_by member_rights now ≡ sum_by member_rights ms + member_rights m = ap (λ l. sum_by member_rights l) p ∙ sum_by_push member_rights ms m in
+    let b : sum_by h ys ≡ sum_by h rest + h y = ap (λ l. sum_by h l) q ∙ sum_by_push h rest y in
+    omega (arith, a, b, e, was)

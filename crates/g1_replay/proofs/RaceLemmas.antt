@@ -1,0 +1,85 @@
+-- What a race writes, and the whole output where its end says what it is.
+use Rattle.std.proofs.Common.{◌≡◌, ℕ, List, [], ◌++◌, refl, sym, subst, ap, ◌∙◌, append-nil, Option, Some, None, inl, inr}
+use Rattle.std.specs.Prelude.{Result, Ok, Err, IfErr, IfSome, count_by}
+use Rattle.std.specs.Io.KnownBytes.{Appends}
+use Rattle.g1_layout.specs.Shape.{Shape}
+use Rattle.g1_core.specs.declared.reply.Drained.{Drained}
+use Rattle.g1_core.specs.Machine.{Machine}
+use Rattle.g1_core.specs.Table.{Table}
+use Rattle.g1_race.specs.Over.{Ended, refs_of, table_of}
+use Rattle.g1_replay.specs.declared.command.Command.{Command}
+use Rattle.g1_replay.specs.declared.dialect.Dialect.{Dialect}
+use Rattle.g1_replay.specs.declared.end.End.{End}
+use Rattle.g1_replay.specs.declared.end.End.TheVariants.{Whole}
+use Rattle.g1_replay.specs.declared.stop.Stop.{Stop}
+use Rattle.g1_replay.specs.declared.stop.Stop.TheVariants.{Fault, WriteFailed}
+use Rattle.g1_replay.specs.Bytes.{AppendsFront}
+use Rattle.g1_replay.specs.CoreDrains.{AreDrains, CoreDrained}
+use Rattle.g1_replay.specs.Drains.{drains, HasDrained}
+use Rattle.g1_replay.specs.Output.{IsEnded, ending_line}
+use Rattle.g1_replay.specs.Playing.{MayStop, Writes, written_by}
+use Rattle.g1_replay.specs.Race.{HasRaced, IsRaceText, IsWholeRace, RacedTrace, RaceRan, drained_text, is_store_command}
+use Rattle.g1_replay.specs.RaceJobs.{IsTableLeftBy}
+use Rattle.g1_replay.specs.Scripted.{IsRunEnd, IsUnstarted}
+use Rattle.g1_replay.specs.Text.{stores_text}
+use Rattle.g1_replay.proofs.CoreDrainLemmas.{are_exact, from_itself}
+use Rattle.g1_replay.proofs.EndLemmas.{whole_trace}
+use Rattle.g1_replay.proofs.PutLemmas.{front_more, puts_none, puts_then}
+use Rattle.g1_replay.proofs.RanLemmas.{ends_by, unstarted_end}
+
+-- no job was run, or one was refused
+pub race_stopped : (mutators : ℕ) (l : Shape) (commands : List Command) (stop : Stop) (out : Option (List ℕ)) → IsUnstarted stop → (text : List ℕ) × RaceRan mutators l commands (Err stop) text × Writes {V = Unit {0}} out out (Err stop) text
+race_stopped mutators l commands stop out h = ([], (unstarted_end stop h, inl (stop, refl, refl)), puts_none out (written_by {V = Unit {0}} (Err stop)))
+
+module _ (e : Ended) (mutators : ℕ) (commands : List Command) (old : Machine) (is : old.state.table ≡ table_of e) (left : IsTableLeftBy mutators commands e) where
+  -- drains of the core
+  raced : (new : Machine) (k : ℕ) (text : List ℕ) (d : CoreDrained old (drains k) text new) → HasRaced e.layout mutators commands k d.answers
+  raced new k text d = record {
+    refs = refs_of e;
+    left = left.left;
+    exact = are_exact e mutators commands left (table_of e) new.state.table (drains k) d.answers (from_itself (table_of e) left.covered) (subst (λ (t : Table). AreDrains t (drains k) d.answers new.state.table) is d.made);
+  }
+
+  -- the count could not be written
+  pub count_failed : (out out' : Option (List ℕ)) → AppendsFront out out' (stores_text (count_by is_store_command commands)) → (text : List ℕ) × RaceRan mutators e.layout commands (Err WriteFailed) text × Writes {V = Unit {0}} out out' (Err WriteFailed) text
+  count_failed out out' w = (
+    stores_text (count_by is_store_command commands) ++ [],
+    (tt, inr (0, [], record { refs = refs_of e; left = left.left; exact = tt }, λ bad. cc, refl)),
+    front_more out out' (stores_text (count_by is_store_command commands)) [] w,
+  )
+
+  -- the count was written, and drains behind it
+  pub race_written : (new : Machine) (out mid_out out' : Option (List ℕ)) (r : Result (Unit {0}) Stop) → IfErr r MayStop → Appends out mid_out (stores_text (count_by is_store_command commands))
+      → HasDrained CoreDrained (λ m. ⊥) e.layout.regions old new mid_out out' r → (text : List ℕ) × RaceRan mutators e.layout commands r text × Writes out out' r text
+  race_written new out mid_out out' r stops w d = (
+    stores_text (count_by is_store_command commands) ++ d.text,
+    (ends_by r stops, inr (d.drained, d.played.answers, raced new d.drained d.text d.played, d.all, ap (λ t. stores_text (count_by is_store_command commands) ++ t) d.played.said)),
+    puts_then out mid_out out' (written_by r) (stores_text (count_by is_store_command commands)) d.text w d.written,
+  )
+
+pub race_ends : (mutators : ℕ) (l : Shape) (commands : List Command) (r : Result (Unit {0}) Stop) (text : List ℕ) → RaceRan mutators l commands r text → IsRunEnd r
+race_ends mutators l commands r text ran = ran.0
+
+-- the text of a whole end
+whole_text : (l : Shape) (mutators : ℕ) (commands : List Command) (text : List ℕ) → IsRaceText l mutators commands (Ok tt) text
+    → (answers : List Drained) × HasRaced l mutators commands l.regions answers × (text ≡ stores_text (count_by is_store_command commands) ++ drained_text answers)
+whole_text l mutators commands text (inl s) = let bad = s.1 in cc
+whole_text l mutators commands text (inr s) = (s.1, subst (λ k. HasRaced l mutators commands k s.1) (s.3 refl) s.2, s.4)
+
+pub whole_race : (d : Dialect) (n : ℕ) (rd rd' out out' : Option (List ℕ)) (r : Result (Unit {0}) Stop) (text : List ℕ) (end : End) → RacedTrace d 1 n rd rd' r text
+    → IsEnded out out' r (text ++ ending_line n r) end → end ≡ Whole → IfSome rd (λ bytes. IsWholeRace d bytes out out')
+whole_race d n None rd' out out' r text end t i e = tt
+whole_race d n (Some xs) rd' out out' (Ok done) text Whole (inl t) i e = absurd t.ends
+whole_race d n (Some xs) rd' out out' (Ok tt) text Whole (inr t) i e =
+    let said = whole_text t.layout d.mutators t.commands text t.ran.1 in
+    record {
+      layout = t.layout;
+      commands = t.commands;
+      answers = said.0;
+      trace = whole_trace d xs rd' n (Some t.layout) t.commands t.read;
+      raced = said.1;
+      written = subst (λ (w : List ℕ). Appends out out' w) (append-nil text ∙ said.2) i.1;
+    }
+whole_race d n (Some xs) rd' out out' (Err (Fault f)) text Whole t i e = cc
+whole_race d n (Some xs) rd' out out' (Err stop) text Whole t i e = cc
+whole_race d n (Some xs) rd' out out' r text end t i e = cc

@@ -1,0 +1,148 @@
+-- What the members of a race have stored once its jobs were run.
+use Rattle.std.proofs.Common.{◌≡◌, ◌<◌, ◌≤◌, ◌+◌, ℕ, suc, List, [], ◌∷◌, ◌++◌, length, map, ap, sym, subst, ◌∙◌, refl, arith, nat_lt, true, false, append-nil, Option, Some, None, inl, inr}
+use Rattle.std.specs.Prelude.{Bool, Result, Ok, Err, All, sum_by}
+use Rattle.std.specs.List.{filter_map, AllZip}
+use Rattle.std.specs.Option.{option_or}
+use native.Mathlib.Decide.{ℕ_discrete}
+use Rattle.std.proofs.lemmas.Bool.{le-ltb, lt-ltb}
+use Rattle.std.proofs.lemmas.List.Elements.{All-nil, All-cons, All-push}
+use Rattle.std.proofs.lemmas.List.Sums.{sum_by-cons}
+use Rattle.g1_layout.specs.Shape.{Shape, slot_count}
+use Rattle.g1_log.specs.declared.line.Line.{Line}
+use Rattle.g1_race.specs.declared.race.Race.{Race}
+use Rattle.g1_race.specs.declared.view.View.{View}
+use Rattle.g1_race.specs.Race.{History, Among, In, histories_of}
+use Rattle.g1_race.specs.Members.{racer_view}
+use Rattle.g1_book.specs.declared.job.Job.{Job}
+use Rattle.g1_book.specs.declared.desk.Script.{Script}
+use Rattle.g1_book.specs.declared.desk.Script.TheVariants.{Mutate, Refine}
+use Rattle.g1_book.specs.declared.refusal.Refusal.{Refusal}
+use Rattle.g1_book.specs.declared.desk.Step.{Step}
+use Rattle.g1_book.specs.declared.desk.Step.TheVariants as step
+use Rattle.g1_book.specs.Ask.{Ask, ScriptFits, StepFits, asks_in, asks_of}
+use Rattle.g1_book.specs.Ran.{Ran}
+use Rattle.g1_replay.specs.declared.command.Command.{Command}
+use Rattle.g1_replay.specs.declared.race_desk.Member.{Member}
+use Rattle.g1_replay.specs.declared.race_desk.Member.TheVariants.{Racing, Sweeping}
+use Rattle.g1_replay.specs.Grammar.{IsCommandOf}
+use Rattle.g1_replay.specs.Members.{IsMemberOf, MemberDid, histories_after, is_racer, member_rights}
+use Rattle.g1_replay.specs.RaceJobs.{AllFrom, IsRaceJob, IsRaceScript, racer_in}
+use Rattle.g1_replay.specs.Scripts.{first_refusal, refusal_in}
+use Rattle.g1_replay.proofs.ScriptLemmas.{steps_fit}
+use Rattle.g1_replay.proofs.StoreLemmas.{asks_own, one_history, own, script_asks, stored_by}
+
+-- what member k has stored once its script was run
+abbrev pub HasRun : (mutators : ℕ) → List Command → ℕ → Member → Type 0
+HasRun mutators commands k (Racing r s) = (k < mutators) × ((number : ℕ) × ((racer_view r).histories ≡ (number, own k commands) ∷ []))
+HasRun mutators commands k (Sweeping w t) = mutators ≤ k
+
+-- a script fits the desk of its member
+pub race_script_fits : (l : Shape) (mutators rounds k : ℕ) (commands : List Command) (m : Member) (script : Script) → All (IsCommandOf l mutators) commands → is_racer m ≡ nat_lt k mutators → IsRaceScript mutators rounds k commands script → ScriptFits (slot_count l) (is_racer m) script
+race_script_fits l mutators rounds k commands m (Mutate steps) all kind h =
+    let below : k < mutators = h.0 in
+    let yes : nat_lt k mutators ≡ true = lt-ltb k mutators below in
+    let fits : All (StepFits (slot_count l) true) steps.items = subst (λ (ss : List Step). All (StepFits (slot_count l) true) ss) (sym h.1) (All-push (StepFits (slot_count l) true) _ step.Flush (steps_fit l mutators k commands all) refl) in
+    let P : Bool → Type 0 = λ b. All (StepFits (slot_count l) b) steps.items in
+    subst P (sym (kind ∙ yes)) fits
+race_script_fits l mutators rounds k commands m (Refine made) all kind h = tt
+
+no_mutator : (k mutators : ℕ) → mutators ≤ k → true ≡ nat_lt k mutators → ⊥
+no_mutator k mutators le e = let f : nat_lt k mutators ≡ false = le-ltb k mutators le in let g : true ≡ false = e ∙ f in cc
+
+a_mutator : (k mutators : ℕ) → k < mutators → false ≡ nat_lt k mutators → ⊥
+a_mutator k mutators lt e = let f : nat_lt k mutators ≡ true = lt-ltb k mutators lt in let g : false ≡ true = e ∙ f in cc
+
+run_of : (race : Race) (line : Line) (mutators rounds : ℕ) (commands : List Command) (k : ℕ) (m n : Member) (script : Script) → IsRaceJob race line mutators rounds commands k m script → MemberDid m (asks_in script) n → HasRun mutators commands k n
+run_of race line mutators rounds commands k (Racing r s) (Racing r' s') (Mutate steps) j d =
+    let number = j.new.fresh.0 in
+    let asks : asks_of steps.items ≡ script_asks k commands = ap asks_of j.script.1 in (
+      j.script.0,
+      (
+        number,
+        d.stored ∙ ap (λ hs. histories_after (asks_of steps.items) hs) j.new.fresh.1 ∙ ap (λ (a : List Ask). histories_after a ((number, []) ∷ [])) asks ∙ one_history (script_asks k commands) number []
+            ∙ ap (λ (l : List (ℕ × ℕ)). (number, l) ∷ []) (append-nil (stored_by (script_asks k commands)) ∙ asks_own k commands),
+      ),
+    )
+run_of race line mutators rounds commands k (Sweeping w t) (Sweeping w' t') (Refine made) j d = j.script.0
+run_of race line mutators rounds commands k (Racing r s) (Racing r' s') (Refine made) j d = absurd (no_mutator k mutators j.script.0 j.new.kind)
+run_of race line mutators rounds commands k (Sweeping w t) (Sweeping w' t') (Mutate steps) j d = absurd (a_mutator k mutators j.script.0 j.new.kind)
+run_of race line mutators rounds commands k (Racing r s) (Sweeping w' t') script j d = let bad : false ≡ true = d.kind in cc
+run_of race line mutators rounds commands k (Sweeping w t) (Racing r' s') script j d = let bad : true ≡ false = d.kind in cc
+
+none_first : (o : Option (Result ℕ (ℕ × Refusal))) (os : List (Option (Result ℕ (ℕ × Refusal)))) → first_refusal (o ∷ os) ≡ None → (refusal_in o ≡ None) × (first_refusal os ≡ None)
+none_first o os e = split (refusal_in o) (first_refusal os) e
+  where
+    split : (a b : Option Refusal) → option_or a b ≡ None → (a ≡ None) × (b ≡ None)
+    split None b f = (refl, f)
+    split (Some x) b f = cc
+
+-- a job that was not refused, and those behind it
+pub first_left : {D : Type 0} (outcome : D → Option (Result ℕ (ℕ × Refusal))) (ds rest : List D) (d : D) (total : Option Refusal) → ds ≡ d ∷ rest → None ≡ refusal_in (outcome d) → first_refusal (map outcome ds) ≡ total → first_refusal (map outcome rest) ≡ total
+first_left {D = D} outcome ds rest d total e none was = ap (λ (o : Option Refusal). option_or o (first_refusal (map outcome rest))) none ∙ ap (λ (l : List D). first_refusal (map outcome l)) (sym e) ∙ was
+
+module _ {D : Type 0} (member : D → Member) where
+  abbrev pub Did : D → List Ask → D → Type 0
+  Did d asks e = MemberDid (member d) asks (member e)
+
+  abbrev pub RanJob : Job D → Job D → Type 0
+  RanJob a b = (b.script ≡ a.script) × Ran Did (asks_in a.script) a.desk b.outcome b.desk
+
+  -- a job that was not refused made all its calls
+  did_all : (asks : List Ask) (d e : D) (o : Option (Result ℕ (ℕ × Refusal))) → refusal_in o ≡ None → Ran Did asks d o e → Did d asks e
+  did_all asks d e (Some (Ok made)) n h = h.1
+  did_all asks d e (Some (Err refused)) n h = cc
+  did_all asks d e None n h = absurd h
+
+  -- what the jobs of a race leave
+  pub record AreRun (race : Race) (line : Line) (mutators : ℕ) (commands : List Command) (k : ℕ) (js ds : List (Job D)) : Type 0 where
+    pub run : AllFrom (HasRun mutators commands) k (map (λ job. member job.desk) ds)
+    pub of : All (IsMemberOf race line) (map (λ job. member job.desk) ds)
+    pub rights : sum_by member_rights (map (λ job. member job.desk) ds) ≡ sum_by member_rights (map (λ job. member job.desk) js)
+    pub len : length (map (λ job. member job.desk) ds) ≡ length (map (λ job. member job.desk) js)
+
+  module _ (race : Race) (line : Line) (mutators rounds : ℕ) (commands : List Command) where
+    pub are_run : (k : ℕ) (js ds : List (Job D)) → AllFrom (λ i job. IsRaceJob race line mutators rounds commands i (member job.desk) job.script) k js → AllZip RanJob js ds → first_refusal (map (λ job. job.outcome) ds) ≡ None → AreRun race line mutators commands k js ds
+    are_run k [] [] all r none = record { run = tt; of = All-nil (IsMemberOf race line); rights = refl; len = refl }
+    are_run k [] (y ∷ ys) all r none = absurd r
+    are_run k (x ∷ xs) [] all r none = absurd r
+    are_run k (x ∷ xs) (y ∷ ys) all r none =
+        let first = none_first y.outcome (map (λ job. job.outcome) ys) none in
+        let did = did_all (asks_in x.script) x.desk y.desk y.outcome first.0 r.0.1 in
+        let rest = are_run (suc k) xs ys all.1 r.1 first.1 in
+        let ms = map (λ (job : Job D). member job.desk) xs in
+        let ns = map (λ (job : Job D). member job.desk) ys in
+        record {
+          run = (run_of race line mutators rounds commands k (member x.desk) (member y.desk) x.script all.0 did, rest.run);
+          of = All-cons (IsMemberOf race line) (member y.desk) ns (did.race ∙ all.0.new.of.0, did.home ∙ all.0.new.of.1) rest.of;
+          rights = omega (arith, did.rights, rest.rights, sum_by-cons member_rights (member x.desk) ms, sum_by-cons member_rights (member y.desk) ns);
+          len = ap suc rest.len;
+        }
+
+-- what the racers know
+abbrev pub views_of : List Member → List View
+views_of ms = map racer_view (filter_map racer_in ms)
+
+module _ (mutators : ℕ) (commands : List Command) where
+  one_of : (hs : List History) (number : ℕ) (own_stores : List (ℕ × ℕ)) (h : History) → hs ≡ (number, own_stores) ∷ [] → In hs h → h.1 ≡ own_stores
+  one_of hs number own_stores h e i = last (subst (λ (l : List History). In l h) e i)
+    where
+      last : In ((number, own_stores) ∷ []) h → h.1 ≡ own_stores
+      last (inl same) = sym (ap (λ (x : History). x.1) same)
+      last (inr nothing) = absurd nothing
+
+  -- each history is that of some mutator
+  pub each_own : (k : ℕ) (ms : List Member) → AllFrom (HasRun mutators commands) k ms → (h : History) → Among histories_of (views_of ms) h → (m : ℕ) × (m < mutators) × (h.1 ≡ own m commands)
+  each_own k [] all h a = absurd a
+  each_own k (Racing r s ∷ ms) all h (inl i) = (k, all.0.0, one_of (racer_view r).histories all.0.1.0 (own k commands) h all.0.1.1 i)
+  each_own k (Racing r s ∷ ms) all h (inr a) = each_own (suc k) ms all.1 h a
+  each_own k (Sweeping w t ∷ ms) all h a = each_own (suc k) ms all.1 h a
+
+  -- each mutator's stores are some history
+  pub every_own : (k : ℕ) (ms : List Member) → AllFrom (HasRun mutators commands) k ms → (m : ℕ) → k ≤ m → m < mutators → m < k + length ms → (h : History) × Among histories_of (views_of ms) h × (h.1 ≡ own m commands)
+  every_own k [] all m le lt there = absurd (omega arith)
+  every_own k (Sweeping w t ∷ ms) all m le lt there = absurd (let past : mutators ≤ k = all.0 in omega arith)
+  every_own k (Racing r s ∷ ms) all m le lt there = pick (ℕ_discrete k m) (λ above. every_own (suc k) ms all.1 m above lt (omega arith))
+    where
+      pick : Dec (k ≡ m) → (suc k ≤ m → (h : History) × Among histories_of (views_of ms) h × (h.1 ≡ own m commands)) → (h : History) × Among histories_of (views_of (Racing r s ∷ ms)) h × (h.1 ≡ own m commands)
+      pick (yes e) rest = ((all.0.1.0, own k commands), inl (subst (λ (l : List History). In l (all.0.1.0, own k commands)) (sym all.0.1.1) (inl refl)), ap (λ (i : ℕ). own i commands) e)
+      pick (no ne) rest = let more = rest (omega arith) in (more.0, inr more.1, more.2)

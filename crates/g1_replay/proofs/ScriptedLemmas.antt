@@ -1,0 +1,123 @@
+-- A trace that is read to its end before its scripts are run: how it is read, what that comes to, and the whole output where it has a fault.
+use Rattle.std.proofs.Common.{◌≡◌, ℕ, List, [], ◌∷◌, ◌++◌, refl, sym, subst, ap, ◌∙◌, append-nil, Option, Some, None, inl, inr, ◌⊎◌, true, false, arith}
+use Rattle.std.specs.Prelude.{Bool, Result, Ok, Err, IfSome}
+use Rattle.std.specs.Io.KnownBytes.{Appends}
+use Rattle.std.proofs.KnownBytes.{Appends-nil}
+use Rattle.g1_layout.specs.Shape.{Shape}
+use Rattle.g1_replay.specs.declared.command.Command.{Command}
+use Rattle.g1_replay.specs.declared.dialect.Dialect.{Dialect}
+use Rattle.g1_replay.specs.declared.end.End.{End}
+use Rattle.g1_replay.specs.declared.end.End.TheVariants.{Refused}
+use Rattle.g1_replay.specs.declared.listing.Listing.{Listing}
+use Rattle.g1_replay.specs.declared.stop.Stop.{Stop}
+use Rattle.g1_replay.specs.declared.stop.Stop.TheVariants.{Fault, NoMemory, ReadFailed}
+use Rattle.g1_replay.specs.Bytes.{Puts}
+use Rattle.g1_replay.specs.Output.{IsEnded, ending_line}
+use Rattle.g1_replay.specs.Playing.{Does, Follows, Writes, written_by}
+use Rattle.g1_replay.specs.Reading.{IsReadStop, Reads}
+use Rattle.g1_replay.specs.Scripted.{IsUnread, IsRunEnd, IsRefusedTrace, Outcome, Scripted, StopsReading}
+use Rattle.g1_replay.specs.Text.{fault_line}
+use Rattle.g1_replay.proofs.EndLemmas.{all_done, faulty_trace}
+use Rattle.g1_replay.proofs.PutLemmas.{puts_then}
+use Rattle.g1_replay.proofs.ReadingLemmas.{reads_then}
+
+-- what a list of commands did with some of them
+abbrev pub Lists : Listing → List Command → List ℕ → Listing → Type 0
+Lists s cs text t = (t.commands.items ≡ s.commands.items ++ cs) × (text ≡ [])
+
+-- its book is never full
+abbrev pub Never : Listing → Type 0
+Never s = ⊥
+
+-- a command that was not kept
+pub not_listed : (s t : Listing) (c : Command) (out : Option (List ℕ)) → t.commands.items ≡ s.commands.items → Does Lists Never (c ∷ []) s t out out (Err NoMemory)
+not_listed s t c out e = record {
+  done = [];
+  undone = c ∷ [];
+  all = refl;
+  stopped = omega arith;
+  text = [];
+  made = (e ∙ sym (append-nil s.commands.items), refl);
+  filled = λ e. cc;
+  written = Appends-nil out;
+}
+
+read_end : (stop : Stop) → IsReadStop stop → IsUnread (Err stop)
+read_end (Fault f) h = tt
+read_end ReadFailed h = tt
+read_end stop h = absurd h
+
+list_end : (stop : Stop) → IsReadStop stop ⊎ (stop ≡ NoMemory) → IsUnread (Err stop)
+list_end stop (inl h) = read_end stop h
+list_end stop (inr e) = subst (λ s. IsUnread (Err s)) (sym e) tt
+
+-- what is written where reading was stopped
+abbrev WrittenAt : Option (List ℕ) → Option (List ℕ) → Stop → Type 0
+WrittenAt out out' stop = Puts out out' (written_by {V = Bool} (Err stop)) []
+
+read_silent : (stop : Stop) (out out' : Option (List ℕ)) → IsReadStop stop → WrittenAt out out' stop → Appends out out' []
+read_silent (Fault f) out out' h w = w
+read_silent ReadFailed out out' h w = w
+read_silent stop out out' h w = absurd h
+
+list_silent : (stop : Stop) (out out' : Option (List ℕ)) → IsReadStop stop ⊎ (stop ≡ NoMemory) → WrittenAt out out' stop → Appends out out' []
+list_silent stop out out' (inl h) w = read_silent stop out out' h w
+list_silent stop out out' (inr e) w = let at : WrittenAt out out' NoMemory = subst (λ s. WrittenAt out out' s) e w in at
+
+-- a trace without a header
+pub head_stops : (d : Dialect) (n n' : ℕ) (rd rd' : Option (List ℕ)) (stop : Stop) → IsReadStop stop → Reads d None n n' rd rd' None [] (Err stop) → StopsReading d n n' rd rd' stop
+head_stops d n n' rd rd' stop h read = record { heap = None; commands = []; ends = read_end stop h; read = read }
+
+-- a header, and then lines that were not read to their end
+pub lines_stop : (d : Dialect) (n n1 n' : ℕ) (l : Shape) (old new : Listing) (rd rd1 rd' out out' : Option (List ℕ)) (stop : Stop) → IsReadStop stop ⊎ (stop ≡ NoMemory)
+    → Reads d None n n1 rd rd1 (Some l) [] (Ok true) → Follows Lists Never d l n1 n' old new rd1 rd' out out' (Err stop) → StopsReading d n n' rd rd' stop × Appends out out' []
+lines_stop d n n1 n' l old new rd rd1 rd' out out' stop h head f = (
+  record {
+    heap = Some l;
+    commands = f.commands;
+    ends = list_end stop h;
+    read = reads_then d None (Some l) (Some l) n n1 n' rd rd1 rd' [] f.commands (Err stop) head f.read;
+  },
+  list_silent stop out out' h (subst (λ (x : List ℕ). Puts out out' (written_by {V = Bool} (Err stop)) x) f.done.made.1 f.done.written),
+)
+
+-- a header, and then lines that were
+pub lines_read : (d : Dialect) (n n1 n' : ℕ) (l : Shape) (old new : Listing) (rd rd1 rd' out out' : Option (List ℕ)) → old.commands.items ≡ []
+    → Reads d None n n1 rd rd1 (Some l) [] (Ok true) → Follows Lists Never d l n1 n' old new rd1 rd' out out' (Ok false) → Reads d None n n' rd rd' (Some l) new.commands.items (Ok false) × Appends out out' []
+lines_read d n n1 n' l old new rd rd1 rd' out out' none head f =
+    let kept : new.commands.items ≡ f.done.done = f.done.made.0 ∙ ap (λ (cs : List Command). cs ++ f.done.done) none in
+    let same : f.commands ≡ new.commands.items = all_done f.commands f.done.done f.done.undone f.done.all f.done.stopped ∙ sym kept in (
+      subst (λ (cs : List Command). Reads d None n n' rd rd' (Some l) cs (Ok false)) same (reads_then d None (Some l) (Some l) n n1 n' rd rd1 rd' [] f.commands (Ok false) head f.read),
+      subst (λ (x : List ℕ). Appends out out' x) f.done.made.1 f.done.written,
+    )
+
+puts_silent : {V E : Type 0} (a b : Option (List ℕ)) (r : Result V E) → Appends a b [] → Puts a b r []
+puts_silent a b (Ok v) w = w
+puts_silent a b (Err v) w = ([], [], w, refl)
+
+-- a trace that was not read to its end
+pub scripts_unread : (Ran : Outcome) (d : Dialect) (n n' : ℕ) (rd rd' out out' : Option (List ℕ)) (stop : Stop) → StopsReading d n n' rd rd' stop → Appends out out' []
+    → (text : List ℕ) × Scripted Ran d n n' rd rd' (Err stop) text × Writes {V = Unit {0}} out out' (Err stop) text
+scripts_unread Ran d n n' rd rd' out out' stop s w =
+    ([], inl (record { heap = s.heap; commands = s.commands; ends = s.ends; read = s.read; silent = refl }), puts_silent out out' (written_by {V = Unit {0}} (Err stop)) w)
+
+-- a trace that was read to its end, and what its scripts came to
+pub scripts_run : (Ran : Outcome) (d : Dialect) (n n' : ℕ) (l : Shape) (cs : List Command) (rd rd' out mid_out out' : Option (List ℕ)) (r : Result (Unit {0}) Stop) → Reads d None n n' rd rd' (Some l) cs (Ok false) → Appends out mid_out []
+    → (text : List ℕ) × Ran l cs r text × Writes mid_out out' r text → (text : List ℕ) × Scripted Ran d n n' rd rd' r text × Writes out out' r text
+scripts_run Ran d n n' l cs rd rd' out mid_out out' r read w t = (t.0, inr (record { layout = l; commands = cs; read = read; ran = t.1 }), puts_then out mid_out out' (written_by r) [] t.0 w t.2)
+
+pub refused_trace : (Ran : Outcome) → ((l : Shape) (cs : List Command) (r : Result (Unit {0}) Stop) (text : List ℕ) → Ran l cs r text → IsRunEnd r) → (d : Dialect) (n : ℕ) (rd rd' out out' : Option (List ℕ)) (r : Result (Unit {0}) Stop) (text : List ℕ) (end : End)
+    → Scripted Ran d 1 n rd rd' r text → IsEnded out out' r (text ++ ending_line n r) end → end ≡ Refused → IfSome rd (λ bytes. IsRefusedTrace d bytes out out')
+refused_trace Ran ends d n None rd' out out' r text end t i e = tt
+refused_trace Ran ends d n (Some xs) rd' out out' (Err (Fault f)) text Refused (inl t) i e = record {
+  heap = t.heap;
+  commands = t.commands;
+  number = n;
+  fault = f;
+  trace = faulty_trace d xs rd' n t.heap t.commands f t.read;
+  written = subst (λ (w : List ℕ). Appends out out' w) (ap (λ w. w ++ fault_line n f) t.silent) i.1;
+}
+refused_trace Ran ends d n (Some xs) rd' out out' (Err (Fault f)) text Refused (inr t) i e = absurd (ends t.layout t.commands (Err (Fault f)) text t.ran)
+refused_trace Ran ends d n (Some xs) rd' out out' (Ok done) text Refused t i e = cc
+refused_trace Ran ends d n (Some xs) rd' out out' (Err stop) text Refused t i e = cc
+refused_trace Ran ends d n (Some xs) rd' out out' r text end t i e = cc

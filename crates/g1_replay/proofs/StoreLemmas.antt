@@ -1,0 +1,99 @@
+-- What a script's stores come to: a racer's history, and its stores as the commands of the trace.
+use Rattle.std.proofs.Common.{◌≡◌, ◌≢◌, ◌⊎◌, ℕ, ◌+◌, suc, List, [], ◌∷◌, ◌++◌, Bool, true, false, cond, eqb, ap, sym, ◌∙◌, refl, inl, inr, append_assoc, append-nil, Option, Some, None, ⊎_elim}
+use Rattle.std.specs.Prelude.{◌==◌, ◌&&◌, if◌then◌else◌, Contains}
+use Rattle.std.specs.Option.{option_or}
+use Rattle.std.specs.List.{cons_option, filter_map}
+use Rattle.g1_race.specs.Race.{History, In, last_to, word_of, gained}
+use Rattle.g1_race.proofs.Plain.{in_either}
+use Rattle.g1_book.specs.Ask.{Ask, AskStore, AskFlush, AskWork, ask_of, asks_of}
+use Rattle.g1_book.specs.declared.desk.Step.{Step}
+use Rattle.g1_book.specs.declared.desk.Step.TheVariants as step
+use Rattle.g1_replay.specs.declared.command.Command.{Command}
+use Rattle.g1_replay.specs.declared.command.Command.TheVariants.{Store, Flush}
+use Rattle.g1_replay.specs.Members.{histories_after}
+use Rattle.g1_replay.specs.Race.{last_by}
+use Rattle.g1_replay.specs.Scripts.{step_for}
+
+-- the stores among the calls, as slots and words, the newest first
+abbrev pub stored_by : List Ask → List (ℕ × ℕ)
+stored_by [] = []
+stored_by (AskStore slot target ∷ asks) = stored_by asks ++ (slot, word_of target) ∷ []
+stored_by (AskFlush ∷ asks) = stored_by asks
+stored_by (AskWork ∷ asks) = stored_by asks
+
+-- the same of a mutator's commands
+abbrev pub own : ℕ → List Command → List (ℕ × ℕ)
+own mutator [] = []
+own mutator (Store by slot target ∷ cs) = own mutator cs ++ (if by == mutator then (slot, word_of target) ∷ [] else [])
+own mutator (c ∷ cs) = own mutator cs
+
+pub one_history : (asks : List Ask) (number : ℕ) (h : List (ℕ × ℕ)) → histories_after asks ((number, h) ∷ []) ≡ (number, stored_by asks ++ h) ∷ []
+one_history [] number h = refl
+one_history (AskStore slot target ∷ asks) number h = one_history asks number ((slot, word_of target) ∷ h) ∙ ap (λ (l : List (ℕ × ℕ)). (number, l) ∷ []) (sym (append_assoc (stored_by asks) ((slot, word_of target) ∷ []) h))
+one_history (AskFlush ∷ asks) number h = one_history asks number h
+one_history (AskWork ∷ asks) number h = one_history asks number h
+
+-- the calls of a mutator's script
+abbrev pub script_asks : ℕ → List Command → List Ask
+script_asks mutator cs = asks_of (filter_map (step_for mutator) cs ++ step.Flush ∷ [])
+
+pub asks_own : (mutator : ℕ) (cs : List Command) → stored_by (script_asks mutator cs) ≡ own mutator cs
+asks_own mutator [] = refl
+asks_own mutator (Store by slot target ∷ cs) = mine (by == mutator) (asks_own mutator cs)
+  where
+    mine : (b : Bool) → stored_by (script_asks mutator cs) ≡ own mutator cs
+        → stored_by (asks_of (cons_option (if b then Some (step.Store slot target) else None) (filter_map (step_for mutator) cs) ++ step.Flush ∷ [])) ≡ own mutator cs ++ (if b then (slot, word_of target) ∷ [] else [])
+    mine true e = ap (λ (l : List (ℕ × ℕ)). l ++ (slot, word_of target) ∷ []) e
+    mine false e = e ∙ sym (append-nil (own mutator cs))
+asks_own mutator (Flush by ∷ cs) = mine (by == mutator) (asks_own mutator cs)
+  where
+    mine : (b : Bool) → stored_by (script_asks mutator cs) ≡ own mutator cs → stored_by (asks_of (cons_option (if b then Some step.Flush else None) (filter_map (step_for mutator) cs) ++ step.Flush ∷ [])) ≡ own mutator cs
+    mine true e = e
+    mine false e = e
+asks_own mutator (c ∷ cs) = asks_own mutator cs
+
+-- the word of what is stored last
+abbrev pub as_word : Option (Option ℕ) → Option ℕ
+as_word None = None
+as_word (Some target) = Some (word_of target)
+
+last_both : (slot : ℕ) (xs ys : List (ℕ × ℕ)) → last_to slot (xs ++ ys) ≡ option_or (last_to slot xs) (last_to slot ys)
+last_both slot [] ys = refl
+last_both slot (x ∷ xs) ys = here (eqb x.0 slot) (last_both slot xs ys)
+  where
+    here : (b : Bool) → last_to slot (xs ++ ys) ≡ option_or (last_to slot xs) (last_to slot ys) → cond b (Some x.1) (last_to slot (xs ++ ys)) ≡ option_or (cond b (Some x.1) (last_to slot xs)) (last_to slot ys)
+    here true e = refl
+    here false e = e
+
+or_words : (a b : Option (Option ℕ)) → option_or (as_word a) (as_word b) ≡ as_word (option_or a b)
+or_words None b = refl
+or_words (Some t) b = refl
+
+pub last_own : (mutator slot : ℕ) (cs : List Command) → last_to slot (own mutator cs) ≡ as_word (last_by mutator slot cs)
+last_own mutator slot [] = refl
+last_own mutator slot (Store by to target ∷ cs) =
+    last_both slot (own mutator cs) (if by == mutator then (to, word_of target) ∷ [] else []) ∙ ap (λ (o : Option ℕ). option_or o (last_to slot (if by == mutator then (to, word_of target) ∷ [] else []))) (last_own mutator slot cs)
+    ∙ ap (λ (o : Option ℕ). option_or (as_word (last_by mutator slot cs)) o) (one (by == mutator)) ∙ or_words (last_by mutator slot cs) (if (by == mutator) && (to == slot) then Some target else None)
+  where
+    two : (b : Bool) → (if b then Some (word_of target) else None) ≡ as_word (if b then Some target else None)
+    two true = refl
+    two false = refl
+
+    one : (a : Bool) → last_to slot (if a then (to, word_of target) ∷ [] else []) ≡ as_word (if a && (to == slot) then Some target else None)
+    one true = two (to == slot)
+    one false = refl
+last_own mutator slot (c ∷ cs) = last_own mutator slot cs
+
+-- a store of the history is a command
+pub in_own : (mutator slot word : ℕ) (cs : List Command) → In (own mutator cs) (slot, word) → (by : ℕ) × (target : Option ℕ) × In cs (Store by slot target) × (word ≡ word_of target)
+in_own mutator slot word [] i = absurd i
+in_own mutator slot word (Store by to target ∷ cs) i = ⊎_elim
+    (λ (a : In {A = ℕ × ℕ} (own mutator cs) (slot, word)). let rest = in_own mutator slot word cs a in (rest.0, rest.1, inr rest.2, rest.3))
+    (λ (b : In {A = ℕ × ℕ} (if by == mutator then (to, word_of target) ∷ [] else []) (slot, word)). here (by == mutator) b)
+    (in_either (own mutator cs) (if by == mutator then (to, word_of target) ∷ [] else []) (slot, word) i)
+  where
+    here : (b : Bool) → In {A = ℕ × ℕ} (if b then (to, word_of target) ∷ [] else []) (slot, word) → (from : ℕ) × (stored : Option ℕ) × In (Store by to target ∷ cs) (Store from slot stored) × (word ≡ word_of stored)
+    here true (inl e) = (by, target, inl (ap (λ (x : ℕ × ℕ). Store by x.0 target) e), sym (ap (λ (x : ℕ × ℕ). x.1) e))
+    here true (inr x) = absurd x
+    here false x = absurd x
+in_own mutator slot word (c ∷ cs) i = let rest = in_own mutator slot word cs i in (rest.0, rest.1, inr rest.2, rest.3)

@@ -1,0 +1,101 @@
+use Rattle.std.proofs.Common.{◌≡◌, ◌+◌, ℕ, List, length, map, ap, sym, subst, ◌∙◌, arith, All, Contains}
+use Rattle.std.specs.Prelude.{sum_by}
+use Rattle.std.specs.List.{filter_map}
+use Rattle.g1_layout.specs.Shape as layout
+use Rattle.g1_core.specs.Adoption.{IsPairOf}
+use Rattle.g1_log.specs.declared.ends.Sender.{Sender}
+use Rattle.g1_log.specs.declared.ends.Taker.{Taker}
+use Rattle.g1_log.specs.Ends.{sender_rights, taker_rights, IsSenderOf, IsTakerOf}
+use Rattle.g1_race.specs.declared.race.Racer.{Racer}
+use Rattle.g1_race.specs.declared.race.Sweeper.{Sweeper}
+use Rattle.g1_race.specs.Begin.{Begun}
+use Rattle.g1_race.specs.Race.{IsKnown, IsOver}
+use Rattle.g1_race.specs.Members.{null_begun, race_begun, race_id, racer_race, racer_view, sweeper_race, sweeper_view}
+use Rattle.g1_replay.specs.declared.race_desk.Member.{Member}
+use Rattle.g1_replay.specs.Members.{member_rights}
+use Rattle.g1_replay.specs.RaceJobs.{racer_in, sender_in, sweeper_in, taker_in}
+use Rattle.g1_replay.proofs.LeftLemmas.{table_left}
+use Rattle.g1_replay.proofs.PlacedLemmas.{racers_of, senders_of, sweepers_of, takers_of, sorted_length, sorted_rights}
+use Rattle.g1_replay.proofs.RanRaceLemmas.{are_run, each_own, every_own, views_of}
+use Rattle.g1_replay.proofs.race_jobs.run_race.Goals as goal
+
+pub settle-requires-clause-senders : goal.settle-requires-clause-senders
+settle-requires-clause-senders g c =
+    let race = c.in_ok-race.race in
+    let line = c.in_ok-line.line in
+    let run = are_run (λ d. d.member) race line c.args.options.now.mutators c.args.options.now.rounds c.args.commands.now 0 c.in_ok-jobs.jobs.items c.in_ok-done.done.items c.in_ok-jobs.ensures.jobs c.in_ok-done.ensures c.in_ok-returned.ensures.whole in
+    subst (λ (xs : List Sender). All (IsSenderOf line) xs) (sym c.in_ok-returned.ensures.senders) (senders_of race line _ run.of)
+
+pub settle-requires-clause-takers : goal.settle-requires-clause-takers
+settle-requires-clause-takers g c =
+    let race = c.in_ok-race.race in
+    let line = c.in_ok-line.line in
+    let run = are_run (λ d. d.member) race line c.args.options.now.mutators c.args.options.now.rounds c.args.commands.now 0 c.in_ok-jobs.jobs.items c.in_ok-done.done.items c.in_ok-jobs.ensures.jobs c.in_ok-done.ensures c.in_ok-returned.ensures.whole in
+    subst (λ (xs : List Taker). All (IsTakerOf line) xs) (sym c.in_ok-returned.ensures.takers) (takers_of race line _ run.of)
+
+pub settle-requires-clause-all : goal.settle-requires-clause-all
+settle-requires-clause-all g c =
+    let race = c.in_ok-race.race in
+    let line = c.in_ok-line.line in
+    let run = are_run (λ d. d.member) race line c.args.options.now.mutators c.args.options.now.rounds c.args.commands.now 0 c.in_ok-jobs.jobs.items c.in_ok-done.done.items c.in_ok-jobs.ensures.jobs c.in_ok-done.ensures c.in_ok-returned.ensures.whole in
+    let senders = ap (λ (xs : List Sender). sum_by sender_rights xs) c.in_ok-returned.ensures.senders in
+    let takers = ap (λ (xs : List Taker). sum_by taker_rights xs) c.in_ok-returned.ensures.takers in
+    let members = ap (λ (ms : List Member). sum_by member_rights ms) c.in_ok-jobs.ensures.members in
+    omega (arith, senders, takers, sorted_rights (map (λ job. job.desk.member) c.in_ok-done.done.items), run.rights, members, c.in_ok-members.ensures.rights, c.in_ok-line.ensures.all)
+
+pub close-requires-clause-racers : goal.close-requires-clause-racers
+close-requires-clause-racers g c =
+    let race = c.in_ok-race.race in
+    let line = c.in_ok-line.line in
+    let run = are_run (λ d. d.member) race line c.args.options.now.mutators c.args.options.now.rounds c.args.commands.now 0 c.in_ok-jobs.jobs.items c.in_ok-done.done.items c.in_ok-jobs.ensures.jobs c.in_ok-done.ensures c.in_ok-returned.ensures.whole in
+    let racers = ap (λ (xs : List Racer). length xs) c.in_ok-returned.ensures.racers in
+    let sweepers = ap (λ (xs : List Sweeper). length xs) c.in_ok-returned.ensures.sweepers in
+    let members = ap (λ (ms : List Member). length ms) c.in_ok-jobs.ensures.members in
+    let shape = ap (λ k. k.members) c.in_ok-race.ensures.shape in (
+      omega (
+        arith,
+        racers,
+        sweepers,
+        sorted_length (map (λ job. job.desk.member) c.in_ok-done.done.items),
+        run.len,
+        members,
+        c.in_ok-members.ensures.len,
+        c.in_ok-race.ensures.racers.0,
+        c.in_ok-race.ensures.sweepers.0,
+        shape,
+        c.in_ok-returned.returned.racers.ok.0,
+        c.in_ok-returned.returned.sweepers.ok.0,
+        c.in_ok-members.members.ok.0,
+      ),
+      subst (λ (xs : List Racer). All (λ r. racer_race r ≡ race_id race) xs) (sym c.in_ok-returned.ensures.racers) (racers_of race line _ run.of),
+    )
+
+pub close-requires-clause-sweepers : goal.close-requires-clause-sweepers
+close-requires-clause-sweepers g c =
+    let race = c.in_ok-race.race in
+    let line = c.in_ok-line.line in
+    let run = are_run (λ d. d.member) race line c.args.options.now.mutators c.args.options.now.rounds c.args.commands.now 0 c.in_ok-jobs.jobs.items c.in_ok-done.done.items c.in_ok-jobs.ensures.jobs c.in_ok-done.ensures c.in_ok-returned.ensures.whole in
+    subst (λ (xs : List Sweeper). All (λ w. sweeper_race w ≡ race_id race) xs) (sym c.in_ok-returned.ensures.sweepers) (sweepers_of race line _ run.of)
+
+pub returns-clause-left : goal.returns-clause-left
+returns-clause-left g c =
+    let race = c.in_ok-race.race in
+    let line = c.in_ok-line.line in
+    let mutators = c.args.options.now.mutators in
+    let commands = c.args.commands.now in
+    let closed = c.close.result in
+    let count = mutators + c.args.options.now.refiners in
+    let ms = map (λ job. job.desk.member) c.in_ok-done.done.items in
+    let sweepers = map sweeper_view c.in_ok-returned.returned.sweepers.items in
+    let run = are_run (λ d. d.member) race line mutators c.args.options.now.rounds commands 0 c.in_ok-jobs.jobs.items c.in_ok-done.done.items c.in_ok-jobs.ensures.jobs c.in_ok-done.ensures c.in_ok-returned.ensures.whole in
+    let members = ap (λ (xs : List Member). length xs) c.in_ok-jobs.ensures.members in
+    let laid = c.close.ensures.layout ∙ c.in_ok-race.ensures.layout in
+    let begun : race_begun race ≡ null_begun closed.layout count = c.in_ok-race.ensures.begun ∙ ap (λ (l : layout.Shape). null_begun l count) (sym laid) in
+    let over = subst (λ (xs : List Racer). IsOver (null_begun closed.layout count) closed.words (map racer_view xs) sweepers) c.in_ok-returned.ensures.racers (subst (λ (b : Begun). IsOver b closed.words (map racer_view c.in_ok-returned.returned.racers.items) sweepers) begun c.close.ensures.over) in
+    table_left closed count mutators commands (views_of ms) sweepers over
+    (each_own mutators commands 0 ms run.run)
+    (λ m lt. every_own mutators commands 0 ms run.run m (omega arith) lt
+    (omega (arith, run.len, members, c.in_ok-members.ensures.len, c.in_ok-race.ensures.racers.0, c.in_ok-race.ensures.sweepers.0, c.in_ok-members.members.ok.0)))
+    c.close.ensures.cover
+    (λ x i. subst (λ (l : layout.Shape). IsPairOf l x) (sym c.close.ensures.layout) (c.close.ensures.within x i))
+    (λ x i. subst (λ (b : Begun). IsKnown b sweepers x) begun ((c.close.ensures.pairs x).0 i))

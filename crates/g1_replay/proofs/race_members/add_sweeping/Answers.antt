@@ -1,0 +1,27 @@
+use Rattle.std.proofs.Common.{◌≡◌, ap, sym, refl, arith, nat_lt, false, Some, vec_len}
+use Rattle.std.proofs.lemmas.Bool.{le-ltb}
+use Rattle.std.proofs.lemmas.List.Elements.{All-head, All-pop, All-rest, All-same}
+use Rattle.g1_log.specs.Ends.{taker_rights, IsTakerOf}
+use Rattle.g1_race.specs.Members.{IsFreshSweeper}
+use Rattle.g1_replay.specs.RaceJobs.{IsNewMember}
+use Rattle.g1_replay.proofs.PlacedLemmas.{all_from_next, rights_move}
+use Rattle.g1_replay.proofs.race_members.add_sweeping.Goals as goal
+
+pub loop-sweeper-preserved : goal.loop-sweeper-preserved
+loop-sweeper-preserved c =
+    let was = c.loop-sweeper.invariant in
+    let steps = c.in-Some.ensures.steps in
+    let race = c.args.race.now in
+    let fresh = All-head (IsFreshSweeper race.table.shared.table_id race.shape) _ _ (All-same (IsFreshSweeper race.table.shared.table_id race.shape) _ _ (sym steps.0) was.sweepers) in
+    let ends = All-pop (IsTakerOf c.args.line.now) _ _ (Some c.take_last.result) c.take_last.ensures.items was.takers in
+    let kind : false ≡ nat_lt (vec_len c.loop-sweeper.members) (vec_len c.args.members.now) = sym (le-ltb _ _ was.behind) in
+    record {
+      left = omega (arith, was.left, steps.1, c.take_last.ensures.len);
+      behind = omega (arith, was.behind, c.in_ok-push.ensures.len);
+      len = omega (arith, was.len, steps.1, c.in_ok-push.ensures.len);
+      rights = rights_move taker_rights _ _ _ _ _ _ _ c.in_ok-push.ensures.items c.take_last.ensures.items refl was.rights;
+      sweepers = All-rest (IsFreshSweeper race.table.shared.table_id race.shape) _ _ _ steps.0 was.sweepers;
+      takers = ends.0;
+      members = all_from_next (IsNewMember race c.args.line.now (vec_len c.args.members.now)) _ _ (vec_len c.loop-sweeper.members) _ c.in_ok-push.ensures.items (omega (arith, c.loop-sweeper.members.ok.0)) was.members
+          (record { of = (fresh.0, ends.1); kind = kind; logged = refl; fresh = tt });
+    }

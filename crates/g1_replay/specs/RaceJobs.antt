@@ -1,0 +1,74 @@
+-- The jobs of a race, and the table that they leave.
+use Rattle.std.specs.Prelude.{◌≡◌, ◌⊎◌, ℕ, zero, suc, ◌<◌, ◌≤◌, nat_lt, List, [], ◌∷◌, ◌++◌, Option, Some, None}
+use Rattle.std.specs.List.{filter_map}
+use Rattle.g1_log.specs.declared.ends.Sender.{Sender}
+use Rattle.g1_log.specs.declared.ends.Taker.{Taker}
+use Rattle.g1_log.specs.declared.line.Line.{Line}
+use Rattle.g1_race.specs.declared.race.Race.{Race}
+use Rattle.g1_race.specs.declared.race.Racer.{Racer}
+use Rattle.g1_race.specs.declared.race.Sweeper.{Sweeper}
+use Rattle.g1_race.specs.Members.{racer_view}
+use Rattle.g1_race.specs.Over.{Ended, refs_of, table_of}
+use Rattle.g1_core.specs.Table.{Holds, IsCovered, IsRecorded}
+use Rattle.g1_core.specs.Adoption.{IsPairOf}
+use Rattle.g1_book.specs.declared.desk.Script.{Script}
+use Rattle.g1_book.specs.declared.desk.Script.TheVariants.{Mutate, Refine}
+use Rattle.g1_book.specs.declared.desk.Step.TheVariants as step
+use Rattle.g1_replay.specs.declared.command.Command.{Command}
+use Rattle.g1_replay.specs.declared.race_desk.Member.{Member}
+use Rattle.g1_replay.specs.declared.race_desk.Member.TheVariants.{Racing, Sweeping}
+use Rattle.g1_replay.specs.Members.{IsMemberOf, is_racer, member_logged}
+use Rattle.g1_replay.specs.Race.{AreLeftBy, StoresInto}
+use Rattle.g1_replay.specs.Scripts.{step_for}
+
+-- each item fits its place, the first of them place k
+abbrev pub AllFrom : {A : Type 0} → (ℕ → A → Type 0) → ℕ → List A → Type 0
+AllFrom P k [] = Unit {0}
+AllFrom P k (x ∷ xs) = P k x × AllFrom P (suc k) xs
+
+-- it has stored nothing
+abbrev pub HasStoredNothing : Member → Type 0
+HasStoredNothing (Racing r s) = (number : ℕ) × ((racer_view r).histories ≡ (number, []) ∷ [])
+HasStoredNothing (Sweeping w t) = Unit {0}
+
+-- Member k of a race that has not begun: the mutators come first.
+pub record IsNewMember (race : Race) (line : Line) (mutators k : ℕ) (m : Member) : Type 0 where
+  pub of : IsMemberOf race line m
+  pub kind : is_racer m ≡ nat_lt k mutators
+  pub logged : member_logged m ≡ 0
+  pub fresh : HasStoredNothing m
+
+-- The script of member k: the stores of its mutator in the order of the trace and one flush, or rounds of refinement.
+abbrev pub IsRaceScript : (mutators rounds k : ℕ) → List Command → Script → Type 0
+IsRaceScript mutators rounds k commands (Mutate steps) = (k < mutators) × (steps.items ≡ filter_map (step_for k) commands ++ step.Flush ∷ [])
+IsRaceScript mutators rounds k commands (Refine made) = (mutators ≤ k) × (made ≡ rounds)
+
+-- Member k and its script.
+pub record IsRaceJob (race : Race) (line : Line) (mutators rounds : ℕ) (commands : List Command) (k : ℕ) (m : Member) (s : Script) : Type 0 where
+  pub new : IsNewMember race line mutators k m
+  pub script : IsRaceScript mutators rounds k commands s
+
+-- what a member is and has
+abbrev pub racer_in : Member → Option Racer
+racer_in (Racing r s) = Some r
+racer_in (Sweeping w t) = None
+
+abbrev pub sender_in : Member → Option Sender
+sender_in (Racing r s) = Some s
+sender_in (Sweeping w t) = None
+
+abbrev pub sweeper_in : Member → Option Sweeper
+sweeper_in (Racing r s) = None
+sweeper_in (Sweeping w t) = Some w
+
+abbrev pub taker_in : Member → Option Taker
+taker_in (Racing r s) = None
+taker_in (Sweeping w t) = Some t
+
+-- The table that a race of these commands leaves: its references are those that the stores may leave; it is covered; each recorded pair is of a card
+-- outside its region; and each card that holds into a region or is recorded for it had a reference into it stored.
+pub record IsTableLeftBy (mutators : ℕ) (commands : List Command) (e : Ended) : Type 0 where
+  pub left : AreLeftBy e.layout mutators commands (refs_of e)
+  pub covered : IsCovered (table_of e)
+  pub pairs : (card region : ℕ) → IsRecorded (table_of e) card region → IsPairOf e.layout (card, region)
+  pub had : (card region : ℕ) → IsRecorded (table_of e) card region ⊎ Holds (table_of e) card region → StoresInto e.layout commands card region

@@ -1,0 +1,237 @@
+//! A desk at a race: a racer with the end of a line into which it hands its logs, or a sweeper with one from which it takes
+//! them.
+ghost use Rattle.std.specs.Prelude.{◌≡◌, ◌<◌, ◌≤◌, ℕ, All, Contains, OnOk};
+ghost use Rattle.std.proofs.Props.{props};
+ghost use Rattle.arrayvec.specs.ArrayVec.{array_vec_len};
+ghost use Rattle.g1_layout.specs.Shape.{slot_count, card_count};
+ghost use Rattle.g1_log.specs.Ends.{line_home, put_of, IsSenderOf, IsSameSender};
+ghost use Rattle.g1_race.specs.Members.{race_id, race_layout, racer_race, racer_view, sweeper_race, sweeper_view};
+ghost use Rattle.g1_book.specs.Steps.{PutsBy};
+ghost use Rattle.g1_replay.specs.Members.{is_racer, member_home, member_logged, member_race, MemberDid};
+ghost use Rattle.g1_replay.specs.MembersDid.{member_did_none, member_did_then};
+
+use g1_book::{Desk, FlushReply, Refusal};
+use g1_core::{CardList, Fill, RefineReply, StoreReply};
+use g1_layout::{Card, Kind, NoMemory, Slot};
+use g1_log::{Buffer, Line, Sender, Taker};
+use g1_race::{Race, Racer, Sweeper};
+use std::alloc::Global;
+use std::sync::Wait;
+
+/// Who works at the desk.
+#[derive(Drop)]
+pub(crate) enum Member {
+    /// A mutator, with the end of the line into which its logs go.
+    Racing(Racer, Sender),
+    /// A refiner, with the end of the line from which it takes them.
+    Sweeping(Sweeper, Taker),
+}
+
+/// A race and a line of completed buffers, and one of their members.
+///
+/// A racer's log is handed over when as many cards as fill it were logged since it was last taken, and at a flush. Where the line does not take
+/// it, it is given up: its cards stay dirty, so a drain after the race finds them. A call that is not one of its member's changes
+/// nothing and answers an empty reply.
+#[derive(Drop)]
+pub(crate) struct RaceDesk<'a, R> {
+    rt: &'a R,
+    alloc: Global,
+    race: &'a Race,
+    line: &'a Line,
+    // How many cards fill a log, and how many the log has.
+    fill: usize,
+    logged: usize,
+    member: Member,
+    ghost of: { member_race member ≡ race_id race.now },
+    ghost line_of: { member_home member ≡ line_home line.now } by { Prim.hlevel props },
+    ghost few: { (logged < fill) × (fill ≤ 256) },
+    ghost counted: { member_logged member ≡ logged },
+}
+
+impl<'a, R> RaceDesk<'a, R> {
+    /// A desk of this member, whose log has no card yet; `fill` cards fill it.
+    pub(crate) fn new(
+        rt: &'a R,
+        alloc: Global,
+        race: &'a Race,
+        line: &'a Line,
+        fill: usize,
+        member: Member,
+    ) -> RaceDesk<'a, R>
+        requires race { member_race member ≡ race_id race.now }
+        requires line { member_home member ≡ line_home line.now }
+        requires fill { (1 ≤ fill) × (fill ≤ 256) }
+        requires empty { member_logged member ≡ 0 }
+        ensures member { result.member ≡ member }
+        ensures race { result.race.now ≡ race.now }
+    {
+        RaceDesk {
+            rt,
+            alloc,
+            race,
+            line,
+            fill,
+            logged: 0,
+            member,
+        }
+    }
+
+    /// The member, once the work is done.
+    pub(crate) fn into_member(self) -> Member
+        ensures { result ≡ self.entry.member }
+    {
+        let RaceDesk {
+            rt: _,
+            alloc: _,
+            race: _,
+            line: _,
+            fill: _,
+            logged: _,
+            member,
+        } = self;
+        member
+    }
+}
+
+// The cards of the log go into the line as a buffer, or are given up where it does not take them: `Full` says that it did. Answers
+// how many they were.
+fn hand_over<R: Wait>(rt: &R, line: &Line, racer: &mut Racer, sender: &mut Sender) -> (u32, Fill)
+    requires { IsSenderOf line.now sender.old }
+    ensures cards { result.0 ≡ array_vec_len racer.old.log }
+    ensures put { PutsBy result.1 racer.old.log.items (put_of sender.old) (put_of sender.new) }
+    ensures race { racer_race racer.new ≡ racer_race racer.old }
+    ensures view { racer_view racer.new ≡ racer_view racer.old }
+    ensures empty { array_vec_len racer.new.log ≡ 0 }
+    ensures sender { IsSameSender sender.new sender.old }
+{
+    let cards = racer.take_log();
+    let count = cards.len() as u32;
+    if cards.is_empty() {
+        return (0, Fill::No);
+    }
+    match line.put(rt, sender, Buffer::of(cards)) {
+        Ok(()) => (count, Fill::Full),
+        Err(_) => (count, Fill::No),
+    }
+}
+
+// Refines the card, if the heap has it.
+fn refine_one(race: &Race, sweeper: &mut Sweeper, card: Card) -> Result<(), NoMemory>
+    requires { sweeper_race sweeper.old ≡ race_id race.now }
+    ensures race { sweeper_race sweeper.new ≡ sweeper_race sweeper.old }
+    ensures swept { OnOk result (card < card_count (race_layout race.now) → Contains (sweeper_view sweeper.new).swept card) }
+    ensures kept { OnOk result ((other : ℕ) → Contains (sweeper_view sweeper.old).swept other → Contains (sweeper_view sweeper.new).swept other) }
+{
+    let Some(card) = race.layout().card(card.number()) else {
+        return Ok(());
+    };
+    sweeper.refine(race, card)
+}
+
+// Refines each of the cards that the heap has.
+fn refine_all(race: &Race, sweeper: &mut Sweeper, cards: &[Card]) -> Result<(), NoMemory>
+    requires { sweeper_race sweeper.old ≡ race_id race.now }
+    ensures race { sweeper_race sweeper.new ≡ sweeper_race sweeper.old }
+    ensures swept { OnOk result (All (λ card. card < card_count (race_layout race.now) → Contains (sweeper_view sweeper.new).swept card) cards.now) }
+{
+    for card in cards {
+        refine_one(race, sweeper, *card)?;
+    }
+    Ok(())
+}
+
+// What a store of this kind answers.
+fn stored(alloc: Global, kind: Kind, fill: Fill) -> StoreReply
+    ensures { (result.kind ≡ kind) × (result.fill ≡ fill) }
+{
+    StoreReply {
+        kind,
+        fill,
+        refined: CardList::new(alloc),
+        short: false,
+    }
+}
+
+// What a flush of so many cards answers.
+fn flushed(alloc: Global, cards: u32, fill: Fill) -> FlushReply
+    ensures { (result.cards ≡ cards) × (result.fill ≡ fill) }
+{
+    FlushReply {
+        cards,
+        fill,
+        refined: CardList::new(alloc),
+        short: false,
+    }
+}
+
+// What a round that took so many buffers answers. Which cards it refined is not counted.
+fn worked(alloc: Global, taken: u32) -> RefineReply
+    ensures { result.taken ≡ taken }
+{
+    RefineReply {
+        taken,
+        refined: CardList::new(alloc),
+        hot: 0,
+        skipped: 0,
+        left: 0,
+        short: false,
+    }
+}
+
+impl<'a, R: Wait> Desk for RaceDesk<'a, R> {
+    ghost did = { λ s asks t. MemberDid s.member asks t.member };
+
+    ghost slots = { λ s. slot_count (race_layout s.race.now) };
+
+    ghost may_store = { λ s. is_racer s.member };
+
+    fn store(&mut self, slot: Slot, target: Option<Slot>) -> Result<StoreReply, Refusal> {
+        match &mut self.member {
+            Member::Racing(racer, sender) => {
+                let kind = racer.store(self.race, slot, target);
+                let fill = match kind {
+                    Kind::Null | Kind::SameRegion | Kind::AlreadyDirty => Fill::No,
+                    Kind::Logged => {
+                        if self.logged + 1 == self.fill {
+                            self.logged = 0;
+                            hand_over(self.rt, self.line, racer, sender).1
+                        } else {
+                            self.logged += 1;
+                            Fill::No
+                        }
+                    }
+                };
+                Ok(stored(self.alloc, kind, fill))
+            }
+            Member::Sweeping(_, _) => Ok(stored(self.alloc, Kind::Null, Fill::No)),
+        }
+    }
+
+    fn flush(&mut self) -> Result<FlushReply, Refusal> {
+        match &mut self.member {
+            Member::Racing(racer, sender) => {
+                let (cards, fill) = hand_over(self.rt, self.line, racer, sender);
+                self.logged = 0;
+                Ok(flushed(self.alloc, cards, fill))
+            }
+            Member::Sweeping(_, _) => Ok(flushed(self.alloc, 0, Fill::No)),
+        }
+    }
+
+    fn work(&mut self) -> Result<RefineReply, Refusal> {
+        match &mut self.member {
+            Member::Racing(_, _) => Ok(worked(self.alloc, 0)),
+            Member::Sweeping(sweeper, taker) => {
+                let Some(parcel) = self.line.take(self.rt, taker) else {
+                    return Ok(worked(self.alloc, 0));
+                };
+                refine_all(self.race, sweeper, parcel.buffer.cards())?;
+                Ok(worked(self.alloc, 1))
+            }
+        }
+    }
+
+    ghost none = { λ s. member_did_none s.member };
+
+    ghost then = { λ s t u. member_did_then s.member t.member u.member };
+}

@@ -1,0 +1,74 @@
+//! What a race prints: how many stores were made, and a drain of each region of the core that the race has become.
+ghost use Rattle.std.specs.Prelude.{◌≡◌, ℕ, List, count_by};
+ghost use Rattle.g1_core.specs.Calls.{drain_reply};
+ghost use Rattle.g1_race.specs.Over.{Ended, table_of};
+ghost use Rattle.g1_replay.specs.CoreDrains.{core_drained_none, core_drained_then, core_drained_in, CoreDrained};
+ghost use Rattle.g1_replay.specs.Playing.{Writes};
+ghost use Rattle.g1_replay.specs.Race.{is_store_command, RaceRan};
+ghost use Rattle.g1_replay.specs.RaceJobs.{IsTableLeftBy};
+
+use crate::calls::put_call;
+use crate::command::Command;
+use crate::drains::{Drains, put_drains};
+use crate::print::put_stores;
+use crate::stop::Stop;
+use g1_core::{Call, Core, Drained, Reply};
+use g1_layout::Region;
+use std::io::Write;
+
+// How many of the commands are stores.
+fn count_stores(commands: &[Command]) -> u64
+    ensures { result ≡ count_by is_store_command commands.now }
+{
+    let mut count = 0;
+    for command in commands {
+        if let Command::Store { .. } = command {
+            count += 1;
+        }
+    }
+    count
+}
+
+// What a drain replies.
+fn reply_of(answer: Drained) -> Reply
+    ensures { result ≡ drain_reply answer }
+{
+    match answer {
+        Drained::Cards { cards, refined: _ } => Reply::Cards(cards),
+        Drained::Short { refined: _ } => Reply::Short,
+    }
+}
+
+impl Drains for Core {
+    ghost layout = { λ core. core.state.table.layout };
+
+    ghost did = { CoreDrained };
+
+    ghost full = { λ core. ⊥ };
+
+    fn put_drain<W: Write>(&mut self, region: Region, output: &mut W) -> Result<(), Stop> {
+        let answer = self.drain(region)?;
+        put_call(output, Call::Drain(region), &reply_of(answer))?;
+        Ok(())
+    }
+
+    ghost none = { core_drained_none };
+
+    ghost then = { core_drained_then };
+
+    ghost stays = { core_drained_in };
+}
+
+/// Writes what comes of the stores of these commands, by the core that the race has become.
+pub(crate) fn put_race<W: Write>(
+    core: &mut Core,
+    commands: &[Command],
+    output: &mut W,
+) -> Result<(), Stop>
+    ensures { (mutators : ℕ) (e : Ended) → core.old.state.table ≡ table_of e → IsTableLeftBy mutators commands.now e
+        → (text : List ℕ) × RaceRan mutators e.layout commands.now result text × Writes (W.contents output.old) (W.contents output.new) result text }
+{
+    let layout = core.layout();
+    put_stores(output, count_stores(commands))?;
+    put_drains(core, layout, output)
+}

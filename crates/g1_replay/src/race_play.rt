@@ -1,0 +1,105 @@
+//! A trace is read to its end, the stores of each mutator race in a thread of its own, and what has come of it is written.
+ghost use Rattle.std.specs.Prelude.{◌≡◌, ℕ, List, ◌++◌, All, Result, IfSome};
+ghost use Rattle.g1_replay.specs.Grammar.{IsCommandOf};
+ghost use Rattle.g1_replay.specs.Output.{IsEnded, ending_line};
+ghost use Rattle.g1_replay.specs.Playing.{Writes};
+ghost use Rattle.g1_replay.specs.Race.{IsWholeRace, RacedTrace, RaceRan};
+ghost use Rattle.g1_replay.specs.Scripted.{IsRefusedTrace};
+ghost use Rattle.g1_replay.specs.declared.command_line.Mode.TheVariants.{Race};
+ghost use Rattle.g1_replay.specs.declared.stop.Stop.{Stop};
+
+use crate::command::Command;
+use crate::command_line::Mode;
+use crate::dialect::Dialect;
+use crate::end::End;
+use crate::engine::put_end;
+use crate::listing::read_scripts;
+use crate::options::Options;
+use crate::race_jobs::run_race;
+use crate::race_output::put_race;
+use crate::source::Source;
+use crate::stop::Stop;
+use g1_layout::Layout;
+use std::alloc::Global;
+use std::io::{BufRead, Write};
+use std::sync::Wait;
+use std::thread::Threads;
+
+// Races the scripts of the commands, and writes what has come of it.
+fn race_commands<T: Threads + Wait + Sync, W: Write>(
+    rt: &T,
+    alloc: Global,
+    layout: Layout,
+    commands: &[Command],
+    output: &mut W,
+    options: &Options,
+) -> Result<(), Stop>
+    requires { All (IsCommandOf layout options.now.mutators) commands.now }
+    ensures { (text : List ℕ) × RaceRan options.now.mutators layout commands.now result text × Writes (W.contents output.old) (W.contents output.new) result text }
+{
+    let closed = run_race(rt, alloc, layout, commands, options)?;
+    let Ok(mut core) = closed.into_core(alloc, options.config) else {
+        return Err(Stop::NoMemory);
+    };
+    put_race(&mut core, commands, output)
+}
+
+// The whole trace and then its scripts, but for the line of the end.
+fn play_race<T: Threads + Wait + Sync, R: BufRead, W: Write>(
+    rt: &T,
+    alloc: Global,
+    source: &mut Source,
+    input: &mut R,
+    output: &mut W,
+    options: &Options,
+) -> Result<(), Stop>
+    ensures { (text : List ℕ) × RacedTrace (record { mode = Race; mutators = options.now.mutators }) source.old.number source.new.number (R.remaining input.old) (R.remaining input.new) result text
+        × Writes (W.contents output.old) (W.contents output.new) result text }
+{
+    let dialect = Dialect {
+        mode: Mode::Race,
+        mutators: options.mutators,
+    };
+    let (layout, commands) = read_scripts(rt, alloc, source, dialect, input, output)?;
+    race_commands(rt, alloc, layout, &commands, output, options)
+}
+
+/// Replays a trace of stores by a race: reads all of it, makes the stores of each mutator in a thread of its own with no lock
+/// around them and the refiners beside them, and then, with the race closed and made a core, writes how many stores were made and
+/// what a drain of each region answers (docs/TRACES.md, A race).
+///
+/// What is written is how many stores the trace has, the lines of drains of the regions in order, and then the line of the end, if it
+/// has one. Each slot refers by then to what some mutator stored to it last, or to nothing where none stores to it. A line
+/// `drained` lists cards outside its region, ascending: every card that holds into the region by these references, and only
+/// cards to which the trace stores a reference into it. `Whole` comes only where the trace has no fault and all
+/// regions were drained, and `Refused` only where it has one: then nothing was run, and the fault's line is all that was written.
+/// With `Stopped` memory or a thread was refused, and its line is all, or a drain was refused, and its line stands behind
+/// those of the drains before it. With `ReadFailed` nothing was run; with `WriteFailed` a beginning of such a text was written.
+///
+/// Which of two racing stores to a slot comes last is free, and so is which cards a refiner meets. So what is written of a
+/// trace that stores to a slot twice may differ between two runs. No history of one thread is claimed to explain a run, nor that a
+/// logged card ever reaches a refiner: a card that none refines stays dirty, and the drains find it.
+///
+/// It keeps the commands and the scripts, asks the reader for bytes at most 2^40 times, and tries no failed read or write
+/// again. A line is one write or a few, so give it a writer with a buffer. Its threads wait for nothing but the line of
+/// completed buffers; all of them have been joined when it returns.
+pub fn race<T: Threads + Wait + Sync, R: BufRead, W: Write>(
+    rt: &T,
+    alloc: Global,
+    input: &mut R,
+    output: &mut W,
+    options: &Options,
+) -> End
+    ensures told { (number : ℕ) × (outcome : Result (Unit {0}) Stop) × (text : List ℕ)
+        × RacedTrace (record { mode = Race; mutators = options.now.mutators }) 1 number (R.remaining input.old) (R.remaining input.new) outcome text
+        × IsEnded (W.contents output.old) (W.contents output.new) outcome (text ++ ending_line number outcome) result }
+    ensures whole { result ≡ End.Whole → IfSome (R.remaining input.old) (λ bytes. IsWholeRace (record { mode = Race; mutators = options.now.mutators }) bytes (W.contents output.old) (W.contents output.new)) }
+    ensures refused { result ≡ End.Refused → IfSome (R.remaining input.old) (λ bytes. IsRefusedTrace (record { mode = Race; mutators = options.now.mutators }) bytes (W.contents output.old) (W.contents output.new)) }
+{
+    let mut source = Source {
+        reads: 0,
+        number: 1,
+    };
+    let outcome = play_race(rt, alloc, &mut source, input, output, options);
+    put_end(output, source.number, outcome)
+}
