@@ -222,6 +222,29 @@ fn refinements(rt: HostRuntime) -> Result<(), Fail> {
     Ok(())
 }
 
+fn target(rt: &impl Abort) -> Call {
+    Call::Target(slot(rt, 3))
+}
+
+fn pending(rt: &impl Abort) -> Call {
+    Call::Pending(card(rt, 3))
+}
+
+fn members(rt: &impl Abort) -> Call {
+    Call::Members(region(rt, 3))
+}
+
+fn drain(rt: &impl Abort) -> Call {
+    Call::Drain(region(rt, 3))
+}
+
+fn redirect(rt: &impl Abort) -> Call {
+    Call::Redirect {
+        from: region(rt, 3),
+        to: region(rt, 0),
+    }
+}
+
 /// Checks the line of a call with this reply.
 fn assert_line(rt: &impl Abort, alloc: Global, call: Call, reply: &Reply, want: &str) {
     let mut output: Vec<u8> = Vec::new(alloc);
@@ -231,25 +254,40 @@ fn assert_line(rt: &impl Abort, alloc: Global, call: Call, reply: &Reply, want: 
 
 #[test]
 fn questions(rt: HostRuntime) -> Result<(), Fail> {
-    let target = Call::Target(slot(&rt, 3));
     let (null, first, last) = (None, Some(slot(&rt, 0)), Some(slot(&rt, 262143)));
-    assert_line(&rt, rt.alloc(), target, &Reply::Target(null), "null\n");
-    assert_line(&rt, rt.alloc(), target, &Reply::Target(first), "slot 0\n");
+    assert_line(&rt, rt.alloc(), target(&rt), &Reply::Target(null), "null\n");
     assert_line(
         &rt,
         rt.alloc(),
-        target,
+        target(&rt),
+        &Reply::Target(first),
+        "slot 0\n",
+    );
+    assert_line(
+        &rt,
+        rt.alloc(),
+        target(&rt),
         &Reply::Target(last),
         "slot 262143\n",
     );
-    let pending = Call::Pending(card(&rt, 3));
-    assert_line(&rt, rt.alloc(), pending, &Reply::Pending(true), "yes\n");
-    assert_line(&rt, rt.alloc(), pending, &Reply::Pending(false), "no\n");
-    let members = Call::Members(region(&rt, 3));
+    assert_line(
+        &rt,
+        rt.alloc(),
+        pending(&rt),
+        &Reply::Pending(true),
+        "yes\n",
+    );
+    assert_line(
+        &rt,
+        rt.alloc(),
+        pending(&rt),
+        &Reply::Pending(false),
+        "no\n",
+    );
     let none = Reply::Cards(cards(&rt, rt.alloc(), &[]));
     let some = Reply::Cards(cards(&rt, rt.alloc(), &[0, 10, 4095]));
-    assert_line(&rt, rt.alloc(), members, &none, "cards\n");
-    assert_line(&rt, rt.alloc(), members, &some, "cards 0 10 4095\n");
+    assert_line(&rt, rt.alloc(), members(&rt), &none, "cards\n");
+    assert_line(&rt, rt.alloc(), members(&rt), &some, "cards 0 10 4095\n");
     let status = Reply::Status(Status {
         pending: 12,
         recorded: 0,
@@ -261,12 +299,17 @@ fn questions(rt: HostRuntime) -> Result<(), Fail> {
 
 #[test]
 fn pauses(rt: HostRuntime) -> Result<(), Fail> {
-    let drain = Call::Drain(region(&rt, 3));
     let none = Reply::Cards(cards(&rt, rt.alloc(), &[]));
     let some = Reply::Cards(cards(&rt, rt.alloc(), &[1, 2, 30]));
-    assert_line(&rt, rt.alloc(), drain, &none, "drained\n");
-    assert_line(&rt, rt.alloc(), drain, &some, "drained 1 2 30\n");
-    assert_line(&rt, rt.alloc(), drain, &Reply::Short, "drained short\n");
+    assert_line(&rt, rt.alloc(), drain(&rt), &none, "drained\n");
+    assert_line(&rt, rt.alloc(), drain(&rt), &some, "drained 1 2 30\n");
+    assert_line(
+        &rt,
+        rt.alloc(),
+        drain(&rt),
+        &Reply::Short,
+        "drained short\n",
+    );
     let rows = [
         (ClearReply::Cleared, "cleared\n"),
         (ClearReply::Pending(4), "refused: 4 pending\n"),
@@ -279,21 +322,17 @@ fn pauses(rt: HostRuntime) -> Result<(), Fail> {
         let clear = Call::Clear(region(&rt, 3));
         assert_line(&rt, rt.alloc(), clear, &Reply::Clear(*answer), want);
     }
-    let redirect = Call::Redirect {
-        from: region(&rt, 3),
-        to: region(&rt, 0),
-    };
     assert_line(
         &rt,
         rt.alloc(),
-        redirect,
+        redirect(&rt),
         &Reply::Moved(6),
         "redirected 6\n",
     );
     assert_line(
         &rt,
         rt.alloc(),
-        redirect,
+        redirect(&rt),
         &Reply::Short,
         "redirected short\n",
     );
@@ -373,7 +412,6 @@ fn a_list_of_more_than_one_block(rt: HostRuntime) -> Result<(), Fail> {
 #[test]
 fn a_failed_write_leaves_a_beginning(rt: HostRuntime) -> Result<(), Fail> {
     let whole = b"drained 1 20 300\n";
-    let call = Call::Drain(region(&rt, 3));
     let reply = Reply::Cards(cards(&rt, rt.alloc(), &[1, 20, 300]));
     for room in 0..=whole.len() {
         let mut output = Narrow {
@@ -381,7 +419,7 @@ fn a_failed_write_leaves_a_beginning(rt: HostRuntime) -> Result<(), Fail> {
             room,
             failed: 0,
         };
-        let result = put_call(&mut output, call, &reply);
+        let result = put_call(&mut output, drain(&rt), &reply);
         assert!(rt; result.is_ok() == (room == whole.len()), "{room}");
         assert!(rt; output.bytes.as_slice() == &whole[..room], "{room}");
         assert!(rt; output.failed == u32::from(room < whole.len()), "{room}");
