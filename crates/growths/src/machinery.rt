@@ -224,19 +224,14 @@ fn rest(numbers: &[u32], first: usize) -> &[u32] {
     numbers.get(first..).unwrap_or(&[])
 }
 
-/// Drains a region where nothing is pending.
-pub(crate) fn drained(
-    rt: &impl Eprint,
-    core: &mut Core,
-    of: u32,
-    set: &[u32],
-) -> Result<(), Failure> {
+// Drains a region where nothing is pending.
+fn drained(rt: &impl Eprint, core: &mut Core, of: u32, set: &[u32]) -> Result<(), Failure> {
     paused(rt, core, PauseCall::Drain(of), &[], set)
 }
 
-/// Makes a call that refines these cards in this order and finds these numbers; where it was refused or is short, it is made
-/// again, and takes up where it stopped.
-pub(crate) fn paused(
+// Makes a call that refines these cards in this order and finds these numbers; where it was refused or is short, it is made
+// again, and takes up where it stopped.
+fn paused(
     rt: &impl Eprint,
     core: &mut Core,
     call: PauseCall,

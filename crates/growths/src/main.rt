@@ -22,7 +22,6 @@ mod machinery;
 mod numbers;
 mod outcome;
 mod race;
-mod race_and_core;
 mod sets;
 mod shared;
 
@@ -48,6 +47,5 @@ fn play<R: Wait + Print + Eprint + AllocGlobal>(rt: &R) -> Result<(), Failure> {
     history::play(rt)?;
     callers::play(rt)?;
     shared::play(rt)?;
-    race::play(rt)?;
-    race_and_core::play(rt)
+    race::play(rt)
 }

@@ -50,7 +50,7 @@ fn untouched<R: Eprint + AllocGlobal>(rt: &R) -> Result<(), Failure> {
 }
 
 // Cards 0, 1 and 2 hold into regions 3, 2 and 3.
-pub(crate) const REFERENCES: [(u32, u32); 3] = [(0, 24), (4, 16), (8, 24)];
+const REFERENCES: [(u32, u32); 3] = [(0, 24), (4, 16), (8, 24)];
 
 // A refused refinement changes no word and records nothing: the race is closed then, and another one goes through.
 fn cards_refined<R: Eprint + AllocGlobal>(rt: &R) -> Result<(), Failure> {
@@ -65,7 +65,7 @@ fn cards_refined<R: Eprint + AllocGlobal>(rt: &R) -> Result<(), Failure> {
 }
 
 // A race that was closed after the three cards were refined, or where one was refused, with how many were refined.
-pub(crate) fn closed_after<R: Eprint + AllocGlobal>(rt: &R) -> Result<(Closed, u32), Failure> {
+fn closed_after<R: Eprint + AllocGlobal>(rt: &R) -> Result<(Closed, u32), Failure> {
     let (race, mut racers, mut sweepers) = new_race(rt)?;
     let mut racer = racers.take_last();
     racers.clear();
@@ -153,7 +153,7 @@ fn is_refined(
 }
 
 // The slots refer where they were stored to; the first cards are clean and recorded, the others dirty and not recorded.
-pub(crate) fn are_refined(rt: &impl Eprint, closed: &Closed, done: u32) -> Result<(), Failure> {
+fn are_refined(rt: &impl Eprint, closed: &Closed, done: u32) -> Result<(), Failure> {
     for (number, (from, to)) in (0..3).zip(REFERENCES) {
         let place = target(closed, from)?;
         check(rt, place == Some(to), "a slot after a race")?;
