@@ -68,7 +68,11 @@ enum g1_code {
     G1_TOO_MANY_CARDS = 17,  /* more than G1_LOG cards, or stores, at once */
     G1_SAME_REGION = 18,     /* references were to be moved from a region to itself */
     G1_STILL_PENDING = 19,   /* a clear, while cards are pending */
-    G1_STILL_REFERENCED = 20 /* a clear, while a slot outside the region refers into it */
+    G1_STILL_REFERENCED = 20, /* a clear, while a slot outside the region refers into it */
+    G1_OTHER_ROLE = 21,      /* the handle is a sweeper's where a racer's is asked for, or a racer's where a sweeper's is */
+    G1_LOG_FULL = 22,        /* the racer's log has G1_LOG cards: take it, and store again */
+    G1_BAD_MEMBERS = 23,     /* not as many handles as the race has members, or as a race may have */
+    G1_LOST = 24             /* the handles were of several races: they are closed, and what they were of is gone */
 };
 
 /* How many cards g1_refine takes at most, and how many stores g1_store_all. */
@@ -218,6 +222,120 @@ uint32_t g1_clear(struct g1 *handle, uint32_t region, uint32_t *detail);
  */
 uint32_t g1_redirect(struct g1 *handle, uint32_t from, uint32_t to, uint32_t *moved, uint32_t *refined, size_t refined_length,
                      uint32_t *refined_count);
+
+/*
+ * Stores that race.
+ *
+ * A race has racers, which store, and sweepers, which refine, each in a thread of its own, with no lock and no waiting: racers and
+ * sweepers meet on single words alone. It has no core while it runs: no drain, no question. g1_race_close ends it, g1_race_core makes a
+ * core of what it left, for a pause (g1_drain, g1_redirect, g1_clear, g1_target, ..), and g1_race_resume makes a race of the core.
+ *
+ * A racer's card's way: g1_race_store marks the slot's card, and where it answers G1_STORED_LOGGED the card is in the racer's own log. The
+ * caller takes the log (g1_race_take_log), hands its cards to a sweeper by a queue of its own, and the sweeper refines each of them
+ * (g1_race_refine). A log that is lost costs nothing but time: its cards stay dirty, and the first drain after the race refines them.
+ *
+ * Beside what every call asks for:
+ *   - one call at a time uses a handle of a member; a handle may go from thread to thread, by a lock, a join or the like;
+ *   - a call writes its handle, so each thread keeps its own in a local, and not in a row that threads share: a row of handles is a
+ *     cache line that all of them write;
+ *   - the handles that are given to one g1_race_close are of one race.
+ */
+
+/* A racer or a sweeper, or nothing where the word is null. */
+struct g1_member {
+    void *member;
+};
+
+/* A race that is over, or nothing where the word is null. It stays on one thread. */
+struct g1_over {
+    void *race;
+};
+
+/* How many racers and how many sweepers a race has at most. It has one of each at least. */
+#define G1_RACERS 8
+#define G1_SWEEPERS 4
+
+/*
+ * Opens a race over a new heap, all of whose slots are null, for as many racers and sweepers as there are closed handles. It takes 8
+ * bytes a slot and 8 bytes a card, twice while it begins, and about a kilobyte for each racer.
+ *
+ * G1_DONE: each handle is open. G1_BAD_MEMBERS, G1_ALREADY_OPEN for any of the handles, G1_BAD_LAYOUT or G1_NO_MEMORY: nothing has changed.
+ */
+uint32_t g1_race_open(const struct g1_counts *counts, struct g1_member *racers, size_t racers_length, struct g1_member *sweepers,
+                      size_t sweepers_length);
+
+/*
+ * A racer stores a reference to the place `target`, or null (G1_NULL), into a slot, beside whatever the other members do. Constant time, no
+ * memory; it waits for nobody.
+ *
+ * A kind of store (enum g1_kind): where it is G1_STORED_LOGGED, the slot's card is last in the racer's log. G1_LOG_FULL, G1_NO_SLOT for the
+ * slot or the target, G1_OTHER_ROLE or G1_NOT_OPEN: nothing has changed.
+ */
+uint32_t g1_race_store(struct g1_member *member, uint32_t slot, uint32_t target);
+
+/*
+ * Takes a racer's log: its cards, oldest first, stand first in `cards`, as many as `count` says, and the log is empty. `cards` has room for
+ * G1_LOG cards. The cards stay dirty.
+ *
+ * G1_DONE. G1_NO_ROOM, G1_OTHER_ROLE or G1_NOT_OPEN: `count` is 0, and the log is as it was.
+ */
+uint32_t g1_race_take_log(struct g1_member *member, uint32_t *cards, size_t cards_length, uint32_t *count);
+
+/*
+ * A sweeper refines a card, beside whatever the other members do: it makes it clean, and then reads its slots and records which regions
+ * they refer into, whether the card was dirty or not. A store that comes too late to be read makes it dirty again. It waits for nobody; the
+ * sweeper's list of what it recorded grows by at most the slots of a card.
+ *
+ * G1_DONE. G1_SHORT: memory was refused, and the card is as it was; refine it again, or leave it to a drain after the race. G1_NO_CARD,
+ * G1_OTHER_ROLE or G1_NOT_OPEN: nothing has changed.
+ */
+uint32_t g1_race_refine(struct g1_member *member, uint32_t card);
+
+/*
+ * Ends a race: all its racers and sweepers are handed in, with none of them in use. Their handles are closed, and what is left of the race
+ * lies behind `over`, which was closed. Logs that were not taken are dropped; their cards stay dirty.
+ *
+ * G1_DONE. G1_BAD_MEMBERS, G1_OTHER_ROLE, G1_NOT_OPEN for a member's handle, G1_ALREADY_OPEN for `over` or G1_NO_MEMORY: nothing has changed.
+ * G1_LOST where the handles are not of one race, which the caller sees to: they are closed, and their races can't be ended any more.
+ */
+uint32_t g1_race_close(struct g1_member *racers, size_t racers_length, struct g1_member *sweepers, size_t sweepers_length,
+                       struct g1_over *over);
+
+/*
+ * Opens a closed handle on what a race left, and closes `over`: each slot refers to what it referred to when the race ended, the cards that
+ * were dirty then are pending, and what was recorded is recorded. Nothing is counted, and the ring is empty. `hot` and `ring` are those of
+ * g1_open. It takes the memory of g1_open and of the pairs, and some more while it runs.
+ *
+ * G1_DONE. G1_NOT_OPEN for `over`, G1_ALREADY_OPEN for `handle`, G1_BAD_SETTINGS or G1_NO_MEMORY: nothing has changed, so a refused call can be
+ * made again.
+ */
+uint32_t g1_race_core(struct g1_over *over, struct g1 *handle, uint32_t hot, uint32_t ring);
+
+/*
+ * Opens a race that begins with the core of a handle, for as many racers and sweepers as there are closed handles, and closes the core's
+ * handle: each slot refers to what it referred to, the pending cards are dirty, and what was recorded is recorded. A card that is dirty
+ * from the beginning stands in no racer's log: a sweeper that is given it refines it, or the first drain after the race. It takes the
+ * memory of g1_race_open and of the pairs.
+ *
+ * G1_DONE. G1_BAD_MEMBERS, G1_ALREADY_OPEN for any of the members' handles, G1_NOT_OPEN for the core's or G1_NO_MEMORY: nothing has changed.
+ */
+uint32_t g1_race_resume(struct g1 *handle, struct g1_member *racers, size_t racers_length, struct g1_member *sweepers,
+                        size_t sweepers_length);
+
+/*
+ * Closes a member's handle without its race, which then has too few members to be ended. The race's memory is given back with the last of
+ * its handles.
+ *
+ * G1_DONE or G1_NOT_OPEN.
+ */
+uint32_t g1_member_close(struct g1_member *member);
+
+/*
+ * Closes the handle of a race that is over, and gives all its memory back. What it left is gone.
+ *
+ * G1_DONE or G1_NOT_OPEN.
+ */
+uint32_t g1_over_close(struct g1_over *over);
 
 #ifdef __cplusplus
 }

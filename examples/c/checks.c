@@ -53,7 +53,7 @@ static uint32_t target_of(struct g1 *handle, uint32_t slot) {
     return g1_target(handle, slot, &target) == G1_DONE ? target : ALL - 1;
 }
 
-// Whether so many cards are pending and so many pairs recorded.
+// Whether `pending` cards are pending and `recorded` pairs recorded.
 static int has(struct g1 *handle, uint32_t pending, uint32_t recorded) {
     struct g1_totals totals;
     return g1_status(handle, &totals) == G1_DONE && totals.pending == pending && totals.recorded == recorded;

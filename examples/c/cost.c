@@ -1,6 +1,6 @@
 // Stores of one kind, to be counted: `cost null|same-region|dirty|logged|queued STORES`, on the heap 256 64 8. See the script measure
 // beside. `queued` are logged stores whose cards go into an array that is handed over once it is full. `cost drain CARDS` is one drain
-// with so many cards pending, each with one reference that is recorded already.
+// with CARDS cards pending, each with one reference that is recorded already.
 #include "g1.h"
 
 #include <stdint.h>

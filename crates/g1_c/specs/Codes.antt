@@ -5,6 +5,7 @@ use Rattle.g1_layout.specs.declared.kind.Kind.{Kind}
 use Rattle.g1_layout.specs.declared.kind.Kind.TheVariants.{Null, SameRegion, AlreadyDirty, Logged}
 use Rattle.g1_core.specs.declared.reply.ClearReply.{ClearReply}
 use Rattle.g1_core.specs.declared.reply.ClearReply.TheVariants.{Cleared, Pending, StillReferenced}
+use Rattle.g1_core.specs.Settings.{Settings}
 use Rattle.g1_core.specs.Machine.{Machine}
 use Rattle.g1_core.specs.Run.{stored}
 
@@ -45,3 +46,7 @@ OfOpen (Some machine) Q = Q machine
 -- a store changes the table, and nothing else
 abbrev pub stored_machine : Machine → ℕ → Option ℕ → Machine
 stored_machine m slot target = record { state = record { table = stored m.state.table slot target; ring = m.state.ring }; settings = m.settings; reads = m.reads }
+
+-- the settings that C gives: the hot limit and the ring's size, and the defaults of the others
+abbrev pub settings_of : ℕ → ℕ → Settings
+settings_of hot ring = record { log = 256; limit = 10; hot = hot; ring = ring; start = 5 }

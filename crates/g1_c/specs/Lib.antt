@@ -3,3 +3,4 @@ pub mod Codes
 pub mod Replies
 pub mod Queries
 pub mod Batch
+pub mod Racing

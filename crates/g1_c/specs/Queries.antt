@@ -20,7 +20,7 @@ pub record IsToldPending (m : Machine) (card : ℕ) (answer : Bool) : Type 0 whe
   pub pending : answer ≡ set.contains m.state.table.pending card
   pub step : (caller : ℕ) → IsStep m.state.table (pending_entry caller card answer) m.state.table
 
--- So many cards are pending, and so many pairs are recorded.
+-- The status counts the pending cards and the recorded pairs.
 pub record HasStatus (m : Machine) (status : Status) : Type 0 where
   pub pending : status.pending ≡ set.len m.state.table.pending
   pub recorded : status.recorded ≡ set.len m.state.table.recorded

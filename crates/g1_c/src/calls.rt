@@ -1,8 +1,8 @@
 //! Opening and closing a handle.
-ghost use Rattle.std.specs.Prelude.{◌≡◌, ◌<◌, Some, None, IfOk, IsSome};
+ghost use Rattle.std.specs.Prelude.{◌≡◌, ◌<◌, Some, None, IfOk, IfSome, IsSome};
 ghost use Rattle.g1_layout.specs.Shape.{Shape};
-ghost use Rattle.g1_core.specs.Settings.{Settings};
 ghost use Rattle.g1_core.specs.Machine.{Machine, new_machine};
+ghost use Rattle.g1_c.specs.Codes.{settings_of};
 
 use crate::code::{DONE, Refusal};
 use crate::handle::Handle;
@@ -34,7 +34,7 @@ pub extern "C" fn g1_open(
     hot: u32,
     ring: u32,
 ) -> u32
-    ensures new { result ≡ 0 → handle.new.value ≡ Some (new_machine (record { regions = counts.now.regions; cards = counts.now.cards; slots = counts.now.slots }) (record { log = 256; limit = 10; hot = hot; ring = ring; start = 5 })) }
+    ensures new { result ≡ 0 → handle.new.value ≡ Some (new_machine (record { regions = counts.now.regions; cards = counts.now.cards; slots = counts.now.slots }) (settings_of hot ring)) }
     ensures closed { result ≡ 0 → handle.old.value ≡ None }
     ensures refused { 0 < result → handle.new.value ≡ handle.old.value }
 {
@@ -46,15 +46,12 @@ pub extern "C" fn g1_open(
 
 /// A core of its own on the heap.
 fn new_core(alloc: Global, counts: &Counts, hot: u32, ring: u32) -> Result<Box<Core>, Refusal>
-    ensures { IfOk result (λ core. core.value ≡ new_machine (record { regions = counts.now.regions; cards = counts.now.cards; slots = counts.now.slots }) (record { log = 256; limit = 10; hot = hot; ring = ring; start = 5 })) }
+    ensures { IfOk result (λ core. core.value ≡ new_machine (record { regions = counts.now.regions; cards = counts.now.cards; slots = counts.now.slots }) (settings_of hot ring)) }
 {
     let Some(layout) = Layout::new(counts.regions, counts.cards, counts.slots) else {
         return Err(Refusal::BadLayout);
     };
-    let log = Config::LOG.default as usize;
-    let limit = Config::LIMIT.default as usize;
-    let start = Config::START.default as usize;
-    let Some(config) = Config::new(log, limit, hot, ring as usize, start) else {
+    let Some(config) = config(hot, ring) else {
         return Err(Refusal::BadSettings);
     };
     let Ok(core) = Core::new(alloc, layout, config) else {
@@ -66,8 +63,18 @@ fn new_core(alloc: Global, counts: &Counts, hot: u32, ring: u32) -> Result<Box<C
     }
 }
 
+/// The settings of a core: these, and the defaults of the others.
+pub(crate) fn config(hot: u32, ring: u32) -> Option<Config>
+    ensures { IfSome result (λ config. config ≡ settings_of hot ring) }
+{
+    let log = Config::LOG.default as usize;
+    let limit = Config::LIMIT.default as usize;
+    let start = Config::START.default as usize;
+    Config::new(log, limit, hot, ring as usize, start)
+}
+
 /// Puts a core into a handle that is closed.
-fn open_in(handle: Handle, core: Box<Core>) -> (Handle, u32)
+pub(crate) fn open_in(handle: Handle, core: Box<Core>) -> (Handle, u32)
     ensures new { result.1 ≡ 0 → result.0.value ≡ Some core.value }
     ensures closed { result.1 ≡ 0 → handle.value ≡ None }
     ensures refused { 0 < result.1 → result.0.value ≡ handle.value }
@@ -88,7 +95,7 @@ pub extern "C" fn g1_close(alloc: Global, handle: &mut Handle) -> u32
     replace_with(handle, alloc, close_in)
 }
 
-fn close_in(handle: Handle, alloc: Global) -> (Handle, u32)
+pub(crate) fn close_in(handle: Handle, alloc: Global) -> (Handle, u32)
     ensures closed { result.0.value ≡ None }
     ensures done { IsSome handle.value → result.1 ≡ 0 }
     ensures refused { 0 < result.1 → handle.value ≡ None }

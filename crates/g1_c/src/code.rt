@@ -2,7 +2,8 @@
 ghost use Rattle.std.specs.Prelude.{◌≡◌, ◌<◌};
 ghost use Rattle.g1_c.specs.Codes.{kind_word};
 
-use g1_layout::Kind;
+use g1_layout::{Kind, NoMemory};
+use std::alloc::{AllocError, AllocFailed};
 
 /// The call did what its name says.
 pub(crate) const DONE: u32 = 0;
@@ -24,6 +25,18 @@ pub(crate) const STILL_PENDING: u32 = 19;
 
 /// A clear was refused, since a slot outside the region refers into it.
 pub(crate) const STILL_REFERENCED: u32 = 20;
+
+/// The handle is a sweeper's where a racer's is asked for, or a racer's where a sweeper's is.
+pub(crate) const OTHER_ROLE: u32 = 21;
+
+/// A racer's log is full.
+pub(crate) const LOG_FULL: u32 = 22;
+
+/// The handles are not as many as the race has members, or as a race may have.
+pub(crate) const BAD_MEMBERS: u32 = 23;
+
+/// The handles were of several races: they are closed, and what they were of is gone.
+pub(crate) const LOST: u32 = 24;
 
 /// The word for null.
 pub(crate) const NULL: u32 = 4_294_967_295;
@@ -75,6 +88,24 @@ impl Refusal {
             Refusal::TooManyCards => 17,
             Refusal::SameRegion => 18,
         }
+    }
+}
+
+impl From<AllocError> for Refusal {
+    fn from(_error: AllocError) -> Refusal {
+        Refusal::NoMemory
+    }
+}
+
+impl<T: Drop> From<AllocFailed<T>> for Refusal {
+    fn from(_failed: AllocFailed<T>) -> Refusal {
+        Refusal::NoMemory
+    }
+}
+
+impl From<NoMemory> for Refusal {
+    fn from(_error: NoMemory) -> Refusal {
+        Refusal::NoMemory
     }
 }
 

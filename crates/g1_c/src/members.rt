@@ -16,7 +16,7 @@ use std::alloc::Global;
 pub enum Listed {
     /// The members.
     Members(CardList),
-    /// The array is too small: so many members there are.
+    /// The array is too small: how many members there are.
     NoRoom(u32),
 }
 

@@ -1,6 +1,6 @@
 -- `closed` puts null and the allocator together.
-use Rattle.std.proofs.Common.{◌≡◌, ℕ, List, [], ◌∷◌, ◌++◌, refl, sym, subst, lit<}
-use Rattle.std.specs.Prelude.{Option, None}
+use Rattle.std.proofs.Common.{◌≡◌, List, [], ◌∷◌, ◌++◌, refl, sym, subst}
+use Rattle.std.specs.Prelude.{None}
 use mir.Syntax.{Fn}
 use mir.Val.{Val, vnull}
 use base.Logic.{SProp, ent, emp, id⊢}
@@ -9,21 +9,21 @@ use contract.Monad.{fact, fact_i}
 use contract.Running.{tables}
 use types.Kit.{‵, raw, ◌⊛◌, ◌$◌, ◌∵◌, !, qed, by, move, keep, drop, use0, split, suffices, fsplit, fjoin, rewrite}
 use types.Part.{agg}
-use types.Run.{lit, of_opd, no_more, and_then, returns, enter}
+use types.Run.{lit, no_more, and_then, returns, enter}
 use types.ByLocal.{alloc_all, pass_all, free_all, look_at, get, sets}
-use denote.RattleType.{RattleType, owns}
+use denote.RattleType.{owns}
 use denote.RawPtr.{null_ptr}
 use denote.Signature.{types_at, plain}
 use denote.Steps.{nothing}
 use denote.Param.{layout}
 use denote.Triple.Entry.{alive}
 use denote.Triple.Walked.{Stays, stay_dropped, walk_of, Goes-dropped}
-use Rattle.std.proofs.cell.Inside.{Good, one}
+use Rattle.std.proofs.cell.Inside.{one}
 use Rattle.std.proofs.raw_atomic.Walks.{proved_at, leaves}
 use Rattle.std.proofs.alloc.Global.TheLaws as laws
-use Rattle.g1_core.specs.Machine.{Machine}
 use Rattle.raw_box.proofs.Values.{both}
-use Rattle.g1_c.proofs.Values.{Z, closed_good, closed_in}
+use Rattle.g1_c.proofs.Values.{Z, closed_good}
+use Rattle.g1_c.proofs.CoreValues.{closed_in}
 use Rattle.g1_c.specs.contracts.handle.Handle.closed.{ended, clauses}
 use Rattle.g1_c.specs.contracts.handle.Handle.closed.Key.{name as #self}
 use Rattle.g1_c.proofs.handle.Handle.closed.Statement.{statement}

@@ -1,10 +1,9 @@
 -- `into_raw_box` gives what the handle owns to a raw box, where there is something.
 use Rattle.std.proofs.Common.{◌≡◌, List, [], ◌∷◌, ◌++◌, refl, lit<}
-use Rattle.std.specs.Prelude.{Option, Some, None}
+use Rattle.std.specs.Prelude.{Some, None}
 use mir.Syntax.{Fn}
 use mir.Val.{Val, vptr, vnull, vcons, vnil}
 use base.Logic.{SProp, emp}
-use base.Fml.{ftrue}
 use prog.Wp.{WpFn}
 use contract.Monad.{fact, fact_i}
 use contract.Running.{tables}
@@ -28,11 +27,10 @@ use Rattle.std.proofs.raw_atomic.Walks.{proved_at, leaves}
 use Rattle.std.specs.contracts.impls.GlobalAllocator.TheImpl.{ghosts}
 use Rattle.std.proofs.alloc.Global.TheLaws as laws
 use Rattle.std_alloc.proofs.ResultValues.{and_tt}
-use Rattle.g1_core.specs.Machine.{Machine}
-use Rattle.g1_core.specs.contracts.machinery.Core as core
 use Rattle.g1_c.specs.contracts.handle.Handle as handle
 use Rattle.raw_box.proofs.Values.{both, RawBox, raw_box_good, raw_box_in}
-use Rattle.g1_c.proofs.Values.{Z, closed_good, handle_out}
+use Rattle.g1_c.proofs.Values.{Z, closed_good}
+use Rattle.g1_c.proofs.CoreValues.{R, handle_out}
 use Rattle.g1_c.specs.contracts.handle.Handle.into_raw_box.{ended, clauses}
 use Rattle.g1_c.specs.contracts.handle.Handle.into_raw_box.Key.{name as #self}
 use Rattle.g1_c.proofs.handle.Handle.into_raw_box.Statement.{statement}
@@ -40,7 +38,7 @@ use Rattle.g1_c.proofs.handle.Handle.into_raw_box.Code as code
 
 pub into_raw_box_spec : {M : Type 1} → statement M
 into_raw_box_spec 𝓤 𝓛 𝓜 𝓡 wired =
-    let H = 𝓛.H in let R : RattleType = core.the_row in let LZ = laws.the_row_laws in let En = ended in let c = clauses 𝓛 𝓜.mem 𝓡.returns in let fn : Fn = code.function in
+    let H = 𝓛.H in let LZ = laws.the_row_laws in let En = ended in let c = clauses 𝓛 𝓜.mem 𝓡.returns in let fn : Fn = code.function in
     let C = (tables 𝓤 H 𝓜 𝓡 𝓡.env).C in let Λ = (tables 𝓤 H 𝓜 𝓡 𝓡.env).Λ in let L : RattleType = RawBox R Z LZ ghosts in
     let hs : Stays En.signature.params En.kept = (stay_dropped (plain (λ _. handle.the_row)) En.kept.0, tt) in
     proved_at 𝓛 En hs c 𝓜 𝓡 (Goes-blank 𝓛 0 (plain (λ _. handle.the_row)) En.kept.0 (λ κs x f. tt), tt) #self fn (code.unfolded 𝓤 H 𝓜 𝓡 wired) (λ z are.

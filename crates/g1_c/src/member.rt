@@ -1,0 +1,40 @@
+//! Who takes part in a race: a racer or a sweeper, each with its share of the race.
+ghost use Rattle.std.specs.Prelude.{◌≡◌};
+ghost use Rattle.std.specs.Arc.{arc_value};
+ghost use Rattle.g1_race.specs.Members.{race_id, racer_race, sweeper_race};
+
+use g1_race::{Race, Racer, Sweeper};
+use std::alloc::Global;
+use std::sync::Arc;
+
+/// A racer and its race.
+#[derive(Drop)]
+pub struct Racing {
+    pub(crate) race: Arc<Race, Global>,
+    pub(crate) racer: Racer,
+    ghost same: { racer_race racer ≡ race_id (arc_value race) },
+}
+
+/// A sweeper and its race.
+#[derive(Drop)]
+pub struct Sweeping {
+    pub(crate) race: Arc<Race, Global>,
+    pub(crate) sweeper: Sweeper,
+    ghost same: { sweeper_race sweeper ≡ race_id (arc_value race) },
+}
+
+/// A member of a race.
+#[derive(Drop)]
+pub enum Member {
+    /// It stores.
+    Racer(Racing),
+    /// It refines.
+    Sweeper(Sweeping),
+}
+
+fn sent<T: Send>(_value: &T) {}
+
+/// The check shows that a member may go to another thread.
+pub fn is_member_sent(member: &Member) {
+    sent(member);
+}

@@ -1,0 +1,207 @@
+// Racing mutators and refinement threads, with pauses between races: `race [STORES [CYCLES]]`.
+//
+// Each cycle is a race and a pause. In a race every mutator stores with no lock, and hands full logs on in an array that a lock protects;
+// where there is no room it lets the log go, whose cards stay dirty. Refinement threads take logs from there. At the pause the race becomes a
+// core, the remembered set of each region is compared with a scan of all slots, one region is redirected into another, and the core becomes
+// a race again.
+#define _POSIX_C_SOURCE 200809L
+#include "g1.h"
+
+#include <pthread.h>
+#include <stdio.h>
+#include <stdlib.h>
+#include <string.h>
+
+enum {
+    REGIONS = 64,
+    CARDS = 16,
+    SLOTS = 8,
+    ALL_CARDS = REGIONS * CARDS,
+    ALL_SLOTS = ALL_CARDS * SLOTS,
+    RACERS = 8,
+    SWEEPERS = 4,
+    LOGS = 16
+};
+
+struct log {
+    uint32_t cards[G1_LOG];
+    uint32_t count;
+};
+
+// A member of a race in a thread: its handle stands here only while the thread does not run.
+struct seat {
+    struct g1_member member;
+    uint64_t state;
+    unsigned wrong;
+};
+
+static pthread_mutex_t lock = PTHREAD_MUTEX_INITIALIZER;
+
+// These are the lock's.
+static struct log logs[LOGS];
+static unsigned taken, put, dropped;
+static int over;
+
+static long stores = 20000;
+
+static uint32_t below(uint64_t *state, uint32_t most) {
+    *state ^= *state << 13;
+    *state ^= *state >> 7;
+    *state ^= *state << 17;
+    return (uint32_t)((*state >> 33) % most);
+}
+
+// Hands the log of a racer on.
+static void hand_on(struct g1_member *member, unsigned *wrong) {
+    struct log log;
+    *wrong += g1_race_take_log(member, log.cards, G1_LOG, &log.count) != G1_DONE;
+    pthread_mutex_lock(&lock);
+    if (put - taken < LOGS) {
+        logs[put++ % LOGS] = log;
+    } else {
+        dropped++;
+    }
+    pthread_mutex_unlock(&lock);
+}
+
+static void *mutate(void *place) {
+    struct seat *seat = place;
+    struct g1_member member = seat->member;
+    uint64_t state = seat->state;
+    unsigned wrong = 0;
+    for (long i = 0; i < stores; i++) {
+        uint32_t slot = below(&state, ALL_SLOTS);
+        uint32_t target = below(&state, 8) == 0 ? G1_NULL : below(&state, ALL_SLOTS);
+        uint32_t kind = g1_race_store(&member, slot, target);
+        if (kind == G1_LOG_FULL) {
+            hand_on(&member, &wrong);
+            kind = g1_race_store(&member, slot, target);
+        }
+        wrong += kind > G1_STORED_LOGGED;
+    }
+    hand_on(&member, &wrong);
+    seat->member = member;
+    seat->state = state;
+    seat->wrong += wrong;
+    return NULL;
+}
+
+static void *refine_logs(void *place) {
+    struct seat *seat = place;
+    struct g1_member member = seat->member;
+    struct log log;
+    for (int goes_on = 1; goes_on;) {
+        pthread_mutex_lock(&lock);
+        int found = taken != put;
+        if (found) {
+            log = logs[taken++ % LOGS];
+        }
+        goes_on = found || !over;
+        pthread_mutex_unlock(&lock);
+        for (uint32_t i = 0; found && i < log.count; i++) {
+            seat->wrong += g1_race_refine(&member, log.cards[i]) != G1_DONE;
+        }
+    }
+    seat->member = member;
+    return NULL;
+}
+
+// Runs a race of these racers and sweepers to its end.
+static void run(struct seat *racers, struct seat *sweepers) {
+    pthread_t threads[RACERS + SWEEPERS];
+    over = 0;
+    for (int i = 0; i < SWEEPERS; i++) {
+        pthread_create(&threads[RACERS + i], NULL, refine_logs, &sweepers[i]);
+    }
+    for (int i = 0; i < RACERS; i++) {
+        pthread_create(&threads[i], NULL, mutate, &racers[i]);
+    }
+    for (int i = 0; i < RACERS; i++) {
+        pthread_join(threads[i], NULL);
+    }
+    pthread_mutex_lock(&lock);
+    over = 1;
+    pthread_mutex_unlock(&lock);
+    for (int i = 0; i < SWEEPERS; i++) {
+        pthread_join(threads[RACERS + i], NULL);
+    }
+}
+
+static uint32_t region_of(uint32_t slot) {
+    return slot / (CARDS * SLOTS);
+}
+
+// How many slots outside the region refer into it from cards that were not answered.
+static unsigned missed_in(struct g1 *heap, uint32_t region, const uint32_t *cards, uint32_t count) {
+    static unsigned char is_member[ALL_CARDS];
+    unsigned missed = 0;
+    memset(is_member, 0, sizeof is_member);
+    for (uint32_t i = 0; i < count; i++) {
+        is_member[cards[i]] = 1;
+        missed += region_of(cards[i] * SLOTS) == region || (i > 0 && cards[i] <= cards[i - 1]);
+    }
+    for (uint32_t slot = 0; slot < ALL_SLOTS; slot++) {
+        uint32_t target;
+        missed += g1_target(heap, slot, &target) != G1_DONE;
+        missed += target != G1_NULL && region_of(target) == region && region_of(slot) != region && !is_member[slot / SLOTS];
+    }
+    return missed;
+}
+
+// A pause: drains each region, compares it with a scan, and moves what refers into one region. Counts what is wrong.
+static unsigned pause_at(struct g1 *heap, uint32_t from, unsigned *members) {
+    static uint32_t cards[ALL_CARDS], refined[ALL_CARDS];
+    uint32_t count, refined_count, moved, to = (from + 1) % REGIONS;
+    unsigned wrong = 0;
+    for (uint32_t region = 0; region < REGIONS; region++) {
+        wrong += g1_drain(heap, region, cards, ALL_CARDS, &count, refined, ALL_CARDS, &refined_count) != G1_DONE;
+        wrong += missed_in(heap, region, cards, count);
+        *members += count;
+    }
+    wrong += g1_redirect(heap, from, to, &moved, refined, ALL_CARDS, &refined_count) != G1_DONE;
+    wrong += g1_drain(heap, from, cards, ALL_CARDS, &count, refined, ALL_CARDS, &refined_count) != G1_DONE || count != 0;
+    return wrong;
+}
+
+int main(int number, char **words) {
+    static struct seat racers[RACERS], sweepers[SWEEPERS];
+    struct g1_member racing[RACERS] = {{0}}, sweeping[SWEEPERS] = {{0}};
+    struct g1_counts counts = {REGIONS, CARDS, SLOTS};
+    struct g1_over left = {0};
+    struct g1 heap = {0};
+    unsigned wrong = 0, members = 0;
+    stores = number > 1 ? atol(words[1]) : stores;
+    unsigned cycles = number > 2 ? (unsigned)atol(words[2]) : 10;
+    wrong += g1_race_open(&counts, racing, RACERS, sweeping, SWEEPERS) != G1_DONE;
+    for (unsigned cycle = 0; cycle < cycles; cycle++) {
+        for (unsigned i = 0; i < RACERS; i++) {
+            racers[i].member = racing[i];
+            racers[i].state = 88172645463325252u + (cycle * RACERS + i) * 1000003u;
+        }
+        for (unsigned i = 0; i < SWEEPERS; i++) {
+            sweepers[i].member = sweeping[i];
+        }
+        run(racers, sweepers);
+        for (unsigned i = 0; i < RACERS; i++) {
+            racing[i] = racers[i].member;
+        }
+        for (unsigned i = 0; i < SWEEPERS; i++) {
+            sweeping[i] = sweepers[i].member;
+        }
+        wrong += g1_race_close(racing, RACERS, sweeping, SWEEPERS, &left) != G1_DONE;
+        wrong += g1_race_core(&left, &heap, 4, 64) != G1_DONE;
+        wrong += pause_at(&heap, cycle % REGIONS, &members);
+        wrong += g1_race_resume(&heap, racing, RACERS, sweeping, SWEEPERS) != G1_DONE;
+    }
+    for (unsigned i = 0; i < RACERS; i++) {
+        wrong += racers[i].wrong + (g1_member_close(&racing[i]) != G1_DONE);
+    }
+    for (unsigned i = 0; i < SWEEPERS; i++) {
+        wrong += sweepers[i].wrong + (g1_member_close(&sweeping[i]) != G1_DONE);
+    }
+    printf("%u cycles of %d threads of %ld stores, %u logs handed on and %u let go: %u members, %u wrong\n", cycles, RACERS, stores, put, dropped,
+           members, wrong);
+    int holds = wrong == 0 && members > 0;
+    printf("%d passed, %d failed\n", holds, !holds);
+    return !holds;
+}

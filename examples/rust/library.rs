@@ -1,0 +1,96 @@
+//! The calls of `include/g1.h`, as they are.
+use crate::{Counts, Totals};
+use std::ffi::c_void;
+
+#[repr(C)]
+#[derive(Default)]
+pub struct Tally {
+    pub refined: u32,
+    pub hot: u32,
+    pub skipped: u32,
+}
+
+#[repr(C)]
+pub struct Handle {
+    pub core: *mut c_void,
+}
+
+#[repr(C)]
+#[derive(Clone, Copy)]
+pub struct Member {
+    pub member: *mut c_void,
+}
+
+#[repr(C)]
+pub struct Over {
+    pub race: *mut c_void,
+}
+
+extern "C" {
+    pub fn g1_open(handle: *mut Handle, counts: *const Counts, hot: u32, ring: u32) -> u32;
+    pub fn g1_close(handle: *mut Handle) -> u32;
+    pub fn g1_store(handle: *mut Handle, slot: u32, target: u32) -> u32;
+    pub fn g1_refine(
+        handle: *mut Handle,
+        cards: *const u32,
+        cards_length: usize,
+        refined: *mut u32,
+        refined_length: usize,
+        tally: *mut Tally,
+    ) -> u32;
+    pub fn g1_drain(
+        handle: *mut Handle,
+        region: u32,
+        cards: *mut u32,
+        cards_length: usize,
+        count: *mut u32,
+        refined: *mut u32,
+        refined_length: usize,
+        refined_count: *mut u32,
+    ) -> u32;
+    pub fn g1_target(handle: *mut Handle, slot: u32, target: *mut u32) -> u32;
+    pub fn g1_is_pending(handle: *mut Handle, card: u32) -> u32;
+    pub fn g1_status(handle: *mut Handle, totals: *mut Totals) -> u32;
+    pub fn g1_members(handle: *mut Handle, region: u32, cards: *mut u32, cards_length: usize, count: *mut u32) -> u32;
+    pub fn g1_clear(handle: *mut Handle, region: u32, detail: *mut u32) -> u32;
+    pub fn g1_redirect(
+        handle: *mut Handle,
+        from: u32,
+        to: u32,
+        moved: *mut u32,
+        refined: *mut u32,
+        refined_length: usize,
+        refined_count: *mut u32,
+    ) -> u32;
+    pub fn g1_race_open(
+        counts: *const Counts,
+        racers: *mut Member,
+        racers_length: usize,
+        sweepers: *mut Member,
+        sweepers_length: usize,
+    ) -> u32;
+    pub fn g1_race_store(member: *mut Member, slot: u32, target: u32) -> u32;
+    pub fn g1_race_take_log(member: *mut Member, cards: *mut u32, cards_length: usize, count: *mut u32) -> u32;
+    pub fn g1_race_refine(member: *mut Member, card: u32) -> u32;
+    pub fn g1_race_close(
+        racers: *mut Member,
+        racers_length: usize,
+        sweepers: *mut Member,
+        sweepers_length: usize,
+        over: *mut Over,
+    ) -> u32;
+    pub fn g1_race_core(over: *mut Over, handle: *mut Handle, hot: u32, ring: u32) -> u32;
+    pub fn g1_race_resume(
+        handle: *mut Handle,
+        racers: *mut Member,
+        racers_length: usize,
+        sweepers: *mut Member,
+        sweepers_length: usize,
+    ) -> u32;
+    pub fn g1_member_close(member: *mut Member) -> u32;
+    pub fn g1_over_close(over: *mut Over) -> u32;
+}
+
+pub const NULL: u32 = u32::MAX;
+pub const DONE: u32 = 0;
+pub const SHORT: u32 = 1;

@@ -1,0 +1,117 @@
+//! Numbers of one heap.
+use crate::library::NULL;
+use crate::Refusal;
+use std::sync::atomic::{AtomicU64, Ordering};
+
+/// How many regions, cards a region and slots a card a heap has.
+#[repr(C)]
+#[derive(Clone, Copy, Debug, PartialEq, Eq)]
+pub struct Counts {
+    pub regions: u32,
+    pub cards: u32,
+    pub slots: u32,
+}
+
+/// Which heap a number belongs to.
+#[derive(Clone, Copy, Debug, PartialEq, Eq, PartialOrd, Ord, Hash)]
+pub struct Home(u64);
+
+impl Home {
+    /// That of a heap which no number belongs to yet.
+    pub fn new() -> Home {
+        static HEAPS: AtomicU64 = AtomicU64::new(0);
+        Home(HEAPS.fetch_add(1, Ordering::Relaxed))
+    }
+}
+
+macro_rules! number {
+    ($(#[$doc:meta])* $name:ident) => {
+        $(#[$doc])*
+        #[derive(Clone, Copy, Debug, PartialEq, Eq, PartialOrd, Ord, Hash)]
+        pub struct $name {
+            pub(crate) number: u32,
+            pub(crate) home: Home,
+        }
+
+        impl $name {
+            pub fn number(self) -> u32 {
+                self.number
+            }
+        }
+    };
+}
+
+number!(
+    /// A slot of one heap, and the place that a reference to it means.
+    Slot
+);
+number!(
+    /// A card of one heap.
+    Card
+);
+number!(
+    /// A region of one heap.
+    Region
+);
+
+/// The numbers that a heap has.
+#[derive(Clone, Copy, Debug)]
+pub(crate) struct Numbers {
+    pub counts: Counts,
+    pub home: Home,
+}
+
+impl Numbers {
+    pub fn all_cards(&self) -> u32 {
+        self.counts.regions * self.counts.cards
+    }
+
+    pub fn slot(&self, number: u32) -> Option<Slot> {
+        let home = self.home;
+        (number < self.all_cards() * self.counts.slots).then_some(Slot { number, home })
+    }
+
+    pub fn card(&self, number: u32) -> Option<Card> {
+        let home = self.home;
+        (number < self.all_cards()).then_some(Card { number, home })
+    }
+
+    pub fn region(&self, number: u32) -> Option<Region> {
+        let home = self.home;
+        (number < self.counts.regions).then_some(Region { number, home })
+    }
+
+    /// The card of a slot of this heap.
+    pub fn card_of(&self, slot: Slot) -> Card {
+        Card {
+            number: slot.number / self.counts.slots,
+            home: self.home,
+        }
+    }
+
+    /// The cards that a call wrote to the front of an array.
+    pub fn cards_of(&self, numbers: &[u32], count: u32) -> Vec<Card> {
+        let home = self.home;
+        let written = numbers.iter().take(count as usize);
+        written.map(|&number| Card { number, home }).collect()
+    }
+
+    /// Refuses a number of another heap.
+    pub fn has(&self, home: Home) -> Result<(), Refusal> {
+        if home == self.home {
+            Ok(())
+        } else {
+            Err(Refusal::OtherHeap)
+        }
+    }
+
+    /// The words of a store.
+    pub fn words_of(&self, slot: Slot, target: Option<Slot>) -> Result<(u32, u32), Refusal> {
+        self.has(slot.home)?;
+        let Some(target) = target else {
+            return Ok((slot.number, NULL));
+        };
+        self.has(target.home)?;
+        Ok((slot.number, target.number))
+    }
+}
