@@ -32,24 +32,25 @@ impl Racer {
         ensures log { self.new.log.items ≡ (if is_logged result then self.old.log.items ++ card_of (race_shape race.now) slot ∷ [] else self.old.log.items) }
     {
         let words = &race.table.shared;
-        let shape = race.shape;
+        let layout = race.layout;
         let place = slot.number() as usize;
         let word = word_of(target);
         words.store::<Writes>(&mut self.seat, place, word);
         let Some(target) = &target else {
             return Kind::Null;
         };
-        if place / shape.span == target.number() as usize / shape.span {
+        if layout.region_of(slot).number() == layout.region_of(*target).number() {
             return Kind::SameRegion;
         }
-        let mark = shape.slots + place / shape.size;
+        let card = layout.card_of(slot);
+        let mark = race.shape.slots + card.number() as usize;
         if words.load::<Looks>(&mut self.seat, mark) == 1 {
             return Kind::AlreadyDirty;
         }
         if words.swap::<Dirties>(&mut self.seat, mark, 1) != 0 {
             return Kind::AlreadyDirty;
         }
-        self.log.push(race.layout.card_of(slot));
+        self.log.push(card);
         Kind::Logged
     }
 

@@ -1,4 +1,4 @@
-use Rattle.std.proofs.Common.{ℕ, ◌≡◌, ◌<◌, ◌≤◌, ◌+◌, IfSome, ap, sym, subst, ◌∙◌, arith}
+use Rattle.std.proofs.Common.{ℕ, Some, ◌≡◌, ◌≢◌, ◌<◌, ◌≤◌, ◌+◌, ◌*◌, ◌/◌, IfSome, ap, sym, subst, ◌∙◌, arith}
 use Rattle.g1_layout.specs.Shape.{slot_count}
 use Rattle.g1_race.specs.declared.view.Shape.{Shape}
 use Rattle.g1_race.specs.declared.view.View.{View}
@@ -27,13 +27,18 @@ load-requires c =
     let p = c.number-place.result in
     let slots : race.shape.slots ≡ slot_count race.layout = ap (λ (k : Shape). k.slots) race.laid in
     let lt : p < race.shape.slots = omega (arith, c.number-place.ensures, c.requires.slot, slots) in
-    let t = c.number.result in
-    let is : n ≡ t + 1 = c.word_of-word.ensures ∙ (ap word_of c.in-Some.is ∙ ap (λ (x : ℕ). x + 1) (sym c.number.ensures)) in
-    let below = card_below race.shape p race.shaped lt in
+    let t = c.in-Some.target in
+    let is : n ≡ t + 1 = c.word_of-word.ensures ∙ ap word_of c.in-Some.is in
+    let card = c.number-3.result in
+    let card_is : card_of race.shape p ≡ card = ap (λ (k : Shape). p / k.size) race.laid ∙ (ap (λ (x : ℕ). x / race.layout.slots) c.number-place.ensures ∙ (sym c.card_of-card.ensures.quotient ∙ sym c.number-3.ensures)) in
+    let from : p / race.shape.span ≡ c.number.result = ap (λ (k : Shape). p / k.span) race.laid ∙ (ap (λ (x : ℕ). x / (race.layout.cards * race.layout.slots)) c.number-place.ensures ∙ (sym c.region_of.ensures.quotient ∙ sym c.number.ensures)) in
+    let into : t / race.shape.span ≡ c.number-2.result = ap (λ (k : Shape). t / k.span) race.laid ∙ (sym c.region_of-2.ensures.quotient ∙ sym c.number-2.ensures) in
+    let apart : p / race.shape.span ≢ t / race.shape.span = λ e. c.if-number.false (sym from ∙ (e ∙ into)) in
+    let below : card < race.shape.cards = subst (λ (x : ℕ). x < race.shape.cards) card_is (card_below race.shape p race.shaped lt) in
     let u = ap (λ me. me.0) e.2 in (
       e.0 ∙ r.table,
       omega (arith, race.words_are, below),
-      look_owed race _ _ (card_of race.shape p) (sits_wrote race.shape v _ p n r.idle u) (ap (λ (w : View). w.owed) u ∙ owes_card race.shape v p n r.idle (other_region race.shape p t n is c.if-place-shape.false)) below,
+      look_owed race _ _ card (sits_wrote race.shape v _ p n r.idle u) (ap (λ (w : View). w.owed) u ∙ (owes_card race.shape v p n r.idle (other_region race.shape p t n is apart) ∙ ap Some card_is)) below,
     )
 
 pub swap-requires : goal.swap-requires
@@ -47,12 +52,17 @@ swap-requires c =
     let p = c.number-place.result in
     let slots : race.shape.slots ≡ slot_count race.layout = ap (λ (k : Shape). k.slots) race.laid in
     let lt : p < race.shape.slots = omega (arith, c.number-place.ensures, c.requires.slot, slots) in
-    let t = c.number.result in
-    let is : n ≡ t + 1 = c.word_of-word.ensures ∙ (ap word_of c.in-Some.is ∙ ap (λ (x : ℕ). x + 1) (sym c.number.ensures)) in
-    let below = card_below race.shape p race.shaped lt in
+    let t = c.in-Some.target in
+    let is : n ≡ t + 1 = c.word_of-word.ensures ∙ ap word_of c.in-Some.is in
+    let card = c.number-3.result in
+    let card_is : card_of race.shape p ≡ card = ap (λ (k : Shape). p / k.size) race.laid ∙ (ap (λ (x : ℕ). x / race.layout.slots) c.number-place.ensures ∙ (sym c.card_of-card.ensures.quotient ∙ sym c.number-3.ensures)) in
+    let from : p / race.shape.span ≡ c.number.result = ap (λ (k : Shape). p / k.span) race.laid ∙ (ap (λ (x : ℕ). x / (race.layout.cards * race.layout.slots)) c.number-place.ensures ∙ (sym c.region_of.ensures.quotient ∙ sym c.number.ensures)) in
+    let into : t / race.shape.span ≡ c.number-2.result = ap (λ (k : Shape). t / k.span) race.laid ∙ (sym c.region_of-2.ensures.quotient ∙ sym c.number-2.ensures) in
+    let apart : p / race.shape.span ≢ t / race.shape.span = λ e. c.if-number.false (sym from ∙ (e ∙ into)) in
+    let below : card < race.shape.cards = subst (λ (x : ℕ). x < race.shape.cards) card_is (card_below race.shape p race.shaped lt) in
     let u = ap (λ me. me.0) l.2 ∙ ap (λ me. looked me.0 c.load.result) e.2 in (
       l.0 ∙ (e.0 ∙ r.table),
       omega (arith, race.words_are, below),
-      dirty_owed race _ _ (card_of race.shape p) (sits_looked race.shape v _ p n c.load.result r.idle u)
-          (ap (λ (w : View). w.owed) u ∙ still_owes race.shape v p n c.load.result r.idle (other_region race.shape p t n is c.if-place-shape.false) c.if-load-eq1.false) below,
+      dirty_owed race _ _ card (sits_looked race.shape v _ p n c.load.result r.idle u)
+          (ap (λ (w : View). w.owed) u ∙ (still_owes race.shape v p n c.load.result r.idle (other_region race.shape p t n is apart) c.if-load-eq1.false ∙ ap Some card_is)) below,
     )
