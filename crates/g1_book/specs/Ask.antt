@@ -26,7 +26,7 @@ is_store_ask (AskStore slot target) = true
 is_store_ask AskFlush = false
 is_store_ask AskWork = false
 
--- A step that a desk takes: of so many slots, and whose caller may store or not.
+-- A step that a desk takes, where the heap has `slots` slots and `may` is whether its caller may store.
 abbrev pub StepFits : ℕ → Bool → Step → Type 0
 StepFits slots may (Store slot target) = (may ≡ true) × (slot < slots) × IfSome target (λ place. place < slots)
 StepFits slots may Flush = may ≡ true

@@ -93,13 +93,13 @@ FlushesAt c No refined short d = (d.counts ≡ c.counts) × (put_list d ≡ put_
 FlushesAt c Full refined short d = (d.counts ≡ c.counts) × (put_list d ≡ put_list c ++ (log_of c).cards ∷ []) × (refined ≡ []) × (short ≡ false)
 FlushesAt c Helped refined short d = IsHelped c.counts.made refined short d.counts.made × (put_list d ≡ put_list c)
 
--- The list has grown by parcels, at least so many.
+-- The list has grown by parcels, `least` of them or more.
 pub record GainsAtLeast (old : List Parcel) (least : ℕ) (new : List Parcel) : Type 0 where
   pub parcels : List Parcel
   pub gained : new ≡ old ++ parcels
   pub many : least ≤ length parcels
 
--- A caller at a pause: its log is empty, and it has taken at most so many parcels.
+-- A caller at a pause: its log is empty, and it has taken at most `most` parcels.
 pub record IsPaused (most : ℕ) (c d : Standing) : Type 0 where
   pub mark : mark_of d ≡ mark_of c
   pub counts : d.counts ≡ c.counts
@@ -107,7 +107,7 @@ pub record IsPaused (most : ℕ) (c d : Standing) : Type 0 where
   pub put : put_list d ≡ put_list c
   pub taken : GainsAtMost (taken_list c) most (taken_list d)
 
--- Caller k as it begins, of so many mutators.
+-- Caller k as it begins, where the first `mutators` callers are mutators.
 pub record IsNewCaller (line : Line) (log mutators k : ℕ) (c : Standing) : Type 0 where
   pub counts : c.counts ≡ record { number = k; made = 0; stored = 0 }
   pub some : k < mutators → IsSome c.mutator

@@ -5,7 +5,7 @@ use Rattle.std.proofs.lemmas.List.Sums.{sum_by-append}
 use Rattle.g1_book.specs.Callers.{Standing, mark_of}
 use Rattle.g1_book.specs.Ask.{Ask, AskStore, AskFlush, AskWork, is_store_ask}
 
--- at most so many entries are made for a call, where the line holds so many buffers
+-- how many entries are made for a call at most, where the line holds at most `limit` buffers
 abbrev pub most_for : ℕ → Ask → ℕ
 most_for limit (AskStore slot target) = 2
 most_for limit AskFlush = 1

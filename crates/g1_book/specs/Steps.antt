@@ -43,7 +43,7 @@ store_answer first None = first
 store_answer first (Some (Ok reply)) = record { kind = first.kind; fill = Helped; refined = reply.refined; short = reply.short }
 store_answer first (Some (Err _)) = record { kind = first.kind; fill = Helped; refined = []; short = true }
 
--- the answer of a flush of so many cards
+-- the answer of a flush of `cards` cards
 abbrev pub flush_answer : ℕ → Help → FlushReply
 flush_answer cards help = record { cards = cards; fill = (passed help).fill; refined = (passed help).refined; short = (passed help).short }
 
@@ -106,7 +106,7 @@ pub record IsRefinement {S : Type 0} (did : S → List Made → S → Type 0) (o
   pub take : IsTake before parcel after
   pub made : did old (Refined (buffer_in parcel) (called reply) ∷ []) new
 
--- A taker's list gains at most so many parcels.
+-- A taker's list gains at most `most` parcels.
 pub record GainsAtMost (old : List Parcel) (most : ℕ) (new : List Parcel) : Type 0 where
   pub parcels : List Parcel
   pub gained : new ≡ old ++ parcels

@@ -10,6 +10,9 @@ use Rattle.std.proofs.lemmas.Map.Lookups.{exact_unsigned}
 use Rattle.g1_layout.specs.declared.kind.Kind.{Kind}
 use Rattle.g1_layout.specs.declared.kind.Kind.TheVariants.{AlreadyDirty, Logged}
 use Rattle.g1_layout.specs.Sets.{CardSet, set_of}
+use Rattle.g1_core.specs.declared.entry.Entry.{Entry}
+use Rattle.g1_core.specs.declared.entry.Call.TheVariants.{Redirect}
+use Rattle.g1_core.specs.declared.entry.Reply.TheVariants as reply
 use Rattle.g1_core.specs.Table.{Table, AreMembers, AreRefinable, IsPending, IsRecorded, refined}
 use Rattle.g1_core.specs.Calls.{members_entry}
 use Rattle.g1_core.specs.Run.{IsAllowed, drained, kind_of, pending_after, stored, table_of}
@@ -89,4 +92,37 @@ drain_lists_no_card_too_few h =
 
 pub drain_refines_all_that_waits : IsAllowed after (drained 0 1 [] []) → ⊥
 drain_refines_all_that_waits h =
+    true≢false (sym waits ∙ ap (λ (t : Table). set.contains t.pending 0) (sym (refined_none after)) ∙ ap (λ (s : CardSet). set.contains s 0) h.answers.0 ∙ nobody 0)
+
+-- once that drain was made, card 0 is recorded for region 1
+abbrev paused : Table
+paused = table_of heap (first ∷ drained 0 1 (0 ∷ []) (0 ∷ []) ∷ [])
+
+pub members_lists_the_recorded_card : IsAllowed paused (members_entry 0 1 (0 ∷ []))
+members_lists_the_recorded_card = record { numbers = omega arith; refines = none_refinable _; answers = (refl, one_member) }
+
+pub members_lists_no_card_too_many : IsAllowed paused (members_entry 0 1 (0 ∷ 5 ∷ [])) → ⊥
+members_lists_no_card_too_many h =
+    let c : Contains (0 ∷ []) 5 = one_member.all 5 (h.answers.1.recorded 5 (1, omega arith, refl)) in
+    let five : 5 ≡ 0 = one_of 5 0 c in absurd (omega (arith, five))
+
+pub members_lists_no_card_too_few : IsAllowed paused (members_entry 0 1 []) → ⊥
+members_lists_no_card_too_few h =
+    let c : Contains [] 0 = h.answers.1.all 0 (one_member.recorded 0 (itself 0 0 refl)) in absurd (omega (arith, c.1))
+
+-- a redirect from region 1 to region 2, after the first store
+abbrev redirects : ℕ → List ℕ → Entry
+redirects slots cards = record { caller = 0; call = Redirect 1 2; reply = reply.Moved slots; refined = cards }
+
+pub redirect_moves_the_slot_that_refers : IsAllowed after (redirects 1 (0 ∷ []))
+redirect_moves_the_slot_that_refers = record { numbers = (omega arith, omega arith, λ e. absurd (omega (arith, e))); refines = refinable; answers = (nothing_waits, refl) }
+
+pub redirect_counts_no_slot_too_many : IsAllowed after (redirects 2 (0 ∷ [])) → ⊥
+redirect_counts_no_slot_too_many h = let no : 2 ≡ 1 = h.answers.1 in absurd (omega arith)
+
+pub redirect_counts_no_slot_too_few : IsAllowed after (redirects 0 (0 ∷ [])) → ⊥
+redirect_counts_no_slot_too_few h = let no : 0 ≡ 1 = h.answers.1 in absurd (omega arith)
+
+pub redirect_refines_all_that_waits : IsAllowed after (redirects 1 []) → ⊥
+redirect_refines_all_that_waits h =
     true≢false (sym waits ∙ ap (λ (t : Table). set.contains t.pending 0) (sym (refined_none after)) ∙ ap (λ (s : CardSet). set.contains s 0) h.answers.0 ∙ nobody 0)

@@ -20,7 +20,7 @@ lesser_of None b = b
 lesser_of (Some x) None = Some x
 lesser_of (Some x) (Some y) = Some (min x y)
 
--- At most so many slots were read, and nothing else of the heap has changed.
+-- At most `most` slots were read, and nothing else of the heap has changed.
 pub record AreRead (old new : Cells) (most : ℕ) : Type 0 where
   pub cells : new ≡ record { layout = old.layout; refs = old.refs; marks = old.marks; reads = new.reads }
   pub grown : old.reads ≤ new.reads

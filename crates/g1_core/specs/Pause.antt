@@ -29,7 +29,7 @@ pub record IsDrainOrder (s : State) (cards left : List ℕ) : Type 0 where
   pub below : AreDirtyBelow s bound dirty
   pub turn : (left ≡ []) ⊎ (dirty ≡ [])
 
--- These cards were refined, without counting; so many cards were read.
+-- These cards were refined, without counting, and `tried` cards were read.
 pub record Drains (old : Machine) (cards : List ℕ) (tried : ℕ) (new : Machine) : Type 0 where
   pub refines : AreRefinable old.state.table cards
   pub table : new.state.table ≡ refined cards old.state.table

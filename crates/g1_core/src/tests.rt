@@ -18,7 +18,7 @@ use crate::machinery::Core;
 use crate::reply::{ClearReply, Drained, Fill, Redirected, Status};
 use g1_layout::{Kind, Layout, NoMemory};
 use g1_log::Log;
-use numbers::{buffer, card, has_cards, has_front, has_rest, region, seen, slot};
+use numbers::{buffer, card, has_cards, has_front, has_rest, numbers_of, region, seen, slot};
 use std::alloc::Global;
 use std::process::Abort;
 use std::test::Fail;
@@ -108,10 +108,21 @@ fn store(
         Some(place) => Some(slot(rt, core, place)),
         None => None,
     };
+    let mut wanted = numbers_of(rt, log.cards());
     let (reply, buffer) = core.store(log, from, to);
     assert!(rt; reply.refined.is_empty() && !reply.short);
     assert_eq!(rt; buffer.is_some(), reply.fill == Fill::Full);
     assert_eq!(rt; (reply.kind, reply.fill), answer);
+    // card `c` has the slots from `4 * c` on
+    if reply.kind == Kind::Logged {
+        wanted.try_push(from.number() / 4).expect(rt, "room");
+    }
+    let logged = match &buffer {
+        Some(buffer) => numbers_of(rt, buffer.cards()),
+        None => numbers_of(rt, log.cards()),
+    };
+    assert!(rt; logged.as_slice() == wanted.as_slice());
+    assert_eq!(rt; log.is_empty(), buffer.is_some() || wanted.is_empty());
 }
 
 fn target(rt: &impl Abort, core: &mut Core, of: u32) -> Option<u32> {

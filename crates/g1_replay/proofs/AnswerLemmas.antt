@@ -1,18 +1,21 @@
 -- The calls of a command, and the line of what they answer.
-use Rattle.std.proofs.Common.{ℕ, List, [], ◌∷◌, ◌++◌, ◌+◌, ◌-◌, Option, Some, None, true, false, ◌≡◌, ◌∙◌, refl, subst, sym, ap, length, map, arith}
-use Rattle.std.specs.Prelude.{Bool, Result, Ok, Err, IsSome, get_or}
+use Rattle.std.proofs.Common.{ℕ, List, [], ◌∷◌, ◌++◌, ◌+◌, ◌-◌, Option, Some, None, true, false, ◌≡◌, ◌≢◌, ◌⊎◌, inl, inr, ◌∙◌, refl, subst, sym, ap, length, map, arith}
+use Rattle.std.specs.Prelude.{Bool, Result, Ok, Err, IsSome, All, get_or}
+use Rattle.std.proofs.lemmas.List.Elements.{All-nil, All-cons}
 use Rattle.std.specs.List.{slice_get}
 use Rattle.std.proofs.Math.Seq.{get_or-append_seam}
 use Rattle.std.proofs.lemmas.List.{length-append}
 use Rattle.std.proofs.lemmas.Option.{get_or_from_slice_get}
 use Rattle.std.specs.Io.KnownBytes.{Appends}
 use Rattle.std.proofs.KnownBytes.{Appends-nil}
-use Rattle.g1_core.specs.declared.reply.Fill.TheVariants.{Full}
+use Rattle.g1_core.specs.declared.reply.Fill.TheVariants.{Full, Helped}
 use Rattle.g1_core.specs.declared.reply.StoreReply.{StoreReply}
 use Rattle.g1_core.specs.declared.reply.RefineReply.{RefineReply}
 use Rattle.g1_core.specs.declared.entry.Call.{Call}
 use Rattle.g1_core.specs.declared.entry.Entry.{Entry}
 use Rattle.g1_core.specs.Calls.{store_entry, refine_entry}
+use Rattle.g1_core.specs.Machine.{State}
+use Rattle.g1_core.specs.Refinement.{IsRefined}
 use Rattle.g1_log.specs.declared.parcel.Parcel.{Parcel}
 use Rattle.g1_book.specs.declared.steps.mutator.FlushReply.{FlushReply}
 use Rattle.g1_book.specs.declared.refusal.Refusal.{Refusal}
@@ -20,8 +23,8 @@ use Rattle.g1_book.specs.declared.refusal.Refusal.TheVariants.{NoMemory, BookFul
 use Rattle.g1_book.specs.History.{History, IsEntered}
 use Rattle.g1_book.specs.Made.{Made, Stored, Refined, AreCalls, entries_of as calls_entries}
 use Rattle.g1_book.specs.Lent.{Grows, IsBookCall}
-use Rattle.g1_book.specs.Steps.{Help, help_calls, store_answer, flush_answer, nothing_flushed, filled, called}
-use Rattle.g1_book.specs.Rounds.{IsRound, round_calls, replies_of}
+use Rattle.g1_book.specs.Steps.{Help, IsStored, help_calls, store_answer, flush_answer, nothing_flushed, filled, called}
+use Rattle.g1_book.specs.Rounds.{IsRound, Turn, round_calls, replies_of}
 use Rattle.g1_book.proofs.StepLemmas.{grows_none, grows_entered, calls_grow, round_entries}
 use Rattle.g1_replay.specs.declared.command.Command.{Command}
 use Rattle.g1_replay.specs.declared.command.Command.TheVariants as command
@@ -32,34 +35,60 @@ use Rattle.g1_replay.specs.Laws.{played_one}
 use Rattle.g1_replay.specs.Playing.{HasPlayed, IsCalled, IsRefused, IsFull, Does}
 use Rattle.g1_replay.specs.Stops.{stop_of}
 use Rattle.g1_replay.specs.Text.{store_text, flush_text, refine_text, work_text, call_line}
-use Rattle.g1_replay.specs.Pieces.{Piece, plain_piece, IsCallBy, IsLineOf}
-use Rattle.g1_replay.proofs.PieceLemmas.{store_says, store_helped_says, store_refused_says, flush_none_says, flush_says, flush_helped_says, flush_refused_says, refine_says, work_says}
+use Rattle.g1_replay.specs.Pieces.{Piece, plain_piece, IsCallBy, IsOfBuffer, IsOfNone, IsLineOf}
+use Rattle.g1_replay.proofs.PieceLemmas.{Takes, store_says, store_helped_says, store_refused_says, flush_none_says, flush_says, flush_helped_says, flush_refused_says, refine_says, work_says}
 
 -- some calls of the command, with a line
 abbrev pub Says : History → History → Command → List ℕ → Type 0
 Says old new c text = (p : Piece) × Grows old p.entries new × IsLineOf c p text
 
--- a store whose own answer was the first
-store_calls : (old new : History) (m slot : ℕ) (target : Option ℕ) (cards : List ℕ) (first : StoreReply) (help : Help) → Grows old (store_entry m slot target first ∷ calls_entries m (help_calls cards help)) new → (IsSome help → first ≡ filled)
-    → Says old new (command.Store m slot target) (store_text (store_answer first help))
-store_calls old new m slot target cards first None g full = (plain_piece (store_entry m slot target first ∷ []), g, store_says m slot target first)
-store_calls old new m slot target cards first (Some (Ok reply)) g full =
-    subst (λ (r : StoreReply). Says old new (command.Store m slot target) (store_text (store_answer r (Some (Ok reply))))) (sym (full refl))
-    (plain_piece (store_entry m slot target filled ∷ refine_entry m reply ∷ []), subst (λ (r : StoreReply). Grows old (store_entry m slot target r ∷ refine_entry m reply ∷ []) new) (full refl) g, store_helped_says m slot target reply)
-store_calls old new m slot target cards first (Some (Err e)) g full =
-    subst (λ (r : StoreReply). Says old new (command.Store m slot target) (store_text (store_answer r (Some (Err e))))) (sym (full refl))
-    (record { entries = store_entry m slot target filled ∷ []; shown = record { cards = 0; left = 0; refused = true } }, subst (λ (r : StoreReply). Grows old (store_entry m slot target r ∷ []) new) (full refl) g, store_refused_says m slot target)
+-- a help takes the buffer that it refines, unless it is short
+abbrev HelpTakes : Help → Type 0
+HelpTakes None = Unit {0}
+HelpTakes (Some (Ok reply)) = Takes reply
+HelpTakes (Some (Err e)) = Unit {0}
 
-pub store_made : (old new : History) (m slot : ℕ) (target : Option ℕ) (cards : List ℕ) (reply first : StoreReply) (help : Help) → AreCalls (IsBookCall m) old (Stored slot target first ∷ help_calls cards help) new → reply ≡ store_answer first help
-    → (first.fill ≡ Full → first ≡ filled) → (IsSome help → first.fill ≡ Full) → Says old new (command.Store m slot target) (store_text reply)
-store_made old new m slot target cards reply first help h is full helps =
-    subst (λ (r : StoreReply). Says old new (command.Store m slot target) (store_text r)) (sym is) (store_calls old new m slot target cards first help (calls_grow m old new (Stored slot target first ∷ help_calls cards help) h) (λ some. full (helps some)))
+store_takes : (m : ℕ) (old new : History) (slot : ℕ) (target : Option ℕ) (first : StoreReply) (cards : List ℕ) (help : Help) → AreCalls (IsBookCall m) old (Stored slot target first ∷ help_calls cards help) new → HelpTakes help
+store_takes m old new slot target first cards None h = tt
+store_takes m old new slot target first cards (Some (Ok reply)) h = h.2.1.taken
+store_takes m old new slot target first cards (Some (Err e)) h = tt
+
+flush_takes : (m : ℕ) (old new : History) (cards : List ℕ) (help : Help) → AreCalls (IsBookCall m) old (help_calls cards help) new → HelpTakes help
+flush_takes m old new cards None h = tt
+flush_takes m old new cards (Some (Ok reply)) h = h.1.taken
+flush_takes m old new cards (Some (Err e)) h = tt
+
+turns_take : (m : ℕ) (old new : History) (turns : List Turn) (refused : Option Refusal) → AreCalls (IsBookCall m) old (round_calls turns refused) new → All Takes (replies_of turns)
+turns_take m old new [] refused h = All-nil Takes
+turns_take m old new (t ∷ []) None h = All-cons Takes t.reply [] h.1.taken (All-nil Takes)
+turns_take m old new (t ∷ []) (Some e) h = All-cons Takes t.reply [] h.1.1.taken (All-nil Takes)
+turns_take m old new (t ∷ u ∷ turns) None h = All-cons Takes t.reply (replies_of (u ∷ turns)) h.1.1.taken (turns_take m h.0 new (u ∷ turns) None h.2)
+turns_take m old new (t ∷ u ∷ turns) (Some e) h = All-cons Takes t.reply (replies_of (u ∷ turns)) h.1.1.taken (turns_take m h.0 new (u ∷ turns) (Some e) h.2)
+
+-- a store whose own answer was the first
+store_calls : (old new : History) (m slot : ℕ) (target : Option ℕ) (cards : List ℕ) (first : StoreReply) (help : Help) → Grows old (store_entry m slot target first ∷ calls_entries m (help_calls cards help)) new → HelpTakes help
+    → (first.refined ≡ []) × (first.short ≡ false) → first.fill ≢ Helped → (first.fill ≡ Full → first ≡ filled) → (IsSome help → first.fill ≡ Full) → Says old new (command.Store m slot target) (store_text (store_answer first help))
+store_calls old new m slot target cards first None g takes plain own full helps = (plain_piece (store_entry m slot target first ∷ []), g, store_says m slot target first plain own full)
+store_calls old new m slot target cards first (Some (Ok reply)) g takes plain own full helps =
+    let is = full (helps refl) in
+    subst (λ (r : StoreReply). Says old new (command.Store m slot target) (store_text (store_answer r (Some (Ok reply))))) (sym is)
+    (plain_piece (store_entry m slot target filled ∷ refine_entry m reply ∷ []), subst (λ (r : StoreReply). Grows old (store_entry m slot target r ∷ refine_entry m reply ∷ []) new) is g, store_helped_says m slot target reply takes)
+store_calls old new m slot target cards first (Some (Err e)) g takes plain own full helps =
+    let is = full (helps refl) in
+    subst (λ (r : StoreReply). Says old new (command.Store m slot target) (store_text (store_answer r (Some (Err e))))) (sym is)
+    (record { entries = store_entry m slot target filled ∷ []; shown = record { cards = 0; left = 0; refused = true } }, subst (λ (r : StoreReply). Grows old (store_entry m slot target r ∷ []) new) is g, store_refused_says m slot target)
+
+pub store_made : {S : Type 0} (did : S → List Made → S → Type 0) (s t : S) (old new : History) (m slot : ℕ) (target : Option ℕ) (cards : List ℕ) (reply : StoreReply) (h : IsStored did s slot target cards reply t)
+    → AreCalls (IsBookCall m) old (Stored slot target h.first ∷ help_calls cards h.help) new → Says old new (command.Store m slot target) (store_text reply)
+store_made did s t old new m slot target cards reply h made =
+    subst (λ (r : StoreReply). Says old new (command.Store m slot target) (store_text r)) (sym h.answer)
+    (store_calls old new m slot target cards h.first h.help (calls_grow m old new (Stored slot target h.first ∷ help_calls cards h.help) made) (store_takes m old new slot target h.first cards h.help made) h.plain h.own h.full h.helps)
 
 -- a flush of a log with cards
-flush_calls : (old new : History) (m n : ℕ) (cards : List ℕ) (help : Help) → Grows old (calls_entries m (help_calls cards help)) new → Says old new (command.Flush m) (flush_text (flush_answer n help))
-flush_calls old new m n cards None g = (record { entries = []; shown = record { cards = n; left = 0; refused = false } }, g, flush_says m n)
-flush_calls old new m n cards (Some (Ok reply)) g = (record { entries = refine_entry m reply ∷ []; shown = record { cards = n; left = 0; refused = false } }, g, flush_helped_says m n reply)
-flush_calls old new m n cards (Some (Err e)) g = (record { entries = []; shown = record { cards = n; left = 0; refused = true } }, g, flush_refused_says m n)
+flush_calls : (old new : History) (m n : ℕ) (cards : List ℕ) (help : Help) → Grows old (calls_entries m (help_calls cards help)) new → HelpTakes help → Says old new (command.Flush m) (flush_text (flush_answer n help))
+flush_calls old new m n cards None g takes = (record { entries = []; shown = record { cards = n; left = 0; refused = false } }, g, flush_says m n)
+flush_calls old new m n cards (Some (Ok reply)) g takes = (record { entries = refine_entry m reply ∷ []; shown = record { cards = n; left = 0; refused = false } }, g, flush_helped_says m n reply takes)
+flush_calls old new m n cards (Some (Err e)) g takes = (record { entries = []; shown = record { cards = n; left = 0; refused = true } }, g, flush_refused_says m n)
 
 pub flush_nothing : (old new : History) (m : ℕ) (reply : FlushReply) → reply ≡ nothing_flushed → new ≡ old → Says old new (command.Flush m) (flush_text reply)
 flush_nothing old new m reply is same =
@@ -68,17 +97,23 @@ flush_nothing old new m reply is same =
 
 pub flush_made : (old new : History) (m : ℕ) (cards : List ℕ) (reply : FlushReply) (help : Help) → AreCalls (IsBookCall m) old (help_calls cards help) new → reply ≡ flush_answer (length cards) help → Says old new (command.Flush m) (flush_text reply)
 flush_made old new m cards reply help h is =
-    subst (λ (r : FlushReply). Says old new (command.Flush m) (flush_text r)) (sym is) (flush_calls old new m (length cards) cards help (calls_grow m old new (help_calls cards help) h))
+    subst (λ (r : FlushReply). Says old new (command.Flush m) (flush_text r)) (sym is) (flush_calls old new m (length cards) cards help (calls_grow m old new (help_calls cards help) h) (flush_takes m old new cards help h))
+
+-- a refinement of what the line gave
+refine_finds : (old new : State) (buffer : Option (List ℕ)) (reply : RefineReply) → IsRefined old buffer reply new → IsOfBuffer (refine_entry 0 reply).reply ⊎ IsOfNone (refine_entry 0 reply).reply reply.refined
+refine_finds old new None reply h = inr (h.0.taken, h.0.hot, h.0.skipped, h.0.short, h.0.refined)
+refine_finds old new (Some cards) reply h = inl h.taken
 
 pub refine_made : (old new : History) (buffer : Option (List ℕ)) (reply : RefineReply) → AreCalls (IsBookCall 0) old (Refined buffer (called reply) ∷ []) new → Says old new command.Refine (refine_text reply)
-refine_made old new buffer reply h = (plain_piece (refine_entry 0 (called reply) ∷ []), calls_grow 0 old new (Refined buffer (called reply) ∷ []) h, refine_says reply 0)
+refine_made old new buffer reply h =
+    (plain_piece (refine_entry 0 (called reply) ∷ []), calls_grow 0 old new (Refined buffer (called reply) ∷ []) h, refine_says reply 0 (refine_finds old.machine.state new.machine.state buffer (called reply) h.1))
 
 pub work_made : {S : Type 0} (did : S → List Made → S → Type 0) (s : S) (before : List Parcel) (most : ℕ) (reply : RefineReply) (after : List Parcel) (t : S) (r : IsRound did s before most reply after t) (old new : History)
     → AreCalls (IsBookCall 0) old (round_calls r.turns r.refused) new → Says old new command.Work (work_text reply)
 work_made did s before most reply after t r old new h = (
   record { entries = map (refine_entry 0) (replies_of r.turns); shown = record { cards = 0; left = reply.left; refused = reply.short } },
   subst (λ es. Grows old es new) (round_entries 0 r.turns r.refused) (calls_grow 0 old new (round_calls r.turns r.refused) h),
-  work_says (replies_of r.turns) reply r.sums.taken r.sums.refined r.sums.hot r.sums.skipped r.sums.whole,
+  work_says (replies_of r.turns) reply r.sums.taken r.sums.refined r.sums.hot r.sums.skipped r.sums.whole (turns_take 0 old new r.turns r.refused h),
 )
 
 -- one call of the first caller

@@ -6,10 +6,11 @@ use Rattle.g1_layout.specs.Shape.{Shape}
 use Rattle.g1_core.specs.Table.{opening}
 use Rattle.g1_core.specs.declared.entry.Entry.{Entry}
 use Rattle.g1_core.specs.Run.{IsPermitted}
-use Rattle.g1_book.specs.History.{History, IsHistory, Terms}
+use Rattle.g1_book.specs.History.{History, IsHistory, Terms, layout_in}
 use Rattle.g1_book.specs.Lent.{Grows}
 use Rattle.g1_replay.specs.declared.command.Command.{Command}
 use Rattle.g1_replay.specs.declared.dialect.Dialect.{Dialect}
+use Rattle.g1_replay.specs.declared.options.Options.{Options}
 use Rattle.g1_replay.specs.declared.stop.Stop.{Stop}
 use Rattle.g1_replay.specs.declared.stop.Stop.TheVariants.{Fault, NoMemory, BookFull, NoThread, ReadFailed, WriteFailed}
 use Rattle.g1_replay.specs.Output.{Told, ended}
@@ -67,11 +68,14 @@ unopened_told d history n n' l rd rd' out read =
     let halted : Reads d None n n' rd rd' (Some l) [] (Err NoMemory) = record { lines = read.lines; rest = read.rest; consumed = read.consumed; passed = read.passed; met = read.met } in
     ([], told_nothing d history n n' rd rd' (Some l) NoMemory (omega arith) halted, Appends-nil out)
 
-entries_grown : (l : Shape) (m history : ℕ) (book new : History) (es : List Entry) → IsOpened l m history book → Grows book es new → new.entries ≡ es
-entries_grown l m history book new es o g = g.entries ∙ ap (λ xs. xs ++ es) o.entries
+entries_grown : (l : Shape) (o : Options) (book new : History) (es : List Entry) → IsOpened l o book → Grows book es new → new.entries ≡ es
+entries_grown l o book new es is g = g.entries ∙ ap (λ (h : History). h.entries ++ es) is
 
-limit_kept : (l : Shape) (m history : ℕ) (book new : History) (es : List Entry) → IsOpened l m history book → Grows book es new → new.limit ≡ history
-limit_kept l m history book new es o g = ap (λ (t : Terms). t.limit) g.terms ∙ o.most
+limit_kept : (l : Shape) (o : Options) (book new : History) (es : List Entry) → IsOpened l o book → Grows book es new → new.limit ≡ o.history
+limit_kept l o book new es is g = ap (λ (t : Terms). t.limit) g.terms ∙ ap (λ (h : History). h.limit) is
+
+shape_kept : (l : Shape) (o : Options) (book new : History) (es : List Entry) → IsOpened l o book → Grows book es new → layout_in new ≡ l
+shape_kept l o book new es is g = ap (λ (t : Terms). t.layout) g.terms ∙ ap layout_in is
 
 undone_as : (r : Result (Unit {0}) Stop) (undone : List Command) → IsUndone (ended r) undone → IsUndone r undone
 undone_as (Ok done) undone h = h
@@ -95,14 +99,15 @@ written_as out out' (Err ReadFailed) text w = w
 written_as out out' (Err WriteFailed) text w = w
 
 -- what was read and played behind the header is the text of a permitted run
-pub played_told : {S : Type 0} (book_of : S → History) (d : Dialect) (history n n1 n' : ℕ) (l : Shape) (old new : S) (rd rd1 rd' out out' : Option (List ℕ)) (r : Result (Unit {0}) Stop)
-    → IsOpened l d.mutators history (book_of old) → Reads d None n n1 rd rd1 (Some l) [] (Ok true)
+pub played_told : {S : Type 0} (book_of : S → History) (d : Dialect) (o : Options) (n n1 n' : ℕ) (l : Shape) (old new : S) (rd rd1 rd' out out' : Option (List ℕ)) (r : Result (Unit {0}) Stop)
+    → IsOpened l o (book_of old) → Reads d None n n1 rd rd1 (Some l) [] (Ok true)
     → Follows (λ s cs text t. HasPlayed (book_of s) cs text (book_of t)) (λ s. IsFull (book_of s)) d l n1 n' old new rd1 rd' out out' (ended r) → IsHistory (book_of new)
-    → (text : List ℕ) × Told d history n n' rd rd' r text × Writes out out' r text
-played_told book_of d history n n1 n' l old new rd rd1 rd' out out' r o head f h =
+    → (text : List ℕ) × Told d o.history n n' rd rd' r text × Writes out out' r text
+played_told book_of d o n n1 n' l old new rd rd1 rd' out out' r is head f h =
     let p = f.done.made in
-    let es : (book_of new).entries ≡ entries_of p.pieces = entries_grown l d.mutators history (book_of old) (book_of new) (entries_of p.pieces) o p.grows in
-    let most : (book_of new).limit ≡ history = limit_kept l d.mutators history (book_of old) (book_of new) (entries_of p.pieces) o p.grows in (
+    let es : (book_of new).entries ≡ entries_of p.pieces = entries_grown l o (book_of old) (book_of new) (entries_of p.pieces) is p.grows in
+    let most : (book_of new).limit ≡ o.history = limit_kept l o (book_of old) (book_of new) (entries_of p.pieces) is p.grows in
+    let shape : layout_in (book_of new) ≡ l = shape_kept l o (book_of old) (book_of new) (entries_of p.pieces) is p.grows in (
       f.done.text,
       record {
         heap = Some l;
@@ -115,8 +120,8 @@ played_told book_of d history n n1 n' l old new rd rd1 rd' out out' r o head f h
         stopped = undone_as r f.done.undone f.done.stopped;
         walked = p.walked;
         unopened = tt;
-        permitted = subst (λ (xs : List Entry). IsPermitted (opening l) xs) es (subst (λ (s : Shape). IsPermitted (opening s) (book_of new).entries) (ap (λ (t : Terms). t.layout) p.grows.terms ∙ o.shape) h.run);
-        within = subst (λ (xs : List Entry). length xs ≤ history) es (subst (λ (k : ℕ). length (book_of new).entries ≤ k) most h.within);
+        permitted = subst (λ (xs : List Entry). IsPermitted (opening l) xs) es (subst (λ (s : Shape). IsPermitted (opening s) (book_of new).entries) shape h.run);
+        within = subst (λ (xs : List Entry). length xs ≤ o.history) es (subst (λ (k : ℕ). length (book_of new).entries ≤ k) most h.within);
         full = λ e. ap (λ (xs : List Entry). length xs) (sym es) ∙ f.done.filled (full_as r e) ∙ most;
         said = p.said;
       },

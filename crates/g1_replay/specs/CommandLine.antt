@@ -51,9 +51,9 @@ crew_app = with_threads (new_app (codes "crew"))
 abbrev pub race_app : App
 race_app = with_threads (new_app (codes "race"))
 
--- the program, which needs a subcommand
+-- the program, which tells its version and needs a subcommand
 abbrev pub line_top : App
-line_top = on_top (λ s. record s { arg_required_else_help = true; subcommand_required = true }) (new_app (codes "g1replay"))
+line_top = on_top (λ s. record s { has_version = true; arg_required_else_help = true; subcommand_required = true }) (new_app (codes "g1replay"))
 
 -- the whole command line
 abbrev pub line_app : App

@@ -21,7 +21,7 @@ abbrev pub IsCrewText : List Entry → List Command → List Piece → Result (U
 IsCrewText entries commands pieces r text = ((stop : Stop) × (r ≡ Err stop) × (commands ≡ []) × (text ≡ [])) ⊎ (text ≡ stores_text (count_by is_store entries) ++ lines_of commands pieces)
 
 -- The scripts came to a permitted run, which drains of the first regions end; at the whole end those of all regions. The run has at most `history`
--- entries, and just so many where the book is full.
+-- entries, and just as many where the book is full.
 pub record Ran (l : Shape) (history : ℕ) (r : Result (Unit {0}) Stop) (text : List ℕ) : Type 0 where
   pub entries : List Entry
   pub drained : ℕ

@@ -7,7 +7,7 @@ use Rattle.g1_replay.specs.declared.stop.Stop.{Stop}
 use Rattle.g1_replay.specs.declared.stop.Stop.TheVariants.{BookFull}
 use Rattle.g1_replay.specs.Playing.{Writes}
 
--- the drains of the first regions, so many
+-- the drains of the first k regions, in order
 abbrev pub drains : ℕ → List Command
 drains zero = []
 drains (suc k) = drains k ++ Call (Drain k) ∷ []

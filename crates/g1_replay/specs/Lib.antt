@@ -21,5 +21,6 @@ pub mod CoreDrains
 pub mod RaceJobs
 pub mod Scripts
 pub mod Status
+pub mod Still
 pub mod Members
 pub mod MembersDid

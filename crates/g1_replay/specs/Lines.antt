@@ -24,7 +24,7 @@ IsPart (b ∷ bytes) = (b ≢ 10) × IsPart bytes
 abbrev pub EndsAtFeed : List ℕ → ℕ → Type 0
 EndsAtFeed bytes n = IsPart (take n bytes) × (n < length bytes → slice_index bytes n ≡ 10)
 
--- n of the shown bytes go into a line that has room for so many, and the first `lost` are used up
+-- n of the shown bytes go into a line with room for `room` more, and the first `lost` are used up
 abbrev pub GoesOn : List ℕ → ℕ → Part → ℕ → ℕ → Type 0
 GoesOn shown room Whole n lost = IsPart (take n shown) × (n ≤ room) × (take lost shown ≡ take n shown ++ 10 ∷ [])
 GoesOn shown room LongPart n lost = (b : ℕ) × IsPart (take n shown) × (n ≡ room) × (b ≢ 10) × (take lost shown ≡ take n shown ++ b ∷ [])

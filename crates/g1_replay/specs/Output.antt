@@ -23,7 +23,7 @@ abbrev pub ended : Result (Unit {0}) Stop → Result Bool Stop
 ended (Ok done) = Ok false
 ended (Err stop) = Err stop
 
--- The text is that of a permitted run which belongs to the commands before the end. The run has at most `history` entries, and just so many where the book is full.
+-- The text is that of a permitted run which belongs to the commands before the end. The run has at most `history` entries, and just as many where the book is full.
 pub record Told (d : Dialect) (history n n' : ℕ) (rd rd' : Option (List ℕ)) (r : Result (Unit {0}) Stop) (text : List ℕ) : Type 0 where
   pub heap : Option Shape
   pub commands : List Command

@@ -1,7 +1,9 @@
 -- The calls that each command of a trace makes, and the line that is printed of them.
-use Rattle.std.specs.Prelude.{◌≡◌, ℕ, ◌||◌, Bool, true, false, List, [], ◌∷◌, ◌++◌, All, sum_by, length}
+use Rattle.std.specs.Prelude.{◌≡◌, ◌⊎◌, ℕ, ◌||◌, Bool, true, false, List, [], ◌∷◌, ◌++◌, All, sum_by, length, if◌then◌else◌}
+use Rattle.g1_layout.specs.declared.kind.Kind.{Kind}
 use Rattle.g1_layout.specs.declared.kind.Kind.TheVariants.{Logged}
-use Rattle.g1_core.specs.declared.reply.Fill.TheVariants.{Full, Helped}
+use Rattle.g1_core.specs.declared.reply.Fill.{Fill}
+use Rattle.g1_core.specs.declared.reply.Fill.TheVariants.{No, Full, Helped}
 use Rattle.g1_core.specs.declared.entry.Entry.{Entry}
 use Rattle.g1_core.specs.declared.entry.Call.{Call}
 use Rattle.g1_core.specs.declared.entry.Reply.{Reply}
@@ -35,20 +37,48 @@ plain_piece entries = record { entries = entries; shown = nothing_shown }
 abbrev pub IsCallBy : ℕ → Call → Entry → Type 0
 IsCallBy caller call e = (e.caller ≡ caller) × (e.call ≡ call)
 
+-- What became of the log in a store's own entry: only a logged card fills it, and a help is an entry of its own.
+abbrev pub IsOwnFill : Kind → Fill → Type 0
+IsOwnFill kind No = Unit {0}
+IsOwnFill kind Full = kind ≡ Logged
+IsOwnFill kind Helped = ⊥
+
+-- A store's own entry refines nothing and is not short.
+abbrev pub IsOwnReply : Reply → List ℕ → Type 0
+IsOwnReply (reply.Stored kind fill short) refined = IsOwnFill kind fill × (short ≡ false) × (refined ≡ [])
+IsOwnReply _ refined = ⊥
+
+abbrev pub IsOwnStore : ℕ → Call → Entry → Type 0
+IsOwnStore caller call e = IsCallBy caller call e × IsOwnReply e.reply e.refined
+
 -- The reply of a store that filled its log.
 abbrev pub FillsLog : Reply → Type 0
 FillsLog (reply.Stored Logged Full short) = Unit {0}
 FillsLog _ = ⊥
 
+-- The reply of a refinement of one buffer, which was taken, unless the reply is short.
+abbrev pub IsOfBuffer : Reply → Type 0
+IsOfBuffer (reply.Refined taken hot skipped left short) = taken ≡ (if short then 0 else 1)
+IsOfBuffer _ = ⊥
+
+-- The reply of a refinement where no buffer was there.
+abbrev pub IsOfNone : Reply → List ℕ → Type 0
+IsOfNone (reply.Refined taken hot skipped left short) refined = (taken ≡ 0) × (hot ≡ 0) × (skipped ≡ 0) × (short ≡ false) × (refined ≡ [])
+IsOfNone _ refined = ⊥
+
+-- The entry is a refinement of one buffer by this caller.
+abbrev pub IsRefinementBy : ℕ → Entry → Type 0
+IsRefinementBy caller e = IsCallBy caller Refine e × IsOfBuffer e.reply
+
 -- The calls that a command makes: a store helps only where it filled its log, a flush has an entry only where it
 -- helps, and a round has one for each buffer that it takes.
 abbrev pub IsPieceOf : Command → List Entry → Type 0
-IsPieceOf (command.Store mutator slot target) (e ∷ []) = IsCallBy mutator (Store slot target) e
-IsPieceOf (command.Store mutator slot target) (e ∷ help ∷ []) = IsCallBy mutator (Store slot target) e × FillsLog e.reply × IsCallBy mutator Refine help
+IsPieceOf (command.Store mutator slot target) (e ∷ []) = IsOwnStore mutator (Store slot target) e
+IsPieceOf (command.Store mutator slot target) (e ∷ help ∷ []) = IsOwnStore mutator (Store slot target) e × FillsLog e.reply × IsRefinementBy mutator help
 IsPieceOf (command.Flush mutator) [] = Unit {0}
-IsPieceOf (command.Flush mutator) (help ∷ []) = IsCallBy mutator Refine help
-IsPieceOf command.Work entries = All (λ e. IsCallBy 0 Refine e) entries
-IsPieceOf command.Refine (e ∷ []) = IsCallBy 0 Refine e
+IsPieceOf (command.Flush mutator) (help ∷ []) = IsRefinementBy mutator help
+IsPieceOf command.Work entries = All (IsRefinementBy 0) entries
+IsPieceOf command.Refine (e ∷ []) = IsCallBy 0 Refine e × (IsOfBuffer e.reply ⊎ IsOfNone e.reply e.refined)
 IsPieceOf (command.Call call) (e ∷ []) = IsCallBy 0 call e
 IsPieceOf _ _ = ⊥
 

@@ -49,7 +49,7 @@ target_place l = record { read = read_target; fit = fit_target l }
 abbrev pub number_place : Place ℕ
 number_place = record { read = read_number; fit = λ n. Ok n }
 
--- just so many words: each is read before the first is held against its limit
+-- as many words as there are places: each is read before the first is held against its limit
 abbrev pub read_none : List (List ℕ) → Result (Unit {0}) TraceFault
 read_none [] = Ok tt
 read_none _ = Err Words

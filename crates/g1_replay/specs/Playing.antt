@@ -3,24 +3,22 @@ use Rattle.std.specs.Prelude.{◌≡◌, ◌≤◌, ℕ, List, [], ◌∷◌, �
 use Rattle.g1_layout.specs.Shape.{Shape}
 use Rattle.g1_core.specs.declared.entry.Call.{Call}
 use Rattle.g1_core.specs.declared.entry.Entry.{Entry}
-use Rattle.g1_book.specs.History.{History, layout_in}
+use Rattle.g1_book.specs.History.{History, opened}
 use Rattle.g1_book.specs.Lent.{Grows}
 use Rattle.g1_book.specs.declared.refusal.Refusal.{Refusal}
 use Rattle.g1_book.specs.declared.refusal.Refusal.TheVariants as refusal
 use Rattle.g1_replay.specs.declared.command.Command.{Command}
 use Rattle.g1_replay.specs.declared.dialect.Dialect.{Dialect}
+use Rattle.g1_replay.specs.declared.options.Options.{Options}
 use Rattle.g1_replay.specs.declared.stop.Stop.{Stop}
 use Rattle.g1_replay.specs.declared.stop.Stop.TheVariants.{NoMemory, BookFull, WriteFailed}
 use Rattle.g1_replay.specs.Bytes.{Puts}
 use Rattle.g1_replay.specs.Pieces.{Piece, IsCallBy, IsLineOf, Walks, lines_of, entries_of}
 use Rattle.g1_replay.specs.Reading.{Reads}
 
--- a new book over this layout, with these limits
-pub record IsOpened (layout : Shape) (mutators history : ℕ) (book : History) : Type 0 where
-  pub shape : layout_in book ≡ layout
-  pub callers : book.mutators ≡ mutators
-  pub most : book.limit ≡ history
-  pub entries : book.entries ≡ []
+-- A new book over this layout, on the terms that the options say, whose machine is new.
+abbrev pub IsOpened : Shape → Options → History → Type 0
+IsOpened layout o book = book ≡ opened layout o.config o.mutators o.history
 
 -- the history has as many entries as it may have
 abbrev pub IsFull : History → Type 0
@@ -61,7 +59,7 @@ written_by r = Ok tt
 abbrev pub Writes : {V : Type 0} → Option (List ℕ) → Option (List ℕ) → Result V Stop → List ℕ → Type 0
 Writes out out' r text = Puts out out' (written_by r) text
 
--- The commands that were read and not done: the one that was refused for a full book, one at most for want of memory, and no other.
+-- The commands that were read and not done: the one that was refused for a full book, one at most for refused memory, and no other.
 abbrev pub IsUndone : {V : Type 0} → Result V Stop → List Command → Type 0
 IsUndone (Err BookFull) commands = (c : Command) × (commands ≡ c ∷ [])
 IsUndone (Err NoMemory) commands = length commands ≤ 1

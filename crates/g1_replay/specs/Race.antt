@@ -71,7 +71,7 @@ abbrev pub drained_text : List Drained → List ℕ
 drained_text [] = []
 drained_text (answer ∷ answers) = drain_text answer ++ drained_text answers
 
--- The race left these references, and the drains of the first regions, so many, answered so.
+-- The race left these references, and the drains of the first `drained` regions gave these answers.
 pub record HasRaced (l : Shape) (mutators : ℕ) (commands : List Command) (drained : ℕ) (answers : List Drained) : Type 0 where
   pub refs : List (Option ℕ)
   pub left : AreLeftBy l mutators commands refs

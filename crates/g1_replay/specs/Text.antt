@@ -138,7 +138,7 @@ fault_text Twice = codes "same region twice"
 abbrev pub fault_line : (number : ℕ) → TraceFault → List ℕ
 fault_line number fault = counted (codes "line ") number ++ codes ": " ++ fault_text fault ++ codes "\n"
 
--- so many stores
+-- how many stores there were
 abbrev pub stores_text : ℕ → List ℕ
 stores_text stores = counted (codes "stores ") stores ++ codes "\n"
 

@@ -23,12 +23,15 @@ pub enum Mode {
     Race,
 }
 
-/// Why the program doesn't start: the command line was refused, asks for help, or memory was refused.
+/// Why the program doesn't start: the command line was refused, asks for help or the version, or memory was refused.
 #[derive(Debug, Drop)]
 pub struct LineFault {
     /// What the program writes to standard error. It is empty where memory was refused.
     pub text: String,
 }
+
+// The version of the program, which `--version` tells.
+const VERSION: &str = "1.0.0";
 
 const ABOUT: &str = "Replays traces for the remembered-set log of a region-based garbage collector";
 
@@ -68,7 +71,7 @@ in region 1, into slot 0, and refines the card of slot 0. It prints
 
 Exit status:
   0  the whole trace was done
-  1  the command line was refused, or help was asked for
+  1  the command line was refused, or help or the version was asked for
   2  the trace was refused: the last line printed says which line, and why
   3  memory was refused, or the history is full: 'no memory' or 'book full' is printed
   4  a read of standard input failed: 'read failed' is printed
@@ -95,7 +98,7 @@ into it. They may differ from run to run where a slot is stored to more than onc
 
 Exit status:
   0  the whole trace was done
-  1  the command line was refused, or help was asked for
+  1  the command line was refused, or help or the version was asked for
   2  the trace was refused: the line printed says which line, and why
   3  memory or a thread was refused, or the history is full: 'no memory', 'no thread' or 'book full'
      is printed
@@ -112,7 +115,7 @@ mutator are made in a thread of its own, with no lock around them; --hot, --ring
 --history have no effect on what is printed.
 
 Example, with logs that one card fills:
-  printf 'heap 4 2 4\nstore 0 0 8\nstore 1 16 8\n' | g1replay race --mutators 2 --log 1
+  printf 'heap 4 2 4\\nstore 0 0 8\\nstore 1 16 8\\n' | g1replay race --mutators 2 --log 1
 It makes a heap of 4 regions of 2 cards of 4 slots. Two threads store a reference to slot 8, which
 lies in region 1, into slot 0 and into slot 16, while a third refines. It prints
   stores 2
@@ -123,9 +126,14 @@ lies in region 1, into slot 0 and into slot 16, while a third refines. It prints
 which is how many stores were made and, for each region in turn, the cards to scan for references
 into it. They may differ from run to run where a slot is stored to more than once.
 
+Each list is exact for references that these stores may leave: it has every card outside the region
+that refers into it, and only cards to which the trace stores such a reference. It is not said that
+the stores, in some order one behind the other, would lead to these references, nor that a card
+which was logged reached a refiner; where it did not, the drains find it dirty.
+
 Exit status:
   0  the whole trace was done
-  1  the command line was refused, or help was asked for
+  1  the command line was refused, or help or the version was asked for
   2  the trace was refused: the line printed says which line, and why
   3  memory or a thread was refused: 'no memory' or 'no thread' is printed
   4  a read of standard input failed: 'read failed' is printed
@@ -134,7 +142,7 @@ Exit status:
 /// What the command line means; its first word is the program's name. Each mode comes with the options of its own
 /// subcommand: those that aren't given, and those that only others have, have their defaults. An unknown word, an
 /// option given twice, a value that is no decimal whole number or outside its limits, a missing subcommand and a wish for
-/// help are refused with a text for standard error.
+/// help or the version are refused with a text for standard error.
 pub fn read_options(alloc: Global, words: &[&str]) -> Result<(Mode, Options), LineFault>
     ensures within { IfOk result (λ p. AreWithin p.1) }
     ensures read { IfOk result (λ p. IsLine (map (λ w. w.now) words.now) p.0 p.1) }
@@ -167,6 +175,7 @@ fn line<'a>(alloc: Global) -> Result<Command<'a>, AllocError>
     let crew = with_threads(alloc, crew)?;
     let race = with_threads(alloc, race)?;
     Command::new(alloc, "g1replay")
+        .version(VERSION)
         .about(ABOUT)
         .after_help(AFTER_HELP)
         .arg_required_else_help(true)

@@ -129,7 +129,7 @@ fn end_unless(written: Result<(), WriteFailed>, end: End) -> End
 /// `Refused` only where it has one, with the fault's line; with `Stopped` and `ReadFailed` the commands are those before
 /// the end, and `book full` is written only where the run has as many entries as `options` allows; with `WriteFailed`
 /// a beginning of such a text was written. A fault is the end wherever its line was read whole: it does not hide
-/// behind a failed read or want of memory.
+/// behind a failed read or refused memory.
 ///
 /// It holds one line of the trace at a time, asks the reader for bytes at most 2^40 times, and tries no failed read or
 /// write again. A line is one write or a few, so give it a writer with a buffer. No line takes memory; what grows is the

@@ -49,7 +49,7 @@ fn part_len(bytes: &[u8]) -> usize
     memchr(b'\n', bytes).unwrap_or(bytes.len())
 }
 
-// What the bytes have of a line with room for so many more, how many of them go into it, and how many are used up.
+// What the bytes have of a line with room for `room` more, how many of them go into it, and how many are used up.
 fn part_of(shown: &[u8], room: usize) -> (Part, usize, usize)
     ensures goes_on { GoesOn shown.now room result.0 result.1 result.2 }
     ensures fits { result.1 ≤ room }

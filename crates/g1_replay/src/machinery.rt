@@ -5,6 +5,7 @@ ghost use Rattle.std.proofs.Props.{props};
 ghost use Rattle.g1_log.specs.Ends.{IsSenderOf, IsTakerOf, capacity_of, taken_of};
 ghost use Rattle.g1_book.specs.Steps.{IsStopped, GainsAtMost};
 ghost use Rattle.g1_replay.specs.Playing.{IsOpened};
+ghost use Rattle.g1_replay.specs.Still.{AreStill, IsNewLog};
 
 use crate::options::Options;
 use g1_book::{Book, Mutator, empty_line};
@@ -28,6 +29,7 @@ impl<'a> Ends<'a> {
     fn new(line: &'a Line, log: Log, sender: Sender, taker: Taker) -> Ends<'a>
         requires sender { IsSenderOf line.now sender }
         requires taker { IsTakerOf line.now taker }
+        ensures { result.mutator.log ≡ log }
     {
         let mutator = Mutator { log, sender };
         Ends {
@@ -39,7 +41,8 @@ impl<'a> Ends<'a> {
 
     /// Empties all logs and, by the first taker, the line.
     pub(crate) fn stand_still<R: Wait>(rt: &R, callers: &mut [Ends<'_>])
-        ensures { (k : ℕ) (d : E) → k < length callers.old → IsStopped (slice_index_or callers.old k d).mutator (slice_index_or callers.new k d).mutator }
+        ensures stopped { (k : ℕ) (d : E) → k < length callers.old → IsStopped (slice_index_or callers.old k d).mutator (slice_index_or callers.new k d).mutator }
+        ensures still { AreStill (λ e. e.mutator.log) callers.new }
     {
         for at in 0..callers.len() {
             callers[at].stop(rt, at == 0);
@@ -80,8 +83,9 @@ impl<'a> Machinery<'a> {
     ) -> Result<Machinery<'a>, NoMemory>
         requires senders { (vec_len senders ≡ options.now.mutators) × All (IsSenderOf line.now) senders.items }
         requires takers { (vec_len takers ≡ options.now.mutators) × All (IsTakerOf line.now) takers.items }
-        ensures book { IfOk result (λ machinery. IsOpened layout options.now.mutators options.now.history machinery.book) }
+        ensures book { IfOk result (λ machinery. IsOpened layout options.now machinery.book) }
         ensures callers { IfOk result (λ machinery. vec_len machinery.callers ≡ options.now.mutators) }
+        ensures logs { IfOk result (λ machinery. All (λ e. IsNewLog options.now.config.log e.mutator.log) machinery.callers.items) }
     {
         let callers = callers_of(alloc, line, senders, takers, options.config.log())?;
         let book = Book::open(
@@ -107,7 +111,8 @@ fn callers_of<'a>(
     requires takers { (vec_len takers ≡ vec_len senders) × All (IsTakerOf line.now) takers.items }
     requires log_low { 1 ≤ log }
     requires log_high { log ≤ 256 }
-    ensures { IfOk result (λ callers. vec_len callers ≡ vec_len senders) }
+    ensures len { IfOk result (λ callers. vec_len callers ≡ vec_len senders) }
+    ensures logs { IfOk result (λ callers. All (λ e. IsNewLog log e.mutator.log) callers.items) }
 {
     let mut callers = Vec::with_capacity(alloc, senders.len())?;
     let mut takers = takers;

@@ -1,4 +1,4 @@
-//! The words in the places behind the first word of a line: so many, all read, and then each held against its limit.
+//! The words in the places behind the first word of a line: as many as the command has, all read, and then each held against its limit.
 
 ghost use Rattle.std.specs.Prelude.{◌≡◌, ◌<◌, ℕ, [], min, IfOk, IfSome};
 ghost use Rattle.g1_layout.specs.Shape.{IsShape, slot_count, card_count};
@@ -109,7 +109,7 @@ fn one_number(words: &[u8]) -> Result<u64, TraceFault>
     }
 }
 
-/// One mutator of so many.
+/// The number of a mutator, of which there are `mutators`.
 pub fn one_mutator(mutators: u32, words: &[u8]) -> Result<u32, TraceFault>
     ensures read { result ≡ read_one (mutator_place mutators) (words_from [] words.now) }
     ensures valid { IfOk result (λ m. m < mutators) }

@@ -1,12 +1,16 @@
 //! The calls of a command, and its output line.
-ghost use Rattle.std.specs.Prelude.{◌≡◌, ◌<◌, ◌≤◌, ◌∷◌, [], IfSome, IfErr, vec_len};
+ghost use Rattle.std.specs.Prelude.{◌≡◌, ◌<◌, ◌≤◌, ◌∷◌, ℕ, [], true, IfOk, IfSome, IfErr, OnOk, slice_index_or, vec_len};
 ghost use Rattle.g1_layout.specs.Shape.{slot_count};
 ghost use Rattle.g1_book.specs.History.{layout_in};
-ghost use Rattle.g1_replay.specs.Grammar.{IsCallOf};
+ghost use Rattle.g1_book.specs.Rounds.{round_size};
+ghost use Rattle.g1_log.specs.Ends.{capacity_of};
+ghost use Rattle.g1_replay.specs.Grammar.{IsCallOf, IsCommandOf};
 ghost use Rattle.g1_replay.specs.Laws.{played_none, played_then};
 ghost use Rattle.g1_replay.specs.Playing.{Does, IsAnswered, IsDone, IsFull, HasPlayed, MayStop};
 ghost use Rattle.g1_replay.specs.Reading.{more_may_come};
+ghost use Rattle.g1_replay.specs.Still.{is_pause, pauses, AreStill};
 ghost use Rattle.g1_replay.specs.Text.{store_text, flush_text, refine_text, work_text};
+ghost use Rattle.g1_replay.specs.declared.machinery.Ends.{Ends as E};
 
 use crate::calls::play_call;
 use crate::command::Command;
@@ -38,7 +42,14 @@ impl Player for Machinery<'_> {
         _dialect: Dialect,
         command: Command,
         output: &mut W,
-    ) -> Result<(), Stop> {
+    ) -> Result<(), Stop>
+        requires takes { (layout_in self.old.book ≡ _layout) × (self.old.book.mutators ≡ _dialect.mutators) × (vec_len self.old.callers ≡ _dialect.mutators) × (1 ≤ _dialect.mutators) }
+        requires command { IsCommandOf _layout _dialect.mutators command }
+        ensures played { Does (λ s cs text t. HasPlayed s.book cs text t.book) (λ s. IsFull s.book) (command ∷ []) self.old self.new (W.contents output.old) (W.contents output.new) (more_may_come result) }
+        ensures stops { IfErr result MayStop }
+        ensures takes { OnOk result ((layout_in self.new.book ≡ _layout) × (self.new.book.mutators ≡ _dialect.mutators) × (vec_len self.new.callers ≡ _dialect.mutators) × (1 ≤ _dialect.mutators)) }
+        ensures still { pauses command ≡ true → AreStill (λ e. e.mutator.log) self.new.callers.items }
+    {
         match command {
             Command::Store {
                 mutator,
@@ -72,6 +83,13 @@ impl Player for Machinery<'_> {
     ghost then = { λ s t u cs ds xs ys. played_then s.book t.book u.book cs ds xs ys };
 }
 
+// Whether the mutators stand still for the call.
+fn is_pause(call: &Call) -> bool
+    ensures { result ≡ is_pause call.now }
+{
+    matches!(call, Call::Drain(_) | Call::Redirect { .. })
+}
+
 // The mutators stand still for a drain and a redirect: their logs and the line are emptied first.
 fn one_call<T: Wait, W: Write>(
     rt: &T,
@@ -83,10 +101,26 @@ fn one_call<T: Wait, W: Write>(
     ensures played { Does HasPlayed IsFull (Command.Call call ∷ []) machinery.old.book machinery.new.book (W.contents output.old) (W.contents output.new) (more_may_come result) }
     ensures stops { IfErr result MayStop }
     ensures callers { vec_len machinery.new.callers ≡ vec_len machinery.old.callers }
+    ensures still { is_pause call ≡ true → AreStill (λ e. e.mutator.log) machinery.new.callers.items }
 {
-    if matches!(call, Call::Drain(_) | Call::Redirect { .. }) {
+    if is_pause(&call) {
         Ends::stand_still(rt, machinery.callers.as_mut_slice());
     }
+    answer_call(machinery, call, output)
+}
+
+// The call of the book, for which the mutators stand still where it is a pause.
+fn answer_call<W: Write>(
+    machinery: &mut Machinery<'_>,
+    call: Call,
+    output: &mut W,
+) -> Result<(), Stop>
+    requires call { IsCallOf (layout_in machinery.old.book) call }
+    requires still { is_pause call ≡ true → AreStill (λ e. e.mutator.log) machinery.old.callers.items }
+    ensures played { Does HasPlayed IsFull (Command.Call call ∷ []) machinery.old.book machinery.new.book (W.contents output.old) (W.contents output.new) (more_may_come result) }
+    ensures stops { IfErr result MayStop }
+    ensures callers { machinery.new.callers ≡ machinery.old.callers }
+{
     play_call(&mut machinery.book, call, output)
 }
 
@@ -138,6 +172,7 @@ fn refine<T: Wait>(rt: &T, machinery: &mut Machinery<'_>) -> Result<RefineReply,
 fn work<T: Wait>(rt: &T, machinery: &mut Machinery<'_>) -> Result<RefineReply, Refusal>
     requires callers { (vec_len machinery.old.callers ≡ machinery.old.book.mutators) × (1 ≤ machinery.old.book.mutators) }
     ensures answered { IsAnswered work_text machinery.old.book machinery.new.book Command.Work result }
+    ensures within { IfOk result (λ reply. (seen : ℕ) × ((d : E) → seen ≤ capacity_of (slice_index_or machinery.old.callers.items 0 d).line.now) × (reply.taken ≤ round_size machinery.old.book.machine.settings.start seen)) }
     ensures callers { vec_len machinery.new.callers ≡ vec_len machinery.old.callers }
 {
     let start = machinery.book.config().start();

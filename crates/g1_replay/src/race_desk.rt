@@ -152,7 +152,7 @@ fn stored(alloc: Global, kind: Kind, fill: Fill) -> StoreReply
     }
 }
 
-// What a flush of so many cards answers.
+// What a flush of `cards` cards answers.
 fn flushed(alloc: Global, cards: u32, fill: Fill) -> FlushReply
     ensures { (result.cards ≡ cards) × (result.fill ≡ fill) }
 {
@@ -164,7 +164,7 @@ fn flushed(alloc: Global, cards: u32, fill: Fill) -> FlushReply
     }
 }
 
-// What a round that took so many buffers answers. Which cards it refined is not counted.
+// What a round that took `taken` buffers answers. Which cards it refined is not counted.
 fn worked(alloc: Global, taken: u32) -> RefineReply
     ensures { result.taken ≡ taken }
 {

@@ -41,6 +41,15 @@ pub(crate) fn buffer(rt: &impl Abort, core: &Core, numbers: &[u32]) -> Buffer {
     Buffer::of(cards)
 }
 
+/// The numbers of the cards of a log or a buffer.
+pub(crate) fn numbers_of(rt: &impl Abort, cards: &[Card]) -> ArrayVec<u32, 256> {
+    let mut numbers = ArrayVec::new();
+    for card in cards {
+        numbers.try_push(card.number()).expect(rt, "room");
+    }
+    numbers
+}
+
 /// Whether the list has just these cards, in this order.
 pub(crate) fn has_cards(list: &CardList, numbers: &[u32]) -> bool {
     list.len() == numbers.len() && has_front(list, numbers)

@@ -1,16 +1,18 @@
-//! A crew and a race of many threads against one that makes the same calls in their order.
+//! A crew and a race of many threads against one that makes the same stores in their order.
 use super::crew::replay;
 use super::options::config;
 use crate::{End, Mode, Options};
 use std::alloc::Global;
 use std::fmt::Write;
 use std::process::Abort;
+use std::sync::Wait;
 use std::test::Fail;
+use std::thread::Threads;
 
 /// How many stores there are.
 const STORES: u32 = 100_000;
 
-/// The trace: a store into each of so many slots, by eight mutators in turn.
+/// The trace: a store into each of the first `STORES` slots, by eight mutators in turn.
 fn stores(alloc: Global) -> Result<String, Fail> {
     let mut trace = String::from_str(alloc, "heap 64 64 32\n")?;
     for slot in 0..STORES {
@@ -40,27 +42,45 @@ fn eight_mutators(rt: &impl Abort) -> Options {
     }
 }
 
-/// Where each slot is stored to once, the drains of a crew and of a race answer what those of its stores one by one do.
-#[test]
-fn drains_after_stores_in_any_order(rt: HostRuntime) -> Result<(), Fail> {
-    let options = eight_mutators(&rt);
-    let scripts = stores(rt.alloc())?;
-    let trace = with_drains(stores(rt.alloc())?)?;
-    let mut one_by_one: Vec<u8> = Vec::new(rt.alloc());
-    let mut input = trace.as_bytes();
-    let end = replay(&rt, Mode::Run, &mut input, &mut one_by_one, &options);
-    assert_eq!(rt; end, End::Whole);
-    for mode in [Mode::Crew, Mode::Race] {
-        let mut by_threads: Vec<u8> = Vec::new(rt.alloc());
-        let mut input = scripts.as_bytes();
-        let end = replay(&rt, mode, &mut input, &mut by_threads, &options);
-        assert_eq!(rt; end, End::Whole);
-        let drains = by_threads
-            .as_slice()
-            .strip_prefix(b"stores 100000\n")
-            .expect(&rt, "all stores are counted");
-        assert_eq!(rt; drains.iter().filter(|byte| **byte == b'\n').count(), 64);
-        assert!(rt; one_by_one.as_slice().ends_with(drains));
-    }
+/// Where each slot is stored to once, the drains after stores by threads answer what those of the stores one by one do.
+fn drains_as_one_by_one<R: Abort + Threads + Wait + Sync + AllocGlobal>(
+    rt: &R,
+    mode: Mode,
+) -> Result<(), Fail> {
+    let alloc = rt.alloc();
+    let options = eight_mutators(rt);
+    let trace = with_drains(stores(alloc)?)?;
+    let one_by_one = printed(rt, Mode::Run, &trace, &options)?;
+    let by_threads = printed(rt, mode, &stores(alloc)?, &options)?;
+    let drains = by_threads
+        .as_slice()
+        .strip_prefix(b"stores 100000\n")
+        .expect(rt, "all stores are counted");
+    assert_eq!(rt; drains.iter().filter(|byte| **byte == b'\n').count(), 64);
+    assert!(rt; one_by_one.as_slice().ends_with(drains));
     Ok(())
+}
+
+/// What the trace prints, which is taken whole.
+fn printed<R: Abort + Threads + Wait + Sync + AllocGlobal>(
+    rt: &R,
+    mode: Mode,
+    trace: &str,
+    options: &Options,
+) -> Result<Vec<u8>, Fail> {
+    let mut output: Vec<u8> = Vec::new(rt.alloc());
+    let mut input = trace.as_bytes();
+    let end = replay(rt, mode, &mut input, &mut output, options);
+    assert_eq!(rt; end, End::Whole);
+    Ok(output)
+}
+
+#[test]
+fn crew_drains_as_one_by_one(rt: HostRuntime) -> Result<(), Fail> {
+    drains_as_one_by_one(&rt, Mode::Crew)
+}
+
+#[test]
+fn race_drains_as_one_by_one(rt: HostRuntime) -> Result<(), Fail> {
+    drains_as_one_by_one(&rt, Mode::Race)
 }

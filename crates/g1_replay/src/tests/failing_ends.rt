@@ -102,10 +102,10 @@ fn byte_by_byte(rt: HostRuntime) -> Result<(), Fail> {
     Ok(())
 }
 
-/// After 23 bytes, the whole first two lines, and after 25, in the middle of the third.
+/// The trace up to each of its bytes, behind which a read fails: what its whole lines print comes before.
 #[test]
 fn reads_that_fail(rt: HostRuntime) -> Result<(), Fail> {
-    for room in [23, 25] {
+    for room in 0..=TRACE.len() {
         let mut input = BufReader::new(rt.alloc(), failing_after(room))?;
         let mut output: Vec<u8> = Vec::new(rt.alloc());
         let end = run(
@@ -116,7 +116,12 @@ fn reads_that_fail(rt: HostRuntime) -> Result<(), Fail> {
             &Options::default(),
         );
         assert_eq!(rt; end, End::ReadFailed);
-        assert!(rt; output.as_slice() == b"logged\nread failed\n".as_slice());
+        let wanted: &[u8] = match room {
+            0..=22 => b"read failed\n",
+            23..=30 => b"logged\nread failed\n",
+            _ => b"logged\ndrained 0\nread failed\n",
+        };
+        assert!(rt; output.as_slice() == wanted, "{room}");
         // It would have gone on, and was not asked again.
         assert_eq!(rt;
             input.get_ref().bytes.len(),
@@ -126,25 +131,28 @@ fn reads_that_fail(rt: HostRuntime) -> Result<(), Fail> {
     Ok(())
 }
 
-/// Nothing is written after a failed write; a write that takes no byte is one.
+/// After each byte of the output: nothing is written after a failed write, and a write that takes no byte is one.
 #[test]
 fn writes_that_fail(rt: HostRuntime) -> Result<(), Fail> {
-    for fails in [true, false] {
-        let mut input = TRACE;
-        let mut output = Narrow {
-            bytes: Vec::new(rt.alloc()),
-            room: 9,
-            fails,
-        };
-        let end = run(
-            &rt,
-            rt.alloc(),
-            &mut input,
-            &mut output,
-            &Options::default(),
-        );
-        assert_eq!(rt; end, End::WriteFailed);
-        assert!(rt; output.bytes.as_slice() == b"logged\ndr".as_slice());
+    let whole = b"logged\ndrained 0\n".as_slice();
+    for room in 0..whole.len() {
+        for fails in [true, false] {
+            let mut input = TRACE;
+            let mut output = Narrow {
+                bytes: Vec::new(rt.alloc()),
+                room,
+                fails,
+            };
+            let end = run(
+                &rt,
+                rt.alloc(),
+                &mut input,
+                &mut output,
+                &Options::default(),
+            );
+            assert_eq!(rt; end, End::WriteFailed);
+            assert!(rt; output.bytes.as_slice() == &whole[..room]);
+        }
     }
     Ok(())
 }

@@ -15,7 +15,8 @@ Commands:
   help  Print this message or the help of the given subcommand(s)
 
 Options:
-  -h, --help  Print help
+  -h, --help     Print help
+  -V, --version  Print version
 
 'g1replay COMMAND --help' has the options of a command, an example and the exit statuses.
 ";
@@ -64,7 +65,7 @@ in region 1, into slot 0, and refines the card of slot 0. It prints
 
 Exit status:
   0  the whole trace was done
-  1  the command line was refused, or help was asked for
+  1  the command line was refused, or help or the version was asked for
   2  the trace was refused: the last line printed says which line, and why
   3  memory was refused, or the history is full: 'no memory' or 'book full' is printed
   4  a read of standard input failed: 'read failed' is printed
@@ -105,7 +106,7 @@ into it. They may differ from run to run where a slot is stored to more than onc
 
 Exit status:
   0  the whole trace was done
-  1  the command line was refused, or help was asked for
+  1  the command line was refused, or help or the version was asked for
   2  the trace was refused: the line printed says which line, and why
   3  memory or a thread was refused, or the history is full: 'no memory', 'no thread' or 'book full'
      is printed
@@ -136,7 +137,7 @@ mutator are made in a thread of its own, with no lock around them; --hot, --ring
 --history have no effect on what is printed.
 
 Example, with logs that one card fills:
-  printf 'heap 4 2 4\nstore 0 0 8\nstore 1 16 8\n' | g1replay race --mutators 2 --log 1
+  printf 'heap 4 2 4\\nstore 0 0 8\\nstore 1 16 8\\n' | g1replay race --mutators 2 --log 1
 It makes a heap of 4 regions of 2 cards of 4 slots. Two threads store a reference to slot 8, which
 lies in region 1, into slot 0 and into slot 16, while a third refines. It prints
   stores 2
@@ -147,9 +148,14 @@ lies in region 1, into slot 0 and into slot 16, while a third refines. It prints
 which is how many stores were made and, for each region in turn, the cards to scan for references
 into it. They may differ from run to run where a slot is stored to more than once.
 
+Each list is exact for references that these stores may leave: it has every card outside the region
+that refers into it, and only cards to which the trace stores such a reference. It is not said that
+the stores, in some order one behind the other, would lead to these references, nor that a card
+which was logged reached a refiner; where it did not, the drains find it dirty.
+
 Exit status:
   0  the whole trace was done
-  1  the command line was refused, or help was asked for
+  1  the command line was refused, or help or the version was asked for
   2  the trace was refused: the line printed says which line, and why
   3  memory or a thread was refused: 'no memory' or 'no thread' is printed
   4  a read of standard input failed: 'read failed' is printed
@@ -209,5 +215,12 @@ fn help_of_race(rt: HostRuntime) -> Result<(), Fail> {
         &["g1replay", "race", "--rounds", "1", "--help"],
         OF_RACE,
     );
+    Ok(())
+}
+
+#[test]
+fn version_of_the_program(rt: HostRuntime) -> Result<(), Fail> {
+    is_refused(&rt, &["g1replay", "--version"], "g1replay 1.0.0\n");
+    is_refused(&rt, &["g1replay", "-V"], "g1replay 1.0.0\n");
     Ok(())
 }

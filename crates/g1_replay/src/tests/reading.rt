@@ -121,7 +121,7 @@ fn ends_of_traces(rt: HostRuntime) {
     }
 }
 
-// A trace whose second line begins with so many bytes and then has the rest, through a buffer of so many bytes.
+// What comes of a trace whose second line begins with `count` times this byte and then has `rest`, through a buffer of 7 bytes.
 fn walk_line(
     alloc: Global,
     byte: u8,

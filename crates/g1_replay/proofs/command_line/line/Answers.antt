@@ -7,9 +7,11 @@ use Rattle.g1_replay.proofs.command_line.line.Goals as goal
 
 pub returns : goal.returns
 returns c =
-    let top-0 : app_of c.after_help.result ≡ new_app (codes "g1replay") =
-    ap app_of_fields c.after_help.ensures ∙ ap app_of_fields c.about.ensures ∙ c.new.ensures.app in
-    let top-1 : app_of c.arg_required_else_help.result ≡ on_top (λ s. record s { arg_required_else_help = true }) (new_app (codes "g1replay")) =
+    let version : app_of c.version.result ≡ on_top (λ s. record s { has_version = true }) (new_app (codes "g1replay")) =
+    ap app_of_fields c.version.ensures ∙ ap (on_top (λ s. record s { has_version = true })) c.new.ensures.app in
+    let top-0 : app_of c.after_help.result ≡ on_top (λ s. record s { has_version = true }) (new_app (codes "g1replay")) =
+    ap app_of_fields c.after_help.ensures ∙ ap app_of_fields c.about.ensures ∙ version in
+    let top-1 : app_of c.arg_required_else_help.result ≡ on_top (λ s. record s { has_version = true; arg_required_else_help = true }) (new_app (codes "g1replay")) =
     ap app_of_fields c.arg_required_else_help.ensures ∙ ap (on_top (λ s. record s { arg_required_else_help = true })) top-0 in
     let top-2 : app_of c.subcommand_required.result ≡ line_top =
     ap app_of_fields c.subcommand_required.ensures ∙ ap (on_top (λ s. record s { subcommand_required = true })) top-1 in

@@ -1,9 +1,11 @@
-use Rattle.std.proofs.Common.{rules, ◌≡◌, List, [], ◌∷◌, ◌++◌}
+use Rattle.std.proofs.Common.{rules, ◌≡◌, ◌∙◌, List, [], ◌∷◌, ◌++◌, subst, sym}
 use Rattle.std.specs.List.{All}
 use Rattle.std.specs.Vec.Iter.{into_iter_items}
-use Rattle.std.proofs.lemmas.List.Elements.{All-nil, All-cons, All-head, All-tail}
+use Rattle.std.proofs.lemmas.List.Elements.{All-nil, All-cons, All-head, All-push, All-tail}
 use Rattle.g1_log.specs.declared.ends.Taker.{Taker}
 use Rattle.g1_log.specs.Ends.{IsSenderOf, IsTakerOf}
+use Rattle.g1_replay.specs.Still.{IsNewLog}
+use Rattle.g1_replay.specs.declared.machinery.Ends.{Ends}
 use Rattle.g1_replay.proofs.machinery.callers_of.Goals as goal
 
 all_before : (P : Taker → Type 0) (xs : List Taker) (x : Taker) → All P (xs ++ x ∷ []) → All P xs
@@ -19,4 +21,6 @@ loop-sender-preserved c =
       All-tail (IsSenderOf c.args.line.now) c.in-Some.sender (into_iter_items c.next.new.self) (rw rest at i.2),
       search rules,
       search rules,
+      subst (All (λ (e : Ends). IsNewLog c.args.log e.mutator.log)) (sym c.push_reserved.ensures.items)
+          (All-push (λ (e : Ends). IsNewLog c.args.log e.mutator.log) c.loop-sender.callers.items c.new-in-loop-sender.result i.5 (c.new-in-loop-sender.ensures ∙ c.new.ensures)),
     )

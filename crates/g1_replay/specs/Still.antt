@@ -1,0 +1,25 @@
+-- Logs of mutators that stand still, and logs as they begin.
+use Rattle.std.specs.Prelude.{◌≡◌, ℕ, ◌<◌, Bool, true, false, List, [], length, slice_index_or}
+use Rattle.g1_log.specs.Log.{Cards}
+use Rattle.g1_core.specs.declared.entry.Call.{Call}
+use Rattle.g1_core.specs.declared.entry.Call.TheVariants.{Drain, Redirect}
+use Rattle.g1_replay.specs.declared.command.Command.{Command}
+use Rattle.g1_replay.specs.declared.command.Command.TheVariants as command
+
+-- whether the mutators stand still for a call, and for a command
+abbrev pub is_pause : Call → Bool
+is_pause (Drain region) = true
+is_pause (Redirect from to) = true
+is_pause _ = false
+
+abbrev pub pauses : Command → Bool
+pauses (command.Call call) = is_pause call
+pauses _ = false
+
+-- Each log is empty.
+abbrev pub AreStill : {E : Type 0} → (E → Cards) → List E → Type 0
+AreStill {E} log_of callers = (k : ℕ) (d : E) → k < length callers → (log_of (slice_index_or callers k d)).cards ≡ []
+
+-- An empty log of this size.
+abbrev pub IsNewLog : ℕ → Cards → Type 0
+IsNewLog size log = log ≡ record { size = size; cards = [] }
