@@ -94,6 +94,15 @@ impl Numbered {
         Ok(self.sets.has(card, region))
     }
 
+    fn sorted(&self, region: Region) -> Result<Vec<Card>, NoMemory>
+        requires { region < self.now.layout.regions }
+    {
+        match self.sets.cards(region) {
+            Ok(cards) => Ok(cards),
+            Err(NoMemory) => self.sets.cards(region),
+        }
+    }
+
     // A walk gives these cards, and `cards` gives them sorted.
     fn assert_cards(
         &self,
@@ -108,10 +117,7 @@ impl Numbered {
             let card = self.sets.at(region, index);
             assert!(rt; inserted.get(index as usize) == Some(&card.number()));
         }
-        let cards = match self.sets.cards(region) {
-            Ok(cards) => cards,
-            Err(NoMemory) => self.sets.cards(region)?,
-        };
+        let cards = self.sorted(region)?;
         assert!(rt; cards.len() == sorted.len());
         for (card, number) in cards.iter().zip(sorted) {
             assert!(rt; card.number() == *number);
@@ -142,7 +148,7 @@ impl Numbered {
         end: u32,
     ) -> Result<(), Fail> {
         let region = self.region(region)?;
-        let cards = self.sets.cards(region)?;
+        let cards = self.sorted(region)?;
         assert!(rt; cards.iter().map(|card| card.number()).eq(first..end));
         Ok(())
     }
@@ -178,6 +184,9 @@ fn sets_that_grow(rt: HostRuntime) -> Result<(), Fail> {
         sets.record_many(&rt, [number, number + 32], 1)?;
     }
     assert!(rt; sets.sets.total() == 128);
+    sets.assert_ascending(&rt, 0, 0, 32)?;
+    sets.assert_ascending(&rt, 1, 0, 64)?;
+    sets.assert_ascending(&rt, 2, 0, 32)?;
     Ok(())
 }
 

@@ -159,9 +159,9 @@ fn members_of(rt: &impl Eprint, core: &mut Core, of: u32) -> Result<Numbers, Fai
     }
 }
 
-// Refines a buffer of these cards, of which the ones in the order are refined and `hot` found hot; where that was refused or
-// is short, it is made again.
-fn refined(
+/// Refines a buffer of these cards, of which the ones in the order are refined and `hot` found hot; where that was refused or
+/// is short, it is made again.
+pub(crate) fn refined(
     rt: &impl Eprint,
     core: &mut Core,
     cards: &[u32],
@@ -219,19 +219,24 @@ fn is_whole(
     check(rt, turns.skipped == skipped, "how many cards were skipped")
 }
 
-// The numbers behind the first ones.
-fn rest(numbers: &[u32], first: usize) -> &[u32] {
+/// The numbers behind the first ones.
+pub(crate) fn rest(numbers: &[u32], first: usize) -> &[u32] {
     numbers.get(first..).unwrap_or(&[])
 }
 
-// Drains a region where nothing is pending.
-fn drained(rt: &impl Eprint, core: &mut Core, of: u32, set: &[u32]) -> Result<(), Failure> {
+/// Drains a region where nothing is pending.
+pub(crate) fn drained(
+    rt: &impl Eprint,
+    core: &mut Core,
+    of: u32,
+    set: &[u32],
+) -> Result<(), Failure> {
     paused(rt, core, PauseCall::Drain(of), &[], set)
 }
 
-// Makes a call that refines these cards in this order and finds these numbers; where it was refused or is short, it is made
-// again, and takes up where it stopped.
-fn paused(
+/// Makes a call that refines these cards in this order and finds these numbers; where it was refused or is short, it is made
+/// again, and takes up where it stopped.
+pub(crate) fn paused(
     rt: &impl Eprint,
     core: &mut Core,
     call: PauseCall,

@@ -13,6 +13,7 @@
 mod books;
 mod callers;
 mod cores;
+mod cycle;
 mod heap;
 mod history;
 mod hot;
@@ -47,5 +48,6 @@ fn play<R: Wait + Print + Eprint + AllocGlobal>(rt: &R) -> Result<(), Failure> {
     history::play(rt)?;
     callers::play(rt)?;
     shared::play(rt)?;
-    race::play(rt)
+    race::play(rt)?;
+    cycle::play(rt)
 }

@@ -49,23 +49,26 @@ fn untouched<R: Eprint + AllocGlobal>(rt: &R) -> Result<(), Failure> {
     Ok(())
 }
 
-// Cards 0, 1 and 2 hold into regions 3, 2 and 3.
-const REFERENCES: [(u32, u32); 3] = [(0, 24), (4, 16), (8, 24)];
+/// Cards 0, 1 and 2 hold into regions 3, 2 and 3.
+pub(crate) const REFERENCES: [(u32, u32); 3] = [(0, 24), (4, 16), (8, 24)];
 
 // A refused refinement changes no word and records nothing: the race is closed then, and another one goes through.
 fn cards_refined<R: Eprint + AllocGlobal>(rt: &R) -> Result<(), Failure> {
-    let (closed, done) = closed_after(rt)?;
+    let (closed, done) = closed_after(rt, 3)?;
     are_refined(rt, &closed, done)?;
     if done == 3 {
         return Ok(());
     }
-    let (closed, done) = closed_after(rt)?;
+    let (closed, done) = closed_after(rt, 3)?;
     check(rt, done == 3, "a refinement was refused twice")?;
     are_refined(rt, &closed, done)
 }
 
-// A race that was closed after the three cards were refined, or where one was refused, with how many were refined.
-fn closed_after<R: Eprint + AllocGlobal>(rt: &R) -> Result<(Closed, u32), Failure> {
+/// A race that was closed after the first cards were refined, or where one was refused, with how many were refined.
+pub(crate) fn closed_after<R: Eprint + AllocGlobal>(
+    rt: &R,
+    cards: u32,
+) -> Result<(Closed, u32), Failure> {
     let (race, mut racers, mut sweepers) = new_race(rt)?;
     let mut racer = racers.take_last();
     racers.clear();
@@ -74,7 +77,7 @@ fn closed_after<R: Eprint + AllocGlobal>(rt: &R) -> Result<(Closed, u32), Failur
     stored(rt, &race, &mut racer, REFERENCES[2])?;
     let mut sweeper = sweepers.take_last();
     sweepers.clear();
-    let done = refined(rt, &race, &mut sweeper)?;
+    let done = refined(rt, &race, &mut sweeper, cards)?;
     Ok((closed(race, racers, racer, sweepers, sweeper), done))
 }
 
@@ -117,21 +120,17 @@ fn stored(
     check(rt, kind == Kind::Logged, "a store of a race")
 }
 
-// Refines the three cards in order, up to one that is refused. Answers how many were refined.
-fn refined(rt: &impl Eprint, race: &Race, sweeper: &mut Sweeper) -> Result<u32, Failure>
+// Refines the first cards in order, up to one that is refused. Answers how many were refined.
+fn refined(rt: &impl Eprint, race: &Race, sweeper: &mut Sweeper, cards: u32) -> Result<u32, Failure>
     requires race { sweeper_race sweeper.old ≡ race_id race.now }
     ensures race { sweeper_race sweeper.new ≡ sweeper_race sweeper.old }
 {
-    if !is_refined(rt, race, sweeper, 0)? {
-        return Ok(0);
+    for number in 0..cards {
+        if !is_refined(rt, race, sweeper, number)? {
+            return Ok(number);
+        }
     }
-    if !is_refined(rt, race, sweeper, 1)? {
-        return Ok(1);
-    }
-    if !is_refined(rt, race, sweeper, 2)? {
-        return Ok(2);
-    }
-    Ok(3)
+    Ok(cards)
 }
 
 // Whether the refinement of the card went through.
@@ -152,8 +151,9 @@ fn is_refined(
     Ok(is_refined)
 }
 
-// The slots refer where they were stored to; the first cards are clean and recorded, the others dirty and not recorded.
-fn are_refined(rt: &impl Eprint, closed: &Closed, done: u32) -> Result<(), Failure> {
+/// Whether the slots refer where they were stored to, the first cards are clean and recorded, and the others dirty and not
+/// recorded.
+pub(crate) fn are_refined(rt: &impl Eprint, closed: &Closed, done: u32) -> Result<(), Failure> {
     for (number, (from, to)) in (0..3).zip(REFERENCES) {
         let place = target(closed, from)?;
         check(rt, place == Some(to), "a slot after a race")?;

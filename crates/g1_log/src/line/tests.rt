@@ -1,10 +1,11 @@
-ghost use Rattle.std.specs.Prelude.{◌≡◌, IfOk};
+ghost use Rattle.std.specs.Prelude.{◌≡◌, ◌≤◌, IfOk};
 ghost use Rattle.g1_log.specs.Ends.{IsSenderOf, IsTakerOf, sender_rights, taker_rights};
 
 use crate::{Buffer, Line, Parcel, Sender, Taker, samples};
 use arrayvec::ArrayVec;
 use g1_layout::NoMemory;
 use std::alloc::Global;
+use std::process::Abort;
 use std::sync::Wait;
 use std::test::*;
 use std::thread;
@@ -71,6 +72,103 @@ fn two_senders_and_one_taker(rt: HostRuntime) -> Result<(), Fail> {
     );
     assert_eq!(rt; read(settled.next(&rt)), Some((1, 0, Some(21))));
     assert_eq!(rt; read(settled.next(&rt)), None);
+    Ok(())
+}
+
+// A buffer of 256 cards, from this one on.
+fn long_buffer(first: u32) -> Result<Buffer, Fail> {
+    let mut cards = ArrayVec::new();
+    for offset in 0..256 {
+        let card = samples::card(first.saturating_add(offset))?;
+        cards.try_push(card).map_err(|_| "too many cards")?;
+    }
+    Ok(Buffer::of(cards))
+}
+
+fn assert_long(rt: &impl Abort, buffer: &Buffer, first: u32) {
+    assert_eq!(rt; buffer.cards().len(), 256);
+    for (offset, card) in buffer.cards().iter().enumerate() {
+        assert_eq!(rt; card.number() as usize, first as usize + offset);
+    }
+}
+
+// Puts a buffer of 256 cards for each place of an empty line. A further one comes back.
+fn fill<R: Abort + Wait>(rt: &R, line: &Line, mut sender: Sender, capacity: u32) -> Result<(), Fail>
+    requires of { IsSenderOf line.now sender }
+    requires few { capacity ≤ 1024 }
+{
+    for number in 0..capacity {
+        let put = line.put(rt, &mut sender, long_buffer(number * 60)?);
+        assert!(rt; put.is_ok());
+    }
+    let further = line.put(rt, &mut sender, long_buffer(capacity * 60)?);
+    let back = further.err().ok_or("a buffer past the capacity")?;
+    assert_long(rt, &back, capacity * 60);
+    assert_eq!(rt; line.len(rt), capacity as usize);
+    Ok(())
+}
+
+// Takes all buffers of a full line, and compares each card.
+fn empty<R: Abort + Wait>(rt: &R, line: &Line, mut taker: Taker, capacity: u32) -> Result<(), Fail>
+    requires of { IsTakerOf line.now taker }
+    requires few { capacity ≤ 1024 }
+{
+    for number in 0..capacity {
+        let parcel = line.take(rt, &mut taker).ok_or("too few buffers")?;
+        assert_eq!(rt; (parcel.sender, parcel.number), (0, u64::from(number)));
+        assert_long(rt, &parcel.buffer, number * 60);
+    }
+    assert_eq!(rt; read(line.take(rt, &mut taker)), None);
+    Ok(())
+}
+
+#[test]
+fn long_buffers_fill_a_line(rt: HostRuntime) -> Result<(), Fail> {
+    for capacity in [1, 1024] {
+        let (line, mut senders, mut takers) = Line::new(rt.alloc(), capacity as usize, 1, 1)?;
+        fill(&rt, &line, senders.remove(0), capacity)?;
+        empty(&rt, &line, takers.remove(0), capacity)?;
+    }
+    Ok(())
+}
+
+// Puts twelve buffers of one card each, from this one on.
+fn put_twelve<R: Abort + Wait>(rt: &R, line: &Line, mut sender: Sender, first: u32)
+    requires { IsSenderOf line.now sender }
+{
+    for turn in 0..12 {
+        let put = line.put(rt, &mut sender, buffer(first.saturating_add(turn)));
+        assert_eq!(rt; back(put), None);
+    }
+}
+
+// Takes eight parcels, with the cards from this one on.
+fn take_eight<R: Abort + Wait>(rt: &R, line: &Line, mut taker: Taker, first: u32)
+    requires { IsTakerOf line.now taker }
+{
+    for turn in 0..8 {
+        let card = first.saturating_add(turn);
+        let wanted = (card / 12, u64::from(card % 12), Some(card));
+        assert_eq!(rt; read(line.take(rt, &mut taker)), Some(wanted));
+    }
+}
+
+// Eight senders put twelve buffers each, and twelve takers take eight each: every card comes out once, under its sender.
+#[test]
+fn as_many_senders_and_takers_as_a_line_has(rt: HostRuntime) -> Result<(), Fail> {
+    let (line, senders, takers) = Line::new(rt.alloc(), 96, 8, 12)?;
+    let mut next: u32 = 0;
+    for sender in senders {
+        put_twelve(&rt, &line, sender, next);
+        next = next.saturating_add(12);
+    }
+    assert_eq!(rt; line.len(&rt), 96);
+    next = 0;
+    for taker in takers {
+        take_eight(&rt, &line, taker, next);
+        next = next.saturating_add(8);
+    }
+    assert_eq!(rt; line.len(&rt), 0);
     Ok(())
 }
 
@@ -265,6 +363,8 @@ fn line_in_threads(rt: HostRuntime) -> Result<(), Fail> {
             labels.push(label(&parcel))?;
         }
     }
+    // (no put comes back before the line has held four)
+    assert!(rt; labels.len() >= 4);
     assert_eq!(rt; labels.len(), put.len() + put_too.len());
     assert!(rt; each_once(labels.as_slice(), 0, put.as_slice()));
     assert!(rt; each_once(labels.as_slice(), 1, put_too.as_slice()));

@@ -1,5 +1,7 @@
 //! Refinements and rounds, worked by hand.
 use super::*;
+use g1_core::Config;
+use g1_layout::Layout;
 
 /// Five stores that each complete a buffer, of the cards 0 to 4, which hold into region 3.
 fn five_completed<R: Abort + Wait>(
@@ -63,6 +65,30 @@ fn a_stale_card_is_skipped(rt: HostRuntime) -> Result<(), Fail> {
     assert_refined(&rt, &ends.refine(&rt, &mut book, 0)?, 1, &[], 1, 0);
     assert_refined(&rt, &ends.refine(&rt, &mut book, 0)?, 0, &[], 0, 0);
     assert_eq!(rt; book.entries().len(), 6);
+    Ok(())
+}
+
+/// At hot limit 0 with a ring of one card. The drain has refined the cards of the first two buffers, which stay in the line. Then
+/// card 0 goes into the ring; card 1 pushes it out; card 0 is clean by then, and card 1 held: both are skipped.
+#[test]
+fn a_round_adds_up_hot_and_skipped_cards(rt: HostRuntime) -> Result<(), Fail> {
+    let layout = Layout::new(4, 2, 4).expect(&rt, "a layout within the limits");
+    let config = Config::new(1, 10, 0, 1, 5).expect(&rt, "settings within the limits");
+    let mut book = Book::open(rt.alloc(), layout, config, 1, 20)?;
+    let (line, mut senders, mut takers) = Line::new(rt.alloc(), 10, 1, 1)?;
+    let mut ends = caller(&rt, &line, &mut senders, &mut takers, 1);
+    for from in [0, 4] {
+        let _ = store(&rt, &mut book, &mut ends, 0, from, 24)?;
+    }
+    assert_set(&rt, &mut book, 3, &[0, 1])?;
+    for from in [0, 4, 8] {
+        let _ = store(&rt, &mut book, &mut ends, 0, from, 24)?;
+    }
+    let reply = ends.work(&rt, &mut book, 0)?;
+    assert_eq!(rt; (reply.taken, reply.left), (4, 1));
+    assert_eq!(rt; (reply.hot, reply.skipped), (2, 2));
+    assert!(rt; has_cards(&reply.refined, &[0]) && !reply.short);
+    assert_eq!(rt; counts(&mut book)?.pending, 2);
     Ok(())
 }
 
