@@ -2,8 +2,7 @@
 #![tactic(auto)]
 
 use anyhow::{Context, Result, bail};
-use g1_core::{Config, Core, Drained};
-use g1_layout::Layout;
+use g1_core::{Config, Core, Drained, Layout, Log};
 
 fn main(rt: HostRuntime) -> Result<()> {
     let layout = Layout::new(4, 2, 4).context("outside the limits of a heap")?;
@@ -11,21 +10,32 @@ fn main(rt: HostRuntime) -> Result<()> {
     let mut core = Core::new(rt.alloc(), layout, config)?;
     let mut log = config.new_log();
     for (slot, target) in [(0, 8), (16, 9), (24, 10)] {
-        let layout = core.layout();
-        let slot = layout.slot(slot).context("no such slot")?;
-        let (reply, full) = core.store(&mut log, slot, layout.slot(target));
-        println!(&rt; "store: {:?}", reply.kind)?;
-        if let Some(buffer) = full {
-            let reply = core.refine(Some(&buffer))?;
-            println!(&rt; "refined {} cards", reply.refined.len())?;
-        }
+        store(&rt, &mut core, &mut log, slot, target)?;
     }
-    let region = core.layout().region(1).context("no such region")?;
+    scan(&rt, &mut core, 1)
+}
+
+// The write barrier: a store, and the refinement of the log that it filled.
+fn store(rt: &impl Print, core: &mut Core, log: &mut Log, slot: u32, target: u32) -> Result<()> {
+    let layout = core.layout();
+    let slot = layout.slot(slot).context("no such slot")?;
+    let (reply, full) = core.store(log, slot, layout.slot(target));
+    println!(rt; "store: {:?}", reply.kind)?;
+    if let Some(buffer) = full {
+        let reply = core.refine(Some(&buffer))?;
+        println!(rt; "refined {} cards", reply.refined.len())?;
+    }
+    Ok(())
+}
+
+// The pause: a drain of the region that is to be emptied.
+fn scan(rt: &impl Print, core: &mut Core, region: u32) -> Result<()> {
+    let region = core.layout().region(region).context("no such region")?;
     let Drained::Cards { cards, .. } = core.drain(region)? else {
         bail!("out of memory: the rest stays pending, drain again");
     };
     for card in cards.as_slice() {
-        println!(&rt; "scan card {}", card.number())?;
+        println!(rt; "scan card {}", card.number())?;
     }
     Ok(())
 }
