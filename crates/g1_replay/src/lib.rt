@@ -45,6 +45,3 @@ pub use engine::run;
 pub use fault::TraceFault;
 pub use options::Options;
 pub use race_play::race;
-
-#[cfg(test)]
-mod tests;

@@ -14,6 +14,3 @@ pub use pauses::{put_clear_reply, put_redirected};
 pub use questions::{put_status, put_target};
 pub use refinements::{put_refine_reply, put_work_reply};
 pub use stores::{put_flush_reply, put_store_reply, put_stores};
-
-#[cfg(test)]
-mod tests;

@@ -1,7 +1,7 @@
 //! The texts of what is refused, and what a refused growth leaves.
-use super::help::is_refused;
-use super::options::config;
-use crate::{Mode, Options, read_options};
+use crate::help::is_refused;
+use crate::played::config;
+use g1_replay::{Mode, Options, read_options};
 
 #[test]
 fn words_that_the_line_does_not_know(rt: HostRuntime) {

@@ -1,7 +1,6 @@
 //! A crew and a race of many threads against one that makes the same stores in their order.
-use super::crew::replay;
-use super::options::config;
-use crate::{End, Mode, Options};
+use crate::played::{config, replay};
+use g1_replay::{End, Mode, Options};
 use std::alloc::Global;
 use std::fmt::Write;
 use std::process::Abort;

@@ -1,6 +1,6 @@
 //! Refused growths: under `rt try --test --fail-alloc N` the Nth growth of a test is refused.
-use super::options::config;
-use crate::{End, Options, run};
+use crate::played::config;
+use g1_replay::{End, Options, run};
 use std::process::Abort;
 use std::sync::Wait;
 use std::test::Fail;

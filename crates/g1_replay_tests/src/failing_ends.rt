@@ -1,78 +1,13 @@
-//! Readers and writers of the tests' own: that give or take one byte at a time, fail, or end early.
-ghost use Rattle.std.specs.Prelude.{Some};
-
-use super::options::config;
-use crate::{End, Options, run};
-use std::io;
-use std::io::{BufReader, ErrorKind, Read, Write};
+//! Inputs and outputs that fail or end early, and what is written then.
+use crate::played::without_rounds;
+use crate::streams::{Narrow, failing_after};
+use g1_replay::{End, Options, run};
+use std::io::BufReader;
 use std::process::Abort;
 use std::sync::Wait;
 use std::test::Fail;
 
-const TRACE: &[u8] = b"heap 4 2 4\nstore 0 0 8\ndrain 1\n";
-
-/// A reader that gives one byte a read, and fails once when it has given some bytes.
-#[derive(Drop)]
-pub(crate) struct Fragile<'a> {
-    bytes: &'a [u8],
-    room: usize,
-    failed: bool,
-}
-
-impl<'a> Read for Fragile<'a> {
-    ghost remaining = { λ s. Some s.bytes.now };
-
-    fn read(&mut self, buf: &mut [u8]) -> io::Result<usize> {
-        if self.room == 0 && !self.failed {
-            self.failed = true;
-            return Err(io::Error::from(ErrorKind::Other));
-        }
-        let count = buf.len().min(1);
-        let given = self.bytes.read(&mut buf[..count])?;
-        self.room = self.room.saturating_sub(given);
-        Ok(given)
-    }
-}
-
-/// It has the whole trace.
-pub(crate) fn failing_after(room: usize) -> Fragile<'static> {
-    Fragile {
-        bytes: TRACE,
-        room,
-        failed: false,
-    }
-}
-
-/// A writer that takes one byte a write, and when it has taken some bytes fails, or takes no more.
-#[derive(Drop)]
-pub(crate) struct Narrow {
-    pub bytes: Vec<u8>,
-    pub room: usize,
-    pub fails: bool,
-}
-
-impl Write for Narrow {
-    ghost contents = { λ s. Some s.bytes.items };
-
-    fn write(&mut self, buf: &[u8]) -> io::Result<usize> {
-        if buf.is_empty() {
-            return Ok(0);
-        }
-        if self.room == 0 && self.fails {
-            return Err(io::Error::from(ErrorKind::Other));
-        }
-        if self.room == 0 {
-            return Ok(0);
-        }
-        self.bytes.push(buf[0])?;
-        self.room -= 1;
-        Ok(1)
-    }
-
-    fn flush(&mut self) -> io::Result<()> {
-        Ok(())
-    }
-}
+pub(crate) const TRACE: &[u8] = b"heap 4 2 4\nstore 0 0 8\ndrain 1\n";
 
 /// What a replay of these bytes writes, and its end.
 fn replayed<R: Wait + AllocGlobal>(rt: &R, mut bytes: &[u8], options: &Options) -> (Vec<u8>, End) {
@@ -84,11 +19,12 @@ fn replayed<R: Wait + AllocGlobal>(rt: &R, mut bytes: &[u8], options: &Options) 
 /// One byte a read and one byte a write change nothing.
 #[test]
 fn byte_by_byte(rt: HostRuntime) -> Result<(), Fail> {
-    let mut input = BufReader::new(rt.alloc(), failing_after(100))?;
+    let mut input = BufReader::new(rt.alloc(), failing_after(TRACE, 100))?;
     let mut output = Narrow {
         bytes: Vec::new(rt.alloc()),
         room: 100,
         fails: true,
+        refused: 0,
     };
     let end = run(
         &rt,
@@ -106,7 +42,7 @@ fn byte_by_byte(rt: HostRuntime) -> Result<(), Fail> {
 #[test]
 fn reads_that_fail(rt: HostRuntime) -> Result<(), Fail> {
     for room in 0..=TRACE.len() {
-        let mut input = BufReader::new(rt.alloc(), failing_after(room))?;
+        let mut input = BufReader::new(rt.alloc(), failing_after(TRACE, room))?;
         let mut output: Vec<u8> = Vec::new(rt.alloc());
         let end = run(
             &rt,
@@ -127,34 +63,37 @@ fn reads_that_fail(rt: HostRuntime) -> Result<(), Fail> {
             input.get_ref().bytes.len(),
             TRACE.len().saturating_sub(room)
         );
+        assert_eq!(rt; input.get_ref().reads, room.saturating_add(1));
     }
     Ok(())
 }
 
-/// After each byte of the output: nothing is written after a failed write, and a write that takes no byte is one.
-#[test]
-fn writes_that_fail(rt: HostRuntime) -> Result<(), Fail> {
-    let whole = b"logged\ndrained 0\n".as_slice();
+/// After each byte of the output: a write that fails, or takes no byte, is the last one.
+fn stops_at_each_byte<R: Abort + Wait + AllocGlobal>(rt: &R, trace: &[u8], whole: &[u8]) {
     for room in 0..whole.len() {
         for fails in [true, false] {
-            let mut input = TRACE;
+            let mut input = trace;
             let mut output = Narrow {
                 bytes: Vec::new(rt.alloc()),
                 room,
                 fails,
+                refused: 0,
             };
-            let end = run(
-                &rt,
-                rt.alloc(),
-                &mut input,
-                &mut output,
-                &Options::default(),
-            );
+            let end = run(rt, rt.alloc(), &mut input, &mut output, &Options::default());
             assert_eq!(rt; end, End::WriteFailed);
             assert!(rt; output.bytes.as_slice() == &whole[..room]);
+            assert_eq!(rt; output.refused, 1);
         }
     }
-    Ok(())
+}
+
+/// In the lines of calls, in a list, and in the line of a fault.
+#[test]
+fn writes_that_fail(rt: HostRuntime) {
+    stops_at_each_byte(&rt, TRACE, b"logged\ndrained 0\n");
+    let cards = b"heap 64 64 64\nstore 0 64 4096\nstore 0 1280 4096\nstore 0 2560 4096\ndrain 1\n";
+    stops_at_each_byte(&rt, cards, b"logged\nlogged\nlogged\ndrained 1 20 40\n");
+    stops_at_each_byte(&rt, b"heap 4 2 4\nx\n", b"line 2: no such command\n");
 }
 
 /// What the trace prints, and how it ends, where only its first bytes are there.
@@ -185,14 +124,7 @@ fn every_beginning(rt: HostRuntime) -> Result<(), Fail> {
 /// A full book stops the replay at the call that it has no room for.
 #[test]
 fn full_book(rt: HostRuntime) -> Result<(), Fail> {
-    let options = Options {
-        mutators: 1,
-        config: config(&rt, 256, 10, 4, 1024, 5),
-        history: 1,
-        refiners: 1,
-        rounds: 100,
-    };
-    let (printed, end) = replayed(&rt, TRACE, &options);
+    let (printed, end) = replayed(&rt, TRACE, &without_rounds(1));
     assert_eq!(rt; end, End::Stopped);
     assert!(rt; printed.as_slice() == b"logged\nbook full\n".as_slice());
     Ok(())

@@ -1,14 +1,10 @@
 //! Crews, and how crews and races end.
-ghost use Rattle.std.specs.Prelude.{◌≤◌};
-
-use super::failing_ends::{Narrow, failing_after};
-use crate::{End, Mode, Options, crew, race, read_options, run};
-use g1_core::Config;
-use std::io::{BufRead, BufReader, Write};
-use std::process::Abort;
-use std::sync::Wait;
+use crate::failing_ends::TRACE;
+use crate::played::{is_played, replay, without_rounds};
+use crate::streams::{Narrow, failing_after};
+use g1_replay::{End, Mode, read_options};
+use std::io::BufReader;
 use std::test::Fail;
-use std::thread::Threads;
 
 const WORDS: [&str; 10] = [
     "g1replay",
@@ -22,53 +18,6 @@ const WORDS: [&str; 10] = [
     "--log",
     "1",
 ];
-
-/// The subcommand's replay.
-pub(crate) fn replay<T: Threads + Wait + Sync + AllocGlobal, R: BufRead, W: Write>(
-    rt: &T,
-    mode: Mode,
-    input: &mut R,
-    output: &mut W,
-    options: &Options,
-) -> End {
-    match mode {
-        Mode::Run => run(rt, rt.alloc(), input, output, options),
-        Mode::Crew => crew(rt, rt.alloc(), input, output, options),
-        Mode::Race => race(rt, rt.alloc(), input, output, options),
-    }
-}
-
-/// The trace prints just this, and ends so.
-pub(crate) fn is_played<R: Abort + Threads + Wait + Sync + AllocGlobal>(
-    rt: &R,
-    mode: Mode,
-    trace: &str,
-    options: &Options,
-    printed: &str,
-    wanted: End,
-) -> Result<(), Fail> {
-    let alloc = rt.alloc();
-    let mut input = trace.as_bytes();
-    let mut output: Vec<u8> = Vec::new(alloc);
-    let end = replay(rt, mode, &mut input, &mut output, options);
-    let text = String::from_utf8_lossy(alloc, output.as_slice())?;
-    assert_eq!(rt; text.as_str(), printed);
-    assert_eq!(rt; end, wanted);
-    Ok(())
-}
-
-/// One mutator, whose log no card fills, and a refiner that makes no round.
-pub(crate) fn without_rounds(history: u32) -> Options
-    requires { (1 ≤ history) × (history ≤ 1000000) }
-{
-    Options {
-        mutators: 1,
-        config: Config::default(),
-        history,
-        refiners: 1,
-        rounds: 0,
-    }
-}
 
 /// Each mutator stores a reference into region 1.
 #[test]
@@ -178,7 +127,7 @@ fn a_drain_that_the_book_has_no_room_for(rt: HostRuntime) -> Result<(), Fail> {
 fn a_read_that_fails(rt: HostRuntime) -> Result<(), Fail> {
     for mode in [Mode::Crew, Mode::Race] {
         for room in [23, 25] {
-            let mut input = BufReader::new(rt.alloc(), failing_after(room))?;
+            let mut input = BufReader::new(rt.alloc(), failing_after(TRACE, room))?;
             let mut output: Vec<u8> = Vec::new(rt.alloc());
             let end = replay(&rt, mode, &mut input, &mut output, &without_rounds(1000));
             assert_eq!(rt; end, End::ReadFailed);
@@ -200,10 +149,12 @@ fn writes_that_fail(rt: HostRuntime) -> Result<(), Fail> {
                     bytes: Vec::new(rt.alloc()),
                     room,
                     fails,
+                    refused: 0,
                 };
                 let end = replay(&rt, mode, &mut input, &mut output, &without_rounds(1000));
                 assert_eq!(rt; end, End::WriteFailed);
                 assert!(rt; output.bytes.as_slice() == &whole[..room]);
+                assert_eq!(rt; output.refused, 1);
             }
         }
     }

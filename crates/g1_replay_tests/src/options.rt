@@ -1,24 +1,9 @@
 //! The options that a command line gives.
-use super::help::is_refused;
-use crate::{Mode, Options, read_options};
-use g1_core::Config;
+use crate::help::is_refused;
+use crate::played::config;
+use g1_replay::{Mode, Options, read_options};
 use std::process::Abort;
 use std::test::Fail;
-
-/// The settings of these numbers.
-pub(super) fn config(
-    rt: &impl Abort,
-    log: usize,
-    limit: usize,
-    hot: u32,
-    ring: usize,
-    start: usize,
-) -> Config {
-    match Config::new(log, limit, hot, ring, start) {
-        Some(config) => config,
-        None => panic!(rt; "a setting is outside its limits"),
-    }
-}
 
 /// The options of a line that is taken, and asks for this subcommand.
 fn taken(rt: &(impl Abort + AllocGlobal), wanted: Mode, words: &[&str]) -> Options {

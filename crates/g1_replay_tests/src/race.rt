@@ -1,6 +1,6 @@
 //! Races: what they print where the threads leave no choice, and how they end.
-use super::crew::{is_played, without_rounds};
-use crate::{End, Mode, read_options};
+use crate::played::{is_played, without_rounds};
+use g1_replay::{End, Mode, read_options};
 use std::test::Fail;
 
 /// Each mutator stores a reference into region 1.

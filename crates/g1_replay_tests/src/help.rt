@@ -1,5 +1,5 @@
 //! The texts of help.
-use crate::read_options;
+use g1_replay::read_options;
 use std::process::Abort;
 use std::test::Fail;
 
@@ -163,7 +163,7 @@ Exit status:
 ";
 
 /// The line is refused with just this text.
-pub(super) fn is_refused(rt: &(impl Abort + AllocGlobal), words: &[&str], text: &str) {
+pub(crate) fn is_refused(rt: &(impl Abort + AllocGlobal), words: &[&str], text: &str) {
     match read_options(rt.alloc(), words) {
         Ok(_) => panic!(rt; "{words:?} was taken"),
         Err(fault) => assert_eq!(rt; fault.text.as_str(), text),

@@ -1,0 +1,395 @@
+//! Lines that were read by hand, on a heap of 4 regions, 8 cards and 32 slots, with two mutators: what a line prints, where it stands,
+//! shows what it was read as.
+use crate::played::{is_played, two_mutators};
+use g1_replay::{End, Mode, TraceFault};
+use std::process::Abort;
+use std::sync::Wait;
+use std::test::Fail;
+use std::thread::Threads;
+
+/// Each of the lines, between these others, and what the trace then prints.
+fn are_read<R: Abort + Threads + Wait + Sync + AllocGlobal>(
+    rt: &R,
+    before: &str,
+    lines: &[&str],
+    behind: &str,
+    printed: &str,
+) -> Result<(), Fail> {
+    for line in lines {
+        let trace = format!(in rt.alloc(); "heap 4 2 4\n{before}{line}\n{behind}")?;
+        is_played(
+            rt,
+            Mode::Run,
+            trace.as_str(),
+            &two_mutators(),
+            printed,
+            End::Whole,
+        )?;
+    }
+    Ok(())
+}
+
+#[test]
+fn commands_with_one_number_or_none(rt: HostRuntime) -> Result<(), Fail> {
+    are_read(
+        &rt,
+        "store 0 0 8\nstore 1 4 8\nstore 1 8 16\n",
+        &["flush 1", "flush 0000000001", "  flush  1 "],
+        "",
+        "logged\nlogged\nlogged\nflushed 2\n",
+    )?;
+    let buffer = "store 0 0 24\nflush 0\n";
+    let refined = "logged\nflushed 1\nrefined 1 hot 0 skipped 0\n";
+    are_read(&rt, buffer, &["refine", " refine "], "", refined)?;
+    let left = "logged\nflushed 1\nworked 0 refined 0 hot 0 skipped 0 left 1\n";
+    are_read(&rt, buffer, &["work"], "", left)?;
+    let last = "store 0 31 0\n";
+    are_read(&rt, last, &["target 31"], "", "logged\nslot 0\n")?;
+    are_read(&rt, last, &["pending 7"], "", "logged\nyes\n")?;
+    are_read(
+        &rt,
+        "store 0 0 24\nflush 0\nrefine\n",
+        &["members 3"],
+        "",
+        "logged\nflushed 1\nrefined 1 hot 0 skipped 0\ncards 0\n",
+    )?;
+    are_read(
+        &rt,
+        last,
+        &["status"],
+        "",
+        "logged\nstatus pending 1 recorded 0\n",
+    )?;
+    are_read(
+        &rt,
+        last,
+        &["drain 0", "drain 00"],
+        "",
+        "logged\ndrained 7\n",
+    )?;
+    are_read(
+        &rt,
+        "store 0 0 16\ndrain 2\n",
+        &["clear 2"],
+        "",
+        "logged\ndrained 0\nrefused: still referenced by slot 0\n",
+    )
+}
+
+#[test]
+fn stores_and_redirects(rt: HostRuntime) -> Result<(), Fail> {
+    are_read(
+        &rt,
+        "",
+        &[
+            "store 0 7 15",
+            "store 00 0000000007 0015",
+            "  store   0 7  15   ",
+        ],
+        "target 7\nflush 1\nflush 0\n",
+        "logged\nslot 15\nflushed 0\nflushed 1\n",
+    )?;
+    are_read(
+        &rt,
+        "store 0 31 0\n",
+        &["store 1 31 null"],
+        "target 31\n",
+        "logged\nnull\nnull\n",
+    )?;
+    are_read(
+        &rt,
+        "store 0 8 25\n",
+        &["redirect 3 0"],
+        "target 8\n",
+        "logged\nredirected 1\nslot 1\n",
+    )
+}
+
+/// Before the header and behind it.
+#[test]
+fn empty_lines_and_remarks(rt: HostRuntime) -> Result<(), Fail> {
+    let lines = ["", "    ", "#", "# all", "   #store 0 99 x", "#\r"];
+    for line in lines {
+        let trace = format!(in rt.alloc(); "{line}\nheap 4 2 4\n{line}\nstatus\n")?;
+        is_played(
+            &rt,
+            Mode::Run,
+            trace.as_str(),
+            &two_mutators(),
+            "status pending 0 recorded 0\n",
+            End::Whole,
+        )?;
+    }
+    Ok(())
+}
+
+/// Each of the lines is refused for this.
+fn are_refused<R: Abort + Threads + Wait + Sync + AllocGlobal>(
+    rt: &R,
+    fault: &str,
+    lines: &[&str],
+) -> Result<(), Fail> {
+    let printed = format!(in rt.alloc(); "line 2: {fault}\n")?;
+    for line in lines {
+        let trace = format!(in rt.alloc(); "heap 4 2 4\n{line}\n")?;
+        is_played(
+            rt,
+            Mode::Run,
+            trace.as_str(),
+            &two_mutators(),
+            printed.as_str(),
+            End::Refused,
+        )?;
+    }
+    Ok(())
+}
+
+/// Tab, carriage return and NUL belong to words, and no letter stands for another.
+#[test]
+fn no_such_command(rt: HostRuntime) -> Result<(), Fail> {
+    are_refused(
+        &rt,
+        "no such command",
+        &[
+            "heap 4 2 4",
+            "storm",
+            "stor 0 7 15",
+            "stores 0 7 15",
+            "Store 0 7 15",
+            "store\t0 7 15",
+            "refine\r",
+            "\r",
+            "\t",
+            "\0",
+            "0 store 7 15",
+            "drain#",
+            "null",
+        ],
+    )
+}
+
+/// Another number of words, whatever they are.
+#[test]
+fn wrong_words(rt: HostRuntime) -> Result<(), Fail> {
+    are_refused(
+        &rt,
+        "wrong words",
+        &[
+            "store",
+            "store 0 x",
+            "store 0 7 15 15",
+            "flush",
+            "flush x 9",
+            "refine 0",
+            "work \r",
+            "target",
+            "pending 7 # seven",
+            "members 1 2",
+            "status #",
+            "drain",
+            "clear 1 1",
+            "redirect x",
+            "redirect 1 1 1",
+        ],
+    )
+}
+
+/// Over all words, before any number is held against its limit; `null` in the place of a target alone.
+#[test]
+fn not_a_number(rt: HostRuntime) -> Result<(), Fail> {
+    are_refused(
+        &rt,
+        "not a number",
+        &[
+            "store 0 x 99",
+            "store 9 99 x",
+            "store 9 x 99",
+            "store 0 null 15",
+            "store null 7 15",
+            "store 0 7 nul",
+            "store 0 7 NULL",
+            "store 0 7 nulls",
+            "flush -1",
+            "flush +1",
+            "flush 1\r",
+            "flush 1\t",
+            "target null",
+            "pending 00000000007",
+            "drain 1/",
+            "drain :",
+            "clear 0x1",
+            "redirect 9 x",
+            "redirect x 9",
+        ],
+    )
+}
+
+/// The leftmost number that is too large for its place decides, also one past 32 bits.
+#[test]
+fn numbers_past_their_limits(rt: HostRuntime) -> Result<(), Fail> {
+    are_refused(
+        &rt,
+        "no such mutator",
+        &[
+            "store 2 99 99",
+            "store 2 31 null",
+            "flush 2",
+            "flush 4294967296",
+            "store 4294967297 7 15",
+        ],
+    )?;
+    are_refused(
+        &rt,
+        "no such slot",
+        &[
+            "store 1 32 0",
+            "store 1 31 32",
+            "store 1 32 null",
+            "target 32",
+            "target 4294967296",
+            "target 9999999999",
+            "store 1 31 4294967303",
+        ],
+    )?;
+    are_refused(&rt, "no such card", &["pending 8", "pending 4294967303"])?;
+    are_refused(
+        &rt,
+        "no such region",
+        &[
+            "members 4",
+            "drain 4",
+            "clear 4294967296",
+            "redirect 4 0",
+            "redirect 0 4",
+            "redirect 4 4",
+        ],
+    )
+}
+
+#[test]
+fn same_region_twice(rt: HostRuntime) -> Result<(), Fail> {
+    are_refused(&rt, "same region twice", &["redirect 1 1", "redirect 1 01"])
+}
+
+/// The heap has a last slot, card and region of these numbers, and none of the next ones.
+fn is_heap<R: Abort + Threads + Wait + Sync + AllocGlobal>(
+    rt: &R,
+    header: &str,
+    (slot, card, region): (u32, u32, u32),
+    (next_slot, next_card, next_region): (u32, u32, u32),
+) -> Result<(), Fail> {
+    let last = format!(in rt.alloc();
+        "{header}\ntarget {slot}\npending {card}\nmembers {region}\n"
+    )?;
+    is_played(
+        rt,
+        Mode::Run,
+        last.as_str(),
+        &two_mutators(),
+        "null\nno\ncards\n",
+        End::Whole,
+    )?;
+    let rows = [
+        ("target", next_slot, "line 2: no such slot\n"),
+        ("pending", next_card, "line 2: no such card\n"),
+        ("members", next_region, "line 2: no such region\n"),
+    ];
+    for (command, number, printed) in rows {
+        let trace = format!(in rt.alloc(); "{header}\n{command} {number}\n")?;
+        is_played(
+            rt,
+            Mode::Run,
+            trace.as_str(),
+            &two_mutators(),
+            printed,
+            End::Refused,
+        )?;
+    }
+    Ok(())
+}
+
+#[test]
+fn headers(rt: HostRuntime) -> Result<(), Fail> {
+    let rows = [
+        ("heap 4 2 4", (31, 7, 3), (32, 8, 4)),
+        ("  heap  0004 2   0000000004 ", (31, 7, 3), (32, 8, 4)),
+        ("heap 1 1 1", (0, 0, 0), (1, 1, 1)),
+        (
+            "heap 256 64 64",
+            (1048575, 16383, 255),
+            (1048576, 16384, 256),
+        ),
+        (
+            "heap 256 256 16",
+            (1048575, 65535, 255),
+            (1048576, 65536, 256),
+        ),
+    ];
+    for (header, last, next) in rows {
+        is_heap(&rt, header, last, next)?;
+    }
+    Ok(())
+}
+
+#[test]
+fn refused_headers(rt: HostRuntime) -> Result<(), Fail> {
+    let rows = [
+        ("store 0 0 8", "heap expected"),
+        ("Heap 4 2 4", "heap expected"),
+        ("heaps x", "heap expected"),
+        ("heap\t4 2 4", "heap expected"),
+        ("heap", "wrong words"),
+        ("heap 4 x", "wrong words"),
+        ("heap 4 2 4 1", "wrong words"),
+        ("heap 0 0 x", "not a number"),
+        ("heap x 0 0", "not a number"),
+        ("heap 4 2 4\r", "not a number"),
+        ("heap 4 00000000002 4", "not a number"),
+        ("heap 4 null 4", "not a number"),
+        ("heap 0 1 1", "bad heap"),
+        ("heap 257 1 1", "bad heap"),
+        ("heap 1 257 1", "bad heap"),
+        ("heap 1 1 65", "bad heap"),
+        ("heap 256 65 64", "bad heap"),
+        ("heap 4294967297 1 1", "bad heap"),
+        ("heap 1 1 4294967300", "bad heap"),
+        ("heap 9999999999 9999999999 1", "bad heap"),
+    ];
+    for (header, fault) in rows {
+        let trace = format!(in rt.alloc(); "{header}\nstatus\n")?;
+        let printed = format!(in rt.alloc(); "line 1: {fault}\n")?;
+        is_played(
+            &rt,
+            Mode::Run,
+            trace.as_str(),
+            &two_mutators(),
+            printed.as_str(),
+            End::Refused,
+        )?;
+    }
+    Ok(())
+}
+
+/// A program that shows a fault of its own accord uses the same words.
+#[test]
+fn words_of_faults(rt: HostRuntime) -> Result<(), Fail> {
+    let rows = [
+        (TraceFault::TooLong, "too long"),
+        (TraceFault::Cut, "cut"),
+        (TraceFault::NoHeader, "heap expected"),
+        (TraceFault::NoCommand, "no such command"),
+        (TraceFault::Words, "wrong words"),
+        (TraceFault::NotNumber, "not a number"),
+        (TraceFault::BadHeap, "bad heap"),
+        (TraceFault::NoMutator, "no such mutator"),
+        (TraceFault::NoSlot, "no such slot"),
+        (TraceFault::NoCard, "no such card"),
+        (TraceFault::NoRegion, "no such region"),
+        (TraceFault::Twice, "same region twice"),
+    ];
+    for (fault, words) in rows {
+        let shown = format!(in rt.alloc(); "{fault}")?;
+        assert_eq!(rt; shown.as_str(), words);
+    }
+    Ok(())
+}

@@ -1,0 +1,171 @@
+//! Traces that were read by hand, line by line.
+use crate::played::{is_played, two_mutators, without_rounds};
+use crate::streams::failing_after;
+use g1_replay::{End, Mode, Options, run};
+use std::alloc::Global;
+use std::io;
+use std::io::{BufReader, Read};
+use std::sync::Wait;
+use std::test::Fail;
+
+/// What `status` prints of an empty heap.
+const STATUS: &str = "status pending 0 recorded 0\n";
+
+#[test]
+fn ends_of_traces(rt: HostRuntime) -> Result<(), Fail> {
+    let status_then_three = "status pending 0 recorded 0\nline 3: no such command\n";
+    let status_and_work =
+        "status pending 0 recorded 0\nworked 0 refined 0 hot 0 skipped 0 left 0\n";
+    let rows = [
+        ("", "line 1: heap expected\n", End::Refused),
+        ("\n\n# all\n", "line 4: heap expected\n", End::Refused),
+        ("store 0 0 8\n", "line 1: heap expected\n", End::Refused),
+        ("\nheap 0 1 1\n", "line 2: bad heap\n", End::Refused),
+        ("heap 4 2 4", "line 1: cut\n", End::Refused),
+        ("# all", "line 1: cut\n", End::Refused),
+        (
+            "heap 4 2 4\r\nstatus\r\n",
+            "line 1: not a number\n",
+            End::Refused,
+        ),
+        ("heap 4 2 4\n", "", End::Whole),
+        ("heap 4 2 4\nx\n", "line 2: no such command\n", End::Refused),
+        (
+            "\n#\nheap 4 2 4\n\n \n# all\nstatus\n\nwork\n\n",
+            status_and_work,
+            End::Whole,
+        ),
+        (
+            "\n#\nheap 4 2 4\n\n \n# all\n\n\n\n\nx\n",
+            "line 11: no such command\n",
+            End::Refused,
+        ),
+        (
+            "heap 4 2 4\n# all\ndrain 4\n",
+            "line 3: no such region\n",
+            End::Refused,
+        ),
+        (
+            "heap 4 2 4\nheap 4 2 4\n",
+            "line 2: no such command\n",
+            End::Refused,
+        ),
+        (
+            "heap 4 2 4\nstatus\nstatu\nstatus\n",
+            status_then_three,
+            End::Refused,
+        ),
+        (
+            "heap 4 2 4\nstore 0 0 8\ndrain 1",
+            "logged\nline 3: cut\n",
+            End::Refused,
+        ),
+        ("heap 4 2 4\n# cut", "line 2: cut\n", End::Refused),
+        ("heap 4 2 4\n ", "line 2: cut\n", End::Refused),
+        (
+            "heap 4 2 4\nstatus\n\0",
+            "status pending 0 recorded 0\nline 3: cut\n",
+            End::Refused,
+        ),
+        ("heap 4 2 4\nstatus\n\0\n", status_then_three, End::Refused),
+    ];
+    for (trace, printed, end) in rows {
+        is_played(&rt, Mode::Run, trace, &two_mutators(), printed, end)?;
+    }
+    Ok(())
+}
+
+/// What comes of a trace whose second line begins with `count` times this byte and then has `rest`, through a buffer of 7 bytes.
+fn play_line<R: Wait + AllocGlobal>(
+    rt: &R,
+    byte: u8,
+    count: u64,
+    rest: &[u8],
+) -> Result<(Vec<u8>, End), Fail> {
+    let alloc: Global = rt.alloc();
+    let head: &[u8] = b"heap 4 2 4\n";
+    let bytes = head.chain(io::repeat(byte).take(count)).chain(rest);
+    let mut input = BufReader::with_capacity(alloc, 7, bytes)?;
+    let mut output: Vec<u8> = Vec::new(alloc);
+    let end = run(rt, alloc, &mut input, &mut output, &Options::default());
+    Ok((output, end))
+}
+
+/// 64 bytes are a line, 65 are too many, blank or a remark though they be, and whatever comes behind them.
+#[test]
+fn long_lines(rt: HostRuntime) -> Result<(), Fail> {
+    let too_long = "line 2: too long\n";
+    let rows: [(u8, u64, &[u8], &str); 11] = [
+        (b'7', 64, b"\nstatus\n", "line 2: no such command\n"),
+        (b'7', 65, b"\nstatus\n", too_long),
+        (b' ', 64, b"\nstatus\n", STATUS),
+        (b' ', 65, b"\nstatus\n", too_long),
+        (b' ', 58, b"status\n", STATUS),
+        (b' ', 59, b"status\n", too_long),
+        (b'#', 64, b"\nstatus\n", STATUS),
+        (b'#', 65, b"\nstatus\n", too_long),
+        (b'7', 64, b"", "line 2: cut\n"),
+        (b'7', 65, b"", too_long),
+        (b'7', 10_000, b"\n", too_long),
+    ];
+    for (byte, count, rest, want) in rows {
+        let (printed, end) = play_line(&rt, byte, count, rest)?;
+        assert!(rt; printed.as_slice() == want.as_bytes(), "{count} {want}");
+        assert_eq!(rt; end == End::Whole, want == STATUS, "{count} {want}");
+        assert_eq!(rt; end == End::Refused, want != STATUS, "{count} {want}");
+    }
+    Ok(())
+}
+
+/// With 65 bytes read the line is too long, and no further byte is asked for.
+#[test]
+fn long_line_before_a_failing_read(rt: HostRuntime) -> Result<(), Fail> {
+    let mut input = BufReader::new(rt.alloc(), failing_after(&[b'7'; 66], 65))?;
+    let mut output: Vec<u8> = Vec::new(rt.alloc());
+    let end = run(
+        &rt,
+        rt.alloc(),
+        &mut input,
+        &mut output,
+        &Options::default(),
+    );
+    assert_eq!(rt; end, End::Refused);
+    assert!(rt; output.as_slice() == b"line 1: too long\n".as_slice());
+    assert_eq!(rt; input.get_ref().reads, 65);
+    Ok(())
+}
+
+/// Nothing behind the line that ends the replay is read: neither behind a fault nor behind a call that is refused.
+#[test]
+fn lines_one_by_one(rt: HostRuntime) {
+    let rows: [(&[u8], &[u8], &[u8]); 5] = [
+        (b"x\nflush 0\n", b"line 1: heap expected\n", b"flush 0\n"),
+        (
+            b"heap 4 2 4\nx\n#\nrefine\n",
+            b"line 2: no such command\n",
+            b"#\nrefine\n",
+        ),
+        (
+            b"heap 4 2 4\nflush 0\n#\nx\nrefine\n",
+            b"flushed 0\nline 4: no such command\n",
+            b"refine\n",
+        ),
+        (
+            b"heap 4 2 4\nstore 0 0 8\nstatus\ndrain 1\n",
+            b"logged\nbook full\n",
+            b"drain 1\n",
+        ),
+        (
+            b"heap 4 2 4\nflush 0\n#\nrefine\n",
+            b"flushed 0\nidle\n",
+            b"",
+        ),
+    ];
+    for (trace, printed, left) in rows {
+        let mut input = trace;
+        let mut output: Vec<u8> = Vec::new(rt.alloc());
+        let _end = run(&rt, rt.alloc(), &mut input, &mut output, &without_rounds(1));
+        assert!(rt; output.as_slice() == printed);
+        assert!(rt; input == left);
+    }
+}
