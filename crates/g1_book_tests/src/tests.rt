@@ -6,6 +6,7 @@ ghost use Rattle.std.specs.Prelude.{◌≡◌, ◌≤◌, ◌<◌, [], IfOk};
 ghost use Rattle.g1_layout.specs.Shape.{slot_count, card_count};
 ghost use Rattle.g1_book.specs.History.{layout_in};
 
+use calls::{drain, number_of};
 use g1_book::{Book, FlushReply, Refusal};
 use g1_core::{
     Call, CardList, ClearReply, Config, Drained, Fill, Redirected, RefineReply, Reply, Status,
@@ -17,8 +18,8 @@ use std::alloc::Global;
 use std::process::Abort;
 
 mod answers;
+mod calls;
 mod crew;
-mod full;
 mod growths;
 mod shared;
 mod steps;
@@ -180,9 +181,7 @@ pub(crate) fn is_wanted(reply: &Reply, want: &Want<'_>) -> bool {
                 && *left == 0
                 && !*short
         }
-        Reply::Target(place) => {
-            matches!(want, Want::Target(p) if place.map(|slot| slot.number()) == *p)
-        }
+        Reply::Target(place) => { matches!(want, Want::Target(p) if number_of(*place) == *p) }
         Reply::Pending(answer) => matches!(want, Want::Pending(a) if *answer == *a),
         Reply::Cards(cards) => matches!(want, Want::Cards(numbers) if has_cards(cards, numbers)),
         Reply::Status(status) => {
@@ -234,29 +233,11 @@ pub(crate) fn assert_set(
     of: u32,
     set: &[u32],
 ) -> Result<(), Refusal> {
-    let region = region(rt, book, of);
-    match book.drain(0, region)? {
+    match drain(rt, book, 0, of)? {
         Drained::Cards { cards, .. } => {
             assert!(rt; has_cards(&cards, set), "the set of region {of}: {cards:?}");
             Ok(())
         }
         Drained::Short { .. } => Err(Refusal::NoMemory),
-    }
-}
-
-/// Redirects, and answers how many slots were moved, if any were, and which cards were refined.
-pub(crate) fn redirect(
-    rt: &impl Abort,
-    book: &mut Book,
-    caller: u32,
-    from: u32,
-    to: u32,
-) -> Result<(Option<u32>, CardList), Refusal> {
-    let from = region(rt, book, from);
-    let to = region(rt, book, to);
-    assert!(rt; from.number() != to.number());
-    match book.redirect(caller, from, to)? {
-        Redirected::Moved { slots, refined } => Ok((Some(slots), refined)),
-        Redirected::Short { refined } => Ok((None, refined)),
     }
 }

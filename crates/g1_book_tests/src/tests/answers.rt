@@ -1,39 +1,54 @@
 //! Each call once, with memory enough: what it answers and what it enters.
+use super::calls::{clear, is_pending, members, redirect, refine, status, target};
 use super::*;
-use g1_core::{RefineReply, Status};
+use g1_core::RefineReply;
 use std::test::Fail;
 
 /// Two stores by two mutators fill logs of one card, and two refiners refine a buffer and none.
 #[test]
 fn stores_and_refinements_are_entered(rt: HostRuntime) -> Result<(), Fail> {
     let mut book = book(&rt, rt.alloc(), 1, 4, 10)?;
+    Ok(store_and_refine(&rt, &mut book)?)
+}
+
+fn store_and_refine(rt: &impl Abort, book: &mut Book) -> Result<(), Refusal> {
+    let buffer = two_stored(rt, book)?;
+    assert_taken(rt, &refine(book, 5, buffer.as_ref())?, 1, &[0]);
+    assert_taken(rt, &refine(book, 6, None)?, 0, &[]);
+    assert_stores_and_refinements(rt, book);
+    Ok(())
+}
+
+/// Stores a reference that fills its log, and null. Answers the buffer of the first.
+fn two_stored(rt: &impl Abort, book: &mut Book) -> Result<Option<Buffer>, Refusal> {
     let mut log = Log::new(1);
-    let (reply, buffer) = store(&rt, &mut book, 0, &mut log, 0, Some(8))?;
+    let (reply, buffer) = store(rt, book, 0, &mut log, 0, Some(8))?;
     assert_eq!(rt; (reply.kind, reply.fill), (Kind::Logged, Fill::Full));
     assert!(rt; buffer.is_some());
-    let (second, none) = store(&rt, &mut book, 1, &mut log, 1, None)?;
+    let (second, none) = store(rt, book, 1, &mut log, 1, None)?;
     assert_eq!(rt; (second.kind, second.fill), (Kind::Null, Fill::No));
     assert!(rt; none.is_none());
-    assert_taken(&rt, &book.refine(5, buffer.as_ref())?, 1, &[0]);
-    assert_taken(&rt, &book.refine(6, None)?, 0, &[]);
+    Ok(buffer)
+}
+
+fn assert_stores_and_refinements(rt: &impl Abort, book: &Book) {
     let wanted = [
         (
             0,
-            store_call(&rt, &book, 0, Some(8)),
+            store_call(rt, book, 0, Some(8)),
             Want::Stored(Kind::Logged, Fill::Full),
             [].as_slice(),
         ),
         (
             1,
-            store_call(&rt, &book, 1, None),
+            store_call(rt, book, 1, None),
             Want::Stored(Kind::Null, Fill::No),
             [].as_slice(),
         ),
         (5, Call::Refine, Want::Refined(1, 0, 0), [0].as_slice()),
         (6, Call::Refine, Want::Refined(0, 0, 0), [].as_slice()),
     ];
-    assert_entries(&rt, &book, &wanted);
-    Ok(())
+    assert_entries(rt, book, &wanted);
 }
 
 fn assert_taken(rt: &impl Abort, reply: &RefineReply, taken: u32, refined: &[u32]) {
@@ -47,29 +62,30 @@ fn assert_taken(rt: &impl Abort, reply: &RefineReply, taken: u32, refined: &[u32
 #[test]
 fn questions_are_entered(rt: HostRuntime) -> Result<(), Fail> {
     let mut book = book(&rt, rt.alloc(), 1, 4, 10)?;
+    one_recorded_one_pending(&rt, &mut book)?;
+    Ok(ask(&rt, &mut book)?)
+}
+
+fn one_recorded_one_pending(rt: &impl Abort, book: &mut Book) -> Result<(), Refusal> {
     let mut log = Log::new(1);
-    let (_, buffer) = store(&rt, &mut book, 0, &mut log, 0, Some(8))?;
-    let _ = book.refine(0, buffer.as_ref())?;
-    let _ = store(&rt, &mut book, 0, &mut log, 4, Some(16))?;
-    let first = slot(&rt, &book, 0);
-    let place = book.target(1, first)?;
-    assert_eq!(rt; place.map(|slot| slot.number()), Some(8));
-    let one = card(&rt, &book, 1);
-    assert!(rt; book.is_pending(2, one)?);
-    let into = region(&rt, &book, 1);
-    assert!(rt; has_cards(&book.members(3, into)?, &[0]));
-    let counts = Status {
-        pending: 1,
-        recorded: 1,
-    };
-    assert_eq!(rt; book.status(4)?, counts);
+    let (_, buffer) = store(rt, book, 0, &mut log, 0, Some(8))?;
+    let _ = refine(book, 0, buffer.as_ref())?;
+    let _ = store(rt, book, 0, &mut log, 4, Some(16))?;
+    Ok(())
+}
+
+fn ask(rt: &impl Abort, book: &mut Book) -> Result<(), Refusal> {
+    assert_eq!(rt; target(rt, book, 1, 0)?, Some(8));
+    assert!(rt; is_pending(rt, book, 2, 1)?);
+    assert!(rt; has_cards(&members(rt, book, 3, 1)?, &[0]));
+    assert_eq!(rt; status(book, 4)?, (1, 1));
     let wanted = [
-        (1, Call::Target(first), Want::Target(Some(8))),
-        (2, Call::Pending(one), Want::Pending(true)),
-        (3, Call::Members(into), Want::Cards(&[0])),
+        (1, Call::Target(slot(rt, book, 0)), Want::Target(Some(8))),
+        (2, Call::Pending(card(rt, book, 1)), Want::Pending(true)),
+        (3, Call::Members(region(rt, book, 1)), Want::Cards(&[0])),
         (4, Call::Status, Want::Status(1, 1)),
     ];
-    assert_last(&rt, &book, 3, &wanted);
+    assert_last(rt, book, 3, &wanted);
     Ok(())
 }
 
@@ -89,21 +105,33 @@ fn assert_last(rt: &impl Abort, book: &Book, first: usize, wanted: &[(u32, Call,
 #[test]
 fn drains_and_clears_are_entered(rt: HostRuntime) -> Result<(), Fail> {
     let mut book = book(&rt, rt.alloc(), 2, 4, 10)?;
+    drain_and_clear(&rt, &mut book)?;
+    assert_drains_and_clears(&rt, &book);
+    Ok(())
+}
+
+fn drain_and_clear(rt: &impl Abort, book: &mut Book) -> Result<(), Refusal> {
     let mut log = Log::new(2);
-    let _ = store(&rt, &mut book, 0, &mut log, 4, Some(16))?;
-    let two = region(&rt, &book, 2);
-    assert_eq!(rt; book.clear(1, two)?, ClearReply::Pending(1));
-    assert_set(&rt, &mut book, 2, &[1])?;
-    let two = region(&rt, &book, 2);
-    let still = ClearReply::StillReferenced(slot(&rt, &book, 4));
-    assert_eq!(rt; book.clear(2, two)?, still);
-    let _ = store(&rt, &mut book, 0, &mut log, 4, None)?;
-    let two = region(&rt, &book, 2);
-    assert_eq!(rt; book.clear(3, two)?, ClearReply::Cleared);
+    let _ = store(rt, book, 0, &mut log, 4, Some(16))?;
+    assert_eq!(rt; clear(rt, book, 1, 2)?, ClearReply::Pending(1));
+    assert_set(rt, book, 2, &[1])?;
+    let still = still_referenced(rt, book);
+    assert_eq!(rt; clear(rt, book, 2, 2)?, still);
+    let _ = store(rt, book, 0, &mut log, 4, None)?;
+    assert_eq!(rt; clear(rt, book, 3, 2)?, ClearReply::Cleared);
+    Ok(())
+}
+
+fn still_referenced(rt: &impl Abort, book: &Book) -> ClearReply {
+    ClearReply::StillReferenced(slot(rt, book, 4))
+}
+
+fn assert_drains_and_clears(rt: &impl Abort, book: &Book) {
+    let two = region(rt, book, 2);
     let wanted = [
         (
             0,
-            store_call(&rt, &book, 4, Some(16)),
+            store_call(rt, book, 4, Some(16)),
             Want::Stored(Kind::Logged, Fill::No),
             [].as_slice(),
         ),
@@ -114,10 +142,15 @@ fn drains_and_clears_are_entered(rt: HostRuntime) -> Result<(), Fail> {
             [].as_slice(),
         ),
         (0, Call::Drain(two), Want::Cards(&[1]), [1].as_slice()),
-        (2, Call::Clear(two), Want::Clear(still), [].as_slice()),
+        (
+            2,
+            Call::Clear(two),
+            Want::Clear(still_referenced(rt, book)),
+            [].as_slice(),
+        ),
         (
             0,
-            store_call(&rt, &book, 4, None),
+            store_call(rt, book, 4, None),
             Want::Stored(Kind::Null, Fill::No),
             [].as_slice(),
         ),
@@ -128,33 +161,49 @@ fn drains_and_clears_are_entered(rt: HostRuntime) -> Result<(), Fail> {
             [].as_slice(),
         ),
     ];
-    assert_entries(&rt, &book, &wanted);
-    Ok(())
+    assert_entries(rt, book, &wanted);
 }
 
 /// A reference to slot 9 moves to slot 17, at the same offset of region 2, and its card is recorded there.
 #[test]
 fn a_redirect_is_entered(rt: HostRuntime) -> Result<(), Fail> {
     let mut book = book(&rt, rt.alloc(), 2, 4, 10)?;
+    move_one(&rt, &mut book)?;
+    assert_moved(&rt, &book);
+    Ok(())
+}
+
+fn move_one(rt: &impl Abort, book: &mut Book) -> Result<(), Refusal> {
     let mut log = Log::new(2);
-    let _ = store(&rt, &mut book, 0, &mut log, 0, Some(9))?;
-    let (moved, refined) = redirect(&rt, &mut book, 7, 1, 2)?;
+    let _ = store(rt, book, 0, &mut log, 0, Some(9))?;
+    let (moved, refined) = redirect(rt, book, 7, 1, 2)?;
     assert_eq!(rt; moved, Some(1));
     assert!(rt; has_cards(&refined, &[0]));
-    let first = slot(&rt, &book, 0);
-    let place = book.target(0, first)?;
-    assert_eq!(rt; place.map(|slot| slot.number()), Some(17));
-    assert_set(&rt, &mut book, 1, &[])?;
-    assert_set(&rt, &mut book, 2, &[0])?;
+    assert_eq!(rt; target(rt, book, 0, 0)?, Some(17));
+    assert_set(rt, book, 1, &[])?;
+    assert_set(rt, book, 2, &[0])
+}
+
+fn assert_moved(rt: &impl Abort, book: &Book) {
+    let call = Call::Redirect {
+        from: region(rt, book, 1),
+        to: region(rt, book, 2),
+    };
     let entries = book.entries();
     assert_eq!(rt; entries.len(), 5);
     let entry = &entries[1];
-    let call = Call::Redirect {
-        from: region(&rt, &book, 1),
-        to: region(&rt, &book, 2),
-    };
     assert_eq!(rt; (entry.caller, entry.call), (7, call));
     assert!(rt; is_wanted(&entry.reply, &Want::Moved(1)));
     assert!(rt; has_cards(&entry.refined, &[0]));
+}
+
+#[test]
+fn refusals_have_their_texts(rt: HostRuntime) -> Result<(), Fail> {
+    for (refusal, text) in [
+        (Refusal::NoMemory, "no memory"),
+        (Refusal::BookFull, "book full"),
+    ] {
+        assert_eq!(rt; format!(in rt.alloc(); "{refusal}")?.as_str(), text);
+    }
     Ok(())
 }

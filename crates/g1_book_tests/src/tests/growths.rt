@@ -1,6 +1,7 @@
 //! What a refused growth leaves. With memory enough every call here succeeds the first time; under `rt try --test
 //! --fail-alloc N` the Nth growth of each test is refused, the call that met it has changed nothing, and is made again.
-use super::*;
+use super::calls::{clear, drain, members, redirect, refine, status, target};
+use super::{calls, *};
 use g1_core::RefineReply;
 use std::test::Fail;
 
@@ -22,10 +23,9 @@ fn made(book: &Book) -> usize {
 
 /// Whether the card is pending, by a question of the test itself. A refused one is asked again.
 fn is_pending(rt: &impl Abort, book: &mut Book, number: u32) -> Result<bool, Refusal> {
-    let card = card(rt, book, number);
-    match book.is_pending(ASKER, card) {
+    match calls::is_pending(rt, book, ASKER, number) {
         Ok(pending) => Ok(pending),
-        Err(_) => book.is_pending(ASKER, card),
+        Err(_) => calls::is_pending(rt, book, ASKER, number),
     }
 }
 
@@ -85,12 +85,16 @@ fn four_stored(rt: &impl Abort, alloc: Global) -> Result<(Book, Option<Buffer>),
     Ok((book, buffer))
 }
 
+/// The same book, without the buffer.
+fn four(rt: &impl Abort, alloc: Global) -> Result<Book, Refusal> {
+    let (book, _) = four_stored(rt, alloc)?;
+    Ok(book)
+}
+
 /// Checks the slots and the sets of all regions, once all four cards have been refined.
 fn assert_all_recorded(rt: &impl Abort, book: &mut Book) -> Result<(), Refusal> {
     for (from, to) in [(0, 24), (4, 16), (8, 24), (31, 0)] {
-        let slot = slot(rt, book, from);
-        let place = book.target(0, slot)?;
-        assert_eq!(rt; place.map(|slot| slot.number()), Some(to));
+        assert_eq!(rt; target(rt, book, 0, from)?, Some(to));
     }
     for (of, set) in [(0, [7].as_slice()), (1, &[]), (2, &[1]), (3, &[0, 2])] {
         assert_set(rt, book, of, set)?;
@@ -98,32 +102,45 @@ fn assert_all_recorded(rt: &impl Abort, book: &mut Book) -> Result<(), Refusal> 
     Ok(())
 }
 
+/// Checks that a refused call has left the book with four entries as it was.
+fn assert_four(rt: &impl Abort, book: &mut Book, refusal: Refusal) -> Result<(), Refusal> {
+    assert_eq!(rt; refusal, Refusal::NoMemory);
+    assert_state(rt, book, 4, &[0, 1, 2, 7], 0)
+}
+
 #[test]
 fn a_refused_store_is_made_again(rt: HostRuntime) -> Result<(), Fail> {
     let (mut book, buffer) = four_stored(&rt, rt.alloc())?;
     assert!(rt; buffer.is_some());
+    Ok(fifth_stored(&rt, &mut book)?)
+}
+
+fn fifth_stored(rt: &impl Abort, book: &mut Book) -> Result<(), Refusal> {
     let mut log = Log::new(2);
-    let _ = stored(&rt, &mut book, &mut log, 16, 8)?;
+    let _ = stored(rt, book, &mut log, 16, 8)?;
     assert_eq!(rt; log.len(), 1);
-    assert_state(&rt, &mut book, 5, &[0, 1, 2, 4, 7], 0)?;
-    Ok(())
+    assert_state(rt, book, 5, &[0, 1, 2, 4, 7], 0)
 }
 
 /// A refinement that is refused leaves all cards; one that is short has refined the first cards whole.
 #[test]
 fn a_refused_refinement_is_made_again(rt: HostRuntime) -> Result<(), Fail> {
     let (mut book, buffer) = four_stored(&rt, rt.alloc())?;
-    match book.refine(0, buffer.as_ref()) {
-        Ok(reply) => assert_refined(&rt, &mut book, &reply)?,
-        Err(refusal) => {
-            assert_eq!(rt; refusal, Refusal::NoMemory);
-            assert_state(&rt, &mut book, 4, &[0, 1, 2, 7], 0)?;
-        }
+    Ok(refined_again(&rt, &mut book, buffer.as_ref())?)
+}
+
+fn refined_again(rt: &impl Abort, book: &mut Book, buffer: Option<&Buffer>) -> Result<(), Refusal> {
+    match refine(book, 0, buffer) {
+        Ok(reply) => assert_refined(rt, book, &reply)?,
+        Err(refusal) => assert_four(rt, book, refusal)?,
     }
-    let last = book.refine(0, buffer.as_ref())?;
-    assert!(rt; !last.short && last.taken == 1);
-    assert_eq!(rt; counts(&mut book)?.pending, 0);
-    Ok(assert_all_recorded(&rt, &mut book)?)
+    assert_whole(rt, &refine(book, 0, buffer)?);
+    assert_eq!(rt; counts(book)?.pending, 0);
+    assert_all_recorded(rt, book)
+}
+
+fn assert_whole(rt: &impl Abort, reply: &RefineReply) {
+    assert!(rt; !reply.short && reply.taken == 1);
 }
 
 /// Checks what a refinement of the cards 0, 1, 2 and 7 left, which one growth at most has cut short.
@@ -145,28 +162,27 @@ fn assert_refined(rt: &impl Abort, book: &mut Book, reply: &RefineReply) -> Resu
 #[test]
 fn refused_questions_are_asked_again(rt: HostRuntime) -> Result<(), Fail> {
     for question in 0..4 {
-        let (mut book, _) = four_stored(&rt, rt.alloc())?;
-        if let Err(refusal) = asked(&rt, &mut book, question) {
-            assert_eq!(rt; refusal, Refusal::NoMemory);
-            assert_state(&rt, &mut book, 4, &[0, 1, 2, 7], 0)?;
-            asked(&rt, &mut book, question)?;
-        }
-        assert_state(&rt, &mut book, 5, &[0, 1, 2, 7], 0)?;
+        let mut book = four(&rt, rt.alloc())?;
+        asked_again(&rt, &mut book, question)?;
     }
     Ok(())
 }
 
+fn asked_again(rt: &impl Abort, book: &mut Book, question: u32) -> Result<(), Refusal> {
+    if let Err(refusal) = asked(rt, book, question) {
+        assert_four(rt, book, refusal)?;
+        asked(rt, book, question)?;
+    }
+    assert_state(rt, book, 5, &[0, 1, 2, 7], 0)
+}
+
 /// Asks the question of this number.
 fn asked(rt: &impl Abort, book: &mut Book, question: u32) -> Result<(), Refusal> {
-    let (slot, card, region) = (slot(rt, book, 4), card(rt, book, 2), region(rt, book, 3));
     match question {
-        0 => {
-            let place = book.target(0, slot)?;
-            assert_eq!(rt; place.map(|slot| slot.number()), Some(16));
-        }
-        1 => assert!(rt; book.is_pending(0, card)?),
-        2 => assert!(rt; book.members(0, region)?.is_empty()),
-        _ => assert_eq!(rt; book.status(0)?.pending, 4),
+        0 => assert_eq!(rt; target(rt, book, 0, 4)?, Some(16)),
+        1 => assert!(rt; calls::is_pending(rt, book, 0, 2)?),
+        2 => assert!(rt; members(rt, book, 0, 3)?.is_empty()),
+        _ => assert_eq!(rt; status(book, 0)?.0, 4),
     }
     Ok(())
 }
@@ -174,61 +190,64 @@ fn asked(rt: &impl Abort, book: &mut Book, question: u32) -> Result<(), Refusal>
 /// The members of a region take memory for the answer and for the entry's copy.
 #[test]
 fn refused_members_are_asked_again(rt: HostRuntime) -> Result<(), Fail> {
-    let (mut book, buffer) = four_stored(&rt, rt.alloc())?;
-    drained_until_whole(&rt, &mut book, 3)?;
-    drop(buffer);
-    let entries = made(&book);
-    let last = region(&rt, &book, 3);
-    let cards = match book.members(0, last) {
+    let mut book = four(&rt, rt.alloc())?;
+    Ok(members_asked_again(&rt, &mut book)?)
+}
+
+fn members_asked_again(rt: &impl Abort, book: &mut Book) -> Result<(), Refusal> {
+    drained_until_whole(rt, book, 3)?;
+    let entries = made(book);
+    let cards = match members(rt, book, 0, 3) {
         Ok(cards) => cards,
         Err(refusal) => {
             assert_eq!(rt; refusal, Refusal::NoMemory);
-            assert_state(&rt, &mut book, entries, &[], 4)?;
-            let last = region(&rt, &book, 3);
-            book.members(0, last)?
+            assert_state(rt, book, entries, &[], 4)?;
+            members(rt, book, 0, 3)?
         }
     };
     assert!(rt; has_cards(&cards, &[0, 2]));
-    Ok(assert_all_recorded(&rt, &mut book)?)
+    drop(cards);
+    assert_all_recorded(rt, book)
 }
 
 /// Drains the region of a book with four entries until it is whole. A refused drain changes nothing; in a short one each card is refined and listed,
 /// or pending as before.
 fn drained_until_whole(rt: &impl Abort, book: &mut Book, of: u32) -> Result<(), Refusal> {
-    let region = region(rt, book, of);
-    match book.drain(0, region) {
+    match drain(rt, book, 0, of) {
         Ok(Drained::Cards { .. }) => return Ok(()),
-        Ok(Drained::Short { refined }) => {
-            assert_eq!(rt; made(book), 5);
-            let left = counts(book)?.pending as usize;
-            assert_eq!(rt; left.saturating_add(refined.len()), 4);
-        }
-        Err(refusal) => {
-            assert_eq!(rt; refusal, Refusal::NoMemory);
-            assert_state(rt, book, 4, &[0, 1, 2, 7], 0)?;
-        }
+        Ok(Drained::Short { refined }) => assert_short(rt, book, refined.len())?,
+        Err(refusal) => assert_four(rt, book, refusal)?,
     }
     assert_set(rt, book, of, &[0, 2])
 }
 
+/// Checks what a short drain that refined so many cards has left.
+fn assert_short(rt: &impl Abort, book: &mut Book, refined: usize) -> Result<(), Refusal> {
+    assert_eq!(rt; made(book), 5);
+    let left = counts(book)?.pending as usize;
+    assert_eq!(rt; left.saturating_add(refined), 4);
+    Ok(())
+}
+
 #[test]
 fn a_refused_drain_is_made_again(rt: HostRuntime) -> Result<(), Fail> {
-    let (mut book, _) = four_stored(&rt, rt.alloc())?;
+    let mut book = four(&rt, rt.alloc())?;
     drained_until_whole(&rt, &mut book, 3)?;
     Ok(assert_all_recorded(&rt, &mut book)?)
 }
 
 #[test]
 fn a_refused_clear_is_made_again(rt: HostRuntime) -> Result<(), Fail> {
-    let (mut book, _) = four_stored(&rt, rt.alloc())?;
-    let last = region(&rt, &book, 3);
-    let answer = match book.clear(0, last) {
+    let mut book = four(&rt, rt.alloc())?;
+    Ok(cleared_again(&rt, &mut book)?)
+}
+
+fn cleared_again(rt: &impl Abort, book: &mut Book) -> Result<(), Refusal> {
+    let answer = match clear(rt, book, 0, 3) {
         Ok(answer) => answer,
         Err(refusal) => {
-            assert_eq!(rt; refusal, Refusal::NoMemory);
-            assert_state(&rt, &mut book, 4, &[0, 1, 2, 7], 0)?;
-            let last = region(&rt, &book, 3);
-            book.clear(0, last)?
+            assert_four(rt, book, refusal)?;
+            clear(rt, book, 0, 3)?
         }
     };
     assert_eq!(rt; answer, ClearReply::Pending(4));
@@ -238,25 +257,32 @@ fn a_refused_clear_is_made_again(rt: HostRuntime) -> Result<(), Fail> {
 /// A redirect of region 3 to region 2 moves two references. A refused or short one moves none.
 #[test]
 fn a_refused_redirect_is_made_again(rt: HostRuntime) -> Result<(), Fail> {
-    let (mut book, _) = four_stored(&rt, rt.alloc())?;
-    let moved = match redirect(&rt, &mut book, 0, 3, 2) {
-        Ok((moved, _)) => moved,
-        Err(refusal) => {
-            assert_eq!(rt; refusal, Refusal::NoMemory);
-            assert_state(&rt, &mut book, 4, &[0, 1, 2, 7], 0)?;
-            None
-        }
-    };
-    if moved.is_none() {
-        let first = slot(&rt, &book, 0);
-        let place = book.target(0, first)?;
-        assert_eq!(rt; place.map(|slot| slot.number()), Some(24));
-        let (again, _) = redirect(&rt, &mut book, 0, 3, 2)?;
-        assert_eq!(rt; again, Some(2));
-    }
-    assert_eq!(rt; moved.unwrap_or(2), 2);
+    let mut book = four(&rt, rt.alloc())?;
+    redirected_again(&rt, &mut book)?;
     for (of, set) in [(0, [7].as_slice()), (1, &[]), (2, &[0, 1, 2]), (3, &[])] {
         assert_set(&rt, &mut book, of, set)?;
     }
     Ok(())
+}
+
+fn redirected_again(rt: &impl Abort, book: &mut Book) -> Result<(), Refusal> {
+    let mut moved = first_redirect(rt, book)?;
+    if moved.is_none() {
+        assert_eq!(rt; target(rt, book, 0, 0)?, Some(24));
+        let (again, _) = redirect(rt, book, 0, 3, 2)?;
+        moved = again;
+    }
+    assert_eq!(rt; moved, Some(2));
+    Ok(())
+}
+
+/// How many slots were moved, if any were.
+fn first_redirect(rt: &impl Abort, book: &mut Book) -> Result<Option<u32>, Refusal> {
+    match redirect(rt, book, 0, 3, 2) {
+        Ok((moved, _)) => Ok(moved),
+        Err(refusal) => {
+            assert_four(rt, book, refusal)?;
+            Ok(None)
+        }
+    }
 }
