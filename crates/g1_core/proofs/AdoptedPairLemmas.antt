@@ -43,9 +43,6 @@ module _ (items old : List (ℕ × ℕ)) (list : List ℕ) (i region a : ℕ) (l
 abbrev pub PairsBelow : List (ℕ × ℕ) → List (List ℕ) → ℕ → Type 0
 PairsBelow items lists n = (x : ℕ × ℕ) → Contains items x ↔ ((x.1 < n) × Contains (list_at lists x.1) x.0)
 
-pub no_pairs : (lists : List (List ℕ)) → PairsBelow [] lists 0
-no_pairs lists x = (λ c. absurd (omega (arith, c.1)), λ t. absurd (omega (arith, t.0)))
-
 pub pairs_next : (items new : List (ℕ × ℕ)) (lists : List (List ℕ)) (n region : ℕ) → region ≡ n → PairsBelow items lists n → PairsTo new items region (list_at lists region) → PairsBelow new lists (n + 1)
 pairs_next items new lists n region is h more x = (
   λ c. elim ((more x).0 c) [

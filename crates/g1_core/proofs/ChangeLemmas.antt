@@ -1,5 +1,5 @@
 -- The changes of a redirect: what one is, and what it makes of a table.
-use Rattle.std.proofs.Common.{◌≡◌, ◌≢◌, ◌⊎◌, inl, inr, ℕ, zero, suc, ◌<◌, ◌≤◌, ◌+◌, ◌*◌, ◌%◌, Bool, true, false, cond, List, [], ◌∷◌, length, get_or, set as list_set, Option, Some, None, refl, sym, ap, ◌∙◌, subst, arith, map}
+use Rattle.std.proofs.Common.{◌≡◌, ◌≢◌, ◌⊎◌, inl, inr, ℕ, zero, suc, ◌<◌, ◌+◌, ◌*◌, Bool, true, false, cond, List, [], ◌∷◌, length, get_or, set as list_set, Option, Some, None, refl, sym, ap, ◌∙◌, subst, arith, map}
 use Rattle.std.specs.Prelude.{Contains, All, nat_eq, count_by, IfSome}
 use Rattle.std.specs.List.{IsDistinct, cons_option, enumerate_from}
 use Rattle.std.proofs.lemmas.Bool.{cases_lt, eqb-true, and_parts, true≢false, false_from_ne_true}

@@ -14,7 +14,7 @@ use Rattle.g1_core.specs.Machine.{State, Machine, AreParts, IsCore, table_from, 
 use Rattle.g1_core.specs.Turns.{is_dirty}
 use Rattle.g1_core.specs.Pause.{IsCardDrained, IsCardRead}
 use Rattle.g1_core.proofs.MarkLemmas.{held_clean, dirty_clean, is_card, to_pending, one_less, some_member}
-use Rattle.g1_core.proofs.PartLemmas.{cleaned_state, cleaned_parts, read_parts, IsFront, front_of, oldest_mark, oldest_within, left_distinct, left_stands, apart_stands, mark_dirty, is_dirty_mark, not_dirty}
+use Rattle.g1_core.proofs.PartLemmas.{cleaned_state, cleaned_parts, read_parts, IsFront, front_of, oldest_mark, left_distinct, left_stands, apart_stands, mark_dirty, is_dirty_mark, not_dirty}
 
 -- reads add up
 pub reads_none : (reads : ℕ) → reads < 2 ^ 64 → reads_after reads 0 ≡ reads
@@ -62,11 +62,6 @@ module _ (heap : Cells) (sets : Pairs) (ring : Ring) (pending : ℕ) (settings :
       subst (λ r. IsDrainedTo heap sets ring settings card heap' sets' r pending') (sym er)
       (drained_to (popped ring) (held_clean _ (oldest_mark heap sets.pairs ring pending core.parts card front.rest front.cards)) refl refl
       (left_distinct heap sets.pairs ring pending core.parts card front.rest front.cards) (left_stands heap sets.pairs ring pending core.parts card front.rest front.cards))
-
-pub oldest_inside : (heap : Cells) (sets : Pairs) (ring : Ring) (pending : ℕ) → IsCore heap sets ring pending → (card : ℕ) → Some card ≡ slice_get ring.cards 0 → card < card_count heap.layout
-oldest_inside heap sets ring pending core card first =
-    let front : IsFront ring.cards card = front_of ring.cards card first in
-    oldest_within heap sets.pairs ring pending core.parts card front.rest front.cards
 
 pub oldest_some : (heap : Cells) (sets : Pairs) (ring : Ring) (pending : ℕ) → IsCore heap sets ring pending → (card : ℕ) → Some card ≡ slice_get ring.cards 0 → 1 ≤ pending
 oldest_some heap sets ring pending core card first =

@@ -1,5 +1,5 @@
 -- A drain, whole and short, is a step of the plain table.
-use Rattle.std.proofs.Common.{◌≡◌, inl, inr, ℕ, ◌<◌, ◌+◌, false, List, [], ◌++◌, length, refl, sym, ap, ◌∙◌, subst, arith}
+use Rattle.std.proofs.Common.{◌≡◌, inl, ℕ, ◌+◌, false, List, [], ◌++◌, length, refl, sym, ap, ◌∙◌, subst, arith}
 use Rattle.std.specs.Prelude.{◌&&◌, Contains, not}
 use Rattle.std.specs.FinSet as set
 use Rattle.std.specs.Ordering.{nat_cmp}
@@ -7,30 +7,18 @@ use Rattle.std.proofs.lemmas.Bool.{true≢false}
 use Rattle.std.proofs.lemmas.List.{append-nil, length-append}
 use Rattle.g1_layout.specs.Shape.{Shape, IsShape}
 use Rattle.g1_layout.specs.Sets.{set_of}
-use Rattle.g1_hot.specs.Ring.{Ring, reset}
+use Rattle.g1_hot.specs.Ring.{Ring}
 use Rattle.g1_core.specs.declared.entry.Entry.{Entry}
 use Rattle.g1_core.specs.Run.{IsStep}
-use Rattle.g1_core.specs.Calls.{drain_entry}
-use Rattle.g1_core.specs.declared.reply.Drained.TheVariants as answers
 use Rattle.g1_core.proofs.RunLemmas.{HasSlots, has_slots, step_covered}
-use Rattle.g1_core.specs.Table.{Table, AreMembers, IsCovered}
+use Rattle.g1_core.specs.Table.{Table, IsCovered}
 use Rattle.g1_core.specs.Machine.{Machine}
 use Rattle.g1_core.specs.Turns.{is_dirty}
-use Rattle.g1_core.specs.Pause.{with_cards, AreDirtyBelow, Drains, IsDirtyDrained, IsDirtyStopped, IsRingDrained, IsShortDrain, IsWholeDrain, IsAllDrained, reset_machine}
+use Rattle.g1_core.specs.Pause.{AreDirtyBelow, Drains, IsDirtyDrained, IsDirtyStopped, IsRingDrained, IsShortDrain, IsAllDrained}
 use Rattle.g1_core.proofs.SetLemmas.{same_cards}
 use Rattle.g1_core.proofs.TableLemmas.{refined_pending}
 use Rattle.g1_core.proofs.TurnLemmas.{to_dirty}
-use Rattle.g1_core.proofs.DrainLoopLemmas.{drains_both, and_true, none_below}
-
--- a drain that stops in the ring
-pub short_ring : (old new : Machine) (cards : List ℕ) → IsRingDrained old cards (length cards + 1) new → IsShortDrain old cards new
-short_ring old new cards h = record {
-  order = record { held = cards; dirty = []; bound = 0; parts = sym (append-nil cards); ring = h.order; below = none_below old.state; turn = inr refl };
-  tried = length cards + 1;
-  each = omega arith;
-  most = omega arith;
-  drains = h.drains;
-}
+use Rattle.g1_core.proofs.DrainLoopLemmas.{drains_both, and_true}
 
 -- the dirty cards are the same once the ring is drained
 module _ (a b : Machine) (xs : List ℕ) (n : ℕ) (h : IsRingDrained a xs n b) (left : b.state.ring.cards ≡ []) where
@@ -74,43 +62,6 @@ module _ (a b : Machine) (xs : List ℕ) (n : ℕ) (h : IsRingDrained a xs n b) 
             (λ q p. absurd (true≢false (sym (to_dirty c.state q p (λ stands. absurd (omega (arith, (subst (λ (ys : List ℕ). Contains ys q) gone stands).1)))) ∙ none q)))
             (λ q p. absurd (true≢false (sym p ∙ set.contains-empty nat_cmp q)));
       }
-
--- the counts are reset once nothing is pending
-pub whole_drain : (old mid : Machine) (cards : List ℕ) → IsAllDrained old cards mid → IsWholeDrain old cards (reset_machine mid)
-whole_drain old mid cards h = record {
-  order = h.order;
-  refines = h.drains.refines;
-  table = h.drains.table;
-  nothing = h.nothing;
-  ring = ap reset (h.drains.ring ∙ ap (with_cards old.state.ring) h.left);
-  settings = h.drains.settings;
-  reads = h.drains.reads;
-}
-
--- a drain whose list of members is refused is short
-pub short_whole : (old mid : Machine) (cards : List ℕ) → IsAllDrained old cards mid → IsShortDrain old cards mid
-short_whole old mid cards h = record {
-  order = record { held = h.order.held; dirty = h.order.dirty; bound = h.order.bound; parts = h.order.parts; ring = h.order.ring ∙ ap (λ (ys : List ℕ). h.order.held ++ ys) (sym h.left); below = h.order.below; turn = inl h.left };
-  tried = length cards;
-  each = omega arith;
-  most = omega arith;
-  drains = h.drains;
-}
-
--- each is a step of the plain table
-pub whole_step : (caller region : ℕ) (old new : Machine) (cards refined_cards : List ℕ) → region < old.state.table.layout.regions → IsWholeDrain old refined_cards new → AreMembers new.state.table region cards
-    → IsStep old.state.table (drain_entry caller region (answers.Cards cards refined_cards)) new.state.table
-whole_step caller region old new cards refined_cards within h members = record {
-  allowed = record {
-    numbers = within;
-    refines = h.refines;
-    answers = (ap (λ (t : Table). t.pending) (sym h.table) ∙ h.nothing, subst (λ t. AreMembers t region cards) h.table members);
-  };
-  after = h.table;
-}
-
-pub short_step : (caller region : ℕ) (old new : Machine) (cards : List ℕ) → region < old.state.table.layout.regions → IsShortDrain old cards new → IsStep old.state.table (drain_entry caller region (answers.Short cards)) new.state.table
-short_step caller region old new cards within h = record { allowed = record { numbers = within; refines = h.drains.refines; answers = tt }; after = h.drains.table }
 
 -- a step keeps cover
 pub step_keeps_cover : (l : Shape) (old new : Table) (e : Entry) → l ≡ old.layout → IsShape l → IsCovered old → IsStep old e new → IsCovered new

@@ -11,7 +11,7 @@ use Rattle.g1_hot.specs.Ring.{Ring, popped}
 use Rattle.g1_core.specs.Table.{Table, AreRefinable, IsPending, refined}
 use Rattle.g1_core.specs.Machine.{State, Machine}
 use Rattle.g1_core.specs.Turns.{is_dirty}
-use Rattle.g1_core.specs.Pause.{with_cards, AreDirtyBelow, Drains, IsCardDrained, IsCardRead, IsDirtyDrained, IsDirtyStopped, IsRingDrained}
+use Rattle.g1_core.specs.Pause.{with_cards, AreDirtyBelow, Drains, IsCardDrained, IsCardRead, IsDirtyDrained, IsRingDrained}
 use Rattle.g1_core.proofs.SetLemmas.{in_list, in_set, All_by_member}
 use Rattle.g1_sets.proofs.AscendingLemmas.{increasing_push}
 use Rattle.g1_core.proofs.TableLemmas.{refined_pending}
@@ -95,12 +95,6 @@ ring_more old mid new cards after card h first k listed =
       order = h.order ∙ ap (λ (xs : List ℕ). cards ++ xs) front.cards ∙ sym (append_assoc cards (card ∷ []) front.rest) ∙ ap (λ (xs : List ℕ). (cards ++ card ∷ []) ++ xs) (sym left);
     })
 
-pub ring_stop : (old mid new : Machine) (cards : List ℕ) → IsRingDrained old cards (length cards) mid → IsCardRead mid new → IsRingDrained old cards (length cards + 1) new
-ring_stop old mid new cards h k = record {
-  drains = subst (λ (cs : List ℕ). Drains old cs (length cards + 1) new) (append-nil cards) (drains_both old mid new cards [] (length cards) 1 h.drains (drains_read mid new k));
-  order = h.order ∙ ap (λ (s : State). cards ++ s.ring.cards) (sym k.state);
-}
-
 -- the loop over the dirty cards
 pub dirty_none : (m : Machine) (cards : List ℕ) → m.reads < 2 ^ 64 → IsDirtyDrained m cards cards 0 m
 dirty_none m cards h = record {
@@ -148,16 +142,6 @@ dirty_more old mid new before cards after bound card h dirty le first k listed =
     );
   };
   others = λ q above. other_dirty mid new card q k (λ e. absurd (omega arith)) ∙ h.others q (omega arith);
-}
-
-pub dirty_stop : (old mid new : Machine) (before cards : List ℕ) (bound : ℕ) → IsDirtyDrained old before cards bound mid → IsCardRead mid new → IsDirtyStopped old before cards new
-dirty_stop old mid new before cards bound h k = record {
-  gone = h.gone;
-  bound = bound;
-  listed = h.listed;
-  drains = subst (λ (cs : List ℕ). Drains old cs (length h.gone + 1) new) (append-nil h.gone) (drains_both old mid new h.gone [] (length h.gone) 1 h.drains (drains_read mid new k));
-  ring = ap (λ (s : State). s.ring) k.state ∙ h.ring;
-  below = h.below;
 }
 
 -- once no card from the bound on is dirty, none is

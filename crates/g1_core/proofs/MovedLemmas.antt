@@ -1,5 +1,5 @@
 -- What moving references from one region to another does to the plain table.
-use Rattle.std.proofs.Common.{◌≡◌, ◌≢◌, ◌⊎◌, inl, inr, ℕ, ◌<◌, ◌+◌, ◌*◌, ◌%◌, Bool, true, false, cond, eqb, length, get_or, Option, Some, None, refl, sym, ap, ◌∙◌, subst, arith}
+use Rattle.std.proofs.Common.{◌≡◌, ◌≢◌, ◌⊎◌, inl, inr, ℕ, ◌<◌, ◌+◌, ◌*◌, Bool, true, false, cond, eqb, length, get_or, Option, Some, None, refl, sym, ap, ◌∙◌, subst, arith}
 use Rattle.std.specs.Prelude.{map, not, ◌&&◌, ◌||◌}
 use Rattle.std.specs.List.{filter_map, enumerate_from}
 use Rattle.std.specs.FinSet as set

@@ -1,5 +1,5 @@
 -- Worked pauses on the same heap: what a drain, a question for members and a redirect may answer, before and after the first store.
-use Rattle.std.proofs.Common.{◌≡◌, inl, inr, ℕ, ◌<◌, cond, true, List, [], ◌∷◌, Some, refl, sym, ap, ◌∙◌, subst, arith}
+use Rattle.std.proofs.Common.{◌≡◌, inl, inr, ℕ, cond, true, List, [], ◌∷◌, Some, refl, sym, ap, ◌∙◌, subst, arith}
 use Rattle.std.specs.Prelude.{Contains}
 use Rattle.std.specs.FinSet as set
 use Rattle.std.specs.Ordering.{nat_cmp}
@@ -9,7 +9,7 @@ use Rattle.std.proofs.lemmas.Cmp.{nat_cmp_total}
 use Rattle.std.proofs.lemmas.Map.Lookups.{exact_unsigned}
 use Rattle.g1_layout.specs.declared.kind.Kind.{Kind}
 use Rattle.g1_layout.specs.declared.kind.Kind.TheVariants.{AlreadyDirty, Logged}
-use Rattle.g1_layout.specs.Sets.{CardSet, set_of}
+use Rattle.g1_layout.specs.Sets.{CardSet}
 use Rattle.g1_core.specs.declared.entry.Entry.{Entry}
 use Rattle.g1_core.specs.declared.entry.Call.TheVariants.{Redirect}
 use Rattle.g1_core.specs.declared.entry.Reply.TheVariants as reply

@@ -1,5 +1,5 @@
 -- The turns of cards over the parts of a core.
-use Rattle.std.proofs.Common.{◌≡◌, ◌≢◌, inl, inr, ℕ, ◌<◌, ◌≤◌, ◌+◌, false, cond, List, [], ◌∷◌, ◌++◌, length, get_or, take, Option, Some, None, refl, sym, ap, ◌∙◌, subst, arith, ◌↔◌}
+use Rattle.std.proofs.Common.{◌≡◌, ◌≢◌, inl, inr, ℕ, ◌<◌, ◌≤◌, ◌+◌, false, List, [], ◌∷◌, ◌++◌, length, get_or, take, Option, Some, None, refl, sym, ap, ◌∙◌, subst, arith, ◌↔◌}
 use Rattle.std.specs.Prelude.{Contains, nat_eq}
 use Rattle.std.specs.List.{IsDistinct}
 use Rattle.std.proofs.lemmas.List.{length-set}
@@ -21,7 +21,7 @@ use Rattle.g1_core.proofs.TableLemmas.{refined_covered}
 use Rattle.g1_core.proofs.MarkLemmas.{held_clean, dirty_clean, to_pending, is_card, mark_there, some_member}
 use Rattle.g1_core.proofs.TurnLemmas.{answer_cases, IsRound, turns_round, start_round, round_more}
 use Rattle.g1_core.proofs.RefinedLemmas.{refined_none}
-use Rattle.g1_core.proofs.PartLemmas.{dirty_mark, offer_dirty, offer_none, read_parts, cleaned_state, cleaned_parts, held_state, held_parts, apart_stands, oldest_mark, oldest_within, left_distinct, left_stands, differs}
+use Rattle.g1_core.proofs.PartLemmas.{dirty_mark, offer_dirty, offer_none, cleaned_state, cleaned_parts, held_state, held_parts, apart_stands, oldest_mark, oldest_within, left_distinct, left_stands, differs}
 
 -- the oldest card, where the ring answers that it leaves
 pub record IsOutOf (r : Ring) (card d : ℕ) : Type 0 where
@@ -146,12 +146,6 @@ module _ (heap : Cells) (sets : Pairs) (ring : Ring) (pending : ℕ) (settings :
     pub out_within : (d : ℕ) → answer ring card ≡ Out d → d < card_count heap.layout
     out_within d is = let o : IsOutOf ring card d = is_out ring card d core.parts.some is in oldest_within heap sets.pairs ring pending core.parts d o.rest o.cards
 
--- reads alone
-pub core_read : (heap heap' : Cells) (sets sets' : Pairs) (ring : Ring) (pending pending' more : ℕ) → IsCore heap sets ring pending → heap' ≡ with_reads heap more → sets' ≡ sets → pending' ≡ pending → IsCore heap' sets' ring pending'
-core_read heap heap' sets sets' ring pending pending' more core eh es ep =
-    let read : IsCore (with_reads heap more) sets ring pending = record { layouts = core.layouts; parts = read_parts heap sets.pairs ring pending core.parts more } in
-    subst (λ h. IsCore h sets' ring pending') (sym eh) (subst (λ s. IsCore (with_reads heap more) s ring pending') (sym es) (subst (λ n. IsCore (with_reads heap more) sets ring n) (sym ep) read))
-
 -- turns keep cover
 pub turned_covered : (old new : State) (cards : List ℕ) (reply : RefineReply) → IsPlaced old → IsCovered old.table → IsTurned old cards reply new → IsCovered new.table
 turned_covered old new cards reply placed cover h =
@@ -167,15 +161,3 @@ pub tally_more : (s0 : State) (cards : List ℕ) (i card : ℕ) (s s' : State) (
     → xs' ≡ xs ++ refined_by card o → hot' ≡ hot + hot_by o → skipped' ≡ skipped + skipped_by o → round_at s xs hot skipped ≡ turns (start s0) (take i cards) → round_at s' xs' hot' skipped' ≡ turns (start s0) (take (i + 1) cards)
 tally_more s0 cards i card s s' xs xs' hot hot' skipped skipped' o =
     round_more s0 cards i card s s' (record { taken = 0; refined = xs; hot = hot; skipped = skipped; left = 0; short = false }) (record { taken = 0; refined = xs'; hot = hot'; skipped = skipped'; left = 0; short = false }) o
-
--- the reply of the turns so far
-pub tally_turned : (old new : State) (cards : List ℕ) (i : ℕ) (reply : RefineReply) (xs : List ℕ) (hot skipped : ℕ) → i ≤ length cards → (reply.short ≡ false → i ≡ length cards) → reply.taken ≡ cond reply.short 0 1 → reply.left ≡ 0
-    → reply.refined ≡ xs → reply.hot ≡ hot → reply.skipped ≡ skipped → round_at new xs hot skipped ≡ turns (start old) (take i cards) → IsTurned old cards reply new
-tally_turned old new cards i reply xs hot skipped within whole taken left refined_is hot_is skipped_is round = record {
-  many = i;
-  within = within;
-  whole = whole;
-  taken = taken;
-  left = left;
-  turned = (λ i. record { state = new; refined = refined_is i; hot = hot_is i; skipped = skipped_is i }) ∙ round;
-}

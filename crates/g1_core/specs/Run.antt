@@ -1,5 +1,5 @@
 -- The step of the plain table that each entry of a history is, and permitted runs.
-use Rattle.std.specs.Prelude.{◌≡◌, ◌≢◌, ℕ, Bool, List, [], ◌∷◌, Option, Some, None, length, take, drop, All, Contains, fold, if◌then◌else◌, ◌==◌, not, slice_set, ◌<◌, ◌≤◌, IfSome}
+use Rattle.std.specs.Prelude.{◌≡◌, ◌≢◌, ℕ, List, [], ◌∷◌, Option, Some, None, length, take, drop, All, Contains, fold, if◌then◌else◌, ◌==◌, not, slice_set, ◌<◌, ◌≤◌, IfSome}
 use Rattle.std.specs.List.Sorted.{IsStrictlyIncreasing}
 use Rattle.std.specs.FinSet as set
 use Rattle.g1_layout.specs.declared.kind.Kind.{Kind}

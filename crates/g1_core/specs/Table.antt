@@ -1,6 +1,6 @@
 -- The plain table of a heap: what each slot refers to, which cards are pending, and which pairs
 -- (card, region) are recorded. It knows no buffer, count, order or mark.
-use Rattle.std.specs.Prelude.{◌≡◌, ◌≢◌, ◌<◌, ℕ, ◌==◌, Bool, List, Option, Some, None, IsTrue, ◌⊎◌, if◌then◌else◌, replicate, slice_index_or, nat_eq, All, map, count_by, not, ◌&&◌, false, ◌+◌, ◌*◌, ◌%◌}
+use Rattle.std.specs.Prelude.{◌≡◌, ◌≢◌, ◌<◌, ℕ, ◌==◌, Bool, List, Option, Some, None, IsTrue, ◌⊎◌, if◌then◌else◌, replicate, slice_index_or, nat_eq, All, map, count_by, not, ◌&&◌, false}
 use Rattle.std.specs.List.{IsDistinct, filter_map, enumerate_from}
 use Rattle.std.specs.FinSet as set
 use Rattle.g1_layout.specs.Shape.{Shape, slot_count, card_count, card_of, region_of, region_of_card, same_offset}

@@ -1,4 +1,4 @@
-use Rattle.std.proofs.Common.{◌≡◌, ℕ, ◌*◌, length, ap, ◌∙◌, sym, refl, Some}
+use Rattle.std.proofs.Common.{length, ap, ◌∙◌, sym, refl, Some}
 use Rattle.std.proofs.lemmas.Bool.{true≢false}
 use Rattle.g1_hot.specs.declared.offer.Offer.{Offer}
 use Rattle.g1_hot.specs.declared.offer.Offer.TheVariants.{Out}
