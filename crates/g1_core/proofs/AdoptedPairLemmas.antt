@@ -1,25 +1,20 @@
 -- The adopted pairs by region.
-use Rattle.std.proofs.Common.{◌≡◌, ◌⊎◌, ◌↔◌, inl, inr, ℕ, zero, suc, ◌+◌, ◌<◌, List, [], ◌∷◌, ◌++◌, length, take, get_or, Contains, sym, ap, ◌∙◌, subst, arith}
+use Rattle.std.proofs.Common.{◌≡◌, ◌⊎◌, ◌↔◌, inl, inr, ℕ, ◌+◌, ◌<◌, List, [], ◌∷◌, ◌++◌, length, take, get_or, Contains, sym, ap, ◌∙◌, subst, arith}
 use Rattle.std.specs.FinSet as set
 use Rattle.std.proofs.lemmas.Bool.{cases_lt}
-use Rattle.std.proofs.lemmas.List.{get_or_past}
+use Rattle.std.proofs.lemmas.List.{get_or_past, take_more}
 use Rattle.std.proofs.lemmas.List.Elements.{Contains-append_left, Contains-append_right, Contains-append_cases}
 use Rattle.g1_layout.specs.Sets.{pair_cmp}
 use Rattle.g1_sets.specs.Pairs.{Pairs, AreTied, list_at}
 use Rattle.g1_core.proofs.SetLemmas.{same_pairs, in_pairs, to_pairs}
 use Rattle.g1_core.proofs.MarkLemmas.{one_of, itself}
-use Rattle.g1_core.proofs.AdoptingLemmas.{take_suc}
-
-one_pair : (p x : ℕ × ℕ) → Contains (p ∷ []) x → p ≡ x
-one_pair p x (zero, lt, e) = e
-one_pair p x (suc k, lt, e) = absurd (omega arith)
 
 abbrev pub PairsTo : List (ℕ × ℕ) → List (ℕ × ℕ) → ℕ → List ℕ → Type 0
 PairsTo items old region cards = (x : ℕ × ℕ) → Contains items x ↔ (Contains old x ⊎ ((x.1 ≡ region) × Contains cards x.0))
 
 module _ (items old : List (ℕ × ℕ)) (list : List ℕ) (i region a : ℕ) (lt : i < length list) (is : a ≡ get_or list i a) (h : PairsTo items old region (take i list)) where
   longer : take (i + 1) list ≡ take i list ++ a ∷ []
-  longer = ap (λ (n : ℕ). take n list) (let e : i + 1 ≡ suc i = omega arith in e) ∙ (take_suc list i a lt ∙ ap (λ (q : ℕ). take i list ++ q ∷ []) (sym is))
+  longer = take_more list i a lt ∙ ap (λ (q : ℕ). take i list ++ q ∷ []) (sym is)
 
   pub pair_next : PairsTo (items ++ (a, region) ∷ []) old region (take (i + 1) list)
   pair_next x = (
@@ -28,7 +23,7 @@ module _ (items old : List (ℕ × ℕ)) (list : List ℕ) (i region a : ℕ) (l
         | inl o ↦ inl o
         | inr t ↦ inr (t.0, subst (λ (l : List ℕ). Contains l x.0) (sym longer) (Contains-append_left (take i list) (a ∷ []) x.0 t.1))
       ]
-      | inr new ↦ let e : ◌≡◌ {A = ℕ × ℕ} (a, region) x = one_pair (a, region) x new in
+      | inr new ↦ let e : ◌≡◌ {A = ℕ × ℕ} (a, region) x = sym (one_of x (a, region) new) in
           inr (sym (ap (λ (q : ℕ × ℕ). q.1) e), subst (λ (l : List ℕ). Contains l x.0) (sym longer) (Contains-append_right (take i list) (a ∷ []) x.0 (itself x.0 a (sym (ap (λ (q : ℕ × ℕ). q.0) e)))))
     ],
     λ c. elim c [

@@ -2,7 +2,7 @@
 use Rattle.std.proofs.Common.{◌≡◌, inl, inr, ℕ, zero, suc, ◌+◌, ◌<◌, Bool, true, false, List, [], ◌∷◌, ◌++◌, length, take, drop, set as list_set, get_or, Contains, refl, sym, ap, ◌∙◌, subst, arith, replicate}
 use Rattle.std.specs.FinSet as set
 use Rattle.std.proofs.lemmas.Bool.{or_cases, or_left, or_right, false_from_ne_true}
-use Rattle.std.proofs.lemmas.List.{get_or-map, length-map, length-replicate}
+use Rattle.std.proofs.lemmas.List.{get_or-map, length-map, length-replicate, take_more}
 use Rattle.std.proofs.lemmas.List.Elements.{Contains-append_left, Contains-append_right, Contains-append_cases}
 use Rattle.g1_layout.specs.Sets.{pair_cmp, PairSet}
 use Rattle.g1_heap.specs.declared.mark.Mark.{Mark}
@@ -11,7 +11,7 @@ use Rattle.g1_sets.specs.Pairs.{of_card}
 use Rattle.g1_core.specs.Machine.{pending_of}
 use Rattle.g1_core.specs.Adoption.{mark_for, marks_for}
 use Rattle.g1_core.proofs.SetLemmas.{pair_total, same_pairs, in_pairs, to_pairs}
-use Rattle.g1_core.proofs.MarkLemmas.{from_pending, pending_marked, one_more}
+use Rattle.g1_core.proofs.MarkLemmas.{dirty_clean, from_pending, pending_marked, one_more}
 use Rattle.g1_core.proofs.OpeningLemmas.{all_clean}
 
 module _ {X : Type 0} where
@@ -43,11 +43,6 @@ module _ {X : Type 0} where
   at_place (x ∷ xs) (y ∷ ys) zero d lt lt' = (refl, omega arith)
   at_place (x ∷ xs) (y ∷ ys) (suc i) d lt lt' = let h = at_place xs ys i d (omega arith) (omega arith) in let lt : i < length (take i xs ++ drop i ys) = h.1 in (h.0, omega arith)
 
-  pub take_suc : (xs : List X) (i : ℕ) (d : X) → i < length xs → take (suc i) xs ≡ take i xs ++ get_or xs i d ∷ []
-  take_suc [] i d lt = absurd (omega arith)
-  take_suc (x ∷ xs) zero d lt = refl
-  take_suc (x ∷ xs) (suc i) d lt = ap (λ (l : List X). x ∷ l) (take_suc xs i d (omega arith))
-
 -- one more pair is recorded
 module _ (pairs : List (ℕ × ℕ)) (i : ℕ) (p : ℕ × ℕ) (lt : i < length pairs) (is : p ≡ get_or pairs i p) where
   abbrev one : PairSet
@@ -57,7 +52,7 @@ module _ (pairs : List (ℕ × ℕ)) (i : ℕ) (p : ℕ × ℕ) (lt : i < length
   before = set.from_list (take i pairs)
 
   whole : take (i + 1) pairs ≡ take i pairs ++ p ∷ []
-  whole = ap (λ (n : ℕ). take n pairs) (let e : i + 1 ≡ suc i = omega arith in e) ∙ (take_suc pairs i p lt ∙ ap (λ (q : ℕ × ℕ). take i pairs ++ q ∷ []) (sym is))
+  whole = take_more pairs i p lt ∙ ap (λ (q : ℕ × ℕ). take i pairs ++ q ∷ []) (sym is)
 
   on : (x : ℕ × ℕ) → set.contains (set.union before one) x ≡ true → set.contains (set.from_list {R = pair_cmp} (take (i + 1) pairs)) x ≡ true
   on x h = to_pairs (take (i + 1) pairs) x (subst (λ (l : List (ℕ × ℕ)). Contains l x) (sym whole) (elim (or_cases _ _ (sym (set.contains-union pair_total before one x) ∙ h)) [
@@ -97,9 +92,6 @@ module _ (marked : List Bool) (n i : ℕ) (lt : i < length marked) (count : leng
   pub clean_next : get_or marked i false ≡ false → done i ≡ done (i + 1)
   clean_next e = keep_next (marks_for marked) (replicate n Clean) i Clean few inside (flag false e ∙ sym (all_clean n i))
 
-  dirty_clean : ◌≡◌ {A = Mark} Dirty Clean → ⊥
-  dirty_clean e = absurd (cc (e))
-
   pub one_pending : set.len (pending_of (list_set (done i) i Dirty)) ≡ set.len (pending_of (done i)) + 1
-  one_pending = ap set.len (pending_marked (done i) i Dirty (at_place (marks_for marked) (replicate n Clean) i Clean few inside).1 dirty_clean)
+  one_pending = ap set.len (pending_marked (done i) i Dirty (at_place (marks_for marked) (replicate n Clean) i Clean few inside).1 (dirty_clean Dirty refl))
       ∙ one_more (pending_of (done i)) i (false_from_ne_true _ (λ h. from_pending (done i) i h clean))

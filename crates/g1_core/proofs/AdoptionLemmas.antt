@@ -16,7 +16,7 @@ use Rattle.g1_core.specs.Settings.{Settings}
 use Rattle.g1_core.specs.Machine.{IsCore, AreParts, pending_of, table_from, machine_from}
 use Rattle.g1_core.specs.Adoption.{IsPairOf, mark_for, marks_for, table_with, adopted_machine}
 use Rattle.g1_core.proofs.SetLemmas.{All_by_member, in_pairs, to_pairs}
-use Rattle.g1_core.proofs.MarkLemmas.{from_pending, to_pending}
+use Rattle.g1_core.proofs.MarkLemmas.{dirty_clean, from_pending, to_pending}
 
 -- the marked cards are just those that are pending
 mark_at : (marked : List Bool) (card : ℕ) → get_or (marks_for marked) card Clean ≡ mark_for (get_or marked card false)
@@ -24,11 +24,8 @@ mark_at [] card = refl
 mark_at (b ∷ bs) zero = refl
 mark_at (b ∷ bs) (suc card) = mark_at bs card
 
-not_clean : ◌≡◌ {A = Mark} Dirty Clean → ⊥
-not_clean e = absurd (cc (e))
-
 pub flag_pending : (marked : List Bool) (card : ℕ) → get_or marked card false ≡ true → set.contains (pending_of (marks_for marked)) card ≡ true
-flag_pending marked card e = to_pending (marks_for marked) card (λ clean. not_clean (sym (mark_at marked card ∙ ap mark_for e) ∙ clean))
+flag_pending marked card e = to_pending (marks_for marked) card (λ clean. dirty_clean Dirty refl (sym (mark_at marked card ∙ ap mark_for e) ∙ clean))
 
 pub pending_flag : (marked : List Bool) (card : ℕ) → set.contains (pending_of (marks_for marked)) card ≡ true → get_or marked card false ≡ true
 pending_flag marked card h = pick (get_or marked card false) refl

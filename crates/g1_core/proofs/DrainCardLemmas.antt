@@ -1,11 +1,11 @@
 -- One card of a drain: what refining it leaves, and what a refused record leaves.
-use Rattle.std.proofs.Common.{◌≡◌, ◌≢◌, ℕ, ◌<◌, ◌≤◌, ◌+◌, ◌^◌, true, false, [], ◌∷◌, length, get_or, Option, Some, None, refl, sym, ap, ◌∙◌, subst, arith, ◌↔◌}
+use Rattle.std.proofs.Common.{◌≡◌, ◌≢◌, ℕ, ◌<◌, ◌≤◌, ◌+◌, true, false, [], ◌∷◌, length, get_or, Option, Some, None, refl, sym, ap, ◌∙◌, subst, arith, ◌↔◌}
 use Rattle.std.specs.Prelude.{Contains, IfSome, IfNone, MatchOption, nat_eq, slice_get}
 use Rattle.std.specs.List.{IsDistinct}
 use Rattle.std.specs.FinSet as set
 use Rattle.g1_layout.specs.Shape.{card_count}
 use Rattle.g1_heap.specs.declared.mark.Mark.TheVariants.{Clean, Dirty}
-use Rattle.g1_heap.specs.Cells.{Cells, with_mark, with_reads, reads_after, HasNoDirty, IsFirstDirty}
+use Rattle.g1_heap.specs.Cells.{Cells, with_mark, with_reads, HasNoDirty, IsFirstDirty}
 use Rattle.g1_sets.specs.Pairs.{Pairs}
 use Rattle.g1_hot.specs.Ring.{Ring, popped}
 use Rattle.g1_core.specs.Settings.{Settings}
@@ -15,13 +15,6 @@ use Rattle.g1_core.specs.Turns.{is_dirty}
 use Rattle.g1_core.specs.Pause.{IsCardDrained, IsCardRead}
 use Rattle.g1_core.proofs.MarkLemmas.{held_clean, dirty_clean, is_card, to_pending, one_less, some_member}
 use Rattle.g1_core.proofs.PartLemmas.{cleaned_state, cleaned_parts, read_parts, IsFront, front_of, oldest_mark, left_distinct, left_stands, apart_stands, mark_dirty, is_dirty_mark, not_dirty}
-
--- reads add up
-pub reads_none : (reads : ℕ) → reads < 2 ^ 64 → reads_after reads 0 ≡ reads
-reads_none reads h = omega arith
-
-pub reads_both : (reads a b : ℕ) → reads_after (reads_after reads a) b ≡ reads_after reads (a + b)
-reads_both reads a b = omega arith
 
 -- a core after one of its cards was refined: what its parts keep, and what its machine is
 pub record IsDrainedTo (heap : Cells) (sets : Pairs) (ring : Ring) (settings : Settings) (card : ℕ) (heap' : Cells) (sets' : Pairs) (ring' : Ring) (pending' : ℕ) : Type 0 where

@@ -1,40 +1,29 @@
 -- The two loops of a drain, which count nothing: over the ring, and over the dirty cards.
-use Rattle.std.proofs.Common.{◌≡◌, ◌≢◌, inl, inr, ℕ, suc, ◌<◌, ◌≤◌, ◌+◌, ◌*◌, ◌^◌, Bool, true, false, List, [], ◌∷◌, ◌++◌, length, drop, Some, refl, sym, ap, ◌∙◌, subst, arith}
+use Rattle.std.proofs.Common.{◌≡◌, ◌≢◌, inl, inr, ℕ, ◌<◌, ◌≤◌, ◌+◌, ◌^◌, Bool, true, false, List, [], ◌∷◌, ◌++◌, length, drop, Some, refl, sym, ap, ◌∙◌, subst, arith}
 use Rattle.std.specs.Prelude.{◌&&◌, Contains, slice_get, not}
 use Rattle.std.specs.FinSet as set
 use Rattle.std.proofs.lemmas.Bool.{cases_lt, and_parts, not-true, true≢false, false_from_ne_true}
 use Rattle.std.proofs.lemmas.List.{append-nil, append_assoc, length_push}
-use Rattle.std.proofs.lemmas.List.Elements.{All-contains, Contains-push, Contains-append_left, Contains-push_cases}
+use Rattle.std.proofs.lemmas.List.Elements.{Contains-push, Contains-append_left, Contains-push_cases}
 use Rattle.g1_layout.specs.Sets.{set_of}
-use Rattle.g1_heap.specs.Cells.{reads_after}
 use Rattle.g1_hot.specs.Ring.{Ring, popped}
 use Rattle.g1_core.specs.Table.{Table, AreRefinable, IsPending, refined}
 use Rattle.g1_core.specs.Machine.{State, Machine}
 use Rattle.g1_core.specs.Turns.{is_dirty}
-use Rattle.g1_core.specs.Pause.{with_cards, AreDirtyBelow, Drains, IsCardDrained, IsCardRead, IsDirtyDrained, IsRingDrained}
+use Rattle.g1_core.specs.Pause.{with_cards, AreDirtyBelow, Drains, IsCardDrained, IsDirtyDrained, IsRingDrained}
 use Rattle.g1_core.proofs.SetLemmas.{in_list, in_set, All_by_member}
 use Rattle.g1_sets.proofs.AscendingLemmas.{increasing_push}
 use Rattle.g1_core.proofs.TableLemmas.{refined_pending}
 use Rattle.g1_core.proofs.MarkLemmas.{one_of}
 use Rattle.g1_core.proofs.RefinedLemmas.{refined_none, refined_both, refinable_push}
-use Rattle.g1_core.proofs.TurnLemmas.{rest_distinct, front_apart, pending_but, IsDirty, dirty_from, to_dirty}
+use Rattle.g1_core.proofs.TurnLemmas.{rest_refinable, IsDirty, dirty_from, to_dirty}
 use Rattle.g1_core.proofs.PartLemmas.{IsFront, front_of}
 use Rattle.g1_core.proofs.StoreLemmas.{none_refinable}
-use Rattle.g1_core.proofs.DrainCardLemmas.{reads_both}
+use Rattle.g1_core.proofs.ReadLemmas.{none_read, one_read, more_read}
 
 -- more cards are refined
 pub drains_none : (m : Machine) → m.reads < 2 ^ 64 → Drains m [] 0 m
-drains_none m h = record { refines = none_refinable m.state.table; table = sym (refined_none m.state.table); ring = refl; settings = refl; reads = sym (reads_zero m.state.table.layout.slots m.reads h) }
-  where
-    reads_zero : (slots reads : ℕ) → reads < 2 ^ 64 → reads_after reads (0 * slots) ≡ reads
-    reads_zero slots reads h = omega arith
-
--- what is left of refinable cards after the first of them
-rest_refinable : (t : Table) (x : ℕ) (xs : List ℕ) → AreRefinable t (x ∷ xs) → AreRefinable (refined (x ∷ []) t) xs
-rest_refinable t x xs h = record {
-  distinct = rest_distinct x xs h.distinct;
-  pending = All_by_member (IsPending (refined (x ∷ []) t)) xs (λ q c. pending_but t x q (All-contains (IsPending t) (x ∷ xs) q h.pending (suc c.0, omega (arith, c.1), c.2)) (λ e. front_apart x xs h.distinct (subst (Contains xs) e c)));
-}
+drains_none m h = record { refines = none_refinable m.state.table; table = sym (refined_none m.state.table); ring = refl; settings = refl; reads = none_read m.reads m.state.table.layout.slots 0 h refl }
 
 refinable_both : (t : Table) (xs ys : List ℕ) → AreRefinable t xs → AreRefinable (refined xs t) ys → AreRefinable t (xs ++ ys)
 refinable_both t xs [] h k = subst (AreRefinable t) (sym (append-nil xs)) h
@@ -47,13 +36,12 @@ pub drains_both : (a b c : Machine) (xs ys : List ℕ) (n m : ℕ) → Drains a 
 drains_both a b c xs ys n m h k =
     let refines : AreRefinable (refined xs a.state.table) ys = subst (λ t. AreRefinable t ys) h.table k.refines in
     let slots : b.state.table.layout.slots ≡ a.state.table.layout.slots = ap (λ (t : Table). t.layout.slots) h.table in
-    let sum : n * a.state.table.layout.slots + m * a.state.table.layout.slots ≡ (n + m) * a.state.table.layout.slots = omega arith in
     record {
       refines = refinable_both a.state.table xs ys h.refines refines;
       table = k.table ∙ ap (refined ys) h.table ∙ refined_both xs ys a.state.table;
       ring = k.ring ∙ ap (λ (r : Ring). with_cards r c.state.ring.cards) h.ring;
       settings = k.settings ∙ h.settings;
-      reads = k.reads ∙ (λ i. reads_after (h.reads i) (m * slots i)) ∙ reads_both a.reads _ _ ∙ ap (reads_after a.reads) sum;
+      reads = more_read a.reads b.reads c.reads a.state.table.layout.slots b.state.table.layout.slots n m (n + m) h.reads k.reads slots refl;
     }
 
 pub drains_card : (old : Machine) (card : ℕ) (ring : Ring) (new : Machine) → ring ≡ with_cards old.state.ring ring.cards → IsCardDrained old card ring new → Drains old (card ∷ []) 1 new
@@ -62,23 +50,8 @@ drains_card old card ring new same h = record {
   table = h.table;
   ring = h.left ∙ same ∙ ap (λ (r : Ring). with_cards old.state.ring r.cards) (sym h.left);
   settings = h.settings;
-  reads = h.reads ∙ ap (reads_after old.reads) (one_times old.state.table.layout.slots);
+  reads = h.reads ∙ one_read old.reads old.state.table.layout.slots 1 refl;
 }
-  where
-    one_times : (slots : ℕ) → slots ≡ 1 * slots
-    one_times slots = omega arith
-
-pub drains_read : (old new : Machine) → IsCardRead old new → Drains old [] 1 new
-drains_read old new h = record {
-  refines = none_refinable old.state.table;
-  table = ap (λ (s : State). s.table) h.state ∙ sym (refined_none old.state.table);
-  ring = ap (λ (s : State). s.ring) h.state ∙ ap (λ (s : State). with_cards old.state.ring s.ring.cards) (sym h.state);
-  settings = h.settings;
-  reads = h.reads ∙ ap (reads_after old.reads) (one_times old.state.table.layout.slots);
-}
-  where
-    one_times : (slots : ℕ) → slots ≡ 1 * slots
-    one_times slots = omega arith
 
 -- the loop over the ring
 pub ring_none : (m : Machine) (cards : List ℕ) → m.reads < 2 ^ 64 → cards ≡ [] → IsRingDrained m cards (length cards) m
@@ -96,13 +69,16 @@ ring_more old mid new cards after card h first k listed =
     })
 
 -- the loop over the dirty cards
+pub none_below : (s : State) → AreDirtyBelow s 0 []
+none_below s = record { ascending = λ k lt. absurd (omega arith); just = λ q. (λ c. absurd (omega (arith, c.1)), λ p. absurd (omega (arith, p.0))) }
+
 pub dirty_none : (m : Machine) (cards : List ℕ) → m.reads < 2 ^ 64 → IsDirtyDrained m cards cards 0 m
 dirty_none m cards h = record {
   gone = [];
   listed = sym (append-nil cards);
   drains = drains_none m h;
   ring = refl;
-  below = record { ascending = λ k lt. absurd (omega arith); just = λ q. (λ c. absurd (omega (arith, c.1)), λ p. absurd (omega (arith, p.0))) };
+  below = none_below m.state;
   others = λ q le. refl;
 }
 
@@ -155,6 +131,3 @@ dirty_all old new before after bound h none q = elim (cases_lt q bound) [
       let was : is_dirty old.state q ≡ true = to_dirty old.state q parts.0 (λ c. d.apart (subst (λ (r : Ring). Contains r.cards q) (sym h.ring) c)) in
       true≢false (sym (in_set h.gone q ((h.below.just q).1 (low, was))) ∙ not-true _ parts.1))
 ]
-
-pub none_below : (s : State) → AreDirtyBelow s 0 []
-none_below s = record { ascending = λ k lt. absurd (omega arith); just = λ q. (λ c. absurd (omega (arith, c.1)), λ p. absurd (omega (arith, p.0))) }

@@ -25,6 +25,9 @@ read_more a b c m n k first second fits = record {
   few = omega (arith, first.few, second.few);
 }
 
+pub read_at_most : (a b : Cells) (m k : ℕ) → AreRead a b m → m ≤ k → AreRead a b k
+read_at_most a b m k read fits = record { cells = read.cells; grown = read.grown; few = omega (arith, read.few) }
+
 -- reads leave the table
 pub read_table : (heap now : Cells) (most : ℕ) (pairs : PairSet) → AreRead heap now most → table_from now pairs ≡ table_from heap pairs
 read_table heap now most pairs read = ap (λ (h : Cells). table_from h pairs) read.cells
@@ -97,6 +100,10 @@ module _ (heap now : Cells) (most card region offset slot : ℕ) (shape : IsShap
   pub passed : (pairs : PairSet) → (Into now slot region → ⊥) → NoneBefore (table_from heap pairs) card region offset → NoneBefore (table_from heap pairs) card region (offset + 1)
   passed pairs away none = below_more (λ (k : ℕ). Enters (table_from heap pairs) (slot_at heap.layout card k) region → ⊥) offset none
       (λ e. away (sought heap now most read slot region pairs (subst (λ (s : ℕ). Enters (table_from heap pairs) s region) (sym w.slot_is) e)))
+
+-- one more card
+pub least_none : (t : Table) (region : ℕ) → IsLeastOn t [] region None
+least_none t region slot on e = absurd (omega (arith, on.1))
 
 pub least_push : (t : Table) (xs : List ℕ) (card region : ℕ) (a b : Option ℕ) → IsLeastOn t xs region a → IsLeastOn t (card ∷ []) region b → IsLeastOn t (xs ++ card ∷ []) region (lesser_of a b)
 least_push t xs card region None None first second = λ slot on e. elim (Contains-append_cases xs (card ∷ []) (card_of t.layout slot) on) [ inl c ↦ first slot c e | inr c ↦ second slot c e ]

@@ -1,30 +1,23 @@
 -- How long the lists of a reply can be.
-use Rattle.std.proofs.Common.{◌≡◌, Bool, true, false, if◌then◌else◌, ℕ, zero, suc, ◌≤◌, ◌+◌, List, [], ◌∷◌, length, take, Option, Some, None, ap, subst, arith}
-use Rattle.std.specs.Prelude.{Contains}
+use Rattle.std.proofs.Common.{◌≡◌, Bool, true, false, if◌then◌else◌, ℕ, zero, suc, ◌≤◌, ◌+◌, List, [], ◌∷◌, length, take, Option, Some, None, ap, arith}
 use Rattle.std.specs.FinSet as set
 use Rattle.std.proofs.lemmas.List.{length-append}
-use Rattle.std.proofs.lemmas.List.Elements.{All-contains}
 use Rattle.g1_hot.specs.declared.offer.Offer.{Offer}
 use Rattle.g1_hot.specs.declared.offer.Offer.TheVariants.{Cold, Kept, Out}
 use Rattle.g1_core.specs.declared.reply.RefineReply.{RefineReply}
-use Rattle.g1_core.specs.Table.{Table, IsPending, AreRefinable, refined}
+use Rattle.g1_core.specs.Table.{Table, AreRefinable, refined}
 use Rattle.g1_core.specs.Machine.{State}
 use Rattle.g1_core.specs.Turns.{Round, refined_by, hot_by, skipped_by, offer_to, turn, turns, start}
 use Rattle.g1_core.specs.Refinement.{IsTurned}
-use Rattle.g1_core.proofs.SetLemmas.{All_by_member}
 use Rattle.g1_core.proofs.MarkLemmas.{one_less}
-use Rattle.g1_core.proofs.TurnLemmas.{front_apart, rest_distinct, pending_but}
+use Rattle.g1_core.proofs.TurnLemmas.{rest_refinable}
 
 -- no more cards are refined than are pending
 pub refined_few : (t : Table) (cards : List ℕ) → AreRefinable t cards → length cards ≤ set.len t.pending
 refined_few t [] h = omega arith
 refined_few t (x ∷ xs) h =
-    let rest : AreRefinable (refined (x ∷ []) t) xs = record {
-      distinct = rest_distinct x xs h.distinct;
-      pending = All_by_member (IsPending (refined (x ∷ []) t)) xs (λ q c. pending_but t x q (All-contains (IsPending t) (x ∷ xs) q h.pending (suc c.0, omega (arith, c.1), c.2)) (λ e. front_apart x xs h.distinct (subst (Contains xs) e c)));
-    } in
     let fewer = one_less t.pending x (h.pending 0 x (omega arith)) in
-    let few = refined_few (refined (x ∷ []) t) xs rest in
+    let few = refined_few (refined (x ∷ []) t) xs (rest_refinable t x xs h) in
     omega arith
 
 -- a turn refines one card at most, and a card that it skips is not refined

@@ -63,7 +63,7 @@ to_pending marks q ne =
     get_or-enumerate_from 0 marks q (q, get_or marks q Clean) below ∙ (λ i. (from i, get_or_default marks q (get_or marks q Clean) Clean below i)) in
     in_set _ q (to_kept marked_card (enumerate_from 0 marks) q (q, get_or marks q Clean) q (omega arith) at (marks_card q (get_or marks q Clean) ne))
 
-pub one_of : (q card : ℕ) → Contains (card ∷ []) q → q ≡ card
+pub one_of : {X : Type 0} (q card : X) → Contains (card ∷ []) q → q ≡ card
 one_of q card (zero, lt, e) = sym e
 one_of q card (suc k, lt, e) = absurd (omega arith)
 

@@ -1,7 +1,6 @@
 -- How many slots turns read.
 use Rattle.std.proofs.Common.{◌≡◌, ℕ, ◌<◌, ◌≤◌, ◌+◌, ◌*◌, ◌^◌, sym, ap, ◌∙◌, arith}
 use Rattle.g1_heap.specs.Cells.{reads_after}
-use Rattle.g1_core.proofs.DrainCardLemmas.{reads_both}
 
 -- the count does not fall
 pub reads_grow : (old more new : ℕ) → old < 2 ^ 64 → new ≡ reads_after old more → old ≤ new
@@ -21,6 +20,9 @@ pub one_read : (reads slots n : ℕ) → n ≡ 1 → reads_after reads slots ≡
 one_read reads slots n one = ap (λ (k : ℕ). reads_after reads k) (one_times slots) ∙ ap (λ (k : ℕ). reads_after reads (k * slots)) (sym one)
 
 -- of some cards, and then of others
+reads_both : (reads a b : ℕ) → reads_after (reads_after reads a) b ≡ reads_after reads (a + b)
+reads_both reads a b = omega arith
+
 both_times : (slots a b : ℕ) → a * slots + b * slots ≡ (a + b) * slots
 both_times slots a b = omega arith
 

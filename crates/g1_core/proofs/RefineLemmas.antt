@@ -1,8 +1,9 @@
 -- The turns of cards over the parts of a core.
-use Rattle.std.proofs.Common.{◌≡◌, ◌≢◌, inl, inr, ℕ, ◌<◌, ◌≤◌, ◌+◌, false, List, [], ◌∷◌, ◌++◌, length, get_or, take, Option, Some, None, refl, sym, ap, ◌∙◌, subst, arith, ◌↔◌}
+use Rattle.std.proofs.Common.{◌≡◌, ◌≢◌, inl, inr, ℕ, ◌<◌, ◌≤◌, ◌+◌, List, [], ◌∷◌, ◌++◌, length, get_or, take, Option, Some, None, refl, sym, ap, ◌∙◌, subst, arith, ◌↔◌}
 use Rattle.std.specs.Prelude.{Contains, nat_eq}
 use Rattle.std.specs.List.{IsDistinct}
 use Rattle.std.proofs.lemmas.List.{length-set}
+use Rattle.std.proofs.lemmas.List.Sums.{fold_more}
 use Rattle.g1_layout.specs.Shape.{card_count}
 use Rattle.g1_heap.specs.declared.mark.Mark.TheVariants.{Clean, Dirty, Held}
 use Rattle.g1_heap.specs.Cells.{Cells, with_mark, with_reads}
@@ -11,24 +12,17 @@ use Rattle.g1_hot.specs.declared.offer.Offer.{Offer}
 use Rattle.g1_hot.specs.declared.offer.Offer.TheVariants.{Cold, Kept, Out}
 use Rattle.g1_hot.specs.Ring.{Ring, answer, offered, cards_after, popped}
 use Rattle.g1_layout.specs.Sets.{PairSet}
-use Rattle.g1_core.specs.Table.{IsCovered, refined}
+use Rattle.g1_core.specs.Table.{refined}
 use Rattle.g1_core.specs.Settings.{Settings}
-use Rattle.g1_core.specs.Machine.{Machine, State, IsCore, IsPlaced, AreParts, pending_of, table_from, state_from, machine_from, gained}
-use Rattle.g1_core.specs.Turns.{Round, turns, start, offer_to, state_after, refined_by, hot_by, skipped_by}
-use Rattle.g1_core.specs.Refinement.{IsTurned, round_of}
-use Rattle.g1_core.specs.declared.reply.RefineReply.{RefineReply}
-use Rattle.g1_core.proofs.TableLemmas.{refined_covered}
+use Rattle.g1_core.specs.Machine.{Machine, State, IsCore, AreParts, pending_of, table_from, state_from, machine_from, gained}
+use Rattle.g1_core.specs.Turns.{Round, turn_by, turn, turns, start, offer_to, state_after, refined_by, hot_by, skipped_by}
 use Rattle.g1_core.proofs.MarkLemmas.{held_clean, dirty_clean, to_pending, is_card, mark_there, some_member}
-use Rattle.g1_core.proofs.TurnLemmas.{answer_cases, IsRound, turns_round, start_round, round_more}
+use Rattle.g1_core.proofs.TurnLemmas.{answer_cases}
 use Rattle.g1_core.proofs.RefinedLemmas.{refined_none}
-use Rattle.g1_core.proofs.PartLemmas.{dirty_mark, offer_dirty, offer_none, cleaned_state, cleaned_parts, held_state, held_parts, apart_stands, oldest_mark, oldest_within, left_distinct, left_stands, differs}
+use Rattle.g1_core.proofs.PartLemmas.{dirty_mark, offer_dirty, offer_none, cleaned_state, cleaned_parts, held_state, held_parts, apart_stands, oldest_mark, oldest_within, left_distinct, left_stands, differs, IsFront}
 
 -- the oldest card, where the ring answers that it leaves
-pub record IsOutOf (r : Ring) (card d : ℕ) : Type 0 where
-  pub rest : List ℕ
-  pub cards : r.cards ≡ d ∷ rest
-
-pub is_out : (r : Ring) (card d : ℕ) → 1 ≤ r.capacity → answer r card ≡ Out d → IsOutOf r card d
+pub is_out : (r : Ring) (card d : ℕ) → 1 ≤ r.capacity → answer r card ≡ Out d → IsFront r.cards d
 is_out r card d some e = elim (answer_cases r card some) [
   | inl cold ↦ let both : Out d ≡ Cold = sym e ∙ cold in cc
   | inr (inl kept) ↦ let both : Out d ≡ Kept = sym e ∙ kept in cc
@@ -73,7 +67,7 @@ module _ (heap : Cells) (pairs : PairSet) (ring : Ring) (pending : ℕ) (parts :
       }
 
   module _ (more pending' d : ℕ) (less : pending' + 1 ≡ pending) (out : answer ring card ≡ Out d) where
-    front : IsOutOf ring card d
+    front : IsFront ring.cards d
     front = is_out ring card d parts.some out
 
     d_marked : get_or heap.marks d Clean ≢ Clean
@@ -144,13 +138,7 @@ module _ (heap : Cells) (sets : Pairs) (ring : Ring) (pending : ℕ) (settings :
 
     -- the card that is pushed out is one of the heap
     pub out_within : (d : ℕ) → answer ring card ≡ Out d → d < card_count heap.layout
-    out_within d is = let o : IsOutOf ring card d = is_out ring card d core.parts.some is in oldest_within heap sets.pairs ring pending core.parts d o.rest o.cards
-
--- turns keep cover
-pub turned_covered : (old new : State) (cards : List ℕ) (reply : RefineReply) → IsPlaced old → IsCovered old.table → IsTurned old cards reply new → IsCovered new.table
-turned_covered old new cards reply placed cover h =
-    let round : IsRound old.table (round_of new reply) = subst (IsRound old.table) (sym h.turned) (turns_round old.table (take h.many cards) (start old) (start_round old placed)) in
-    subst IsCovered (sym round.table) (refined_covered reply.refined old.table cover)
+    out_within d is = let o : IsFront ring.cards d = is_out ring card d core.parts.some is in oldest_within heap sets.pairs ring pending core.parts d o.rest o.cards
 
 -- the round that a tally tells
 abbrev pub round_at : State → List ℕ → ℕ → ℕ → Round
@@ -159,5 +147,8 @@ round_at s refined hot skipped = record { state = s; refined = refined; hot = ho
 -- one turn more
 pub tally_more : (s0 : State) (cards : List ℕ) (i card : ℕ) (s s' : State) (xs xs' : List ℕ) (hot hot' skipped skipped' : ℕ) (o : Option Offer) → i < length cards → card ≡ get_or cards i card → o ≡ offer_to s card → s' ≡ state_after s card o
     → xs' ≡ xs ++ refined_by card o → hot' ≡ hot + hot_by o → skipped' ≡ skipped + skipped_by o → round_at s xs hot skipped ≡ turns (start s0) (take i cards) → round_at s' xs' hot' skipped' ≡ turns (start s0) (take (i + 1) cards)
-tally_more s0 cards i card s s' xs xs' hot hot' skipped skipped' o =
-    round_more s0 cards i card s s' (record { taken = 0; refined = xs; hot = hot; skipped = skipped; left = 0; short = false }) (record { taken = 0; refined = xs'; hot = hot'; skipped = skipped'; left = 0; short = false }) o
+tally_more s0 cards i card s s' xs xs' hot hot' skipped skipped' o lt read offer state refined hot_is skipped_is h =
+    let step : round_at s' xs' hot' skipped' ≡ turn_by (round_at s xs hot skipped) card o = λ i. record { state = state i; refined = refined i; hot = hot_is i; skipped = skipped_is i } in
+    let by : turn_by (round_at s xs hot skipped) card o ≡ turn (round_at s xs hot skipped) card = ap (turn_by (round_at s xs hot skipped) card) offer in
+    let all : turns (start s0) (take (i + 1) cards) ≡ turn (turns (start s0) (take i cards)) card = fold_more turn (start s0) cards i card lt ∙ ap (turn (turns (start s0) (take i cards))) (sym read) in
+    step ∙ by ∙ ap (λ (r : Round). turn r card) h ∙ sym all

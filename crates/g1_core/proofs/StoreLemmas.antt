@@ -13,7 +13,7 @@ use Rattle.g1_layout.specs.declared.kind.Kind.{Kind}
 use Rattle.g1_layout.specs.declared.kind.Kind.TheVariants.{SameRegion, Null, AlreadyDirty, Logged}
 use Rattle.g1_heap.specs.declared.mark.Mark.{Mark}
 use Rattle.g1_heap.specs.declared.mark.Mark.TheVariants.{Clean, Dirty, Held}
-use Rattle.g1_heap.specs.Cells.{Cells, with_ref, with_mark}
+use Rattle.g1_heap.specs.Cells.{Cells, AreCells, with_ref, with_mark}
 use Rattle.g1_sets.specs.Pairs.{Pairs}
 use Rattle.g1_hot.specs.Ring.{Ring}
 use Rattle.g1_core.specs.Table.{Table, IsCovered, AreRefinable, refined}
@@ -26,13 +26,6 @@ use Rattle.g1_core.specs.Calls.{store_entry}
 use Rattle.g1_core.proofs.TableLemmas.{stored_covered}
 use Rattle.g1_core.proofs.MarkLemmas.{held_clean, dirty_clean, dirty_held, from_pending, to_pending, pending_marked, mark_here, mark_there, few_pending, one_more}
 use Rattle.g1_core.proofs.RefinedLemmas.{refined_none}
-
--- the kind of a store that crosses regions
-pub kind_across : (t : Table) (slot place : ℕ) (target : Option ℕ) (b : Bool) → target ≡ Some place → false ≡ eqb (region_of t.layout slot) (region_of t.layout place) → set.contains t.pending (card_of t.layout slot) ≡ b → kind_of t slot target ≡ cond b AlreadyDirty Logged
-kind_across t slot place target b some across found =
-    ap (kind_of t slot) some
-    ∙ ap (λ a. cond a SameRegion (cond (set.contains t.pending (card_of t.layout slot)) AlreadyDirty Logged)) (sym across)
-    ∙ ap (λ a. cond a AlreadyDirty Logged) found
 
 -- a card is pending where its mark is not clean
 pub clean_mark : (marks : List Mark) (card : ℕ) → get_or marks card Clean ≡ Clean → set.contains (pending_of marks) card ≡ false
@@ -63,14 +56,17 @@ module _ (heap : Cells) (pairs : PairSet) (ring : Ring) (pending : ℕ) (parts :
       sym (ap (λ k. pending_after k (pending_of heap.marks) (card_of heap.layout slot)) (sym kind_is) ∙ pending_plain kind (pending_of heap.marks) (card_of heap.layout slot) ne) in
       λ i. record { table = record { layout = heap.layout; refs = list_set heap.refs slot target; pending = same i; recorded = pairs }; ring = ring }
 
+  written_cells : AreCells (with_ref heap slot target)
+  written_cells = record {
+    shape = parts.cells.shape;
+    slots = length-set heap.refs slot target ∙ parts.cells.slots;
+    places = All-set (λ o. IfSome o (λ place. place < slot_count heap.layout)) heap.refs slot target fits parts.cells.places;
+    cards = parts.cells.cards;
+  }
+
   pub plain_parts : kind ≢ Logged → AreParts (with_ref heap slot target) pairs ring pending
   plain_parts ne = record {
-    cells = record {
-      shape = parts.cells.shape;
-      slots = length-set heap.refs slot target ∙ parts.cells.slots;
-      places = All-set (λ o. IfSome o (λ place. place < slot_count heap.layout)) heap.refs slot target fits parts.cells.places;
-      cards = parts.cells.cards;
-    };
+    cells = written_cells;
     counts = parts.counts;
     some = parts.some;
     distinct = parts.distinct;
@@ -102,12 +98,7 @@ module _ (heap : Cells) (pairs : PairSet) (ring : Ring) (pending : ℕ) (parts :
 
     pub logged_parts : AreParts (with_mark (with_ref heap slot target) card Dirty) pairs ring pending'
     logged_parts = record {
-      cells = record {
-        shape = parts.cells.shape;
-        slots = length-set heap.refs slot target ∙ parts.cells.slots;
-        places = All-set (λ o. IfSome o (λ place. place < slot_count heap.layout)) heap.refs slot target fits parts.cells.places;
-        cards = length-set heap.marks card Dirty ∙ parts.cells.cards;
-      };
+      cells = record { shape = written_cells.shape; slots = written_cells.slots; places = written_cells.places; cards = length-set heap.marks card Dirty ∙ written_cells.cards };
       counts = parts.counts;
       some = parts.some;
       distinct = parts.distinct;
@@ -136,12 +127,6 @@ stored_step caller t new slot target reply numbers kind none after =
       after = after ∙ sym done;
     }
 
-pub kind_found : (t : Table) (l : Shape) (slot place from to card : ℕ) (target : Option ℕ) (b : Bool) → l ≡ t.layout → target ≡ Some place → false ≡ eqb from to → from ≡ region_of l slot → to ≡ region_of l place → card ≡ card_of l slot → set.contains t.pending card ≡ b → kind_of t slot target ≡ cond b AlreadyDirty Logged
-kind_found t l slot place from to card target b same some across first second on found =
-    kind_across t slot place target b some
-    (across ∙ (λ i. eqb (first i) (second i)) ∙ ap (λ (l : Shape). eqb (region_of l slot) (region_of l place)) same)
-    (ap (set.contains t.pending) (sym (on ∙ ap (λ (l : Shape). card_of l slot) same)) ∙ found)
-
 -- the kind that the barrier finds
 pub kind_at : (heap : Cells) (pairs : PairSet) (ring : Ring) (settings : Settings) (m : Machine) → machine_from heap pairs ring settings ≡ m → (l : Shape) (slot place from to card : ℕ) (target : Option ℕ) (mark : Mark) (b : Bool)
     → l ≡ heap.layout → target ≡ Some place → false ≡ eqb from to → from ≡ region_of l slot → to ≡ region_of l place → card ≡ card_of l slot → mark ≡ get_or heap.marks card Clean → (mark ≡ Clean → b ≡ false) → (mark ≢ Clean → b ≡ true)
@@ -151,7 +136,11 @@ kind_at heap pairs ring settings m view l slot place from to card target mark b 
       | inl is ↦ clean_mark heap.marks card (sym read ∙ is) ∙ sym (clean is)
       | inr ne ↦ to_pending heap.marks card (λ e. ne (read ∙ e)) ∙ sym (marked ne)
     ] in
-    kind_found m.state.table l slot place from to card target b (same ∙ ap (λ (m : Machine). m.state.table.layout) view) some across first second on found
+    let here : l ≡ m.state.table.layout = same ∙ ap (λ (m : Machine). m.state.table.layout) view in
+    let regions : false ≡ eqb (region_of m.state.table.layout slot) (region_of m.state.table.layout place) = across ∙ (λ i. eqb (first i) (second i)) ∙ ap (λ (l : Shape). eqb (region_of l slot) (region_of l place)) here in
+    ap (kind_of m.state.table slot) some
+    ∙ ap (λ a. cond a SameRegion (cond (set.contains m.state.table.pending (card_of m.state.table.layout slot)) AlreadyDirty Logged)) (sym regions)
+    ∙ ap (λ a. cond a AlreadyDirty Logged) (ap (set.contains m.state.table.pending) (sym (on ∙ ap (λ (l : Shape). card_of l slot) here)) ∙ found)
 
 -- what a store leaves
 abbrev pub stored_machine : Machine → ℕ → Option ℕ → Machine

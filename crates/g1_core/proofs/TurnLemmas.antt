@@ -1,5 +1,5 @@
 -- A round of turns refines distinct pending cards.
-use Rattle.std.proofs.Common.{◌≡◌, ◌≢◌, ◌⊎◌, inl, inr, ℕ, suc, ◌<◌, ◌≤◌, ◌+◌, true, cond, List, [], ◌∷◌, ◌++◌, length, get_or, take, drop, Option, Some, None, refl, sym, ap, ◌∙◌, subst, arith}
+use Rattle.std.proofs.Common.{◌≡◌, ◌≢◌, ◌⊎◌, inl, inr, ℕ, suc, ◌≤◌, true, cond, List, [], ◌∷◌, ◌++◌, length, get_or, take, drop, Option, Some, None, refl, sym, ap, ◌∙◌, subst, arith}
 use Rattle.std.specs.Prelude.{Contains, All, nat_eq, nat_lt, not}
 use Rattle.std.specs.List.{IsDistinct}
 use Rattle.std.proofs.lemmas.Map.Keys.{IsDistinct-tail}
@@ -13,12 +13,11 @@ use Rattle.g1_hot.specs.declared.offer.Offer.TheVariants.{Cold, Kept, Out}
 use Rattle.g1_hot.specs.Ring.{Ring, answer, cards_after}
 use Rattle.g1_core.specs.Table.{Table, IsPending, AreRefinable, refined}
 use Rattle.g1_core.specs.Machine.{State, IsPlaced}
-use Rattle.std.proofs.lemmas.List.Sums.{fold_more}
 use Rattle.g1_core.specs.declared.reply.RefineReply.{RefineReply}
 use Rattle.g1_core.specs.Run.{IsStep}
 use Rattle.g1_core.specs.Refinement.{IsTurned, round_of}
 use Rattle.g1_core.specs.Calls.{refine_entry}
-use Rattle.g1_core.specs.Turns.{hot_by, skipped_by, is_dirty, offer_to, refined_by, state_after, Round, turn_by, turn, turns, start}
+use Rattle.g1_core.specs.Turns.{is_dirty, refined_by, state_after, Round, turn_by, turn, turns, start}
 use Rattle.g1_core.proofs.SetLemmas.{All_by_member, in_list, in_set}
 use Rattle.g1_core.proofs.TableLemmas.{still_pending}
 use Rattle.g1_core.proofs.MarkLemmas.{one_of}
@@ -39,6 +38,13 @@ rest_distinct x xs h = IsDistinct-tail nat_eq x xs h
 
 pub pending_but : (t : Table) (x q : ℕ) → IsPending t q → q ≢ x → IsPending (refined (x ∷ []) t) q
 pending_but t x q is ne = still_pending (x ∷ []) t q is (false_from_ne_true _ (λ c. ne (one_of q x (in_list (x ∷ []) q c))))
+
+-- what is left of refinable cards after the first of them
+pub rest_refinable : (t : Table) (x : ℕ) (xs : List ℕ) → AreRefinable t (x ∷ xs) → AreRefinable (refined (x ∷ []) t) xs
+rest_refinable t x xs h = record {
+  distinct = rest_distinct x xs h.distinct;
+  pending = All_by_member (IsPending (refined (x ∷ []) t)) xs (λ q c. pending_but t x q (All-contains (IsPending t) (x ∷ xs) q h.pending (suc c.0, omega (arith, c.1), c.2)) (λ e. front_apart x xs h.distinct (subst (Contains xs) e c)));
+}
 
 -- what the ring may answer
 pub record IsOut (r : Ring) (card : ℕ) : Type 0 where
@@ -157,16 +163,6 @@ turns_round t (card ∷ cards) r h = turns_round t cards (turn r card) (turn_rou
 pub start_round : (s : State) → IsPlaced s → IsRound s.table (start s)
 unfolding IsDistinct
 start_round s placed = record { table = sym (refined_none s.table); refines = record { distinct = tt; pending = λ k d lt. absurd (omega arith) }; placed = placed }
-
--- one turn more of a list
-pub round_more : (s0 : State) (cards : List ℕ) (i card : ℕ) (s s' : State) (reply reply' : RefineReply) (o : Option Offer) → i < length cards → card ≡ get_or cards i card → o ≡ offer_to s card → s' ≡ state_after s card o
-    → reply'.refined ≡ reply.refined ++ refined_by card o → reply'.hot ≡ reply.hot + hot_by o → reply'.skipped ≡ reply.skipped + skipped_by o
-    → round_of s reply ≡ turns (start s0) (take i cards) → round_of s' reply' ≡ turns (start s0) (take (i + 1) cards)
-round_more s0 cards i card s s' reply reply' o lt read offer state refined hot skipped h =
-    let step : round_of s' reply' ≡ turn_by (round_of s reply) card o = λ i. record { state = state i; refined = refined i; hot = hot i; skipped = skipped i } in
-    let by : turn_by (round_of s reply) card o ≡ turn (round_of s reply) card = ap (turn_by (round_of s reply) card) offer in
-    let all : turns (start s0) (take (i + 1) cards) ≡ turn (turns (start s0) (take i cards)) card = fold_more turn (start s0) cards i card lt ∙ ap (turn (turns (start s0) (take i cards))) (sym read) in
-    step ∙ by ∙ ap (λ (r : Round). turn r card) h ∙ sym all
 
 -- the turns of a list's first cards are a step of the table
 pub turned_step : (caller : ℕ) (old new : State) (cards : List ℕ) (reply : RefineReply) → IsPlaced old → IsTurned old cards reply new → IsStep old.table (refine_entry caller reply) new.table

@@ -1,7 +1,6 @@
 //! The barrier: what a reference store does to the card table and to its mutator's log.
-ghost use Rattle.std.specs.Prelude.{◌≡◌, ◌<◌, ◌↔◌, ℕ, [], false, IsTrue, IfSome};
+ghost use Rattle.std.specs.Prelude.{◌≡◌, ◌<◌, ℕ, [], false, IfSome};
 ghost use Rattle.g1_layout.specs.Shape.{slot_count, card_of};
-ghost use Rattle.g1_layout.specs.declared.kind.Kind.TheVariants.{Logged};
 
 use crate::list::CardList;
 use crate::machinery::Core;
@@ -67,10 +66,9 @@ impl Core {
     {
         let kind = self.kind(slot, &target);
         self.heap.set(slot, target);
-        let logs = is_logged(kind);
-        if !logs {
+        let Kind::Logged = kind else {
             return (plain_reply(self.alloc, kind, Fill::No), None);
-        }
+        };
         let layout = self.heap.layout();
         let card = layout.card_of(slot);
         self.heap.set_mark(card, Mark::Dirty);
@@ -94,17 +92,5 @@ fn plain_reply(alloc: Global, kind: Kind, fill: Fill) -> StoreReply
         fill,
         refined: CardList::new(alloc),
         short: false,
-    }
-}
-
-/// Whether the store's card is to be logged.
-fn is_logged(kind: Kind) -> bool
-    ensures { IsTrue result ↔ (kind ≡ Logged) }
-{
-    match kind {
-        Kind::Logged => return true,
-        Kind::SameRegion => return false,
-        Kind::Null => return false,
-        Kind::AlreadyDirty => return false,
     }
 }

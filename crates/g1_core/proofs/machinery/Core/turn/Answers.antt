@@ -23,59 +23,45 @@ refine_card-requires-clause-some c = dirty_pending c.self.inside.heap c.self.ins
 pub refine_card-requires-in-Out-clause-some : goal.refine_card-requires-in-Out-clause-some
 refine_card-requires-in-Out-clause-some c = dirty_pending c.self.inside.heap c.self.inside.sets c.self.inside.hot c.self.inside.pending c.self.inside.config c.args.self.now c.self.invariant c.self.view_is c.args.card (c.is_dirty-dirty.ensures.dirty.0 c.if-not-dirty.false)
 
+-- what the turn of a dirty card leaves, by what the ring answers
+cold : (c : goal.After-offer) → IsTurnedTo c.args.self.now c.args.card (Some c.would-offer.result) c.refine_card.new.heap c.refine_card.new.sets c.offer.new.self c.refine_card.new.pending
+cold c = turned_cold c.self.inside.heap c.self.inside.sets c.self.inside.hot c.self.inside.pending c.self.inside.config c.args.self.now c.self.invariant c.self.view_is c.args.card (c.is_dirty-dirty.ensures.dirty.0 c.if-not-dirty.false) c.would-offer.result c.would-offer.ensures.answer c.refine_card.new.heap c.refine_card.new.sets c.offer.new.self c.refine_card.new.pending c.offer.ensures.ring
+    c.self.inside.heap.layout.slots c.in-Cold.is c.in_ok-refine_card-in-Cold.ensures.cleaned c.in_ok-refine_card-in-Cold.ensures.pairs c.in_ok-refine_card-in-Cold.ensures.layout c.in_ok-refine_card-in-Cold.ensures.less
+
 pub invariant_of-self-in-Cold : goal.invariant_of-self-in-Cold
-invariant_of-self-in-Cold c =
-    let t : IsTurnedTo c.args.self.now c.args.card (Some c.would-offer.result) c.refine_card.new.heap c.refine_card.new.sets c.offer.new.self c.refine_card.new.pending = turned_cold c.self.inside.heap c.self.inside.sets c.self.inside.hot c.self.inside.pending c.self.inside.config c.args.self.now c.self.invariant c.self.view_is c.args.card (c.is_dirty-dirty.ensures.dirty.0 c.if-not-dirty.false) c.would-offer.result c.would-offer.ensures.answer c.refine_card.new.heap c.refine_card.new.sets c.offer.new.self c.refine_card.new.pending c.offer.ensures.ring
-    c.self.inside.heap.layout.slots c.in-Cold.is c.in_ok-refine_card-in-Cold.ensures.cleaned c.in_ok-refine_card-in-Cold.ensures.pairs c.in_ok-refine_card-in-Cold.ensures.layout c.in_ok-refine_card-in-Cold.ensures.less in
-    t.core
+invariant_of-self-in-Cold c = (cold c).core
 
 pub returns-in-Cold-clause-offer : goal.returns-in-Cold-clause-offer
-returns-in-Cold-clause-offer c =
-    let t : IsTurnedTo c.args.self.now c.args.card (Some c.would-offer.result) c.refine_card.new.heap c.refine_card.new.sets c.offer.new.self c.refine_card.new.pending = turned_cold c.self.inside.heap c.self.inside.sets c.self.inside.hot c.self.inside.pending c.self.inside.config c.args.self.now c.self.invariant c.self.view_is c.args.card (c.is_dirty-dirty.ensures.dirty.0 c.if-not-dirty.false) c.would-offer.result c.would-offer.ensures.answer c.refine_card.new.heap c.refine_card.new.sets c.offer.new.self c.refine_card.new.pending c.offer.ensures.ring
-    c.self.inside.heap.layout.slots c.in-Cold.is c.in_ok-refine_card-in-Cold.ensures.cleaned c.in_ok-refine_card-in-Cold.ensures.pairs c.in_ok-refine_card-in-Cold.ensures.layout c.in_ok-refine_card-in-Cold.ensures.less in
-    t.offer
+returns-in-Cold-clause-offer c = (cold c).offer
 
 pub returns-in-Cold-clause-state : goal.returns-in-Cold-clause-state
-returns-in-Cold-clause-state c =
-    let t : IsTurnedTo c.args.self.now c.args.card (Some c.would-offer.result) c.refine_card.new.heap c.refine_card.new.sets c.offer.new.self c.refine_card.new.pending = turned_cold c.self.inside.heap c.self.inside.sets c.self.inside.hot c.self.inside.pending c.self.inside.config c.args.self.now c.self.invariant c.self.view_is c.args.card (c.is_dirty-dirty.ensures.dirty.0 c.if-not-dirty.false) c.would-offer.result c.would-offer.ensures.answer c.refine_card.new.heap c.refine_card.new.sets c.offer.new.self c.refine_card.new.pending c.offer.ensures.ring
-    c.self.inside.heap.layout.slots c.in-Cold.is c.in_ok-refine_card-in-Cold.ensures.cleaned c.in_ok-refine_card-in-Cold.ensures.pairs c.in_ok-refine_card-in-Cold.ensures.layout c.in_ok-refine_card-in-Cold.ensures.less in
-    t.state
+returns-in-Cold-clause-state c = (cold c).state
+
+kept : (c : goal.After-offer-in-Kept) → IsTurnedTo c.args.self.now c.args.card (Some c.would-offer.result) c.set_mark.new.self c.self.inside.sets c.offer-in-Kept.new.self c.self.inside.pending
+kept c = turned_kept c.self.inside.heap c.self.inside.sets c.self.inside.hot c.self.inside.pending c.self.inside.config c.args.self.now c.self.invariant c.self.view_is c.args.card (c.is_dirty-dirty.ensures.dirty.0 c.if-not-dirty.false) c.would-offer.result c.would-offer.ensures.answer c.set_mark.new.self c.self.inside.sets c.offer-in-Kept.new.self c.self.inside.pending c.offer-in-Kept.ensures.ring
+    c.in-Kept.is c.set_mark.ensures refl refl
 
 pub invariant_of-self-in-Kept : goal.invariant_of-self-in-Kept
-invariant_of-self-in-Kept c =
-    let t : IsTurnedTo c.args.self.now c.args.card (Some c.would-offer.result) c.set_mark.new.self c.self.inside.sets c.offer-in-Kept.new.self c.self.inside.pending = turned_kept c.self.inside.heap c.self.inside.sets c.self.inside.hot c.self.inside.pending c.self.inside.config c.args.self.now c.self.invariant c.self.view_is c.args.card (c.is_dirty-dirty.ensures.dirty.0 c.if-not-dirty.false) c.would-offer.result c.would-offer.ensures.answer c.set_mark.new.self c.self.inside.sets c.offer-in-Kept.new.self c.self.inside.pending c.offer-in-Kept.ensures.ring
-    c.in-Kept.is c.set_mark.ensures refl refl in
-    t.core
+invariant_of-self-in-Kept c = (kept c).core
 
 pub returns-in-Kept-clause-offer : goal.returns-in-Kept-clause-offer
-returns-in-Kept-clause-offer c =
-    let t : IsTurnedTo c.args.self.now c.args.card (Some c.would-offer.result) c.set_mark.new.self c.self.inside.sets c.offer-in-Kept.new.self c.self.inside.pending = turned_kept c.self.inside.heap c.self.inside.sets c.self.inside.hot c.self.inside.pending c.self.inside.config c.args.self.now c.self.invariant c.self.view_is c.args.card (c.is_dirty-dirty.ensures.dirty.0 c.if-not-dirty.false) c.would-offer.result c.would-offer.ensures.answer c.set_mark.new.self c.self.inside.sets c.offer-in-Kept.new.self c.self.inside.pending c.offer-in-Kept.ensures.ring
-    c.in-Kept.is c.set_mark.ensures refl refl in
-    t.offer
+returns-in-Kept-clause-offer c = (kept c).offer
 
 pub returns-in-Kept-clause-state : goal.returns-in-Kept-clause-state
-returns-in-Kept-clause-state c =
-    let t : IsTurnedTo c.args.self.now c.args.card (Some c.would-offer.result) c.set_mark.new.self c.self.inside.sets c.offer-in-Kept.new.self c.self.inside.pending = turned_kept c.self.inside.heap c.self.inside.sets c.self.inside.hot c.self.inside.pending c.self.inside.config c.args.self.now c.self.invariant c.self.view_is c.args.card (c.is_dirty-dirty.ensures.dirty.0 c.if-not-dirty.false) c.would-offer.result c.would-offer.ensures.answer c.set_mark.new.self c.self.inside.sets c.offer-in-Kept.new.self c.self.inside.pending c.offer-in-Kept.ensures.ring
-    c.in-Kept.is c.set_mark.ensures refl refl in
-    t.state
+returns-in-Kept-clause-state c = (kept c).state
+
+out : (c : goal.After-offer-in-Out) → IsTurnedTo c.args.self.now c.args.card (Some (Out c.in-Out.oldest)) c.set_mark-in-Out.new.self c.refine_card-in-Out.new.sets c.offer-in-Out.new.self c.refine_card-in-Out.new.pending
+out c = turned_out c.self.inside.heap c.self.inside.sets c.self.inside.hot c.self.inside.pending c.self.inside.config c.args.self.now c.self.invariant c.self.view_is c.args.card (c.is_dirty-dirty.ensures.dirty.0 c.if-not-dirty.false) (Out c.in-Out.oldest) (sym c.in-Out.is ∙ c.would-offer.ensures.answer) c.set_mark-in-Out.new.self c.refine_card-in-Out.new.sets c.offer-in-Out.new.self c.refine_card-in-Out.new.pending c.offer-in-Out.ensures.ring
+    c.self.inside.heap.layout.slots c.in-Out.oldest refl (c.set_mark-in-Out.ensures ∙ ap (λ (h : Cells). with_mark h c.args.card Held) c.in_ok-refine_card-in-Out.ensures.cleaned) c.in_ok-refine_card-in-Out.ensures.pairs c.in_ok-refine_card-in-Out.ensures.layout c.in_ok-refine_card-in-Out.ensures.less
 
 pub invariant_of-self-in-Out : goal.invariant_of-self-in-Out
-invariant_of-self-in-Out c =
-    let t : IsTurnedTo c.args.self.now c.args.card (Some (Out c.in-Out.oldest)) c.set_mark-in-Out.new.self c.refine_card-in-Out.new.sets c.offer-in-Out.new.self c.refine_card-in-Out.new.pending = turned_out c.self.inside.heap c.self.inside.sets c.self.inside.hot c.self.inside.pending c.self.inside.config c.args.self.now c.self.invariant c.self.view_is c.args.card (c.is_dirty-dirty.ensures.dirty.0 c.if-not-dirty.false) (Out c.in-Out.oldest) (sym c.in-Out.is ∙ c.would-offer.ensures.answer) c.set_mark-in-Out.new.self c.refine_card-in-Out.new.sets c.offer-in-Out.new.self c.refine_card-in-Out.new.pending c.offer-in-Out.ensures.ring
-    c.self.inside.heap.layout.slots c.in-Out.oldest refl (c.set_mark-in-Out.ensures ∙ ap (λ (h : Cells). with_mark h c.args.card Held) c.in_ok-refine_card-in-Out.ensures.cleaned) c.in_ok-refine_card-in-Out.ensures.pairs c.in_ok-refine_card-in-Out.ensures.layout c.in_ok-refine_card-in-Out.ensures.less in
-    t.core
+invariant_of-self-in-Out c = (out c).core
 
 pub returns-in-Out-clause-offer : goal.returns-in-Out-clause-offer
-returns-in-Out-clause-offer c =
-    let t : IsTurnedTo c.args.self.now c.args.card (Some (Out c.in-Out.oldest)) c.set_mark-in-Out.new.self c.refine_card-in-Out.new.sets c.offer-in-Out.new.self c.refine_card-in-Out.new.pending = turned_out c.self.inside.heap c.self.inside.sets c.self.inside.hot c.self.inside.pending c.self.inside.config c.args.self.now c.self.invariant c.self.view_is c.args.card (c.is_dirty-dirty.ensures.dirty.0 c.if-not-dirty.false) (Out c.in-Out.oldest) (sym c.in-Out.is ∙ c.would-offer.ensures.answer) c.set_mark-in-Out.new.self c.refine_card-in-Out.new.sets c.offer-in-Out.new.self c.refine_card-in-Out.new.pending c.offer-in-Out.ensures.ring
-    c.self.inside.heap.layout.slots c.in-Out.oldest refl (c.set_mark-in-Out.ensures ∙ ap (λ (h : Cells). with_mark h c.args.card Held) c.in_ok-refine_card-in-Out.ensures.cleaned) c.in_ok-refine_card-in-Out.ensures.pairs c.in_ok-refine_card-in-Out.ensures.layout c.in_ok-refine_card-in-Out.ensures.less in
-    t.offer
+returns-in-Out-clause-offer c = (out c).offer
 
 pub returns-in-Out-clause-state : goal.returns-in-Out-clause-state
-returns-in-Out-clause-state c =
-    let t : IsTurnedTo c.args.self.now c.args.card (Some (Out c.in-Out.oldest)) c.set_mark-in-Out.new.self c.refine_card-in-Out.new.sets c.offer-in-Out.new.self c.refine_card-in-Out.new.pending = turned_out c.self.inside.heap c.self.inside.sets c.self.inside.hot c.self.inside.pending c.self.inside.config c.args.self.now c.self.invariant c.self.view_is c.args.card (c.is_dirty-dirty.ensures.dirty.0 c.if-not-dirty.false) (Out c.in-Out.oldest) (sym c.in-Out.is ∙ c.would-offer.ensures.answer) c.set_mark-in-Out.new.self c.refine_card-in-Out.new.sets c.offer-in-Out.new.self c.refine_card-in-Out.new.pending c.offer-in-Out.ensures.ring
-    c.self.inside.heap.layout.slots c.in-Out.oldest refl (c.set_mark-in-Out.ensures ∙ ap (λ (h : Cells). with_mark h c.args.card Held) c.in_ok-refine_card-in-Out.ensures.cleaned) c.in_ok-refine_card-in-Out.ensures.pairs c.in_ok-refine_card-in-Out.ensures.layout c.in_ok-refine_card-in-Out.ensures.less in
-    t.state
+returns-in-Out-clause-state c = (out c).state
 
 pub returns-then-not-dirty-clause-reads : goal.returns-then-not-dirty-clause-reads
 returns-then-not-dirty-clause-reads c = none_read c.args.self.now.reads c.args.self.now.state.table.layout.slots 0 c.reads-reads.ensures.bound refl
