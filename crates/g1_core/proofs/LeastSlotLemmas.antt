@@ -1,18 +1,19 @@
 -- The least slot that enters a region, and what is read to find it.
-use Rattle.std.proofs.Common.{◌≡◌, ◌≢◌, inl, inr, ℕ, ◌<◌, ◌≤◌, ◌+◌, ◌-◌, ◌*◌, Bool, false, eqb, List, [], ◌∷◌, ◌++◌, get_or, Option, Some, None, refl, sym, ap, ◌∙◌, subst, arith, min, take, below_more}
+use Rattle.std.proofs.Common.{◌≡◌, ◌≢◌, inl, inr, ℕ, ◌<◌, ◌≤◌, ◌+◌, ◌-◌, ◌*◌, Bool, false, eqb, List, [], ◌∷◌, ◌++◌, length, get_or, Option, Some, None, refl, sym, ap, ◌∙◌, subst, arith, take, below_more}
 use Rattle.std.specs.Prelude.{Contains, slice_get}
 use Rattle.std.proofs.lemmas.Bool.{cases_lt, eqb-false}
-use Rattle.std.proofs.lemmas.List.{take_more}
 use Rattle.std.proofs.lemmas.List.Elements.{Contains-append_cases}
-use Rattle.std.proofs.lemmas.Option.{get_or_from_slice_get, slice_get_within}
-use Rattle.g1_layout.specs.Shape.{Shape, IsShape, card_of, region_of, region_of_card, slot_at}
+use Rattle.std.proofs.lemmas.Nat.{row_fits}
+use Rattle.g1_layout.specs.Shape.{Shape, IsShape, slot_count, card_count, card_of, region_of, region_of_card, slot_at}
 use Rattle.g1_layout.specs.Sets.{PairSet}
-use Rattle.g1_layout.proofs.ShapeLemmas.{IsInRow, row_of_card, region_of_slot, region_of-row}
+use Rattle.g1_layout.proofs.ShapeLemmas.{IsInRow, row_of_card, row_of_slot, card_of_below, region_of_slot, region_of-row}
 use Rattle.g1_heap.specs.Cells.{Cells}
 use Rattle.g1_core.specs.Table.{Table, Enters}
 use Rattle.g1_core.specs.Machine.{table_from}
-use Rattle.g1_core.specs.Clearing.{IsLeastOn, lesser_of, AreRead}
-use Rattle.g1_core.proofs.MarkLemmas.{one_of}
+use Rattle.g1_core.specs.Clearing.{IsLeastOn, AreRead}
+use Rattle.g1_core.proofs.MarkLemmas.{one_of, itself}
+use Rattle.g1_core.proofs.TableLemmas.{is_slot}
+use Rattle.g1_core.proofs.WalkLemmas.{take_next}
 
 -- reads add up
 pub read_none : (heap : Cells) (most : ℕ) → AreRead heap heap most
@@ -101,46 +102,86 @@ module _ (heap now : Cells) (most card region offset slot : ℕ) (shape : IsShap
   passed pairs away none = below_more (λ (k : ℕ). Enters (table_from heap pairs) (slot_at heap.layout card k) region → ⊥) offset none
       (λ e. away (sought heap now most read slot region pairs (subst (λ (s : ℕ). Enters (table_from heap pairs) s region) (sym w.slot_is) e)))
 
--- one more card
-pub least_none : (t : Table) (region : ℕ) → IsLeastOn t [] region None
-least_none t region slot on e = absurd (omega (arith, on.1))
+-- What a walk over some cards has found: no slot on them before a card enters the region, and the least slot from that card on is known.
+abbrev pub IsFoundFrom : Table → ℕ → ℕ → Option ℕ → Type 0
+IsFoundFrom t region past None = past ≡ card_count t.layout
+IsFoundFrom t region past (Some slot) = Enters t slot region × ((other : ℕ) → past ≤ card_of t.layout other → Enters t other region → slot ≤ other)
 
-pub least_push : (t : Table) (xs : List ℕ) (card region : ℕ) (a b : Option ℕ) → IsLeastOn t xs region a → IsLeastOn t (card ∷ []) region b → IsLeastOn t (xs ++ card ∷ []) region (lesser_of a b)
-least_push t xs card region None None first second = λ slot on e. elim (Contains-append_cases xs (card ∷ []) (card_of t.layout slot) on) [ inl c ↦ first slot c e | inr c ↦ second slot c e ]
-least_push t xs card region None (Some y) first second = (
-  second.0,
-  λ other on e. elim (Contains-append_cases xs (card ∷ []) (card_of t.layout other) on) [
-    | inl x ↦ absurd (first other x e)
-    | inr c ↦ second.1 other c e
-  ],
-)
-least_push t xs card region (Some x) None first second = (
-  first.0,
-  λ other on e. elim (Contains-append_cases xs (card ∷ []) (card_of t.layout other) on) [
-    | inl c ↦ first.1 other c e
-    | inr c ↦ absurd (second other c e)
-  ],
-)
-least_push t xs card region (Some x) (Some y) first second = (
-  elim (cases_lt y x) [
-    | inl less ↦ let is : min x y ≡ y = omega arith in subst (λ (s : ℕ). Enters t s region) (sym is) second.0
-    | inr past ↦ let is : min x y ≡ x = omega arith in subst (λ (s : ℕ). Enters t s region) (sym is) first.0
-  ],
-  λ other on e. elim (Contains-append_cases xs (card ∷ []) (card_of t.layout other) on) [
-    | inl c ↦ let far : x ≤ other = first.1 other c e in omega arith
-    | inr c ↦ let far : y ≤ other = second.1 other c e in omega arith
-  ],
-)
+pub record IsLeastFrom (t : Table) (cards : List ℕ) (region past : ℕ) (least : Option ℕ) : Type 0 where
+  pub before : (slot : ℕ) → Contains cards (card_of t.layout slot) → card_of t.layout slot < past → Enters t slot region → ⊥
+  pub found : IsFoundFrom t region past least
 
--- the next card of a list, which the heap is read for
-pub least_next : (heap now : Cells) (most : ℕ) (pairs : PairSet) (cards : List ℕ) (index card region : ℕ) (a b o : Option ℕ) → AreRead heap now most → slice_get cards index ≡ Some card
-    → IsLeastOn (table_from heap pairs) (take index cards) region a → ((pairs : PairSet) → IsLeastOn (table_from now pairs) (card ∷ []) region b) → o ≡ lesser_of a b → IsLeastOn (table_from heap pairs) (take (index + 1) cards) region o
-least_next heap now most pairs cards index card region a b o read at before here is =
-    let more : take (index + 1) cards ≡ take index cards ++ card ∷ [] =
-    take_more cards index card (slice_get_within cards index card at) ∙ ap (λ (c : ℕ). take index cards ++ c ∷ []) (get_or_from_slice_get cards index card card at) in
-    let second : IsLeastOn (table_from heap pairs) (card ∷ []) region b = subst (λ (t : Table). IsLeastOn t (card ∷ []) region b) (read_table heap now most pairs read) (here pairs) in
-    subst (λ (o : Option ℕ). IsLeastOn (table_from heap pairs) (take (index + 1) cards) region o) (sym is)
-    (subst (λ (cs : List ℕ). IsLeastOn (table_from heap pairs) cs region (lesser_of a b)) (sym more) (least_push (table_from heap pairs) (take index cards) card region a b before second))
+module _ (t : Table) (shape : IsShape t.layout) (region : ℕ) where
+  pub from_none : (past : ℕ) → past ≡ card_count t.layout → IsLeastFrom t [] region past None
+  from_none past all = record { before = λ slot on less e. absurd (omega (arith, on.1)); found = all }
+
+  -- of all the cards it is the least slot
+  pub from_all : (cards : List ℕ) (past : ℕ) (least : Option ℕ) → length t.refs ≡ slot_count t.layout → IsLeastFrom t cards region past least → IsLeastOn t cards region least
+  from_all cards past None many h = λ slot on e.
+      let below : slot < length t.refs = is_slot t.refs slot e.place e.refers in
+      h.before slot on (omega (arith, h.found, card_of_below t.layout slot shape (omega arith))) e
+  from_all cards past (Some slot) many h = (
+    h.found.0,
+    λ other on e. elim (cases_lt (card_of t.layout other) past) [
+      | inl less ↦ absurd (h.before other on less e)
+      | inr from ↦ h.found.1 other from e
+    ],
+  )
+
+  module _ (cards : List ℕ) (card past : ℕ) (least : Option ℕ) (h : IsLeastFrom t cards region past least) where
+    -- one more card, of which no slot before the end enters the region
+    pub from_passed : ((slot : ℕ) → card_of t.layout slot ≡ card → card < past → Enters t slot region → ⊥) → IsLeastFrom t (cards ++ card ∷ []) region past least
+    from_passed never = record {
+      before = λ slot on less e. elim (Contains-append_cases cards (card ∷ []) (card_of t.layout slot) on) [
+        | inl c ↦ h.before slot c less e
+        | inr c ↦ let same : card_of t.layout slot ≡ card = one_of (card_of t.layout slot) card c in never slot same (omega arith) e
+      ];
+      found = h.found;
+    }
+
+    -- or one that has the least slot
+    pub from_card : card < past → (slot : ℕ) → card_of t.layout slot ≡ card → IsLeastOn t (card ∷ []) region (Some slot) → IsLeastFrom t (cards ++ card ∷ []) region card (Some slot)
+    from_card nearer slot on first = record {
+      before = λ other there less e. elim (Contains-append_cases cards (card ∷ []) (card_of t.layout other) there) [
+        | inl c ↦ h.before other c (omega arith) e
+        | inr c ↦ let same : card_of t.layout other ≡ card = one_of (card_of t.layout other) card c in absurd (omega arith)
+      ];
+      found = (
+        first.0,
+        λ other from e. elim (cases_lt card (card_of t.layout other)) [
+          | inl less ↦
+              let here : IsInRow t.layout card slot = row_of_card t.layout card slot shape on in
+              let there : IsInRow t.layout (card_of t.layout other) other = row_of_slot t.layout other shape in
+              omega (arith, here.below, there.from, row_fits card t.layout.slots (card_of t.layout other) t.layout.slots less (omega arith))
+          | inr past ↦ let same : card_of t.layout other ≡ card = omega arith in first.1 other (itself (card_of t.layout other) card same) e
+        ],
+      );
+    }
+
+-- the next card of a list, which is not read, or which the heap is read for
+module _ (heap now : Cells) (most : ℕ) (read : AreRead heap now most) (pairs : PairSet) (shape : IsShape heap.layout) (region : ℕ) (cards : List ℕ) (index card : ℕ) (at : slice_get cards index ≡ Some card) (past : ℕ) (least : Option ℕ)
+    (h : IsLeastFrom (table_from heap pairs) (take index cards) region past least) (past' : ℕ) (least' : Option ℕ) where
+  as_next : (p : ℕ) (o : Option ℕ) → past' ≡ p → least' ≡ o → IsLeastFrom (table_from heap pairs) (take index cards ++ card ∷ []) region p o → IsLeastFrom (table_from heap pairs) (take (index + 1) cards) region past' least'
+  as_next p o same same_least found =
+      subst (λ (p : ℕ). IsLeastFrom (table_from heap pairs) (take (index + 1) cards) region p least') (sym same)
+      (subst (λ (o : Option ℕ). IsLeastFrom (table_from heap pairs) (take (index + 1) cards) region p o) (sym same_least)
+      (subst (λ (cs : List ℕ). IsLeastFrom (table_from heap pairs) cs region p o) (sym (take_next cards index card at)) found))
+
+  here : (o : Option ℕ) → ((pairs : PairSet) → IsLeastOn (table_from now pairs) (card ∷ []) region o) → IsLeastOn (table_from heap pairs) (card ∷ []) region o
+  here o on = subst (λ (t : Table). IsLeastOn t (card ∷ []) region o) (read_table heap now most pairs read) (on pairs)
+
+  pub next_past : past ≤ card → past' ≡ past → least' ≡ least → IsLeastFrom (table_from heap pairs) (take (index + 1) cards) region past' least'
+  next_past beyond same same_least = as_next past least same same_least (from_passed (table_from heap pairs) shape region (take index cards) card past least h (λ slot on less e. absurd (omega arith)))
+
+  pub next_none : ((pairs : PairSet) → IsLeastOn (table_from now pairs) (card ∷ []) region None) → past' ≡ past → least' ≡ least → IsLeastFrom (table_from heap pairs) (take (index + 1) cards) region past' least'
+  next_none none same same_least =
+      as_next past least same same_least (from_passed (table_from heap pairs) shape region (take index cards) card past least h (λ slot on less e. here None none slot (itself (card_of heap.layout slot) card on) e))
+
+  pub next_some : card < past → (slot : ℕ) → card_of now.layout slot ≡ card → ((pairs : PairSet) → IsLeastOn (table_from now pairs) (card ∷ []) region (Some slot)) → past' ≡ card → least' ≡ Some slot
+      → IsLeastFrom (table_from heap pairs) (take (index + 1) cards) region past' least'
+  next_some nearer slot on first same same_least =
+      as_next card (Some slot) same same_least
+      (from_card (table_from heap pairs) shape region (take index cards) card past least h nearer slot (sym (ap (λ (h : Cells). card_of h.layout slot) read.cells) ∙ on) (here (Some slot) first))
 
 pub read_next : (heap now new : Cells) (index : ℕ) → AreRead heap now (index * heap.layout.slots) → AreRead now new now.layout.slots → AreRead heap new ((index + 1) * heap.layout.slots)
 read_next heap now new index before here =

@@ -1,5 +1,5 @@
 -- What a clear finds: the least slot on some cards that refers into a region, and how many slots are read for it.
-use Rattle.std.specs.Prelude.{◌≡◌, ◌≤◌, ℕ, ◌+◌, ◌==◌, List, Option, Some, None, Contains, min}
+use Rattle.std.specs.Prelude.{◌≡◌, ◌≤◌, ℕ, ◌+◌, ◌==◌, List, Option, Some, None, Contains}
 use Rattle.std.specs.FinSet as set
 use Rattle.g1_layout.specs.Shape.{card_of}
 use Rattle.g1_heap.specs.Cells.{Cells}
@@ -13,12 +13,6 @@ member_count t region = set.len (set.retain t.recorded (λ pair. pair.1 == regio
 abbrev pub IsLeastOn : Table → List ℕ → ℕ → Option ℕ → Type 0
 IsLeastOn t cards region None = (slot : ℕ) → Contains cards (card_of t.layout slot) → Enters t slot region → ⊥
 IsLeastOn t cards region (Some slot) = Enters t slot region × ((other : ℕ) → Contains cards (card_of t.layout other) → Enters t other region → slot ≤ other)
-
--- the lesser of two slots, of which either may be missing
-abbrev pub lesser_of : Option ℕ → Option ℕ → Option ℕ
-lesser_of None b = b
-lesser_of (Some x) None = Some x
-lesser_of (Some x) (Some y) = Some (min x y)
 
 -- At most `most` slots were read, and nothing else of the heap has changed.
 pub record AreRead (old new : Cells) (most : ℕ) : Type 0 where

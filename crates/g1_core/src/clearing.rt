@@ -1,11 +1,11 @@
 //! The clear: a region's remembered set is emptied once no reference enters the region.
-ghost use Rattle.std.specs.Prelude.{◌≡◌, ◌≢◌, ◌≤◌, ◌<◌, ◌+◌, ◌*◌, ◌↔◌, ℕ, [], ◌∷◌, None, Some, IsTrue, slice_index_or, length};
+ghost use Rattle.std.specs.Prelude.{◌≡◌, ◌≢◌, ◌≤◌, ◌<◌, ◌+◌, ◌*◌, ◌↔◌, ℕ, [], ◌∷◌, None, Some, IfSome, IsTrue, slice_index_or, length};
 ghost use Rattle.std.specs.FinSet as set;
-ghost use Rattle.g1_layout.specs.Shape.{slot_count, card_count, region_of};
+ghost use Rattle.g1_layout.specs.Shape.{slot_count, card_count, card_of, region_of};
 ghost use Rattle.g1_layout.specs.Sets.{PairSet};
 ghost use Rattle.g1_sets.specs.Pairs.{list_at, AreTied};
 ghost use Rattle.g1_core.specs.Machine.{table_from};
-ghost use Rattle.g1_core.specs.Clearing.{IsLeastOn, lesser_of, AreRead};
+ghost use Rattle.g1_core.specs.Clearing.{IsLeastOn, AreRead};
 
 use crate::machinery::Core;
 use crate::reply::ClearReply;
@@ -49,7 +49,8 @@ impl Core {
     }
 }
 
-// The least slot on the cards of the region's set that lies outside the region and refers into it.
+// The least slot on the cards of the region's set that lies outside the region and refers into it. A card at or past
+// that of the slot found last has no lesser one, and is not read.
 fn least_entering(heap: &mut Heap, sets: &Sets, region: Region) -> Option<Slot>
     requires region { region < heap.old.layout.regions }
     requires layouts { sets.now.layout ≡ heap.old.layout }
@@ -57,29 +58,26 @@ fn least_entering(heap: &mut Heap, sets: &Sets, region: Region) -> Option<Slot>
     ensures tied { AreTied sets.now }
     ensures heap { AreRead heap.old heap.new (length (list_at sets.now.lists region) * heap.old.layout.slots) }
 {
+    let layout = heap.layout();
+    let mut past = layout.card_count();
     let mut least = None;
     for index in 0..sets.len(region) {
-        let found = entering_on(heap, sets.at(region, index), region);
-        least = lesser(least, found);
+        let card = sets.at(region, index);
+        if card.number() < past {
+            if let Some(slot) = entering_on(heap, card, region) {
+                past = card.number();
+                least = Some(slot);
+            }
+        }
     }
     least
-}
-
-// The lesser of two slots, of which either may be missing.
-fn lesser(a: Option<Slot>, b: Option<Slot>) -> Option<Slot>
-    ensures { result ≡ lesser_of a b }
-{
-    match (a, b) {
-        (Some(x), Some(y)) => Some(x.min(y)),
-        (None, other) => other,
-        (other, None) => other,
-    }
 }
 
 // The first slot of the card that lies outside the region and refers into it.
 fn entering_on(heap: &mut Heap, card: Card, region: Region) -> Option<Slot>
     requires { card < card_count heap.old.layout }
     ensures least { (pairs : PairSet) → IsLeastOn (table_from heap.old pairs) (card ∷ []) region result }
+    ensures on { IfSome result (λ slot. card_of heap.old.layout slot ≡ card) }
     ensures heap { AreRead heap.old heap.new heap.old.layout.slots }
 {
     let layout = heap.layout();
