@@ -1,13 +1,14 @@
 -- The regions into which a card holds, as a pass over its words lists them.
-use Rattle.std.proofs.Common.{◌≡◌, inl, inr, ℕ, ◌<◌, ◌≤◌, ◌+◌, ◌-◌, ◌*◌, ◌/◌, List, length, get_or, take, drop, map, Option, None, sym, ap, ◌∙◌, arith, ◌↔◌}
+use Rattle.std.proofs.Common.{◌≡◌, inl, inr, ℕ, ◌<◌, ◌≤◌, ◌+◌, ◌-◌, ◌*◌, ◌/◌, List, length, get_or, map, Option, None, sym, ap, ◌∙◌, arith, ◌↔◌}
 use Rattle.std.specs.Prelude.{Contains}
 use Rattle.std.proofs.lemmas.Bool.Decides.{Decides-eqb}
 use Rattle.std.proofs.lemmas.Map.Made.{IsDistinct-from_AllPairs}
-use Rattle.std.proofs.lemmas.List.{get_or_default, get_or-take, get_or-drop, get_or-map, length-take, length-drop}
+use Rattle.std.proofs.lemmas.List.{get_or_default}
 use Rattle.g1_layout.specs.Shape.{Shape, IsShape, region_of_card}
 use Rattle.g1_layout.specs.declared.region_set.RegionSet.{RegionSet}
 use Rattle.g1_layout.specs.Regions.{HasRegion, Gains}
 use Rattle.g1_layout.proofs.ShapeLemmas.{IsInRow, card_of-row, row_of_card}
+use Rattle.g1_heap.proofs.RowLemmas.{row_of, row_length, row_at}
 use Rattle.g1_heap.specs.Cells.{HoldsIn}
 use Rattle.g1_heap.specs.Stored.{ref_of}
 use Rattle.g1_heap.specs.Listing.{RowRefers, RowRefersFirst, IsListedUpTo}
@@ -15,49 +16,40 @@ use Rattle.g1_heap.specs.Targets.{AreTargets, AreNewTargets, RefersFirst}
 
 -- the slots of a card
 module _ (l : Shape) (words : List ℕ) (card own first n : ℕ) (home : own ≡ region_of_card l card) (starts : first ≡ card * l.slots) (many : n ≡ l.slots) (shape : IsShape l) (room : first + n ≤ length words) where
-  abbrev row_of : List ℕ
-  row_of = take (first + n - first) (drop first words)
-
-  row_length : length row_of ≡ n
-  row_length = omega (arith, length-take (first + n - first) (drop first words), length-drop first words)
-
-  row_at : (k : ℕ) → k < n → ref_of l (get_or row_of k 0) ≡ get_or (map (ref_of l) words) (first + k) None
-  row_at k lt =
-      let few : k < first + n - first = omega arith in
-      let inside : first + k < length words = omega arith in
-      ap (ref_of l) (get_or-take (first + n - first) (drop first words) k 0 few ∙ get_or-drop first words k 0) ∙ sym (get_or-map (ref_of l) words (first + k) 0 None inside)
+  abbrev row : List ℕ
+  row = row_of words first n
 
   -- a word of the row refers into another region just where the card holds into it
-  abbrev holds_from_row : (region k : ℕ) → k < n → (own ≡ region → ⊥) → RowRefers l row_of k region → HoldsIn l (map (ref_of l) words) card region
+  abbrev holds_from_row : (region k : ℕ) → k < n → (own ≡ region → ⊥) → RowRefers l row k region → HoldsIn l (map (ref_of l) words) card region
   holds_from_row region k lt apart m =
       let few : k < l.slots = omega arith in
       record {
         slot = first + k;
         place = m.place;
         on_card = ap (λ (f : ℕ). (f + k) / l.slots) starts ∙ card_of-row l card k few;
-        refers = sym (row_at k lt) ∙ m.refers;
+        refers = sym (row_at words first n room l k lt) ∙ m.refers;
         into = m.into;
         outside = λ e. apart (home ∙ e);
       }
 
-  row_from_holds : (region : ℕ) → (h : HoldsIn l (map (ref_of l) words) card region) → (k : ℕ) × (k < n) × (first + k ≡ h.slot) × RowRefers l row_of k region
+  row_from_holds : (region : ℕ) → (h : HoldsIn l (map (ref_of l) words) card region) → (k : ℕ) × (k < n) × (first + k ≡ h.slot) × RowRefers l row k region
   row_from_holds region h =
-      let row : IsInRow l card h.slot = row_of_card l card h.slot shape h.on_card in
+      let own_row : IsInRow l card h.slot = row_of_card l card h.slot shape h.on_card in
       let lt : h.slot - first < n = omega arith in
       let at : first + (h.slot - first) ≡ h.slot = omega arith in
-      (h.slot - first, lt, at, record { place = h.place; refers = row_at (h.slot - first) lt ∙ ap (λ s. get_or (map (ref_of l) words) s None) at ∙ h.refers; into = h.into })
+      (h.slot - first, lt, at, record { place = h.place; refers = row_at words first n room l (h.slot - first) lt ∙ ap (λ s. get_or (map (ref_of l) words) s None) at ∙ h.refers; into = h.into })
 
   -- all words are listed, but for the card's own region and those that were known
-  module _ (known begun seen : RegionSet) (end : ℕ) (regions : List ℕ) (begins : Gains known own begun) (all : length row_of ≤ end) (h : IsListedUpTo l row_of begun end seen regions) where
+  module _ (known begun seen : RegionSet) (end : ℕ) (regions : List ℕ) (begins : Gains known own begun) (all : length row ≤ end) (h : IsListedUpTo l row begun end seen regions) where
     apart : (r : ℕ) → Contains regions r → own ≡ r → ⊥
     apart r c e = h.new r c ((begins r).1 (inr (sym e)))
 
     holds : (r : ℕ) → Contains regions r ↔ (HoldsIn l (map (ref_of l) words) card r × ¬ HasRegion known r)
     holds r = (
-      λ c. let k = h.only r c in (holds_from_row r k.0 (omega (arith, k.2, row_length)) (apart r c) k.3, λ was. h.new r c ((begins r).1 (inl was))),
+      λ c. let k = h.only r c in (holds_from_row r k.0 (omega (arith, k.2, row_length words first n room)) (apart r c) k.3, λ was. h.new r c ((begins r).1 (inl was))),
       λ m.
           let k = row_from_holds r m.0 in
-          elim ((h.has r).0 (h.gained r k.0 (omega (arith, k.1, row_length)) k.3)) [
+          elim ((h.has r).0 (h.gained r k.0 (omega (arith, k.1, row_length words first n room)) k.3)) [
             | inl was ↦ elim ((begins r).0 was) [
               | inl listed ↦ absurd (m.1 listed)
               | inr e ↦ absurd (m.0.outside (sym home ∙ sym e))
@@ -66,7 +58,7 @@ module _ (l : Shape) (words : List ℕ) (card own first n : ℕ) (home : own ≡
           ],
     )
 
-    order : (a b : ℕ) → Contains regions a → RowRefersFirst l row_of a b → RefersFirst l (map (ref_of l) words) card a b
+    order : (a b : ℕ) → Contains regions a → RowRefersFirst l row a b → RefersFirst l (map (ref_of l) words) card a b
     order a b c first_of m =
         let k = row_from_holds b m in
         let j = first_of k.0 k.3 in

@@ -1,4 +1,5 @@
 pub mod Cells
+pub mod Entering
 pub mod Listing
 pub mod Stored
 pub mod Targets

@@ -5,8 +5,10 @@ ghost use Rattle.g1_layout.specs.Shape.{slot_count, card_count};
 ghost use Rattle.g1_heap.specs.Cells.{AreCells, with_ref, with_mark, with_reads, new_cells, HoldsIn, HasNoDirty, IsFirstDirty};
 ghost use Rattle.g1_layout.specs.Regions.{HasRegion};
 ghost use Rattle.g1_heap.specs.Targets.{AreTargets, AreNewTargets};
+ghost use Rattle.g1_heap.specs.Entering.{HasNoneInto, IsNextInto, looked_at};
 ghost use Rattle.memchr.specs.Find.{IsFirstByte, is_byte};
 
+use crate::entering::first_between;
 use crate::mark::{CLEAN, DIRTY, Mark};
 use crate::null::NULL;
 use crate::targets::add_targets;
@@ -132,6 +134,35 @@ impl Heap {
         add_targets(&layout, self.words.as_slice(), card, known, targets);
     }
 
+    /// The offset of the first slot of the card, from one offset on, that refers into the region, and the place that it refers to. `None` where
+    /// no slot from there on does.
+    ///
+    /// `from` may be the number of slots a card, one past the last offset, so that a walk can go on after the last slot. It counts as many reads
+    /// as it looks at slots, nulls that are skipped many at a time included, and changes nothing else.
+    #[inline(always)]
+    pub fn next_into(&mut self, card: Card, from: u32, region: Region) -> Option<(u32, Slot)>
+        requires card { card < card_count self.old.layout }
+        requires from { from ≤ self.old.layout.slots }
+        requires region { region < self.old.layout.regions }
+        ensures next { MatchOption result (HasNoneInto self.old.layout self.old.refs card region from self.old.layout.slots) (λ found. IsNextInto self.old.layout self.old.refs card region from found.0 found.1) }
+        ensures reads { self.new ≡ with_reads self.old (looked_at self.old.layout from result) }
+    {
+        let layout = self.layout;
+        let (_, cards, slots) = layout.counts();
+        let first = layout.first_slot(card).number() as usize;
+        let row = &self.words[first..first + slots as usize];
+        let size = cards * slots;
+        let low = region.number() * size;
+        let at = first_between(row, from as usize, low, low + size);
+        if at == row.len() {
+            self.reads = self.reads.saturating_add((slots - from) as u64);
+            return None;
+        }
+        let place = layout.slot(row[at]).unwrap();
+        self.reads = self.reads.saturating_add((at as u32 + 1 - from) as u64);
+        Some((at as u32, place))
+    }
+
     /// The card's entry in the card table. It is no read of a slot.
     pub fn mark(&self, card: Card) -> Mark
         requires { card < card_count self.now.layout }
@@ -160,7 +191,7 @@ impl Heap {
         self.layout.card(from + skipped as u32)
     }
 
-    /// How many slots [`Heap::get`] and [`Heap::targets`] have read since the heap was made. It is never reset, and stops at the greatest
+    /// How many slots [`Heap::get`], [`Heap::targets`] and [`Heap::next_into`] have read since the heap was made. It is never reset, and stops at the greatest
     /// `u64`.
     pub fn reads(&self) -> u64
         ensures { result ≡ self.now.reads }

@@ -7,6 +7,7 @@
 //! card to the next by [`Heap::next_dirty`]. What a card and a read are stands in docs/PROFILE.md, Card marks and Reads.
 #![tactic(auto)]
 
+mod entering;
 mod heap;
 mod mark;
 mod null;

@@ -1,9 +1,9 @@
-use Rattle.std.proofs.Common.{◌≡◌, ◌∙◌, ◌+◌, ◌-◌, ◌*◌, ◌/◌, ◌<◌, arith, ap, length, get_or, take, drop, refl, subst, sym, ℕ}
-use Rattle.std.proofs.lemmas.List.{get_or-take, get_or-drop}
+use Rattle.std.proofs.Common.{◌≡◌, ◌∙◌, ◌+◌, ◌-◌, ◌*◌, ◌/◌, arith, ap, length, get_or, take, drop, refl, subst, ℕ}
 use Rattle.arrayvec.specs.ArrayVec.{ArrayVec, array_vec_len}
 use Rattle.g1_heap.specs.Listing.{IsListedUpTo}
 use Rattle.g1_heap.proofs.CellLemmas.{ref_of-null}
 use Rattle.g1_heap.proofs.ListingLemmas.{listed_none, listed_nulls, listed_as}
+use Rattle.g1_heap.proofs.RowLemmas.{word_of_group}
 use Rattle.g1_heap.proofs.TargetLemmas.{listed_all}
 use Rattle.g1_heap.proofs.targets.add_targets.Goals as goal
 use Rattle.g1_heap.proofs.targets.add_targets.Goals.{then-has_reference, else-has_reference}
@@ -30,9 +30,7 @@ loop-group-preserved c =
         listed = subst (λ n. IsListedUpTo c.args.layout.now row c.insert.new.self n c.if-has_reference.seen c.if-has_reference.targets.items) next
             (listed_as c.args.layout.now row c.insert.new.self (at + 8) _ c.if-has_reference.seen _ c.if-has_reference.targets.items w.seen-is (ap (λ (v : ArrayVec ℕ). v.items) w.targets-is)
             (listed_nulls c.args.layout.now row c.insert.new.self at (at + 8) c.loop-group.seen c.loop-group.targets.items (omega arith) (λ k from lt.
-            let j : k - at < 8 = omega arith in
-            let is : at + (k - at) ≡ k = omega arith in
-            let null : get_or row k 0 ≡ 4294967295 = ap (λ n. get_or row n 0) (sym is) ∙ sym (get_or-take (at + 8 - at) (drop at row) (k - at) 0 (omega arith) ∙ get_or-drop at row (k - at) 0) ∙ c.has_reference.ensures w.if-has_reference.false (k - at) j in
+            let null : get_or row k 0 ≡ 4294967295 = word_of_group row at k 4294967295 (c.has_reference.ensures w.if-has_reference.false) from lt in
             ref_of-null c.args.layout.now (get_or row k 0) (omega (arith, null, c.counts-slots.ensures.shape.total)))
             c.loop-group.invariant.listed));
       }

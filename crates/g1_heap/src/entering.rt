@@ -1,0 +1,28 @@
+//! The words of a card that refer into a region.
+
+ghost use Rattle.std.specs.Prelude.{◌<◌, ◌≤◌, ℕ, length, slice_index};
+
+use crate::null::{GROUP, NULL, has_reference};
+
+// The index of the first word from one index on that lies from a number up to another, or how many words there are. It skips groups of null
+// words.
+#[inline(always)]
+pub(crate) fn first_between(row: &[u32], from: usize, low: u32, high: u32) -> usize
+    requires range { from ≤ length row.now }
+    requires places { high ≤ NULL }
+    ensures range { (from ≤ result) × (result ≤ length row.now) }
+    ensures before { (k : ℕ) → from ≤ k → k < result → low ≤ slice_index row.now k → slice_index row.now k < high → ⊥ }
+    ensures found { result < length row.now → (low ≤ slice_index row.now result) × (slice_index row.now result < high) }
+{
+    let mut at = from;
+    while at < row.len() {
+        if at % GROUP == 0 && row.len() - at >= GROUP && !has_reference(&row[at..at + GROUP]) {
+            at += GROUP;
+        } else if low <= row[at] && row[at] < high {
+            return at;
+        } else {
+            at += 1;
+        }
+    }
+    at
+}
