@@ -3,6 +3,8 @@ use Rattle.std.proofs.Common.{◌≡◌, ◌≢◌, ℕ, ◌+◌, ◌<◌, ◌�
 use Rattle.std.proofs.Math.Seq.{take-suc, drop-length}
 use Rattle.std.proofs.lemmas.List.{get_or-drop, length-drop, length-take}
 use Rattle.std.proofs.lemmas.Bool.{ne_eqb}
+use Rattle.std.specs.Prelude.{◌==◌, ◌&&◌}
+use Rattle.std.specs.Str.{bytes_eq}
 use Rattle.g1_replay.specs.Words.{words_from, with_word}
 
 -- a byte of a word
@@ -48,3 +50,8 @@ first_word line rest n m e passed h ne told within some =
     let first : get_or rest 0 0 ≡ get_or line n 0 = ap (λ l. get_or l 0 0) e ∙ get_or-drop n line 0 0 ∙ ap (λ k. get_or line k 0) (add-zero n) in
     let more : 0 < length (take m rest) = simp length-take (omega (arith, some long (λ z. ne (sym first ∙ z)))) in
     sym passed ∙ ap (words_from []) (sym e) ∙ told ∙ with_word_some _ _ more
+
+-- two texts from a place on are the same where their bytes there are, and what is behind
+pub same_from : (xs ys : List ℕ) (i : ℕ) → i < length xs → i < length ys
+    → bytes_eq (drop i xs) (drop i ys) ≡ ((get_or xs i 0 == get_or ys i 0) && bytes_eq (drop (i + 1) xs) (drop (i + 1) ys))
+same_from xs ys i h g = rw (drop-cons xs i 0, drop-cons ys i 0, add-one) refl

@@ -106,10 +106,19 @@ pub fn number(word: &[u8]) -> Result<u64, TraceFault>
 }
 
 /// Whether a word is this text.
+#[inline(always)]
 pub fn is(word: &[u8], text: &[u8]) -> bool
     ensures { result ≡ bytes_eq word.now text.now }
 {
-    word == text
+    if word.len() != text.len() {
+        return false;
+    }
+    for i in 0..text.len() {
+        if word[i] != text[i] {
+            return false;
+        }
+    }
+    true
 }
 
 /// Whether a line whose first word is this is a remark: it begins with `#` (docs/TRACES.md, Lines and words).
