@@ -6,7 +6,7 @@ ghost use Rattle.g1_replay.specs.Lines.{GoesOn, ReadsPart, Reads, ReadsLine, IsP
 use crate::fault::TraceFault;
 use crate::stop::Stop;
 use arrayvec::ArrayVec;
-use memchr::memchr;
+use memchr::memchr_iter;
 use std::io::{BufRead, Read};
 
 /// How many bytes a line may have before its line feed (docs/TRACES.md, Lines and words).
@@ -46,7 +46,7 @@ fn part_len(bytes: &[u8]) -> usize
     ensures bound { result ≤ length bytes.now }
     ensures ends { EndsAtFeed bytes.now result }
 {
-    memchr(b'\n', bytes).unwrap_or(bytes.len())
+    memchr_iter(b'\n', bytes).next().unwrap_or(bytes.len())
 }
 
 // What the bytes have of a line with room for `room` more, how many of them go into it, and how many are used up.
