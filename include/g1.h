@@ -50,7 +50,11 @@ enum g1_kind {
     G1_STORED_LOGGED = 3       /* the slot's card was clean, and is pending now */
 };
 
-/* What the other calls answer. From 8 on, and of g1_store and g1_is_pending too, the call was refused, and nothing has changed. */
+/*
+ * What the other calls answer. A code from 8 on says that the call was refused and that nothing has changed, but for G1_LOST. That is so for
+ * g1_store and g1_is_pending too, whose other answers are not these codes. G1_LONG is not known to be answered by any call: treat it as
+ * a failure of the library, close the handle, and report it.
+ */
 enum g1_code {
     G1_DONE = 0,
     G1_SHORT = 1,            /* memory was refused in the middle: what the call says was done stands, and no more was */
@@ -159,7 +163,8 @@ uint32_t g1_refine(struct g1 *handle, const uint32_t *cards, size_t cards_length
 
 /*
  * Refines all that is pending, and answers the remembered set of a region: the cards outside the region that refer into it, and
- * only cards that did at some time, ascending, each once. They stand first in `cards`, as many as `count` says. The
+ * only cards that did since that set was last cleared (or that were recorded before, in a core that was made of a race), ascending, each
+ * once; some may refer into it no more. They stand first in `cards`, as many as `count` says. The
  * cards that were refined stand first in `refined`, in order, as many as `refined_count` says. Each array has room for every card of
  * the heap.
  *
@@ -237,7 +242,10 @@ uint32_t g1_redirect(struct g1 *handle, uint32_t from, uint32_t to, uint32_t *mo
  * Beside what every call asks for:
  *   - one call at a time uses a handle of a member; a handle may go from thread to thread, by a lock, a join or the like;
  *   - a call writes its handle, so each thread keeps its own in a local, and not in a row that threads share: a row of handles is a
- *     cache line that all of them write;
+ *     cache line that all of them write; the thread copies its local back into the row before the race is closed, and a copy that was left
+ *     behind is not to be used;
+ *   - stores to one slot are ordered by the runtime, around both its own store and the call: of two that race, the library may see the
+ *     other one last than memory does, and then a drain can miss what memory holds. Stores to different slots need no order;
  *   - the handles that are given to one g1_race_close are of one race.
  */
 
@@ -268,8 +276,8 @@ uint32_t g1_race_open(const struct g1_counts *counts, struct g1_member *racers, 
  * A racer stores a reference to the place `target`, or null (G1_NULL), into a slot, beside whatever the other members do. Constant time, no
  * memory; it waits for nobody.
  *
- * A kind of store (enum g1_kind): where it is G1_STORED_LOGGED, the slot's card is last in the racer's log. G1_LOG_FULL, G1_NO_SLOT for the
- * slot or the target, G1_OTHER_ROLE or G1_NOT_OPEN: nothing has changed.
+ * A kind of store (enum g1_kind): where it is G1_STORED_LOGGED, the slot's card is last in the racer's log. G1_LOG_FULL (for any store, of null
+ * too, while the log is full), G1_NO_SLOT for the slot or the target, G1_OTHER_ROLE or G1_NOT_OPEN: nothing has changed.
  */
 uint32_t g1_race_store(struct g1_member *member, uint32_t slot, uint32_t target);
 
@@ -283,8 +291,9 @@ uint32_t g1_race_take_log(struct g1_member *member, uint32_t *cards, size_t card
 
 /*
  * A sweeper refines a card, beside whatever the other members do: it makes it clean, and then reads its slots and records which regions
- * they refer into, whether the card was dirty or not. A store that comes too late to be read makes it dirty again. It waits for nobody; the
- * sweeper's list of what it recorded grows by at most the slots of a card.
+ * they refer into, whether the card was dirty or not. A store that comes too late to be read makes it dirty again. It waits for nobody. The
+ * sweeper's list of what it recorded grows by 8 bytes for each reference of the card into another region, also for one that it recorded before,
+ * until the race is closed.
  *
  * G1_DONE. G1_SHORT: memory was refused, and the card is as it was; refine it again, or leave it to a drain after the race. G1_NO_CARD,
  * G1_OTHER_ROLE or G1_NOT_OPEN: nothing has changed.
