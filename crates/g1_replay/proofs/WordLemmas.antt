@@ -1,11 +1,13 @@
 -- A line's words, byte by byte.
-use Rattle.std.proofs.Common.{◌≡◌, ◌≢◌, ℕ, ◌+◌, ◌<◌, ◌≤◌, List, [], ◌∷◌, ◌++◌, refl, length, take, drop, get_or, sym, ap, ◌∙◌, arith, add-one, add-zero, drop-cons}
+use Rattle.std.proofs.Common.{inl, inr, true, ◌≡◌, ◌≢◌, ℕ, ◌+◌, ◌-◌, ◌*◌, ◌^◌, ◌<◌, ◌≤◌, List, [], ◌∷◌, ◌++◌, refl, length, take, drop, get_or, sym, ap, subst, ◌∙◌, arith, add-one, add-zero, drop-cons}
 use Rattle.std.proofs.Math.Seq.{take-suc, drop-length}
 use Rattle.std.proofs.lemmas.List.{get_or-drop, length-drop, length-take}
-use Rattle.std.proofs.lemmas.Bool.{ne_eqb}
-use Rattle.std.specs.Prelude.{◌==◌, ◌&&◌}
+use Rattle.std.proofs.lemmas.Bool.{ne_eqb, cases_Bool, cases_lt}
+use Rattle.std.proofs.Math.Nat.{pow-suc}
+use Rattle.std.specs.Char.{is_ascii_digit}
+use Rattle.std.specs.Prelude.{◌==◌, ◌&&◌, Ok}
 use Rattle.std.specs.Str.{bytes_eq}
-use Rattle.g1_replay.specs.Words.{words_from, with_word}
+use Rattle.g1_replay.specs.Words.{words_from, with_word, read_digits, ◌>>=◌}
 
 -- a byte of a word
 other_byte : (line word : List ℕ) (i : ℕ) → i < length line → get_or line i 0 ≢ 32
@@ -55,3 +57,38 @@ first_word line rest n m e passed h ne told within some =
 pub same_from : (xs ys : List ℕ) (i : ℕ) → i < length xs → i < length ys
     → bytes_eq (drop i xs) (drop i ys) ≡ ((get_or xs i 0 == get_or ys i 0) && bytes_eq (drop (i + 1) xs) (drop (i + 1) ys))
 same_from xs ys i h g = rw (drop-cons xs i 0, drop-cons ys i 0, add-one) refl
+
+-- a digit behind others
+digits_push : (n : ℕ) (word : List ℕ) (b : ℕ) → read_digits n (word ++ b ∷ []) ≡ (read_digits n word >>= λ v. read_digits v (b ∷ []))
+digits_push n [] b = refl
+digits_push n (x ∷ word) b = elim (cases_Bool (is_ascii_digit x)) [
+  | inl digit ↦ rw digit (digits_push (n * 10 + (x - 48)) word b)
+  | inr other ↦ rw other refl
+]
+
+last_digit : (value b : ℕ) → is_ascii_digit b ≡ true → read_digits value (b ∷ []) ≡ Ok (value * 10 + (b - 48))
+last_digit value b digit = rw digit refl
+
+pub digit_more : (word : List ℕ) (i value : ℕ) → i < length word → is_ascii_digit (get_or word i 0) ≡ true → read_digits 0 (take i word) ≡ Ok value
+    → read_digits 0 (take (i + 1) word) ≡ Ok (value * 10 + (get_or word i 0 - 48))
+digit_more word i value h digit told =
+    let more : take (i + 1) word ≡ take i word ++ get_or word i 0 ∷ [] = rw add-one (take-suc word i 0 h) in
+    ap (read_digits 0) more ∙ digits_push 0 (take i word) (get_or word i 0)
+    ∙ ap (λ r. r >>= λ v. read_digits v (get_or word i 0 ∷ [])) told ∙ last_digit value (get_or word i 0) digit
+
+pub value_more : (i value digit : ℕ) → value < 10 ^ i → digit < 10 → value * 10 + digit < 10 ^ (i + 1)
+value_more i value digit small h = rw (add-one, pow-suc 10 i) (omega arith)
+
+-- a first word that ends at a space or with the line
+pub counted_word : (line rest word behind : List ℕ) (n count : ℕ) → rest ≡ drop n line → words_from [] (drop n line) ≡ words_from [] line → 0 < count → count ≤ length rest
+    → words_from [] rest ≡ words_from (take count rest) (drop count rest) → (count < length rest → get_or rest count 0 ≡ 32) → word ≡ take count rest → behind ≡ drop count rest
+    → words_from [] line ≡ word ∷ words_from [] behind
+counted_word line rest word behind n count e passed some within told ends first second =
+    let long : 0 < length (take count rest) = simp length-take (omega arith) in
+    let whole : words_from [] rest ≡ with_word (take count rest) (words_from [] (drop count rest)) = elim (cases_lt count (length rest)) [
+      | inl below ↦ word_ends rest count below (ends below) told
+      | inr all ↦
+          let same : length rest ≡ count = omega arith in
+          subst (λ k. words_from [] rest ≡ words_from (take k rest) (drop k rest) → words_from [] rest ≡ with_word (take k rest) (words_from [] (drop k rest))) same (word_last rest) told
+    ] in
+    rw (first, second) (sym passed ∙ ap (words_from []) (sym e) ∙ whole ∙ with_word_some _ _ long)

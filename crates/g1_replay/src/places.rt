@@ -7,7 +7,7 @@ ghost use Rattle.g1_replay.specs.Words.{words_from};
 ghost use Rattle.g1_replay.specs.Places.{fit_below, fit_target, read_target, read_none, read_one, read_two, read_three, mutator_place, slot_place, card_place, region_place, target_place, number_place};
 
 use crate::fault::TraceFault;
-use crate::words::{is, is_blank, number, one_word, three_words, two_words};
+use crate::words::{is, is_blank, number, one_word, three_words, two_numbers_and_word, two_words};
 use g1_layout::{Card, Layout, Region, Slot};
 
 /// A number past 32 bits as the largest of 32 bits, which is past every limit too.
@@ -176,11 +176,11 @@ pub fn store_places(
     ensures read { result ≡ read_three (mutator_place mutators) (slot_place layout) (target_place layout) (words_from [] words.now) }
     ensures valid { IfOk result (λ p. (p.0 < mutators) × (p.1 < slot_count layout) × IfSome p.2 (λ t. t < slot_count layout)) }
 {
-    let Some((first, second, third)) = three_words(words) else {
+    let Some(((_, first), (_, second), third)) = two_numbers_and_word(words) else {
         return Err(TraceFault::Words);
     };
-    let first = number(first)?;
-    let second = number(second)?;
+    let first = first?;
+    let second = second?;
     let third = number_or_null(third)?;
     let mutator = mutator(mutators, first)?;
     let slot = slot(layout, second)?;

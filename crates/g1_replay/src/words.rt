@@ -1,8 +1,8 @@
 //! The words of a line, and the numbers that words are.
 
-ghost use Rattle.std.specs.Prelude.{◌≡◌, ◌≢◌, List, [], ◌∷◌, ◌≤◌, ◌<◌, length, take, drop, slice_index, true, false, IfSome, IsNone};
+ghost use Rattle.std.specs.Prelude.{◌≡◌, ◌≢◌, List, [], ◌∷◌, ◌≤◌, ◌<◌, length, take, drop, slice_index, true, false, Ok, IfSome, IsNone};
 ghost use Rattle.std.specs.Str.{bytes_eq};
-ghost use Rattle.g1_replay.specs.Words.{words_from, with_word, read_number, is_remark_word};
+ghost use Rattle.g1_replay.specs.Words.{words_from, with_word, read_digits, read_number, is_remark_word};
 
 use crate::fault::TraceFault;
 
@@ -103,6 +103,73 @@ pub fn number(word: &[u8]) -> Result<u64, TraceFault>
         value = value * 10 + u64::from(*byte - b'0');
     }
     Ok(value)
+}
+
+// How many digits the bytes begin with, of the 10 that a number may have, and their value.
+#[inline(always)]
+fn leading_digits(bytes: &[u8]) -> (usize, u64)
+    ensures bound { result.0 ≤ length bytes.now }
+    ensures few { result.0 ≤ 10 }
+    ensures value { read_digits 0 (take result.0 bytes.now) ≡ Ok result.1 }
+    ensures word { words_from [] bytes.now ≡ words_from (take result.0 bytes.now) (drop result.0 bytes.now) }
+{
+    let mut value = 0u64;
+    for (i, byte) in bytes.iter().enumerate() {
+        if i >= DIGIT_LIMIT || !byte.is_ascii_digit() {
+            return (i, value);
+        }
+        let digit = u64::from(*byte - b'0');
+        value = value * 10 + digit;
+    }
+    (bytes.len(), value)
+}
+
+// Whether no word goes on at this place.
+#[inline(always)]
+fn is_end(bytes: &[u8], place: usize) -> bool
+    ensures { result ≡ true → place < length bytes.now → slice_index bytes.now place ≡ 32 }
+{
+    place >= bytes.len() || bytes[place] == b' '
+}
+
+/// The first word of a line with the number that it is, and what comes behind it.
+///
+/// `None` where there is no word. One pass over a word of digits and the spaces before it.
+#[inline(always)]
+pub fn split_number(line: &[u8]) -> Option<((&[u8], Result<u64, TraceFault>), &[u8])>
+    ensures some { IfSome result (λ s. words_from [] line.now ≡ s.0.0.now ∷ words_from [] s.1.now) }
+    ensures number { IfSome result (λ s. s.0.1 ≡ read_number s.0.0.now) }
+    ensures none { IsNone result → words_from [] line.now ≡ [] }
+{
+    let rest = line.split_at(spaces(line)).1;
+    let (count, value) = leading_digits(rest);
+    if 0 < count && is_end(rest, count) {
+        let (word, behind) = rest.split_at(count);
+        return Some(((word, Ok(value)), behind));
+    }
+    let (word, behind) = split_word(rest)?;
+    Some(((word, number(word)), behind))
+}
+
+/// The three words of a line of which the first two are to be numbers, or `None` where it has another number of words.
+pub fn two_numbers_and_word(
+    line: &[u8],
+) -> Option<
+    (
+        (&[u8], Result<u64, TraceFault>),
+        (&[u8], Result<u64, TraceFault>),
+        &[u8],
+    ),
+>
+    ensures some { IfSome result (λ w. words_from [] line.now ≡ w.0.0.now ∷ w.1.0.now ∷ w.2.now ∷ []) }
+    ensures first { IfSome result (λ w. w.0.1 ≡ read_number w.0.0.now) }
+    ensures second { IfSome result (λ w. w.1.1 ≡ read_number w.1.0.now) }
+    ensures none { IsNone result → length (words_from [] line.now) ≢ 3 }
+{
+    let (first, rest) = split_number(line)?;
+    let (second, rest) = split_number(rest)?;
+    let third = one_word(rest)?;
+    Some((first, second, third))
 }
 
 /// Whether a word is this text.
