@@ -1,10 +1,10 @@
 -- The calls of a command, and the line of what they answer.
-use Rattle.std.proofs.Common.{ℕ, List, [], ◌∷◌, ◌++◌, ◌+◌, ◌-◌, Option, Some, None, true, false, ◌≡◌, ◌≢◌, ◌⊎◌, inl, inr, ◌∙◌, refl, subst, sym, ap, length, map, arith}
+use Rattle.std.proofs.Common.{ℕ, List, [], ◌∷◌, ◌++◌, ◌+◌, ◌-◌, Option, Some, None, true, false, ◌≡◌, ◌≢◌, ◌≤◌, ◌⊎◌, inl, inr, ◌∙◌, refl, subst, sym, ap, length, map, arith}
 use Rattle.std.specs.Prelude.{Bool, Result, Ok, Err, IsSome, All, get_or}
 use Rattle.std.proofs.lemmas.List.Elements.{All-nil, All-cons}
 use Rattle.std.specs.List.{slice_get}
 use Rattle.std.proofs.Math.Seq.{get_or-append_seam}
-use Rattle.std.proofs.lemmas.List.{length-append}
+use Rattle.std.proofs.lemmas.List.{length-append, length-map}
 use Rattle.std.proofs.lemmas.Option.{get_or_from_slice_get}
 use Rattle.std.specs.Io.KnownBytes.{Appends}
 use Rattle.std.proofs.KnownBytes.{Appends-nil}
@@ -24,7 +24,7 @@ use Rattle.g1_book.specs.History.{History, IsEntered}
 use Rattle.g1_book.specs.Made.{Made, Stored, Refined, AreCalls, entries_of as calls_entries}
 use Rattle.g1_book.specs.Lent.{Grows, IsBookCall}
 use Rattle.g1_book.specs.Steps.{Help, IsStored, help_calls, store_answer, flush_answer, nothing_flushed, filled, called}
-use Rattle.g1_book.specs.Rounds.{IsRound, Turn, round_calls, replies_of}
+use Rattle.g1_book.specs.Rounds.{IsRound, Turn, round_calls, replies_of, round_size}
 use Rattle.g1_book.proofs.StepLemmas.{grows_none, grows_entered, calls_grow, round_entries}
 use Rattle.g1_replay.specs.declared.command.Command.{Command}
 use Rattle.g1_replay.specs.declared.command.Command.TheVariants as command
@@ -35,12 +35,12 @@ use Rattle.g1_replay.specs.Laws.{played_one}
 use Rattle.g1_replay.specs.Playing.{HasPlayed, IsCalled, IsRefused, IsFull, Does}
 use Rattle.g1_replay.specs.Stops.{stop_of}
 use Rattle.g1_replay.specs.Text.{store_text, flush_text, refine_text, work_text, call_line}
-use Rattle.g1_replay.specs.Pieces.{Piece, plain_piece, IsCallBy, IsOfBuffer, IsOfNone, IsLineOf}
+use Rattle.g1_replay.specs.Pieces.{Piece, plain_piece, IsCallBy, IsOfBuffer, IsOfNone, IsLineOf, IsSetBy}
 use Rattle.g1_replay.proofs.PieceLemmas.{Takes, store_says, store_helped_says, store_refused_says, flush_none_says, flush_says, flush_helped_says, flush_refused_says, refine_says, work_says}
 
 -- some calls of the command, with a line
 abbrev pub Says : History → History → Command → List ℕ → Type 0
-Says old new c text = (p : Piece) × Grows old p.entries new × IsLineOf c p text
+Says old new c text = (p : Piece) × Grows old p.entries new × IsLineOf c p text × IsSetBy old.machine.settings c p.entries
 
 -- a help takes the buffer that it refines, unless it is short
 abbrev HelpTakes : Help → Type 0
@@ -68,15 +68,15 @@ turns_take m old new (t ∷ u ∷ turns) (Some e) h = All-cons Takes t.reply (re
 -- a store whose own answer was the first
 store_calls : (old new : History) (m slot : ℕ) (target : Option ℕ) (cards : List ℕ) (first : StoreReply) (help : Help) → Grows old (store_entry m slot target first ∷ calls_entries m (help_calls cards help)) new → HelpTakes help
     → (first.refined ≡ []) × (first.short ≡ false) → first.fill ≢ Helped → (first.fill ≡ Full → first ≡ filled) → (IsSome help → first.fill ≡ Full) → Says old new (command.Store m slot target) (store_text (store_answer first help))
-store_calls old new m slot target cards first None g takes plain own full helps = (plain_piece (store_entry m slot target first ∷ []), g, store_says m slot target first plain own full)
+store_calls old new m slot target cards first None g takes plain own full helps = (plain_piece (store_entry m slot target first ∷ []), g, store_says m slot target first plain own full, tt)
 store_calls old new m slot target cards first (Some (Ok reply)) g takes plain own full helps =
     let is = full (helps refl) in
     subst (λ (r : StoreReply). Says old new (command.Store m slot target) (store_text (store_answer r (Some (Ok reply))))) (sym is)
-    (plain_piece (store_entry m slot target filled ∷ refine_entry m reply ∷ []), subst (λ (r : StoreReply). Grows old (store_entry m slot target r ∷ refine_entry m reply ∷ []) new) is g, store_helped_says m slot target reply takes)
+    (plain_piece (store_entry m slot target filled ∷ refine_entry m reply ∷ []), subst (λ (r : StoreReply). Grows old (store_entry m slot target r ∷ refine_entry m reply ∷ []) new) is g, store_helped_says m slot target reply takes, tt)
 store_calls old new m slot target cards first (Some (Err e)) g takes plain own full helps =
     let is = full (helps refl) in
     subst (λ (r : StoreReply). Says old new (command.Store m slot target) (store_text (store_answer r (Some (Err e))))) (sym is)
-    (record { entries = store_entry m slot target filled ∷ []; shown = record { cards = 0; left = 0; refused = true } }, subst (λ (r : StoreReply). Grows old (store_entry m slot target r ∷ []) new) is g, store_refused_says m slot target)
+    (record { entries = store_entry m slot target filled ∷ []; shown = record { cards = 0; left = 0; refused = true } }, subst (λ (r : StoreReply). Grows old (store_entry m slot target r ∷ []) new) is g, store_refused_says m slot target, tt)
 
 pub store_made : {S : Type 0} (did : S → List Made → S → Type 0) (s t : S) (old new : History) (m slot : ℕ) (target : Option ℕ) (cards : List ℕ) (reply : StoreReply) (h : IsStored did s slot target cards reply t)
     → AreCalls (IsBookCall m) old (Stored slot target h.first ∷ help_calls cards h.help) new → Says old new (command.Store m slot target) (store_text reply)
@@ -86,14 +86,14 @@ store_made did s t old new m slot target cards reply h made =
 
 -- a flush of a log with cards
 flush_calls : (old new : History) (m n : ℕ) (cards : List ℕ) (help : Help) → Grows old (calls_entries m (help_calls cards help)) new → HelpTakes help → Says old new (command.Flush m) (flush_text (flush_answer n help))
-flush_calls old new m n cards None g takes = (record { entries = []; shown = record { cards = n; left = 0; refused = false } }, g, flush_says m n)
-flush_calls old new m n cards (Some (Ok reply)) g takes = (record { entries = refine_entry m reply ∷ []; shown = record { cards = n; left = 0; refused = false } }, g, flush_helped_says m n reply takes)
-flush_calls old new m n cards (Some (Err e)) g takes = (record { entries = []; shown = record { cards = n; left = 0; refused = true } }, g, flush_refused_says m n)
+flush_calls old new m n cards None g takes = (record { entries = []; shown = record { cards = n; left = 0; refused = false } }, g, flush_says m n, tt)
+flush_calls old new m n cards (Some (Ok reply)) g takes = (record { entries = refine_entry m reply ∷ []; shown = record { cards = n; left = 0; refused = false } }, g, flush_helped_says m n reply takes, tt)
+flush_calls old new m n cards (Some (Err e)) g takes = (record { entries = []; shown = record { cards = n; left = 0; refused = true } }, g, flush_refused_says m n, tt)
 
 pub flush_nothing : (old new : History) (m : ℕ) (reply : FlushReply) → reply ≡ nothing_flushed → new ≡ old → Says old new (command.Flush m) (flush_text reply)
 flush_nothing old new m reply is same =
     let g : Grows old [] new = subst (λ (b : History). Grows old [] b) (sym same) (grows_none old) in
-    subst (λ (r : FlushReply). Says old new (command.Flush m) (flush_text r)) (sym is) (plain_piece [], g, flush_none_says m)
+    subst (λ (r : FlushReply). Says old new (command.Flush m) (flush_text r)) (sym is) (plain_piece [], g, flush_none_says m, tt)
 
 pub flush_made : (old new : History) (m : ℕ) (cards : List ℕ) (reply : FlushReply) (help : Help) → AreCalls (IsBookCall m) old (help_calls cards help) new → reply ≡ flush_answer (length cards) help → Says old new (command.Flush m) (flush_text reply)
 flush_made old new m cards reply help h is =
@@ -106,14 +106,21 @@ refine_finds old new (Some cards) reply h = inl h.taken
 
 pub refine_made : (old new : History) (buffer : Option (List ℕ)) (reply : RefineReply) → AreCalls (IsBookCall 0) old (Refined buffer (called reply) ∷ []) new → Says old new command.Refine (refine_text reply)
 refine_made old new buffer reply h =
-    (plain_piece (refine_entry 0 (called reply) ∷ []), calls_grow 0 old new (Refined buffer (called reply) ∷ []) h, refine_says reply 0 (refine_finds old.machine.state new.machine.state buffer (called reply) h.1))
+    (plain_piece (refine_entry 0 (called reply) ∷ []), calls_grow 0 old new (Refined buffer (called reply) ∷ []) h, refine_says reply 0 (refine_finds old.machine.state new.machine.state buffer (called reply) h.1), tt)
+
+rounds_within : (turns : List Turn) (most size : ℕ) → length turns ≤ most → most ≡ size → length (map (refine_entry 0) (replies_of turns)) ≤ size
+rounds_within turns most size h is =
+    let a : length (map (refine_entry 0) (replies_of turns)) ≡ length (replies_of turns) = length-map (replies_of turns) (refine_entry 0) in
+    let b : length (replies_of turns) ≡ length turns = length-map turns (λ (t : Turn). t.reply) in
+    omega (arith, a, b, h, is)
 
 pub work_made : {S : Type 0} (did : S → List Made → S → Type 0) (s : S) (before : List Parcel) (most : ℕ) (reply : RefineReply) (after : List Parcel) (t : S) (r : IsRound did s before most reply after t) (old new : History)
-    → AreCalls (IsBookCall 0) old (round_calls r.turns r.refused) new → Says old new command.Work (work_text reply)
-work_made did s before most reply after t r old new h = (
+    (seen : ℕ) → seen ≤ old.machine.settings.limit → most ≡ round_size old.machine.settings.start seen → AreCalls (IsBookCall 0) old (round_calls r.turns r.refused) new → Says old new command.Work (work_text reply)
+work_made did s before most reply after t r old new seen within is h = (
   record { entries = map (refine_entry 0) (replies_of r.turns); shown = record { cards = 0; left = reply.left; refused = reply.short } },
   subst (λ es. Grows old es new) (round_entries 0 r.turns r.refused) (calls_grow 0 old new (round_calls r.turns r.refused) h),
   work_says (replies_of r.turns) reply r.sums.taken r.sums.refined r.sums.hot r.sums.skipped r.sums.whole (turns_take 0 old new r.turns r.refused h),
+  (seen, within, rounds_within r.turns most (round_size old.machine.settings.start seen) r.within is),
 )
 
 -- one call of the first caller
@@ -130,13 +137,13 @@ last_is es e last h =
 pub call_says : (old new : History) (call : Call) (p : IsCalled old new call (Ok tt)) (last : Entry) → slice_get new.entries (length new.entries - 1) ≡ Some last → Says old new (command.Call call) (call_line last.call last.reply)
 call_says old new call p last h =
     let same : last ≡ p.0 = last_is old.entries p.0 last (subst (λ es. slice_get es (length es - 1) ≡ Some last) p.1.entries h) in
-    (plain_piece (p.0 ∷ []), p.1, record { piece = p.2; line = ap (λ (e : Entry). call_line e.call e.reply) same })
+    (plain_piece (p.0 ∷ []), p.1, record { piece = p.2; line = ap (λ (e : Entry). call_line e.call e.reply) same }, tt)
 
 played_by : (old new : History) (c : Command) (text : List ℕ) → Says old new c text → HasPlayed old (c ∷ []) text new
-played_by old new c text p = subst (λ (t : List ℕ). HasPlayed old (c ∷ []) t new) (sym p.2.line) (played_one old new c p.0 p.2.piece p.1)
+played_by old new c text p = subst (λ (t : List ℕ). HasPlayed old (c ∷ []) t new) (sym p.2.line) (played_one old new c p.0 p.2.piece p.3 p.1)
 
 nothing_played : (old new : History) → Grows old [] new → HasPlayed old [] [] new
-nothing_played old new g = record { pieces = []; walked = tt; grows = g; said = refl }
+nothing_played old new g = record { pieces = []; walked = tt; set = tt; grows = g; said = refl }
 
 -- what a player does whose state has a book
 module _ {S : Type 0} (book_of : S → History) where

@@ -4,6 +4,7 @@ use Rattle.std.specs.Prelude.{Result, Ok, Err, IfSome, IfNone, IsSome}
 use Rattle.std.proofs.KnownBytes.{Appends-trans}
 use Rattle.std.specs.Io.KnownBytes.{Appends, Consumes}
 use Rattle.g1_layout.specs.Shape.{Shape}
+use Rattle.g1_core.specs.Settings.{Settings}
 use Rattle.g1_core.specs.Table.{opening}
 use Rattle.g1_core.specs.Run.{IsPermitted}
 use Rattle.g1_replay.specs.declared.command.Command.{Command}
@@ -75,12 +76,12 @@ faulty_trace d xs rd' n heap cs f t =
 pub all_done : (cs done undone : List Command) → cs ≡ done ++ undone → undone ≡ [] → cs ≡ done
 all_done cs done undone e none = e ∙ ap (λ w. done ++ w) none ∙ append-nil done
 
-pub whole_output : (d : Dialect) (history n : ℕ) (rd rd' out out' : Option (List ℕ)) (r : Result (Unit {0}) Stop) (text : List ℕ) (end : End) → Told d history 1 n rd rd' r text
-    → IsEnded out out' r (text ++ ending_line n r) end → end ≡ Whole → IfSome rd (λ bytes. IsWholeOutput d bytes out out')
-whole_output d history n None rd' out out' r text end t i e = tt
-whole_output d history n (Some xs) rd' out out' (Ok done) text Whole t i e = whole t.heap t refl
+pub whole_output : (d : Dialect) (s : Settings) (history n : ℕ) (rd rd' out out' : Option (List ℕ)) (r : Result (Unit {0}) Stop) (text : List ℕ) (end : End) → Told d s history 1 n rd rd' r text
+    → IsEnded out out' r (text ++ ending_line n r) end → end ≡ Whole → IfSome rd (λ bytes. IsWholeOutput d s bytes out out')
+whole_output d s history n None rd' out out' r text end t i e = tt
+whole_output d s history n (Some xs) rd' out out' (Ok done) text Whole t i e = whole t.heap t refl
   where
-    whole : (heap : Option Shape) (t : Told d history 1 n (Some xs) rd' (Ok done) text) → t.heap ≡ heap → IsWholeOutput d xs out out'
+    whole : (heap : Option Shape) (t : Told d s history 1 n (Some xs) rd' (Ok done) text) → t.heap ≡ heap → IsWholeOutput d s xs out out'
     whole None t is = let none = subst (λ (h : Option Shape). IsSome h) is t.read.met.2 in cc
     whole (Some l) t is = record {
       layout = l;
@@ -88,17 +89,18 @@ whole_output d history n (Some xs) rd' out out' (Ok done) text Whole t i e = who
       pieces = t.pieces;
       trace = whole_trace d xs rd' n t.heap t.commands t.read ∙ ap₂ (λ (h : Option Shape) (w : List Command). record { heap = h; commands = w; fault = None }) is (all_done t.commands t.done t.undone t.all t.stopped);
       walked = t.walked;
-      permitted = subst (λ (h : Option Shape). IfSome h (λ s. IsPermitted (opening s) (entries_of t.pieces))) is t.permitted;
+      set = t.set;
+      permitted = subst (λ (h : Option Shape). IfSome h (λ l. IsPermitted (opening l) (entries_of t.pieces))) is t.permitted;
       written = subst (λ (w : List ℕ). Appends out out' w) (append-nil text ∙ t.said) i.1;
     }
-whole_output d history n (Some xs) rd' out out' (Err (Fault f)) text Whole t i e = cc
-whole_output d history n (Some xs) rd' out out' (Err stop) text Whole t i e = cc
-whole_output d history n (Some xs) rd' out out' r text end t i e = cc
+whole_output d s history n (Some xs) rd' out out' (Err (Fault f)) text Whole t i e = cc
+whole_output d s history n (Some xs) rd' out out' (Err stop) text Whole t i e = cc
+whole_output d s history n (Some xs) rd' out out' r text end t i e = cc
 
-pub refused_output : (d : Dialect) (history n : ℕ) (rd rd' out out' : Option (List ℕ)) (r : Result (Unit {0}) Stop) (text : List ℕ) (end : End) → Told d history 1 n rd rd' r text
-    → IsEnded out out' r (text ++ ending_line n r) end → end ≡ Refused → IfSome rd (λ bytes. IsRefusedOutput d bytes out out')
-refused_output d history n None rd' out out' r text end t i e = tt
-refused_output d history n (Some xs) rd' out out' (Err (Fault f)) text Refused t i e =
+pub refused_output : (d : Dialect) (s : Settings) (history n : ℕ) (rd rd' out out' : Option (List ℕ)) (r : Result (Unit {0}) Stop) (text : List ℕ) (end : End) → Told d s history 1 n rd rd' r text
+    → IsEnded out out' r (text ++ ending_line n r) end → end ≡ Refused → IfSome rd (λ bytes. IsRefusedOutput d s bytes out out')
+refused_output d s history n None rd' out out' r text end t i e = tt
+refused_output d s history n (Some xs) rd' out out' (Err (Fault f)) text Refused t i e =
     let same : t.commands ≡ t.done = all_done t.commands t.done t.undone t.all t.stopped in
     record {
       heap = t.heap;
@@ -109,9 +111,10 @@ refused_output d history n (Some xs) rd' out out' (Err (Fault f)) text Refused t
       trace = faulty_trace d xs rd' n t.heap t.commands f t.read ∙ ap (λ (w : List Command). record { heap = t.heap; commands = w; fault = Some (n, f) }) same;
       unopened = subst (λ (w : List Command). IfNone t.heap (w ≡ [])) same t.unopened;
       walked = t.walked;
+      set = t.set;
       permitted = t.permitted;
       written = subst (λ (w : List ℕ). Appends out out' w) (ap (λ w. w ++ fault_line n f) t.said) i.1;
     }
-refused_output d history n (Some xs) rd' out out' (Ok done) text Refused t i e = cc
-refused_output d history n (Some xs) rd' out out' (Err stop) text Refused t i e = cc
-refused_output d history n (Some xs) rd' out out' r text end t i e = cc
+refused_output d s history n (Some xs) rd' out out' (Ok done) text Refused t i e = cc
+refused_output d s history n (Some xs) rd' out out' (Err stop) text Refused t i e = cc
+refused_output d s history n (Some xs) rd' out out' r text end t i e = cc

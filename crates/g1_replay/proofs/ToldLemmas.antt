@@ -3,6 +3,7 @@ use Rattle.std.proofs.Common.{◌≡◌, ◌≤◌, ℕ, List, [], ◌++◌, ref
 use Rattle.std.specs.Prelude.{Result, Ok, Err, IfSome, IfNone}
 use Rattle.std.proofs.KnownBytes.{Appends-nil}
 use Rattle.g1_layout.specs.Shape.{Shape}
+use Rattle.g1_core.specs.Settings.{Settings}
 use Rattle.g1_core.specs.Table.{opening}
 use Rattle.g1_core.specs.declared.entry.Entry.{Entry}
 use Rattle.g1_core.specs.Run.{IsPermitted}
@@ -14,7 +15,7 @@ use Rattle.g1_replay.specs.declared.options.Options.{Options}
 use Rattle.g1_replay.specs.declared.stop.Stop.{Stop}
 use Rattle.g1_replay.specs.declared.stop.Stop.TheVariants.{Fault, NoMemory, BookFull, NoThread, ReadFailed, WriteFailed}
 use Rattle.g1_replay.specs.Output.{Told, ended}
-use Rattle.g1_replay.specs.Pieces.{entries_of}
+use Rattle.g1_replay.specs.Pieces.{AreSetBy, entries_of}
 use Rattle.g1_replay.specs.Playing.{IsOpened, IsFull, IsUndone, HasPlayed, Follows, Writes}
 use Rattle.g1_replay.specs.Reading.{IsReadStop, Reads}
 use Rattle.g1_replay.proofs.ReadingLemmas.{reads_then}
@@ -35,9 +36,9 @@ nothing_full history BookFull none e = cc
 nothing_full history stop none e = cc
 
 -- nothing was done
-told_nothing : (d : Dialect) (history n n' : ℕ) (rd rd' : Option (List ℕ)) (heap : Option Shape) (stop : Stop) → IsUndone {V = Unit {0}} (Err stop) [] → Reads d None n n' rd rd' heap [] (Err stop)
-    → Told d history n n' rd rd' (Err stop) []
-told_nothing d history n n' rd rd' heap stop none read = record {
+told_nothing : (d : Dialect) (s : Settings) (history n n' : ℕ) (rd rd' : Option (List ℕ)) (heap : Option Shape) (stop : Stop) → IsUndone {V = Unit {0}} (Err stop) [] → Reads d None n n' rd rd' heap [] (Err stop)
+    → Told d s history n n' rd rd' (Err stop) []
+told_nothing d s history n n' rd rd' heap stop none read = record {
   heap = heap;
   commands = [];
   done = [];
@@ -47,6 +48,7 @@ told_nothing d history n n' rd rd' heap stop none read = record {
   all = refl;
   stopped = none;
   walked = tt;
+  set = tt;
   unopened = no_commands heap;
   permitted = nothing_permitted heap;
   within = omega arith;
@@ -55,18 +57,18 @@ told_nothing d history n n' rd rd' heap stop none read = record {
 }
 
 -- a trace without a header
-pub head_told : (d : Dialect) (history n n' : ℕ) (rd rd' out : Option (List ℕ)) (stop : Stop) → IsReadStop stop → Reads d None n n' rd rd' None [] (Err stop)
-    → (text : List ℕ) × Told d history n n' rd rd' (Err stop) text × Writes {V = Unit {0}} out out (Err stop) text
-head_told d history n n' rd rd' out (Fault f) h read = ([], told_nothing d history n n' rd rd' None (Fault f) refl read, Appends-nil out)
-head_told d history n n' rd rd' out ReadFailed h read = ([], told_nothing d history n n' rd rd' None ReadFailed refl read, Appends-nil out)
-head_told d history n n' rd rd' out stop h read = absurd h
+pub head_told : (d : Dialect) (s : Settings) (history n n' : ℕ) (rd rd' out : Option (List ℕ)) (stop : Stop) → IsReadStop stop → Reads d None n n' rd rd' None [] (Err stop)
+    → (text : List ℕ) × Told d s history n n' rd rd' (Err stop) text × Writes {V = Unit {0}} out out (Err stop) text
+head_told d s history n n' rd rd' out (Fault f) h read = ([], told_nothing d s history n n' rd rd' None (Fault f) refl read, Appends-nil out)
+head_told d s history n n' rd rd' out ReadFailed h read = ([], told_nothing d s history n n' rd rd' None ReadFailed refl read, Appends-nil out)
+head_told d s history n n' rd rd' out stop h read = absurd h
 
 -- a header, and no memory for what it asks for
-pub unopened_told : (d : Dialect) (history n n' : ℕ) (l : Shape) (rd rd' out : Option (List ℕ)) → Reads d None n n' rd rd' (Some l) [] (Ok true)
-    → (text : List ℕ) × Told d history n n' rd rd' (Err NoMemory) text × Writes {V = Unit {0}} out out (Err NoMemory) text
-unopened_told d history n n' l rd rd' out read =
+pub unopened_told : (d : Dialect) (s : Settings) (history n n' : ℕ) (l : Shape) (rd rd' out : Option (List ℕ)) → Reads d None n n' rd rd' (Some l) [] (Ok true)
+    → (text : List ℕ) × Told d s history n n' rd rd' (Err NoMemory) text × Writes {V = Unit {0}} out out (Err NoMemory) text
+unopened_told d s history n n' l rd rd' out read =
     let halted : Reads d None n n' rd rd' (Some l) [] (Err NoMemory) = record { lines = read.lines; rest = read.rest; consumed = read.consumed; passed = read.passed; met = read.met } in
-    ([], told_nothing d history n n' rd rd' (Some l) NoMemory (omega arith) halted, Appends-nil out)
+    ([], told_nothing d s history n n' rd rd' (Some l) NoMemory (omega arith) halted, Appends-nil out)
 
 entries_grown : (l : Shape) (o : Options) (book new : History) (es : List Entry) → IsOpened l o book → Grows book es new → new.entries ≡ es
 entries_grown l o book new es is g = g.entries ∙ ap (λ (h : History). h.entries ++ es) is
@@ -102,7 +104,7 @@ written_as out out' (Err WriteFailed) text w = w
 pub played_told : {S : Type 0} (book_of : S → History) (d : Dialect) (o : Options) (n n1 n' : ℕ) (l : Shape) (old new : S) (rd rd1 rd' out out' : Option (List ℕ)) (r : Result (Unit {0}) Stop)
     → IsOpened l o (book_of old) → Reads d None n n1 rd rd1 (Some l) [] (Ok true)
     → Follows (λ s cs text t. HasPlayed (book_of s) cs text (book_of t)) (λ s. IsFull (book_of s)) d l n1 n' old new rd1 rd' out out' (ended r) → IsHistory (book_of new)
-    → (text : List ℕ) × Told d o.history n n' rd rd' r text × Writes out out' r text
+    → (text : List ℕ) × Told d o.config o.history n n' rd rd' r text × Writes out out' r text
 played_told book_of d o n n1 n' l old new rd rd1 rd' out out' r is head f h =
     let p = f.done.made in
     let es : (book_of new).entries ≡ entries_of p.pieces = entries_grown l o (book_of old) (book_of new) (entries_of p.pieces) is p.grows in
@@ -119,6 +121,7 @@ played_told book_of d o n n1 n' l old new rd rd1 rd' out out' r is head f h =
         all = f.done.all;
         stopped = undone_as r f.done.undone f.done.stopped;
         walked = p.walked;
+        set = subst (λ (h : History). AreSetBy h.machine.settings f.done.done p.pieces) is p.set;
         unopened = tt;
         permitted = subst (λ (xs : List Entry). IsPermitted (opening l) xs) es (subst (λ (s : Shape). IsPermitted (opening s) (book_of new).entries) shape h.run);
         within = subst (λ (xs : List Entry). length xs ≤ o.history) es (subst (λ (k : ℕ). length (book_of new).entries ≤ k) most h.within);

@@ -2,6 +2,7 @@
 use Rattle.std.specs.Prelude.{◌≡◌, ◌≤◌, ℕ, List, [], ◌++◌, Bool, false, Result, Ok, Err, Option, Some, None, IfSome, IfNone, length}
 use Rattle.std.specs.Io.KnownBytes.{Appends}
 use Rattle.g1_layout.specs.Shape.{Shape}
+use Rattle.g1_core.specs.Settings.{Settings}
 use Rattle.g1_core.specs.Table.{opening}
 use Rattle.g1_core.specs.Run.{IsPermitted}
 use Rattle.g1_replay.specs.declared.command.Command.{Command}
@@ -12,7 +13,7 @@ use Rattle.g1_replay.specs.declared.fault.TraceFault.{TraceFault}
 use Rattle.g1_replay.specs.declared.stop.Stop.{Stop}
 use Rattle.g1_replay.specs.declared.stop.Stop.TheVariants.{Fault, NoMemory, BookFull, NoThread, ReadFailed, WriteFailed}
 use Rattle.g1_replay.specs.Bytes.{AppendsFront}
-use Rattle.g1_replay.specs.Pieces.{Piece, Walks, lines_of, entries_of}
+use Rattle.g1_replay.specs.Pieces.{Piece, AreSetBy, Walks, lines_of, entries_of}
 use Rattle.g1_replay.specs.Playing.{IsUndone}
 use Rattle.g1_replay.specs.Reading.{Reads}
 use Rattle.g1_replay.specs.Text.{fault_line, no_memory_line, book_full_line, no_thread_line, read_failed_line}
@@ -23,8 +24,9 @@ abbrev pub ended : Result (Unit {0}) Stop → Result Bool Stop
 ended (Ok done) = Ok false
 ended (Err stop) = Err stop
 
--- The text is that of a permitted run which belongs to the commands before the end. The run has at most `history` entries, and just as many where the book is full.
-pub record Told (d : Dialect) (history n n' : ℕ) (rd rd' : Option (List ℕ)) (r : Result (Unit {0}) Stop) (text : List ℕ) : Type 0 where
+-- The text is that of a permitted run which belongs to the commands before the end, by a book of these settings. The run has at most `history` entries,
+-- and just as many where the book is full.
+pub record Told (d : Dialect) (s : Settings) (history n n' : ℕ) (rd rd' : Option (List ℕ)) (r : Result (Unit {0}) Stop) (text : List ℕ) : Type 0 where
   pub heap : Option Shape
   pub commands : List Command
   pub done : List Command
@@ -34,6 +36,7 @@ pub record Told (d : Dialect) (history n n' : ℕ) (rd rd' : Option (List ℕ)) 
   pub all : commands ≡ done ++ undone
   pub stopped : IsUndone r undone
   pub walked : Walks done pieces
+  pub set : AreSetBy s done pieces
   pub unopened : IfNone heap (commands ≡ [])
   pub permitted : IfSome heap (λ l. IsPermitted (opening l) (entries_of pieces))
   pub within : length (entries_of pieces) ≤ history
@@ -69,17 +72,18 @@ end_or_failed (Ok v) end = end
 end_or_failed (Err e) end = EndWriteFailed
 
 -- The whole output: the trace has these commands and no fault.
-pub record IsWholeOutput (d : Dialect) (bytes : List ℕ) (out out' : Option (List ℕ)) : Type 0 where
+pub record IsWholeOutput (d : Dialect) (s : Settings) (bytes : List ℕ) (out out' : Option (List ℕ)) : Type 0 where
   pub layout : Shape
   pub commands : List Command
   pub pieces : List Piece
   pub trace : read_trace d bytes ≡ record { heap = Some layout; commands = commands; fault = None }
   pub walked : Walks commands pieces
+  pub set : AreSetBy s commands pieces
   pub permitted : IsPermitted (opening layout) (entries_of pieces)
   pub written : Appends out out' (lines_of commands pieces)
 
 -- The whole output: the trace has these commands before its first fault.
-pub record IsRefusedOutput (d : Dialect) (bytes : List ℕ) (out out' : Option (List ℕ)) : Type 0 where
+pub record IsRefusedOutput (d : Dialect) (s : Settings) (bytes : List ℕ) (out out' : Option (List ℕ)) : Type 0 where
   pub heap : Option Shape
   pub commands : List Command
   pub number : ℕ
@@ -88,5 +92,6 @@ pub record IsRefusedOutput (d : Dialect) (bytes : List ℕ) (out out' : Option (
   pub trace : read_trace d bytes ≡ record { heap = heap; commands = commands; fault = Some (number, fault) }
   pub unopened : IfNone heap (commands ≡ [])
   pub walked : Walks commands pieces
+  pub set : AreSetBy s commands pieces
   pub permitted : IfSome heap (λ l. IsPermitted (opening l) (entries_of pieces))
   pub written : Appends out out' (lines_of commands pieces ++ fault_line number fault)

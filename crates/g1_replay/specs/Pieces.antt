@@ -1,5 +1,5 @@
 -- The calls that each command of a trace makes, and the line that is printed of them.
-use Rattle.std.specs.Prelude.{◌≡◌, ◌⊎◌, ℕ, ◌||◌, Bool, true, false, List, [], ◌∷◌, ◌++◌, All, sum_by, length, if◌then◌else◌}
+use Rattle.std.specs.Prelude.{◌≡◌, ◌≤◌, ◌⊎◌, ℕ, ◌||◌, Bool, true, false, List, [], ◌∷◌, ◌++◌, All, sum_by, length, if◌then◌else◌}
 use Rattle.g1_layout.specs.declared.kind.Kind.{Kind}
 use Rattle.g1_layout.specs.declared.kind.Kind.TheVariants.{Logged}
 use Rattle.g1_core.specs.declared.reply.Fill.{Fill}
@@ -9,6 +9,8 @@ use Rattle.g1_core.specs.declared.entry.Call.{Call}
 use Rattle.g1_core.specs.declared.entry.Reply.{Reply}
 use Rattle.g1_core.specs.declared.entry.Call.TheVariants.{Store, Refine}
 use Rattle.g1_core.specs.declared.entry.Reply.TheVariants as reply
+use Rattle.g1_core.specs.Settings.{Settings}
+use Rattle.g1_book.specs.Rounds.{round_size}
 use Rattle.g1_replay.specs.declared.command.Command.{Command}
 use Rattle.g1_replay.specs.declared.command.Command.TheVariants as command
 use Rattle.g1_replay.specs.Text.{stored_line, flushed_line, refined_line, worked_line, call_line}
@@ -81,6 +83,12 @@ IsPieceOf command.Work entries = All (IsRefinementBy 0) entries
 IsPieceOf command.Refine (e ∷ []) = IsCallBy 0 Refine e × (IsOfBuffer e.reply ⊎ IsOfNone e.reply e.refined)
 IsPieceOf (command.Call call) (e ∷ []) = IsCallBy 0 call e
 IsPieceOf _ _ = ⊥
+
+-- What these settings allow: a round makes no more calls than one that begins at their `start` and sees no more completed buffers
+-- than their line holds.
+abbrev pub IsSetBy : Settings → Command → List Entry → Type 0
+IsSetBy s command.Work entries = (seen : ℕ) × (seen ≤ s.limit) × (length entries ≤ round_size s.start seen)
+IsSetBy s c entries = Unit {0}
 
 abbrev pub one_call_line : List Entry → List ℕ
 one_call_line (e ∷ []) = call_line e.call e.reply
@@ -161,6 +169,12 @@ abbrev pub Walks : List Command → List Piece → Type 0
 Walks [] [] = Unit {0}
 Walks (c ∷ commands) (p ∷ pieces) = IsPieceOf c p.entries × Walks commands pieces
 Walks _ _ = ⊥
+
+-- so it is with each command
+abbrev pub AreSetBy : Settings → List Command → List Piece → Type 0
+AreSetBy s [] pieces = Unit {0}
+AreSetBy s (c ∷ commands) [] = Unit {0}
+AreSetBy s (c ∷ commands) (p ∷ pieces) = IsSetBy s c p.entries × AreSetBy s commands pieces
 
 abbrev pub entries_of : List Piece → List Entry
 entries_of [] = []

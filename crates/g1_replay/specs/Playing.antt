@@ -1,5 +1,5 @@
 -- What is done with the commands of a trace, between two states of the reader, the writer and the one that plays.
-use Rattle.std.specs.Prelude.{◌≡◌, ◌≤◌, ℕ, List, [], ◌∷◌, ◌++◌, Bool, Result, Ok, Err, Option, Some, length}
+use Rattle.std.specs.Prelude.{◌≡◌, ◌<◌, ◌≤◌, ℕ, slice_index_or, List, [], ◌∷◌, ◌++◌, Bool, Result, Ok, Err, Option, Some, length}
 use Rattle.g1_layout.specs.Shape.{Shape}
 use Rattle.g1_core.specs.declared.entry.Call.{Call}
 use Rattle.g1_core.specs.declared.entry.Entry.{Entry}
@@ -13,12 +13,20 @@ use Rattle.g1_replay.specs.declared.options.Options.{Options}
 use Rattle.g1_replay.specs.declared.stop.Stop.{Stop}
 use Rattle.g1_replay.specs.declared.stop.Stop.TheVariants.{NoMemory, BookFull, WriteFailed}
 use Rattle.g1_replay.specs.Bytes.{Puts}
-use Rattle.g1_replay.specs.Pieces.{Piece, IsCallBy, IsLineOf, Walks, lines_of, entries_of}
+use Rattle.g1_replay.specs.Pieces.{Piece, IsCallBy, IsLineOf, IsSetBy, AreSetBy, Walks, lines_of, entries_of}
 use Rattle.g1_replay.specs.Reading.{Reads}
 
 -- A new book over this layout, on the terms that the options say, whose machine is new.
 abbrev pub IsOpened : Shape → Options → History → Type 0
 IsOpened layout o book = book ≡ opened layout o.config o.mutators o.history
+
+-- The first of these callers is at a line of as many completed buffers as the settings of the book say.
+abbrev pub IsLineSet : {E : Type 0} → (E → ℕ) → List E → History → Type 0
+IsLineSet {E} room callers book = (e : E) → 0 < length callers → room (slice_index_or callers 0 e) ≡ book.machine.settings.limit
+
+-- The first of them is at a line of as many as before.
+abbrev pub IsLineKept : {E : Type 0} → (E → ℕ) → List E → List E → Type 0
+IsLineKept {E} room old new = (e : E) → 0 < length old → room (slice_index_or new 0 e) ≡ room (slice_index_or old 0 e)
 
 -- the history has as many entries as it may have
 abbrev pub IsFull : History → Type 0
@@ -31,7 +39,7 @@ IsRefused old new refusal.BookFull = Grows old [] new × IsFull new
 
 -- The calls of a command were made and entered, and the answer has their text.
 abbrev pub IsDone : {V : Type 0} → (V → List ℕ) → History → History → Command → V → Type 0
-IsDone text old new c answer = (p : Piece) × Grows old p.entries new × IsLineOf c p (text answer)
+IsDone text old new c answer = (p : Piece) × Grows old p.entries new × IsLineOf c p (text answer) × IsSetBy old.machine.settings c p.entries
 
 -- or the first of them was refused
 abbrev pub IsAnswered : {V : Type 0} → (V → List ℕ) → History → History → Command → Result V Refusal → Type 0
@@ -43,10 +51,11 @@ abbrev pub IsCalled : History → History → Call → Result (Unit {0}) Refusal
 IsCalled old new call (Ok done) = (e : Entry) × Grows old (e ∷ []) new × IsCallBy 0 call e
 IsCalled old new call (Err refusal) = IsRefused old new refusal
 
--- The calls of these commands were made and entered, and this is their text.
+-- The calls of these commands were made and entered, as the settings of the book allow, and this is their text.
 pub record HasPlayed (old : History) (cs : List Command) (text : List ℕ) (new : History) : Type 0 where
   pub pieces : List Piece
   pub walked : Walks cs pieces
+  pub set : AreSetBy old.machine.settings cs pieces
   pub grows : Grows old (entries_of pieces) new
   pub said : text ≡ lines_of cs pieces
 

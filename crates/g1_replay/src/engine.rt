@@ -79,7 +79,7 @@ fn play_trace<T: Wait, R: BufRead, W: Write>(
     output: &mut W,
     options: &Options,
 ) -> Result<(), Stop>
-    ensures { (text : List ℕ) × Told (record { mode = Run; mutators = options.now.mutators }) options.now.history source.old.number source.new.number (R.remaining input.old) (R.remaining input.new) result text
+    ensures { (text : List ℕ) × Told (record { mode = Run; mutators = options.now.mutators }) options.now.config options.now.history source.old.number source.new.number (R.remaining input.old) (R.remaining input.new) result text
         × Writes (W.contents output.old) (W.contents output.new) result text }
 {
     let layout = read_heap(source, input)?;
@@ -128,8 +128,9 @@ fn end_unless(written: Result<(), WriteFailed>, end: End) -> End
 /// line a command, and then the line of the end, if it has one. `Whole` comes only where the trace has no fault, and
 /// `Refused` only where it has one, with the fault's line; with `Stopped` and `ReadFailed` the commands are those before
 /// the end, and `book full` is written only where the run has as many entries as `options` allows; with `WriteFailed`
-/// a beginning of such a text was written. A fault is the end wherever its line was read whole: it does not hide
-/// behind a failed read or refused memory.
+/// a beginning of such a text was written. A round of `work` makes at most as many calls as one that begins at the start
+/// threshold of `options` and sees no more completed buffers than their limit. A fault is the end wherever its line was
+/// read whole: it does not hide behind a failed read or refused memory.
 ///
 /// It holds one line of the trace at a time, asks the reader for bytes at most 2^40 times, and tries no failed read or
 /// write again. A line is one write or a few, so give it a writer with a buffer. No line takes memory; what grows is the
@@ -142,10 +143,10 @@ pub fn run<T: Wait, R: BufRead, W: Write>(
     options: &Options,
 ) -> End
     ensures told { (number : ℕ) × (outcome : Result (Unit {0}) Stop) × (text : List ℕ)
-        × Told (record { mode = Run; mutators = options.now.mutators }) options.now.history 1 number (R.remaining input.old) (R.remaining input.new) outcome text
+        × Told (record { mode = Run; mutators = options.now.mutators }) options.now.config options.now.history 1 number (R.remaining input.old) (R.remaining input.new) outcome text
         × IsEnded (W.contents output.old) (W.contents output.new) outcome (text ++ ending_line number outcome) result }
-    ensures whole { result ≡ End.Whole → IfSome (R.remaining input.old) (λ bytes. IsWholeOutput (record { mode = Run; mutators = options.now.mutators }) bytes (W.contents output.old) (W.contents output.new)) }
-    ensures refused { result ≡ End.Refused → IfSome (R.remaining input.old) (λ bytes. IsRefusedOutput (record { mode = Run; mutators = options.now.mutators }) bytes (W.contents output.old) (W.contents output.new)) }
+    ensures whole { result ≡ End.Whole → IfSome (R.remaining input.old) (λ bytes. IsWholeOutput (record { mode = Run; mutators = options.now.mutators }) options.now.config bytes (W.contents output.old) (W.contents output.new)) }
+    ensures refused { result ≡ End.Refused → IfSome (R.remaining input.old) (λ bytes. IsRefusedOutput (record { mode = Run; mutators = options.now.mutators }) options.now.config bytes (W.contents output.old) (W.contents output.new)) }
 {
     let mut source = Source {
         reads: 0,

@@ -4,7 +4,7 @@ ghost use Rattle.std.specs.List.{All};
 ghost use Rattle.std.proofs.Props.{props};
 ghost use Rattle.g1_log.specs.Ends.{IsSenderOf, IsTakerOf, capacity_of, taken_of};
 ghost use Rattle.g1_book.specs.Steps.{IsStopped, GainsAtMost};
-ghost use Rattle.g1_replay.specs.Playing.{IsOpened};
+ghost use Rattle.g1_replay.specs.Playing.{IsLineKept, IsLineSet, IsOpened};
 ghost use Rattle.g1_replay.specs.Still.{AreStill, IsNewLog};
 
 use crate::options::Options;
@@ -29,7 +29,8 @@ impl<'a> Ends<'a> {
     fn new(line: &'a Line, log: Log, sender: Sender, taker: Taker) -> Ends<'a>
         requires sender { IsSenderOf line.now sender }
         requires taker { IsTakerOf line.now taker }
-        ensures { result.mutator.log ≡ log }
+        ensures log { result.mutator.log ≡ log }
+        ensures line { result.line.now ≡ line.now }
     {
         let mutator = Mutator { log, sender };
         Ends {
@@ -43,6 +44,7 @@ impl<'a> Ends<'a> {
     pub(crate) fn stand_still<R: Wait>(rt: &R, callers: &mut [Ends<'_>])
         ensures stopped { (k : ℕ) (d : E) → k < length callers.old → IsStopped (slice_index_or callers.old k d).mutator (slice_index_or callers.new k d).mutator }
         ensures still { AreStill (λ e. e.mutator.log) callers.new }
+        ensures line { IsLineKept (λ e. capacity_of e.line.now) callers.old callers.new }
     {
         for at in 0..callers.len() {
             callers[at].stop(rt, at == 0);
@@ -53,6 +55,7 @@ impl<'a> Ends<'a> {
     #[tactic(auto, using(g1_book::proofs::StepLemmas::gains_none))]
     fn stop<R: Wait>(&mut self, rt: &R, takes: bool)
         ensures log { IsStopped self.old.mutator self.new.mutator }
+        ensures line { self.new.line ≡ self.old.line }
         ensures taken { GainsAtMost (taken_of self.old.taker) (if takes then capacity_of self.old.line.now else 0) (taken_of self.new.taker) }
     {
         if takes {
@@ -83,9 +86,11 @@ impl<'a> Machinery<'a> {
     ) -> Result<Machinery<'a>, NoMemory>
         requires senders { (vec_len senders ≡ options.now.mutators) × All (IsSenderOf line.now) senders.items }
         requires takers { (vec_len takers ≡ options.now.mutators) × All (IsTakerOf line.now) takers.items }
+        requires line { capacity_of line.now ≡ options.now.config.limit }
         ensures book { IfOk result (λ machinery. IsOpened layout options.now machinery.book) }
         ensures callers { IfOk result (λ machinery. vec_len machinery.callers ≡ options.now.mutators) }
         ensures logs { IfOk result (λ machinery. All (λ e. IsNewLog options.now.config.log e.mutator.log) machinery.callers.items) }
+        ensures line { IfOk result (λ machinery. IsLineSet (λ e. capacity_of e.line.now) machinery.callers.items machinery.book) }
     {
         let callers = callers_of(alloc, line, senders, takers, options.config.log())?;
         let book = Book::open(
@@ -113,6 +118,7 @@ fn callers_of<'a>(
     requires log_high { log ≤ 256 }
     ensures len { IfOk result (λ callers. vec_len callers ≡ vec_len senders) }
     ensures logs { IfOk result (λ callers. All (λ e. IsNewLog log e.mutator.log) callers.items) }
+    ensures lines { IfOk result (λ callers. All (λ e. capacity_of e.line.now ≡ capacity_of line.now) callers.items) }
 {
     let mut callers = Vec::with_capacity(alloc, senders.len())?;
     let mut takers = takers;

@@ -6,7 +6,7 @@ ghost use Rattle.g1_book.specs.Rounds.{round_size};
 ghost use Rattle.g1_log.specs.Ends.{capacity_of};
 ghost use Rattle.g1_replay.specs.Grammar.{IsCallOf, IsCommandOf};
 ghost use Rattle.g1_replay.specs.Laws.{played_none, played_then};
-ghost use Rattle.g1_replay.specs.Playing.{Does, IsAnswered, IsDone, IsFull, HasPlayed, MayStop};
+ghost use Rattle.g1_replay.specs.Playing.{Does, IsAnswered, IsDone, IsFull, IsLineKept, IsLineSet, HasPlayed, MayStop};
 ghost use Rattle.g1_replay.specs.Reading.{more_may_come};
 ghost use Rattle.g1_replay.specs.Still.{is_pause, pauses, AreStill};
 ghost use Rattle.g1_replay.specs.Text.{store_text, flush_text, refine_text, work_text};
@@ -26,7 +26,7 @@ use std::io::Write;
 use std::sync::Wait;
 
 impl Player for Machinery<'_> {
-    ghost takes = { λ s l d. (layout_in s.book ≡ l) × (s.book.mutators ≡ d.mutators) × (vec_len s.callers ≡ d.mutators) × (1 ≤ d.mutators) };
+    ghost takes = { λ s l d. (layout_in s.book ≡ l) × (s.book.mutators ≡ d.mutators) × (vec_len s.callers ≡ d.mutators) × (1 ≤ d.mutators) × IsLineSet (λ e. capacity_of e.line.now) s.callers.items s.book };
 
     ghost did = { λ s cs text t. HasPlayed s.book cs text t.book };
 
@@ -43,11 +43,11 @@ impl Player for Machinery<'_> {
         command: Command,
         output: &mut W,
     ) -> Result<(), Stop>
-        requires takes { (layout_in self.old.book ≡ _layout) × (self.old.book.mutators ≡ _dialect.mutators) × (vec_len self.old.callers ≡ _dialect.mutators) × (1 ≤ _dialect.mutators) }
+        requires takes { (layout_in self.old.book ≡ _layout) × (self.old.book.mutators ≡ _dialect.mutators) × (vec_len self.old.callers ≡ _dialect.mutators) × (1 ≤ _dialect.mutators) × IsLineSet (λ e. capacity_of e.line.now) self.old.callers.items self.old.book }
         requires command { IsCommandOf _layout _dialect.mutators command }
         ensures played { Does (λ s cs text t. HasPlayed s.book cs text t.book) (λ s. IsFull s.book) (command ∷ []) self.old self.new (W.contents output.old) (W.contents output.new) (more_may_come result) }
         ensures stops { IfErr result MayStop }
-        ensures takes { OnOk result ((layout_in self.new.book ≡ _layout) × (self.new.book.mutators ≡ _dialect.mutators) × (vec_len self.new.callers ≡ _dialect.mutators) × (1 ≤ _dialect.mutators)) }
+        ensures takes { OnOk result ((layout_in self.new.book ≡ _layout) × (self.new.book.mutators ≡ _dialect.mutators) × (vec_len self.new.callers ≡ _dialect.mutators) × (1 ≤ _dialect.mutators) × IsLineSet (λ e. capacity_of e.line.now) self.new.callers.items self.new.book) }
         ensures still { pauses command ≡ true → AreStill (λ e. e.mutator.log) self.new.callers.items }
     {
         match command {
@@ -101,6 +101,7 @@ fn one_call<T: Wait, W: Write>(
     ensures played { Does HasPlayed IsFull (Command.Call call ∷ []) machinery.old.book machinery.new.book (W.contents output.old) (W.contents output.new) (more_may_come result) }
     ensures stops { IfErr result MayStop }
     ensures callers { vec_len machinery.new.callers ≡ vec_len machinery.old.callers }
+    ensures line { IsLineKept (λ e. capacity_of e.line.now) machinery.old.callers.items machinery.new.callers.items }
     ensures still { is_pause call ≡ true → AreStill (λ e. e.mutator.log) machinery.new.callers.items }
 {
     if is_pause(&call) {
@@ -138,6 +139,7 @@ fn store<T: Wait>(
     requires callers { (vec_len machinery.old.callers ≡ machinery.old.book.mutators) × (1 ≤ machinery.old.book.mutators) }
     ensures answered { IsAnswered store_text machinery.old.book machinery.new.book (Command.Store mutator slot target) result }
     ensures callers { vec_len machinery.new.callers ≡ vec_len machinery.old.callers }
+    ensures line { IsLineKept (λ e. capacity_of e.line.now) machinery.old.callers.items machinery.new.callers.items }
 {
     let caller = &mut machinery.callers[mutator as usize];
     let mut calls = LentBook::new(&mut machinery.book, mutator);
@@ -152,6 +154,7 @@ fn flush<T: Wait>(rt: &T, machinery: &mut Machinery<'_>, mutator: u32) -> FlushR
     requires callers { (vec_len machinery.old.callers ≡ machinery.old.book.mutators) × (1 ≤ machinery.old.book.mutators) }
     ensures answered { IsDone flush_text machinery.old.book machinery.new.book (Command.Flush mutator) result }
     ensures callers { vec_len machinery.new.callers ≡ vec_len machinery.old.callers }
+    ensures line { IsLineKept (λ e. capacity_of e.line.now) machinery.old.callers.items machinery.new.callers.items }
 {
     let caller = &mut machinery.callers[mutator as usize];
     let mut calls = LentBook::new(&mut machinery.book, mutator);
@@ -162,6 +165,7 @@ fn refine<T: Wait>(rt: &T, machinery: &mut Machinery<'_>) -> Result<RefineReply,
     requires callers { (vec_len machinery.old.callers ≡ machinery.old.book.mutators) × (1 ≤ machinery.old.book.mutators) }
     ensures answered { IsAnswered refine_text machinery.old.book machinery.new.book Command.Refine result }
     ensures callers { vec_len machinery.new.callers ≡ vec_len machinery.old.callers }
+    ensures line { IsLineKept (λ e. capacity_of e.line.now) machinery.old.callers.items machinery.new.callers.items }
 {
     let caller = &mut machinery.callers[0];
     let mut calls = LentBook::new(&mut machinery.book, 0);
@@ -171,9 +175,11 @@ fn refine<T: Wait>(rt: &T, machinery: &mut Machinery<'_>) -> Result<RefineReply,
 
 fn work<T: Wait>(rt: &T, machinery: &mut Machinery<'_>) -> Result<RefineReply, Refusal>
     requires callers { (vec_len machinery.old.callers ≡ machinery.old.book.mutators) × (1 ≤ machinery.old.book.mutators) }
+    requires line { IsLineSet (λ e. capacity_of e.line.now) machinery.old.callers.items machinery.old.book }
     ensures answered { IsAnswered work_text machinery.old.book machinery.new.book Command.Work result }
     ensures within { IfOk result (λ reply. (seen : ℕ) × ((d : E) → seen ≤ capacity_of (slice_index_or machinery.old.callers.items 0 d).line.now) × (reply.taken ≤ round_size machinery.old.book.machine.settings.start seen)) }
     ensures callers { vec_len machinery.new.callers ≡ vec_len machinery.old.callers }
+    ensures line { IsLineKept (λ e. capacity_of e.line.now) machinery.old.callers.items machinery.new.callers.items }
 {
     let start = machinery.book.config().start();
     let caller = &mut machinery.callers[0];

@@ -7,6 +7,6 @@ returns g c =
     let i = ended_then _ _ _ c.play_trace-outcome.result _ t.0 c.put_end.result t.2 c.put_end.ensures in
     record {
       told = (c.play_trace-outcome.new.source.number, c.play_trace-outcome.result, t.0, t.1, i);
-      whole = λ e. whole_output _ _ _ _ _ _ _ c.play_trace-outcome.result t.0 c.put_end.result t.1 i e;
-      refused = λ e. refused_output _ _ _ _ _ _ _ c.play_trace-outcome.result t.0 c.put_end.result t.1 i e;
+      whole = λ e. whole_output _ _ _ _ _ _ _ _ c.play_trace-outcome.result t.0 c.put_end.result t.1 i e;
+      refused = λ e. refused_output _ _ _ _ _ _ _ _ c.play_trace-outcome.result t.0 c.put_end.result t.1 i e;
     }

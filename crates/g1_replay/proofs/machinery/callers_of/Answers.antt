@@ -1,9 +1,9 @@
-use Rattle.std.proofs.Common.{rules, ◌≡◌, ◌∙◌, List, [], ◌∷◌, ◌++◌, subst, sym}
+use Rattle.std.proofs.Common.{rules, ◌≡◌, ◌∙◌, List, [], ◌∷◌, ◌++◌, subst, sym, ap}
 use Rattle.std.specs.List.{All}
 use Rattle.std.specs.Vec.Iter.{into_iter_items}
 use Rattle.std.proofs.lemmas.List.Elements.{All-nil, All-cons, All-head, All-push, All-tail}
 use Rattle.g1_log.specs.declared.ends.Taker.{Taker}
-use Rattle.g1_log.specs.Ends.{IsSenderOf, IsTakerOf}
+use Rattle.g1_log.specs.Ends.{IsSenderOf, IsTakerOf, capacity_of}
 use Rattle.g1_replay.specs.Still.{IsNewLog}
 use Rattle.g1_replay.specs.declared.machinery.Ends.{Ends}
 use Rattle.g1_replay.proofs.machinery.callers_of.Goals as goal
@@ -22,5 +22,7 @@ loop-sender-preserved c =
       search rules,
       search rules,
       subst (All (λ (e : Ends). IsNewLog c.args.log e.mutator.log)) (sym c.push_reserved.ensures.items)
-          (All-push (λ (e : Ends). IsNewLog c.args.log e.mutator.log) c.loop-sender.callers.items c.new-in-loop-sender.result i.5 (c.new-in-loop-sender.ensures ∙ c.new.ensures)),
+          (All-push (λ (e : Ends). IsNewLog c.args.log e.mutator.log) c.loop-sender.callers.items c.new-in-loop-sender.result i.5 (c.new-in-loop-sender.ensures.log ∙ c.new.ensures)),
+      subst (All (λ (e : Ends). capacity_of e.line.now ≡ capacity_of c.args.line.now)) (sym c.push_reserved.ensures.items)
+          (All-push (λ (e : Ends). capacity_of e.line.now ≡ capacity_of c.args.line.now) c.loop-sender.callers.items c.new-in-loop-sender.result i.6 (ap capacity_of c.new-in-loop-sender.ensures.line)),
     )
