@@ -121,17 +121,17 @@ fn long_numbers_and_lists(rt: HostRuntime) -> Result<(), Fail> {
 /// Each seventeenth card, from the first on, refers into the last region. The writer has blocks of fewer bytes than such a line.
 #[test]
 fn a_list_of_more_than_one_block(rt: HostRuntime) -> Result<(), Fail> {
-    for length in [12, 63, 64, 65, 200] {
+    for length in [12u8, 63, 64, 65, 200] {
         let mut trace = String::from_str(rt.alloc(), "heap 256 16 16\n")?;
         let mut printed = String::new(rt.alloc());
         for number in 0..length {
-            writeln!(trace, "store 0 {} 65280", number * 272)?;
+            writeln!(trace, "store 0 {} 65280", u32::from(number) * 272)?;
             printed.push_str("logged\n")?;
         }
         write!(trace, "status\ndrain 255\n")?;
         write!(printed, "status pending {length} recorded 0\ndrained")?;
         for number in 0..length {
-            write!(printed, " {}", number * 17)?;
+            write!(printed, " {}", u32::from(number) * 17)?;
         }
         printed.push_str("\n")?;
         is_played(

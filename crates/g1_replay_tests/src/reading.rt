@@ -8,9 +8,6 @@ use std::io::{BufReader, Read};
 use std::sync::Wait;
 use std::test::Fail;
 
-/// What `status` prints of an empty heap.
-const STATUS: &str = "status pending 0 recorded 0\n";
-
 #[test]
 fn ends_of_traces(rt: HostRuntime) -> Result<(), Fail> {
     let status_then_three = "status pending 0 recorded 0\nline 3: no such command\n";
@@ -94,25 +91,26 @@ fn play_line<R: Wait + AllocGlobal>(
 /// 64 bytes are a line, 65 are too many, blank or a remark though they be, and whatever comes behind them.
 #[test]
 fn long_lines(rt: HostRuntime) -> Result<(), Fail> {
-    let too_long = "line 2: too long\n";
-    let rows: [(u8, u64, &[u8], &str); 11] = [
-        (b'7', 64, b"\nstatus\n", "line 2: no such command\n"),
-        (b'7', 65, b"\nstatus\n", too_long),
-        (b' ', 64, b"\nstatus\n", STATUS),
-        (b' ', 65, b"\nstatus\n", too_long),
-        (b' ', 58, b"status\n", STATUS),
-        (b' ', 59, b"status\n", too_long),
-        (b'#', 64, b"\nstatus\n", STATUS),
-        (b'#', 65, b"\nstatus\n", too_long),
-        (b'7', 64, b"", "line 2: cut\n"),
-        (b'7', 65, b"", too_long),
-        (b'7', 10_000, b"\n", too_long),
+    let status = b"status pending 0 recorded 0\n".as_slice();
+    let too_long = b"line 2: too long\n".as_slice();
+    let unknown = b"line 2: no such command\n".as_slice();
+    let rows: [(u8, u64, &[u8], &[u8], End); 11] = [
+        (b'7', 64, b"\nstatus\n", unknown, End::Refused),
+        (b'7', 65, b"\nstatus\n", too_long, End::Refused),
+        (b' ', 64, b"\nstatus\n", status, End::Whole),
+        (b' ', 65, b"\nstatus\n", too_long, End::Refused),
+        (b' ', 58, b"status\n", status, End::Whole),
+        (b' ', 59, b"status\n", too_long, End::Refused),
+        (b'#', 64, b"\nstatus\n", status, End::Whole),
+        (b'#', 65, b"\nstatus\n", too_long, End::Refused),
+        (b'7', 64, b"", b"line 2: cut\n", End::Refused),
+        (b'7', 65, b"", too_long, End::Refused),
+        (b'7', 10_000, b"\n", too_long, End::Refused),
     ];
-    for (byte, count, rest, want) in rows {
+    for (byte, count, rest, want, wanted) in rows {
         let (printed, end) = play_line(&rt, byte, count, rest)?;
-        assert!(rt; printed.as_slice() == want.as_bytes(), "{count} {want}");
-        assert_eq!(rt; end == End::Whole, want == STATUS, "{count} {want}");
-        assert_eq!(rt; end == End::Refused, want != STATUS, "{count} {want}");
+        assert!(rt; printed.as_slice() == want, "{count}");
+        assert_eq!(rt; end, wanted, "{count}");
     }
     Ok(())
 }
