@@ -1,12 +1,12 @@
 -- The least slot that enters a region, and what is read to find it.
-use Rattle.std.proofs.Common.{◌≡◌, ◌≢◌, inl, inr, ℕ, ◌<◌, ◌≤◌, ◌+◌, ◌-◌, ◌*◌, Bool, false, eqb, List, [], ◌∷◌, ◌++◌, length, get_or, Option, Some, None, refl, sym, ap, ◌∙◌, subst, arith, take, below_more}
+use Rattle.std.proofs.Common.{◌≡◌, inl, inr, ℕ, ◌<◌, ◌≤◌, ◌+◌, ◌-◌, ◌*◌, List, [], ◌∷◌, ◌++◌, length, Option, Some, None, refl, sym, ap, ◌∙◌, subst, arith, take}
 use Rattle.std.specs.Prelude.{Contains, slice_get}
-use Rattle.std.proofs.lemmas.Bool.{cases_lt, eqb-false}
+use Rattle.std.proofs.lemmas.Bool.{cases_lt}
 use Rattle.std.proofs.lemmas.List.Elements.{Contains-append_cases}
 use Rattle.std.proofs.lemmas.Nat.{row_fits}
-use Rattle.g1_layout.specs.Shape.{Shape, IsShape, slot_count, card_count, card_of, region_of, region_of_card, slot_at}
+use Rattle.g1_layout.specs.Shape.{IsShape, slot_count, card_count, card_of, region_of_card, slot_at}
 use Rattle.g1_layout.specs.Sets.{PairSet}
-use Rattle.g1_layout.proofs.ShapeLemmas.{IsInRow, row_of_card, row_of_slot, card_of_below, region_of_slot, region_of-row}
+use Rattle.g1_layout.proofs.ShapeLemmas.{IsInRow, row_of_card, row_of_slot, card_of_below, region_of_slot}
 use Rattle.g1_heap.specs.Cells.{Cells}
 use Rattle.g1_core.specs.Table.{Table, Enters}
 use Rattle.g1_core.specs.Machine.{table_from}
@@ -33,22 +33,6 @@ read_at_most a b m k read fits = record { cells = read.cells; grown = read.grown
 pub read_table : (heap now : Cells) (most : ℕ) (pairs : PairSet) → AreRead heap now most → table_from now pairs ≡ table_from heap pairs
 read_table heap now most pairs read = ap (λ (h : Cells). table_from h pairs) read.cells
 
--- what a slot refers to
-abbrev pub Into : Cells → ℕ → ℕ → Type 0
-Into heap slot region = (place : ℕ) × (get_or heap.refs slot None ≡ Some place) × (region_of heap.layout place ≡ region)
-
-module _ (heap now : Cells) (most : ℕ) (read : AreRead heap now most) (slot region : ℕ) (pairs : PairSet) where
-  pub found : Into now slot region → region_of heap.layout slot ≢ region → Enters (table_from heap pairs) slot region
-  found into outside = record {
-    place = into.0;
-    refers = sym (ap (λ (h : Cells). get_or h.refs slot None) read.cells) ∙ into.1;
-    into = sym (ap (λ (h : Cells). region_of h.layout into.0) read.cells) ∙ into.2;
-    outside = outside;
-  }
-
-  pub sought : Enters (table_from heap pairs) slot region → Into now slot region
-  sought e = (e.place, ap (λ (h : Cells). get_or h.refs slot None) read.cells ∙ e.refers, ap (λ (h : Cells). region_of h.layout e.place) read.cells ∙ e.into)
-
 -- no slot of the card before this offset enters the region
 abbrev pub NoneBefore : Table → ℕ → ℕ → ℕ → Type 0
 NoneBefore t card region offset = (k : ℕ) → k < offset → Enters t (slot_at t.layout card k) region → ⊥
@@ -74,33 +58,6 @@ module _ (t : Table) (shape : IsShape t.layout) (card region : ℕ) where
       | inr past ↦ omega (arith, o.2)
     ],
   )
-
--- a slot of the walk over the slots of a card outside the region
-pub record IsWalked (heap : Cells) (card region offset slot : ℕ) : Type 0 where
-  pub below : offset < heap.layout.slots
-  pub slot_is : slot ≡ slot_at heap.layout card offset
-  pub outside : region_of_card heap.layout card ≢ region
-
-pub walked : (heap : Cells) (l : Shape) (card region own count offset slot : ℕ) (same : Bool) → l ≡ heap.layout → own ≡ region_of_card l card → same ≡ eqb own region → same ≡ false → count ≡ l.slots → offset < count → slot ≡ slot_at l card offset
-    → IsWalked heap card region offset slot
-walked heap l card region own count offset slot same layout own_is test apart count_is below slot_is = record {
-  below = omega (arith, count_is ∙ ap (λ (l : Shape). l.slots) layout, below);
-  slot_is = slot_is ∙ ap (λ (l : Shape). slot_at l card offset) layout;
-  outside = λ e. eqb-false own region (sym test ∙ apart) (own_is ∙ ap (λ (l : Shape). region_of_card l card) layout ∙ e);
-}
-
-module _ (heap now : Cells) (most card region offset slot : ℕ) (shape : IsShape heap.layout) (w : IsWalked heap card region offset slot) (read : AreRead heap now most) where
-  -- it enters the region, as the first one
-  pub entered : (pairs : PairSet) → Into now slot region → NoneBefore (table_from heap pairs) card region offset → IsLeastOn (table_from heap pairs) (card ∷ []) region (Some slot)
-  entered pairs into none =
-      let away : region_of heap.layout slot ≢ region = λ e. w.outside (sym (region_of-row heap.layout card offset w.below) ∙ ap (region_of heap.layout) (sym w.slot_is) ∙ e) in
-      subst (λ (s : ℕ). IsLeastOn (table_from heap pairs) (card ∷ []) region (Some s)) (sym w.slot_is)
-      (card_first (table_from heap pairs) shape card region offset none (subst (λ (s : ℕ). Enters (table_from heap pairs) s region) w.slot_is (found heap now most read slot region pairs into away)))
-
-  -- or it does not
-  pub passed : (pairs : PairSet) → (Into now slot region → ⊥) → NoneBefore (table_from heap pairs) card region offset → NoneBefore (table_from heap pairs) card region (offset + 1)
-  passed pairs away none = below_more (λ (k : ℕ). Enters (table_from heap pairs) (slot_at heap.layout card k) region → ⊥) offset none
-      (λ e. away (sought heap now most read slot region pairs (subst (λ (s : ℕ). Enters (table_from heap pairs) s region) (sym w.slot_is) e)))
 
 -- What a walk over some cards has found: no slot on them before a card enters the region, and the least slot from that card on is known.
 abbrev pub IsFoundFrom : Table → ℕ → ℕ → Option ℕ → Type 0

@@ -27,6 +27,7 @@ pub mod ReferenceLemmas
 pub mod DrainCardLemmas
 pub mod DrainLoopLemmas
 pub mod LeastSlotLemmas
+pub mod EnteringLemmas
 pub mod OpeningLemmas
 pub mod RefinedLemmas
 pub mod LengthLemmas

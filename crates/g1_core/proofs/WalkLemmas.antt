@@ -127,9 +127,6 @@ module _ (l : Shape) (refs : List (Option ℕ)) (from to : ℕ) where
   )
 
 -- the changes of a card, from a heap that was read
-pub read_change : (heap now : Cells) (most from to slot : ℕ) (o : Option Change) → AreRead heap now most → o ≡ change_at now.layout from to slot (get_or now.refs slot None) → o ≡ change_at heap.layout from to slot (get_or heap.refs slot None)
-read_change heap now most from to slot o read is = is ∙ ap (λ (h : Cells). change_at h.layout from to slot (get_or h.refs slot None)) read.cells
-
 pub references_next : (heap now : Cells) (most from to : ℕ) (cards : List ℕ) (index card : ℕ) (xs xs' : List Change) → IsShape heap.layout → AreRead heap now most → slice_get cards index ≡ Some card
     → xs ≡ changes_of heap.layout heap.refs from to (slots_on heap.layout (take index cards)) → xs' ≡ xs ++ changes_of now.layout now.refs from to (slots_of now.layout card)
     → xs' ≡ changes_of heap.layout heap.refs from to (slots_on heap.layout (take (index + 1) cards))

@@ -1,7 +1,7 @@
 //! The clear: a region's remembered set is emptied once no reference enters the region.
-ghost use Rattle.std.specs.Prelude.{◌≡◌, ◌≢◌, ◌≤◌, ◌<◌, ◌+◌, ◌*◌, ◌↔◌, ℕ, [], ◌∷◌, None, Some, IfSome, IsTrue, slice_index_or, length};
+ghost use Rattle.std.specs.Prelude.{◌≡◌, ◌≢◌, ◌≤◌, ◌<◌, ◌+◌, ◌*◌, ℕ, [], ◌∷◌, IfSome, length};
 ghost use Rattle.std.specs.FinSet as set;
-ghost use Rattle.g1_layout.specs.Shape.{slot_count, card_count, card_of, region_of};
+ghost use Rattle.g1_layout.specs.Shape.{card_count, card_of};
 ghost use Rattle.g1_layout.specs.Sets.{PairSet};
 ghost use Rattle.g1_sets.specs.Pairs.{list_at, AreTied};
 ghost use Rattle.g1_core.specs.Machine.{table_from};
@@ -75,35 +75,17 @@ fn least_entering(heap: &mut Heap, sets: &Sets, region: Region) -> Option<Slot>
 
 // The first slot of the card that lies outside the region and refers into it.
 fn entering_on(heap: &mut Heap, card: Card, region: Region) -> Option<Slot>
-    requires { card < card_count heap.old.layout }
+    requires card { card < card_count heap.old.layout }
+    requires region { region < heap.old.layout.regions }
     ensures least { (pairs : PairSet) → IsLeastOn (table_from heap.old pairs) (card ∷ []) region result }
     ensures on { IfSome result (λ slot. card_of heap.old.layout slot ≡ card) }
     ensures heap { AreRead heap.old heap.new heap.old.layout.slots }
 {
     let layout = heap.layout();
+    let _reads = heap.reads();
     if layout.region_of_card(card) == region {
         return None;
     }
-    let (_, _, slots) = layout.counts();
-    for offset in 0..slots {
-        let slot = layout.slot_at(card, offset);
-        if refers_into(heap, slot, region) {
-            return Some(slot);
-        }
-    }
-    None
-}
-
-// Whether the slot refers into the region.
-fn refers_into(heap: &mut Heap, slot: Slot, region: Region) -> bool
-    requires { slot < slot_count heap.old.layout }
-    ensures refers { IsTrue result ↔ (place : ℕ) × (slice_index_or heap.old.refs slot None ≡ Some place) × (region_of heap.old.layout place ≡ region) }
-    ensures heap { AreRead heap.old heap.new 1 }
-{
-    let layout = heap.layout();
-    let _reads = heap.reads();
-    match heap.get(slot) {
-        Some(place) => layout.region_of(place) == region,
-        None => false,
-    }
+    let (offset, _) = heap.next_into(card, 0, region)?;
+    Some(layout.slot_at(card, offset))
 }

@@ -1,11 +1,11 @@
 //! The redirect: the references into a region are moved to another region, and its remembered set is emptied.
-ghost use Rattle.std.specs.Prelude.{◌≡◌, ◌≢◌, ◌≤◌, ◌<◌, ◌+◌, ◌*◌, ◌++◌, ℕ, None, Some, All, IfOk, OnOk, OnErr, length, slice_index_or};
+ghost use Rattle.std.specs.Prelude.{◌≡◌, ◌≢◌, ◌≤◌, ◌<◌, ◌+◌, ◌*◌, ◌++◌, ℕ, All, IfOk, OnOk, OnErr, length};
 ghost use Rattle.std.specs.FinSet as set;
-ghost use Rattle.g1_layout.specs.Shape.{slot_count, card_count, region_of};
+ghost use Rattle.g1_layout.specs.Shape.{slot_count, card_count};
 ghost use Rattle.g1_heap.specs.Cells.{Cells};
 ghost use Rattle.g1_sets.specs.Pairs.{list_at, AreTied};
 ghost use Rattle.g1_core.specs.Clearing.{AreRead};
-ghost use Rattle.g1_core.specs.Redirect.{change_at, changes_of, slots_of, slots_on, changed, AreGaining};
+ghost use Rattle.g1_core.specs.Redirect.{changes_of, slots_of, slots_on, changed, AreGaining};
 
 use crate::list::CardList;
 use crate::machinery::Core;
@@ -29,23 +29,6 @@ struct Changes {
     cards: Vec<Card>,
 }
 
-// The change of a slot that lies outside the region and refers into it.
-fn change_of(heap: &mut Heap, slot: Slot, from: Region, to: Region) -> Option<Change>
-    requires slot { slot < slot_count heap.old.layout }
-    requires to { to < heap.old.layout.regions }
-    ensures change { result ≡ change_at heap.old.layout from to slot (slice_index_or heap.old.refs slot None) }
-    ensures heap { AreRead heap.old heap.new 1 }
-{
-    let layout = heap.layout();
-    let _reads = heap.reads();
-    let place = heap.get(slot)?;
-    if layout.region_of(slot) == from || layout.region_of(place) != from {
-        return None;
-    }
-    let place = layout.same_offset(place, to);
-    Some(Change { slot, place })
-}
-
 // Adds the changes of a card's slots, ascending.
 fn add_changes_on(
     heap: &mut Heap,
@@ -55,17 +38,22 @@ fn add_changes_on(
     changes: &mut Vec<Change>,
 ) -> Result<(), NoMemory>
     requires card { card < card_count heap.old.layout }
+    requires from { from < heap.old.layout.regions }
     requires to { to < heap.old.layout.regions }
     ensures changes { OnOk result (changes.new.items ≡ changes.old.items ++ changes_of heap.old.layout heap.old.refs from to (slots_of heap.old.layout card)) }
     ensures heap { AreRead heap.old heap.new heap.old.layout.slots }
 {
     let layout = heap.layout();
-    let (_, _, slots) = layout.counts();
-    for offset in 0..slots {
-        let slot = layout.slot_at(card, offset);
-        if let Some(change) = change_of(heap, slot, from, to) {
-            changes.push(change)?;
-        }
+    let _reads = heap.reads();
+    if layout.region_of_card(card) == from {
+        return Ok(());
+    }
+    let mut offset = 0;
+    while let Some(next) = heap.next_into(card, offset, from) {
+        let slot = layout.slot_at(card, next.0);
+        let place = layout.same_offset(next.1, to);
+        changes.push(Change { slot, place })?;
+        offset = next.0 + 1;
     }
     Ok(())
 }

@@ -1,24 +1,41 @@
-use Rattle.std.proofs.Common.{◌≡◌, ◌+◌, ap, sym, ◌∙◌, arith, Some, None, vec_items}
+use Rattle.std.proofs.Common.{◌+◌, ◌-◌, sym, ap, ◌∙◌, arith}
+use Rattle.std.specs.Prelude.{not}
+use Rattle.std.proofs.lemmas.Bool.{eqb-true}
 use Rattle.std.proofs.lemmas.List.{append-nil}
-use Rattle.g1_layout.specs.Shape.{Shape, slot_at}
-use Rattle.g1_core.proofs.LeastSlotLemmas.{read_more}
-use Rattle.g1_core.proofs.WalkLemmas.{read_change, changes_next}
+use Rattle.g1_layout.specs.Shape.{Shape, region_of_card, slot_at, same_offset}
+use Rattle.g1_heap.specs.Cells.{Cells}
+use Rattle.g1_core.proofs.LeastSlotLemmas.{read_none, read_more}
+use Rattle.g1_core.proofs.EnteringLemmas.{read_some, changes_own, card_next, card_end}
+use Rattle.g1_core.proofs.WalkLemmas.{lies_outside}
 use Rattle.g1_core.proofs.redirection.add_changes_on.Goals as goal
-use Rattle.g1_core.proofs.redirection.add_changes_on.Goals.{in-Some+in_ok-push, in_default}
 
-pub loop-offset-preserved : goal.loop-offset-preserved
-loop-offset-preserved c =
-    let at : c.slot_at-slot.result ≡ slot_at c.args.heap.now.layout c.args.card c.loop-offset.offset = c.slot_at-slot.ensures.slot ∙ ap (λ (l : Shape). slot_at l c.args.card c.loop-offset.offset) c.layout-layout.ensures.layout in
+pub returns-then-eq-clause-changes : goal.returns-then-eq-clause-changes
+returns-then-eq-clause-changes c = changes_own c.args.heap.now.layout c.args.heap.now.refs c.args.from c.args.to c.args.card c.args.changes.now.items
+    (sym (ap (λ (l : Shape). region_of_card l c.args.card) c.layout-layout.ensures.layout) ∙ sym c.region_of_card.ensures.quotient ∙ eqb-true _ _ (sym c.eq.ensures ∙ c.if-eq.true))
+
+pub loop-next-init : goal.loop-next-init
+loop-next-init c = record {
+  within = omega arith;
+  read = read_none c.args.heap.now 0;
+  bound = omega arith;
+  changes = sym (append-nil c.args.changes.now.items);
+}
+
+pub loop-next-preserved : goal.loop-next-preserved
+loop-next-preserved c =
+    let was = c.loop-next.invariant in
     record {
-      read = read_more c.args.heap.now c.loop-offset.heap c.change_of.new.heap c.loop-offset.offset 1 (c.loop-offset.offset + 1) c.loop-offset.invariant.read c.change_of.ensures.heap (omega arith);
-      changes = elim c.match-change_of.branch [
-        | in-Some+in_ok-push w ↦
-            changes_next c.args.heap.now.layout c.args.heap.now.refs c.args.from c.args.to c.args.card c.loop-offset.offset c.slot_at-slot.result (Some w.in-Some.change) c.args.changes.now.items c.loop-offset.changes.items c.match-change_of.changes.items
-            at (sym w.in-Some.is ∙ read_change c.args.heap.now c.loop-offset.heap _ c.args.from c.args.to c.slot_at-slot.result c.change_of.result c.loop-offset.invariant.read c.change_of.ensures.change)
-            c.loop-offset.invariant.changes (ap vec_items w.changes-is ∙ w.in_ok-push.ensures.items)
-        | in_default w ↦
-            changes_next c.args.heap.now.layout c.args.heap.now.refs c.args.from c.args.to c.args.card c.loop-offset.offset c.slot_at-slot.result None c.args.changes.now.items c.loop-offset.changes.items c.match-change_of.changes.items
-            at (sym w.in_default.is ∙ read_change c.args.heap.now c.loop-offset.heap _ c.args.from c.args.to c.slot_at-slot.result c.change_of.result c.loop-offset.invariant.read c.change_of.ensures.change)
-            c.loop-offset.invariant.changes (ap vec_items w.changes-is ∙ sym (append-nil c.loop-offset.changes.items))
-      ];
+      within = omega (arith, c.in-Some.ensures.next.within, ap (λ (h : Cells). h.layout.slots) was.read.cells);
+      read = read_more c.args.heap.now c.loop-next.heap c.next_into.new.self c.loop-next.offset (c.in-Some.next.0 + 1 - c.loop-next.offset) (c.in-Some.next.0 + 1) was.read
+          (read_some c.loop-next.heap c.next_into.new.self (c.in-Some.next.0 + 1 - c.loop-next.offset) was.bound c.in-Some.ensures.reads) (omega (arith, c.in-Some.ensures.next.not_before));
+      bound = omega (arith, ap (λ (h : Cells). h.reads) c.in-Some.ensures.reads);
+      changes = card_next c.args.heap.now c.loop-next.heap c.loop-next.offset c.args.from c.args.to c.args.card c.loop-next.offset c.args.changes.now.items c.loop-next.changes.items was.read was.changes
+          c.in-Some.next.0 c.in-Some.next.1 c.slot_at-slot.result c.same_offset-place.result c.push.new.self.items
+          (lies_outside c.layout-layout.result c.args.heap.now.layout c.args.card c.region_of_card.result c.args.from (not c.eq.result) (ap not c.eq.ensures) (ap not c.if-eq.false) c.region_of_card.ensures.quotient c.layout-layout.ensures.layout)
+          c.in-Some.ensures.next (c.slot_at-slot.ensures.slot ∙ ap (λ (l : Shape). slot_at l c.args.card c.in-Some.next.0) c.layout-layout.ensures.layout)
+          (c.same_offset-place.ensures.place ∙ ap (λ (l : Shape). same_offset l c.in-Some.next.1 c.args.to) c.layout-layout.ensures.layout) c.in_ok-push.ensures.items;
     }
+
+pub returns-clause-changes : goal.returns-clause-changes
+returns-clause-changes c = card_end c.args.heap.now c.loop-next.heap c.loop-next.offset c.args.from c.args.to c.args.card c.loop-next.offset c.args.changes.now.items c.loop-next.changes.items c.loop-next.invariant.read c.loop-next.invariant.changes
+    c.loop-next.invariant.within c.in_default.ensures.next
