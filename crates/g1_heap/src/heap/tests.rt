@@ -141,11 +141,56 @@ fn one_reference_is_found_wherever_it_stands(rt: HostRuntime) {
                     .eq([2]),
                 "slot {slot} of cards of {slots}"
             );
+            let offset = slot - slots;
+            assert_eq!(rt;
+                next_into(&rt, &mut heap, 1, 0, 2),
+                Some((offset, 4 * slots))
+            );
+            assert_eq!(rt; next_into(&rt, &mut heap, 1, offset + 1, 2), None);
             let slot = slot_of(&rt, &heap, slot);
             heap.set(slot, None);
         }
-        assert_eq!(rt; heap.reads(), u64::from(slots * slots));
+        assert_eq!(rt; heap.reads(), u64::from(2 * slots * slots));
     }
+}
+
+fn next_into(
+    rt: &impl Abort,
+    heap: &mut Heap,
+    card: u32,
+    from: u32,
+    region: u32,
+) -> Option<(u32, u32)> {
+    let layout = heap.layout();
+    let (_, _, slots) = layout.counts();
+    assert!(rt; from <= slots, "an offset, or one past the last");
+    let region = layout.region(region).expect(rt, "a region of the heap");
+    let card = card_of(rt, heap, card);
+    let (offset, place) = heap.next_into(card, from, region)?;
+    Some((offset, place.number()))
+}
+
+// Card 1 refers to the first and the last place of region 1, beside the last of region 0 and the first of region 2.
+#[test]
+fn the_next_slot_into_a_region_is_not_that_into_its_neighbours(rt: HostRuntime) {
+    let layout = layout_of(&rt, 3, 2, 12);
+    let mut heap = Heap::new(rt.alloc(), layout).expect(&rt, "memory");
+    for (slot, place) in [(12, 23), (14, 24), (15, 48), (23, 47)] {
+        store(&rt, &mut heap, slot, place);
+    }
+    for (from, want) in [
+        (0, Some((2, 24))),
+        (2, Some((2, 24))),
+        (3, Some((11, 47))),
+        (11, Some((11, 47))),
+        (12, None),
+    ] {
+        assert_eq!(rt; next_into(&rt, &mut heap, 1, from, 1), want, "from {from}");
+    }
+    assert_eq!(rt; next_into(&rt, &mut heap, 1, 0, 0), Some((0, 23)));
+    assert_eq!(rt; next_into(&rt, &mut heap, 1, 0, 2), Some((3, 48)));
+    assert_eq!(rt; next_into(&rt, &mut heap, 0, 0, 1), None);
+    assert_eq!(rt; heap.reads(), 3 + 1 + 9 + 1 + 1 + 4 + 12);
 }
 
 // The slots of card 0 refer into the regions 64 to 1, in falling order.
