@@ -16,10 +16,13 @@ pub(crate) fn first_between(row: &[u32], from: usize, low: u32, high: u32) -> us
 {
     let mut at = from;
     while at < row.len() {
-        if at % GROUP == 0 && row.len() - at >= GROUP && !has_reference(&row[at..at + GROUP]) {
-            at += GROUP;
-        } else if low <= row[at] && row[at] < high {
+        if low <= row[at] && row[at] < high {
             return at;
+        } else if at % GROUP == 0
+            && row.len() - at >= GROUP
+            && !has_reference(&row[at..at + GROUP])
+        {
+            at += GROUP;
         } else {
             at += 1;
         }
