@@ -327,8 +327,9 @@ fn paused<R: Abort + Wait>(
 }
 
 fn assert_logs_empty<R: Abort + Wait>(rt: &R, book: &mut Book, all: &mut [CallerEnds<'_>]) {
-    for (number, ends) in all.iter_mut().enumerate() {
-        let flushed = ends.flush(rt, book, number as u32);
-        assert_flushed(rt, &flushed, 0, Fill::No, &[]);
+    let mut number: u32 = 0;
+    for ends in all.iter_mut() {
+        assert_flushed(rt, &ends.flush(rt, book, number), 0, Fill::No, &[]);
+        number = number.saturating_add(1);
     }
 }
