@@ -12,6 +12,8 @@ use std::sync::Arc;
 pub struct Racing {
     pub(crate) race: Arc<Race, Global>,
     pub(crate) racer: Racer,
+    // A cache line that nobody uses: boxes of racers lie side by side, and a store writes the end of its racer.
+    pub(crate) apart: [u64; 8],
     ghost same: { racer_race racer ≡ race_id (arc_value race) },
 }
 

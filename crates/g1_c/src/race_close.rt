@@ -166,7 +166,7 @@ fn gather_racers(
         let Some(Member::Racer(racing)) = replace_with(&mut handles[i], alloc, take) else {
             return None;
         };
-        let Racing { race, racer } = racing;
+        let Racing { race, racer, .. } = racing;
         let Ok(()) = racers.push(racer) else {
             return None;
         };

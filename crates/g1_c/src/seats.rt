@@ -79,7 +79,14 @@ fn racing(
     let mut members = Vec::new(alloc);
     while let Some(racer) = racers.pop() {
         let race = Arc::try_clone(race)?;
-        let member = Box::new(alloc, Member::Racer(Racing { race, racer }))?;
+        let member = Box::new(
+            alloc,
+            Member::Racer(Racing {
+                race,
+                racer,
+                apart: [0; 8],
+            }),
+        )?;
         members.push(member)?;
     }
     Ok(members)
