@@ -89,6 +89,8 @@ fn measured(rt: &HostRuntime, plan: &Plan) -> Result<u64, NoMemory> {
         Call::Pause => workload.pause(times)?,
         Call::Clear => workload.clear(times),
         Call::Redirect => workload.redirect(times)?,
+        Call::PlacesApart => workload.walk_places_apart(times),
+        Call::RefineApart => workload.refine_apart(times)?,
     }
     Ok(workload.checksum())
 }

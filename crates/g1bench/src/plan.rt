@@ -20,7 +20,7 @@ pub enum Call {
     Logged,
     /// As the last, and each full log is refined.
     Refine,
-    /// As the last but one, and one drain of all these cards.
+    /// As `Logged`, and one drain of all these cards.
     Drain,
     /// A drain where nothing is pending.
     Pause,
@@ -28,6 +28,10 @@ pub enum Call {
     Clear,
     /// A redirect there and, the next time, back.
     Redirect,
+    /// As `Places`, on cards that lie apart.
+    PlacesApart,
+    /// As `Refine`, on cards that lie apart.
+    RefineApart,
 }
 
 /// One run.
@@ -78,6 +82,8 @@ fn call_of(word: &str) -> Option<Call> {
         "pause" => Some(Call::Pause),
         "clear" => Some(Call::Clear),
         "redirect" => Some(Call::Redirect),
+        "places-apart" => Some(Call::PlacesApart),
+        "refine-apart" => Some(Call::RefineApart),
         _ => None,
     }
 }

@@ -7,6 +7,9 @@ use g1_layout::{Kind, Layout, NoMemory, Slot};
 use g1_log::{Buffer, Log};
 use std::alloc::Global;
 
+// How many cards lie between two turns whose cards lie apart.
+const CARDS_APART: u64 = 10007;
+
 /// A core, one log, and a checksum of what the calls answered.
 #[derive(Drop)]
 pub struct Workload {
@@ -21,7 +24,7 @@ impl Workload {
     /// A heap in which each card refers into as many regions after its own, by its first slots; all of it is recorded, and
     /// nothing is pending.
     pub fn new(alloc: Global, layout: Layout, references: u32) -> Result<Workload, NoMemory> {
-        let config = Config::default();
+        let config = seldom_hot();
         let core = Core::new(alloc, layout, config)?;
         let mut workload = Workload {
             core,
@@ -119,6 +122,27 @@ impl Workload {
         Ok(())
     }
 
+    /// Looks at the first slots of `times` cards that lie apart, and at the places that they refer to.
+    pub fn walk_places_apart(&mut self, times: u32) {
+        for turn in 0..times {
+            let Some((slot, place)) = self.reference_of(self.card_apart(turn), 0) else {
+                return;
+            };
+            self.add(u64::from(slot.number() ^ place.number()));
+        }
+    }
+
+    /// Stores across regions into the first slots of `times` cards that lie apart, and refines each full log.
+    pub fn refine_apart(&mut self, times: u32) -> Result<(), NoMemory> {
+        for turn in 0..times {
+            let Some((slot, place)) = self.reference_of(self.card_apart(turn), 0) else {
+                return Ok(());
+            };
+            self.store_and_refine(slot, Some(place))?;
+        }
+        Ok(())
+    }
+
     /// Stores across regions into the first slots of `times` cards, and drains them.
     pub fn drain(&mut self, times: u32) -> Result<(), NoMemory> {
         self.store_across(times);
@@ -204,6 +228,12 @@ impl Workload {
         }
     }
 
+    // The card of a turn, where each lies a prime number of cards behind the last one, round the heap.
+    fn card_apart(&self, turn: u32) -> u32 {
+        let cards = self.core.layout().card_count();
+        (u64::from(turn) * CARDS_APART % u64::from(cards)) as u32
+    }
+
     // The slot of this index on a card.
     fn slot_on(&self, card: u32, index: u32) -> Option<Slot>
         ensures slot { IfSome result (λ slot. slot < slot_count self.now.core.state.table.layout) }
@@ -274,6 +304,12 @@ impl Workload {
     fn add(&mut self, number: u64) {
         self.checksum = self.checksum.wrapping_add(number);
     }
+}
+
+// Settings by which a card is refined 255 times before it is hot.
+fn seldom_hot() -> Config {
+    let all = Config::default();
+    Config::new(all.log(), all.limit(), 255, all.ring(), all.start()).unwrap_or(all)
 }
 
 // By card, the number of its last slot.
