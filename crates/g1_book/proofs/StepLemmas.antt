@@ -4,11 +4,14 @@ use Rattle.g1_layout.specs.declared.kind.Kind.{Kind}
 use Rattle.g1_layout.specs.declared.kind.Kind.TheVariants.{SameRegion, Null, AlreadyDirty, Logged}
 use Rattle.g1_log.specs.declared.parcel.Parcel.{Parcel}
 use Rattle.g1_log.specs.Log.{Cards}
-use Rattle.std.specs.Prelude.{Ok, Err}
+use Rattle.std.specs.Prelude.{Result, Ok, Err, IfOk}
+use Rattle.g1_log.specs.Line.{taken_by}
+use Rattle.g1_log.specs.Ends.{taker_view, WasOfLength}
+use Rattle.g1_log.specs.declared.ends.Taker.{Taker}
+use Rattle.g1_core.specs.declared.reply.RefineReply.{RefineReply}
 use Rattle.g1_core.specs.Barrier.{buffer_of}
 use Rattle.g1_core.specs.declared.reply.Fill.TheVariants.{Full}
 use Rattle.g1_core.specs.declared.reply.StoreReply.{StoreReply}
-use Rattle.g1_core.specs.Machine.{State}
 use Rattle.g1_core.specs.declared.entry.Entry.{Entry}
 use Rattle.g1_core.specs.Calls.{store_entry, refine_entry}
 use Rattle.g1_book.specs.History.{History, IsEntered}
@@ -16,7 +19,7 @@ use Rattle.g1_book.specs.declared.refusal.Refusal.{Refusal}
 use Rattle.g1_book.specs.Made.{Made, Stored, Refined, Refused, AreCalls, entries_of}
 use Rattle.g1_book.specs.Lent.{Grows, IsBookCall}
 use Rattle.g1_book.specs.Rounds.{Turn, round_calls, replies_of}
-use Rattle.g1_book.specs.Steps.{Help, passed, filled, store_answer, GainsAtMost}
+use Rattle.g1_book.specs.Steps.{Help, passed, filled, store_answer, GainsAtMost, IsTake, IsRefinement}
 
 handed_by : (filled : Bool) (cards buffer : List ℕ) → (if filled then None else Some cards) ≡ Some buffer → buffer ≡ cards
 handed_by true cards buffer is = cc
@@ -92,3 +95,13 @@ gains_nothing xs ys is = record { parcels = []; gained = is ∙ sym (append-nil 
 
 pub gains_single : (xs ys : List Parcel) (x : Parcel) → ys ≡ xs ++ x ∷ [] → GainsAtMost xs 1 ys
 gains_single xs ys x is = record { parcels = x ∷ []; gained = is; few = omega arith }
+
+-- a taker that knows as much takes as the other does
+take_from : (a b : Taker) (parcel : Option Parcel) (c : Taker) → taker_view b ≡ taker_view a → IsTake b parcel c → IsTake a parcel c
+take_from a b None c same h = (h.0 ∙ ap taken_by same, subst (λ v. WasOfLength 0 v) same h.1)
+take_from a b (Some x) c same h = h ∙ ap (λ v. taken_by v ++ x ∷ []) same
+
+pub refinement_from : {S : Type 0} (did : S → List Made → S → Type 0) (old new : S) (a b after : Taker) (result : Result RefineReply Refusal) → taker_view b ≡ taker_view a
+    → IfOk result (λ reply. IsRefinement did old b reply after new) → IfOk result (λ reply. IsRefinement did old a reply after new)
+refinement_from did old new a b after (Ok reply) same h = record { parcel = h.parcel; take = take_from a b h.parcel after same h.take; made = h.made }
+refinement_from did old new a b after (Err refusal) same h = h

@@ -1,5 +1,5 @@
 //! The line of completed buffers between threads.
-ghost use Rattle.std.specs.Prelude.{◌≡◌, false, ◌∷◌, ◌++◌, [], ◌+◌, ◌-◌, ◌<◌, ◌≤◌, ◌^◌, ◌⊎◌, length, map, fold, sum_by, MatchResult, MatchOption, IfOk, OnOk};
+ghost use Rattle.std.specs.Prelude.{◌≡◌, false, ◌∷◌, ◌++◌, [], ◌+◌, ◌-◌, ◌<◌, ◌≤◌, ◌^◌, ◌⊎◌, length, map, fold, sum_by, MatchResult, MatchOption, IfOk, OnOk, IsTrue};
 ghost use Rattle.std.specs.List.{All};
 ghost use Rattle.crossbeam_queue.specs.Passes.{view, IsPassOf, IsSamePass, ruled_capacity};
 ghost use Rattle.g1_log.specs.Line.{maker, newcomer, joined, whole};
@@ -108,6 +108,20 @@ impl Line {
             (λ x. taken_of taker.new ≡ taken_of taker.old ++ x ∷ []) }
     {
         self.queue.pop_as::<Takes, R>(rt, &mut taker.pass)
+    }
+
+    /// Whether the line was seen empty, at some moment of the call: a take that is not made.
+    ///
+    /// `true` is what the `None` of [`Line::take`] is, and comes with the same clause, but costs two loads: no parcel is moved. `false` does not
+    /// say that a take finds a parcel, where there are other takers. No memory.
+    pub fn is_empty_for(&self, taker: &mut Taker) -> bool
+        requires { IsTakerOf self.now taker.old }
+        ensures same { IsSameTaker taker.new taker.old }
+        ensures view { taker_view taker.new ≡ taker_view taker.old }
+        ensures taken { taken_of taker.new ≡ taken_of taker.old }
+        ensures empty { IsTrue result → WasEmpty taker.old }
+    {
+        self.queue.is_empty_as::<Takes>(&mut taker.pass)
     }
 
     /// How many parcels the queue held at some moment of the call. The clause says that they are at most the capacity, and

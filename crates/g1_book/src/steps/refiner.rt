@@ -43,6 +43,33 @@ pub fn refine<C: Calls, R: Wait>(
     ensures err { IfErr result (λ refusal. C.did calls.old (Refused refusal ∷ []) calls.new) }
     ensures given_up { OnErr result (GainsAtMost (taken_of taker.old) 1 (taken_of taker.new)) }
 {
+    if !line.is_empty_for(taker) {
+        return refine_oldest(rt, line, taker, calls);
+    }
+    let left = completed(rt, line);
+    let mut reply = calls.refine(None)?;
+    reply.left = left;
+    Ok(reply)
+}
+
+// The same with a take. It is a call of its own, since its place for a parcel is filled with zeros first.
+#[inline(never)]
+#[tactic(auto, using(crate::proofs::StepLemmas::gains_nothing, crate::proofs::StepLemmas::gains_single))]
+fn refine_oldest<C: Calls, R: Wait>(
+    rt: &R,
+    line: &Line,
+    taker: &mut Taker,
+    calls: &mut C,
+) -> Result<RefineReply, Refusal>
+    requires taker { IsTakerOf line.now taker.old }
+    ensures refined { IfOk result (λ reply. IsRefinement C.did calls.old taker.old reply taker.new calls.new) }
+    ensures counts { IfOk result (λ reply. (reply.taken ≤ 1) × (length reply.refined + reply.skipped ≤ 256) × (reply.hot ≤ 256)) }
+    ensures left { IfOk result (λ reply. reply.left ≤ capacity_of line.now) }
+    ensures one { IfOk result (λ reply. reply.taken ≡ 1 → (x : P) × (taken_of taker.new ≡ taken_of taker.old ++ x ∷ [])) }
+    ensures same { IsSameTaker taker.new taker.old }
+    ensures err { IfErr result (λ refusal. C.did calls.old (Refused refusal ∷ []) calls.new) }
+    ensures given_up { OnErr result (GainsAtMost (taken_of taker.old) 1 (taken_of taker.new)) }
+{
     let parcel = line.take(rt, taker);
     let left = completed(rt, line);
     let mut reply = match &parcel {

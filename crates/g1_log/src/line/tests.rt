@@ -39,7 +39,9 @@ fn one_sender_and_one_taker(rt: HostRuntime) -> Result<(), Fail> {
     let (line, mut senders, mut takers) = Line::new(rt.alloc(), 2, 1, 1)?;
     let sender = &mut senders[0];
     let taker = &mut takers[0];
+    assert!(rt; line.is_empty_for(taker));
     assert_eq!(rt; back(line.put(&rt, sender, buffer(10))), None);
+    assert!(rt; !line.is_empty_for(taker));
     assert_eq!(rt; back(line.put(&rt, sender, buffer(11))), None);
     assert_eq!(rt; back(line.put(&rt, sender, buffer(12))), Some(12));
     assert_eq!(rt; read(line.take(&rt, taker)), Some((0, 0, Some(10))));
