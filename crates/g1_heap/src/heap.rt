@@ -153,7 +153,7 @@ impl Heap {
         let row = &self.words[first..first + slots as usize];
         let size = cards * slots;
         let low = region.number() * size;
-        let at = first_between(row, from as usize, low, low + size);
+        let at = first_between(row, from as usize, low, size);
         if at == row.len() {
             self.reads = self.reads.saturating_add((slots - from) as u64);
             return None;
