@@ -1,5 +1,5 @@
 //! Dirty card queues.
-ghost use Rattle.std.specs.Prelude.{◌≡◌, ◌<◌, ◌≤◌, ◌↔◌, [], length, drop, IsTrue, IsNone, IfSome};
+ghost use Rattle.std.specs.Prelude.{◌≡◌, ◌+◌, ◌<◌, ◌≤◌, ◌↔◌, [], length, drop, IsTrue, IsNone, IfSome};
 ghost use Rattle.g1_log.specs.Log.{Cards, IsLog, pushed, handed};
 
 use crate::buffer::Buffer;
@@ -83,6 +83,21 @@ impl Log {
         }
         let filled = self.cards.take();
         Some(Buffer::of(filled))
+    }
+
+    /// Whether it takes one more card without being filled. Constant time.
+    pub fn has_room(&self) -> bool
+        ensures { IsTrue result ↔ (length self.now.cards + 1 < self.now.size) }
+    {
+        self.len() + 1 < self.size
+    }
+
+    /// Appends a card that does not fill the log, as `push` does: a store into a fixed array. Nothing is handed out.
+    pub fn add(&mut self, last: Card)
+        requires { length self.old.cards + 1 < self.old.size }
+        ensures { self.new ≡ pushed self.old last }
+    {
+        self.cards.push(last);
     }
 
     /// Hands out the cards as a completed buffer, where there are any. The log is then empty.

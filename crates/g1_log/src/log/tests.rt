@@ -49,6 +49,19 @@ fn a_log_is_cut_from_the_front_and_taken(rt: HostRuntime) -> Result<(), Fail> {
     Ok(())
 }
 
+#[test]
+fn a_log_has_room_until_one_card_fills_it(rt: HostRuntime) -> Result<(), Fail> {
+    let mut log = Log::new(3);
+    for number in [7, 8] {
+        assert!(rt; log.has_room());
+        log.add(card(number)?);
+    }
+    assert!(rt; !log.has_room());
+    assert!(rt; are_numbered(log.cards(), &[7, 8]));
+    assert!(rt; !Log::new(1).has_room());
+    Ok(())
+}
+
 // What docs and doc comments say of the cost of a hand-over.
 #[test]
 fn a_buffer_is_1032_bytes(rt: HostRuntime) {
