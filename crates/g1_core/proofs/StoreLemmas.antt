@@ -23,6 +23,7 @@ use Rattle.g1_core.specs.declared.entry.Call.TheVariants.{Store}
 use Rattle.g1_core.specs.Run.{IsStep, IsCallOf, kind_of, stored, pending_after}
 use Rattle.g1_core.specs.declared.reply.StoreReply.{StoreReply}
 use Rattle.g1_core.specs.Calls.{store_entry}
+use Rattle.g1_core.specs.Barrier.{stored_machine}
 use Rattle.g1_core.proofs.TableLemmas.{stored_covered}
 use Rattle.g1_core.proofs.MarkLemmas.{held_clean, dirty_clean, dirty_held, from_pending, to_pending, pending_marked, mark_here, mark_there, few_pending, one_more}
 use Rattle.g1_core.proofs.RefinedLemmas.{refined_none}
@@ -142,10 +143,7 @@ kind_at heap pairs ring settings m view l slot place from to card target mark b 
     ∙ ap (λ a. cond a SameRegion (cond (set.contains m.state.table.pending (card_of m.state.table.layout slot)) AlreadyDirty Logged)) (sym regions)
     ∙ ap (λ a. cond a AlreadyDirty Logged) (ap (set.contains m.state.table.pending) (sym (on ∙ ap (λ (l : Shape). card_of l slot) here)) ∙ found)
 
--- what a store leaves
-abbrev pub stored_machine : Machine → ℕ → Option ℕ → Machine
-stored_machine m slot target = record { state = record { table = stored m.state.table slot target; ring = m.state.ring }; settings = m.settings; reads = m.reads }
-
+-- What a store leaves.
 pub record IsStored (heap' : Cells) (sets : Pairs) (ring : Ring) (pending' : ℕ) (settings : Settings) (m : Machine) (slot : ℕ) (target : Option ℕ) : Type 0 where
   pub core : IsCore heap' sets ring pending'
   pub machine : machine_from heap' sets.pairs ring settings ≡ stored_machine m slot target

@@ -1,10 +1,13 @@
--- What a store does to the lent log.
-use Rattle.std.specs.Prelude.{ℕ, List, Option, Some, None}
+-- What a store does to the core and to the lent log.
+use Rattle.std.specs.Prelude.{ℕ, List, [], Option, Some, None, false}
 use Rattle.g1_layout.specs.declared.kind.Kind.{Kind}
 use Rattle.g1_layout.specs.declared.kind.Kind.TheVariants.{SameRegion, Null, AlreadyDirty, Logged}
 use Rattle.g1_log.specs.Log.{Cards, pushed, handed}
 use Rattle.g1_core.specs.declared.reply.Fill.{Fill}
 use Rattle.g1_core.specs.declared.reply.Fill.TheVariants.{No, Full}
+use Rattle.g1_core.specs.declared.reply.StoreReply.{StoreReply}
+use Rattle.g1_core.specs.Machine.{Machine}
+use Rattle.g1_core.specs.Run.{stored}
 
 -- A logged store pushes its card; every other store leaves the log alone.
 abbrev pub logged : Kind → Cards → ℕ → Cards
@@ -24,3 +27,11 @@ buffer_of AlreadyDirty log card = None
 abbrev pub fill_of : Option (List ℕ) → Fill
 fill_of None = No
 fill_of (Some _) = Full
+
+-- the reply of a store of this kind that hands out no buffer
+abbrev pub unfilled : Kind → StoreReply
+unfilled kind = record { kind = kind; fill = No; refined = []; short = false }
+
+-- the machine after a store: the table gets its reference and, where it is logged, its pending card; nothing else changes
+abbrev pub stored_machine : Machine → ℕ → Option ℕ → Machine
+stored_machine m slot target = record { state = record { table = stored m.state.table slot target; ring = m.state.ring }; settings = m.settings; reads = m.reads }

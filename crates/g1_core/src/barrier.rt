@@ -1,5 +1,5 @@
 //! The barrier: what a reference store does to the card table and to its mutator's log.
-ghost use Rattle.std.specs.Prelude.{◌≡◌, ◌<◌, ℕ, [], false, IfSome};
+ghost use Rattle.std.specs.Prelude.{◌≡◌, ◌<◌, ◌+◌, ℕ, [], false, length, IfSome};
 ghost use Rattle.g1_layout.specs.Shape.{slot_count, card_of};
 
 use crate::list::CardList;
@@ -14,7 +14,7 @@ impl Core {
     ghost use Rattle.g1_core.specs.Table.{IsCovered};
     ghost use Rattle.g1_core.specs.Machine.{IsLater};
     ghost use Rattle.g1_core.specs.Run.{kind_of, stored, IsStep};
-    ghost use Rattle.g1_core.specs.Barrier.{logged, buffer_of, fill_of};
+    ghost use Rattle.g1_core.specs.Barrier.{logged, buffer_of, fill_of, unfilled, stored_machine};
     ghost use Rattle.g1_core.specs.Calls.{store_entry};
 
     /// What kind of store it is.
@@ -64,19 +64,58 @@ impl Core {
         ensures cover { IsCovered self.new.state.table }
         ensures later { IsLater self.old self.new }
     {
-        let kind = self.kind(slot, &target);
-        self.heap.set(slot, target);
+        let kind = self.mark(slot, target);
         let Kind::Logged = kind else {
             return (plain_reply(self.alloc, kind, Fill::No), None);
         };
         let layout = self.heap.layout();
-        let card = layout.card_of(slot);
-        self.heap.set_mark(card, Mark::Dirty);
-        self.pending += 1;
-        let Some(buffer) = log.push(card) else {
+        let Some(buffer) = log.push(layout.card_of(slot)) else {
             return (plain_reply(self.alloc, kind, Fill::No), None);
         };
         (plain_reply(self.alloc, kind, Fill::Full), Some(buffer))
+    }
+
+    /// Stores as `store` does, with a log that has room (`Log::has_room`): `fill` is `No`, and no buffer is handed out, so
+    /// that none is made room for.
+    #[inline(always)]
+    pub fn store_with_room(&mut self, log: &mut Log, slot: Slot, target: Option<Slot>) -> StoreReply
+        requires room { length log.old.cards + 1 < log.old.size }
+        requires slot { slot < slot_count self.old.state.table.layout }
+        requires target { IfSome target (λ place. place < slot_count self.old.state.table.layout) }
+        ensures reply { result ≡ unfilled (kind_of self.old.state.table slot target) }
+        ensures machine { self.new ≡ stored_machine self.old slot target }
+        ensures log { log.new ≡ logged result.kind log.old (card_of self.old.state.table.layout slot) }
+        ensures step { (caller : ℕ) → IsStep self.old.state.table (store_entry caller slot target result) self.new.state.table }
+        ensures cover { IsCovered self.new.state.table }
+        ensures later { IsLater self.old self.new }
+    {
+        let kind = self.mark(slot, target);
+        if let Kind::Logged = kind {
+            let layout = self.heap.layout();
+            log.add(layout.card_of(slot));
+        }
+        plain_reply(self.alloc, kind, Fill::No)
+    }
+
+    // What a store does but for the log: the slot gets the target, and the card of a logged store becomes dirty.
+    #[inline(always)]
+    fn mark(&mut self, slot: Slot, target: Option<Slot>) -> Kind
+        requires slot { slot < slot_count self.old.state.table.layout }
+        requires target { IfSome target (λ place. place < slot_count self.old.state.table.layout) }
+        ensures kind { result ≡ kind_of self.old.state.table slot target }
+        ensures machine { self.new ≡ stored_machine self.old slot target }
+        ensures cover { IsCovered self.new.state.table }
+        ensures later { IsLater self.old self.new }
+    {
+        let kind = self.kind(slot, &target);
+        self.heap.set(slot, target);
+        if let Kind::Logged = kind {
+            let layout = self.heap.layout();
+            let card = layout.card_of(slot);
+            self.heap.set_mark(card, Mark::Dirty);
+            self.pending += 1;
+        }
+        kind
     }
 }
 

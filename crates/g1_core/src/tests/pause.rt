@@ -1,8 +1,13 @@
 //! The barrier, the pause and the questions.
 use super::Step::{Drain, Members, Pending, Refine, Status, Store, Target};
+use super::numbers::{numbers_of, slot};
 use super::play;
+use crate::config::Config;
+use crate::machinery::Core;
 use crate::reply::Fill::{Full, No};
 use g1_layout::Kind::{AlreadyDirty, Logged, Null, SameRegion};
+use g1_layout::{Layout, NoMemory};
+use g1_log::Log;
 use std::test::Fail;
 
 #[test]
@@ -18,6 +23,33 @@ fn the_barrier_has_four_kinds_of_store(rt: HostRuntime) -> Result<(), Fail> {
         Status(2, 0),
     ];
     play(&rt, rt.alloc(), 4, 4, &steps)
+}
+
+// The third card would fill the log.
+#[test]
+fn a_log_of_three_has_room_for_two_cards(rt: HostRuntime) -> Result<(), Fail> {
+    let layout = Layout::new(4, 2, 4).ok_or("layout")?;
+    let config = Config::new(3, 4, 4, 4, 5).ok_or("settings")?;
+    let mut core = match Core::new(rt.alloc(), layout, config) {
+        Ok(core) => core,
+        Err(NoMemory) => Core::new(rt.alloc(), layout, config)?,
+    };
+    let mut log = Log::new(3);
+    for (from, to, kind) in [
+        (0, 8, Logged),
+        (1, 8, AlreadyDirty),
+        (4, 5, SameRegion),
+        (4, 8, Logged),
+    ] {
+        assert!(rt; log.has_room());
+        let from = slot(&rt, &core, from);
+        let to = slot(&rt, &core, to);
+        let reply = core.store_with_room(&mut log, from, Some(to));
+        assert_eq!(rt; (reply.kind, reply.fill), (kind, No));
+    }
+    assert!(rt; !log.has_room());
+    assert!(rt; numbers_of(&rt, log.cards()).as_slice() == [0, 1].as_slice());
+    Ok(())
 }
 
 // Two stores across regions on one card: the drain reads that card's slots once.

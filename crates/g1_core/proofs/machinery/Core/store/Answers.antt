@@ -1,66 +1,13 @@
-use Rattle.std.proofs.Common.{ap, refl, ◌∙◌, ◌+◌, arith}
-use Rattle.g1_heap.specs.declared.mark.Mark.TheVariants.{Dirty}
-use Rattle.g1_heap.specs.Cells.{Cells, with_mark}
+use Rattle.std.proofs.Common.{ap, ◌∙◌}
 use Rattle.g1_core.specs.Machine.{Machine}
-use Rattle.g1_core.proofs.StoreLemmas.{logged_at, plain_at, IsStored, stored_step, few_cards}
-use Rattle.g1_core.proofs.SoundLemmas.{stored_later}
+use Rattle.g1_core.proofs.StoreLemmas.{stored_step}
 use Rattle.g1_core.proofs.machinery.Core.store.Goals as goal
 
-pub overflow_add-self : goal.overflow_add-self
-overflow_add-self c = omega (arith, few_cards c.self.inside.heap c.self.inside.sets c.self.inside.hot c.self.inside.pending c.self.invariant)
-
--- what a store leaves that is not logged
-plain : (c : goal.After-plain_reply) → IsStored c.set.new.self c.self.inside.sets c.self.inside.hot c.self.inside.pending c.self.inside.config c.args.self.now c.args.slot c.args.target
-plain c = plain_at c.self.inside.heap c.self.inside.sets c.self.inside.hot c.self.inside.pending c.self.inside.config c.args.self.now c.self.invariant c.self.view_is
-    c.args.slot c.args.target c.kind-kind.result c.kind-kind.ensures c.requires.target c.set.new.self c.in_default.not-Logged c.set.ensures
-
 pub returns-in_default-clause-step : goal.returns-in_default-clause-step
-returns-in_default-clause-step c = λ caller. stored_step caller c.args.self.now.state.table _ c.args.slot c.args.target c.plain_reply.result (c.requires.slot, c.requires.target) (c.plain_reply.ensures.kind ∙ c.kind-kind.ensures) c.plain_reply.ensures.refined (ap (λ (m : Machine). m.state.table) (plain c).machine)
-
-pub returns-in_default-clause-cover : goal.returns-in_default-clause-cover
-returns-in_default-clause-cover c = (plain c).core.parts.cover
-
-pub returns-in_default-clause-later : goal.returns-in_default-clause-later
-returns-in_default-clause-later c = stored_later c.set.new.self c.self.inside.sets c.self.inside.hot c.self.inside.pending c.self.inside.config c.args.self.now c.args.slot c.args.target (plain c)
-
--- what a logged store leaves that does not fill the log
-logged : (c : goal.After-plain_reply-in_default-push) → IsStored c.set_mark.new.self c.self.inside.sets c.self.inside.hot (c.self.inside.pending + 1) c.self.inside.config c.args.self.now c.args.slot c.args.target
-logged c = logged_at c.self.inside.heap c.self.inside.sets c.self.inside.hot c.self.inside.pending c.self.inside.config c.args.self.now c.self.invariant c.self.view_is
-    c.args.slot c.args.target c.kind-kind.result c.kind-kind.ensures c.requires.target c.set_mark.new.self (c.self.inside.pending + 1) c.card_of-card.result c.layout-layout.result c.in-Logged.is
-    (c.layout-layout.ensures.layout ∙ ap (λ (h : Cells). h.layout) c.set.ensures) c.card_of-card.ensures.quotient c.card_of-card.ensures.within refl (c.set_mark.ensures ∙ ap (λ (h : Cells). with_mark h c.card_of-card.result Dirty) c.set.ensures)
-
-pub invariant_of-self-in_default-push : goal.invariant_of-self-in_default-push
-invariant_of-self-in_default-push c = (logged c).core
-
-pub returns-in_default-push-clause-machine : goal.returns-in_default-push-clause-machine
-returns-in_default-push-clause-machine c = (logged c).machine
+returns-in_default-clause-step c = λ caller. stored_step caller c.args.self.now.state.table _ c.args.slot c.args.target c.plain_reply.result (c.requires.slot, c.requires.target) (c.plain_reply.ensures.kind ∙ c.mark-kind.ensures.kind) c.plain_reply.ensures.refined (ap (λ (m : Machine). m.state.table) c.mark-kind.ensures.machine)
 
 pub returns-in_default-push-clause-step : goal.returns-in_default-push-clause-step
-returns-in_default-push-clause-step c = λ caller. stored_step caller c.args.self.now.state.table _ c.args.slot c.args.target c.plain_reply-in_default-push.result (c.requires.slot, c.requires.target) (c.plain_reply-in_default-push.ensures.kind ∙ c.kind-kind.ensures) c.plain_reply-in_default-push.ensures.refined (ap (λ (m : Machine). m.state.table) (logged c).machine)
-
-pub returns-in_default-push-clause-cover : goal.returns-in_default-push-clause-cover
-returns-in_default-push-clause-cover c = (logged c).core.parts.cover
-
-pub returns-in_default-push-clause-later : goal.returns-in_default-push-clause-later
-returns-in_default-push-clause-later c = stored_later c.set_mark.new.self c.self.inside.sets c.self.inside.hot (c.self.inside.pending + 1) c.self.inside.config c.args.self.now c.args.slot c.args.target (logged c)
-
--- and one that fills it
-filled : (c : goal.After-plain_reply-2) → IsStored c.set_mark.new.self c.self.inside.sets c.self.inside.hot (c.self.inside.pending + 1) c.self.inside.config c.args.self.now c.args.slot c.args.target
-filled c = logged_at c.self.inside.heap c.self.inside.sets c.self.inside.hot c.self.inside.pending c.self.inside.config c.args.self.now c.self.invariant c.self.view_is
-    c.args.slot c.args.target c.kind-kind.result c.kind-kind.ensures c.requires.target c.set_mark.new.self (c.self.inside.pending + 1) c.card_of-card.result c.layout-layout.result c.in-Logged.is
-    (c.layout-layout.ensures.layout ∙ ap (λ (h : Cells). h.layout) c.set.ensures) c.card_of-card.ensures.quotient c.card_of-card.ensures.within refl (c.set_mark.ensures ∙ ap (λ (h : Cells). with_mark h c.card_of-card.result Dirty) c.set.ensures)
-
-pub invariant_of-self-2 : goal.invariant_of-self-2
-invariant_of-self-2 c = (filled c).core
-
-pub returns-clause-machine : goal.returns-clause-machine
-returns-clause-machine c = (filled c).machine
+returns-in_default-push-clause-step c = λ caller. stored_step caller c.args.self.now.state.table _ c.args.slot c.args.target c.plain_reply-in_default-push.result (c.requires.slot, c.requires.target) (c.plain_reply-in_default-push.ensures.kind ∙ c.mark-kind.ensures.kind) c.plain_reply-in_default-push.ensures.refined (ap (λ (m : Machine). m.state.table) c.mark-kind.ensures.machine)
 
 pub returns-clause-step : goal.returns-clause-step
-returns-clause-step c = λ caller. stored_step caller c.args.self.now.state.table _ c.args.slot c.args.target c.plain_reply-2.result (c.requires.slot, c.requires.target) (c.plain_reply-2.ensures.kind ∙ c.kind-kind.ensures) c.plain_reply-2.ensures.refined (ap (λ (m : Machine). m.state.table) (filled c).machine)
-
-pub returns-clause-cover : goal.returns-clause-cover
-returns-clause-cover c = (filled c).core.parts.cover
-
-pub returns-clause-later : goal.returns-clause-later
-returns-clause-later c = stored_later c.set_mark.new.self c.self.inside.sets c.self.inside.hot (c.self.inside.pending + 1) c.self.inside.config c.args.self.now c.args.slot c.args.target (filled c)
+returns-clause-step c = λ caller. stored_step caller c.args.self.now.state.table _ c.args.slot c.args.target c.plain_reply-2.result (c.requires.slot, c.requires.target) (c.plain_reply-2.ensures.kind ∙ c.mark-kind.ensures.kind) c.plain_reply-2.ensures.refined (ap (λ (m : Machine). m.state.table) c.mark-kind.ensures.machine)
