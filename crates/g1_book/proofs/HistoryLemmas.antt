@@ -1,12 +1,16 @@
 -- A history goes on by a step.
-use Rattle.std.proofs.Common.{◌≡◌, ℕ, ◌<◌, ◌≤◌, List, [], ◌∷◌, ◌++◌, length, refl, sym, subst, ap, ◌∙◌, arith}
+use Rattle.std.proofs.Common.{◌≡◌, ℕ, ◌<◌, ◌≤◌, List, [], ◌∷◌, ◌++◌, Option, length, refl, sym, subst, ap, ◌∙◌, arith}
 use Rattle.std.proofs.lemmas.List.{length-append}
 use Rattle.g1_layout.specs.Shape.{Shape, IsShape}
 use Rattle.g1_core.specs.Machine.{Machine}
 use Rattle.g1_core.specs.Table.{Table, opening, IsCovered}
 use Rattle.g1_core.specs.declared.entry.Entry.{Entry}
+use Rattle.g1_core.specs.declared.entry.Call.{Call}
+use Rattle.g1_core.specs.declared.entry.Call.TheVariants.{Store}
+use Rattle.g1_core.specs.declared.entry.Reply.TheVariants.{Stored}
+use Rattle.g1_core.specs.declared.reply.StoreReply.{StoreReply}
 use Rattle.g1_core.specs.Run.{IsStep, IsAllowed, IsPermitted, table_of, drained}
-use Rattle.g1_core.specs.Calls.{drain_entry}
+use Rattle.g1_core.specs.Calls.{store_entry, drain_entry}
 use Rattle.g1_core.specs.declared.reply.Drained.{Drained}
 use Rattle.g1_core.specs.declared.reply.Drained.TheVariants.{Cards, Short}
 use Rattle.g1_core.proofs.TableLemmas.{opening_covered}
@@ -42,6 +46,12 @@ call_entered old m n mutators limit entries now e was is settings reads step =
       terms = λ i. record { layout = layout i; settings = settings i; mutators = mutators; limit = limit };
       reads = reads;
     })
+
+-- the entry of a store is its call with its reply, which refined nothing
+pub store_entered : (old made now : List Entry) (caller slot : ℕ) (target : Option ℕ) (call : Call) (reply : StoreReply) → made ≡ old → call ≡ Store slot target → reply.refined ≡ []
+    → now ≡ made ++ record { caller = caller; call = call; reply = Stored reply.kind reply.fill reply.short; refined = [] } ∷ [] → now ≡ old ++ store_entry caller slot target reply ∷ []
+store_entered old made now caller slot target call reply same called none is =
+    is ∙ (λ i. same i ++ record { caller = caller; call = called i; reply = Stored reply.kind reply.fill reply.short; refined = sym none i } ∷ [])
 
 -- the reads of a question that reads no slot
 pub not_fewer : (reads : ℕ) → reads ≤ reads

@@ -3,8 +3,9 @@ use Rattle.std.specs.Prelude.{◌≡◌, ◌≢◌, ◌↔◌, ℕ, List, [], �
 use Rattle.std.proofs.Common.{◌∙◌, ap}
 use Rattle.g1_core.specs.Machine.{Machine, IsLater}
 use Rattle.g1_core.specs.declared.entry.Entry.{Entry}
-use Rattle.g1_core.specs.Run.{IsStep, stored, kind_of}
+use Rattle.g1_core.specs.Run.{IsStep, kind_of}
 use Rattle.g1_core.specs.Calls.{store_entry, refine_entry}
+use Rattle.g1_core.specs.Barrier.{stored_machine}
 use Rattle.g1_core.specs.Refinement.{IsRefined, AreCardsRead}
 use Rattle.g1_book.specs.declared.refusal.Refusal.TheVariants.{BookFull, NoMemory}
 use Rattle.g1_book.specs.History.{History, Terms, IsEntered, terms_of}
@@ -14,10 +15,6 @@ use Rattle.g1_book.specs.Made.{Made, Stored, Refined, Refused, AreCalls}
 pub record Grows (old : History) (es : List Entry) (new : History) : Type 0 where
   pub entries : new.entries ≡ old.entries ++ es
   pub terms : terms_of new ≡ terms_of old
-
--- the machine after a store: the table gets its reference and, where it is logged, its pending card; nothing else changes
-abbrev pub stored_machine : Machine → ℕ → Option ℕ → Machine
-stored_machine m slot target = record { state = record { table = stored m.state.table slot target; ring = m.state.ring }; settings = m.settings; reads = m.reads }
 
 -- One call of this caller at a book: it was entered and did its work, or it was refused, for a full history or otherwise, and changed nothing.
 abbrev pub IsBookCall : ℕ → History → Made → History → Type 0

@@ -14,10 +14,14 @@ pub data Made : Type 0 where
   Refined : (buffer : Option (List ℕ)) (reply : RefineReply) → Made
   Refused : (refusal : Refusal) → Made
 
--- the call of a store, and of a refinement, by its result
+-- the call of a store, of one with room, and of a refinement, by its result
 abbrev pub stores : ℕ → Option ℕ → Result (StoreReply × Option Buffer) Refusal → Made
 stores slot target (Ok answer) = Stored slot target answer.0
 stores slot target (Err refusal) = Refused refusal
+
+abbrev pub stores_with_room : ℕ → Option ℕ → Result StoreReply Refusal → Made
+stores_with_room slot target (Ok reply) = Stored slot target reply
+stores_with_room slot target (Err refusal) = Refused refusal
 
 abbrev pub refines : Option (List ℕ) → Result RefineReply Refusal → Made
 refines buffer (Ok reply) = Refined buffer reply

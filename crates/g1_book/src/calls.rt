@@ -1,8 +1,8 @@
 //! The calls that the steps of a caller make.
 ghost use Rattle.std.specs.Prelude.{◌≡◌, ◌<◌, ◌≤◌, ◌+◌, ℕ, Bool, [], ◌∷◌, ◌++◌, List, true, false, length, IfOk, OnErr, IfSome, IsNone, option_map};
 ghost use Rattle.g1_layout.specs.Shape.{Shape, slot_count, card_of};
-ghost use Rattle.g1_core.specs.Barrier.{logged, buffer_of, fill_of};
-ghost use Rattle.g1_book.specs.Made.{Made, stores, refines};
+ghost use Rattle.g1_core.specs.Barrier.{logged, buffer_of, fill_of, unfilled};
+ghost use Rattle.g1_book.specs.Made.{Made, stores, stores_with_room, refines};
 
 use crate::refusal::Refusal;
 use g1_core::{RefineReply, StoreReply};
@@ -13,7 +13,7 @@ use std::alloc::Global;
 /// What makes the calls of one caller: a store with a lent log, and a refinement of a lent buffer.
 ///
 /// The steps of a caller ([`Mutator`](crate::Mutator), [`refine`](crate::refine), [`work`](crate::work)) are written
-/// over these two calls, whoever makes them: a lent book ([`LentBook`](crate::LentBook)) or a lent core without a
+/// over these calls, whoever makes them: a lent book ([`LentBook`](crate::LentBook)) or a lent core without a
 /// history ([`LentCore`](crate::LentCore)). What a step says of the calls that it made, it says through `did`, so each
 /// implementation tells as much of them as it knows (docs/PROFILE.md, The steps of a caller).
 pub trait Calls {
@@ -44,6 +44,22 @@ pub trait Calls {
         ensures plain { IfOk result (λ answer. (answer.0.refined ≡ []) × (answer.0.short ≡ false)) }
         ensures log { IfOk result (λ answer. log.new ≡ logged answer.0.kind log.old (card_of (layout self.old) slot)) }
         ensures buffer { IfOk result (λ answer. answer.1 ≡ buffer_of answer.0.kind log.old (card_of (layout self.old) slot)) }
+        ensures err_log { OnErr result (log.new ≡ log.old) };
+
+    /// Stores as `store` does, with a log that has room: no buffer is handed out.
+    fn store_with_room(
+        &mut self,
+        log: &mut Log,
+        slot: Slot,
+        target: Option<Slot>,
+    ) -> Result<StoreReply, Refusal>
+        requires caller { may_store self.old ≡ true }
+        requires room { length log.old.cards + 1 < log.old.size }
+        requires slot { slot < slot_count (layout self.old) }
+        requires target { IfSome target (λ place. place < slot_count (layout self.old)) }
+        ensures made { did self.old (stores_with_room slot target result ∷ []) self.new }
+        ensures reply { IfOk result (λ reply. reply ≡ unfilled reply.kind) }
+        ensures log { IfOk result (λ reply. log.new ≡ logged reply.kind log.old (card_of (layout self.old) slot)) }
         ensures err_log { OnErr result (log.new ≡ log.old) };
 
     /// Refines a lent buffer: its cards take their turns, oldest first. `None` refines nothing, and is a call too.

@@ -2,7 +2,7 @@
 ghost use Rattle.std.specs.Prelude.{◌≡◌, ◌≢◌, ◌+◌, ◌*◌, ◌<◌, ◌≤◌, ◌^◌, ◌↔◌, [], false, length, count_by, IfOk, OnErr, OnOk, IfSome, option_map};
 ghost use Rattle.std.specs.FinSet as set;
 ghost use Rattle.g1_layout.specs.Shape.{slot_count, card_count, card_of};
-ghost use Rattle.g1_core.specs.Barrier.{logged, buffer_of, fill_of};
+ghost use Rattle.g1_core.specs.Barrier.{logged, buffer_of, fill_of, unfilled};
 ghost use Rattle.g1_core.specs.Calls.{store_entry, refine_entry, target_entry, pending_entry, members_entry, status_entry, drain_entry, clear_entry, redirect_entry};
 ghost use Rattle.g1_core.specs.Clearing.{member_count};
 ghost use Rattle.g1_core.specs.Machine.{IsOnlyRead};
@@ -97,6 +97,38 @@ impl<M: Frame, S: Ledger> Counted<M, S> {
             &mut counts.stored,
         );
         Ok(answer)
+    }
+
+    /// As the book's store with room, by these counts' caller and with a lent log.
+    pub(crate) fn store_with_room_by(
+        &mut self,
+        counts: &mut Counts<M, S>,
+        log: &mut Log,
+        slot: Slot,
+        target: Option<Slot>,
+    ) -> Result<StoreReply, Refusal>
+        requires caller { counts.old.number < M.terms.mutators }
+        requires room { length log.old.cards + 1 < log.old.size }
+        requires slot { slot < slot_count M.terms.layout }
+        requires target { IfSome target (λ place. place < slot_count M.terms.layout) }
+        ensures entered { IfOk result (λ reply. IsEntered self.old (store_entry counts.old.number slot target reply) self.new) }
+        ensures reply { IfOk result (λ reply. reply ≡ unfilled reply.kind) }
+        ensures log { IfOk result (λ reply. log.new ≡ logged reply.kind log.old (card_of M.terms.layout slot)) }
+        ensures counts { OnOk result (counts.new ≡ one_store counts.old) }
+        ensures full { (result ≡ Err Refusal.BookFull) ↔ (length self.old.entries ≡ self.old.limit) }
+        ensures err { OnErr result ((self.new ≡ self.old) × (counts.new ≡ counts.old) × (log.new ≡ log.old)) }
+    {
+        let reply = self
+            .book
+            .store_with_room(counts.number(), log, slot, target)?;
+        let _entries = self.book.entries();
+        raise(&mut self.made, &mut counts.made_share, &mut counts.made);
+        raise(
+            &mut self.stored,
+            &mut counts.stored_share,
+            &mut counts.stored,
+        );
+        Ok(reply)
     }
 
     /// As the book's refinement, by these counts' caller.

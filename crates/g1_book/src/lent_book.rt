@@ -49,6 +49,16 @@ impl Calls for LentBook<'_> {
         self.book.store(self.caller, log, slot, target)
     }
 
+    #[inline(always)]
+    fn store_with_room(
+        &mut self,
+        log: &mut Log,
+        slot: Slot,
+        target: Option<Slot>,
+    ) -> Result<StoreReply, Refusal> {
+        self.book.store_with_room(self.caller, log, slot, target)
+    }
+
     fn refine(&mut self, buffer: Option<&Buffer>) -> Result<RefineReply, Refusal> {
         self.book.refine(self.caller, buffer)
     }

@@ -47,6 +47,16 @@ impl Calls for LentCore<'_> {
         Ok(self.core.store(log, slot, target))
     }
 
+    #[inline(always)]
+    fn store_with_room(
+        &mut self,
+        log: &mut Log,
+        slot: Slot,
+        target: Option<Slot>,
+    ) -> Result<StoreReply, Refusal> {
+        Ok(self.core.store_with_room(log, slot, target))
+    }
+
     fn refine(&mut self, buffer: Option<&Buffer>) -> Result<RefineReply, Refusal> {
         let _few = cards_in(buffer);
         let reply = self.core.refine(buffer)?;

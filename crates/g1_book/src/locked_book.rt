@@ -44,6 +44,18 @@ impl<'a, R: Wait, M: Frame, S: Ledger> Calls for LockedBook<'a, R, M, S> {
             .store_by(self.counts, log, slot, target)
     }
 
+    #[inline(always)]
+    fn store_with_room(
+        &mut self,
+        log: &mut Log,
+        slot: Slot,
+        target: Option<Slot>,
+    ) -> Result<StoreReply, Refusal> {
+        self.book
+            .lock(self.rt)
+            .store_with_room_by(self.counts, log, slot, target)
+    }
+
     fn refine(&mut self, buffer: Option<&Buffer>) -> Result<RefineReply, Refusal> {
         self.book.lock(self.rt).refine_by(self.counts, buffer)
     }

@@ -1,17 +1,18 @@
 //! Stores of references, entered.
-ghost use Rattle.std.specs.Prelude.{◌≡◌, ◌<◌, ◌↔◌, [], false, length, IfOk, OnErr, IfSome};
+ghost use Rattle.std.specs.Prelude.{◌≡◌, ◌+◌, ◌<◌, ◌↔◌, [], ◌∷◌, ◌++◌, false, length, IfOk, OnErr, IfSome, vec_len, vec_capacity};
 ghost use Rattle.g1_layout.specs.Shape.{slot_count, card_of};
 
 use crate::book::Book;
 use crate::refusal::Refusal;
 use crate::room::{enter, make_room};
-use g1_core::{Call, CardList, Reply, StoreReply};
+use g1_core::{Call, CardList, Entry, Reply, StoreReply};
 use g1_layout::Slot;
 use g1_log::{Buffer, Log};
+use std::alloc::Global;
 
 impl Book {
     ghost use Rattle.g1_core.specs.Run.{kind_of, stored};
-    ghost use Rattle.g1_core.specs.Barrier.{logged, buffer_of, fill_of};
+    ghost use Rattle.g1_core.specs.Barrier.{logged, buffer_of, fill_of, unfilled, stored_machine};
     ghost use Rattle.g1_core.specs.Calls.{store_entry};
     ghost use Rattle.g1_book.specs.History.{IsEntered, table_in, layout_in};
 
@@ -47,14 +48,35 @@ impl Book {
         make_room(&mut self.entries, self.limit)?;
         let call = store_call(slot, &target);
         let (reply, buffer) = self.core.store(log, slot, target);
-        let answer = Reply::Stored {
-            kind: reply.kind,
-            fill: reply.fill,
-            short: reply.short,
-        };
-        let none = CardList::new(self.alloc);
-        enter(&mut self.entries, caller, call, answer, none);
+        enter_store(&mut self.entries, self.alloc, caller, call, &reply);
         Ok((reply, buffer))
+    }
+
+    /// Stores as `store` does, with a log that has room: no buffer is handed out.
+    #[inline(always)]
+    pub fn store_with_room(
+        &mut self,
+        caller: u32,
+        log: &mut Log,
+        slot: Slot,
+        target: Option<Slot>,
+    ) -> Result<StoreReply, Refusal>
+        requires caller { caller < self.old.mutators }
+        requires room { length log.old.cards + 1 < log.old.size }
+        requires slot { slot < slot_count (layout_in self.old) }
+        requires target { IfSome target (λ place. place < slot_count (layout_in self.old)) }
+        ensures entered { IfOk result (λ reply. IsEntered self.old (store_entry caller slot target reply) self.new) }
+        ensures reply { IfOk result (λ reply. reply ≡ unfilled (kind_of (table_in self.old) slot target)) }
+        ensures machine { IfOk result (λ _. self.new.machine ≡ stored_machine self.old.machine slot target) }
+        ensures log { IfOk result (λ reply. log.new ≡ logged reply.kind log.old (card_of (layout_in self.old) slot)) }
+        ensures full { (result ≡ Err Refusal.BookFull) ↔ (length self.old.entries ≡ self.old.limit) }
+        ensures err { OnErr result ((self.new ≡ self.old) × (log.new ≡ log.old)) }
+    {
+        make_room(&mut self.entries, self.limit)?;
+        let call = store_call(slot, &target);
+        let reply = self.core.store_with_room(log, slot, target);
+        enter_store(&mut self.entries, self.alloc, caller, call, &reply);
+        Ok(reply)
     }
 }
 
@@ -66,4 +88,17 @@ fn store_call(slot: Slot, target: &Option<Slot>) -> Call
         slot,
         target: *target,
     }
+}
+
+/// Enters a store with its reply, which refined nothing, in room that was made for it.
+fn enter_store(entries: &mut Vec<Entry>, alloc: Global, caller: u32, call: Call, reply: &StoreReply)
+    requires room { vec_len entries.old < vec_capacity entries.old }
+    ensures { entries.new.items ≡ entries.old.items ++ record { caller = caller; call = call; reply = Reply.Stored reply.now.kind reply.now.fill reply.now.short; refined = [] } ∷ [] }
+{
+    let answer = Reply::Stored {
+        kind: reply.kind,
+        fill: reply.fill,
+        short: reply.short,
+    };
+    enter(entries, caller, call, answer, CardList::new(alloc));
 }

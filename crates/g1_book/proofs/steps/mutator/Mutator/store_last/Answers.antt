@@ -4,7 +4,7 @@ use Rattle.g1_core.specs.declared.reply.StoreReply.{StoreReply}
 use Rattle.g1_book.specs.Made.{Stored}
 use Rattle.g1_book.specs.Steps.{help_calls, filled}
 use Rattle.g1_book.proofs.StepLemmas.{handed_out, store_passed}
-use Rattle.g1_book.proofs.steps.mutator.Mutator.store.Goals as goal
+use Rattle.g1_book.proofs.steps.mutator.Mutator.store_last.Goals as goal
 
 pub returns-clause-stored : goal.returns-clause-stored
 returns-clause-stored g c =
