@@ -1,12 +1,12 @@
 //! The barrier: what a reference store does to the card table and to its mutator's log.
-ghost use Rattle.std.specs.Prelude.{◌≡◌, ◌<◌, ◌+◌, ℕ, [], false, length, IfSome};
+ghost use Rattle.std.specs.Prelude.{◌≡◌, ◌≢◌, ◌<◌, ◌+◌, ℕ, [], false, length, IfSome, IsNone};
 ghost use Rattle.g1_layout.specs.Shape.{slot_count, card_of};
 
 use crate::list::CardList;
 use crate::machinery::Core;
 use crate::reply::{Fill, StoreReply};
 use g1_heap::Mark;
-use g1_layout::{Kind, Slot};
+use g1_layout::{Card, Kind, Slot};
 use g1_log::{Buffer, Log};
 use std::alloc::Global;
 
@@ -64,12 +64,11 @@ impl Core {
         ensures cover { IsCovered self.new.state.table }
         ensures later { IsLater self.old self.new }
     {
-        let kind = self.mark(slot, target);
-        let Kind::Logged = kind else {
+        let (kind, dirtied) = self.mark(slot, target);
+        let Some(card) = dirtied else {
             return (plain_reply(self.alloc, kind, Fill::No), None);
         };
-        let layout = self.heap.layout();
-        let Some(buffer) = log.push(layout.card_of(slot)) else {
+        let Some(buffer) = log.push(card) else {
             return (plain_reply(self.alloc, kind, Fill::No), None);
         };
         (plain_reply(self.alloc, kind, Fill::Full), Some(buffer))
@@ -89,33 +88,36 @@ impl Core {
         ensures cover { IsCovered self.new.state.table }
         ensures later { IsLater self.old self.new }
     {
-        let kind = self.mark(slot, target);
-        if let Kind::Logged = kind {
-            let layout = self.heap.layout();
-            log.add(layout.card_of(slot));
+        let (kind, dirtied) = self.mark(slot, target);
+        if let Some(card) = dirtied {
+            log.add(card);
         }
         plain_reply(self.alloc, kind, Fill::No)
     }
 
-    // What a store does but for the log: the slot gets the target, and the card of a logged store becomes dirty.
+    // What a store does but for the log: the slot gets the target, and the card of a logged store becomes dirty and is
+    // answered.
     #[inline(always)]
-    fn mark(&mut self, slot: Slot, target: Option<Slot>) -> Kind
+    fn mark(&mut self, slot: Slot, target: Option<Slot>) -> (Kind, Option<Card>)
         requires slot { slot < slot_count self.old.state.table.layout }
         requires target { IfSome target (λ place. place < slot_count self.old.state.table.layout) }
-        ensures kind { result ≡ kind_of self.old.state.table slot target }
+        ensures kind { result.0 ≡ kind_of self.old.state.table slot target }
+        ensures some { IfSome result.1 (λ card. (result.0 ≡ Kind.Logged) × (card ≡ card_of self.old.state.table.layout slot)) }
+        ensures none { IsNone result.1 → result.0 ≢ Kind.Logged }
         ensures machine { self.new ≡ stored_machine self.old slot target }
         ensures cover { IsCovered self.new.state.table }
         ensures later { IsLater self.old self.new }
     {
         let kind = self.kind(slot, &target);
         self.heap.set(slot, target);
-        if let Kind::Logged = kind {
-            let layout = self.heap.layout();
-            let card = layout.card_of(slot);
-            self.heap.set_mark(card, Mark::Dirty);
-            self.pending += 1;
-        }
-        kind
+        let Kind::Logged = kind else {
+            return (kind, None);
+        };
+        let layout = self.heap.layout();
+        let card = layout.card_of(slot);
+        self.heap.set_mark(card, Mark::Dirty);
+        self.pending += 1;
+        (kind, Some(card))
     }
 }
 
