@@ -9,6 +9,10 @@ use Rattle.g1_replay.specs.Text.{list_text}
 pub ten_digits : (n : ℕ) → n < 2 ^ 32 → length (decimal n) ≤ 10
 ten_digits n h = length-decimal-le 10 n (lit< tt) (omega arith) (omega arith)
 
+-- a number of 64 bits at most twenty
+pub twenty_digits : (n : ℕ) → n < 2 ^ 64 → length (decimal n) ≤ 20
+twenty_digits n h = length-decimal-le 20 n (lit< tt) (omega arith) (omega arith)
+
 pub list_apart : (xs ys : List ℕ) → list_text (xs ++ ys) ≡ list_text xs ++ list_text ys
 list_apart [] ys = refl
 list_apart (x ∷ xs) ys = ap (λ l. 32 ∷ decimal x ++ l) (list_apart xs ys) ∙ sym (append_assoc (32 ∷ decimal x) (list_text xs) (list_text ys))

@@ -1,7 +1,8 @@
 -- Writes that follow each other, as one.
-use Rattle.std.proofs.Common.{◌≡◌, ℕ, List, [], ◌++◌, take, drop, Option, None, Some, append_assoc, append-nil, refl, sym, ◌∙◌, ap}
+use Rattle.std.proofs.Common.{◌≡◌, ℕ, List, [], ◌++◌, ◌-◌, length, take, drop, subst, Option, None, Some, append_assoc, append-nil, refl, sym, ◌∙◌, ap}
 use Rattle.std.proofs.KnownBytes.{Appends-nil, Appends-trans}
-use Rattle.std.proofs.lemmas.List.{take-append-drop}
+use Rattle.std.proofs.Math.Seq.{take-length}
+use Rattle.std.proofs.lemmas.List.{take-append-drop, length-drop}
 use Rattle.std.specs.Prelude.{Result, Ok, Err, IsErr}
 use Rattle.std.specs.Io.KnownBytes.{Appends, Keeps}
 use Rattle.g1_replay.specs.Bytes.{AppendsFront, Puts}
@@ -48,18 +49,12 @@ second_of_three a b c x y z p q = front_more a c (x ++ y) z (front_then a b c x 
 pub three_parts : {V E : Type 0} (a b c d : Option (List ℕ)) (r : Result V E) (x y z : List ℕ) → Appends a b x → Appends b c y → Puts c d r z → Puts a d r (x ++ y ++ z)
 three_parts a b c d r x y z p q t = puts_then a c d r (x ++ y) z (Appends-trans a b c x y p q) t
 
--- the same for a line in four parts
-pub first_of_four : (a b : Option (List ℕ)) (x y z w : List ℕ) → AppendsFront a b x → AppendsFront a b (x ++ y ++ z ++ w)
-first_of_four a b x y z w p = front_more a b (x ++ y ++ z) w (first_of_three a b x y z p)
-
-pub second_of_four : (a b c : Option (List ℕ)) (x y z w : List ℕ) → Appends a b x → AppendsFront b c y → AppendsFront a c (x ++ y ++ z ++ w)
-second_of_four a b c x y z w p q = front_more a c (x ++ y ++ z) w (second_of_three a b c x y z p q)
-
-pub third_of_four : (a b c d : Option (List ℕ)) (x y z w : List ℕ) → Appends a b x → Appends b c y → AppendsFront c d z → AppendsFront a d (x ++ y ++ z ++ w)
-third_of_four a b c d x y z w p q t = front_more a d (x ++ y ++ z) w (front_then a c d (x ++ y) z (Appends-trans a b c x y p q) t)
-
-pub four_parts : {V E : Type 0} (a b c d e : Option (List ℕ)) (r : Result V E) (x y z w : List ℕ) → Appends a b x → Appends b c y → Appends c d z → Puts d e r w → Puts a e r (x ++ y ++ z ++ w)
-four_parts a b c d e r x y z w p q s t = puts_then a d e r (x ++ y ++ z) w (Appends-trans a c d (x ++ y) z (Appends-trans a b c x y p q) s) t
+-- the text that stands in a block from a place on
+pub puts_behind : {V E : Type 0} (a b : Option (List ℕ)) (r : Result V E) (block text : List ℕ) (start n : ℕ) → length block ≡ n → drop start block ≡ text
+    → Puts a b r (take (n - start) (drop start block)) → Puts a b r text
+puts_behind a b r block text start n e is h =
+    let long : length (drop start block) ≡ n - start = length-drop start block ∙ ap (λ k. k - start) e in
+    subst (Puts a b r) (ap (λ k. take k (drop start block)) (sym long) ∙ take-length (drop start block) ∙ is) h
 
 -- what was written so far, and what is left
 pub cut_at : (n : ℕ) (all done left : List ℕ) → all ≡ done ++ left → all ≡ (done ++ take n left) ++ drop n left

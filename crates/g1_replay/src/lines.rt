@@ -101,6 +101,7 @@ fn read_byte<R: Read>(input: &mut R) -> Byte
 ///
 /// What the reader shows is taken at once. Where it shows nothing, one read of one byte tells whether the input has
 /// ended. Nothing behind the line feed is taken, and no read follows a failed one. Takes no memory.
+#[inline(always)]
 pub fn next_line<R: BufRead>(
     reads: &mut u64,
     input: &mut R,

@@ -2,13 +2,12 @@
 //!
 //! A write that fails, or that takes no byte, is a failed write: nothing is tried again, and a beginning of the text
 //! stays written (docs/TRACES.md, Ends).
-ghost use Rattle.std.specs.Prelude.{◌≡◌, ℕ, List, [], ◌++◌, ◌<◌, ◌≤◌, length, take, MatchResult, decimal, IfOk, OnErr, if◌then◌else◌};
+ghost use Rattle.std.specs.Prelude.{◌≡◌, ℕ, List, [], ◌++◌, ◌+◌, ◌<◌, ◌≤◌, length, take, drop, MatchResult, decimal, IfOk, OnErr, if◌then◌else◌};
 ghost use Rattle.std.specs.Io.KnownBytes.{Appends};
 ghost use Rattle.g1_replay.specs.Bytes.{Puts};
 ghost use Rattle.g1_replay.specs.Text.{counted, ending};
 
-use g1_core::CardList;
-use itoa::Buffer;
+use itoa::{Buffer, write_digits};
 use std::io::Write;
 
 /// A write failed, or took no byte.
@@ -64,16 +63,42 @@ pub fn put_number<W: Write>(output: &mut W, number: u64) -> Result<(), WriteFail
     put(output, buffer.format(number).as_bytes())
 }
 
-/// Writes words and the number behind them.
-pub(crate) fn put_counted<W: Write>(
-    output: &mut W,
-    words: &[u8],
-    number: u32,
-) -> Result<(), WriteFailed>
-    ensures { Puts (W.contents output.old) (W.contents output.new) result (counted words.now number) }
+// Copies words in front of what stands in the block from `start` on. Answers where they begin.
+#[inline(always)]
+fn words_before(block: &mut [u8], start: usize, words: &[u8]) -> usize
+    requires room { length words.now ≤ start }
+    requires within { start ≤ length block.old }
+    ensures text { drop result block.new ≡ words.now ++ drop start block.old }
+    ensures start { result + length words.now ≡ start }
 {
-    put(output, words)?;
-    put_number(output, u64::from(number))
+    let begin = start - words.len();
+    block[begin..start].copy_from_slice(words);
+    begin
+}
+
+/// Copies words and the number behind them in front of what stands in the block from `start` on. Answers where they begin.
+#[inline(always)]
+pub(crate) fn counted_before(block: &mut [u8], start: usize, words: &[u8], number: u64) -> usize
+    requires room { length words.now + 20 ≤ start }
+    requires within { start ≤ length block.old }
+    ensures text { drop result block.new ≡ counted words.now number ++ drop start block.old }
+    ensures room { start ≤ result + length words.now + 20 }
+    ensures within { result ≤ length block.new }
+{
+    let digits = write_digits(number, block, start);
+    words_before(block, digits, words)
+}
+
+/// Copies the end of the line of a reply that may be short to the end of the block. Answers where it begins.
+#[inline(always)]
+pub(crate) fn ending_at_end(block: &mut [u8], short: bool) -> usize
+    requires { 7 ≤ length block.old }
+    ensures text { drop result block.new ≡ ending short }
+    ensures room { length block.new ≤ result + 7 }
+    ensures within { result ≤ length block.new }
+{
+    let end = block.len();
+    words_before(block, end, if short { b" short\n" } else { b"\n" })
 }
 
 /// Writes words, a number, and words behind it.
@@ -88,23 +113,4 @@ pub(crate) fn put_between<W: Write>(
     put(output, before)?;
     put_number(output, number)?;
     put(output, behind)
-}
-
-/// Writes words and how many cards there are.
-pub(crate) fn put_length<W: Write>(
-    output: &mut W,
-    words: &[u8],
-    cards: &CardList,
-) -> Result<(), WriteFailed>
-    ensures { Puts (W.contents output.old) (W.contents output.new) result (counted words.now (length cards.now)) }
-{
-    put(output, words)?;
-    put_number(output, cards.len() as u64)
-}
-
-/// Writes the end of the line of a reply that may be short.
-pub(crate) fn put_ending<W: Write>(output: &mut W, short: bool) -> Result<(), WriteFailed>
-    ensures { Puts (W.contents output.old) (W.contents output.new) result (ending short) }
-{
-    put_either(output, short, b" short\n", b"\n")
 }

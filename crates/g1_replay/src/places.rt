@@ -3,11 +3,11 @@
 ghost use Rattle.std.specs.Prelude.{◌≡◌, ◌<◌, ℕ, [], min, IfOk, IfSome};
 ghost use Rattle.g1_layout.specs.Shape.{IsShape, slot_count, card_count};
 ghost use Rattle.g1_replay.specs.declared.fault.TraceFault.TheVariants.{NoMutator, NoSlot, NoCard, NoRegion};
-ghost use Rattle.g1_replay.specs.Words.{words_from};
+ghost use Rattle.g1_replay.specs.Words.{words_from, read_number};
 ghost use Rattle.g1_replay.specs.Places.{fit_below, fit_target, read_target, read_none, read_one, read_two, read_three, mutator_place, slot_place, card_place, region_place, target_place, number_place};
 
 use crate::fault::TraceFault;
-use crate::words::{is, is_blank, number, one_word, three_words, two_numbers_and_word, two_words};
+use crate::words::{is, is_blank, one_word, three_words, two_words};
 use g1_layout::{Card, Layout, Region, Slot};
 
 /// A number past 32 bits as the largest of 32 bits, which is past every limit too.
@@ -62,13 +62,14 @@ fn region(layout: Layout, number: u64) -> Result<Region, TraceFault>
 }
 
 // A number, or none for the word `null`.
-fn number_or_null(word: &[u8]) -> Result<Option<u64>, TraceFault>
+fn number_or_null(word: &[u8], number: Result<u64, TraceFault>) -> Result<Option<u64>, TraceFault>
+    requires { number ≡ read_number word.now }
     ensures { result ≡ read_target word.now }
 {
     if is(word, b"null") {
         return Ok(None);
     }
-    let number = number(word)?;
+    let number = number?;
     Ok(Some(number))
 }
 
@@ -104,7 +105,7 @@ fn one_number(words: &[u8]) -> Result<u64, TraceFault>
     ensures { result ≡ read_one number_place (words_from [] words.now) }
 {
     match one_word(words) {
-        Some(word) => number(word),
+        Some((_, number)) => number,
         None => Err(TraceFault::Words),
     }
 }
@@ -155,11 +156,11 @@ pub fn two_regions(layout: Layout, words: &[u8]) -> Result<(Region, Region), Tra
     ensures read { result ≡ read_two (region_place layout) (region_place layout) (words_from [] words.now) }
     ensures valid { IfOk result (λ p. (p.0 < layout.regions) × (p.1 < layout.regions)) }
 {
-    let Some((first, second)) = two_words(words) else {
+    let Some(((_, first), (_, second))) = two_words(words) else {
         return Err(TraceFault::Words);
     };
-    let first = number(first)?;
-    let second = number(second)?;
+    let first = first?;
+    let second = second?;
     let from = region(layout, first)?;
     let to = region(layout, second)?;
     Ok((from, to))
@@ -176,12 +177,12 @@ pub fn store_places(
     ensures read { result ≡ read_three (mutator_place mutators) (slot_place layout) (target_place layout) (words_from [] words.now) }
     ensures valid { IfOk result (λ p. (p.0 < mutators) × (p.1 < slot_count layout) × IfSome p.2 (λ t. t < slot_count layout)) }
 {
-    let Some(((_, first), (_, second), third)) = two_numbers_and_word(words) else {
+    let Some(((_, first), (_, second), (word, third))) = three_words(words) else {
         return Err(TraceFault::Words);
     };
     let first = first?;
     let second = second?;
-    let third = number_or_null(third)?;
+    let third = number_or_null(word, third)?;
     let mutator = mutator(mutators, first)?;
     let slot = slot(layout, second)?;
     let target = target(layout, third)?;
@@ -193,11 +194,11 @@ pub fn store_places(
 pub fn three_numbers(words: &[u8]) -> Result<(u64, u64, u64), TraceFault>
     ensures { result ≡ read_three number_place number_place number_place (words_from [] words.now) }
 {
-    let Some((first, second, third)) = three_words(words) else {
+    let Some(((_, first), (_, second), (_, third))) = three_words(words) else {
         return Err(TraceFault::Words);
     };
-    let first = number(first)?;
-    let second = number(second)?;
-    let third = number(third)?;
+    let first = first?;
+    let second = second?;
+    let third = third?;
     Ok((first, second, third))
 }

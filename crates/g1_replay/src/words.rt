@@ -59,37 +59,8 @@ pub fn is_blank(line: &[u8]) -> bool
     split_word(line).is_none()
 }
 
-/// The one word of a line, or `None` where it has another number of words.
-pub fn one_word(line: &[u8]) -> Option<&[u8]>
-    ensures some { IfSome result (λ w. words_from [] line.now ≡ w.now ∷ []) }
-    ensures none { IsNone result → length (words_from [] line.now) ≢ 1 }
-{
-    let (word, rest) = split_word(line)?;
-    if is_blank(rest) { Some(word) } else { None }
-}
-
-/// The two words of a line, or `None` where it has another number of words.
-pub fn two_words(line: &[u8]) -> Option<(&[u8], &[u8])>
-    ensures some { IfSome result (λ w. words_from [] line.now ≡ w.0.now ∷ w.1.now ∷ []) }
-    ensures none { IsNone result → length (words_from [] line.now) ≢ 2 }
-{
-    let (first, rest) = split_word(line)?;
-    let second = one_word(rest)?;
-    Some((first, second))
-}
-
-/// The three words of a line, or `None` where it has another number of words.
-pub fn three_words(line: &[u8]) -> Option<(&[u8], &[u8], &[u8])>
-    ensures some { IfSome result (λ w. words_from [] line.now ≡ w.0.now ∷ w.1.now ∷ w.2.now ∷ []) }
-    ensures none { IsNone result → length (words_from [] line.now) ≢ 3 }
-{
-    let (first, rest) = split_word(line)?;
-    let (second, third) = two_words(rest)?;
-    Some((first, second, third))
-}
-
-/// The value of a word of 1 to 10 decimal digits; any other word is no number (docs/TRACES.md, Lines and words).
-pub fn number(word: &[u8]) -> Result<u64, TraceFault>
+// The value of a word of 1 to 10 decimal digits; any other word is no number (docs/TRACES.md, Lines and words).
+fn number(word: &[u8]) -> Result<u64, TraceFault>
     ensures { result ≡ read_number word.now }
 {
     if word.is_empty() || word.len() > DIGIT_LIMIT {
@@ -151,19 +122,51 @@ pub fn split_number(line: &[u8]) -> Option<((&[u8], Result<u64, TraceFault>), &[
     Some(((word, number(word)), behind))
 }
 
-/// The three words of a line of which the first two are to be numbers, or `None` where it has another number of words.
-pub fn two_numbers_and_word(
+/// The one word of a line with the number that it is, or `None` where it has another number of words.
+#[inline(always)]
+pub fn one_word(line: &[u8]) -> Option<(&[u8], Result<u64, TraceFault>)>
+    ensures some { IfSome result (λ w. words_from [] line.now ≡ w.0.now ∷ []) }
+    ensures number { IfSome result (λ w. w.1 ≡ read_number w.0.now) }
+    ensures none { IsNone result → length (words_from [] line.now) ≢ 1 }
+{
+    let (word, rest) = split_number(line)?;
+    if is_blank(rest) { Some(word) } else { None }
+}
+
+/// The two words of a line with the numbers that they are, or `None` where it has another number of words.
+pub fn two_words(
     line: &[u8],
 ) -> Option<
     (
         (&[u8], Result<u64, TraceFault>),
         (&[u8], Result<u64, TraceFault>),
-        &[u8],
     ),
 >
-    ensures some { IfSome result (λ w. words_from [] line.now ≡ w.0.0.now ∷ w.1.0.now ∷ w.2.now ∷ []) }
+    ensures some { IfSome result (λ w. words_from [] line.now ≡ w.0.0.now ∷ w.1.0.now ∷ []) }
     ensures first { IfSome result (λ w. w.0.1 ≡ read_number w.0.0.now) }
     ensures second { IfSome result (λ w. w.1.1 ≡ read_number w.1.0.now) }
+    ensures none { IsNone result → length (words_from [] line.now) ≢ 2 }
+{
+    let (first, rest) = split_number(line)?;
+    let second = one_word(rest)?;
+    Some((first, second))
+}
+
+/// The three words of a line with the numbers that they are, or `None` where it has another number of words.
+#[inline(always)]
+pub fn three_words(
+    line: &[u8],
+) -> Option<
+    (
+        (&[u8], Result<u64, TraceFault>),
+        (&[u8], Result<u64, TraceFault>),
+        (&[u8], Result<u64, TraceFault>),
+    ),
+>
+    ensures some { IfSome result (λ w. words_from [] line.now ≡ w.0.0.now ∷ w.1.0.now ∷ w.2.0.now ∷ []) }
+    ensures first { IfSome result (λ w. w.0.1 ≡ read_number w.0.0.now) }
+    ensures second { IfSome result (λ w. w.1.1 ≡ read_number w.1.0.now) }
+    ensures third { IfSome result (λ w. w.2.1 ≡ read_number w.2.0.now) }
     ensures none { IsNone result → length (words_from [] line.now) ≢ 3 }
 {
     let (first, rest) = split_number(line)?;

@@ -3,7 +3,7 @@ ghost use Rattle.g1_replay.specs.Bytes.{Puts};
 ghost use Rattle.g1_replay.specs.Text.{clear_text, redirected_line, counted};
 ghost use Rattle.std.specs.Prelude.{codes, ◌++◌};
 
-use crate::output::{WriteFailed, put, put_counted};
+use crate::output::{WriteFailed, put, put_between};
 use g1_core::ClearReply;
 use std::io::Write;
 
@@ -15,12 +15,15 @@ pub fn put_clear_reply<W: Write>(output: &mut W, reply: ClearReply) -> Result<()
     match reply {
         ClearReply::Cleared => put(output, b"cleared\n"),
         ClearReply::Pending(cards) => {
-            put_counted(output, b"refused: ", cards)?;
-            put(output, b" pending\n")
+            put_between(output, b"refused: ", u64::from(cards), b" pending\n")
         }
         ClearReply::StillReferenced(slot) => {
-            put_counted(output, b"refused: still referenced by slot ", slot.number())?;
-            put(output, b"\n")
+            put_between(
+                output,
+                b"refused: still referenced by slot ",
+                u64::from(slot.number()),
+                b"\n",
+            )
         }
     }
 }
@@ -29,6 +32,5 @@ pub fn put_clear_reply<W: Write>(output: &mut W, reply: ClearReply) -> Result<()
 pub fn put_redirected<W: Write>(output: &mut W, slots: u32) -> Result<(), WriteFailed>
     ensures { Puts (W.contents output.old) (W.contents output.new) result (redirected_line slots) }
 {
-    put_counted(output, b"redirected ", slots)?;
-    put(output, b"\n")
+    put_between(output, b"redirected ", u64::from(slots), b"\n")
 }

@@ -3,7 +3,7 @@ ghost use Rattle.g1_replay.specs.Bytes.{Puts};
 ghost use Rattle.g1_replay.specs.Text.{target_text, status_text, counted};
 ghost use Rattle.std.specs.Prelude.{codes, ◌++◌};
 
-use crate::output::{WriteFailed, put, put_counted};
+use crate::output::{WriteFailed, counted_before, ending_at_end, put};
 use g1_core::Status;
 use g1_layout::Slot;
 use std::io::Write;
@@ -15,8 +15,10 @@ pub fn put_target<W: Write>(output: &mut W, target: Option<Slot>) -> Result<(), 
     match target {
         None => put(output, b"null\n"),
         Some(slot) => {
-            put_counted(output, b"slot ", slot.number())?;
-            put(output, b"\n")
+            let mut line = [0u8; 32];
+            let end = ending_at_end(&mut line, false);
+            let start = counted_before(&mut line, end, b"slot ", u64::from(slot.number()));
+            put(output, &line[start..])
         }
     }
 }
@@ -25,7 +27,14 @@ pub fn put_target<W: Write>(output: &mut W, target: Option<Slot>) -> Result<(), 
 pub fn put_status<W: Write>(output: &mut W, status: Status) -> Result<(), WriteFailed>
     ensures { Puts (W.contents output.old) (W.contents output.new) result (status_text status) }
 {
-    put_counted(output, b"status pending ", status.pending)?;
-    put_counted(output, b" recorded ", status.recorded)?;
-    put(output, b"\n")
+    let mut line = [0u8; 72];
+    let end = ending_at_end(&mut line, false);
+    let middle = counted_before(&mut line, end, b" recorded ", u64::from(status.recorded));
+    let start = counted_before(
+        &mut line,
+        middle,
+        b"status pending ",
+        u64::from(status.pending),
+    );
+    put(output, &line[start..])
 }

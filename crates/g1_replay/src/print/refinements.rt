@@ -1,9 +1,9 @@
 //! The lines of a refinement and of a round.
 ghost use Rattle.g1_replay.specs.Bytes.{Puts};
 ghost use Rattle.g1_replay.specs.Text.{refine_text, work_text, turned_text, counted, ending};
-ghost use Rattle.std.specs.Prelude.{codes, ◌++◌, length};
+ghost use Rattle.std.specs.Prelude.{◌≡◌, ◌+◌, ◌≤◌, codes, ◌++◌, length, drop};
 
-use crate::output::{WriteFailed, put, put_counted, put_ending, put_length};
+use crate::output::{WriteFailed, counted_before, ending_at_end, put};
 use g1_core::RefineReply;
 use std::io::Write;
 
@@ -23,8 +23,10 @@ pub fn put_refine_reply<W: Write>(output: &mut W, reply: &RefineReply) -> Result
 fn put_refined<W: Write>(output: &mut W, reply: &RefineReply) -> Result<(), WriteFailed>
     ensures { Puts (W.contents output.old) (W.contents output.new) result (turned_text (length reply.now.refined) reply.now.hot reply.now.skipped ++ ending reply.now.short) }
 {
-    put_turns(output, b"refined ", reply)?;
-    put_ending(output, reply.short)
+    let mut line = [0u8; 128];
+    let end = ending_at_end(&mut line, reply.short);
+    let start = turns_before(&mut line, end, b"refined ", reply);
+    put(output, &line[start..])
 }
 
 /// Writes the line of a round: how many buffers were taken, how many cards were refined, found hot and skipped, and how
@@ -32,17 +34,23 @@ fn put_refined<W: Write>(output: &mut W, reply: &RefineReply) -> Result<(), Writ
 pub fn put_work_reply<W: Write>(output: &mut W, reply: &RefineReply) -> Result<(), WriteFailed>
     ensures { Puts (W.contents output.old) (W.contents output.new) result (work_text reply.now) }
 {
-    put_counted(output, b"worked ", reply.taken)?;
-    put_turns(output, b" refined ", reply)?;
-    put_counted(output, b" left ", reply.left)?;
-    put_ending(output, reply.short)
+    let mut line = [0u8; 160];
+    let end = ending_at_end(&mut line, reply.short);
+    let left = counted_before(&mut line, end, b" left ", u64::from(reply.left));
+    let turns = turns_before(&mut line, left, b" refined ", reply);
+    let start = counted_before(&mut line, turns, b"worked ", u64::from(reply.taken));
+    put(output, &line[start..])
 }
 
-// What became of the cards; the first number stands behind `words`.
-fn put_turns<W: Write>(output: &mut W, words: &[u8], reply: &RefineReply) -> Result<(), WriteFailed>
-    ensures { Puts (W.contents output.old) (W.contents output.new) result (counted words.now (length reply.now.refined) ++ counted (codes " hot ") reply.now.hot ++ counted (codes " skipped ") reply.now.skipped) }
+// Copies what became of the cards in front of what stands in the block from `start` on; the first number stands behind `words`.
+fn turns_before(block: &mut [u8], start: usize, words: &[u8], reply: &RefineReply) -> usize
+    requires room { length words.now + 74 ≤ start }
+    requires within { start ≤ length block.old }
+    ensures text { drop result block.new ≡ counted words.now (length reply.now.refined) ++ counted (codes " hot ") reply.now.hot ++ counted (codes " skipped ") reply.now.skipped ++ drop start block.old }
+    ensures room { start ≤ result + length words.now + 74 }
+    ensures within { result ≤ length block.new }
 {
-    put_length(output, words, &reply.refined)?;
-    put_counted(output, b" hot ", reply.hot)?;
-    put_counted(output, b" skipped ", reply.skipped)
+    let skipped = counted_before(block, start, b" skipped ", u64::from(reply.skipped));
+    let hot = counted_before(block, skipped, b" hot ", u64::from(reply.hot));
+    counted_before(block, hot, words, reply.refined.len() as u64)
 }

@@ -1,9 +1,9 @@
 //! The lines of a store and of a flush.
 ghost use Rattle.g1_replay.specs.Bytes.{Puts};
 ghost use Rattle.g1_replay.specs.Text.{store_text, flush_text, stored_line, stores_text, counted, ending};
-ghost use Rattle.std.specs.Prelude.{◌++◌, length};
+ghost use Rattle.std.specs.Prelude.{◌++◌, codes, length};
 
-use crate::output::{WriteFailed, put_between, put_counted, put_either, put_ending, put_length};
+use crate::output::{WriteFailed, counted_before, ending_at_end, put, put_between, put_either};
 use g1_book::FlushReply;
 use g1_core::{CardList, Fill, StoreReply};
 use g1_layout::Kind;
@@ -39,7 +39,7 @@ fn put_logged<W: Write>(output: &mut W, reply: &StoreReply) -> Result<(), WriteF
             b"logged full short\n",
             b"logged full\n",
         ),
-        Fill::Helped => put_helped(output, b"logged helped ", &reply.refined, reply.short),
+        Fill::Helped => put_helped(output, &reply.refined, reply.short),
     }
 }
 
@@ -48,25 +48,24 @@ fn put_logged<W: Write>(output: &mut W, reply: &StoreReply) -> Result<(), WriteF
 pub fn put_flush_reply<W: Write>(output: &mut W, reply: &FlushReply) -> Result<(), WriteFailed>
     ensures { Puts (W.contents output.old) (W.contents output.new) result (flush_text reply.now) }
 {
-    put_counted(output, b"flushed ", reply.cards)?;
-    match reply.fill {
-        Fill::No => put_ending(output, reply.short),
-        Fill::Full => put_ending(output, reply.short),
-        Fill::Helped => put_helped(output, b" helped ", &reply.refined, reply.short),
-    }
+    let mut line = [0u8; 80];
+    let ending = ending_at_end(&mut line, reply.short);
+    let end = match reply.fill {
+        Fill::No | Fill::Full => ending,
+        Fill::Helped => counted_before(&mut line, ending, b" helped ", reply.refined.len() as u64),
+    };
+    let start = counted_before(&mut line, end, b"flushed ", u64::from(reply.cards));
+    put(output, &line[start..])
 }
 
-// How many cards a help refined, behind these words, and the end of the line.
-fn put_helped<W: Write>(
-    output: &mut W,
-    words: &[u8],
-    refined: &CardList,
-    short: bool,
-) -> Result<(), WriteFailed>
-    ensures { Puts (W.contents output.old) (W.contents output.new) result (counted words.now (length refined.now) ++ ending short) }
+// The line of a store whose mutator helped.
+fn put_helped<W: Write>(output: &mut W, refined: &CardList, short: bool) -> Result<(), WriteFailed>
+    ensures { Puts (W.contents output.old) (W.contents output.new) result (counted (codes "logged helped ") (length refined.now) ++ ending short) }
 {
-    put_length(output, words, refined)?;
-    put_ending(output, short)
+    let mut line = [0u8; 64];
+    let end = ending_at_end(&mut line, short);
+    let start = counted_before(&mut line, end, b"logged helped ", refined.len() as u64);
+    put(output, &line[start..])
 }
 
 /// Writes the line of how many stores there were.

@@ -1,20 +1,18 @@
-use Rattle.std.proofs.Common.{codes}
+use Rattle.std.proofs.Common.{◌≡◌, ◌++◌, drop, length, codes, ap, sym, ◌∙◌, append_assoc, rules}
 use Rattle.g1_replay.specs.Text.{counted}
-use Rattle.g1_replay.proofs.PutLemmas.{puts_failed, first_of_three, second_of_three, three_parts}
+use Rattle.g1_replay.proofs.PutLemmas.{puts_behind}
 use Rattle.g1_replay.proofs.print.questions.put_status.Goals as goal
-
-pub returns-in_err-put_counted : goal.returns-in_err-put_counted
-returns-in_err-put_counted g c =
-    puts_failed _ _ c.from_residual.result _ c.from_residual.ensures.0
-    (first_of_three _ _ (counted (codes "status pending ") c.args.status.pending) (counted (codes " recorded ") c.args.status.recorded) (codes "\n") c.in_err-put_counted.ensures)
-
-pub returns-in_err-put_counted-2 : goal.returns-in_err-put_counted-2
-returns-in_err-put_counted-2 g c =
-    puts_failed _ _ c.from_residual-in_err-put_counted-2.result _ c.from_residual-in_err-put_counted-2.ensures.0
-    (second_of_three _ _ _ (counted (codes "status pending ") c.args.status.pending) (counted (codes " recorded ") c.args.status.recorded) (codes "\n")
-    c.in_ok-put_counted.ensures c.in_err-put_counted-2.ensures)
 
 pub returns : goal.returns
 returns g c =
-    three_parts _ _ _ _ c.put.result (counted (codes "status pending ") c.args.status.pending) (counted (codes " recorded ") c.args.status.recorded) (codes "\n")
-    c.in_ok-put_counted.ensures c.in_ok-put_counted-2.ensures c.put.ensures
+    let pending = counted (codes "status pending ") c.args.status.pending in
+    let recorded = counted (codes " recorded ") c.args.status.recorded in
+    let is : c.from.result ≡ c.args.status.recorded = search rules in
+    let first : c.from-2.result ≡ c.args.status.pending = search rules in
+    let behind : drop c.counted_before-middle.result c.counted_before-middle.new.block ≡ recorded ++ codes "\n" =
+    (rw is at c.counted_before-middle.ensures.text) ∙ ap (λ l. recorded ++ l) c.ending_at_end-end.ensures.text in
+    let text : drop c.counted_before-start.result c.counted_before-start.new.block ≡ pending ++ (recorded ++ codes "\n") =
+    (rw first at c.counted_before-start.ensures.text) ∙ ap (λ l. pending ++ l) behind in
+    let long : length c.counted_before-start.new.block ≡ 72 = search rules in
+    puts_behind _ _ c.put.result c.counted_before-start.new.block _ c.counted_before-start.result 72 long
+    (text ∙ sym (append_assoc pending recorded (codes "\n"))) c.put.ensures
