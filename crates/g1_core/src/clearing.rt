@@ -61,10 +61,9 @@ fn least_entering(heap: &mut Heap, sets: &Sets, region: Region) -> Option<Slot>
     let layout = heap.layout();
     let mut past = layout.card_count();
     let mut least = None;
-    for index in 0..sets.len(region) {
-        let card = sets.at(region, index);
+    for card in sets.members(region) {
         if card.number() < past {
-            if let Some(slot) = entering_on(heap, card, region) {
+            if let Some(slot) = entering_on(heap, *card, region) {
                 past = card.number();
                 least = Some(slot);
             }

@@ -163,6 +163,16 @@ impl Sets {
         self.sets[region.number() as usize].as_slice()[index as usize]
     }
 
+    /// The cards of the region's set, in the order of insertion: those of `at`, for a walk over all of them. Constant time.
+    pub fn members(&self, region: Region) -> &[Card]
+        requires { region < self.now.layout.regions }
+        ensures cards { result.now ≡ list_at self.now.lists region }
+        ensures tied { AreTied self.now }
+    {
+        let members = &self.sets[region.number() as usize];
+        members.as_slice()
+    }
+
     /// Empties the region's set, and takes no memory.
     ///
     /// The set keeps its room: a region that is used again mostly needs as much, and then records

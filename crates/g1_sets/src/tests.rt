@@ -117,6 +117,9 @@ impl Numbered {
             let card = self.sets.at(region, index);
             assert!(rt; inserted.get(index as usize) == Some(&card.number()));
         }
+        for (card, number) in self.sets.members(region).iter().zip(inserted) {
+            assert!(rt; card.number() == *number);
+        }
         let cards = self.sorted(region)?;
         assert!(rt; cards.len() == sorted.len());
         for (card, number) in cards.iter().zip(sorted) {
