@@ -46,7 +46,8 @@ pub trait Calls {
         ensures buffer { IfOk result (λ answer. answer.1 ≡ buffer_of answer.0.kind log.old (card_of (layout self.old) slot)) }
         ensures err_log { OnErr result (log.new ≡ log.old) };
 
-    /// Stores as `store` does, with a log that has room: no buffer is handed out.
+    /// Stores as `store` does, with a log that has room for more than one card (`Log::has_room`): no buffer is handed out. A refusal
+    /// leaves the log as it was.
     fn store_with_room(
         &mut self,
         log: &mut Log,

@@ -52,7 +52,11 @@ impl Book {
         Ok((reply, buffer))
     }
 
-    /// Stores as `store` does, with a log that has room: no buffer is handed out.
+    /// Stores and enters as `store` does, with a log that has room for more than one card (`Log::has_room`): `fill` is `No`, and
+    /// no buffer is handed out.
+    ///
+    /// `BookFull` and `NoMemory` come where they do for `store`, and leave book and log as they were. Constant time but for the
+    /// growth of the history (docs/PROFILE.md, The barrier).
     #[inline(always)]
     pub fn store_with_room(
         &mut self,

@@ -75,7 +75,7 @@ impl Core {
     }
 
     /// Stores as `store` does, with a log that has room (`Log::has_room`): `fill` is `No`, and no buffer is handed out, so
-    /// that none is made room for.
+    /// that none is made room for. It takes no memory, reads no slot, and takes constant time (docs/PROFILE.md, The barrier).
     #[inline(always)]
     pub fn store_with_room(&mut self, log: &mut Log, slot: Slot, target: Option<Slot>) -> StoreReply
         requires room { length log.old.cards + 1 < log.old.size }
