@@ -27,11 +27,11 @@ list_parts cards done rest block behind e f =
     let g : cards ≡ (done ++ block) ++ behind = e ∙ ap (λ l. done ++ l) f ∙ sym (append_assoc done block behind) in
     ap list_text g ∙ list_apart (done ++ block) behind ∙ ap (λ l. l ++ list_text behind) (list_apart done block)
 
--- one card more in front of the text that stands at the end of a block
-pub one_in_front : (block cards : List ℕ) (at start left i n : ℕ) → start ≡ at + 1 → left ≡ i + 1 → start ≤ length block → i < length cards → n ≡ get_or cards i n
-    → drop start block ≡ decimal n ++ list_text (drop left cards) → drop at (set block at 32) ≡ list_text (drop i cards)
-one_in_front block cards at start left i n es el hs hi en text =
+-- one card more in front of the text of a list, with what stands behind it
+pub one_in_front : (block cards behind : List ℕ) (at start left i n : ℕ) → start ≡ at + 1 → left ≡ i + 1 → start ≤ length block → i < length cards → n ≡ get_or cards i n
+    → drop start block ≡ decimal n ++ list_text (drop left cards) ++ behind → drop at (set block at 32) ≡ list_text (drop i cards) ++ behind
+one_in_front block cards behind at start left i n es el hs hi en text =
     let room : at < length block = omega arith in
     let next : suc i ≡ left = sym (el ∙ add-one i) in
     let front : drop i cards ≡ n ∷ drop left cards = drop-cons cards i n hi ∙ ap (λ m. m ∷ drop (suc i) cards) (sym en) ∙ ap (λ k. n ∷ drop k cards) next in
-    drop-set block at 32 room ∙ ap (λ l. 32 ∷ l) (ap (λ k. drop k block) (sym es) ∙ text) ∙ sym (ap list_text front)
+    drop-set block at 32 room ∙ ap (λ l. 32 ∷ l) (ap (λ k. drop k block) (sym es) ∙ text) ∙ sym (ap (λ l. list_text l ++ behind) front)

@@ -1,10 +1,10 @@
-//! The text of a list of cards, written in blocks.
+//! The text of a list of cards: a short one in one block with its line, a longer one in many.
 ghost use Rattle.std.specs.Prelude.{◌≡◌, ℕ, List, [], ◌++◌, ◌+◌, ◌-◌, ◌*◌, ◌<◌, ◌≤◌, length, drop, MatchResult, codes};
 ghost use Rattle.std.specs.Io.KnownBytes.{Appends};
 ghost use Rattle.g1_replay.specs.Bytes.{Puts};
 ghost use Rattle.g1_replay.specs.Text.{list_text};
 
-use crate::output::{WriteFailed, put};
+use crate::output::{WriteFailed, ending_at_end, put, words_before};
 use g1_core::CardList;
 use g1_layout::Card;
 use itoa::write_digits;
@@ -14,6 +14,11 @@ use std::io::Write;
 const BLOCK_CARDS: usize = 64;
 
 const BLOCK_BYTES: usize = 704;
+
+/// How many cards a line has at most that is made up in one block and written at once, and the room for it.
+const SHORT_CARDS: usize = 8;
+
+const SHORT_BYTES: usize = 104;
 
 /// Writes a space and the number for each card, in the order given.
 ///
@@ -36,17 +41,20 @@ fn put_block<W: Write>(output: &mut W, cards: &[Card]) -> Result<(), WriteFailed
     ensures { Puts (W.contents output.old) (W.contents output.new) result (list_text cards.now) }
 {
     let mut block = [0u8; BLOCK_BYTES];
-    let start = fill(&mut block, cards);
+    let start = list_before(&mut block, BLOCK_BYTES, cards);
     put(output, &block[start..])
 }
 
-// Fills the block from its end, so that no number has to be measured first; answers where the text begins.
-fn fill(block: &mut [u8], cards: &[Card]) -> usize
-    requires { 11 * length cards.now ≤ length block.old }
-    ensures text { drop result block.new ≡ list_text cards.now }
+// Writes a space and the number for each card in front of what stands in the block from `end` on. It goes from the last
+// card to the first, so that no number has to be measured. Answers where the text begins.
+fn list_before(block: &mut [u8], end: usize, cards: &[Card]) -> usize
+    requires room { 11 * length cards.now ≤ end }
+    requires within { end ≤ length block.old }
+    ensures text { drop result block.new ≡ list_text cards.now ++ drop end block.old }
+    ensures room { end ≤ result + 11 * length cards.now }
     ensures within { result ≤ length block.new }
 {
-    let mut start = block.len();
+    let mut start = end;
     let mut left = cards.len();
     while left > 0 {
         left -= 1;
@@ -62,9 +70,27 @@ pub(crate) fn put_cards<W: Write>(
     words: &[u8],
     cards: &CardList,
 ) -> Result<(), WriteFailed>
+    requires { length words.now ≤ 7 }
     ensures { Puts (W.contents output.old) (W.contents output.new) result (words.now ++ list_text cards.now ++ codes "\n") }
 {
+    let cards = cards.as_slice();
+    if cards.len() <= SHORT_CARDS {
+        return put_short(output, words, cards);
+    }
     put(output, words)?;
-    put_list(output, cards.as_slice())?;
+    put_list(output, cards)?;
     put(output, b"\n")
+}
+
+// The line of a list with so few cards that it has room in one block.
+fn put_short<W: Write>(output: &mut W, words: &[u8], cards: &[Card]) -> Result<(), WriteFailed>
+    requires words { length words.now ≤ 7 }
+    requires cards { length cards.now ≤ SHORT_CARDS }
+    ensures { Puts (W.contents output.old) (W.contents output.new) result (words.now ++ list_text cards.now ++ codes "\n") }
+{
+    let mut line = [0u8; SHORT_BYTES];
+    let end = ending_at_end(&mut line, false);
+    let list = list_before(&mut line, end, cards);
+    let start = words_before(&mut line, list, words);
+    put(output, &line[start..])
 }

@@ -63,9 +63,9 @@ pub fn put_number<W: Write>(output: &mut W, number: u64) -> Result<(), WriteFail
     put(output, buffer.format(number).as_bytes())
 }
 
-// Copies words in front of what stands in the block from `start` on. Answers where they begin.
+/// Copies words in front of what stands in the block from `start` on. Answers where they begin.
 #[inline(always)]
-fn words_before(block: &mut [u8], start: usize, words: &[u8]) -> usize
+pub(crate) fn words_before(block: &mut [u8], start: usize, words: &[u8]) -> usize
     requires room { length words.now ≤ start }
     requires within { start ≤ length block.old }
     ensures text { drop result block.new ≡ words.now ++ drop start block.old }
