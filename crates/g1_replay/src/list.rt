@@ -65,6 +65,7 @@ fn list_before(block: &mut [u8], end: usize, cards: &[Card]) -> usize
 }
 
 /// Writes the line of a list: words, and a space and the number for each card.
+#[inline(always)]
 pub(crate) fn put_cards<W: Write>(
     output: &mut W,
     words: &[u8],
@@ -83,6 +84,7 @@ pub(crate) fn put_cards<W: Write>(
 }
 
 // The line of a list with so few cards that it has room in one block.
+#[inline(always)]
 fn put_short<W: Write>(output: &mut W, words: &[u8], cards: &[Card]) -> Result<(), WriteFailed>
     requires words { length words.now ≤ 7 }
     requires cards { length cards.now ≤ SHORT_CARDS }
