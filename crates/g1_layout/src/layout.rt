@@ -28,6 +28,8 @@ pub struct Layout {
     cards: Reciprocal,
     slots: Reciprocal,
     region_slots: Reciprocal,
+    // All slots of the heap, with which each number of a slot that comes from outside is compared.
+    heap_slots: u32,
 }
 
 impl Model for Layout {
@@ -42,11 +44,11 @@ impl Model for Layout {
 
     ghost invariant = { AreFields };
 
-    ghost inverse = { λ l. record { regions = l.regions; cards = l.cards; slots = l.slots; region_slots = l.cards * l.slots } };
+    ghost inverse = { λ l. record { regions = l.regions; cards = l.cards; slots = l.slots; region_slots = l.cards * l.slots; heap_slots = l.regions * l.cards * l.slots } };
 
     ghost use Rattle.std.proofs.Common.{sym};
 
-    ghost inverse_ok = { λ a h. λ i. record { regions = a.regions; cards = a.cards; slots = a.slots; region_slots = sym h.region_slots i } };
+    ghost inverse_ok = { λ a h. λ i. record { regions = a.regions; cards = a.cards; slots = a.slots; region_slots = sym h.region_slots i; heap_slots = sym h.heap_slots i } };
 }
 
 impl Layout {
@@ -60,7 +62,11 @@ impl Layout {
         let counts_within = (1..=MAX_REGIONS).contains(&regions)
             && (1..=MAX_CARDS).contains(&cards)
             && (1..=MAX_SLOTS).contains(&slots);
-        if !counts_within || regions * cards * slots > MAX_PLACES {
+        if !counts_within {
+            return None;
+        }
+        let heap_slots = regions * cards * slots;
+        if heap_slots > MAX_PLACES {
             return None;
         }
         Some(Layout {
@@ -68,6 +74,7 @@ impl Layout {
             cards: Reciprocal::new(cards),
             slots: Reciprocal::new(slots),
             region_slots: Reciprocal::new(cards * slots),
+            heap_slots,
         })
     }
 
@@ -86,7 +93,7 @@ impl Layout {
         ensures count { result ≡ slot_count self.now }
         ensures shape { IsShape self.now }
     {
-        self.regions * self.cards.divisor() * self.slots.divisor()
+        self.heap_slots
     }
 
     /// How many cards the heap has: at most 65,536.

@@ -32,18 +32,20 @@ impl Racer {
         ensures log { self.new.log.items ≡ (if is_logged result then self.old.log.items ++ card_of (race_shape race.now) slot ∷ [] else self.old.log.items) }
     {
         let words = &race.table.shared;
-        let layout = race.layout;
         let place = slot.number() as usize;
-        let word = word_of(target);
-        words.store::<Writes>(&mut self.seat, place, word);
-        let Some(target) = &target else {
+        let Some(target) = target else {
+            words.store::<Writes>(&mut self.seat, place, word_of(None));
             return Kind::Null;
         };
-        if layout.region_of(slot).number() == layout.region_of(*target).number() {
+        // What the heap tells of the places is read first: a read behind the write waits for it.
+        let is_within = race.layout.region_of(slot).number()
+            == race.layout.region_of(target).number();
+        let card = race.layout.card_of(slot);
+        let mark = race.shape.slots + card.number() as usize;
+        words.store::<Writes>(&mut self.seat, place, word_of(Some(target)));
+        if is_within {
             return Kind::SameRegion;
         }
-        let card = layout.card_of(slot);
-        let mark = race.shape.slots + card.number() as usize;
         if words.load::<Looks>(&mut self.seat, mark) == 1 {
             return Kind::AlreadyDirty;
         }

@@ -15,54 +15,65 @@ store-requires c =
     let p = c.number-place.result in
     let slots : race.shape.slots ≡ slot_count race.layout = ap (λ (k : Shape). k.slots) race.laid in
     let lt : p < race.shape.slots = omega (arith, c.number-place.ensures, c.requires.slot, slots) in
-    (r.table, omega (arith, race.words_are, lt), write_owed race _ _ p c.word_of-word.result r.idle r.history lt (subst (λ (x : ℕ). x ≤ race.shape.slots) (sym c.word_of-word.ensures) (word_fits c.args.target race.shape.slots (subst (λ (n : ℕ). IfSome c.args.target (λ t. t < n)) (sym slots) c.requires.target))))
+    let null : c.word_of.result ≡ 0 = c.word_of.ensures in
+    (r.table, omega (arith, race.words_are, lt), write_owed race _ _ p c.word_of.result r.idle r.history lt (omega (arith, null)))
+
+pub store-requires-2 : goal.store-requires-2
+store-requires-2 c =
+    let race = c.args.race.now in
+    let r = races_of c.args.race.now.table.shared.table_id c.args.race.now.shape c.args.self.now c.requires.race in
+    let p = c.number-place.result in
+    let slots : race.shape.slots ≡ slot_count race.layout = ap (λ (k : Shape). k.slots) race.laid in
+    let lt : p < race.shape.slots = omega (arith, c.number-place.ensures, c.requires.slot, slots) in
+    let t = c.in-Some.target in
+    let is : c.word_of-2.result ≡ t + 1 = c.word_of-2.ensures in
+    let target : t < slot_count race.layout = rw c.in-Some.is at c.requires.target in
+    (r.table, omega (arith, race.words_are, lt), write_owed race _ _ p c.word_of-2.result r.idle r.history lt (omega (arith, is, target, slots)))
 
 pub load-requires : goal.load-requires
 load-requires c =
     let race = c.args.race.now in
     let r = races_of c.args.race.now.table.shared.table_id c.args.race.now.shape c.args.self.now c.requires.race in
-    let e = c.store.ensures in
+    let e = c.store-2.ensures in
     let v = racer_view c.args.self.now in
-    let n = c.word_of-word.result in
     let p = c.number-place.result in
     let slots : race.shape.slots ≡ slot_count race.layout = ap (λ (k : Shape). k.slots) race.laid in
     let lt : p < race.shape.slots = omega (arith, c.number-place.ensures, c.requires.slot, slots) in
     let t = c.in-Some.target in
-    let is : n ≡ t + 1 = c.word_of-word.ensures ∙ ap word_of c.in-Some.is in
+    let is : c.word_of-2.result ≡ t + 1 = c.word_of-2.ensures in
     let card = c.number-3.result in
     let card_is : card_of race.shape p ≡ card = ap (λ (k : Shape). p / k.size) race.laid ∙ (ap (λ (x : ℕ). x / race.layout.slots) c.number-place.ensures ∙ (sym c.card_of-card.ensures.quotient ∙ sym c.number-3.ensures)) in
     let from : p / race.shape.span ≡ c.number.result = ap (λ (k : Shape). p / k.span) race.laid ∙ (ap (λ (x : ℕ). x / (race.layout.cards * race.layout.slots)) c.number-place.ensures ∙ (sym c.region_of.ensures.quotient ∙ sym c.number.ensures)) in
     let into : t / race.shape.span ≡ c.number-2.result = ap (λ (k : Shape). t / k.span) race.laid ∙ (sym c.region_of-2.ensures.quotient ∙ sym c.number-2.ensures) in
-    let apart : p / race.shape.span ≢ t / race.shape.span = λ e. c.if-number.false (sym from ∙ (e ∙ into)) in
+    let apart : p / race.shape.span ≢ t / race.shape.span = λ e. c.if-is_within.false (sym from ∙ (e ∙ into)) in
     let below : card < race.shape.cards = subst (λ (x : ℕ). x < race.shape.cards) card_is (card_below race.shape p race.shaped lt) in
     let u = ap (λ me. me.0) e.2 in (
       e.0 ∙ r.table,
       omega (arith, race.words_are, below),
-      look_owed race _ _ card (sits_wrote race.shape v _ p n r.idle u) (ap (λ (w : View). w.owed) u ∙ (owes_card race.shape v p n r.idle (other_region race.shape p t n is apart) ∙ ap Some card_is)) below,
+      look_owed race _ _ card (sits_wrote race.shape v _ p c.word_of-2.result r.idle u) (ap (λ (w : View). w.owed) u ∙ (owes_card race.shape v p c.word_of-2.result r.idle (other_region race.shape p t c.word_of-2.result is apart) ∙ ap Some card_is)) below,
     )
 
 pub swap-requires : goal.swap-requires
 swap-requires c =
     let race = c.args.race.now in
     let r = races_of c.args.race.now.table.shared.table_id c.args.race.now.shape c.args.self.now c.requires.race in
-    let e = c.store.ensures in
+    let e = c.store-2.ensures in
     let l = c.load.ensures in
     let v = racer_view c.args.self.now in
-    let n = c.word_of-word.result in
     let p = c.number-place.result in
     let slots : race.shape.slots ≡ slot_count race.layout = ap (λ (k : Shape). k.slots) race.laid in
     let lt : p < race.shape.slots = omega (arith, c.number-place.ensures, c.requires.slot, slots) in
     let t = c.in-Some.target in
-    let is : n ≡ t + 1 = c.word_of-word.ensures ∙ ap word_of c.in-Some.is in
+    let is : c.word_of-2.result ≡ t + 1 = c.word_of-2.ensures in
     let card = c.number-3.result in
     let card_is : card_of race.shape p ≡ card = ap (λ (k : Shape). p / k.size) race.laid ∙ (ap (λ (x : ℕ). x / race.layout.slots) c.number-place.ensures ∙ (sym c.card_of-card.ensures.quotient ∙ sym c.number-3.ensures)) in
     let from : p / race.shape.span ≡ c.number.result = ap (λ (k : Shape). p / k.span) race.laid ∙ (ap (λ (x : ℕ). x / (race.layout.cards * race.layout.slots)) c.number-place.ensures ∙ (sym c.region_of.ensures.quotient ∙ sym c.number.ensures)) in
     let into : t / race.shape.span ≡ c.number-2.result = ap (λ (k : Shape). t / k.span) race.laid ∙ (sym c.region_of-2.ensures.quotient ∙ sym c.number-2.ensures) in
-    let apart : p / race.shape.span ≢ t / race.shape.span = λ e. c.if-number.false (sym from ∙ (e ∙ into)) in
+    let apart : p / race.shape.span ≢ t / race.shape.span = λ e. c.if-is_within.false (sym from ∙ (e ∙ into)) in
     let below : card < race.shape.cards = subst (λ (x : ℕ). x < race.shape.cards) card_is (card_below race.shape p race.shaped lt) in
     let u = ap (λ me. me.0) l.2 ∙ ap (λ me. looked me.0 c.load.result) e.2 in (
       l.0 ∙ (e.0 ∙ r.table),
       omega (arith, race.words_are, below),
-      dirty_owed race _ _ card (sits_looked race.shape v _ p n c.load.result r.idle u)
-          (ap (λ (w : View). w.owed) u ∙ (still_owes race.shape v p n c.load.result r.idle (other_region race.shape p t n is apart) c.if-load-eq1.false ∙ ap Some card_is)) below,
+      dirty_owed race _ _ card (sits_looked race.shape v _ p c.word_of-2.result c.load.result r.idle u)
+          (ap (λ (w : View). w.owed) u ∙ (still_owes race.shape v p c.word_of-2.result c.load.result r.idle (other_region race.shape p t c.word_of-2.result is apart) c.if-load-eq1.false ∙ ap Some card_is)) below,
     )
