@@ -15,7 +15,10 @@ const BLOCK_CARDS: usize = 64;
 
 const BLOCK_BYTES: usize = 704;
 
-/// How many cards a line has at most that is made up in one block and written at once, and the room for it.
+/// How long the words and how many the cards are at most of a line that is made up in one block and written at once, and the
+/// room for it.
+const SHORT_WORDS: usize = 7;
+
 const SHORT_CARDS: usize = 8;
 
 const SHORT_BYTES: usize = 104;
@@ -71,11 +74,10 @@ pub(crate) fn put_cards<W: Write>(
     words: &[u8],
     cards: &CardList,
 ) -> Result<(), WriteFailed>
-    requires { length words.now ≤ 7 }
     ensures { Puts (W.contents output.old) (W.contents output.new) result (words.now ++ list_text cards.now ++ codes "\n") }
 {
     let cards = cards.as_slice();
-    if cards.len() <= SHORT_CARDS {
+    if words.len() <= SHORT_WORDS && cards.len() <= SHORT_CARDS {
         return put_short(output, words, cards);
     }
     put(output, words)?;
@@ -83,10 +85,10 @@ pub(crate) fn put_cards<W: Write>(
     put(output, b"\n")
 }
 
-// The line of a list with so few cards that it has room in one block.
+// The line of so short words and so few cards that it has room in one block.
 #[inline(always)]
 fn put_short<W: Write>(output: &mut W, words: &[u8], cards: &[Card]) -> Result<(), WriteFailed>
-    requires words { length words.now ≤ 7 }
+    requires words { length words.now ≤ SHORT_WORDS }
     requires cards { length cards.now ≤ SHORT_CARDS }
     ensures { Puts (W.contents output.old) (W.contents output.new) result (words.now ++ list_text cards.now ++ codes "\n") }
 {

@@ -1,10 +1,10 @@
-use Rattle.std.proofs.Common.{ℕ, Some, ◌≡◌, ◌≢◌, ◌<◌, ◌≤◌, ◌+◌, ◌*◌, ◌/◌, IfSome, ap, sym, subst, ◌∙◌, arith}
+use Rattle.std.proofs.Common.{ℕ, Some, ◌≡◌, ◌≢◌, ◌<◌, ◌+◌, ◌*◌, ◌/◌, ap, sym, subst, ◌∙◌, arith}
 use Rattle.g1_layout.specs.Shape.{slot_count}
 use Rattle.g1_race.specs.declared.view.Shape.{Shape}
 use Rattle.g1_race.specs.declared.view.View.{View}
-use Rattle.g1_race.specs.Race.{card_of, looked, word_of}
+use Rattle.g1_race.specs.Race.{card_of, looked}
 use Rattle.g1_race.specs.Members.{racer_view}
-use Rattle.g1_race.proofs.StoreCalls.{word_fits, other_region, card_below, owes_card, still_owes, write_owed, look_owed, dirty_owed, sits_wrote, sits_looked}
+use Rattle.g1_race.proofs.StoreCalls.{other_region, card_below, owes_card, still_owes, write_owed, look_owed, dirty_owed, sits_wrote, sits_looked}
 use Rattle.g1_race.proofs.SeatCalls.{races_of}
 use Rattle.g1_race.proofs.race.Racer.store.Goals as goal
 
