@@ -18,8 +18,8 @@ use Rattle.g1_race.proofs.Draining.{in_shape, known_once, stored_now}
 use Rattle.g1_race.proofs.Ends.{crosses_some, refs_here, target_some}
 use Rattle.g1_race.proofs.Places.{in_contains, reads_as}
 use Rattle.g1_race.proofs.Plain.{read_at}
-use Rattle.g1_replay.specs.declared.command.Command.{Command}
-use Rattle.g1_replay.specs.declared.command.Command.TheVariants.{Store}
+use Rattle.g1_trace.specs.declared.command.Command.{Command}
+use Rattle.g1_trace.specs.declared.command.Command.TheVariants.{Store}
 use Rattle.g1_replay.specs.Race.{AreLeftBy, StoresInto, last_by}
 use Rattle.g1_replay.specs.RaceJobs.{IsTableLeftBy}
 use Rattle.g1_replay.proofs.StoreLemmas.{as_word, in_own, last_own, own}

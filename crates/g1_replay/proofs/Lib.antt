@@ -1,13 +1,9 @@
 pub mod EndLemmas
-pub mod ListLemmas
 pub mod PartLemmas
 pub mod PieceLemmas
-pub mod PlaceLemmas
 pub mod PlayingLemmas
-pub mod PutLemmas
 pub mod ReadingLemmas
 pub mod ToldLemmas
-pub mod WordLemmas
 pub mod AnswerLemmas
 pub mod DrainLemmas
 pub mod RanLemmas

@@ -10,7 +10,7 @@ use Rattle.memchr.specs.Find.{Nowhere, NoneBefore, Passes, IsFirst, IsFirstByte,
 use Rattle.std.specs.Io.KnownBytes.{Consumes}
 use Rattle.g1_replay.specs.declared.lines.Part.{Part}
 use Rattle.g1_replay.specs.declared.lines.Part.TheVariants.{Whole, TooLong, More, Nothing, Failed}
-use Rattle.g1_replay.specs.declared.fault.TraceFault.TheVariants as fault
+use Rattle.g1_trace.specs.declared.fault.TraceFault.TheVariants as fault
 use Rattle.g1_replay.specs.declared.stop.Stop.TheVariants.{Fault}
 use Rattle.g1_replay.specs.Lines.{IsPart, EndsAtFeed, GoesOn, ReadsPart, ReadsLine}
 

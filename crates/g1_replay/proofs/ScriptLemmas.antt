@@ -12,9 +12,9 @@ use Rattle.g1_book.specs.declared.desk.Step.TheVariants as step
 use Rattle.g1_book.specs.declared.desk.Script.{Script}
 use Rattle.g1_book.specs.declared.desk.Script.TheVariants.{Mutate, Refine}
 use Rattle.g1_book.specs.declared.refusal.Refusal.{Refusal}
-use Rattle.g1_replay.specs.declared.command.Command.{Command}
-use Rattle.g1_replay.specs.declared.command.Command.TheVariants.{Store, Flush}
-use Rattle.g1_replay.specs.Grammar.{IsCommandOf}
+use Rattle.g1_trace.specs.declared.command.Command.{Command}
+use Rattle.g1_trace.specs.declared.command.Command.TheVariants.{Store, Flush}
+use Rattle.g1_trace.specs.Grammar.{IsCommandOf}
 use Rattle.g1_replay.specs.Scripts.{step_for, IsScriptOf, refusal_in, first_refusal}
 
 -- one command more

@@ -8,8 +8,8 @@ use Rattle.g1_race.proofs.Plain.{in_either}
 use Rattle.g1_book.specs.Ask.{Ask, AskStore, AskFlush, AskWork, ask_of, asks_of}
 use Rattle.g1_book.specs.declared.desk.Step.{Step}
 use Rattle.g1_book.specs.declared.desk.Step.TheVariants as step
-use Rattle.g1_replay.specs.declared.command.Command.{Command}
-use Rattle.g1_replay.specs.declared.command.Command.TheVariants.{Store, Flush}
+use Rattle.g1_trace.specs.declared.command.Command.{Command}
+use Rattle.g1_trace.specs.declared.command.Command.TheVariants.{Store, Flush}
 use Rattle.g1_replay.specs.Members.{histories_after}
 use Rattle.g1_replay.specs.Race.{last_by}
 use Rattle.g1_replay.specs.Scripts.{step_for}

@@ -8,9 +8,9 @@ use Rattle.g1_core.specs.Calls.{drain_entry}
 use Rattle.g1_core.specs.Machine.{Machine}
 use Rattle.g1_core.specs.Run.{IsStep, table_after}
 use Rattle.g1_core.specs.Table.{Table}
-use Rattle.g1_replay.specs.declared.command.Command.{Command}
+use Rattle.g1_trace.specs.declared.command.Command.{Command}
 use Rattle.g1_core.specs.declared.entry.Call.TheVariants.{Drain}
-use Rattle.g1_replay.specs.declared.command.Command.TheVariants.{Call}
+use Rattle.g1_trace.specs.declared.command.Command.TheVariants.{Call}
 use Rattle.g1_replay.specs.Race.{drain_text, drained_text}
 
 -- from one table to another just these drains were made, and they answered so

@@ -1,14 +1,7 @@
-pub mod Grammar
 pub mod Lines
-pub mod Places
 pub mod Reading
-pub mod Trace
-pub mod Words
-pub mod Bytes
-pub mod Text
+pub mod Flush
 pub mod Pieces
-pub mod Settings
-pub mod CommandLine
 pub mod Output
 pub mod Playing
 pub mod Stops

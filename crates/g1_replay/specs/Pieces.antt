@@ -11,9 +11,9 @@ use Rattle.g1_core.specs.declared.entry.Call.TheVariants.{Store, Refine}
 use Rattle.g1_core.specs.declared.entry.Reply.TheVariants as reply
 use Rattle.g1_core.specs.Settings.{Settings}
 use Rattle.g1_book.specs.Rounds.{round_size}
-use Rattle.g1_replay.specs.declared.command.Command.{Command}
-use Rattle.g1_replay.specs.declared.command.Command.TheVariants as command
-use Rattle.g1_replay.specs.Text.{stored_line, flushed_line, refined_line, worked_line, call_line}
+use Rattle.g1_trace.specs.declared.command.Command.{Command}
+use Rattle.g1_trace.specs.declared.command.Command.TheVariants as command
+use Rattle.g1_trace.specs.Text.{stored_line, flushed_line, refined_line, worked_line, call_line}
 
 -- What is printed of a command and stands in none of its calls: how many cards a flush moved, the length of the line
 -- that a round saw last, and whether a help, a later call of a round or its growth was refused.

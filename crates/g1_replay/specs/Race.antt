@@ -8,15 +8,15 @@ use Rattle.std.specs.FinSet as set
 use Rattle.g1_core.specs.Table.{Table, Holds}
 use Rattle.g1_core.specs.declared.reply.Drained.{Drained}
 use Rattle.g1_core.specs.declared.reply.Drained.TheVariants.{Cards, Short}
-use Rattle.g1_replay.specs.declared.command.Command.{Command}
+use Rattle.g1_trace.specs.declared.command.Command.{Command}
 use Rattle.g1_core.specs.declared.entry.Call.TheVariants.{Drain}
-use Rattle.g1_replay.specs.declared.command.Command.TheVariants.{Store, Call}
-use Rattle.g1_replay.specs.declared.dialect.Dialect.{Dialect}
+use Rattle.g1_trace.specs.declared.command.Command.TheVariants.{Store, Call}
+use Rattle.g1_trace.specs.declared.dialect.Dialect.{Dialect}
 use Rattle.g1_replay.specs.declared.stop.Stop.{Stop}
 use Rattle.g1_replay.specs.Drains.{drains}
 use Rattle.g1_replay.specs.Scripted.{IsRunEnd, Scripted}
-use Rattle.g1_replay.specs.Text.{drained_line, stores_text}
-use Rattle.g1_replay.specs.Trace.{read_trace}
+use Rattle.g1_trace.specs.Text.{drained_line, stores_text}
+use Rattle.g1_trace.specs.Trace.{read_trace}
 
 abbrev pub is_store_command : Command → Bool
 is_store_command (Store mutator slot target) = true

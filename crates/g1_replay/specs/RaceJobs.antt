@@ -14,7 +14,7 @@ use Rattle.g1_core.specs.Adoption.{IsPairOf}
 use Rattle.g1_book.specs.declared.desk.Script.{Script}
 use Rattle.g1_book.specs.declared.desk.Script.TheVariants.{Mutate, Refine}
 use Rattle.g1_book.specs.declared.desk.Step.TheVariants as step
-use Rattle.g1_replay.specs.declared.command.Command.{Command}
+use Rattle.g1_trace.specs.declared.command.Command.{Command}
 use Rattle.g1_replay.specs.declared.race_desk.Member.{Member}
 use Rattle.g1_replay.specs.declared.race_desk.Member.TheVariants.{Racing, Sweeping}
 use Rattle.g1_replay.specs.Members.{IsMemberOf, is_racer, member_logged}

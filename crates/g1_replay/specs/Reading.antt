@@ -2,15 +2,15 @@
 use Rattle.std.specs.Prelude.{◌≡◌, ℕ, ◌≤◌, List, [], ◌∷◌, ◌++◌, length, Bool, true, false, Result, Ok, Err, Option, Some, None, IsSome}
 use Rattle.std.specs.Io.KnownBytes.{Consumes, IsAtEnd}
 use Rattle.g1_layout.specs.Shape.{Shape}
-use Rattle.g1_replay.specs.declared.command.Command.{Command}
-use Rattle.g1_replay.specs.declared.dialect.Dialect.{Dialect}
+use Rattle.g1_trace.specs.declared.command.Command.{Command}
+use Rattle.g1_trace.specs.declared.dialect.Dialect.{Dialect}
 use Rattle.g1_replay.specs.declared.next.Next.{Next}
 use Rattle.g1_replay.specs.declared.next.Next.TheVariants.{End, Blank, Do}
 use Rattle.g1_replay.specs.declared.stop.Stop.{Stop}
 use Rattle.g1_replay.specs.declared.stop.Stop.TheVariants.{Fault, ReadFailed}
-use Rattle.g1_replay.specs.Grammar.{IsCommandOf}
+use Rattle.g1_trace.specs.Grammar.{IsCommandOf}
 use Rattle.g1_replay.specs.Lines.{IsPart}
-use Rattle.g1_replay.specs.Trace.{read_on, before, faulty}
+use Rattle.g1_trace.specs.Trace.{read_on, before, faulty}
 
 -- x is what the reader has left, where that is known
 abbrev pub IsLeft : Option (List ℕ) → List ℕ → Type 0

@@ -7,8 +7,8 @@ use Rattle.g1_book.specs.declared.desk.Step.TheVariants as step
 use Rattle.g1_book.specs.declared.desk.Script.{Script}
 use Rattle.g1_book.specs.declared.desk.Script.TheVariants.{Mutate, Refine}
 use Rattle.g1_book.specs.declared.refusal.Refusal.{Refusal}
-use Rattle.g1_replay.specs.declared.command.Command.{Command}
-use Rattle.g1_replay.specs.declared.command.Command.TheVariants.{Store, Flush}
+use Rattle.g1_trace.specs.declared.command.Command.{Command}
+use Rattle.g1_trace.specs.declared.command.Command.TheVariants.{Store, Flush}
 
 -- what a command asks of this mutator, if it is the mutator's
 abbrev pub step_for : ℕ → Command → Option Step

@@ -3,8 +3,8 @@ use Rattle.std.specs.Prelude.{◌≡◌, ℕ, ◌<◌, Bool, true, false, List, 
 use Rattle.g1_log.specs.Log.{Cards}
 use Rattle.g1_core.specs.declared.entry.Call.{Call}
 use Rattle.g1_core.specs.declared.entry.Call.TheVariants.{Drain, Redirect}
-use Rattle.g1_replay.specs.declared.command.Command.{Command}
-use Rattle.g1_replay.specs.declared.command.Command.TheVariants as command
+use Rattle.g1_trace.specs.declared.command.Command.{Command}
+use Rattle.g1_trace.specs.declared.command.Command.TheVariants as command
 
 -- whether the mutators stand still for a call, and for a command
 abbrev pub is_pause : Call → Bool

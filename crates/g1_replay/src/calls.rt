@@ -1,19 +1,16 @@
 //! The questions, drains, clears and redirects of a trace: one call of the first caller each, and its line.
 ghost use Rattle.std.specs.Prelude.{◌∷◌, [], IfErr, codes};
 ghost use Rattle.g1_book.specs.History.{layout_in};
-ghost use Rattle.g1_replay.specs.Bytes.{Puts};
-ghost use Rattle.g1_replay.specs.Grammar.{IsCallOf};
+ghost use Rattle.g1_trace.specs.Bytes.{Puts};
+ghost use Rattle.g1_trace.specs.Grammar.{IsCallOf};
 ghost use Rattle.g1_replay.specs.Playing.{Does, HasPlayed, IsCalled, IsFull, MayStop};
 ghost use Rattle.g1_replay.specs.Reading.{more_may_come};
-ghost use Rattle.g1_replay.specs.Text.{call_line};
+ghost use Rattle.g1_trace.specs.Text.{call_line};
 
-use crate::command::Command;
-use crate::list::put_cards;
-use crate::output::{WriteFailed, put, put_either};
-use crate::print::{put_clear_reply, put_redirected, put_status, put_target};
 use crate::stop::Stop;
 use g1_book::{Book, Refusal};
 use g1_core::{Call, Reply};
+use g1_trace::{Command, WriteFailed, put, put_cards, put_clear_reply, put_either, put_redirected, put_status, put_target};
 use std::io::Write;
 
 /// Makes the call and writes the line of its entry.

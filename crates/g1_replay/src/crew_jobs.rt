@@ -2,16 +2,16 @@
 ghost use Rattle.std.specs.Prelude.{◌≡◌, ◌+◌, ◌≤◌, [], IfErr, IfOk, All, map, vec_len, vec_capacity};
 ghost use Rattle.g1_book.specs.Callers.{IsCallerOf};
 ghost use Rattle.g1_book.specs.History.{terms_of};
-ghost use Rattle.g1_replay.specs.Grammar.{IsCommandOf};
+ghost use Rattle.g1_trace.specs.Grammar.{IsCommandOf};
 ghost use Rattle.g1_replay.specs.Scripted.{IsUnstarted};
 ghost use Rattle.g1_replay.specs.Scripts.{first_refusal, IsScriptOf};
 
-use crate::command::Command;
-use crate::options::Options;
 use crate::scripts::{refusal_of, script_for};
 use crate::stop::Stop;
 use g1_book::{Book, Caller, Frame, Job, Refusal, Shared, SharedDesk, run_crew};
 use g1_layout::NoMemory;
+use g1_options::Options;
+use g1_trace::Command;
 use std::alloc::Global;
 use std::marker::Send;
 use std::sync::Wait;

@@ -8,10 +8,10 @@ ghost use Rattle.g1_replay.specs.Playing.{HasPlayed, IsFull, MayStop, Writes};
 
 use crate::calls::play_call;
 use crate::drains::{Drains, put_drains};
-use crate::print::put_stores;
 use crate::stop::Stop;
 use g1_book::{Book, Call, Entry, Refusal};
 use g1_layout::Region;
+use g1_trace::put_stores;
 use std::io::Write;
 
 // Whether the call of the entry is a store.

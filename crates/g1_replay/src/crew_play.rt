@@ -2,26 +2,24 @@
 //! written.
 ghost use Rattle.std.specs.Prelude.{◌≡◌, ℕ, List, ◌++◌, All, Result, IfSome};
 ghost use Rattle.g1_replay.specs.Crew.{Crewed, IsWholeCrew, Ran};
-ghost use Rattle.g1_replay.specs.Grammar.{IsCommandOf};
+ghost use Rattle.g1_trace.specs.Grammar.{IsCommandOf};
 ghost use Rattle.g1_replay.specs.Output.{IsEnded, ending_line};
 ghost use Rattle.g1_replay.specs.Playing.{Writes};
 ghost use Rattle.g1_replay.specs.Scripted.{IsRefusedTrace};
-ghost use Rattle.g1_replay.specs.declared.command_line.Mode.TheVariants.{Crew};
+ghost use Rattle.g1_trace.specs.declared.mode.Mode.TheVariants.{Crew};
 ghost use Rattle.g1_replay.specs.declared.stop.Stop.{Stop};
 
-use crate::command::Command;
-use crate::command_line::Mode;
 use crate::crew_jobs::run_jobs;
 use crate::crew_output::put_crew;
-use crate::dialect::Dialect;
 use crate::end::End;
 use crate::engine::put_end;
 use crate::listing::read_scripts;
-use crate::options::Options;
 use crate::source::Source;
 use crate::stop::Stop;
 use g1_book::Book;
 use g1_layout::Layout;
+use g1_options::Options;
+use g1_trace::{Command, Dialect, Mode};
 use std::alloc::Global;
 use std::io::{BufRead, Write};
 use std::marker::Brand;

@@ -4,17 +4,17 @@ ghost use Rattle.g1_replay.specs.Drains.{HasDrained};
 ghost use Rattle.g1_replay.specs.Playing.{Does, MayStop};
 ghost use Rattle.g1_replay.specs.Reading.{more_may_come};
 
-use crate::command::Command;
 use crate::stop::Stop;
 use g1_core::Call;
 use g1_layout::{Layout, Region};
+use g1_trace::Command;
 use std::io::Write;
 
 /// What the threads leave, whose regions can be drained.
 pub(crate) trait Drains {
     ghost use Rattle.std.specs.Prelude.{ℕ, List, [], ◌++◌};
     ghost use Rattle.g1_layout.specs.Shape.{Shape};
-    ghost use Rattle.g1_replay.specs.declared.command.Command.{Command};
+    ghost use Rattle.g1_trace.specs.declared.command.Command.{Command};
 
     /// The heap that it is of.
     ghost layout: { Self → Shape };

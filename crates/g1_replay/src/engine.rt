@@ -3,23 +3,20 @@ ghost use Rattle.std.specs.Prelude.{◌≡◌, ℕ, List, [], ◌++◌, ◌<◌,
 ghost use Rattle.g1_replay.specs.Playing.{Follows, Writes};
 ghost use Rattle.g1_replay.specs.Output.{Told, IsEnded, ended, ending_line, end_or_failed, IsWholeOutput, IsRefusedOutput};
 ghost use Rattle.g1_replay.specs.Reading.{IsReadStop};
-ghost use Rattle.g1_replay.specs.declared.command_line.Mode.TheVariants.{Run};
+ghost use Rattle.g1_trace.specs.declared.mode.Mode.TheVariants.{Run};
 ghost use Rattle.g1_replay.specs.declared.stop.Stop.{Stop};
 
-use crate::command_line::Mode;
-use crate::dialect::Dialect;
 use crate::end::End;
 use crate::machinery::Machinery;
 use crate::next::{Next, read_next};
 use crate::opening::read_heap;
-use crate::options::Options;
-use crate::output::WriteFailed;
 use crate::player::Player;
-use crate::print::{put_book_full, put_fault, put_no_memory, put_no_thread, put_read_failed};
 use crate::source::Source;
 use crate::stop::Stop;
 use g1_layout::Layout;
 use g1_log::Line;
+use g1_options::Options;
+use g1_trace::{Dialect, Mode, WriteFailed, put_book_full, put_fault, put_no_memory, put_no_thread, put_read_failed};
 use std::alloc::Global;
 use std::io::{BufRead, Write};
 use std::sync::Wait;

@@ -3,9 +3,9 @@
 ghost use Rattle.std.specs.Prelude.{◌≡◌, ℕ, List, [], ◌∷◌, ◌++◌, ◌≤◌, ◌<◌, ◌^◌, ◌+◌, length, Ok, true};
 ghost use Rattle.g1_replay.specs.Lines.{GoesOn, ReadsPart, Reads, ReadsLine, IsPart, EndsAtFeed};
 
-use crate::fault::TraceFault;
 use crate::stop::Stop;
 use arrayvec::ArrayVec;
+use g1_trace::TraceFault;
 use memchr::memchr_iter;
 use std::io::{BufRead, Read};
 

@@ -1,19 +1,18 @@
 //! The commands of a trace, kept in its order.
 ghost use Rattle.std.specs.Prelude.{◌≡◌, [], ◌++◌, Ok, Some, None, false, All, IfOk, MatchResult};
 ghost use Rattle.std.specs.Io.KnownBytes.{Appends};
-ghost use Rattle.g1_replay.specs.Grammar.{IsCommandOf};
+ghost use Rattle.g1_trace.specs.Grammar.{IsCommandOf};
 ghost use Rattle.g1_replay.specs.Reading.{Reads};
 ghost use Rattle.g1_replay.specs.Scripted.{listed_none, listed_then, no_memory_may, StopsReading};
 ghost use Rattle.g1_replay.specs.declared.stop.Stop.TheVariants.{NoMemory};
 
-use crate::command::Command;
-use crate::dialect::Dialect;
 use crate::engine::play_lines;
 use crate::opening::read_heap;
 use crate::player::Player;
 use crate::source::Source;
 use crate::stop::Stop;
 use g1_layout::Layout;
+use g1_trace::{Command, Dialect};
 use std::alloc::Global;
 use std::io::{BufRead, Write};
 use std::sync::Wait;

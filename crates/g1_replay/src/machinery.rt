@@ -7,10 +7,10 @@ ghost use Rattle.g1_book.specs.Steps.{IsStopped, GainsAtMost};
 ghost use Rattle.g1_replay.specs.Playing.{IsLineKept, IsLineSet, IsOpened};
 ghost use Rattle.g1_replay.specs.Still.{AreStill, IsNewLog};
 
-use crate::options::Options;
 use g1_book::{Book, Mutator, empty_line};
 use g1_layout::{Layout, NoMemory};
 use g1_log::{Line, Log, Sender, Taker};
+use g1_options::Options;
 use std::alloc::Global;
 use std::sync::Wait;
 

@@ -3,14 +3,12 @@
 ghost use Rattle.std.specs.Prelude.{◌≡◌, ◌<◌, ◌≤◌, ◌^◌, Some, IfOk, IfErr};
 ghost use Rattle.g1_replay.specs.Reading.{Reads, commands_of, next_met, IsLine, IsNextOf, IsReadStop};
 
-use crate::command::Command;
-use crate::dialect::Dialect;
-use crate::grammar::read_command;
 use crate::lines::next_line;
 use crate::source::Source;
 use crate::stop::Stop;
 use arrayvec::ArrayVec;
 use g1_layout::Layout;
+use g1_trace::{Command, Dialect, read_command};
 use std::io::BufRead;
 
 /// What the next line asks for.

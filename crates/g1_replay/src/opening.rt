@@ -3,15 +3,14 @@
 ghost use Rattle.std.specs.Prelude.{◌≡◌, [], ◌<◌, ◌≤◌, ◌^◌, Ok, None, IfErr};
 ghost use Rattle.std.specs.Result.{result_ok};
 ghost use Rattle.g1_replay.specs.Reading.{Reads, more_may_come, opened_by, IsReadStop};
-ghost use Rattle.g1_replay.specs.declared.dialect.Dialect.{Dialect};
+ghost use Rattle.g1_trace.specs.declared.dialect.Dialect.{Dialect};
 
-use crate::fault::TraceFault;
-use crate::header::read_header;
 use crate::lines::next_line;
 use crate::source::Source;
 use crate::stop::Stop;
 use arrayvec::ArrayVec;
 use g1_layout::Layout;
+use g1_trace::{TraceFault, read_header};
 use std::io::BufRead;
 
 // One line before the header, or the header.

@@ -1,13 +1,12 @@
 //! What is done with the commands of a trace.
 ghost use Rattle.std.specs.Prelude.{◌≡◌, OnOk, IfErr, ◌∷◌, []};
-ghost use Rattle.g1_replay.specs.Grammar.{IsCommandOf};
+ghost use Rattle.g1_trace.specs.Grammar.{IsCommandOf};
 ghost use Rattle.g1_replay.specs.Playing.{Does, MayStop};
 ghost use Rattle.g1_replay.specs.Reading.{more_may_come};
 
-use crate::command::Command;
-use crate::dialect::Dialect;
 use crate::stop::Stop;
 use g1_layout::Layout;
+use g1_trace::{Command, Dialect};
 use std::io::Write;
 use std::sync::Wait;
 
@@ -18,8 +17,8 @@ use std::sync::Wait;
 pub(crate) trait Player {
     ghost use Rattle.std.specs.Prelude.{ℕ, List, [], ◌++◌};
     ghost use Rattle.g1_layout.specs.Shape.{Shape};
-    ghost use Rattle.g1_replay.specs.declared.command.Command.{Command};
-    ghost use Rattle.g1_replay.specs.declared.dialect.Dialect.{Dialect};
+    ghost use Rattle.g1_trace.specs.declared.command.Command.{Command};
+    ghost use Rattle.g1_trace.specs.declared.dialect.Dialect.{Dialect};
     ghost use Rattle.g1_replay.specs.declared.stop.Stop.{Stop};
 
     /// It takes commands over this heap, in this dialect.

@@ -8,12 +8,11 @@ ghost use Rattle.g1_replay.specs.Race.{is_store_command, RaceRan};
 ghost use Rattle.g1_replay.specs.RaceJobs.{IsTableLeftBy};
 
 use crate::calls::put_call;
-use crate::command::Command;
 use crate::drains::{Drains, put_drains};
-use crate::print::put_stores;
 use crate::stop::Stop;
 use g1_core::{Call, Core, Drained, Reply};
 use g1_layout::Region;
+use g1_trace::{Command, put_stores};
 use std::io::Write;
 
 // How many of the commands are stores.

@@ -1,25 +1,23 @@
 //! A trace is read to its end, the stores of each mutator race in a thread of its own, and what has come of it is written.
 ghost use Rattle.std.specs.Prelude.{◌≡◌, ℕ, List, ◌++◌, All, Result, IfSome};
-ghost use Rattle.g1_replay.specs.Grammar.{IsCommandOf};
+ghost use Rattle.g1_trace.specs.Grammar.{IsCommandOf};
 ghost use Rattle.g1_replay.specs.Output.{IsEnded, ending_line};
 ghost use Rattle.g1_replay.specs.Playing.{Writes};
 ghost use Rattle.g1_replay.specs.Race.{IsWholeRace, RacedTrace, RaceRan};
 ghost use Rattle.g1_replay.specs.Scripted.{IsRefusedTrace};
-ghost use Rattle.g1_replay.specs.declared.command_line.Mode.TheVariants.{Race};
+ghost use Rattle.g1_trace.specs.declared.mode.Mode.TheVariants.{Race};
 ghost use Rattle.g1_replay.specs.declared.stop.Stop.{Stop};
 
-use crate::command::Command;
-use crate::command_line::Mode;
-use crate::dialect::Dialect;
 use crate::end::End;
 use crate::engine::put_end;
 use crate::listing::read_scripts;
-use crate::options::Options;
 use crate::race_jobs::run_race;
 use crate::race_output::put_race;
 use crate::source::Source;
 use crate::stop::Stop;
 use g1_layout::Layout;
+use g1_options::Options;
+use g1_trace::{Command, Dialect, Mode};
 use std::alloc::Global;
 use std::io::{BufRead, Write};
 use std::sync::Wait;

@@ -1,10 +1,9 @@
 //! Why a replay goes no further.
 ghost use Rattle.std.specs.Prelude.{◌≡◌};
 
-use crate::fault::TraceFault;
-use crate::output::WriteFailed;
 use g1_book::{NotStarted, Refusal};
 use g1_layout::NoMemory;
+use g1_trace::{TraceFault, WriteFailed};
 use std::alloc::AllocError;
 
 /// Why a replay goes no further (docs/TRACES.md, Faults, Ends).

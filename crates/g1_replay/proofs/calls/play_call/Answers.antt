@@ -1,7 +1,7 @@
 use Rattle.std.proofs.Common.{◌≡◌, ◌-◌, sym, subst, length, Some}
 use Rattle.std.specs.List.{slice_get}
 use Rattle.std.proofs.lemmas.Result.{err_from_is_err_and}
-use Rattle.g1_replay.specs.declared.command.Command.TheVariants.{Call}
+use Rattle.g1_trace.specs.declared.command.Command.TheVariants.{Call}
 use Rattle.g1_replay.proofs.AnswerLemmas.{call_says, does_answer, does_front, does_refused}
 use Rattle.g1_replay.proofs.calls.play_call.Goals as goal
 

@@ -1,6 +1,6 @@
 use Rattle.std.proofs.Common.{[], None, true, ◌^◌, ◌-◌}
 use Rattle.std.specs.Prelude.{Ok}
-use Rattle.g1_replay.specs.declared.dialect.Dialect.{Dialect}
+use Rattle.g1_trace.specs.declared.dialect.Dialect.{Dialect}
 use Rattle.g1_replay.specs.Reading.{Reads}
 use Rattle.g1_replay.proofs.opening.read_heap.Given as goal
 

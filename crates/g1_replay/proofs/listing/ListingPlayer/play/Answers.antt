@@ -1,6 +1,6 @@
 use Rattle.std.proofs.lemmas.List.Elements.{All-push}
 use Rattle.std.proofs.lemmas.Result.{err_from_is_err_and}
-use Rattle.g1_replay.specs.Grammar.{IsCommandOf}
+use Rattle.g1_trace.specs.Grammar.{IsCommandOf}
 use Rattle.g1_replay.proofs.ScriptedLemmas.{not_listed}
 use Rattle.g1_replay.proofs.listing.ListingPlayer.play.Goals as goal
 

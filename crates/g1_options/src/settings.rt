@@ -1,0 +1,114 @@
+//! The options of the command line: names, units, limits, defaults and help.
+ghost use Rattle.std.specs.Prelude.{◌≡◌, false};
+ghost use Rattle.clap.specs.Words.{rule_of};
+ghost use Rattle.g1_options.specs.CommandLine.{option_rule};
+
+use clap::{Arg, value_parser};
+use std::alloc::Global;
+
+/// An option that takes one whole number.
+#[derive(Clone, Copy)]
+pub(crate) struct Setting {
+    pub(crate) name: &'static str,
+    unit: &'static str,
+    pub(crate) least: u32,
+    pub(crate) most: u32,
+    default: &'static str,
+    help: &'static str,
+}
+
+pub(crate) const MUTATORS: Setting = Setting {
+    name: "mutators",
+    unit: "COUNT",
+    least: 1,
+    most: 8,
+    default: "1",
+    help: "Mutators of the trace, numbered from 0: 1 to 8",
+};
+
+pub(crate) const LOG: Setting = Setting {
+    name: "log",
+    unit: "CARDS",
+    least: 1,
+    most: 256,
+    default: "256",
+    help: "Cards that fill a mutator's log: 1 to 256",
+};
+
+pub(crate) const LIMIT: Setting = Setting {
+    name: "limit",
+    unit: "BUFFERS",
+    least: 1,
+    most: 1024, // what a line can hold
+    default: "10",
+    help: "Completed buffers that may wait for refinement: 1 to 1024",
+};
+
+pub(crate) const HOT: Setting = Setting {
+    name: "hot",
+    unit: "TIMES",
+    least: 0,
+    most: 255,
+    default: "4",
+    help: "Refinements after which a card is hot, 0 for at once: 0 to 255",
+};
+
+pub(crate) const RING: Setting = Setting {
+    name: "ring",
+    unit: "CARDS",
+    least: 1,
+    most: 4096,
+    default: "1024",
+    help: "Hot cards that are set aside: 1 to 4096",
+};
+
+pub(crate) const START: Setting = Setting {
+    name: "start",
+    unit: "BUFFERS",
+    least: 1,
+    most: 1024, // more never wait
+    default: "5",
+    help: "Completed buffers that a round of 'work' wants: 1 to 1024",
+};
+
+pub(crate) const HISTORY: Setting = Setting {
+    name: "history",
+    unit: "ENTRIES",
+    least: 1,
+    most: 1_000_000,
+    default: "1000000",
+    help: "Calls that the history takes: 1 to 1000000",
+};
+
+pub(crate) const REFINERS: Setting = Setting {
+    name: "refiners",
+    unit: "COUNT",
+    least: 1,
+    most: 4,
+    default: "1",
+    help: "Threads that refine while the mutators store: 1 to 4",
+};
+
+pub(crate) const ROUNDS: Setting = Setting {
+    name: "rounds",
+    unit: "COUNT",
+    least: 0,
+    most: 10_000,
+    default: "100",
+    help: "Rounds of 'work' that each of these threads makes: 0 to 10000",
+};
+
+impl Setting {
+    /// The argument that the command line has for this option.
+    pub(crate) fn argument<'a>(&self, alloc: Global) -> Arg<'a>
+        ensures rule { rule_of result ≡ option_rule self.now.name.now self.now.least self.now.most self.now.default.now }
+        ensures local { result.global ≡ false }
+    {
+        Arg::new(alloc, self.name)
+            .long(self.name)
+            .value_name(self.unit)
+            .value_parser(value_parser!(u32).range(i64::from(self.least)..=i64::from(self.most)))
+            .default_value(self.default)
+            .help(self.help)
+    }
+}

@@ -1,5 +1,0 @@
-use Rattle.g1_replay.proofs.PutLemmas.{keeps_appends}
-use Rattle.g1_replay.proofs.output.write_some.Goals as goal
-
-pub returns-in-Err-clause-failed : goal.returns-in-Err-clause-failed
-returns-in-Err-clause-failed g c = keeps_appends _ _ c.in-Err.ensures.bytes

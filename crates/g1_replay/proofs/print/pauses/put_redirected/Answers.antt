@@ -1,7 +1,0 @@
-use Rattle.std.proofs.Common.{◌≡◌, rules}
-use Rattle.g1_replay.proofs.print.pauses.put_redirected.Goals as goal
-
-pub returns : goal.returns
-returns g c =
-    let is : c.from.result ≡ c.args.slots = search rules in
-    rw is at c.put_between.ensures

@@ -1,0 +1,4 @@
+pub mod WordLemmas
+pub mod PlaceLemmas
+pub mod ListLemmas
+pub mod PutLemmas

@@ -1,0 +1,6 @@
+pub mod Words
+pub mod Places
+pub mod Grammar
+pub mod Trace
+pub mod Bytes
+pub mod Text

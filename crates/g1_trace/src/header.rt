@@ -1,0 +1,50 @@
+//! The header of a trace, which opens its heap.
+
+ghost use Rattle.std.specs.Prelude.{◌≡◌, ℕ, []};
+ghost use Rattle.g1_trace.specs.Words.{words_from};
+ghost use Rattle.g1_trace.specs.Grammar.{heap_of, read_opening, read_header};
+
+use crate::fault::TraceFault;
+use crate::places::{clamped, three_numbers};
+use crate::words::{is, is_remark, split_word};
+use g1_layout::Layout;
+
+// The heap of three counts, if they are within the limits.
+fn heap(regions: u64, cards: u64, slots: u64) -> Result<Layout, TraceFault>
+    ensures { result ≡ heap_of regions cards slots }
+{
+    match Layout::new(clamped(regions), clamped(cards), clamped(slots)) {
+        Some(layout) => Ok(layout),
+        None => Err(TraceFault::BadHeap),
+    }
+}
+
+// The heap of a first word and the words behind it.
+#[tactic(auto, unfolding(crate::specs::Grammar::read_opening))]
+fn opening(name: &[u8], words: &[u8]) -> Result<Layout, TraceFault>
+    ensures { result ≡ read_opening name.now (words_from [] words.now) }
+{
+    if !is(name, b"heap") {
+        return Err(TraceFault::NoHeader);
+    }
+    let (regions, cards, slots) = three_numbers(words)?;
+    heap(regions, cards, slots)
+}
+
+/// The heap of a line that is the header, or none where the line is empty or a remark (docs/TRACES.md, Commands).
+///
+/// The faults come in the order of docs/TRACES.md, Faults: no header, wrong words, not a number, and only then a bad
+/// heap. One pass over the line, and no memory.
+#[tactic(auto, unfolding(crate::specs::Grammar::read_header))]
+pub fn read_header(line: &[u8]) -> Result<Option<Layout>, TraceFault>
+    ensures { result ≡ read_header line.now }
+{
+    match split_word(line) {
+        None => Ok(None),
+        Some((name, _)) if is_remark(name) => Ok(None),
+        Some((name, words)) => {
+            let layout = opening(name, words)?;
+            Ok(Some(layout))
+        }
+    }
+}
