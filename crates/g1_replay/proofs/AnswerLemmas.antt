@@ -28,14 +28,14 @@ use Rattle.g1_book.specs.Rounds.{IsRound, Turn, round_calls, replies_of, round_s
 use Rattle.g1_book.proofs.StepLemmas.{grows_none, grows_entered, calls_grow, round_entries}
 use Rattle.g1_trace.specs.declared.command.Command.{Command}
 use Rattle.g1_trace.specs.declared.command.Command.TheVariants as command
+use Rattle.g1_trace.specs.Bytes.{AppendsFront}
+use Rattle.g1_trace.specs.Text.{store_text, refine_text, work_text, call_line}
 use Rattle.g1_replay.specs.declared.stop.Stop.{Stop}
 use Rattle.g1_replay.specs.declared.stop.Stop.TheVariants.{WriteFailed}
-use Rattle.g1_trace.specs.Bytes.{AppendsFront}
 use Rattle.g1_replay.specs.Laws.{played_one}
 use Rattle.g1_replay.specs.Playing.{HasPlayed, IsCalled, IsRefused, IsFull, Does}
 use Rattle.g1_replay.specs.Stops.{stop_of}
 use Rattle.g1_replay.specs.Flush.{flush_text}
-use Rattle.g1_trace.specs.Text.{store_text, refine_text, work_text, call_line}
 use Rattle.g1_replay.specs.Pieces.{Piece, plain_piece, IsCallBy, IsOfBuffer, IsOfNone, IsLineOf, IsSetBy}
 use Rattle.g1_replay.proofs.PieceLemmas.{Takes, store_says, store_helped_says, store_refused_says, flush_none_says, flush_says, flush_helped_says, flush_refused_says, refine_says, work_says}
 

@@ -19,14 +19,14 @@ use Rattle.g1_race.specs.Over.{Ended, refs_of, table_of}
 use Rattle.g1_trace.specs.declared.command.Command.{Command}
 use Rattle.g1_core.specs.declared.entry.Call.TheVariants.{Drain}
 use Rattle.g1_trace.specs.declared.command.Command.TheVariants.{Call}
+use Rattle.g1_trace.specs.Bytes.{AppendsFront}
+use Rattle.g1_trace.specs.Text.{call_line}
 use Rattle.g1_replay.specs.declared.stop.Stop.{Stop}
 use Rattle.g1_replay.specs.declared.stop.Stop.TheVariants.{NoMemory, WriteFailed}
-use Rattle.g1_trace.specs.Bytes.{AppendsFront}
 use Rattle.g1_replay.specs.CoreDrains.{AreDrains, CoreDrained}
 use Rattle.g1_replay.specs.Playing.{Does}
 use Rattle.g1_replay.specs.Race.{AreExact, IsExactAfter, drain_text, referring}
 use Rattle.g1_replay.specs.RaceJobs.{IsTableLeftBy}
-use Rattle.g1_trace.specs.Text.{call_line}
 
 -- what one drain of a core does
 abbrev pub Drives : ℕ → Machine → Machine → Option (List ℕ) → Option (List ℕ) → Result Bool Stop → Type 0

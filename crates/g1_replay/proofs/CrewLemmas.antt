@@ -5,6 +5,7 @@ use Rattle.std.specs.Io.KnownBytes.{Appends}
 use Rattle.g1_layout.specs.Shape.{Shape}
 use Rattle.g1_book.specs.Counts.{is_store}
 use Rattle.g1_trace.specs.declared.dialect.Dialect.{Dialect}
+use Rattle.g1_trace.specs.Text.{stores_text}
 use Rattle.g1_replay.specs.declared.end.End.{End}
 use Rattle.g1_replay.specs.declared.end.End.TheVariants.{Whole}
 use Rattle.g1_replay.specs.declared.stop.Stop.{Stop}
@@ -13,7 +14,6 @@ use Rattle.g1_replay.specs.Crew.{IsCrewText, Ran, Crewed, IsWholeCrew}
 use Rattle.g1_replay.specs.Drains.{drains}
 use Rattle.g1_replay.specs.Output.{IsEnded, ending_line}
 use Rattle.g1_replay.specs.Pieces.{Walks, lines_of}
-use Rattle.g1_trace.specs.Text.{stores_text}
 use Rattle.g1_replay.proofs.EndLemmas.{whole_trace}
 
 -- the text of a whole end

@@ -6,11 +6,11 @@ use Rattle.std.proofs.KnownBytes.{Appends-nil, Appends-trans}
 use Rattle.g1_core.specs.declared.entry.Call.TheVariants.{Drain}
 use Rattle.g1_trace.specs.declared.command.Command.{Command}
 use Rattle.g1_trace.specs.declared.command.Command.TheVariants.{Call}
+use Rattle.g1_trace.proofs.PutLemmas.{puts_then}
 use Rattle.g1_replay.specs.declared.stop.Stop.{Stop}
 use Rattle.g1_replay.specs.Drains.{drains, HasDrained}
 use Rattle.g1_replay.specs.Playing.{Does, written_by}
 use Rattle.g1_replay.proofs.EndLemmas.{all_done}
-use Rattle.g1_trace.proofs.PutLemmas.{puts_then}
 use Rattle.g1_replay.proofs.ToldLemmas.{written_as, full_as}
 
 -- of one command, nothing was done or all

@@ -9,19 +9,19 @@ use Rattle.g1_core.specs.Table.{opening}
 use Rattle.g1_core.specs.Run.{IsPermitted}
 use Rattle.g1_trace.specs.declared.command.Command.{Command}
 use Rattle.g1_trace.specs.declared.dialect.Dialect.{Dialect}
+use Rattle.g1_trace.specs.declared.fault.TraceFault.{TraceFault}
+use Rattle.g1_trace.specs.Bytes.{AppendsFront}
+use Rattle.g1_trace.specs.Text.{fault_line}
+use Rattle.g1_trace.specs.Trace.{read_trace, before}
+use Rattle.g1_trace.proofs.PutLemmas.{front_then}
 use Rattle.g1_replay.specs.declared.end.End.{End}
 use Rattle.g1_replay.specs.declared.end.End.TheVariants.{Whole, Refused, Stopped, ReadFailed as EndReadFailed, WriteFailed as EndWriteFailed}
-use Rattle.g1_trace.specs.declared.fault.TraceFault.{TraceFault}
 use Rattle.g1_replay.specs.declared.stop.Stop.{Stop}
 use Rattle.g1_replay.specs.declared.stop.Stop.TheVariants.{Fault, WriteFailed}
-use Rattle.g1_trace.specs.Bytes.{AppendsFront}
 use Rattle.g1_replay.specs.Output.{Told, IsEnded, ending_line, end_of, IsWholeOutput, IsRefusedOutput}
 use Rattle.g1_replay.specs.Pieces.{entries_of}
 use Rattle.g1_replay.specs.Playing.{Writes}
 use Rattle.g1_replay.specs.Reading.{Reads, IsLeft}
-use Rattle.g1_trace.specs.Text.{fault_line}
-use Rattle.g1_trace.specs.Trace.{read_trace, before}
-use Rattle.g1_trace.proofs.PutLemmas.{front_then}
 use Rattle.g1_replay.proofs.ReadingLemmas.{left_none}
 
 nil_front : (f l : List ℕ) → [] ≡ f ++ l → f ≡ []

@@ -8,9 +8,9 @@ use Rattle.std.specs.Iterator.{YieldsFirst}
 use Rattle.std.specs.Option.{unwrap_or}
 use Rattle.memchr.specs.Find.{Nowhere, NoneBefore, Passes, IsFirst, IsFirstByte, is_byte, places, places_from}
 use Rattle.std.specs.Io.KnownBytes.{Consumes}
+use Rattle.g1_trace.specs.declared.fault.TraceFault.TheVariants as fault
 use Rattle.g1_replay.specs.declared.lines.Part.{Part}
 use Rattle.g1_replay.specs.declared.lines.Part.TheVariants.{Whole, TooLong, More, Nothing, Failed}
-use Rattle.g1_trace.specs.declared.fault.TraceFault.TheVariants as fault
 use Rattle.g1_replay.specs.declared.stop.Stop.TheVariants.{Fault}
 use Rattle.g1_replay.specs.Lines.{IsPart, EndsAtFeed, GoesOn, ReadsPart, ReadsLine}
 

@@ -13,8 +13,8 @@ use Rattle.g1_core.specs.declared.reply.RefineReply.{RefineReply}
 use Rattle.g1_core.specs.declared.entry.Entry.{Entry}
 use Rattle.g1_core.specs.Calls.{store_entry, refine_entry}
 use Rattle.g1_trace.specs.declared.command.Command.TheVariants as command
-use Rattle.g1_replay.specs.Flush.{flush_text}
 use Rattle.g1_trace.specs.Text.{store_text, refine_text, work_text, worked_line}
+use Rattle.g1_replay.specs.Flush.{flush_text}
 use Rattle.g1_replay.specs.Pieces.{plain_piece, IsOwnFill, IsOfBuffer, IsOfNone, IsRefinementBy, IsLineOf, taken_by, hot_in, skipped_in, is_any_short}
 
 -- the answer of a store that filled its log, as it is entered

@@ -4,11 +4,11 @@ use Rattle.std.specs.Prelude.{Bool, Result, Ok, Err}
 use Rattle.g1_layout.specs.Shape.{Shape}
 use Rattle.g1_trace.specs.declared.command.Command.{Command}
 use Rattle.g1_trace.specs.declared.dialect.Dialect.{Dialect}
+use Rattle.g1_trace.proofs.PutLemmas.{puts_none, puts_then}
 use Rattle.g1_replay.specs.declared.stop.Stop.{Stop}
 use Rattle.g1_replay.specs.declared.stop.Stop.TheVariants.{Fault, NoMemory, BookFull, NoThread, ReadFailed, WriteFailed}
 use Rattle.g1_replay.specs.Playing.{IsUndone, Does, MayStop, Follows, written_by}
 use Rattle.g1_replay.specs.Reading.{IsReadStop, Reads}
-use Rattle.g1_trace.proofs.PutLemmas.{puts_none, puts_then}
 use Rattle.g1_replay.proofs.ReadingLemmas.{reads_none, reads_then}
 
 -- nothing to be done

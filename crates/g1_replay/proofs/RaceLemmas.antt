@@ -9,11 +9,13 @@ use Rattle.g1_core.specs.Table.{Table}
 use Rattle.g1_race.specs.Over.{Ended, refs_of, table_of}
 use Rattle.g1_trace.specs.declared.command.Command.{Command}
 use Rattle.g1_trace.specs.declared.dialect.Dialect.{Dialect}
+use Rattle.g1_trace.specs.Bytes.{AppendsFront}
+use Rattle.g1_trace.specs.Text.{stores_text}
+use Rattle.g1_trace.proofs.PutLemmas.{front_more, puts_none, puts_then}
 use Rattle.g1_replay.specs.declared.end.End.{End}
 use Rattle.g1_replay.specs.declared.end.End.TheVariants.{Whole}
 use Rattle.g1_replay.specs.declared.stop.Stop.{Stop}
 use Rattle.g1_replay.specs.declared.stop.Stop.TheVariants.{Fault, WriteFailed}
-use Rattle.g1_trace.specs.Bytes.{AppendsFront}
 use Rattle.g1_replay.specs.CoreDrains.{AreDrains, CoreDrained}
 use Rattle.g1_replay.specs.Drains.{drains, HasDrained}
 use Rattle.g1_replay.specs.Output.{IsEnded, ending_line}
@@ -21,10 +23,8 @@ use Rattle.g1_replay.specs.Playing.{MayStop, Writes, written_by}
 use Rattle.g1_replay.specs.Race.{HasRaced, IsRaceText, IsWholeRace, RacedTrace, RaceRan, drained_text, is_store_command}
 use Rattle.g1_replay.specs.RaceJobs.{IsTableLeftBy}
 use Rattle.g1_replay.specs.Scripted.{IsRunEnd, IsUnstarted}
-use Rattle.g1_trace.specs.Text.{stores_text}
 use Rattle.g1_replay.proofs.CoreDrainLemmas.{are_exact, from_itself}
 use Rattle.g1_replay.proofs.EndLemmas.{whole_trace}
-use Rattle.g1_trace.proofs.PutLemmas.{front_more, puts_none, puts_then}
 use Rattle.g1_replay.proofs.RanLemmas.{ends_by, unstarted_end}
 
 -- no job was run, or one was refused

@@ -7,17 +7,17 @@ use Rattle.g1_core.specs.declared.entry.Entry.{Entry}
 use Rattle.g1_core.specs.Run.{IsPermitted}
 use Rattle.g1_book.specs.Counts.{is_store}
 use Rattle.g1_book.specs.History.{History, IsHistory, Terms, layout_in}
+use Rattle.g1_trace.specs.Bytes.{AppendsFront}
+use Rattle.g1_trace.specs.Text.{stores_text}
+use Rattle.g1_trace.proofs.PutLemmas.{front_more, puts_none, puts_then}
 use Rattle.g1_replay.specs.declared.stop.Stop.{Stop}
 use Rattle.g1_replay.specs.declared.stop.Stop.TheVariants.{NoMemory, BookFull, NoThread, WriteFailed}
-use Rattle.g1_trace.specs.Bytes.{AppendsFront}
 use Rattle.g1_replay.specs.Crew.{Ran}
 use Rattle.g1_replay.specs.Drains.{drains, HasDrained}
 use Rattle.g1_replay.specs.Laws.{played_none}
 use Rattle.g1_replay.specs.Pieces.{entries_of}
 use Rattle.g1_replay.specs.Playing.{HasPlayed, IsFull, MayStop, Writes, written_by}
 use Rattle.g1_replay.specs.Scripted.{IsRunEnd, IsUnstarted}
-use Rattle.g1_trace.specs.Text.{stores_text}
-use Rattle.g1_trace.proofs.PutLemmas.{front_more, puts_none, puts_then}
 use Rattle.std.specs.Io.KnownBytes.{Appends}
 
 -- a book with drains behind it is a run, and its text counts the stores in front of them

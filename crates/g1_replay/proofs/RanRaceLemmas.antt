@@ -22,9 +22,9 @@ use Rattle.g1_book.specs.declared.desk.Step.TheVariants as step
 use Rattle.g1_book.specs.Ask.{Ask, ScriptFits, StepFits, asks_in, asks_of}
 use Rattle.g1_book.specs.Ran.{Ran}
 use Rattle.g1_trace.specs.declared.command.Command.{Command}
+use Rattle.g1_trace.specs.Grammar.{IsCommandOf}
 use Rattle.g1_replay.specs.declared.race_desk.Member.{Member}
 use Rattle.g1_replay.specs.declared.race_desk.Member.TheVariants.{Racing, Sweeping}
-use Rattle.g1_trace.specs.Grammar.{IsCommandOf}
 use Rattle.g1_replay.specs.Members.{IsMemberOf, MemberDid, histories_after, is_racer, member_rights}
 use Rattle.g1_replay.specs.RaceJobs.{AllFrom, IsRaceJob, IsRaceScript, racer_in}
 use Rattle.g1_replay.specs.Scripts.{first_refusal, refusal_in}

@@ -10,12 +10,12 @@ use Rattle.g1_trace.specs.declared.command.Command.{Command}
 use Rattle.g1_trace.specs.declared.dialect.Dialect.{Dialect}
 use Rattle.g1_trace.specs.declared.fault.TraceFault.{TraceFault}
 use Rattle.g1_trace.specs.declared.fault.TraceFault.TheVariants.{TooLong, Cut, NoHeader}
+use Rattle.g1_trace.specs.Grammar.{read_command, read_header}
+use Rattle.g1_trace.specs.Trace.{read_on, read_line, after_line, at_end, before, faulty}
 use Rattle.g1_replay.specs.declared.stop.Stop.{Stop}
 use Rattle.g1_replay.specs.declared.stop.Stop.TheVariants.{Fault, ReadFailed}
-use Rattle.g1_trace.specs.Grammar.{read_command, read_header}
 use Rattle.g1_replay.specs.Lines.{IsPart, ReadsLine}
 use Rattle.g1_replay.specs.Reading.{IsLeft, IsReadStop, Reads}
-use Rattle.g1_trace.specs.Trace.{read_on, read_line, after_line, at_end, before, faulty}
 
 -- bytes of one line
 scan : (line : List ℕ) (d : Dialect) (heap : Option Shape) (n : ℕ) (begun x : List ℕ) → IsPart line → length begun + length line ≤ 64

@@ -6,19 +6,19 @@ use Rattle.std.proofs.KnownBytes.{Appends-nil}
 use Rattle.g1_layout.specs.Shape.{Shape}
 use Rattle.g1_trace.specs.declared.command.Command.{Command}
 use Rattle.g1_trace.specs.declared.dialect.Dialect.{Dialect}
+use Rattle.g1_trace.specs.Bytes.{Puts}
+use Rattle.g1_trace.specs.Text.{fault_line}
+use Rattle.g1_trace.proofs.PutLemmas.{puts_then}
 use Rattle.g1_replay.specs.declared.end.End.{End}
 use Rattle.g1_replay.specs.declared.end.End.TheVariants.{Refused}
 use Rattle.g1_replay.specs.declared.listing.Listing.{Listing}
 use Rattle.g1_replay.specs.declared.stop.Stop.{Stop}
 use Rattle.g1_replay.specs.declared.stop.Stop.TheVariants.{Fault, NoMemory, ReadFailed}
-use Rattle.g1_trace.specs.Bytes.{Puts}
 use Rattle.g1_replay.specs.Output.{IsEnded, ending_line}
 use Rattle.g1_replay.specs.Playing.{Does, Follows, Writes, written_by}
 use Rattle.g1_replay.specs.Reading.{IsReadStop, Reads}
 use Rattle.g1_replay.specs.Scripted.{IsUnread, IsRunEnd, IsRefusedTrace, Outcome, Scripted, StopsReading}
-use Rattle.g1_trace.specs.Text.{fault_line}
 use Rattle.g1_replay.proofs.EndLemmas.{all_done, faulty_trace}
-use Rattle.g1_trace.proofs.PutLemmas.{puts_then}
 use Rattle.g1_replay.proofs.ReadingLemmas.{reads_then}
 
 -- what a list of commands did with some of them

@@ -8,13 +8,13 @@ use Rattle.g1_core.specs.Run.{IsPermitted}
 use Rattle.g1_book.specs.Counts.{is_store}
 use Rattle.g1_trace.specs.declared.command.Command.{Command}
 use Rattle.g1_trace.specs.declared.dialect.Dialect.{Dialect}
+use Rattle.g1_trace.specs.Text.{stores_text}
+use Rattle.g1_trace.specs.Trace.{read_trace}
 use Rattle.g1_replay.specs.declared.stop.Stop.{Stop}
 use Rattle.g1_replay.specs.declared.stop.Stop.TheVariants.{BookFull}
 use Rattle.g1_replay.specs.Drains.{drains}
 use Rattle.g1_replay.specs.Pieces.{Piece, Walks, lines_of, entries_of}
 use Rattle.g1_replay.specs.Scripted.{IsRunEnd, Scripted}
-use Rattle.g1_trace.specs.Text.{stores_text}
-use Rattle.g1_trace.specs.Trace.{read_trace}
 
 -- Nothing was drained or written, since something stopped the crew; or how many stores a run has was, and the lines of the drains behind it.
 abbrev pub IsCrewText : List Entry → List Command → List Piece → Result (Unit {0}) Stop → List ℕ → Type 0

@@ -1,11 +1,11 @@
 -- What a read of one line takes from the bytes that a reader has left.
 use Rattle.std.specs.Prelude.{◌≡◌, ◌≢◌, ℕ, List, [], ◌∷◌, ◌++◌, ◌≤◌, ◌<◌, length, take, slice_index, Bool, true, false, Result, Ok, Err, Option}
 use Rattle.std.specs.Io.KnownBytes.{Consumes, IsAtEnd}
+use Rattle.g1_trace.specs.declared.fault.TraceFault.TheVariants.{TooLong, Cut}
 use Rattle.g1_replay.specs.declared.lines.Byte.{Byte}
 use Rattle.g1_replay.specs.declared.lines.Byte.TheVariants.{Some as OneByte, End as NoByte, Failed as FailedByte}
 use Rattle.g1_replay.specs.declared.lines.Part.{Part}
 use Rattle.g1_replay.specs.declared.lines.Part.TheVariants.{Whole, TooLong as LongPart, More, Nothing, Failed}
-use Rattle.g1_trace.specs.declared.fault.TraceFault.TheVariants.{TooLong, Cut}
 use Rattle.g1_replay.specs.declared.stop.Stop.{Stop}
 use Rattle.g1_replay.specs.declared.stop.Stop.TheVariants.{Fault, ReadFailed}
 

@@ -7,17 +7,17 @@ use Rattle.g1_core.specs.Table.{opening}
 use Rattle.g1_core.specs.Run.{IsPermitted}
 use Rattle.g1_trace.specs.declared.command.Command.{Command}
 use Rattle.g1_trace.specs.declared.dialect.Dialect.{Dialect}
+use Rattle.g1_trace.specs.declared.fault.TraceFault.{TraceFault}
+use Rattle.g1_trace.specs.Bytes.{AppendsFront}
+use Rattle.g1_trace.specs.Text.{fault_line, no_memory_line, book_full_line, no_thread_line, read_failed_line}
+use Rattle.g1_trace.specs.Trace.{read_trace}
 use Rattle.g1_replay.specs.declared.end.End.{End}
 use Rattle.g1_replay.specs.declared.end.End.TheVariants.{Whole, Refused, Stopped, ReadFailed as EndReadFailed, WriteFailed as EndWriteFailed}
-use Rattle.g1_trace.specs.declared.fault.TraceFault.{TraceFault}
 use Rattle.g1_replay.specs.declared.stop.Stop.{Stop}
 use Rattle.g1_replay.specs.declared.stop.Stop.TheVariants.{Fault, NoMemory, BookFull, NoThread, ReadFailed, WriteFailed}
-use Rattle.g1_trace.specs.Bytes.{AppendsFront}
 use Rattle.g1_replay.specs.Pieces.{Piece, AreSetBy, Walks, lines_of, entries_of}
 use Rattle.g1_replay.specs.Playing.{IsUndone}
 use Rattle.g1_replay.specs.Reading.{Reads}
-use Rattle.g1_trace.specs.Text.{fault_line, no_memory_line, book_full_line, no_thread_line, read_failed_line}
-use Rattle.g1_trace.specs.Trace.{read_trace}
 
 -- the end of the input, or what stopped the replay
 abbrev pub ended : Result (Unit {0}) Stop → Result Bool Stop

@@ -10,9 +10,9 @@ use Rattle.g1_book.specs.declared.refusal.Refusal.TheVariants as refusal
 use Rattle.g1_trace.specs.declared.command.Command.{Command}
 use Rattle.g1_trace.specs.declared.dialect.Dialect.{Dialect}
 use Rattle.g1_options.specs.declared.options.Options.{Options}
+use Rattle.g1_trace.specs.Bytes.{Puts}
 use Rattle.g1_replay.specs.declared.stop.Stop.{Stop}
 use Rattle.g1_replay.specs.declared.stop.Stop.TheVariants.{NoMemory, BookFull, WriteFailed}
-use Rattle.g1_trace.specs.Bytes.{Puts}
 use Rattle.g1_replay.specs.Pieces.{Piece, IsCallBy, IsLineOf, IsSetBy, AreSetBy, Walks, lines_of, entries_of}
 use Rattle.g1_replay.specs.Reading.{Reads}
 

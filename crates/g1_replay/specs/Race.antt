@@ -12,11 +12,11 @@ use Rattle.g1_trace.specs.declared.command.Command.{Command}
 use Rattle.g1_core.specs.declared.entry.Call.TheVariants.{Drain}
 use Rattle.g1_trace.specs.declared.command.Command.TheVariants.{Store, Call}
 use Rattle.g1_trace.specs.declared.dialect.Dialect.{Dialect}
+use Rattle.g1_trace.specs.Text.{drained_line, stores_text}
+use Rattle.g1_trace.specs.Trace.{read_trace}
 use Rattle.g1_replay.specs.declared.stop.Stop.{Stop}
 use Rattle.g1_replay.specs.Drains.{drains}
 use Rattle.g1_replay.specs.Scripted.{IsRunEnd, Scripted}
-use Rattle.g1_trace.specs.Text.{drained_line, stores_text}
-use Rattle.g1_trace.specs.Trace.{read_trace}
 
 abbrev pub is_store_command : Command → Bool
 is_store_command (Store mutator slot target) = true

@@ -6,13 +6,13 @@ use Rattle.g1_layout.specs.Shape.{Shape}
 use Rattle.g1_trace.specs.declared.command.Command.{Command}
 use Rattle.g1_trace.specs.declared.dialect.Dialect.{Dialect}
 use Rattle.g1_trace.specs.declared.fault.TraceFault.{TraceFault}
+use Rattle.g1_trace.specs.Text.{fault_line}
+use Rattle.g1_trace.specs.Trace.{read_trace}
 use Rattle.g1_replay.specs.declared.stop.Stop.{Stop}
 use Rattle.g1_replay.specs.declared.stop.Stop.TheVariants.{Fault, NoMemory, NoThread, ReadFailed}
 use Rattle.g1_replay.specs.Output.{ended}
 use Rattle.g1_replay.specs.Playing.{MayStop}
 use Rattle.g1_replay.specs.Reading.{Reads}
-use Rattle.g1_trace.specs.Text.{fault_line}
-use Rattle.g1_trace.specs.Trace.{read_trace}
 
 -- what ends a trace that was not read to its end
 abbrev pub IsUnread : Result (Unit {0}) Stop → Type 0

@@ -3,14 +3,17 @@ ghost use Rattle.std.specs.Prelude.{◌∷◌, [], IfErr, codes};
 ghost use Rattle.g1_book.specs.History.{layout_in};
 ghost use Rattle.g1_trace.specs.Bytes.{Puts};
 ghost use Rattle.g1_trace.specs.Grammar.{IsCallOf};
+ghost use Rattle.g1_trace.specs.Text.{call_line};
 ghost use Rattle.g1_replay.specs.Playing.{Does, HasPlayed, IsCalled, IsFull, MayStop};
 ghost use Rattle.g1_replay.specs.Reading.{more_may_come};
-ghost use Rattle.g1_trace.specs.Text.{call_line};
 
 use crate::stop::Stop;
 use g1_book::{Book, Refusal};
 use g1_core::{Call, Reply};
-use g1_trace::{Command, WriteFailed, put, put_cards, put_clear_reply, put_either, put_redirected, put_status, put_target};
+use g1_trace::{
+    Command, WriteFailed, put, put_cards, put_clear_reply, put_either, put_redirected, put_status,
+    put_target,
+};
 use std::io::Write;
 
 /// Makes the call and writes the line of its entry.

@@ -1,12 +1,12 @@
 //! A trace is read to its end, the lines of each mutator are made by a thread of its own, and what has come of it is
 //! written.
 ghost use Rattle.std.specs.Prelude.{◌≡◌, ℕ, List, ◌++◌, All, Result, IfSome};
-ghost use Rattle.g1_replay.specs.Crew.{Crewed, IsWholeCrew, Ran};
 ghost use Rattle.g1_trace.specs.Grammar.{IsCommandOf};
+ghost use Rattle.g1_trace.specs.declared.mode.Mode.TheVariants.{Crew};
+ghost use Rattle.g1_replay.specs.Crew.{Crewed, IsWholeCrew, Ran};
 ghost use Rattle.g1_replay.specs.Output.{IsEnded, ending_line};
 ghost use Rattle.g1_replay.specs.Playing.{Writes};
 ghost use Rattle.g1_replay.specs.Scripted.{IsRefusedTrace};
-ghost use Rattle.g1_trace.specs.declared.mode.Mode.TheVariants.{Crew};
 ghost use Rattle.g1_replay.specs.declared.stop.Stop.{Stop};
 
 use crate::crew_jobs::run_jobs;

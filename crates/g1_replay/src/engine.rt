@@ -1,9 +1,9 @@
 //! A trace is read line by line, the calls of each line are made, and its output line is written.
 ghost use Rattle.std.specs.Prelude.{◌≡◌, ℕ, List, [], ◌++◌, ◌<◌, ◌≤◌, ◌^◌, ◌⊎◌, Ok, true, Result, IfSome, IfErr, OnOk};
+ghost use Rattle.g1_trace.specs.declared.mode.Mode.TheVariants.{Run};
 ghost use Rattle.g1_replay.specs.Playing.{Follows, Writes};
 ghost use Rattle.g1_replay.specs.Output.{Told, IsEnded, ended, ending_line, end_or_failed, IsWholeOutput, IsRefusedOutput};
 ghost use Rattle.g1_replay.specs.Reading.{IsReadStop};
-ghost use Rattle.g1_trace.specs.declared.mode.Mode.TheVariants.{Run};
 ghost use Rattle.g1_replay.specs.declared.stop.Stop.{Stop};
 
 use crate::end::End;
@@ -16,7 +16,10 @@ use crate::stop::Stop;
 use g1_layout::Layout;
 use g1_log::Line;
 use g1_options::Options;
-use g1_trace::{Dialect, Mode, WriteFailed, put_book_full, put_fault, put_no_memory, put_no_thread, put_read_failed};
+use g1_trace::{
+    Dialect, Mode, WriteFailed, put_book_full, put_fault, put_no_memory, put_no_thread,
+    put_read_failed,
+};
 use std::alloc::Global;
 use std::io::{BufRead, Write};
 use std::sync::Wait;

@@ -2,8 +2,8 @@
 
 ghost use Rattle.std.specs.Prelude.{◌≡◌, [], ◌<◌, ◌≤◌, ◌^◌, Ok, None, IfErr};
 ghost use Rattle.std.specs.Result.{result_ok};
-ghost use Rattle.g1_replay.specs.Reading.{Reads, more_may_come, opened_by, IsReadStop};
 ghost use Rattle.g1_trace.specs.declared.dialect.Dialect.{Dialect};
+ghost use Rattle.g1_replay.specs.Reading.{Reads, more_may_come, opened_by, IsReadStop};
 
 use crate::lines::next_line;
 use crate::source::Source;

@@ -5,12 +5,12 @@ ghost use Rattle.g1_book.specs.History.{layout_in};
 ghost use Rattle.g1_book.specs.Rounds.{round_size};
 ghost use Rattle.g1_log.specs.Ends.{capacity_of};
 ghost use Rattle.g1_trace.specs.Grammar.{IsCallOf, IsCommandOf};
+ghost use Rattle.g1_trace.specs.Text.{store_text, refine_text, work_text};
 ghost use Rattle.g1_replay.specs.Flush.{flush_text};
 ghost use Rattle.g1_replay.specs.Laws.{played_none, played_then};
 ghost use Rattle.g1_replay.specs.Playing.{Does, IsAnswered, IsDone, IsFull, IsLineKept, IsLineSet, HasPlayed, MayStop};
 ghost use Rattle.g1_replay.specs.Reading.{more_may_come};
 ghost use Rattle.g1_replay.specs.Still.{is_pause, pauses, AreStill};
-ghost use Rattle.g1_trace.specs.Text.{store_text, refine_text, work_text};
 ghost use Rattle.g1_replay.specs.declared.machinery.Ends.{Ends as E};
 
 use crate::calls::play_call;

@@ -1,11 +1,11 @@
 //! A trace is read to its end, the stores of each mutator race in a thread of its own, and what has come of it is written.
 ghost use Rattle.std.specs.Prelude.{◌≡◌, ℕ, List, ◌++◌, All, Result, IfSome};
 ghost use Rattle.g1_trace.specs.Grammar.{IsCommandOf};
+ghost use Rattle.g1_trace.specs.declared.mode.Mode.TheVariants.{Race};
 ghost use Rattle.g1_replay.specs.Output.{IsEnded, ending_line};
 ghost use Rattle.g1_replay.specs.Playing.{Writes};
 ghost use Rattle.g1_replay.specs.Race.{IsWholeRace, RacedTrace, RaceRan};
 ghost use Rattle.g1_replay.specs.Scripted.{IsRefusedTrace};
-ghost use Rattle.g1_trace.specs.declared.mode.Mode.TheVariants.{Race};
 ghost use Rattle.g1_replay.specs.declared.stop.Stop.{Stop};
 
 use crate::end::End;
