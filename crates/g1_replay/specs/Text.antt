@@ -13,7 +13,7 @@ use Rattle.g1_core.specs.declared.entry.Reply.{Reply}
 use Rattle.g1_core.specs.declared.entry.Reply.TheVariants as reply
 use Rattle.g1_core.specs.declared.reply.ClearReply.{ClearReply}
 use Rattle.g1_core.specs.declared.reply.ClearReply.TheVariants as clear_reply
-use Rattle.g1_book.specs.declared.steps.mutator.FlushReply.{FlushReply}
+use Rattle.g1_steps.specs.declared.steps.mutator.FlushReply.{FlushReply}
 use Rattle.g1_replay.specs.declared.fault.TraceFault.{TraceFault}
 use Rattle.g1_replay.specs.declared.fault.TraceFault.TheVariants.{TooLong, Cut, NoHeader, NoCommand, Words, NotNumber, BadHeap, NoMutator, NoSlot, NoCard, NoRegion, Twice}
 

@@ -2,7 +2,7 @@
 ghost use Rattle.std.specs.Prelude.{◌≡◌, ◌<◌, ◌≤◌, ◌∷◌, ℕ, [], true, IfOk, IfSome, IfErr, OnOk, slice_index_or, vec_len};
 ghost use Rattle.g1_layout.specs.Shape.{slot_count};
 ghost use Rattle.g1_book.specs.History.{layout_in};
-ghost use Rattle.g1_book.specs.Rounds.{round_size};
+ghost use Rattle.g1_steps.specs.Rounds.{round_size};
 ghost use Rattle.g1_log.specs.Ends.{capacity_of};
 ghost use Rattle.g1_replay.specs.Grammar.{IsCallOf, IsCommandOf};
 ghost use Rattle.g1_replay.specs.Laws.{played_none, played_then};
@@ -19,9 +19,10 @@ use crate::machinery::{Ends, Machinery};
 use crate::player::Player;
 use crate::print::{put_flush_reply, put_refine_reply, put_store_reply, put_work_reply};
 use crate::stop::Stop;
-use g1_book::{FlushReply, LentBook, Refusal, refine as refine_next, work as work_round};
+use g1_book::Refusal;
 use g1_core::{Call, RefineReply, StoreReply};
 use g1_layout::{Layout, Slot};
+use g1_steps::{FlushReply, LentBook, refine as refine_next, work as work_round};
 use std::io::Write;
 use std::sync::Wait;
 

@@ -5,8 +5,9 @@ ghost use Rattle.g1_replay.specs.Scripts.{refusal_in, step_for, IsScriptOf};
 
 use crate::command::Command;
 use crate::options::Options;
-use g1_book::{Outcome, Refusal, Script, Step};
+use g1_book::Refusal;
 use g1_layout::NoMemory;
+use g1_steps::{Outcome, Script, Step};
 use std::alloc::Global;
 
 // What the command asks of this mutator, if it is the mutator's.

@@ -3,8 +3,9 @@ ghost use Rattle.std.specs.Prelude.{◌≡◌};
 
 use crate::fault::TraceFault;
 use crate::output::WriteFailed;
-use g1_book::{NotStarted, Refusal};
+use g1_book::Refusal;
 use g1_layout::NoMemory;
+use g1_steps::NotStarted;
 use std::alloc::AllocError;
 
 /// Why a replay goes no further (docs/TRACES.md, Faults, Ends).

@@ -4,9 +4,9 @@ ghost use Rattle.g1_replay.specs.Text.{store_text, flush_text, stored_line, stor
 ghost use Rattle.std.specs.Prelude.{◌++◌, codes, length};
 
 use crate::output::{WriteFailed, counted_before, ending_at_end, put, put_between, put_either};
-use g1_book::FlushReply;
 use g1_core::{CardList, Fill, StoreReply};
 use g1_layout::Kind;
+use g1_steps::FlushReply;
 use std::io::Write;
 
 /// Writes the line of a store: `null`, `same region`, `dirty`, `logged`, `logged full`, or `logged helped` with the number
