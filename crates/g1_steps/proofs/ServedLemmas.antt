@@ -1,5 +1,5 @@
 -- Which steps serve what a worker asked for.
-use Rattle.std.proofs.Common.{◌≡◌, ℕ, List, [], ◌∷◌, ◌++◌, Option, Some, None, refl, sym, ap, subst, inl, inr, append-nil}
+use Rattle.std.proofs.Common.{◌≡◌, ℕ, List, [], ◌∷◌, Option, Some, None, refl, sym, subst, inl, inr, append-nil}
 use Rattle.std.specs.Prelude.{filter, Ok, Err}
 use Rattle.g1_log.specs.declared.parcel.Parcel.{Parcel}
 use Rattle.g1_core.specs.declared.reply.StoreReply.{StoreReply}

@@ -1,5 +1,5 @@
 -- What calls do to a book that is lent, and to a core without a history.
-use Rattle.std.specs.Prelude.{◌≡◌, ◌≢◌, ◌↔◌, ℕ, List, [], ◌∷◌, ◌++◌, Option, length, refl}
+use Rattle.std.specs.Prelude.{◌≡◌, ◌≢◌, ◌↔◌, ℕ, List, [], ◌∷◌, ◌++◌, length}
 use Rattle.std.proofs.Common.{◌∙◌, ap}
 use Rattle.g1_core.specs.Machine.{Machine, IsLater}
 use Rattle.g1_core.specs.declared.entry.Entry.{Entry}
@@ -8,7 +8,7 @@ use Rattle.g1_core.specs.Calls.{store_entry, refine_entry}
 use Rattle.g1_core.specs.Barrier.{stored_machine}
 use Rattle.g1_core.specs.Refinement.{IsRefined, AreCardsRead}
 use Rattle.g1_book.specs.declared.refusal.Refusal.TheVariants.{BookFull, NoMemory}
-use Rattle.g1_book.specs.History.{History, Terms, IsEntered, terms_of}
+use Rattle.g1_book.specs.History.{History, IsEntered, terms_of}
 use Rattle.g1_steps.specs.Made.{Made, Stored, Refined, Refused, AreCalls}
 
 -- The history has just these entries more, on the same terms.

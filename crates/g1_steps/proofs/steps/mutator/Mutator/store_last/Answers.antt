@@ -1,6 +1,5 @@
 use Rattle.std.proofs.Common.{rules, ◌≡◌, ◌∷◌, [], subst, sym, ◌∙◌}
 use Rattle.g1_layout.specs.declared.kind.Kind.TheVariants.{Logged}
-use Rattle.g1_core.specs.declared.reply.StoreReply.{StoreReply}
 use Rattle.g1_steps.specs.Made.{Stored}
 use Rattle.g1_steps.specs.Steps.{help_calls, filled}
 use Rattle.g1_steps.proofs.StepLemmas.{handed_out, store_passed}
