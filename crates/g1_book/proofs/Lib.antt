@@ -1,9 +1,2 @@
-pub mod CountLemmas
-pub mod EachLemmas
 pub mod HistoryLemmas
-pub mod OpeningLemmas
 pub mod RoomLemmas
-pub mod RoundLemmas
-pub mod ServedLemmas
-pub mod StepLemmas
-pub mod WorkerLemmas

@@ -90,8 +90,8 @@ impl Book {
         self.core.config()
     }
 
-    /// The allocator that the book was opened with.
-    pub(crate) fn allocator(&self) -> Global {
+    /// The allocator that the book was opened with. Constant time.
+    pub fn allocator(&self) -> Global {
         self.alloc
     }
 

@@ -43,8 +43,8 @@ impl Book {
     }
 }
 
-/// How many cards a refinement of the buffer refines at most.
-pub(crate) fn cards_in(buffer: Option<&Buffer>) -> usize
+/// How many cards a refinement of the buffer refines at most: those of the buffer, and 0 where there is none. Constant time.
+pub fn cards_in(buffer: Option<&Buffer>) -> usize
     ensures cards { result ≡ cards_in (option_map (λ b. b.now) buffer.entry) }
     ensures few { result ≤ 256 }
 {

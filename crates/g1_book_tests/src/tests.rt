@@ -7,13 +7,14 @@ ghost use Rattle.g1_layout.specs.Shape.{slot_count, card_count};
 ghost use Rattle.g1_book.specs.History.{layout_in};
 
 use calls::{drain, number_of};
-use g1_book::{Book, FlushReply, Refusal};
+use g1_book::{Book, Refusal};
 use g1_core::{
     Call, CardList, ClearReply, Config, Drained, Fill, Redirected, RefineReply, Reply, Status,
     StoreReply,
 };
 use g1_layout::{Card, Kind, Layout, NoMemory, Region, Slot};
 use g1_log::{Buffer, Log};
+use g1_steps::FlushReply;
 use std::alloc::Global;
 use std::process::Abort;
 

@@ -17,15 +17,15 @@ use Rattle.g1_core.specs.Calls.{store_entry, refine_entry}
 use Rattle.g1_core.specs.Machine.{State}
 use Rattle.g1_core.specs.Refinement.{IsRefined}
 use Rattle.g1_log.specs.declared.parcel.Parcel.{Parcel}
-use Rattle.g1_book.specs.declared.steps.mutator.FlushReply.{FlushReply}
+use Rattle.g1_steps.specs.declared.steps.mutator.FlushReply.{FlushReply}
 use Rattle.g1_book.specs.declared.refusal.Refusal.{Refusal}
 use Rattle.g1_book.specs.declared.refusal.Refusal.TheVariants.{NoMemory, BookFull}
 use Rattle.g1_book.specs.History.{History, IsEntered}
-use Rattle.g1_book.specs.Made.{Made, Stored, Refined, AreCalls, entries_of as calls_entries}
-use Rattle.g1_book.specs.Lent.{Grows, IsBookCall}
-use Rattle.g1_book.specs.Steps.{Help, IsStored, help_calls, store_answer, flush_answer, nothing_flushed, filled, called}
-use Rattle.g1_book.specs.Rounds.{IsRound, Turn, round_calls, replies_of, round_size}
-use Rattle.g1_book.proofs.StepLemmas.{grows_none, grows_entered, calls_grow, round_entries}
+use Rattle.g1_steps.specs.Made.{Made, Stored, Refined, AreCalls, entries_of as calls_entries}
+use Rattle.g1_steps.specs.Lent.{Grows, IsBookCall}
+use Rattle.g1_steps.specs.Steps.{Help, IsStored, help_calls, store_answer, flush_answer, nothing_flushed, filled, called}
+use Rattle.g1_steps.specs.Rounds.{IsRound, Turn, round_calls, replies_of, round_size}
+use Rattle.g1_steps.proofs.StepLemmas.{grows_none, grows_entered, calls_grow, round_entries}
 use Rattle.g1_trace.specs.declared.command.Command.{Command}
 use Rattle.g1_trace.specs.declared.command.Command.TheVariants as command
 use Rattle.g1_trace.specs.Bytes.{AppendsFront}

@@ -3,7 +3,7 @@ use Rattle.std.proofs.Common.{◌≡◌, ℕ, List, ◌++◌, refl, subst, ◌�
 use Rattle.std.specs.Prelude.{Result, Ok, Err, IfSome, count_by}
 use Rattle.std.specs.Io.KnownBytes.{Appends}
 use Rattle.g1_layout.specs.Shape.{Shape}
-use Rattle.g1_book.specs.Counts.{is_store}
+use Rattle.g1_shared.specs.Counts.{is_store}
 use Rattle.g1_trace.specs.declared.dialect.Dialect.{Dialect}
 use Rattle.g1_trace.specs.Text.{stores_text}
 use Rattle.g1_replay.specs.declared.end.End.{End}

@@ -5,7 +5,7 @@ use Rattle.g1_layout.specs.Shape.{Shape}
 use Rattle.g1_core.specs.Table.{opening}
 use Rattle.g1_core.specs.declared.entry.Entry.{Entry}
 use Rattle.g1_core.specs.Run.{IsPermitted}
-use Rattle.g1_book.specs.Counts.{is_store}
+use Rattle.g1_shared.specs.Counts.{is_store}
 use Rattle.g1_book.specs.History.{History, IsHistory, Terms, layout_in}
 use Rattle.g1_trace.specs.Bytes.{AppendsFront}
 use Rattle.g1_trace.specs.Text.{stores_text}

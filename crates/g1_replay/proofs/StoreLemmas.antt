@@ -5,9 +5,9 @@ use Rattle.std.specs.Option.{option_or}
 use Rattle.std.specs.List.{cons_option, filter_map}
 use Rattle.g1_race.specs.Race.{History, In, last_to, word_of, gained}
 use Rattle.g1_race.proofs.Plain.{in_either}
-use Rattle.g1_book.specs.Ask.{Ask, AskStore, AskFlush, AskWork, ask_of, asks_of}
-use Rattle.g1_book.specs.declared.desk.Step.{Step}
-use Rattle.g1_book.specs.declared.desk.Step.TheVariants as step
+use Rattle.g1_steps.specs.Ask.{Ask, AskStore, AskFlush, AskWork, ask_of, asks_of}
+use Rattle.g1_steps.specs.declared.desk.Step.{Step}
+use Rattle.g1_steps.specs.declared.desk.Step.TheVariants as step
 use Rattle.g1_trace.specs.declared.command.Command.{Command}
 use Rattle.g1_trace.specs.declared.command.Command.TheVariants.{Store, Flush}
 use Rattle.g1_replay.specs.Members.{histories_after}

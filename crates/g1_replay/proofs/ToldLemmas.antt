@@ -8,7 +8,7 @@ use Rattle.g1_core.specs.Table.{opening}
 use Rattle.g1_core.specs.declared.entry.Entry.{Entry}
 use Rattle.g1_core.specs.Run.{IsPermitted}
 use Rattle.g1_book.specs.History.{History, IsHistory, Terms, layout_in}
-use Rattle.g1_book.specs.Lent.{Grows}
+use Rattle.g1_steps.specs.Lent.{Grows}
 use Rattle.g1_trace.specs.declared.command.Command.{Command}
 use Rattle.g1_trace.specs.declared.dialect.Dialect.{Dialect}
 use Rattle.g1_options.specs.declared.options.Options.{Options}

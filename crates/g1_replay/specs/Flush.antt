@@ -1,6 +1,6 @@
 -- The line of a flush, by what its step answers.
 use Rattle.std.specs.Prelude.{ℕ, List, length}
-use Rattle.g1_book.specs.declared.steps.mutator.FlushReply.{FlushReply}
+use Rattle.g1_steps.specs.declared.steps.mutator.FlushReply.{FlushReply}
 use Rattle.g1_trace.specs.Text.{flushed_line}
 
 abbrev pub flush_text : FlushReply → List ℕ

@@ -8,7 +8,7 @@ use Rattle.g1_race.specs.declared.race.Race.{Race}
 use Rattle.g1_race.specs.declared.view.Shape.{Shape}
 use Rattle.g1_race.specs.Race.{History, gained, word_of}
 use Rattle.g1_race.specs.Members.{race_id, racer_race, sweeper_race, racer_view}
-use Rattle.g1_book.specs.Ask.{Ask, AskStore, AskFlush, AskWork}
+use Rattle.g1_steps.specs.Ask.{Ask, AskStore, AskFlush, AskWork}
 use Rattle.g1_replay.specs.declared.race_desk.Member.{Member}
 use Rattle.g1_replay.specs.declared.race_desk.Member.TheVariants.{Racing, Sweeping}
 

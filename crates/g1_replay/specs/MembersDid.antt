@@ -2,7 +2,7 @@
 use Rattle.std.specs.Prelude.{◌≡◌, List, [], ◌∷◌, ◌++◌}
 use Rattle.std.proofs.Common.{refl, ap, sym, ◌∙◌}
 use Rattle.g1_race.specs.Race.{History, gained, word_of}
-use Rattle.g1_book.specs.Ask.{Ask, AskStore, AskFlush, AskWork}
+use Rattle.g1_steps.specs.Ask.{Ask, AskStore, AskFlush, AskWork}
 use Rattle.g1_replay.specs.declared.race_desk.Member.{Member}
 use Rattle.g1_replay.specs.Members.{MemberDid, histories_after, member_histories}
 

@@ -4,7 +4,7 @@ use Rattle.g1_layout.specs.Shape.{Shape}
 use Rattle.g1_core.specs.declared.entry.Call.{Call}
 use Rattle.g1_core.specs.declared.entry.Entry.{Entry}
 use Rattle.g1_book.specs.History.{History, opened}
-use Rattle.g1_book.specs.Lent.{Grows}
+use Rattle.g1_steps.specs.Lent.{Grows}
 use Rattle.g1_book.specs.declared.refusal.Refusal.{Refusal}
 use Rattle.g1_book.specs.declared.refusal.Refusal.TheVariants as refusal
 use Rattle.g1_trace.specs.declared.command.Command.{Command}

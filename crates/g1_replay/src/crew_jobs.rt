@@ -1,6 +1,6 @@
 //! The jobs of a crew, and the book that they leave.
 ghost use Rattle.std.specs.Prelude.{◌≡◌, ◌+◌, ◌≤◌, [], IfErr, IfOk, All, map, vec_len, vec_capacity};
-ghost use Rattle.g1_book.specs.Callers.{IsCallerOf};
+ghost use Rattle.g1_shared.specs.Callers.{IsCallerOf};
 ghost use Rattle.g1_book.specs.History.{terms_of};
 ghost use Rattle.g1_trace.specs.Grammar.{IsCommandOf};
 ghost use Rattle.g1_replay.specs.Scripted.{IsUnstarted};
@@ -8,9 +8,11 @@ ghost use Rattle.g1_replay.specs.Scripts.{first_refusal, IsScriptOf};
 
 use crate::scripts::{refusal_of, script_for};
 use crate::stop::Stop;
-use g1_book::{Book, Caller, Frame, Job, Refusal, Shared, SharedDesk, run_crew};
+use g1_book::{Book, Refusal};
 use g1_layout::NoMemory;
 use g1_options::Options;
+use g1_shared::{Caller, Frame, Shared, SharedDesk};
+use g1_steps::{Job, run_crew};
 use g1_trace::Command;
 use std::alloc::Global;
 use std::marker::Send;

@@ -1,6 +1,6 @@
 //! What a crew prints of its book: how many stores there were, and a drain of each region.
 ghost use Rattle.std.specs.Prelude.{◌≡◌, ℕ, List, count_by};
-ghost use Rattle.g1_book.specs.Counts.{is_store};
+ghost use Rattle.g1_shared.specs.Counts.{is_store};
 ghost use Rattle.g1_book.specs.History.{IsHistory, layout_in};
 ghost use Rattle.g1_replay.specs.Crew.{Ran};
 ghost use Rattle.g1_replay.specs.Laws.{played_in, played_none, played_then};

@@ -2,7 +2,7 @@
 ghost use Rattle.g1_trace.specs.Bytes.{Puts};
 ghost use Rattle.g1_replay.specs.Flush.{flush_text};
 
-use g1_book::FlushReply;
+use g1_steps::FlushReply;
 use g1_trace::{WriteFailed, put_flushed};
 use std::io::Write;
 

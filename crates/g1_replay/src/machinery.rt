@@ -3,14 +3,15 @@ ghost use Rattle.std.specs.Prelude.{◌≡◌, ◌<◌, ◌≤◌, ℕ, length, 
 ghost use Rattle.std.specs.List.{All};
 ghost use Rattle.std.proofs.Props.{props};
 ghost use Rattle.g1_log.specs.Ends.{IsSenderOf, IsTakerOf, capacity_of, taken_of};
-ghost use Rattle.g1_book.specs.Steps.{IsStopped, GainsAtMost};
+ghost use Rattle.g1_steps.specs.Steps.{IsStopped, GainsAtMost};
 ghost use Rattle.g1_replay.specs.Playing.{IsLineKept, IsLineSet, IsOpened};
 ghost use Rattle.g1_replay.specs.Still.{AreStill, IsNewLog};
 
-use g1_book::{Book, Mutator, empty_line};
+use g1_book::Book;
 use g1_layout::{Layout, NoMemory};
 use g1_log::{Line, Log, Sender, Taker};
 use g1_options::Options;
+use g1_steps::{Mutator, empty_line};
 use std::alloc::Global;
 use std::sync::Wait;
 
@@ -52,7 +53,7 @@ impl<'a> Ends<'a> {
     }
 
     // Gives up the cards of the log and, where this one takes, what the line has.
-    #[tactic(auto, using(g1_book::proofs::StepLemmas::gains_none))]
+    #[tactic(auto, using(g1_steps::proofs::StepLemmas::gains_none))]
     fn stop<R: Wait>(&mut self, rt: &R, takes: bool)
         ensures log { IsStopped self.old.mutator self.new.mutator }
         ensures line { self.new.line ≡ self.old.line }

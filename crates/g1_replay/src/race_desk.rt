@@ -6,15 +6,16 @@ ghost use Rattle.arrayvec.specs.ArrayVec.{array_vec_len};
 ghost use Rattle.g1_layout.specs.Shape.{slot_count, card_count};
 ghost use Rattle.g1_log.specs.Ends.{line_home, put_of, IsSenderOf, IsSameSender};
 ghost use Rattle.g1_race.specs.Members.{race_id, race_layout, racer_race, racer_view, sweeper_race, sweeper_view};
-ghost use Rattle.g1_book.specs.Steps.{PutsBy};
+ghost use Rattle.g1_steps.specs.Steps.{PutsBy};
 ghost use Rattle.g1_replay.specs.Members.{is_racer, member_home, member_logged, member_race, MemberDid};
 ghost use Rattle.g1_replay.specs.MembersDid.{member_did_none, member_did_then};
 
-use g1_book::{Desk, FlushReply, Refusal};
+use g1_book::Refusal;
 use g1_core::{CardList, Fill, RefineReply, StoreReply};
 use g1_layout::{Card, Kind, NoMemory, Slot};
 use g1_log::{Buffer, Line, Sender, Taker};
 use g1_race::{Race, Racer, Sweeper};
+use g1_steps::{Desk, FlushReply};
 use std::alloc::Global;
 use std::sync::Wait;
 

@@ -1,8 +1,9 @@
 //! Why a replay goes no further.
 ghost use Rattle.std.specs.Prelude.{◌≡◌};
 
-use g1_book::{NotStarted, Refusal};
+use g1_book::Refusal;
 use g1_layout::NoMemory;
+use g1_steps::NotStarted;
 use g1_trace::{TraceFault, WriteFailed};
 use std::alloc::AllocError;
 

@@ -1,14 +1,15 @@
 //! Stores at a book under a lock, by callers that have each a thread and cards of their own.
 ghost use Rattle.std.specs.Prelude.{◌≡◌, ◌<◌, ◌≤◌, []};
-ghost use Rattle.g1_book.specs.Callers.{IsCallerOf, mark_of};
+ghost use Rattle.g1_shared.specs.Callers.{IsCallerOf, mark_of};
 ghost use Rattle.g1_book.specs.History.{terms_of};
 
 use crate::list::{List, lists_of};
 use crate::meter::{Meter, now};
 use crate::timed::Timed;
-use g1_book::{Book, Caller, Frame, Shared};
+use g1_book::Book;
 use g1_core::Config;
 use g1_layout::{Kind, Layout, NoMemory};
+use g1_shared::{Caller, Frame, Shared};
 use std::alloc::Global;
 use std::marker::Brand;
 use std::rt::Clock;

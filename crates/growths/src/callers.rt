@@ -6,15 +6,15 @@ ghost use Rattle.std.specs.List.{All};
 ghost use Rattle.std.specs.Vec.Iter.{into_iter_items};
 ghost use Rattle.std.proofs.Props.{props};
 ghost use Rattle.g1_log.specs.Ends.{IsSenderOf, IsTakerOf, IsNewTaker};
-ghost use Rattle.g1_book.specs.Opening.{AreNewMutators, IsNewMutator};
+ghost use Rattle.g1_steps.specs.Opening.{AreNewMutators, IsNewMutator};
 
 use crate::books::{Kept, new_book, settings};
 use crate::numbers::{numbers_of, slot};
 use crate::outcome::{Failure, check, refused, short, told};
-use g1_book::{FlushReply, LentBook, Mutator, open_line, refine, work};
 use g1_core::{CardList, Config, Fill, RefineReply, StoreReply};
 use g1_layout::NoMemory;
 use g1_log::{Line, Log, Taker};
+use g1_steps::{FlushReply, LentBook, Mutator, open_line, refine, work};
 use std::sync::Wait;
 use std::vec::IntoIter;
 

@@ -2,7 +2,7 @@
 //!
 //! The heap has 4 regions of 2 cards of 4 slots: card `c` has the slots from `4 * c` on, region `r` those from `8 * r` on.
 ghost use Rattle.std.specs.Prelude.{◌≡◌, [], IfOk, IfErr};
-ghost use Rattle.g1_book.specs.Callers.{IsCallerOf};
+ghost use Rattle.g1_shared.specs.Callers.{IsCallerOf};
 ghost use Rattle.g1_book.specs.History.{terms_of};
 
 mod caller;
@@ -11,10 +11,11 @@ use crate::books::{Answer, Ask, Kept, new_book, settings};
 use crate::callers::is_helped;
 use crate::outcome::{Failure, check, refused, told};
 use caller::SharedCaller;
-use g1_book::{Book, Caller, Frame, Shared};
+use g1_book::Book;
 use g1_core::Fill;
 use g1_layout::NoMemory;
 use g1_log::Log;
+use g1_shared::{Caller, Frame, Shared};
 use std::marker::Brand;
 use std::sync::Wait;
 use std::sync::ledger::{Blank, Ledger};

@@ -4,13 +4,15 @@
 //! the book, and `S`, and its caller passes `Brand` for both.
 ghost use Rattle.std.specs.Prelude.{◌≡◌, ◌<◌, ◌≤◌, [], true, All, IfOk, nat_lt, vec_len};
 ghost use Rattle.g1_layout.specs.Shape.{slot_count};
-ghost use Rattle.g1_book.specs.Ask.{ScriptFits, StepFits};
-ghost use Rattle.g1_book.specs.Callers.{IsCallerOf};
+ghost use Rattle.g1_steps.specs.Ask.{ScriptFits, StepFits};
+ghost use Rattle.g1_shared.specs.Callers.{IsCallerOf};
 ghost use Rattle.g1_book.specs.History.{terms_of};
 
 use anyhow::{Context, Result, bail};
-use g1_book::{Book, Caller, Frame, Job, Script, Shared, SharedDesk, Step, run_crew};
+use g1_book::Book;
 use g1_layout::Layout;
+use g1_shared::{Caller, Frame, Shared, SharedDesk};
+use g1_steps::{Job, Script, Step, run_crew};
 use std::alloc::Global;
 use std::marker::Send;
 use std::sync::Wait;

@@ -1,10 +1,10 @@
 //! Desks, workers and a crew: that their calls succeed and that jobs run beside each other, with answers worked by hand.
 ghost use Rattle.std.specs.Prelude.{◌<◌, true, All, IfOk};
 ghost use Rattle.g1_layout.specs.Shape.{slot_count};
-ghost use Rattle.g1_book.specs.Ask.{StepFits};
+ghost use Rattle.g1_steps.specs.Ask.{StepFits};
 
 use super::*;
-use g1_book::Step;
+use g1_steps::Step;
 
 mod local;
 mod meeting;

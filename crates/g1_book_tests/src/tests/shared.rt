@@ -2,11 +2,11 @@
 ghost use Rattle.std.specs.Prelude.{◌≡◌, ◌<◌, ◌≤◌, [], vec_len, All, IfOk};
 ghost use Rattle.std.proofs.Props.{props};
 ghost use Rattle.g1_layout.specs.Shape.{slot_count, card_count};
-ghost use Rattle.g1_book.specs.Callers.{IsCallerOf};
+ghost use Rattle.g1_shared.specs.Callers.{IsCallerOf};
 ghost use Rattle.g1_book.specs.History.{terms_of};
 
 use super::*;
-use g1_book::{Caller, Frame, Shared};
+use g1_shared::{Caller, Frame, Shared};
 use std::marker::Brand;
 use std::sync::Wait;
 use std::sync::ledger::{Blank, Ledger};

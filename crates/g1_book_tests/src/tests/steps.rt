@@ -10,10 +10,11 @@ use crate::tests::{
     Want, assert_entries, assert_flushed, assert_refined, assert_set, assert_stored, assert_stores,
     book, counts, has_cards, slot, store_call,
 };
-use g1_book::{Book, FlushReply, LentBook, Mutator, Refusal, empty_line, refine, work};
+use g1_book::{Book, Refusal};
 use g1_core::{Call, Fill, RefineReply, StoreReply};
 use g1_layout::{Kind, NoMemory};
 use g1_log::{Line, Log, Sender, Taker};
+use g1_steps::{FlushReply, LentBook, Mutator, empty_line, refine, work};
 use std::alloc::Global;
 use std::process::Abort;
 use std::sync::Wait;

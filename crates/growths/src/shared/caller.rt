@@ -1,15 +1,16 @@
 //! The calls of a shared book's caller, and what a refused one leaves.
 ghost use Rattle.std.specs.Prelude.{◌≡◌};
 ghost use Rattle.std.proofs.Props.{props};
-ghost use Rattle.g1_book.specs.Callers.{IsCallerOf};
+ghost use Rattle.g1_shared.specs.Callers.{IsCallerOf};
 
 use crate::books::{Answer, Ask, entered};
 use crate::callers::is_helped;
 use crate::numbers::{card, region, slot};
 use crate::outcome::{Failure, check, refused};
-use g1_book::{Caller, FlushReply, Frame, Shared};
 use g1_core::{Fill, RefineReply, StoreReply};
 use g1_layout::Layout;
+use g1_shared::{Caller, Frame, Shared};
+use g1_steps::FlushReply;
 use std::sync::Wait;
 use std::sync::ledger::Ledger;
 

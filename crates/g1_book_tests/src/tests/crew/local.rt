@@ -6,8 +6,8 @@ ghost use Rattle.g1_log.specs.Ends.{IsSenderOf, IsTakerOf};
 ghost use Rattle.g1_book.specs.History.{layout_in};
 
 use super::*;
-use g1_book::{Desk, LentBook, LocalDesk, Mutator, Outcome, mutate, open_line, refiner};
 use g1_log::{Line, Taker};
+use g1_steps::{Desk, LentBook, LocalDesk, Mutator, Outcome, mutate, open_line, refiner};
 use std::sync::Wait;
 use std::test::Fail;
 

@@ -1,11 +1,11 @@
 //! Jobs run beside each other: each waits until the other has begun.
 ghost use Rattle.std.specs.Prelude.{true, All, IfOk};
 ghost use Rattle.g1_layout.specs.Shape.{slot_count};
-ghost use Rattle.g1_book.specs.Ask.{ScriptFits};
+ghost use Rattle.g1_steps.specs.Ask.{ScriptFits};
 
 use super::*;
-use g1_book::{Desk, FlushReply, Job, NotStarted, Script, run_crew};
 use g1_core::RefineReply;
+use g1_steps::{Desk, FlushReply, Job, NotStarted, Script, run_crew};
 use std::alloc::AllocError;
 use std::hint;
 use std::sync::Wait;

@@ -1,12 +1,13 @@
 //! A crew of eight mutators and four refiners at a shared book.
 ghost use Rattle.std.specs.Prelude.{◌≡◌, ◌≤◌, [], All, IfOk, nat_lt, vec_len, vec_capacity};
 ghost use Rattle.g1_layout.specs.Shape.{slot_count};
-ghost use Rattle.g1_book.specs.Ask.{ScriptFits};
-ghost use Rattle.g1_book.specs.Callers.{IsCallerOf};
+ghost use Rattle.g1_steps.specs.Ask.{ScriptFits};
+ghost use Rattle.g1_shared.specs.Callers.{IsCallerOf};
 ghost use Rattle.g1_book.specs.History.{terms_of};
 
 use super::*;
-use g1_book::{Caller, Frame, Job, Script, Shared, SharedDesk, run_crew};
+use g1_shared::{Caller, Frame, Shared, SharedDesk};
+use g1_steps::{Job, Script, run_crew};
 use std::marker::{Brand, Send};
 use std::sync::Wait;
 use std::sync::ledger::{Blank, Ledger};

@@ -1,7 +1,7 @@
 //! What a pause does to the callers that are lent.
 ghost use Rattle.std.specs.Prelude.{◌≡◌, [], All, IfOk};
 ghost use Rattle.g1_book.specs.History.{terms_of};
-ghost use Rattle.g1_book.specs.Callers.{IsCallerOf};
+ghost use Rattle.g1_shared.specs.Callers.{IsCallerOf};
 
 use super::*;
 use std::test::Fail;

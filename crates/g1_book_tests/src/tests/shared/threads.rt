@@ -1,6 +1,6 @@
 //! Callers in threads of their own.
 ghost use Rattle.std.specs.Prelude.{◌≡◌, ◌<◌, [], All};
-ghost use Rattle.g1_book.specs.Callers.{IsCallerOf};
+ghost use Rattle.g1_shared.specs.Callers.{IsCallerOf};
 ghost use Rattle.g1_book.specs.History.{terms_of};
 
 use super::*;

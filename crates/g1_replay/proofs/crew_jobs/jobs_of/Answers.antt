@@ -1,6 +1,6 @@
 use Rattle.std.proofs.Common.{arith}
 use Rattle.std.proofs.lemmas.List.Elements.{All-rest, All-push}
-use Rattle.g1_book.specs.Callers.{IsCallerOf}
+use Rattle.g1_shared.specs.Callers.{IsCallerOf}
 use Rattle.g1_replay.specs.Scripts.{IsScriptOf}
 use Rattle.g1_replay.proofs.crew_jobs.jobs_of.Goals as goal
 

@@ -1,6 +1,6 @@
 use Rattle.std.proofs.Common.{◌≡◌, ◌+◌, ◌≤◌, vec_len, vec_capacity, All}
 use Rattle.std.specs.Vec.Iter.{into_iter_len, into_iter_items}
-use Rattle.g1_book.specs.Callers.{IsCallerOf}
+use Rattle.g1_shared.specs.Callers.{IsCallerOf}
 use Rattle.g1_replay.specs.Scripts.{IsScriptOf}
 use Rattle.g1_replay.proofs.crew_jobs.jobs_of.Given as goal
 

@@ -1,6 +1,6 @@
 use Rattle.std.proofs.Common.{◌≡◌, ◌≤◌, take}
 use Rattle.std.specs.Prelude.{count_by}
-use Rattle.g1_book.specs.Counts.{is_store}
+use Rattle.g1_shared.specs.Counts.{is_store}
 use Rattle.g1_replay.proofs.crew_output.count_stores.Given as goal
 
 -- the stores among the entries so far

@@ -2,7 +2,7 @@ use Rattle.std.proofs.Common.{◌≡◌, ◌∙◌, List, ap}
 use Rattle.std.specs.Prelude.{count_by}
 use Rattle.std.proofs.lemmas.Result.{err_from_is_err_and}
 use Rattle.g1_core.specs.declared.entry.Entry.{Entry}
-use Rattle.g1_book.specs.Counts.{is_store}
+use Rattle.g1_shared.specs.Counts.{is_store}
 use Rattle.g1_replay.proofs.RanLemmas.{stores_failed, book_written}
 use Rattle.g1_replay.proofs.crew_output.put_book.Goals as goal
 

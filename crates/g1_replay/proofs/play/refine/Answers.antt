@@ -1,7 +1,7 @@
 use Rattle.std.proofs.Common.{rules, ◌∷◌, [], subst}
-use Rattle.g1_book.specs.Made.{Refined, AreCalls}
-use Rattle.g1_book.specs.Lent.{IsBookCall}
-use Rattle.g1_book.specs.Steps.{buffer_in, called}
+use Rattle.g1_steps.specs.Made.{Refined, AreCalls}
+use Rattle.g1_steps.specs.Lent.{IsBookCall}
+use Rattle.g1_steps.specs.Steps.{buffer_in, called}
 use Rattle.g1_replay.proofs.AnswerLemmas.{refine_made}
 use Rattle.g1_replay.proofs.play.refine.Goals as goal
 

@@ -1,7 +1,7 @@
 use Rattle.std.proofs.Common.{rules, subst, ◌≤◌}
-use Rattle.g1_book.specs.Made.{AreCalls}
-use Rattle.g1_book.specs.Lent.{IsBookCall}
-use Rattle.g1_book.specs.Rounds.{round_calls}
+use Rattle.g1_steps.specs.Made.{AreCalls}
+use Rattle.g1_steps.specs.Lent.{IsBookCall}
+use Rattle.g1_steps.specs.Rounds.{round_calls}
 use Rattle.g1_replay.proofs.AnswerLemmas.{work_made}
 use Rattle.g1_replay.proofs.play.work.Goals as goal
 

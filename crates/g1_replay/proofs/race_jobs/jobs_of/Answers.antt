@@ -4,7 +4,7 @@ use Rattle.std.proofs.lemmas.List.Elements.{All-push, All-same}
 use Rattle.g1_layout.specs.Shape.{slot_count}
 use Rattle.g1_race.specs.declared.race.Race.{Race}
 use Rattle.g1_race.specs.Members.{race_layout}
-use Rattle.g1_book.specs.Ask.{ScriptFits}
+use Rattle.g1_steps.specs.Ask.{ScriptFits}
 use Rattle.g1_replay.specs.declared.race_desk.Member.{Member}
 use Rattle.g1_replay.specs.Members.{is_racer}
 use Rattle.g1_replay.specs.RaceJobs.{AllFrom, IsNewMember, IsRaceJob}

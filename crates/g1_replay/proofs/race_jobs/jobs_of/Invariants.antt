@@ -2,7 +2,7 @@ use Rattle.std.proofs.Common.{◌≡◌, ◌+◌, ◌++◌, ◌≤◌, map, vec_
 use Rattle.std.specs.Vec.Iter.{into_iter_len, into_iter_items}
 use Rattle.g1_layout.specs.Shape.{slot_count}
 use Rattle.g1_race.specs.Members.{race_layout}
-use Rattle.g1_book.specs.Ask.{ScriptFits}
+use Rattle.g1_steps.specs.Ask.{ScriptFits}
 use Rattle.g1_replay.specs.Members.{is_racer}
 use Rattle.g1_replay.specs.RaceJobs.{AllFrom, IsNewMember, IsRaceJob}
 use Rattle.g1_replay.proofs.race_jobs.jobs_of.Given as goal

@@ -1,5 +1,5 @@
 use Rattle.std.proofs.Common.{◌≡◌}
-use Rattle.g1_book.specs.Callers.{mark_of}
+use Rattle.g1_shared.specs.Callers.{mark_of}
 use Rattle.g1bench.proofs.locked.run.Given as goal
 
 abbrev pub invariant-loop-i : goal.invariant-loop-i

@@ -1,5 +1,5 @@
 use Rattle.std.proofs.Common.{◌≡◌}
-use Rattle.g1_book.specs.Callers.{mark_of}
+use Rattle.g1_shared.specs.Callers.{mark_of}
 use Rattle.g1bench.proofs.locked.store.Given as goal
 
 abbrev pub invariant-loop-slot : goal.invariant-loop-slot

@@ -1,8 +1,8 @@
 use Rattle.std.proofs.Common.{nat_lt}
 use Rattle.std.proofs.lemmas.List.Elements.{All-rest, All-push}
 use Rattle.g1_layout.specs.Shape.{slot_count}
-use Rattle.g1_book.specs.Ask.{ScriptFits}
-use Rattle.g1_book.specs.Callers.{IsCallerOf}
+use Rattle.g1_steps.specs.Ask.{ScriptFits}
+use Rattle.g1_shared.specs.Callers.{IsCallerOf}
 use Rattle.uses_shared.proofs.crew.jobs_of.Goals as goal
 
 pub loop-caller-preserved : goal.loop-caller-preserved

@@ -1,8 +1,8 @@
 use Rattle.std.proofs.Common.{All, nat_lt}
 use Rattle.std.specs.Vec.Iter.{into_iter_items}
 use Rattle.g1_layout.specs.Shape.{slot_count}
-use Rattle.g1_book.specs.Ask.{ScriptFits}
-use Rattle.g1_book.specs.Callers.{IsCallerOf}
+use Rattle.g1_steps.specs.Ask.{ScriptFits}
+use Rattle.g1_shared.specs.Callers.{IsCallerOf}
 use Rattle.uses_shared.proofs.crew.jobs_of.Given as goal
 
 -- the callers that are left are of the book, and each job so far has a script that its desk takes

@@ -1,6 +1,6 @@
 use Rattle.std.proofs.Common.{true, All}
 use Rattle.g1_layout.specs.Shape.{slot_count}
-use Rattle.g1_book.specs.Ask.{StepFits}
+use Rattle.g1_steps.specs.Ask.{StepFits}
 use Rattle.uses_shared.proofs.crew.steps_of.Given as goal
 
 -- every step so far is one of the heap

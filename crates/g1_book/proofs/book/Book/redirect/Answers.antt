@@ -1,4 +1,4 @@
-use Rattle.std.proofs.Common.{◌≡◌, ℕ, length, ap, [], ◌∷◌, ◌++◌, ◌∙◌, arith}
+use Rattle.std.proofs.Common.{◌≡◌, ℕ, length, ap, [], ◌∷◌, ◌++◌, arith}
 use Rattle.g1_core.specs.Calls.{redirect_entry}
 use Rattle.g1_book.proofs.HistoryLemmas.{history_entered, call_entered}
 use Rattle.g1_core.proofs.LengthLemmas.{refined_few}

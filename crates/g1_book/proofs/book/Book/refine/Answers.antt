@@ -1,4 +1,4 @@
-use Rattle.std.proofs.Common.{◌≡◌, [], ◌∷◌, ◌++◌, ◌∙◌, arith}
+use Rattle.std.proofs.Common.{◌≡◌, [], ◌∷◌, ◌++◌, arith}
 use Rattle.g1_core.specs.Calls.{refine_entry}
 use Rattle.g1_book.proofs.HistoryLemmas.{history_entered, call_entered}
 use Rattle.g1_book.proofs.RoomLemmas.{refinement_few, refinement_counts}

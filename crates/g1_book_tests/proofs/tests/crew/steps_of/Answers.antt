@@ -1,7 +1,7 @@
 use Rattle.std.proofs.Common.{true}
 use Rattle.std.proofs.lemmas.List.Elements.{All-push}
 use Rattle.g1_layout.specs.Shape.{slot_count}
-use Rattle.g1_book.specs.Ask.{StepFits}
+use Rattle.g1_steps.specs.Ask.{StepFits}
 use Rattle.g1_book_tests.proofs.tests.crew.steps_of.Goals as goal
 
 pub loop-wish-preserved : goal.loop-wish-preserved

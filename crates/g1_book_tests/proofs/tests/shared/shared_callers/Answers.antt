@@ -1,5 +1,5 @@
 use Rattle.std.proofs.lemmas.List.Elements.{All-rest}
-use Rattle.g1_book.specs.Callers.{IsCallerOf}
+use Rattle.g1_shared.specs.Callers.{IsCallerOf}
 use Rattle.g1_book_tests.proofs.tests.shared.shared_callers.Goals as goal
 
 pub loop-caller-preserved : goal.loop-caller-preserved

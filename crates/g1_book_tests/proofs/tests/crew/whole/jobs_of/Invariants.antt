@@ -1,8 +1,8 @@
 use Rattle.std.proofs.Common.{◌≡◌, ◌+◌, ◌≤◌, vec_len, vec_capacity, All, nat_lt}
 use Rattle.std.specs.Vec.Iter.{into_iter_len, into_iter_items}
 use Rattle.g1_layout.specs.Shape.{slot_count}
-use Rattle.g1_book.specs.Ask.{ScriptFits}
-use Rattle.g1_book.specs.Callers.{IsCallerOf}
+use Rattle.g1_steps.specs.Ask.{ScriptFits}
+use Rattle.g1_shared.specs.Callers.{IsCallerOf}
 use Rattle.g1_book_tests.proofs.tests.crew.whole.jobs_of.Given as goal
 
 abbrev pub invariant-loop-caller : goal.invariant-loop-caller

@@ -1,6 +1,6 @@
 use Rattle.std.proofs.Common.{All}
 use Rattle.std.specs.Vec.Iter.{into_iter_items}
-use Rattle.g1_book.specs.Callers.{IsCallerOf}
+use Rattle.g1_shared.specs.Callers.{IsCallerOf}
 use Rattle.g1_book_tests.proofs.tests.shared.pause.all_stored.Given as goal
 
 abbrev pub invariant-loop-caller : goal.invariant-loop-caller

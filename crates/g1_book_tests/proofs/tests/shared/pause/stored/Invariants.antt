@@ -1,4 +1,4 @@
-use Rattle.g1_book.specs.Callers.{IsCallerOf}
+use Rattle.g1_shared.specs.Callers.{IsCallerOf}
 use Rattle.g1_book_tests.proofs.tests.shared.pause.stored.Given as goal
 
 abbrev pub invariant-loop-from : goal.invariant-loop-from

@@ -1,0 +1,110 @@
+-- A caller of a shared book as contracts see it, and what the steps do to it.
+use Rattle.std.specs.Prelude.{◌≡◌, ℕ, ◌+◌, ◌<◌, ◌≤◌, ◌⊎◌, Bool, true, false, List, [], ◌∷◌, ◌++◌, length, Option, Some, None, IfSome, IsSome}
+use Rattle.g1_layout.specs.declared.kind.Kind.{Kind}
+use Rattle.g1_log.specs.declared.line.Line.{Line}
+use Rattle.g1_log.specs.declared.ends.Taker.{Taker}
+use Rattle.g1_log.specs.declared.buffer.Buffer.{Buffer}
+use Rattle.g1_log.specs.declared.parcel.Parcel.{Parcel}
+use Rattle.g1_log.specs.Log.{Cards}
+use Rattle.g1_log.specs.Ends.{line_home, put_of, taken_of}
+use Rattle.g1_core.specs.Barrier.{logged, buffer_of}
+use Rattle.g1_core.specs.declared.reply.Fill.{Fill}
+use Rattle.g1_core.specs.declared.reply.Fill.TheVariants.{No, Full, Helped}
+use Rattle.g1_steps.specs.declared.steps.mutator.Mutator.{Mutator}
+use Rattle.g1_shared.specs.Counts.{Tally, one_call}
+use Rattle.g1_steps.specs.Steps.{GainsAtMost}
+use Rattle.g1_steps.specs.Opening.{IsNewMutator}
+use Rattle.g1_steps.specs.Marks.{MutatorMark, TakerMark, mutator_mark, taker_mark}
+
+-- A caller: its counts, its log and sender where it is a mutator, and its taker.
+pub record Standing : Type 0 where
+  pub counts : Tally
+  pub mutator : Option Mutator
+  pub taker : Taker
+
+-- its log: none of any size where it is no mutator
+abbrev pub log_in : Option Mutator → Cards
+log_in None = record { size = 0; cards = [] }
+log_in (Some m) = m.log
+
+abbrev pub log_of : Standing → Cards
+log_of c = log_in c.mutator
+
+-- the list of the buffers that its sender has put
+abbrev pub puts_in : Option Mutator → List Buffer
+puts_in None = []
+puts_in (Some m) = put_of m.sender
+
+abbrev pub put_list : Standing → List Buffer
+put_list c = puts_in c.mutator
+
+-- the list of the parcels that its taker has taken
+abbrev pub taken_list : Standing → List Parcel
+taken_list c = taken_of c.taker
+
+-- who a caller is, which no call changes
+pub record Mark : Type 0 where
+  pub number : ℕ
+  pub mutator : Option MutatorMark
+  pub taker : TakerMark
+
+abbrev pub mark_of : Standing → Mark
+mark_of c = record { number = c.counts.number; mutator = mutator_mark c.mutator; taker = taker_mark c.taker }
+
+-- The caller's ends are those of the line.
+abbrev pub IsMarkOf : Line → Mark → Type 0
+IsMarkOf line m = IfSome m.mutator (λ s. s.line ≡ line_home line) × (m.taker.line ≡ line_home line)
+
+abbrev pub IsCallerOf : Line → Standing → Type 0
+IsCallerOf line c = IsMarkOf line (mark_of c)
+
+-- One entry more, or a refused call: then nothing is refined, and that is short.
+abbrev pub IsHelped : ℕ → List ℕ → Bool → ℕ → Type 0
+IsHelped made refined short now = (now ≡ made + 1) ⊎ ((now ≡ made) × (refined ≡ []) × (short ≡ true))
+
+-- What a store of a card does to its caller, by what became of the log.
+abbrev pub StoresAt : Standing → ℕ → Fill → List ℕ → Bool → Standing → Type 0
+StoresAt c card No refined short d = (d.counts.made ≡ c.counts.made + 1) × (put_list d ≡ put_list c) × (refined ≡ []) × (short ≡ false)
+StoresAt c card Full refined short d =
+    (d.counts.made ≡ c.counts.made + 1) × (put_list d ≡ put_list c ++ ((log_of c).cards ++ card ∷ []) ∷ []) × ((log_of d).cards ≡ []) × (refined ≡ []) × (short ≡ false)
+StoresAt c card Helped refined short d = IsHelped (c.counts.made + 1) refined short d.counts.made × (put_list d ≡ put_list c) × ((log_of d).cards ≡ [])
+
+-- What a flush does to its caller, by what became of the log.
+abbrev pub FlushesAt : Standing → Fill → List ℕ → Bool → Standing → Type 0
+FlushesAt c No refined short d = (d.counts ≡ c.counts) × (put_list d ≡ put_list c) × ((log_of c).cards ≡ []) × (refined ≡ []) × (short ≡ false)
+FlushesAt c Full refined short d = (d.counts ≡ c.counts) × (put_list d ≡ put_list c ++ (log_of c).cards ∷ []) × (refined ≡ []) × (short ≡ false)
+FlushesAt c Helped refined short d = IsHelped c.counts.made refined short d.counts.made × (put_list d ≡ put_list c)
+
+-- The list has grown by parcels, `least` of them or more.
+pub record GainsAtLeast (old : List Parcel) (least : ℕ) (new : List Parcel) : Type 0 where
+  pub parcels : List Parcel
+  pub gained : new ≡ old ++ parcels
+  pub many : least ≤ length parcels
+
+-- A caller at a pause: its log is empty, and it has taken at most `most` parcels.
+pub record IsPaused (most : ℕ) (c d : Standing) : Type 0 where
+  pub mark : mark_of d ≡ mark_of c
+  pub counts : d.counts ≡ c.counts
+  pub empty : (log_of d).cards ≡ []
+  pub put : put_list d ≡ put_list c
+  pub taken : GainsAtMost (taken_list c) most (taken_list d)
+
+-- Caller k as it begins, where the first `mutators` callers are mutators.
+pub record IsNewCaller (line : Line) (log mutators k : ℕ) (c : Standing) : Type 0 where
+  pub counts : c.counts ≡ record { number = k; made = 0; stored = 0 }
+  pub some : k < mutators → IsSome c.mutator
+  pub mutator : IfSome c.mutator (IsNewMutator line log k)
+  pub of : IsCallerOf line c
+  pub taken : taken_list c ≡ []
+
+-- the caller after one entry more, which is no store
+abbrev pub called_once : Standing → Standing
+called_once c = record { counts = one_call c.counts; mutator = c.mutator; taker = c.taker }
+
+-- What a store of this kind and card does to a mutator's log, and the buffer that it hands out.
+abbrev pub HandsOutOf : Option Mutator → Kind → ℕ → Option Buffer → Option Mutator → Type 0
+HandsOutOf (Some m) kind card buffer (Some n) = (n.log ≡ logged kind m.log card) × (n.sender ≡ m.sender) × (buffer ≡ buffer_of kind m.log card)
+HandsOutOf _ kind card buffer _ = ⊥
+
+abbrev pub HandsOut : Standing → Kind → ℕ → Option Buffer → Standing → Type 0
+HandsOut c kind card buffer d = HandsOutOf c.mutator kind card buffer d.mutator × (d.taker ≡ c.taker)

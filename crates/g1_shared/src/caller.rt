@@ -1,0 +1,130 @@
+//! The callers of a shared book.
+ghost use Rattle.std.specs.Prelude.{◌≡◌};
+
+use crate::ledgers::Frame;
+use g1_log::Taker;
+use g1_steps::Mutator;
+use std::marker::Model;
+use std::sync::ledger::{Ledger, Share};
+
+/// A caller's number, how many of its calls were entered and how many of these are stores, with its shares of both
+/// totals.
+#[derive(Drop)]
+pub(crate) struct Counts<M: Frame, S: Ledger> {
+    number: u32,
+    pub(crate) made: u64,
+    pub(crate) stored: u64,
+    pub(crate) made_share: Share<M>,
+    pub(crate) stored_share: Share<S>,
+}
+
+impl<M: Frame, S: Ledger> Model for Counts<M, S> {
+    ghost use Rattle.std.specs.Prelude.{◌≡◌};
+    ghost use Rattle.g1_shared.specs.Counts.{Tally, tally_code};
+
+    ghost Value = { Tally };
+
+    ghost coded = { tally_code };
+
+    ghost view = { λ c. record { number = c.number; made = c.made; stored = c.stored } };
+
+    ghost invariant = { λ c. (c.made_share.parts ≡ 1) × (c.made_share.amount ≡ c.made) × (c.stored_share.parts ≡ 1) × (c.stored_share.amount ≡ c.stored) };
+}
+
+impl<M: Frame, S: Ledger> Counts<M, S> {
+    ghost use Rattle.g1_shared.specs.Counts.{Tally};
+
+    /// No call yet, with a part of each ledger.
+    pub(crate) fn new(number: u32, made_share: Share<M>, stored_share: Share<S>) -> Counts<M, S>
+        requires made { (made_share.parts ≡ 1) × (made_share.amount ≡ 0) }
+        requires stored { (stored_share.parts ≡ 1) × (stored_share.amount ≡ 0) }
+        ensures { let t : Tally = record { number = number; made = 0; stored = 0 } in result ≡ t }
+    {
+        Counts {
+            number,
+            made: 0,
+            stored: 0,
+            made_share,
+            stored_share,
+        }
+    }
+
+    /// The number of the caller.
+    pub(crate) fn number(&self) -> u32
+        ensures { result ≡ self.now.number }
+    {
+        self.number
+    }
+
+    /// The shares.
+    fn into_shares(self) -> (Share<M>, Share<S>)
+        ensures made { (result.0.parts ≡ 1) × (result.0.amount ≡ self.made) }
+        ensures stored { (result.1.parts ≡ 1) × (result.1.amount ≡ self.stored) }
+    {
+        let Counts {
+            number: _,
+            made: _,
+            stored: _,
+            made_share,
+            stored_share,
+        } = self;
+        (made_share, stored_share)
+    }
+}
+
+/// One of the callers of a shared book: its counts, its log and sender where it is a mutator, and its taker.
+///
+/// It belongs to one thread at a time, and is lent to each call. A caller is used with the shared book that made it.
+#[derive(Drop)]
+pub struct Caller<M: Frame, S: Ledger> {
+    pub(crate) counts: Counts<M, S>,
+    pub(crate) mutator: Option<Mutator>,
+    pub(crate) taker: Taker,
+}
+
+impl<M: Frame, S: Ledger> Model for Caller<M, S> {
+    ghost use Rattle.std.specs.Prelude.{◌<◌, IsSome};
+    ghost use Rattle.g1_shared.specs.Callers.{Standing};
+
+    ghost Value = { Standing };
+
+    ghost view = { λ c. record { counts = c.counts; mutator = c.mutator; taker = c.taker } };
+
+    ghost invariant = { λ c. c.counts.number < M.terms.mutators → IsSome c.mutator };
+}
+
+impl<M: Frame, S: Ledger> Caller<M, S> {
+    /// Its number: below the book's count of mutators it is a mutator, which may store and flush. Constant time.
+    pub fn number(&self) -> u32
+        ensures { result ≡ self.now.counts.number }
+    {
+        self.counts.number()
+    }
+
+    /// How many of its calls were entered since the book was shared. Constant time.
+    pub fn made(&self) -> u64
+        ensures { result ≡ self.now.counts.made }
+    {
+        self.counts.made
+    }
+
+    /// How many of these are stores. Constant time.
+    pub fn stored(&self) -> u64
+        ensures { result ≡ self.now.counts.stored }
+    {
+        self.counts.stored
+    }
+
+    /// Its shares of both totals. Log and ends of the line are given up.
+    pub(crate) fn into_shares(self) -> (Share<M>, Share<S>)
+        ensures made { (result.0.parts ≡ 1) × (result.0.amount ≡ self.counts.made) }
+        ensures stored { (result.1.parts ≡ 1) × (result.1.amount ≡ self.counts.stored) }
+    {
+        let Caller {
+            counts,
+            mutator: _,
+            taker: _,
+        } = self;
+        counts.into_shares()
+    }
+}

@@ -1,0 +1,185 @@
+//! How a book is shared, and how it comes back.
+ghost use Rattle.std.specs.Prelude.{◌≡◌, ℕ, ◌+◌, ◌-◌, ◌<◌, ◌≤◌, [], length, count_by, sum_by, slice_index_or, IfOk, IfErr, IfSome, IsSome, vec_len, vec_capacity};
+ghost use Rattle.std.specs.List.{All};
+ghost use Rattle.std.specs.Vec.Iter.{into_iter_items, into_iter_len};
+ghost use Rattle.g1_log.specs.Ends.{capacity_of, IsNewTaker};
+ghost use Rattle.g1_shared.specs.Callers.{Standing, IsNewCaller};
+ghost use Rattle.g1_shared.specs.Counts.{is_store};
+ghost use Rattle.g1_book.specs.History.{terms_of};
+ghost use Rattle.g1_steps.specs.Opening.{IsNewMutator, AreNewMutators};
+
+use crate::caller::{Caller, Counts};
+use crate::counted::Counted;
+use crate::ledgers::Frame;
+use crate::shared::Shared;
+use g1_book::Book;
+use g1_core::Config;
+use g1_layout::NoMemory;
+use g1_log::{Line, Taker};
+use g1_steps::{Mutator, open_line};
+use std::sync::Mutex;
+use std::sync::ledger::{Blank, Ledger, Share};
+use std::vec::IntoIter;
+
+impl<M: Frame, S: Ledger> Shared<M, S> {
+    /// Puts a book without entries under a lock, with a line of completed buffers beside it, and makes its callers
+    /// (docs/PROFILE.md, The history under a lock).
+    ///
+    /// There are from the book's mutators up to 12 callers, numbered from 0. Caller `k` below the mutators is mutator `k`,
+    /// with an empty log and sender `k`; only these store and flush. Each caller has a taker. The line holds as many
+    /// buffers as the settings' limit. The ledgers are cut into one part a caller.
+    ///
+    /// Where a growth was refused the book comes back as it was; the ledgers are given up.
+    pub fn open(
+        made: Blank,
+        stored: Blank,
+        book: Book,
+        callers: u32,
+    ) -> Result<(Shared<M, S>, Vec<Caller<M, S>>), (Book, NoMemory)>
+        requires made { (made.name ≡ M.name) × (made.parts ≡ M.parts) × (made.parts ≡ callers) }
+        requires stored { (stored.name ≡ S.name) × (stored.parts ≡ S.parts) × (stored.parts ≡ callers) }
+        requires terms { terms_of book ≡ M.terms }
+        requires empty { book.entries ≡ [] }
+        requires callers { (M.terms.mutators ≤ callers) × (callers ≤ 12) }
+        ensures callers { IfOk result (λ opened. vec_len opened.1 ≡ callers) }
+        ensures each { IfOk result (λ opened. (k : ℕ) (d : Standing) → k < callers → IsNewCaller opened.0 M.terms.settings.log M.terms.mutators k (slice_index_or opened.1.items k d)) }
+        ensures capacity { IfOk result (λ opened. capacity_of opened.0 ≡ M.terms.settings.limit) }
+        ensures err { IfErr result (λ refused. refused.0 ≡ book) }
+    {
+        let alloc = book.allocator();
+        let config = book.config();
+        let mutators = book.mutators();
+        let _entries = book.entries();
+        let Ok(room) = Vec::with_capacity(alloc, callers as usize) else {
+            return Err((book, NoMemory));
+        };
+        let Ok((line, mutators, takers)) = open_line(alloc, config, mutators, callers) else {
+            return Err((book, NoMemory));
+        };
+        let (made, made_share) = made.open::<M>();
+        let (stored, stored_share) = stored.open::<S>();
+        let shares = (made_share, stored_share);
+        let all = callers_of(&line, &config, callers, shares, (mutators, takers), room);
+        let shared = Shared {
+            counted: Mutex::new(Counted::new(book, made, stored)),
+            line,
+            alloc,
+            start: config.start(),
+        };
+        Ok((shared, all))
+    }
+
+    /// Ends the sharing: the book comes back, once all callers are handed in (docs/PROFILE.md, The history under a lock).
+    ///
+    /// Its entries are as many as its callers have made, and the stores among them as many as they have stored. What is
+    /// left in logs and line is given up: the cards stay pending by their marks. No memory.
+    pub fn finish(self, callers: Vec<Caller<M, S>>) -> Book
+        requires some { 0 < vec_len callers }
+        requires made { vec_len callers ≡ M.parts }
+        requires stored { vec_len callers ≡ S.parts }
+        ensures made { length result.entries ≡ sum_by (λ caller. caller.counts.made) callers.items }
+        ensures stored { count_by is_store result.entries ≡ sum_by (λ caller. caller.counts.stored) callers.items }
+        ensures terms { terms_of result ≡ M.terms }
+    {
+        let Shared {
+            counted,
+            line: _,
+            alloc: _,
+            start: _,
+        } = self;
+        let mut callers = callers;
+        let last = callers.take_last();
+        let (mut made, mut stored) = last.into_shares();
+        while let Some(caller) = callers.pop() {
+            let (its_made, its_stored) = caller.into_shares();
+            made.merge(its_made);
+            stored.merge(its_stored);
+        }
+        counted.into_inner().audited(&mut made, &mut stored)
+    }
+}
+
+/// The callers, each with a part of both shares and a taker, and those below the mutators with the mutator of their
+/// number.
+fn callers_of<M: Frame, S: Ledger>(
+    line: &Line,
+    config: &Config,
+    count: u32,
+    shares: (Share<M>, Share<S>),
+    ends: (Vec<Mutator>, Vec<Taker>),
+    room: Vec<Caller<M, S>>,
+) -> Vec<Caller<M, S>>
+    requires made { (shares.0.parts ≡ count) × (shares.0.amount ≡ 0) }
+    requires stored { (shares.1.parts ≡ count) × (shares.1.amount ≡ 0) }
+    requires mutators { (vec_len ends.0 ≡ M.terms.mutators) × AreNewMutators line.now config.now.log 0 ends.0.items }
+    requires takers { (vec_len ends.1 ≡ count) × All (IsNewTaker line.now) ends.1.items }
+    requires room { (vec_len room ≡ 0) × (count ≤ vec_capacity room) }
+    ensures len { vec_len result ≡ count }
+    ensures each { (k : ℕ) (d : Standing) → k < count → IsNewCaller line.now config.now.log M.terms.mutators k (slice_index_or result.items k d) }
+{
+    let mut all = room;
+    let (mut made, mut stored) = shares;
+    let (mutators, mut takers) = ends;
+    let mut mutators = mutators.into_iter();
+    for number in 0..count {
+        let counts = Counts::new(number, made.split_off(1, 0), stored.split_off(1, 0));
+        let mutator = next_mutator(line, config, number, &mut mutators);
+        let taker = next_taker(line, &mut takers);
+        all.push_reserved(new_caller(line, config, counts, mutator, taker));
+    }
+    all
+}
+
+/// The mutator of this number, while there is one.
+fn next_mutator(
+    line: &Line,
+    config: &Config,
+    number: u32,
+    mutators: &mut IntoIter<Mutator>,
+) -> Option<Mutator>
+    requires { AreNewMutators line.now config.now.log number (into_iter_items mutators.old) }
+    ensures rest { AreNewMutators line.now config.now.log (number + 1) (into_iter_items mutators.new) }
+    ensures len { into_iter_len mutators.new ≡ into_iter_len mutators.old - 1 }
+    ensures some { 0 < into_iter_len mutators.old → IsSome result }
+    ensures next { IfSome result (IsNewMutator line.now config.now.log number) }
+{
+    let _line = line;
+    let _config = config;
+    let _number = number;
+    mutators.next()
+}
+
+/// One of the takers.
+fn next_taker(line: &Line, takers: &mut Vec<Taker>) -> Taker
+    requires some { 0 < vec_len takers.old }
+    requires all { All (IsNewTaker line.now) takers.old.items }
+    ensures len { vec_len takers.new + 1 ≡ vec_len takers.old }
+    ensures rest { All (IsNewTaker line.now) takers.new.items }
+    ensures next { IsNewTaker line.now result }
+{
+    let _line = line;
+    takers.take_last()
+}
+
+/// The caller of these counts.
+fn new_caller<M: Frame, S: Ledger>(
+    line: &Line,
+    config: &Config,
+    counts: Counts<M, S>,
+    mutator: Option<Mutator>,
+    taker: Taker,
+) -> Caller<M, S>
+    requires new { (counts.made ≡ 0) × (counts.stored ≡ 0) }
+    requires some { counts.number < M.terms.mutators → IsSome mutator }
+    requires mutator { IfSome mutator (IsNewMutator line.now config.now.log counts.number) }
+    requires taker { IsNewTaker line.now taker }
+    ensures { IsNewCaller line.now config.now.log M.terms.mutators counts.number result }
+{
+    let _line = line;
+    let _config = config;
+    Caller {
+        counts,
+        mutator,
+        taker,
+    }
+}

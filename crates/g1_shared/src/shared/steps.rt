@@ -1,0 +1,173 @@
+//! The steps of a caller over the locked book, and the pause.
+ghost use Rattle.std.specs.Prelude.{◌≡◌, ℕ, ◌+◌, ◌*◌, ◌<◌, ◌≤◌, ◌↔◌, ◌++◌, ◌∷◌, [], length, IfOk, OnErr, OnOk, IfSome, IsNone, All, slice_index_or};
+ghost use Rattle.g1_layout.specs.Shape.{slot_count, card_of};
+ghost use Rattle.g1_log.specs.declared.parcel.Parcel.{Parcel as P};
+ghost use Rattle.g1_log.specs.Ends.{capacity_of, taken_of, IsTakerOf, IsSameTaker};
+ghost use Rattle.g1_core.specs.Barrier.{logged, buffer_of};
+ghost use Rattle.g1_shared.specs.Callers.{Standing, mark_of, IsCallerOf, log_of, taken_list, StoresAt, FlushesAt, GainsAtLeast, IsPaused};
+
+use crate::caller::{Caller, Counts};
+use crate::ledgers::Frame;
+use crate::locked_book::LockedBook;
+use crate::shared::Shared;
+use g1_book::Refusal;
+use g1_core::{Fill, RefineReply, StoreReply};
+use g1_layout::Slot;
+use g1_log::Taker;
+use g1_steps::{FlushReply, empty_line, refine, work};
+use std::sync::Wait;
+use std::sync::ledger::Ledger;
+
+impl<M: Frame, S: Ledger> Shared<M, S> {
+    /// Stores a reference, or null, as a mutator does (`Mutator::store`), by a call under the lock.
+    ///
+    /// Once the lock is left, a log that was filled goes into the line; where the line does not take it, the caller
+    /// refines it by one more call. A filtered store costs the lock and its entry. `Err` where the store itself was
+    /// refused, which leaves the caller as it was.
+    pub fn store<R: Wait>(
+        &self,
+        rt: &R,
+        caller: &mut Caller<M, S>,
+        slot: Slot,
+        target: Option<Slot>,
+    ) -> Result<StoreReply, Refusal>
+        requires mutator { caller.old.counts.number < M.terms.mutators }
+        requires slot { slot < slot_count M.terms.layout }
+        requires target { IfSome target (λ place. place < slot_count M.terms.layout) }
+        requires mine { IsCallerOf self.now caller.old }
+        ensures mark { mark_of caller.new ≡ mark_of caller.old }
+        ensures stored { OnOk result (caller.new.counts.stored ≡ caller.old.counts.stored + 1) }
+        ensures taker { caller.new.taker ≡ caller.old.taker }
+        ensures log { IfOk result (λ reply. log_of caller.new ≡ logged reply.kind (log_of caller.old) (card_of M.terms.layout slot)) }
+        ensures fill { IfOk result (λ reply. (reply.fill ≡ Fill.No) ↔ IsNone (buffer_of reply.kind (log_of caller.old) (card_of M.terms.layout slot))) }
+        ensures ok { IfOk result (λ reply. StoresAt caller.old (card_of M.terms.layout slot) reply.fill reply.refined reply.short caller.new) }
+        ensures err { OnErr result (caller.new ≡ caller.old) }
+    {
+        let Some(mutator) = &mut caller.mutator else {
+            unreachable!()
+        };
+        let mut calls = LockedBook {
+            rt,
+            book: &self.counted,
+            counts: &mut caller.counts,
+            alloc: self.alloc,
+        };
+        mutator.store(rt, &self.line, &mut calls, slot, target)
+    }
+
+    /// Empties the caller's log, as a mutator does (`Mutator::flush`). It takes no lock unless it helps, and is never
+    /// refused.
+    pub fn flush<R: Wait>(&self, rt: &R, caller: &mut Caller<M, S>) -> FlushReply
+        requires mutator { caller.old.counts.number < M.terms.mutators }
+        requires mine { IsCallerOf self.now caller.old }
+        ensures mark { mark_of caller.new ≡ mark_of caller.old }
+        ensures stored { caller.new.counts.stored ≡ caller.old.counts.stored }
+        ensures taker { caller.new.taker ≡ caller.old.taker }
+        ensures flushed { FlushesAt caller.old result.fill result.refined result.short caller.new }
+        ensures cards { result.cards ≡ length (log_of caller.old).cards }
+        ensures empty { (log_of caller.new).cards ≡ [] }
+    {
+        let Some(mutator) = &mut caller.mutator else {
+            unreachable!()
+        };
+        let mut calls = LockedBook {
+            rt,
+            book: &self.counted,
+            counts: &mut caller.counts,
+            alloc: self.alloc,
+        };
+        mutator.flush(rt, &self.line, &mut calls)
+    }
+
+    /// Takes the oldest completed buffer and refines it by a call under the lock, or makes the call with none where the
+    /// line gave none (`refine`).
+    ///
+    /// Where the call is refused a buffer that was taken is given up, and its cards stay pending.
+    pub fn refine<R: Wait>(&self, rt: &R, caller: &mut Caller<M, S>) -> Result<RefineReply, Refusal>
+        requires mine { IsCallerOf self.now caller.old }
+        ensures mark { mark_of caller.new ≡ mark_of caller.old }
+        ensures stored { caller.new.counts.stored ≡ caller.old.counts.stored }
+        ensures mutator { caller.new.mutator ≡ caller.old.mutator }
+        ensures ok { OnOk result (caller.new.counts.made ≡ caller.old.counts.made + 1) }
+        ensures err { OnErr result (caller.new.counts ≡ caller.old.counts) }
+        ensures numbers { IfOk result (λ reply. (reply.taken ≤ 1) × (length reply.refined + reply.skipped ≤ 256) × (reply.hot ≤ 256) × (reply.left ≤ capacity_of self.now)) }
+        ensures taken { IfOk result (λ reply. reply.taken ≡ 1 → (x : P) × (taken_list caller.new ≡ taken_list caller.old ++ x ∷ [])) }
+    {
+        let mut calls = LockedBook {
+            rt,
+            book: &self.counted,
+            counts: &mut caller.counts,
+            alloc: self.alloc,
+        };
+        refine(rt, &self.line, &mut caller.taker, &mut calls)
+    }
+
+    /// A round of refinement (`work`), each of its calls under the lock by itself.
+    ///
+    /// A refusal at the first take or call is the answer. At a later one, or after a short call, the round ends with
+    /// `short` true.
+    pub fn work<R: Wait>(&self, rt: &R, caller: &mut Caller<M, S>) -> Result<RefineReply, Refusal>
+        requires mine { IsCallerOf self.now caller.old }
+        ensures mark { mark_of caller.new ≡ mark_of caller.old }
+        ensures stored { caller.new.counts.stored ≡ caller.old.counts.stored }
+        ensures mutator { caller.new.mutator ≡ caller.old.mutator }
+        ensures made { (caller.old.counts.made ≤ caller.new.counts.made) × (caller.new.counts.made ≤ caller.old.counts.made + capacity_of self.now) }
+        ensures err { OnErr result (caller.new.counts ≡ caller.old.counts) }
+        ensures taken { IfOk result (λ reply. GainsAtLeast (taken_list caller.old) reply.taken (taken_list caller.new)) }
+        ensures numbers { IfOk result (λ reply. (reply.taken ≤ capacity_of self.now) × (length reply.refined + reply.skipped ≤ 256 * capacity_of self.now) × (reply.hot ≤ 256 * capacity_of self.now) × (reply.left ≤ capacity_of self.now)) }
+    {
+        self.work_by(rt, &mut caller.counts, &mut caller.taker)
+    }
+
+    /// A round of these counts' caller, by its taker.
+    fn work_by<R: Wait>(
+        &self,
+        rt: &R,
+        counts: &mut Counts<M, S>,
+        taker: &mut Taker,
+    ) -> Result<RefineReply, Refusal>
+        requires taker { IsTakerOf self.now taker.old }
+        ensures kept { (counts.new.number ≡ counts.old.number) × (counts.new.stored ≡ counts.old.stored) }
+        ensures made { (counts.old.made ≤ counts.new.made) × (counts.new.made ≤ counts.old.made + capacity_of self.now) }
+        ensures same { IsSameTaker taker.new taker.old }
+        ensures err { OnErr result (counts.new ≡ counts.old) }
+        ensures taken { IfOk result (λ reply. GainsAtLeast (taken_of taker.old) reply.taken (taken_of taker.new)) }
+        ensures numbers { IfOk result (λ reply. (reply.taken ≤ capacity_of self.now) × (length reply.refined + reply.skipped ≤ 256 * capacity_of self.now) × (reply.hot ≤ 256 * capacity_of self.now) × (reply.left ≤ capacity_of self.now)) }
+    {
+        let mut calls = LockedBook {
+            rt,
+            book: &self.counted,
+            counts,
+            alloc: self.alloc,
+        };
+        let reply = work(rt, &self.line, taker, &mut calls, self.start)?;
+        Ok(reply)
+    }
+
+    /// What a pause does once the mutators stand still: it empties the logs of the callers that are lent, and the line by
+    /// the taker of the first. It makes no call, so the cards stay pending and a drain finds each of them.
+    ///
+    /// Lent no caller it does nothing. It takes no lock and no memory.
+    pub fn pause<R: Wait>(&self, rt: &R, callers: &mut [Caller<M, S>])
+        requires mine { All (IsCallerOf self.now) callers.old }
+        ensures { (k : ℕ) (d : Standing) → k < length callers.old → IsPaused (capacity_of self.now) (slice_index_or callers.old k d) (slice_index_or callers.new k d) }
+    {
+        for at in 0..callers.len() {
+            self.pause_one(rt, &mut callers[at], at == 0);
+        }
+    }
+
+    /// Empties the caller's log and, where it takes, the line.
+    #[tactic(auto, using(g1_steps::proofs::StepLemmas::gains_none_of))]
+    fn pause_one<R: Wait>(&self, rt: &R, caller: &mut Caller<M, S>, takes: bool)
+        requires mine { IsCallerOf self.now caller.old }
+        ensures { IsPaused (capacity_of self.now) caller.old caller.new }
+    {
+        if takes {
+            empty_line(rt, &self.line, &mut caller.taker);
+        }
+        if let Some(mutator) = &mut caller.mutator {
+            mutator.stop();
+        }
+    }
+}

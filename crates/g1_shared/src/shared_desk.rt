@@ -1,0 +1,76 @@
+//! A desk at a shared book.
+ghost use Rattle.std.specs.Prelude.{◌≡◌, refl, nat_lt};
+ghost use Rattle.std.proofs.Props.{props};
+ghost use Rattle.g1_layout.specs.Shape.{slot_count};
+ghost use Rattle.g1_log.specs.Ends.{capacity_of};
+ghost use Rattle.g1_shared.specs.Callers.{IsCallerOf};
+ghost use Rattle.g1_shared.specs.Did.{DeskDid, caller_did_none, desk_did_then};
+
+use crate::caller::Caller;
+use crate::ledgers::Frame;
+use crate::shared::Shared;
+use g1_book::Refusal;
+use g1_core::{RefineReply, StoreReply};
+use g1_layout::Slot;
+use g1_steps::{Desk, FlushReply};
+use std::sync::Wait;
+use std::sync::ledger::Ledger;
+
+/// A shared book and one of its callers, with the runtime by which the caller waits for the lock.
+///
+/// Its calls are those of [`Shared`]. Of the calls that were made, what is known is what the caller's counts tell.
+#[derive(Drop)]
+pub struct SharedDesk<'a, R, M: Frame, S: Ledger> {
+    rt: &'a R,
+    shared: &'a Shared<M, S>,
+    caller: Caller<M, S>,
+    ghost of: { IsCallerOf shared.now caller } by { Prim.hlevel props },
+}
+
+impl<'a, R, M: Frame, S: Ledger> SharedDesk<'a, R, M, S> {
+    /// A desk of this caller at the book that it is a caller of.
+    pub fn new(rt: &'a R, shared: &'a Shared<M, S>, caller: Caller<M, S>) -> SharedDesk<'a, R, M, S>
+        requires { IsCallerOf shared.now caller }
+        ensures caller { result.caller ≡ caller }
+        ensures shared { result.shared.now ≡ shared.now }
+    {
+        SharedDesk { rt, shared, caller }
+    }
+
+    /// The caller, once the work is done.
+    pub fn into_caller(self) -> Caller<M, S>
+        ensures caller { result ≡ self.entry.caller }
+        ensures of { IsCallerOf self.entry.shared.now result }
+    {
+        let SharedDesk {
+            rt: _,
+            shared: _,
+            caller,
+        } = self;
+        caller
+    }
+}
+
+impl<'a, R: Wait, M: Frame, S: Ledger> Desk for SharedDesk<'a, R, M, S> {
+    ghost did = { λ s asks t. DeskDid (capacity_of s.shared.now) s.caller asks (capacity_of t.shared.now) t.caller };
+
+    ghost slots = { λ s. slot_count M.terms.layout };
+
+    ghost may_store = { λ s. nat_lt s.caller.counts.number M.terms.mutators };
+
+    fn store(&mut self, slot: Slot, target: Option<Slot>) -> Result<StoreReply, Refusal> {
+        self.shared.store(self.rt, &mut self.caller, slot, target)
+    }
+
+    fn flush(&mut self) -> Result<FlushReply, Refusal> {
+        Ok(self.shared.flush(self.rt, &mut self.caller))
+    }
+
+    fn work(&mut self) -> Result<RefineReply, Refusal> {
+        self.shared.work(self.rt, &mut self.caller)
+    }
+
+    ghost none = { λ s. (refl, caller_did_none (capacity_of s.shared.now) s.caller) };
+
+    ghost then = { λ s t u. desk_did_then (capacity_of s.shared.now) (capacity_of t.shared.now) (capacity_of u.shared.now) s.caller t.caller u.caller };
+}

@@ -1,0 +1,5 @@
+pub mod OpeningLemmas
+pub mod RoundLemmas
+pub mod ServedLemmas
+pub mod StepLemmas
+pub mod WorkerLemmas

@@ -1,0 +1,107 @@
+-- What the steps add up to.
+use Rattle.std.proofs.Common.{◌≡◌, ◌+◌, ◌≤◌, ℕ, Bool, true, false, List, [], ◌∷◌, ◌++◌, Option, Some, None, refl, sym, subst, ap, ◌∙◌, arith, append_assoc, append-nil, length, length-append, map, if◌then◌else◌, nat_lt}
+use Rattle.g1_layout.specs.declared.kind.Kind.{Kind}
+use Rattle.g1_layout.specs.declared.kind.Kind.TheVariants.{SameRegion, Null, AlreadyDirty, Logged}
+use Rattle.g1_log.specs.declared.parcel.Parcel.{Parcel}
+use Rattle.g1_log.specs.Log.{Cards}
+use Rattle.std.specs.Prelude.{Result, Ok, Err, IfOk}
+use Rattle.g1_log.specs.Line.{taken_by}
+use Rattle.g1_log.specs.Ends.{taker_view, WasOfLength}
+use Rattle.g1_log.specs.declared.ends.Taker.{Taker}
+use Rattle.g1_core.specs.declared.reply.RefineReply.{RefineReply}
+use Rattle.g1_core.specs.Barrier.{buffer_of}
+use Rattle.g1_core.specs.declared.reply.Fill.TheVariants.{Full}
+use Rattle.g1_core.specs.declared.reply.StoreReply.{StoreReply}
+use Rattle.g1_core.specs.declared.entry.Entry.{Entry}
+use Rattle.g1_core.specs.Calls.{store_entry, refine_entry}
+use Rattle.g1_book.specs.History.{History, IsEntered}
+use Rattle.g1_book.specs.declared.refusal.Refusal.{Refusal}
+use Rattle.g1_steps.specs.Made.{Made, Stored, Refined, Refused, AreCalls, entries_of}
+use Rattle.g1_steps.specs.Lent.{Grows, IsBookCall}
+use Rattle.g1_steps.specs.Rounds.{Turn, round_calls, replies_of}
+use Rattle.g1_steps.specs.Steps.{Help, passed, filled, store_answer, GainsAtMost, IsTake, IsRefinement}
+
+handed_by : (filled : Bool) (cards buffer : List ℕ) → (if filled then None else Some cards) ≡ Some buffer → buffer ≡ cards
+handed_by true cards buffer is = cc
+handed_by false cards buffer is = cc
+
+-- a log hands out a buffer only to a logged store, with the store's card last
+pub handed_out : (kind : Kind) (log : Cards) (card : ℕ) (buffer : List ℕ) → buffer_of kind log card ≡ Some buffer → (kind ≡ Logged) × (buffer ≡ log.cards ++ card ∷ [])
+handed_out Logged log card buffer is = (refl, handed_by (nat_lt (length log.cards + 1) log.size) (log.cards ++ card ∷ []) buffer is)
+handed_out SameRegion log card buffer is = absurd (cc is)
+handed_out Null log card buffer is = absurd (cc is)
+handed_out AlreadyDirty log card buffer is = absurd (cc is)
+
+-- what a store that filled its log answers
+pub store_passed : (first : StoreReply) (help : Help) → first ≡ filled → record { kind = first.kind; fill = (passed help).fill; refined = (passed help).refined; short = (passed help).short } ≡ store_answer first help
+store_passed first None is = subst (λ (r : StoreReply). record { kind = r.kind; fill = Full; refined = []; short = false } ≡ r) (sym is) refl
+store_passed first (Some (Ok reply)) is = refl
+store_passed first (Some (Err refusal)) is = refl
+
+-- how a history grows
+pub grows_none : (h : History) → Grows h [] h
+grows_none h = record { entries = sym (append-nil h.entries); terms = refl }
+
+pub grows_entered : (old : History) (e : Entry) (new : History) → IsEntered old e new → Grows old (e ∷ []) new
+grows_entered old e new h = record { entries = h.entries; terms = h.terms }
+
+grows_unchanged : (old new : History) → new ≡ old → Grows old [] new
+grows_unchanged old new same = subst (λ b. Grows old [] b) (sym same) (grows_none old)
+
+pub grows_then : (a b c : History) (es fs : List Entry) → Grows a es b → Grows b fs c → Grows a (es ++ fs) c
+grows_then a b c es fs g h = record { entries = h.entries ∙ ap (λ xs. xs ++ fs) g.entries ∙ append_assoc a.entries es fs; terms = h.terms ∙ g.terms }
+
+-- the entries of a call, and of some
+call_grows : (caller : ℕ) (old new : History) (m : Made) → IsBookCall caller old m new → Grows old (entries_of caller (m ∷ [])) new
+call_grows caller old new (Stored slot target reply) h = grows_entered old (store_entry caller slot target reply) new h.0
+call_grows caller old new (Refined buffer reply) h = grows_entered old (refine_entry caller reply) new h.0
+call_grows caller old new (Refused refusal) h = grows_unchanged old new h.0
+
+entries_more : (caller : ℕ) (m : Made) (ms : List Made) → entries_of caller (m ∷ []) ++ entries_of caller ms ≡ entries_of caller (m ∷ ms)
+entries_more caller (Stored slot target reply) ms = refl
+entries_more caller (Refined buffer reply) ms = refl
+entries_more caller (Refused refusal) ms = refl
+
+pub calls_grow : (caller : ℕ) (old new : History) (ms : List Made) → AreCalls (IsBookCall caller) old ms new → Grows old (entries_of caller ms) new
+calls_grow caller old new [] h = grows_unchanged old new h
+calls_grow caller old new (m ∷ []) h = call_grows caller old new m h
+calls_grow caller old new (m ∷ n ∷ ms) h = subst (λ es. Grows old es new) (entries_more caller m (n ∷ ms)) (grows_then old h.0 new (entries_of caller (m ∷ [])) (entries_of caller (n ∷ ms)) (call_grows caller old h.0 m h.1) (calls_grow caller h.0 new (n ∷ ms) h.2))
+
+-- the entries of a round
+pub round_entries : (caller : ℕ) (turns : List Turn) (refused : Option Refusal) → entries_of caller (round_calls turns refused) ≡ map (refine_entry caller) (replies_of turns)
+round_entries caller [] None = refl
+round_entries caller [] (Some refusal) = refl
+round_entries caller (t ∷ ts) None = ap (λ es. refine_entry caller t.reply ∷ es) (round_entries caller ts None)
+round_entries caller (t ∷ ts) (Some refusal) = ap (λ es. refine_entry caller t.reply ∷ es) (round_entries caller ts (Some refusal))
+
+pub gains_none : (xs : List Parcel) → GainsAtMost xs 0 xs
+gains_none xs = record { parcels = []; gained = sym (append-nil xs); few = omega arith }
+
+pub gains_one : (xs ys zs : List Parcel) (x : Parcel) (n : ℕ) → GainsAtMost xs n ys → zs ≡ ys ++ x ∷ [] → GainsAtMost xs (n + 1) zs
+gains_one xs ys zs x n h is = record {
+  parcels = h.parcels ++ x ∷ [];
+  gained = is ∙ ap (λ l. l ++ x ∷ []) h.gained ∙ append_assoc xs h.parcels (x ∷ []);
+  few = omega (arith, length-append h.parcels (x ∷ []), h.few);
+}
+
+pub gains_within : (xs ys zs : List Parcel) (n m : ℕ) → GainsAtMost xs n ys → zs ≡ ys → n ≤ m → GainsAtMost xs m zs
+gains_within xs ys zs n m h is less = record { parcels = h.parcels; gained = is ∙ h.gained; few = omega (arith, h.few) }
+
+pub gains_none_of : (xs ys : List Parcel) (n : ℕ) → ys ≡ xs → GainsAtMost xs n ys
+gains_none_of xs ys n is = record { parcels = []; gained = is ∙ sym (append-nil xs); few = omega arith }
+
+pub gains_nothing : (xs ys : List Parcel) → ys ≡ xs → GainsAtMost xs 1 ys
+gains_nothing xs ys is = record { parcels = []; gained = is ∙ sym (append-nil xs); few = omega arith }
+
+pub gains_single : (xs ys : List Parcel) (x : Parcel) → ys ≡ xs ++ x ∷ [] → GainsAtMost xs 1 ys
+gains_single xs ys x is = record { parcels = x ∷ []; gained = is; few = omega arith }
+
+-- a taker that knows as much takes as the other does
+take_from : (a b : Taker) (parcel : Option Parcel) (c : Taker) → taker_view b ≡ taker_view a → IsTake b parcel c → IsTake a parcel c
+take_from a b None c same h = (h.0 ∙ ap taken_by same, subst (λ v. WasOfLength 0 v) same h.1)
+take_from a b (Some x) c same h = h ∙ ap (λ v. taken_by v ++ x ∷ []) same
+
+pub refinement_from : {S : Type 0} (did : S → List Made → S → Type 0) (old new : S) (a b after : Taker) (result : Result RefineReply Refusal) → taker_view b ≡ taker_view a
+    → IfOk result (λ reply. IsRefinement did old b reply after new) → IfOk result (λ reply. IsRefinement did old a reply after new)
+refinement_from did old new a b after (Ok reply) same h = record { parcel = h.parcel; take = take_from a b h.parcel after same h.take; made = h.made }
+refinement_from did old new a b after (Err refusal) same h = h

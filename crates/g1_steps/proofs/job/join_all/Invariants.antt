@@ -1,0 +1,13 @@
+use Rattle.std.proofs.Common.{◌≡◌, ◌+◌, ◌≤◌, ◌++◌, map, vec_len, vec_capacity}
+use Rattle.std.specs.List.{AllZip}
+use Rattle.std.specs.Vec.Iter.{into_iter_len, into_iter_items}
+use Rattle.g1_steps.specs.Ask.{asks_in}
+use Rattle.g1_steps.specs.Ran.{Ran}
+use Rattle.g1_steps.proofs.job.join_all.Given as goal
+
+abbrev pub invariant-loop-handle : goal.invariant-loop-handle
+invariant-loop-handle g l =
+    (l.yielded ++ into_iter_items l.handle-iterator ≡ l.fn.running.items)
+    × (vec_len l.done + into_iter_len l.handle-iterator ≡ vec_len l.fn.running)
+    × (vec_len l.fn.running ≤ vec_capacity l.done)
+    × AllZip (λ a b. (b.script ≡ a.script) × Ran g.D.Desk.did (asks_in a.script) a.desk b.outcome b.desk) (map (λ h. h.promise.0.value) l.yielded) l.done.items

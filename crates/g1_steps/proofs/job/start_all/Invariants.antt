@@ -1,0 +1,11 @@
+use Rattle.std.proofs.Common.{◌≡◌, ◌+◌, ◌≤◌, ◌++◌, map, vec_len, vec_capacity, All}
+use Rattle.std.specs.Vec.Iter.{into_iter_len, into_iter_items}
+use Rattle.g1_steps.specs.Ask.{ScriptFits}
+use Rattle.g1_steps.proofs.job.start_all.Given as goal
+
+abbrev pub invariant-loop-job : goal.invariant-loop-job
+invariant-loop-job g l =
+    (map (λ h. h.promise.0.value) l.running.items ++ into_iter_items l.job-iterator ≡ l.fn.jobs.items)
+    × (vec_len l.running + into_iter_len l.job-iterator ≡ vec_len l.fn.jobs)
+    × (vec_len l.fn.jobs ≤ vec_capacity l.running)
+    × All (λ job. ScriptFits (g.D.Desk.slots job.desk) (g.D.Desk.may_store job.desk) job.script) (into_iter_items l.job-iterator)

@@ -1,0 +1,10 @@
+use Rattle.std.proofs.Common.{◌≡◌, ℕ, ◌<◌, ◌≤◌, length, get_or}
+use Rattle.g1_steps.specs.Steps.{IsStopped}
+use Rattle.g1_steps.specs.declared.steps.mutator.Mutator.{Mutator}
+use Rattle.g1_steps.proofs.steps.standstill.stand_still.Given as goal
+
+abbrev pub invariant-loop-at : goal.invariant-loop-at
+invariant-loop-at g l =
+    (length l.mutators ≡ length l.initial.mutators)
+    × ((k : ℕ) (d : Mutator) → k < l.at → IsStopped (get_or l.initial.mutators k d) (get_or l.mutators k d))
+    × ((k : ℕ) (d : Mutator) → l.at ≤ k → get_or l.mutators k d ≡ get_or l.initial.mutators k d)

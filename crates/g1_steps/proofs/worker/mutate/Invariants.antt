@@ -1,0 +1,7 @@
+use Rattle.std.proofs.Common.{◌≡◌, take}
+use Rattle.g1_steps.specs.Ask.{asks_of}
+use Rattle.g1_steps.proofs.worker.mutate.Given as goal
+
+abbrev pub invariant-loop-step : goal.invariant-loop-step
+invariant-loop-step g l = (l.made ≡ l.step-index) × g.D.Desk.did l.initial.desk (asks_of (take l.step-index l.steps)) l.desk
+    × (g.D.Desk.slots l.desk ≡ g.D.Desk.slots l.initial.desk) × (g.D.Desk.may_store l.desk ≡ g.D.Desk.may_store l.initial.desk)

@@ -1,0 +1,9 @@
+pub mod Ask
+pub mod Lent
+pub mod Made
+pub mod Marks
+pub mod Opening
+pub mod Ran
+pub mod Rounds
+pub mod Served
+pub mod Steps

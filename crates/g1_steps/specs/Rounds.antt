@@ -1,0 +1,110 @@
+-- What a round of refinements does: its calls, what they add up to, and where it ends.
+use Rattle.std.specs.Prelude.{◌≡◌, ◌≤◌, ◌+◌, ◌-◌, ◌/◌, ◌⊎◌, ℕ, Bool, true, false, List, [], ◌∷◌, ◌++◌, length, map, sum_by, All, nat_lt, not, if◌then◌else◌, Option, Some, None, IsSome}
+use Rattle.std.specs.List.{flat_map}
+use Rattle.g1_log.specs.declared.ends.Taker.{Taker}
+use Rattle.g1_log.specs.declared.parcel.Parcel.{Parcel}
+use Rattle.g1_log.specs.Ends.{taken_of, WasEmpty}
+use Rattle.g1_core.specs.declared.reply.RefineReply.{RefineReply}
+use Rattle.g1_book.specs.declared.refusal.Refusal.{Refusal}
+use Rattle.g1_book.specs.declared.refusal.Refusal.TheVariants.{NoMemory}
+use Rattle.g1_steps.specs.declared.steps.refiner.Sums.{Sums}
+use Rattle.g1_steps.specs.Made.{Made, Refined, Refused}
+use Rattle.g1_steps.specs.Steps.{GainsAtMost}
+
+-- how many calls a round makes at most, where it begins at `start` completed buffers and sees `seen`
+abbrev pub round_size : ℕ → ℕ → ℕ
+round_size start seen = if nat_lt seen start then 0 else seen - start / 4
+
+-- a call of a round: the parcel that was taken, and the answer of its refinement
+pub record Turn : Type 0 where
+  pub parcel : Parcel
+  pub reply : RefineReply
+
+abbrev pub turn_call : Turn → Made
+turn_call t = Refined (Some t.parcel.buffer) t.reply
+
+-- the calls of a round, of which one more may have been refused
+abbrev pub round_calls : List Turn → Option Refusal → List Made
+round_calls turns None = map turn_call turns
+round_calls turns (Some refusal) = map turn_call turns ++ Refused refusal ∷ []
+
+abbrev pub replies_of : List Turn → List RefineReply
+replies_of turns = map (λ t. t.reply) turns
+
+abbrev pub parcels_of : List Turn → List Parcel
+parcels_of turns = map (λ t. t.parcel) turns
+
+-- each of these but the last was whole
+abbrev pub AreWholeButLast : List RefineReply → Type 0
+AreWholeButLast [] = Unit {0}
+AreWholeButLast (r ∷ []) = Unit {0}
+AreWholeButLast (r ∷ s ∷ rest) = (r.short ≡ false) × AreWholeButLast (s ∷ rest)
+
+-- What calls add up to: their sums, and their lists joined. It is short where one of them is.
+pub record IsSumOf (replies : List RefineReply) (reply : RefineReply) : Type 0 where
+  pub taken : reply.taken ≡ sum_by (λ r. r.taken) replies
+  pub refined : reply.refined ≡ flat_map (λ r. r.refined) replies
+  pub hot : reply.hot ≡ sum_by (λ r. r.hot) replies
+  pub skipped : reply.skipped ≡ sum_by (λ r. r.skipped) replies
+  pub whole : reply.short ≡ false → All (λ r. r.short ≡ false) replies
+
+-- A taker that had taken these parcels found the queue empty at some moment.
+pub record FoundEmpty (taken : List Parcel) : Type 0 where
+  pub taker : Taker
+  pub has : taken_of taker ≡ taken
+  pub empty : WasEmpty taker
+
+-- The next call was refused: room for its cards, before a buffer was taken, or the call itself, whose buffer is given up.
+abbrev pub IsRefused : {S : Type 0} → (S → List Made → S → Type 0) → S → Refusal → S → Type 0
+IsRefused did old refusal new = ((refusal ≡ NoMemory) × (new ≡ old)) ⊎ did old (Refused refusal ∷ []) new
+
+-- A round of one caller that makes at most `most` calls: refinements of what its taker took, one after the other, with these sums.
+-- Fewer are made only where the last one was short, the line was empty, or the next was refused; then one parcel more may be given up.
+pub record IsRound {S : Type 0} (did : S → List Made → S → Type 0) (old : S) (before : List Parcel) (most : ℕ) (reply : RefineReply) (after : List Parcel) (new : S) : Type 0 where
+  pub turns : List Turn
+  pub refused : Option Refusal
+  pub made : did old (round_calls turns refused) new
+  pub ends : IsSome refused → reply.short ≡ true
+  pub taken : GainsAtMost (before ++ parcels_of turns) 1 after
+  pub kept : reply.short ≡ false → after ≡ before ++ parcels_of turns
+  pub sums : IsSumOf (replies_of turns) reply
+  pub order : AreWholeButLast (replies_of turns)
+  pub few : reply.taken ≤ length turns
+  pub begun : reply.short ≡ true → 1 ≤ length turns
+  pub within : length turns ≤ most
+  pub all : reply.short ≡ false → (length turns ≡ most) ⊎ FoundEmpty after
+
+-- where a round stands: the caller's state, what the calls add up to, and what the taker has taken
+pub record Progress (S : Type 0) : Type 0 where
+  pub state : S
+  pub sum : RefineReply
+  pub taken : List Parcel
+
+abbrev pub so_far : Sums → RefineReply
+so_far s = record { taken = s.taken; refined = s.refined.items; hot = s.hot; skipped = s.skipped; left = 0; short = s.short }
+
+abbrev pub progress : {S : Type 0} → S → Sums → Taker → Progress S
+progress state sums taker = record { state = state; sum = so_far sums; taken = taken_of taker }
+
+-- the sums with one more call
+abbrev pub added : RefineReply → RefineReply → RefineReply
+added sum reply = record { taken = sum.taken + reply.taken; refined = sum.refined ++ reply.refined; hot = sum.hot + reply.hot; skipped = sum.skipped + reply.skipped; left = 0; short = reply.short }
+
+-- One more call of a round was made. The round goes on where it was whole.
+pub record IsNextCall {S : Type 0} (did : S → List Made → S → Type 0) (old : Progress S) (more : Bool) (new : Progress S) : Type 0 where
+  pub parcel : Parcel
+  pub reply : RefineReply
+  pub made : did old.state (Refined (Some parcel.buffer) reply ∷ []) new.state
+  pub sum : new.sum ≡ added old.sum reply
+  pub one : reply.taken ≤ 1
+  pub goes_on : more ≡ not reply.short
+  pub taken : new.taken ≡ old.taken ++ parcel ∷ []
+
+-- The line was empty: no call was made.
+pub record IsNoCall {S : Type 0} (old : Progress S) (more : Bool) (new : Progress S) : Type 0 where
+  pub ends : more ≡ false
+  pub same : new ≡ old
+  pub empty : FoundEmpty new.taken
+
+abbrev pub IsNextOf : {S : Type 0} → (S → List Made → S → Type 0) → Progress S → Bool → Progress S → Type 0
+IsNextOf did old more new = IsNextCall did old more new ⊎ IsNoCall old more new

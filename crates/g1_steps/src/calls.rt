@@ -1,0 +1,83 @@
+//! The calls that the steps of a caller make.
+ghost use Rattle.std.specs.Prelude.{◌≡◌, ◌<◌, ◌≤◌, ◌+◌, ℕ, Bool, [], ◌∷◌, ◌++◌, List, true, false, length, IfOk, OnErr, IfSome, IsNone, option_map};
+ghost use Rattle.g1_layout.specs.Shape.{Shape, slot_count, card_of};
+ghost use Rattle.g1_core.specs.Barrier.{logged, buffer_of, fill_of, unfilled};
+ghost use Rattle.g1_steps.specs.Made.{Made, stores, stores_with_room, refines};
+
+use g1_book::Refusal;
+use g1_core::{RefineReply, StoreReply};
+use g1_layout::Slot;
+use g1_log::{Buffer, Log};
+use std::alloc::Global;
+
+/// What makes the calls of one caller: a store with a lent log, and a refinement of a lent buffer.
+///
+/// The steps of a caller ([`Mutator`](crate::Mutator), [`refine`](crate::refine), [`work`](crate::work)) are written
+/// over these calls, whoever makes them: a lent book ([`LentBook`](crate::LentBook)) or a lent core without a
+/// history ([`LentCore`](crate::LentCore)). What a step says of the calls that it made, it says through `did`, so each
+/// implementation tells as much of them as it knows (docs/PROFILE.md, The steps of a caller).
+pub trait Calls {
+    /// The layout of the heap.
+    ghost layout: { Self → Shape };
+
+    /// The caller may store: it is a mutator.
+    ghost may_store: { Self → Bool };
+
+    /// Between two states the caller made just these calls, one after the other. A refused one is among them.
+    ghost did: { Self → List Made → Self → Type 0 };
+
+    /// Stores a reference, or null, with the log that is lent.
+    ///
+    /// A logged store pushes its card; a buffer of all the log's cards is handed out where that fills the log, which is
+    /// then empty. A refusal leaves the log as it was.
+    fn store(
+        &mut self,
+        log: &mut Log,
+        slot: Slot,
+        target: Option<Slot>,
+    ) -> Result<(StoreReply, Option<Buffer>), Refusal>
+        requires caller { may_store self.old ≡ true }
+        requires slot { slot < slot_count (layout self.old) }
+        requires target { IfSome target (λ place. place < slot_count (layout self.old)) }
+        ensures made { did self.old (stores slot target result ∷ []) self.new }
+        ensures fill { IfOk result (λ answer. answer.0.fill ≡ fill_of answer.1) }
+        ensures plain { IfOk result (λ answer. (answer.0.refined ≡ []) × (answer.0.short ≡ false)) }
+        ensures log { IfOk result (λ answer. log.new ≡ logged answer.0.kind log.old (card_of (layout self.old) slot)) }
+        ensures buffer { IfOk result (λ answer. answer.1 ≡ buffer_of answer.0.kind log.old (card_of (layout self.old) slot)) }
+        ensures err_log { OnErr result (log.new ≡ log.old) };
+
+    /// Stores as `store` does, with a log that has room for more than one card (`Log::has_room`): no buffer is handed out. A refusal
+    /// leaves the log as it was.
+    fn store_with_room(
+        &mut self,
+        log: &mut Log,
+        slot: Slot,
+        target: Option<Slot>,
+    ) -> Result<StoreReply, Refusal>
+        requires caller { may_store self.old ≡ true }
+        requires room { length log.old.cards + 1 < log.old.size }
+        requires slot { slot < slot_count (layout self.old) }
+        requires target { IfSome target (λ place. place < slot_count (layout self.old)) }
+        ensures made { did self.old (stores_with_room slot target result ∷ []) self.new }
+        ensures reply { IfOk result (λ reply. reply ≡ unfilled reply.kind) }
+        ensures log { IfOk result (λ reply. log.new ≡ logged reply.kind log.old (card_of (layout self.old) slot)) }
+        ensures err_log { OnErr result (log.new ≡ log.old) };
+
+    /// Refines a lent buffer: its cards take their turns, oldest first. `None` refines nothing, and is a call too.
+    ///
+    /// `taken` is 1 where the buffer was wholly done, and `left` is always 0.
+    fn refine(&mut self, buffer: Option<&Buffer>) -> Result<RefineReply, Refusal>
+        ensures made { did self.old (refines (option_map (λ b. b.now) buffer.entry) result ∷ []) self.new }
+        ensures counts { IfOk result (λ reply. (reply.taken ≤ 1) × (length reply.refined + reply.skipped ≤ 256) × (reply.hot ≤ 256)) }
+        ensures left { IfOk result (λ reply. reply.left ≡ 0) }
+        ensures idle { IfOk result (λ reply. IsNone buffer.entry → reply.taken ≡ 0) };
+
+    /// The allocator of the lists in its replies.
+    fn allocator(&self) -> Global;
+
+    ghost none: { (s : Self) → did s [] s };
+
+    ghost then: { (s t u : Self) (xs ys : List Made) → did s xs t → did t ys u → did s (xs ++ ys) u };
+
+    ghost stays: { (s t : Self) (ms : List Made) → did s ms t → (layout t ≡ layout s) × (may_store t ≡ may_store s) };
+}

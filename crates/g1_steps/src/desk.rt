@@ -1,0 +1,71 @@
+//! What workers do, and where.
+ghost use Rattle.std.specs.Prelude.{◌≡◌, ℕ, ◌<◌, [], ◌∷◌, ◌++◌, List, Bool, true, IfSome, OnErr, OnOk};
+ghost use Rattle.g1_steps.specs.Ask.{Ask, AskStore, AskFlush, AskWork};
+
+use crate::steps::FlushReply;
+use g1_book::Refusal;
+use g1_core::{RefineReply, StoreReply};
+use g1_layout::Slot;
+
+/// A call that a mutator's script asks for.
+#[derive(Debug, Clone, Copy, PartialEq, Eq)]
+pub enum Step {
+    /// A store of a reference, or of null, into the slot.
+    Store(Slot, Option<Slot>),
+    /// A flush of the log.
+    Flush,
+}
+
+/// What a worker is to do.
+#[derive(Debug, Drop)]
+pub enum Script {
+    /// To make these calls of a mutator, in order.
+    Mutate(Vec<Step>),
+    /// To make rounds of refinement, as many as this says.
+    Refine(u32),
+}
+
+/// How many calls a worker made; `Err` where one was refused, with how many were made before it.
+pub type Outcome = Result<u64, (u64, Refusal)>;
+
+/// Where a worker makes its calls: it has all that they take, and belongs to one worker at a time.
+///
+/// A worker ([`mutate`](crate::mutate), [`refiner`](crate::refiner)) and a crew ([`run_crew`](crate::run_crew)) know
+/// nothing else of what they work on. So a book or core that is lent ([`LocalDesk`](crate::LocalDesk)), a book that threads
+/// share (`SharedDesk` of the crate `g1_shared`) and desks of a program's own run by the same crew.
+pub trait Desk {
+    /// From one state to another just these calls were made, in order. A refused one is none of them.
+    ghost did: { Self → List Ask → Self → Type 0 };
+
+    /// How many slots the heap has.
+    ghost slots: { Self → ℕ };
+
+    /// Whether its caller is a mutator.
+    ghost may_store: { Self → Bool };
+
+    /// Stores a reference, or null.
+    fn store(&mut self, slot: Slot, target: Option<Slot>) -> Result<StoreReply, Refusal>
+        requires mutator { may_store self.old ≡ true }
+        requires slot { slot < slots self.old }
+        requires target { IfSome target (λ place. place < slots self.old) }
+        ensures ok { OnOk result (did self.old (AskStore slot target ∷ []) self.new) }
+        ensures err { OnErr result (did self.old [] self.new) }
+        ensures same { (slots self.new ≡ slots self.old) × (may_store self.new ≡ may_store self.old) };
+
+    /// Empties the caller's log.
+    fn flush(&mut self) -> Result<FlushReply, Refusal>
+        requires { may_store self.old ≡ true }
+        ensures ok { OnOk result (did self.old (AskFlush ∷ []) self.new) }
+        ensures err { OnErr result (did self.old [] self.new) }
+        ensures same { (slots self.new ≡ slots self.old) × (may_store self.new ≡ may_store self.old) };
+
+    /// Makes a round of refinement.
+    fn work(&mut self) -> Result<RefineReply, Refusal>
+        ensures ok { OnOk result (did self.old (AskWork ∷ []) self.new) }
+        ensures err { OnErr result (did self.old [] self.new) }
+        ensures same { (slots self.new ≡ slots self.old) × (may_store self.new ≡ may_store self.old) };
+
+    ghost none: { (s : Self) → did s [] s };
+
+    ghost then: { (s t u : Self) (xs ys : List Ask) → did s xs t → did t ys u → did s (xs ++ ys) u };
+}

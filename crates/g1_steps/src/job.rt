@@ -1,0 +1,147 @@
+//! A crew: workers in threads of their own.
+ghost use Rattle.std.specs.Prelude.{◌≡◌, ℕ, ◌<◌, ◌≤◌, [], map, IfOk, IfErr, All, vec_len, vec_capacity};
+ghost use Rattle.std.specs.List.{AllZip};
+ghost use Rattle.g1_steps.specs.Ask.{asks_in, ScriptFits};
+ghost use Rattle.g1_steps.specs.Ran.{Ran};
+
+use crate::desk::{Desk, Outcome, Script};
+use crate::worker::{mutate, refiner};
+use std::alloc::Global;
+use std::marker::Send;
+use std::snapshot::Snapshot;
+use std::sync::Wait;
+use std::thread;
+use std::thread::{Promise, PromisedHandle, Scope, Threads};
+
+/// A worker's desk and script, and after the run its outcome.
+#[derive(Drop)]
+pub struct Job<D> {
+    /// Where its calls are made.
+    pub desk: D,
+    /// What it is to do.
+    pub script: Script,
+    /// `None` before the run; then what the worker answered.
+    pub outcome: Option<Outcome>,
+}
+
+/// A thread could not be started, or room for it was refused: the threads that were started have been joined, and the
+/// desks are given up.
+#[derive(Drop, Debug, Clone, Copy, PartialEq, Eq, thiserror::Error)]
+#[error("no thread")]
+pub struct NotStarted;
+
+/// Runs the script at the desk.
+fn run_job<D: Desk>(job: Job<D>) -> Job<D>
+    requires { ScriptFits (D.slots job.desk) (D.may_store job.desk) job.script }
+    ensures script { result.script ≡ job.script }
+    ensures ran { Ran D.did (asks_in job.script) job.desk result.outcome result.desk }
+{
+    let Job {
+        mut desk,
+        script,
+        outcome: _,
+    } = job;
+    let outcome = match &script {
+        Script::Mutate(steps) => mutate(&mut desk, steps.as_slice()),
+        Script::Refine(rounds) => refiner(&mut desk, *rounds),
+    };
+    Job {
+        desk,
+        script,
+        outcome: Some(outcome),
+    }
+}
+
+/// The job that a thread began with.
+#[derive(Drop)]
+struct Begun<D>(Snapshot<Job<D>>);
+
+/// A thread that runs a job.
+type Running<D> = PromisedHandle<Job<D>, Begun<D>>;
+
+impl<D: Desk> Promise<Job<D>> for Begun<D> {
+    ghost kept_by = { λ p r. (r.script ≡ p.0.value.script) × Ran D.did (asks_in p.0.value.script) p.0.value.desk r.outcome r.desk };
+}
+
+/// Starts a thread for each job, or gives back those that were started.
+fn start_all<'s, E, D: Desk + Send + Drop + 's>(
+    scope: &Scope<'s, E>,
+    jobs: Vec<Job<D>>,
+    room: Vec<Running<D>>,
+) -> Result<Vec<Running<D>>, Vec<Running<D>>>
+    requires fits { All (λ job. ScriptFits (D.slots job.desk) (D.may_store job.desk) job.script) jobs.items }
+    requires empty { room.items ≡ [] }
+    requires room { vec_len jobs ≤ vec_capacity room }
+    ensures ok { IfOk result (λ all. map (λ h. h.promise.0.value) all.items ≡ jobs.items) }
+    ensures err { IfErr result (λ all. vec_len all ≤ vec_len jobs) }
+{
+    let mut running = room;
+    for job in jobs {
+        let begun = Begun(Snapshot::of(&job));
+        let work = move || -> Job<D>
+            requires { ScriptFits (D.slots job.desk) (D.may_store job.desk) job.script }
+            ensures script { result.script ≡ job.script }
+            ensures ran { Ran D.did (asks_in job.script) job.desk result.outcome result.desk }
+        { run_job(job) };
+        match scope.spawn_with(begun, work) {
+            Ok(handle) => running.push_reserved(handle),
+            Err(_) => return Err(running),
+        }
+    }
+    Ok(running)
+}
+
+/// Joins the threads in order.
+fn join_all<D: Desk + Drop, R: Threads>(
+    rt: &R,
+    running: Vec<Running<D>>,
+    room: Vec<Job<D>>,
+) -> Vec<Job<D>>
+    requires empty { room.items ≡ [] }
+    requires room { vec_len running ≤ vec_capacity room }
+    ensures { AllZip (λ a b. (b.script ≡ a.script) × Ran D.did (asks_in a.script) a.desk b.outcome b.desk) (map (λ h. h.promise.0.value) running.items) result.items }
+{
+    let mut done = room;
+    for handle in running {
+        done.push_reserved(handle.join(rt));
+    }
+    done
+}
+
+/// Runs each job in a thread of its own (docs/PROFILE.md, Workers and a crew).
+///
+/// Every job is started before one is joined. The jobs come back in their order, each with its script, its outcome, and
+/// the desk at which just the calls of that outcome were made. Room for handles and jobs is made first.
+pub fn run_crew<D: Desk + Send + Drop, R: Threads + Wait + Sync>(
+    rt: &R,
+    alloc: Global,
+    jobs: Vec<Job<D>>,
+) -> Result<Vec<Job<D>>, NotStarted>
+    requires { All (λ job. ScriptFits (D.slots job.desk) (D.may_store job.desk) job.script) jobs.items }
+    ensures { IfOk result (λ done. AllZip (λ a b. (b.script ≡ a.script) × Ran D.did (asks_in a.script) a.desk b.outcome b.desk) jobs.items done.items) }
+{
+    let Ok(running) = Vec::with_capacity(alloc, jobs.len()) else {
+        return Err(NotStarted);
+    };
+    let Ok(done) = Vec::with_capacity(alloc, jobs.len()) else {
+        return Err(NotStarted);
+    };
+    thread::scope(
+        thread::scope_env(),
+        rt,
+        |scope| -> Result<Vec<Job<D>>, NotStarted>
+            requires fits { All (λ job. ScriptFits (D.slots job.desk) (D.may_store job.desk) job.script) jobs.items }
+            requires empty { (running.items ≡ []) × (done.items ≡ []) }
+            requires room { (vec_len jobs ≤ vec_capacity running) × (vec_len jobs ≤ vec_capacity done) }
+            ensures { IfOk result (λ done. AllZip (λ a b. (b.script ≡ a.script) × Ran D.did (asks_in a.script) a.desk b.outcome b.desk) jobs.items done.items) }
+        {
+            match start_all(scope, jobs, running) {
+                Ok(running) => Ok(join_all(rt, running, done)),
+                Err(running) => {
+                    drop(join_all(rt, running, done));
+                    Err(NotStarted)
+                }
+            }
+        },
+    )
+}

@@ -1,0 +1,74 @@
+//! The calls of one caller at a book that is lent.
+ghost use Rattle.std.specs.Prelude.{◌≡◌, refl, nat_lt};
+ghost use Rattle.std.proofs.Common.{◌∙◌, ap, subst};
+ghost use Rattle.g1_book.specs.History.{Terms, layout_in};
+ghost use Rattle.g1_steps.specs.Made.{AreCalls, calls_then};
+ghost use Rattle.g1_steps.specs.Lent.{IsBookCall, book_calls_stay};
+
+use crate::calls::Calls;
+use g1_book::{Book, Refusal};
+use g1_core::{RefineReply, StoreReply};
+use g1_layout::Slot;
+use g1_log::{Buffer, Log};
+use std::alloc::Global;
+
+/// A lent book, and the number of the caller.
+///
+/// Each call that is not refused is one entry of that caller, and does what the book's own method does.
+#[derive(Drop)]
+pub struct LentBook<'a> {
+    book: &'a mut Book,
+    caller: u32,
+}
+
+impl<'a> LentBook<'a> {
+    /// The calls of this caller at the book. It may store where its number is below the book's count of mutators.
+    pub fn new(book: &'a mut Book, caller: u32) -> LentBook<'a>
+        ensures lends { result.book.ghost_name ≡ book.entry.ghost_name }
+        ensures book { result.book.now ≡ book.old }
+        ensures caller { result.caller ≡ caller }
+    {
+        LentBook { book, caller }
+    }
+}
+
+impl Calls for LentBook<'_> {
+    ghost layout = { λ s. layout_in s.book.now };
+
+    ghost may_store = { λ s. nat_lt s.caller s.book.now.mutators };
+
+    ghost did = { λ s ms t. (t.book.ghost_name ≡ s.book.ghost_name) × (t.caller ≡ s.caller) × AreCalls (IsBookCall s.caller) s.book.now ms t.book.now };
+
+    fn store(
+        &mut self,
+        log: &mut Log,
+        slot: Slot,
+        target: Option<Slot>,
+    ) -> Result<(StoreReply, Option<Buffer>), Refusal> {
+        self.book.store(self.caller, log, slot, target)
+    }
+
+    #[inline(always)]
+    fn store_with_room(
+        &mut self,
+        log: &mut Log,
+        slot: Slot,
+        target: Option<Slot>,
+    ) -> Result<StoreReply, Refusal> {
+        self.book.store_with_room(self.caller, log, slot, target)
+    }
+
+    fn refine(&mut self, buffer: Option<&Buffer>) -> Result<RefineReply, Refusal> {
+        self.book.refine(self.caller, buffer)
+    }
+
+    fn allocator(&self) -> Global {
+        self.book.allocator()
+    }
+
+    ghost none = { λ s. (refl, refl, refl) };
+
+    ghost then = { λ s t u xs ys h k. (k.0 ∙ h.0, k.1 ∙ h.1, calls_then (IsBookCall s.caller) s.book.now t.book.now u.book.now xs ys h.2 (subst (λ n. AreCalls (IsBookCall n) t.book.now ys u.book.now) h.1 k.2)) };
+
+    ghost stays = { λ s t ms h. let same = book_calls_stay s.caller s.book.now t.book.now ms h.2 in (ap (λ (k : Terms). k.layout) same, λ i. nat_lt (h.1 i) (same i).mutators) };
+}

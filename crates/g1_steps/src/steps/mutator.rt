@@ -1,0 +1,208 @@
+//! What a mutator does: stores, whose filled log goes into the line, and flushes.
+ghost use Rattle.std.specs.Prelude.{◌≡◌, ◌≢◌, ◌<◌, ◌↔◌, ◌∷◌, ◌++◌, [], true, length, IfOk, IfSome, IfErr, OnErr, IsNone};
+ghost use Rattle.g1_layout.specs.Shape.{slot_count, card_of};
+ghost use Rattle.g1_log.specs.Ends.{IsSenderOf, put_of, IsSameSender};
+ghost use Rattle.g1_core.specs.Barrier.{logged, buffer_of};
+ghost use Rattle.g1_steps.specs.Made.{Refused};
+ghost use Rattle.g1_steps.specs.Steps.{IsPassed, PutsBy, MayRefuse, nothing_flushed};
+
+use crate::calls::Calls;
+use g1_book::Refusal;
+use g1_core::{CardList, Fill, StoreReply};
+use g1_layout::Slot;
+use g1_log::{Buffer, Line, Log, Sender};
+use std::alloc::Global;
+use std::sync::Wait;
+
+/// What a flush answers.
+#[derive(Debug, Drop)]
+pub struct FlushReply {
+    /// How many cards left the log.
+    pub cards: u32,
+    /// What became of them: `No` where there was none, `Full` where the line took them, `Helped` where it did not.
+    pub fill: Fill,
+    /// The cards that the help refined, in order.
+    pub refined: CardList,
+    /// Whether the help was refused, or a growth in its middle.
+    pub short: bool,
+}
+
+/// A mutator: its dirty card queue, and its end of the line of completed buffers.
+///
+/// What makes its calls, and the line, are lent at each step. The sender has to be one of that line's.
+#[derive(Drop)]
+pub struct Mutator {
+    /// The cards that it has logged and not yet handed out.
+    pub log: Log,
+    /// Its end of the line.
+    pub sender: Sender,
+}
+
+impl Mutator {
+    ghost use Rattle.g1_steps.specs.Steps.{IsStored, IsFlushed, IsStopped};
+
+    /// Stores a reference, or null (docs/PROFILE.md, The steps of a caller).
+    ///
+    /// A log that it fills is put into the line: `fill` is `Full`. Where the line does not take it the mutator helps: it
+    /// refines that buffer by one more call, and `fill` is `Helped`, `refined` the cards that the help refined. Otherwise
+    /// `fill` is `No`, and the reply is that of the one call.
+    ///
+    /// The store stands whatever becomes of the buffer: a help that is refused makes the reply short, and the cards stay
+    /// pending. `Err` where the store itself was refused; calls, log and sender are then as they were. A store that fills
+    /// no log is one call and no step of the line.
+    pub fn store<C: Calls, R: Wait>(
+        &mut self,
+        rt: &R,
+        line: &Line,
+        calls: &mut C,
+        slot: Slot,
+        target: Option<Slot>,
+    ) -> Result<StoreReply, Refusal>
+        requires caller { C.may_store calls.old ≡ true }
+        requires slot { slot < slot_count (C.layout calls.old) }
+        requires target { IfSome target (λ place. place < slot_count (C.layout calls.old)) }
+        requires line { IsSenderOf line.now self.old.sender }
+        ensures stored { IfOk result (λ reply. IsStored C.did calls.old slot target (self.old.log.cards ++ card_of (C.layout calls.old) slot ∷ []) reply calls.new) }
+        ensures log { IfOk result (λ reply. self.new.log ≡ logged reply.kind self.old.log (card_of (C.layout calls.old) slot)) }
+        ensures fill { IfOk result (λ reply. (reply.fill ≡ Fill.No) ↔ IsNone (buffer_of reply.kind self.old.log (card_of (C.layout calls.old) slot))) }
+        ensures put { IfOk result (λ reply. PutsBy reply.fill (self.old.log.cards ++ card_of (C.layout calls.old) slot ∷ []) (put_of self.old.sender) (put_of self.new.sender)) }
+        ensures helped { IfOk result (λ reply. reply.fill ≡ Fill.Helped → MayRefuse line.now self.old.sender) }
+        ensures empty { IfOk result (λ reply. reply.fill ≢ Fill.No → self.new.log.cards ≡ []) }
+        ensures same { IsSameSender self.new.sender self.old.sender }
+        ensures err { IfErr result (λ refusal. C.did calls.old (Refused refusal ∷ []) calls.new) }
+        ensures err_ends { OnErr result ((self.new.log ≡ self.old.log) × (self.new.sender ≡ self.old.sender)) }
+    {
+        if self.log.has_room() {
+            let reply = calls.store_with_room(&mut self.log, slot, target)?;
+            return Ok(reply);
+        }
+        self.store_last(rt, line, calls, slot, target)
+    }
+
+    // A store that may fill the log, on its own so that one that cannot makes no place for a buffer.
+    #[inline(never)]
+    fn store_last<C: Calls, R: Wait>(
+        &mut self,
+        rt: &R,
+        line: &Line,
+        calls: &mut C,
+        slot: Slot,
+        target: Option<Slot>,
+    ) -> Result<StoreReply, Refusal>
+        requires caller { C.may_store calls.old ≡ true }
+        requires slot { slot < slot_count (C.layout calls.old) }
+        requires target { IfSome target (λ place. place < slot_count (C.layout calls.old)) }
+        requires line { IsSenderOf line.now self.old.sender }
+        ensures stored { IfOk result (λ reply. IsStored C.did calls.old slot target (self.old.log.cards ++ card_of (C.layout calls.old) slot ∷ []) reply calls.new) }
+        ensures log { IfOk result (λ reply. self.new.log ≡ logged reply.kind self.old.log (card_of (C.layout calls.old) slot)) }
+        ensures fill { IfOk result (λ reply. (reply.fill ≡ Fill.No) ↔ IsNone (buffer_of reply.kind self.old.log (card_of (C.layout calls.old) slot))) }
+        ensures put { IfOk result (λ reply. PutsBy reply.fill (self.old.log.cards ++ card_of (C.layout calls.old) slot ∷ []) (put_of self.old.sender) (put_of self.new.sender)) }
+        ensures helped { IfOk result (λ reply. reply.fill ≡ Fill.Helped → MayRefuse line.now self.old.sender) }
+        ensures empty { IfOk result (λ reply. reply.fill ≢ Fill.No → self.new.log.cards ≡ []) }
+        ensures same { IsSameSender self.new.sender self.old.sender }
+        ensures err { IfErr result (λ refusal. C.did calls.old (Refused refusal ∷ []) calls.new) }
+        ensures err_ends { OnErr result ((self.new.log ≡ self.old.log) × (self.new.sender ≡ self.old.sender)) }
+    {
+        let (first, filled) = calls.store(&mut self.log, slot, target)?;
+        let Some(buffer) = filled else {
+            return Ok(first);
+        };
+        let passed = pass_on(rt, line, &mut self.sender, calls, buffer);
+        Ok(StoreReply {
+            kind: first.kind,
+            fill: passed.fill,
+            refined: passed.refined,
+            short: passed.short,
+        })
+    }
+
+    /// Empties the mutator's log: its cards, where it has any, become a completed buffer and go the way of a filled log
+    /// (docs/PROFILE.md, The steps of a caller).
+    ///
+    /// `cards` is how many cards left the log. It is never refused, and makes a call only where it helps. A help that is
+    /// refused makes the reply short, and the cards stay pending.
+    pub fn flush<C: Calls, R: Wait>(&mut self, rt: &R, line: &Line, calls: &mut C) -> FlushReply
+        requires line { IsSenderOf line.now self.old.sender }
+        ensures flushed { IsFlushed C.did calls.old self.old.log.cards result calls.new }
+        ensures cards { result.cards ≡ length self.old.log.cards }
+        ensures log { self.new.log ≡ record self.old.log { cards = [] } }
+        ensures put { PutsBy result.fill self.old.log.cards (put_of self.old.sender) (put_of self.new.sender) }
+        ensures helped { result.fill ≡ Fill.Helped → MayRefuse line.now self.old.sender }
+        ensures same { IsSameSender self.new.sender self.old.sender }
+    {
+        let Some(buffer) = self.log.take() else {
+            return nothing_flushed(calls.allocator());
+        };
+        let cards = buffer.cards().len() as u32;
+        let passed = pass_on(rt, line, &mut self.sender, calls, buffer);
+        FlushReply {
+            cards,
+            fill: passed.fill,
+            refined: passed.refined,
+            short: passed.short,
+        }
+    }
+
+    /// Gives up the cards of the log. They stay pending.
+    pub fn stop(&mut self)
+        ensures { IsStopped self.old self.new }
+    {
+        drop(self.log.take());
+    }
+}
+
+/// What became of a buffer that left its log: `Full` where the line took it, `Helped` where its mutator refined it.
+#[derive(Drop)]
+struct Passed {
+    fill: Fill,
+    refined: CardList,
+    short: bool,
+}
+
+/// Puts a buffer into the line, and refines it where the line does not take it.
+fn pass_on<C: Calls, R: Wait>(
+    rt: &R,
+    line: &Line,
+    sender: &mut Sender,
+    calls: &mut C,
+    buffer: Buffer,
+) -> Passed
+    requires line { IsSenderOf line.now sender.old }
+    ensures passed { IsPassed C.did calls.old buffer result calls.new }
+    ensures put { PutsBy result.fill buffer (put_of sender.old) (put_of sender.new) }
+    ensures helped { result.fill ≡ Fill.Helped → MayRefuse line.now sender.old }
+    ensures same { IsSameSender sender.new sender.old }
+{
+    let alloc = calls.allocator();
+    let Err(back) = line.put(rt, sender, buffer) else {
+        return Passed {
+            fill: Fill::Full,
+            refined: CardList::new(alloc),
+            short: false,
+        };
+    };
+    match calls.refine(Some(&back)) {
+        Ok(reply) => Passed {
+            fill: Fill::Helped,
+            refined: reply.refined,
+            short: reply.short,
+        },
+        Err(_) => Passed {
+            fill: Fill::Helped,
+            refined: CardList::new(alloc),
+            short: true,
+        },
+    }
+}
+
+/// The answer of a flush of an empty log.
+fn nothing_flushed(alloc: Global) -> FlushReply
+    ensures { result ≡ nothing_flushed }
+{
+    FlushReply {
+        cards: 0,
+        fill: Fill::No,
+        refined: CardList::new(alloc),
+        short: false,
+    }
+}

@@ -1,0 +1,253 @@
+//! What a refiner does: it takes completed buffers from the line and refines them, one or a round of them.
+ghost use Rattle.std.specs.Prelude.{◌≡◌, ◌<◌, ◌≤◌, ◌+◌, ◌^◌, ◌*◌, ◌++◌, ◌∷◌, ℕ, [], true, false, length, vec_len, vec_capacity, IfOk, IfErr, OnErr};
+ghost use Rattle.g1_log.specs.declared.parcel.Parcel.{Parcel as P};
+ghost use Rattle.g1_log.specs.Ends.{IsTakerOf, IsSameTaker, taken_of, capacity_of};
+ghost use Rattle.g1_steps.specs.Made.{Refused};
+ghost use Rattle.g1_steps.specs.Steps.{IsRefinement, GainsAtMost};
+ghost use Rattle.g1_steps.specs.Rounds.{round_size, IsRefused, IsRound, IsNextOf, so_far, progress};
+
+use crate::calls::Calls;
+use g1_book::Refusal;
+use g1_core::{CardList, RefineReply};
+use g1_layout::Card;
+use g1_log::{Line, Taker};
+use std::alloc::Global;
+use std::sync::Wait;
+
+/// How many buffers the line holds, as it was seen at some moment of the call.
+pub(crate) fn completed<R: Wait>(rt: &R, line: &Line) -> u32
+    ensures within { result ≤ capacity_of line.now }
+    ensures few { result ≤ 1024 }
+{
+    line.len(rt) as u32
+}
+
+/// Takes the oldest completed buffer from the line and refines it, as one call; where the line gave none, the call
+/// refines nothing (docs/PROFILE.md, The steps of a caller).
+///
+/// `left` is how many buffers the line had at some moment after the take. Where the call is refused a buffer that was taken is given up,
+/// and its cards stay pending.
+#[tactic(auto, using(crate::proofs::StepLemmas::gains_nothing, crate::proofs::StepLemmas::gains_single))]
+pub fn refine<C: Calls, R: Wait>(
+    rt: &R,
+    line: &Line,
+    taker: &mut Taker,
+    calls: &mut C,
+) -> Result<RefineReply, Refusal>
+    requires taker { IsTakerOf line.now taker.old }
+    ensures refined { IfOk result (λ reply. IsRefinement C.did calls.old taker.old reply taker.new calls.new) }
+    ensures counts { IfOk result (λ reply. (reply.taken ≤ 1) × (length reply.refined + reply.skipped ≤ 256) × (reply.hot ≤ 256)) }
+    ensures left { IfOk result (λ reply. reply.left ≤ capacity_of line.now) }
+    ensures one { IfOk result (λ reply. reply.taken ≡ 1 → (x : P) × (taken_of taker.new ≡ taken_of taker.old ++ x ∷ [])) }
+    ensures same { IsSameTaker taker.new taker.old }
+    ensures err { IfErr result (λ refusal. C.did calls.old (Refused refusal ∷ []) calls.new) }
+    ensures given_up { OnErr result (GainsAtMost (taken_of taker.old) 1 (taken_of taker.new)) }
+{
+    if !line.is_empty_for(taker) {
+        return refine_oldest(rt, line, taker, calls);
+    }
+    let left = completed(rt, line);
+    let mut reply = calls.refine(None)?;
+    reply.left = left;
+    Ok(reply)
+}
+
+// The same with a take. It is a call of its own, since its place for a parcel is filled with zeros first.
+#[inline(never)]
+#[tactic(auto, using(crate::proofs::StepLemmas::gains_nothing, crate::proofs::StepLemmas::gains_single))]
+fn refine_oldest<C: Calls, R: Wait>(
+    rt: &R,
+    line: &Line,
+    taker: &mut Taker,
+    calls: &mut C,
+) -> Result<RefineReply, Refusal>
+    requires taker { IsTakerOf line.now taker.old }
+    ensures refined { IfOk result (λ reply. IsRefinement C.did calls.old taker.old reply taker.new calls.new) }
+    ensures counts { IfOk result (λ reply. (reply.taken ≤ 1) × (length reply.refined + reply.skipped ≤ 256) × (reply.hot ≤ 256)) }
+    ensures left { IfOk result (λ reply. reply.left ≤ capacity_of line.now) }
+    ensures one { IfOk result (λ reply. reply.taken ≡ 1 → (x : P) × (taken_of taker.new ≡ taken_of taker.old ++ x ∷ [])) }
+    ensures same { IsSameTaker taker.new taker.old }
+    ensures err { IfErr result (λ refusal. C.did calls.old (Refused refusal ∷ []) calls.new) }
+    ensures given_up { OnErr result (GainsAtMost (taken_of taker.old) 1 (taken_of taker.new)) }
+{
+    let parcel = line.take(rt, taker);
+    let left = completed(rt, line);
+    let mut reply = match &parcel {
+        Some(taken) => calls.refine(Some(&taken.buffer))?,
+        None => calls.refine(None)?,
+    };
+    reply.left = left;
+    Ok(reply)
+}
+
+/// A round of refinement: where the line has `n` completed buffers and `n` is at least the start threshold, it takes
+/// and refines the oldest until a quarter of the threshold, rounded down, is left, each by a call of its own
+/// (docs/PROFILE.md, The steps of a caller).
+///
+/// It ends early, without a further call, where the line is empty. A refusal at the first take or call is the answer. At
+/// a later one, or after a short call, the round ends with `short` true. Room for 256 more cards is asked before each
+/// take, and a refusal of it is no call.
+///
+/// The reply has the sums of its calls and their lists joined. `left` is the line's length that was seen last: after the
+/// take of the last call that was made, or at the beginning where none was.
+pub fn work<C: Calls, R: Wait>(
+    rt: &R,
+    line: &Line,
+    taker: &mut Taker,
+    calls: &mut C,
+    start: usize,
+) -> Result<RefineReply, Refusal>
+    requires taker { IsTakerOf line.now taker.old }
+    ensures round { IfOk result (λ reply. (seen : ℕ) × (seen ≤ capacity_of line.now) × IsRound C.did calls.old (taken_of taker.old) (round_size start seen) reply (taken_of taker.new) calls.new) }
+    ensures counts { IfOk result (λ reply. (reply.taken ≤ capacity_of line.now) × (length reply.refined + reply.skipped ≤ 256 * capacity_of line.now) × (reply.hot ≤ 256 * capacity_of line.now)) }
+    ensures left { IfOk result (λ reply. reply.left ≤ capacity_of line.now) }
+    ensures same { IsSameTaker taker.new taker.old }
+    ensures err { IfErr result (λ refusal. IsRefused C.did calls.old refusal calls.new) }
+    ensures given_up { OnErr result (GainsAtMost (taken_of taker.old) 1 (taken_of taker.new)) }
+{
+    let seen = completed(rt, line);
+    let count = round_size(start, seen);
+    let round = run_round(rt, line, taker, calls, seen, count)?;
+    Ok(RefineReply {
+        taken: round.taken,
+        refined: CardList::of(round.refined),
+        hot: round.hot,
+        skipped: round.skipped,
+        left: round.left,
+        short: round.short,
+    })
+}
+
+/// Makes `count` calls of a round that has seen `seen` completed buffers, or fewer where the line is empty, one is short, or
+/// one is refused.
+#[tactic(auto, using(crate::proofs::RoundLemmas::round_begins))]
+fn run_round<C: Calls, R: Wait>(
+    rt: &R,
+    line: &Line,
+    taker: &mut Taker,
+    calls: &mut C,
+    seen: u32,
+    count: u32,
+) -> Result<Sums, Refusal>
+    requires taker { IsTakerOf line.now taker.old }
+    requires seen { seen ≤ capacity_of line.now }
+    requires count { count ≤ 1024 }
+    ensures round { IfOk result (λ sums. IsRound C.did calls.old (taken_of taker.old) count (so_far sums) (taken_of taker.new) calls.new) }
+    ensures counts { IfOk result (λ sums. (sums.taken ≤ count) × (length sums.refined.items + sums.skipped ≤ 256 * count) × (sums.hot ≤ 256 * count)) }
+    ensures left { IfOk result (λ sums. sums.left ≤ capacity_of line.now) }
+    ensures same { IsSameTaker taker.new taker.old }
+    ensures err { IfErr result (λ refusal. IsRefused C.did calls.old refusal calls.new) }
+    ensures given_up { OnErr result (GainsAtMost (taken_of taker.old) 1 (taken_of taker.new)) }
+{
+    let mut sums = Sums::new(calls.allocator(), seen);
+    for turn in 0..count {
+        match next_of_round(rt, line, taker, calls, &mut sums) {
+            Ok(true) => {}
+            Ok(false) => return Ok(sums),
+            Err(refusal) => {
+                if turn == 0 {
+                    return Err(refusal);
+                }
+                sums.short = true;
+                return Ok(sums);
+            }
+        }
+    }
+    Ok(sums)
+}
+
+/// One more call of a round. Answers whether the round goes on: it does not where the line was empty or the call was
+/// short. Room for the cards comes first, so that a buffer is taken only where they have a place.
+#[tactic(auto, using(crate::proofs::StepLemmas::gains_nothing, crate::proofs::StepLemmas::gains_single))]
+fn next_of_round<C: Calls, R: Wait>(
+    rt: &R,
+    line: &Line,
+    taker: &mut Taker,
+    calls: &mut C,
+    sums: &mut Sums,
+) -> Result<bool, Refusal>
+    requires taker { IsTakerOf line.now taker.old }
+    requires few { (sums.old.taken < 2 ^ 20) × (sums.old.hot < 2 ^ 20) × (sums.old.skipped < 2 ^ 20) }
+    ensures next { IfOk result (λ more. IsNextOf C.did (progress calls.old sums.old taker.old) more (progress calls.new sums.new taker.new)) }
+    ensures few { (sums.new.taken ≤ sums.old.taken + 1) × (length sums.new.refined.items + sums.new.skipped ≤ length sums.old.refined.items + sums.old.skipped + 256) × (sums.new.hot ≤ sums.old.hot + 256) }
+    ensures left { sums.old.left ≤ capacity_of line.now → sums.new.left ≤ capacity_of line.now }
+    ensures same { IsSameTaker taker.new taker.old }
+    ensures err { IfErr result (λ refusal. IsRefused C.did calls.old refusal calls.new) }
+    ensures err_sums { OnErr result (so_far sums.new ≡ so_far sums.old) }
+    ensures given_up { OnErr result (GainsAtMost (taken_of taker.old) 1 (taken_of taker.new)) }
+{
+    sums.refined.reserve(MOST_CARDS)?;
+    let Some(parcel) = line.take(rt, taker) else {
+        return Ok(false);
+    };
+    let left = completed(rt, line);
+    let reply = calls.refine(Some(&parcel.buffer))?;
+    sums.add(&reply, left);
+    Ok(!reply.short)
+}
+
+/// What the calls of a round add up to so far.
+#[derive(Drop)]
+struct Sums {
+    taken: u32,
+    refined: Vec<Card>,
+    hot: u32,
+    skipped: u32,
+    // The line's length that was seen last.
+    left: u32,
+    short: bool,
+}
+
+// No buffer has more cards.
+const MOST_CARDS: usize = 256;
+
+impl Sums {
+    ghost use Rattle.g1_steps.specs.Rounds.{so_far, added};
+
+    /// No call yet, and `left` buffers seen in the line.
+    fn new(alloc: Global, left: u32) -> Sums
+        ensures numbers { (result.taken ≡ 0) × (result.hot ≡ 0) × (result.skipped ≡ 0) }
+        ensures refined { result.refined.items ≡ [] }
+        ensures short { result.short ≡ false }
+        ensures left { result.left ≡ left }
+    {
+        Sums {
+            taken: 0,
+            refined: Vec::new(alloc),
+            hot: 0,
+            skipped: 0,
+            left,
+            short: false,
+        }
+    }
+
+    /// Adds what a call answered, in room that was made for it, and how many buffers the line had after its take.
+    fn add(&mut self, reply: &RefineReply, left: u32)
+        requires few { (self.old.taken < 2 ^ 20) × (self.old.hot < 2 ^ 20) × (self.old.skipped < 2 ^ 20) }
+        requires counts { (reply.now.taken ≤ 1) × (length reply.now.refined + reply.now.skipped ≤ 256) × (reply.now.hot ≤ 256) }
+        requires room { vec_len self.old.refined + length reply.now.refined ≤ vec_capacity self.old.refined }
+        ensures sums { so_far self.new ≡ added (so_far self.old) reply.now }
+        ensures left { self.new.left ≡ left }
+    {
+        let Ok(()) = self.refined.extend_from_slice(reply.refined.as_slice()) else {
+            unreachable!()
+        };
+        self.taken += reply.taken;
+        self.hot += reply.hot;
+        self.skipped += reply.skipped;
+        self.left = left;
+        self.short = reply.short;
+    }
+}
+
+/// How many calls a round makes at most, where it begins at `start` completed buffers and sees `seen`.
+fn round_size(start: usize, seen: u32) -> u32
+    ensures size { result ≡ round_size start seen }
+    ensures within { result ≤ seen }
+{
+    if (seen as usize) < start {
+        0
+    } else {
+        seen - (start / 4) as u32
+    }
+}

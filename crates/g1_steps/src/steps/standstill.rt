@@ -1,0 +1,50 @@
+//! What a pause does once the mutators stand still: it empties their logs and the line.
+ghost use Rattle.std.specs.Prelude.{◌≡◌, ℕ, ◌<◌, ◌≤◌, ◌++◌, ◌∷◌, [], length, slice_index_or, MatchOption};
+ghost use Rattle.g1_log.specs.Ends.{IsTakerOf, IsSameTaker, taken_of, capacity_of};
+ghost use Rattle.g1_steps.specs.Steps.{GainsAtMost, IsStopped};
+ghost use Rattle.g1_steps.specs.declared.steps.mutator.Mutator.{Mutator as M};
+
+use crate::steps::Mutator;
+use crate::steps::refiner::completed;
+use g1_log::{Line, Parcel, Taker};
+use std::sync::Wait;
+
+/// Empties the logs of mutators that stand still, and the line by this taker. It makes no call, so the cards stay pending
+/// and a drain finds each of them (docs/PROFILE.md, The steps of a caller).
+pub fn stand_still<R: Wait>(rt: &R, line: &Line, taker: &mut Taker, mutators: &mut [Mutator])
+    requires taker { IsTakerOf line.now taker.old }
+    ensures stopped { (k : ℕ) (d : M) → k < length mutators.old → IsStopped (slice_index_or mutators.old k d) (slice_index_or mutators.new k d) }
+    ensures taken { GainsAtMost (taken_of taker.old) (capacity_of line.now) (taken_of taker.new) }
+    ensures same { IsSameTaker taker.new taker.old }
+{
+    for at in 0..mutators.len() {
+        mutators[at].stop();
+    }
+    empty_line(rt, line, taker);
+}
+
+/// Takes what the line has, at most as many buffers as it holds, and gives it up. It makes no call, so the cards stay
+/// pending.
+#[tactic(auto, using(crate::proofs::StepLemmas::gains_none, crate::proofs::StepLemmas::gains_one, crate::proofs::StepLemmas::gains_within))]
+pub fn empty_line<R: Wait>(rt: &R, line: &Line, taker: &mut Taker)
+    requires taker { IsTakerOf line.now taker.old }
+    ensures taken { GainsAtMost (taken_of taker.old) (capacity_of line.now) (taken_of taker.new) }
+    ensures same { IsSameTaker taker.new taker.old }
+{
+    let most = completed(rt, line);
+    for turn in 0..most {
+        let _turn = turn;
+        if take(rt, line, taker).is_none() {
+            return;
+        }
+    }
+}
+
+// A take, of which the loop above needs no more.
+fn take<R: Wait>(rt: &R, line: &Line, taker: &mut Taker) -> Option<Parcel>
+    requires taker { IsTakerOf line.now taker.old }
+    ensures taken { MatchOption result (taken_of taker.new ≡ taken_of taker.old) (λ x. taken_of taker.new ≡ taken_of taker.old ++ x ∷ []) }
+    ensures same { IsSameTaker taker.new taker.old }
+{
+    line.take(rt, taker)
+}

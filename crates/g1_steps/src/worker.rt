@@ -1,0 +1,54 @@
+//! Workers at a desk.
+ghost use Rattle.std.specs.Prelude.{◌≡◌, ◌<◌, [], ◌∷◌, replicate, OnErr, OnOk, All};
+ghost use Rattle.g1_steps.specs.Ask.{AskWork, ask_of, asks_of, StepFits};
+ghost use Rattle.g1_steps.specs.Ran.{HasAsked};
+
+use crate::desk::{Desk, Outcome, Step};
+use g1_book::Refusal;
+
+/// Makes the calls of a mutator's script, in order. Answers how many were made: all of them, or with the refusal that
+/// ended the script, those before it.
+pub fn mutate<D: Desk>(desk: &mut D, steps: &[Step]) -> Outcome
+    requires { All (StepFits (D.slots desk.old) (D.may_store desk.old)) steps.now }
+    ensures { HasAsked D.did (asks_of steps.now) desk.old result desk.new }
+{
+    let mut made: u64 = 0;
+    for step in steps {
+        if let Err(refusal) = make(desk, *step) {
+            return Err((made, refusal));
+        }
+        made += 1;
+    }
+    Ok(made)
+}
+
+/// Makes one call.
+fn make<D: Desk>(desk: &mut D, step: Step) -> Result<(), Refusal>
+    requires { StepFits (D.slots desk.old) (D.may_store desk.old) step }
+    ensures ok { OnOk result (D.did desk.old (ask_of step ∷ []) desk.new) }
+    ensures err { OnErr result (D.did desk.old [] desk.new) }
+    ensures same { (D.slots desk.new ≡ D.slots desk.old) × (D.may_store desk.new ≡ D.may_store desk.old) }
+{
+    match step {
+        Step::Store(slot, target) => {
+            desk.store(slot, target)?;
+        }
+        Step::Flush => {
+            desk.flush()?;
+        }
+    }
+    Ok(())
+}
+
+/// Makes `rounds` rounds of refinement. Answers how many were made: all of them, or with the refusal that ended the
+/// script, those before it.
+pub fn refiner<D: Desk>(desk: &mut D, rounds: u32) -> Outcome
+    ensures { HasAsked D.did (replicate rounds AskWork) desk.old result desk.new }
+{
+    for made in 0..rounds {
+        if let Err(refusal) = desk.work() {
+            return Err((made as u64, refusal));
+        }
+    }
+    Ok(rounds as u64)
+}
