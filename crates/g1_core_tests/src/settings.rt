@@ -1,5 +1,5 @@
 //! The limits of the settings, in numbers.
-use crate::config::Config;
+use g1_core::Config;
 
 // The numbers at and beyond each limit, with the others as they are by default.
 #[test]

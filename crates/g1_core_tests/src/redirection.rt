@@ -1,9 +1,9 @@
 //! The redirect.
-use super::Cleared::Yes;
-use super::Step::{Clear, Drain, Members, Redirect, Refine, Status, Store, Target};
-use super::play;
-use crate::reply::Fill::{Full, No};
-use g1_layout::Kind::{AlreadyDirty, Logged, Null, SameRegion};
+use crate::steps::Cleared::Yes;
+use crate::steps::Step::{Clear, Drain, Members, Redirect, Refine, Status, Store, Target};
+use crate::steps::play;
+use g1_core::Fill::{Full, No};
+use g1_core::Kind::{AlreadyDirty, Logged, Null, SameRegion};
 use std::test::Fail;
 
 #[test]

@@ -1,9 +1,9 @@
 //! The clear.
-use super::Cleared::{self, StillReferenced, Yes};
-use super::Step::{Clear, Drain, Members, Refine, Store};
-use super::play;
-use crate::reply::Fill::{Full, No};
-use g1_layout::Kind::{AlreadyDirty, Logged, Null, SameRegion};
+use crate::steps::Cleared::{self, StillReferenced, Yes};
+use crate::steps::Step::{Clear, Drain, Members, Refine, Store};
+use crate::steps::play;
+use g1_core::Fill::{Full, No};
+use g1_core::Kind::{AlreadyDirty, Logged, Null, SameRegion};
 use std::test::Fail;
 
 // Card 0 is recorded for regions 1 and 2, and then its reference into region 1 is overwritten.

@@ -1,13 +1,10 @@
 //! The barrier, the pause and the questions.
-use super::Step::{Drain, Members, Pending, Refine, Status, Store, Target};
-use super::numbers::{numbers_of, slot};
-use super::play;
-use crate::config::Config;
-use crate::machinery::Core;
-use crate::reply::Fill::{Full, No};
-use g1_layout::Kind::{AlreadyDirty, Logged, Null, SameRegion};
-use g1_layout::{Layout, NoMemory};
-use g1_log::Log;
+use crate::numbers::{numbers_of, slot};
+use crate::steps::Step::{Drain, Members, Pending, Refine, Status, Store, Target};
+use crate::steps::play;
+use g1_core::Fill::{Full, No};
+use g1_core::Kind::{AlreadyDirty, Logged, Null, SameRegion};
+use g1_core::{Config, Core, Layout, Log};
 use std::test::Fail;
 
 #[test]
@@ -30,10 +27,7 @@ fn the_barrier_has_four_kinds_of_store(rt: HostRuntime) -> Result<(), Fail> {
 fn a_log_of_three_has_room_for_two_cards(rt: HostRuntime) -> Result<(), Fail> {
     let layout = Layout::new(4, 2, 4).ok_or("layout")?;
     let config = Config::new(3, 4, 4, 4, 5).ok_or("settings")?;
-    let mut core = match Core::new(rt.alloc(), layout, config) {
-        Ok(core) => core,
-        Err(NoMemory) => Core::new(rt.alloc(), layout, config)?,
-    };
+    let mut core = Core::new(rt.alloc(), layout, config)?;
     let mut log = Log::new(3);
     for (from, to, kind) in [
         (0, 8, Logged),
