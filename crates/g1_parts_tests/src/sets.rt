@@ -1,14 +1,13 @@
-//! What a proof does not show: that calls succeed, and that a refused growth changes nothing.
+//! What a proof does not show: that calls succeed, with the cards in the order that was worked out by hand.
 ghost use Rattle.std.specs.Prelude.{◌≡◌};
 
-use crate::Sets;
-use g1_layout::{Card, Layout, NoMemory, Region};
+use g1_layout::{Card, Layout, Region};
+use g1_sets::Sets;
 use std::alloc::Global;
 use std::process::Abort;
 use std::test::Fail;
 
-// Sets whose cards and regions are named by number. A call that is refused is made again, after a
-// look at what it left: under `rt try --test --fail-alloc N` that is the Nth growth.
+// Sets whose cards and regions are named by number.
 #[derive(Drop)]
 struct Numbered {
     layout: Layout,
@@ -22,10 +21,7 @@ impl Numbered {
 
     fn new(alloc: Global, regions: u32, cards: u32, slots: u32) -> Result<Numbered, Fail> {
         let layout = Layout::new(regions, cards, slots).ok_or("layout")?;
-        let sets = match Sets::new(alloc, layout) {
-            Ok(sets) => sets,
-            Err(NoMemory) => Sets::new(alloc, layout)?,
-        };
+        let sets = Sets::new(alloc, layout)?;
         Ok(Numbered { layout, sets })
     }
 
@@ -41,45 +37,20 @@ impl Numbered {
         Ok(self.layout.region(number).ok_or("region")?)
     }
 
-    // All that a call at these numbers may change.
-    fn seen(&self, card: Card, first: Region, second: Region) -> (u32, u32, u32, bool, bool)
-        requires card { card < card_count self.now.layout }
-        requires first { first < self.now.layout.regions }
-        requires second { second < self.now.layout.regions }
-    {
-        let sets = &self.sets;
-        (
-            sets.total(),
-            sets.len(first),
-            sets.len(second),
-            sets.has(card, first),
-            sets.has(card, second),
-        )
-    }
-
-    fn record(&mut self, rt: &impl Abort, card: u32, first: u32, second: u32) -> Result<(), Fail> {
+    fn record(&mut self, card: u32, first: u32, second: u32) -> Result<(), Fail> {
         let card = self.card(card)?;
         let first = self.region(first)?;
         let second = self.region(second)?;
-        let before = self.seen(card, first, second);
-        if let Err(NoMemory) = self.sets.record(card, &[first, second]) {
-            assert!(rt; self.seen(card, first, second) == before);
-            self.sets.record(card, &[first, second])?;
-        }
-        Ok(())
+        Ok(self.sets.record(card, &[first, second])?)
     }
 
-    fn record_many(&mut self, rt: &impl Abort, cards: [u32; 2], region: u32) -> Result<(), Fail> {
+    // Two cards, one of them named twice.
+    fn record_many(&mut self, cards: [u32; 2], region: u32) -> Result<(), Fail> {
         let [first, second] = cards;
         let first = self.card(first)?;
         let second = self.card(second)?;
         let region = self.region(region)?;
-        let before = self.seen(second, region, region);
-        if let Err(NoMemory) = self.sets.record_many(&[first, second, first], region) {
-            assert!(rt; self.seen(second, region, region) == before);
-            self.sets.record_many(&[first, second, first], region)?;
-        }
-        Ok(())
+        Ok(self.sets.record_many(&[first, second, first], region)?)
     }
 
     fn clear(&mut self, region: u32) -> Result<(), Fail> {
@@ -92,15 +63,6 @@ impl Numbered {
         let card = self.card(card)?;
         let region = self.region(region)?;
         Ok(self.sets.has(card, region))
-    }
-
-    fn sorted(&self, region: Region) -> Result<Vec<Card>, NoMemory>
-        requires { region < self.now.layout.regions }
-    {
-        match self.sets.cards(region) {
-            Ok(cards) => Ok(cards),
-            Err(NoMemory) => self.sets.cards(region),
-        }
     }
 
     // A walk gives these cards, and `cards` gives them sorted.
@@ -117,30 +79,23 @@ impl Numbered {
             let card = self.sets.at(region, index);
             assert!(rt; inserted.get(index as usize) == Some(&card.number()));
         }
-        for (card, number) in self.sets.members(region).iter().zip(inserted) {
-            assert!(rt; card.number() == *number);
-        }
-        let cards = self.sorted(region)?;
-        assert!(rt; cards.len() == sorted.len());
-        for (card, number) in cards.iter().zip(sorted) {
-            assert!(rt; card.number() == *number);
-        }
+        assert!(rt; are_numbered(self.sets.members(region), inserted));
+        assert!(rt; are_numbered(self.sets.cards(region)?.as_slice(), sorted));
         Ok(())
     }
 
     // Every card, from the last to the first of these numbers, for one region.
     fn fill(&mut self, region: u32, first: u32, end: u32) -> Result<(), Fail> {
         for number in (first..end).rev() {
-            self.record_plainly(number, region)?;
+            self.record_one(number, region)?;
         }
         Ok(())
     }
 
-    fn record_plainly(&mut self, card: u32, region: u32) -> Result<(), Fail> {
+    fn record_one(&mut self, card: u32, region: u32) -> Result<(), Fail> {
         let card = self.card(card)?;
         let region = self.region(region)?;
-        self.sets.record(card, &[region])?;
-        Ok(())
+        Ok(self.sets.record(card, &[region])?)
     }
 
     fn assert_ascending(
@@ -151,25 +106,33 @@ impl Numbered {
         end: u32,
     ) -> Result<(), Fail> {
         let region = self.region(region)?;
-        let cards = self.sorted(region)?;
+        let cards = self.sets.cards(region)?;
         assert!(rt; cards.iter().map(|card| card.number()).eq(first..end));
         Ok(())
     }
 }
 
+// Whether the cards have just these numbers, in this order.
+fn are_numbered(cards: &[Card], numbers: &[u32]) -> bool {
+    cards
+        .iter()
+        .map(|card| card.number())
+        .eq(numbers.iter().copied())
+}
+
 #[test]
 fn each_call_once(rt: HostRuntime) -> Result<(), Fail> {
     let mut sets = Numbered::new(rt.alloc(), 4, 2, 4)?;
-    sets.record(&rt, 7, 0, 3)?;
-    sets.record(&rt, 2, 0, 0)?;
-    sets.record(&rt, 7, 0, 0)?;
+    sets.record(7, 0, 3)?;
+    sets.record(2, 0, 0)?;
+    sets.record(7, 0, 0)?;
     sets.assert_cards(&rt, 0, &[7, 2], &[2, 7])?;
     sets.assert_cards(&rt, 1, &[], &[])?;
     sets.assert_cards(&rt, 3, &[7], &[7])?;
     assert!(rt; sets.has(7, 3)? && !sets.has(2, 3)? && !sets.has(7, 1)?);
     assert!(rt; sets.sets.total() == 3);
-    sets.record_many(&rt, [5, 2], 1)?;
-    sets.record_many(&rt, [2, 0], 3)?;
+    sets.record_many([5, 2], 1)?;
+    sets.record_many([2, 0], 3)?;
     sets.assert_cards(&rt, 1, &[5, 2], &[2, 5])?;
     sets.assert_cards(&rt, 3, &[7, 2, 0], &[0, 2, 7])?;
     sets.clear(0)?;
@@ -183,8 +146,8 @@ fn each_call_once(rt: HostRuntime) -> Result<(), Fail> {
 fn sets_that_grow(rt: HostRuntime) -> Result<(), Fail> {
     let mut sets = Numbered::new(rt.alloc(), 3, 64, 4)?;
     for number in 0..32 {
-        sets.record(&rt, number, 0, 2)?;
-        sets.record_many(&rt, [number, number + 32], 1)?;
+        sets.record(number, 0, 2)?;
+        sets.record_many([number, number + 32], 1)?;
     }
     assert!(rt; sets.sets.total() == 128);
     sets.assert_ascending(&rt, 0, 0, 32)?;

@@ -1,7 +1,7 @@
 ghost use Rattle.std.specs.Prelude.{◌≤◌};
 
-use crate::samples::{are_numbered, buffer};
-use crate::{Done, Why};
+use crate::log::samples::{are_numbered, buffer};
+use g1_log::{Done, Why};
 use std::alloc::Global;
 use std::process::Abort;
 use std::test::Fail;
@@ -58,25 +58,6 @@ fn the_oldest_buffer_is_cut_from_the_front(rt: HostRuntime) -> Result<(), Fail> 
     cut(&rt, &mut done, &[4], 1)?;
     cut(&rt, &mut done, &[], 0)?;
     assert!(rt; done.oldest().is_none());
-    Ok(())
-}
-
-// With an allocation that fails, the add that needed it is refused, changes nothing and succeeds when it is repeated.
-#[test]
-fn a_refused_growth_changes_nothing(rt: HostRuntime) -> Result<(), Fail> {
-    let mut done = Done::new(rt.alloc(), 1024);
-    for number in 0..1024 {
-        if let Err((back, why)) = done.add(buffer(&[number])?) {
-            assert_eq!(rt; why, Why::NoMemory);
-            assert!(rt; are_numbered(back.cards(), &[number]));
-            assert_eq!(rt; done.len(), number as usize);
-            done.add(back).map_err(|(_, why)| why)?;
-        }
-    }
-    for number in 0..1024 {
-        let oldest = done.take_oldest().ok_or("too few buffers")?;
-        assert!(rt; are_numbered(oldest.cards(), &[number]));
-    }
     Ok(())
 }
 

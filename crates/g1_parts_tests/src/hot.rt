@@ -3,8 +3,7 @@
 ghost use Rattle.std.specs.Prelude.{◌≡◌, ◌≤◌, length};
 ghost use Rattle.g1_layout.specs.Shape.{card_count};
 
-use super::Hot;
-use crate::offer::Offer;
+use g1_hot::{Hot, Offer};
 use g1_layout::{Card, Layout, NoMemory};
 use std::alloc::Global;
 use std::process::Abort;
@@ -152,18 +151,5 @@ fn a_reset_forgets_the_counts_and_keeps_the_ring(rt: HostRuntime) -> Result<(), 
     ] {
         assert_eq!(rt; fixture.offer(&rt, number), want, "card {number}");
     }
-    Ok(())
-}
-
-/// Where a growth is refused, which `rt try --test --fail-alloc 1` and `2` see to, nothing is held back: the same call
-/// then has its room.
-#[test]
-fn a_refused_ring_can_be_asked_for_again(rt: HostRuntime) -> Result<(), Fail> {
-    let mut fixture = match Fixture::new(&rt, rt.alloc(), 255, 4096) {
-        Ok(fixture) => fixture,
-        Err(NoMemory) => Fixture::new(&rt, rt.alloc(), 255, 4096)?,
-    };
-    assert!(rt; fixture.hot.is_empty());
-    assert_eq!(rt; fixture.offer(&rt, 4351), Offer::Cold);
     Ok(())
 }

@@ -1,7 +1,7 @@
 //! Cards and buffers for the tests.
-use crate::Buffer;
 use arrayvec::ArrayVec;
 use g1_layout::{Card, Layout};
+use g1_log::Buffer;
 
 /// The card of this number in a heap of 65,536 cards.
 pub(crate) fn card(number: u32) -> Result<Card, &'static str> {

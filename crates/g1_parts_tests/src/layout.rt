@@ -1,6 +1,6 @@
 //! Heaps that were drawn and counted by hand.
 
-use super::*;
+use g1_layout::{Card, Kind, Layout, NoMemory, Region, Slot};
 use std::alloc::Global;
 use std::collections::HashSet;
 use std::test::Fail;

@@ -1,9 +1,10 @@
 ghost use Rattle.std.specs.Prelude.{◌≡◌, ◌≤◌, IfOk};
 ghost use Rattle.g1_log.specs.Ends.{IsSenderOf, IsTakerOf, sender_rights, taker_rights};
 
-use crate::{Buffer, Line, Parcel, Sender, Taker, samples};
+use crate::log::samples;
 use arrayvec::ArrayVec;
 use g1_layout::NoMemory;
+use g1_log::{Buffer, Line, Parcel, Sender, Taker};
 use std::alloc::Global;
 use std::process::Abort;
 use std::sync::Wait;
@@ -170,18 +171,6 @@ fn as_many_senders_and_takers_as_a_line_has(rt: HostRuntime) -> Result<(), Fail>
         take_eight(&rt, &line, taker, next);
         next = next.saturating_add(8);
     }
-    assert_eq!(rt; line.len(&rt), 0);
-    Ok(())
-}
-
-// An allocation that fails makes no line, and a second try succeeds.
-#[test]
-fn a_refused_growth_makes_no_line(rt: HostRuntime) -> Result<(), Fail> {
-    let (line, senders, takers) = match Line::new(rt.alloc(), 1024, 8, 12) {
-        Ok(made) => made,
-        Err(NoMemory) => Line::new(rt.alloc(), 1024, 8, 12)?,
-    };
-    assert_eq!(rt; (senders.len(), takers.len()), (8, 12));
     assert_eq!(rt; line.len(&rt), 0);
     Ok(())
 }
