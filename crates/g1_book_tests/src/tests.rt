@@ -1,5 +1,4 @@
-//! What no clause says: that the calls succeed, with answers and entries worked by hand, and what a refused growth
-//! leaves.
+//! What no clause says: that the calls succeed, with answers and entries worked by hand.
 //!
 //! The heap has 4 regions of 2 cards of 4 slots: card `c` has the slots from `4 * c` on, region `r` those from `8 * r` on.
 ghost use Rattle.std.specs.Prelude.{◌≡◌, ◌≤◌, ◌<◌, [], IfOk};
@@ -21,7 +20,6 @@ use std::process::Abort;
 mod answers;
 mod calls;
 mod crew;
-mod growths;
 mod shared;
 mod steps;
 

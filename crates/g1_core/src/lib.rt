@@ -31,6 +31,3 @@ pub use g1_log::{Buffer, Log};
 pub use list::CardList;
 pub use machinery::Core;
 pub use reply::{ClearReply, Drained, Fill, Redirected, RefineReply, Status, StoreReply};
-
-#[cfg(test)]
-mod tests;

@@ -13,9 +13,6 @@ use g1_layout::{Card, NoMemory};
 use g1_log::Buffer;
 use std::alloc::Global;
 
-#[cfg(test)]
-mod tests;
-
 impl Core {
     ghost use Rattle.g1_heap.specs.Cells.{reads_after};
     ghost use Rattle.g1_core.specs.Table.{IsCovered};

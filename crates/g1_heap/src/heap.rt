@@ -18,9 +18,6 @@ use memchr::memchr;
 use std::alloc::Global;
 use std::marker::Model;
 
-#[cfg(test)]
-mod tests;
-
 /// The slots of a heap and its card table: four bytes a slot and one byte a card, in a block each. The largest heap of 1,048,576 slots, with
 /// 65,536 cards, takes less than 4.3 MB.
 ///

@@ -21,9 +21,6 @@ pub struct Hot {
     ghost zero: { counted ≡ false → counts.items ≡ replicate (length counts.items) 0 },
 }
 
-#[cfg(test)]
-mod tests;
-
 impl Model for Hot {
     ghost use Rattle.g1_hot.specs.Ring.{Ring, ring_code, ring_of, IsRing};
 

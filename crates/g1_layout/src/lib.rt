@@ -23,6 +23,3 @@ pub use memory::NoMemory;
 pub use region::Region;
 pub use region_set::RegionSet;
 pub use slot::Slot;
-
-#[cfg(test)]
-mod tests;

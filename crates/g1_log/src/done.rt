@@ -9,9 +9,6 @@ use std::collections::VecDeque;
 use std::marker::Model;
 use thiserror::Error;
 
-#[cfg(test)]
-mod tests;
-
 /// Why a buffer was not added.
 #[derive(Clone, Copy, Debug, PartialEq, Eq, Error)]
 pub enum Why {

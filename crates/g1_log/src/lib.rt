@@ -13,8 +13,6 @@ mod line;
 mod log;
 mod parcel;
 mod rule;
-#[cfg(test)]
-mod samples;
 mod view;
 
 pub use buffer::Buffer;

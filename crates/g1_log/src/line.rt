@@ -15,9 +15,6 @@ use g1_layout::NoMemory;
 use std::alloc::Global;
 use std::sync::Wait;
 
-#[cfg(test)]
-mod tests;
-
 /// A line of completed buffers: a bounded queue without a lock, into which each sender puts and from which each taker
 /// takes, from threads of their own.
 ///

@@ -8,9 +8,6 @@ use g1_layout::Card;
 use std::marker::Model;
 use std::mem;
 
-#[cfg(test)]
-mod tests;
-
 /// A dirty card queue: the cards that one mutator has logged since it last handed out a buffer, oldest first.
 ///
 /// It is never full between two calls. Contracts see its size and the list of the cards' numbers (`Cards`). No call

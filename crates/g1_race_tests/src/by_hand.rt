@@ -96,25 +96,3 @@ fn only_a_reference_across_regions_is_logged(rt: HostRuntime) -> Result<(), Fail
     assert!(rt; closed.marked(card) && !closed.has(card, to_zero));
     Ok(())
 }
-
-// With memory the card is refined. Run with each growth refused in turn (`rt try --test --fail-alloc`), a refused refinement
-// changes no word.
-#[test]
-fn a_refused_refinement_changes_no_word(rt: HostRuntime) -> Result<(), Fail> {
-    let layout = Layout::new(4, 2, 4).expect(&rt, "layout");
-    let zero = layout.slot(0).expect(&rt, "slot");
-    let eight = layout.slot(8).expect(&rt, "slot");
-    let card = layout.card(0).expect(&rt, "card");
-    let to_one = layout.region(1).expect(&rt, "region");
-    let Ok((race, mut first, second, mut sweeper)) = open_small(rt.alloc(), layout) else {
-        return Ok(());
-    };
-    assert!(rt; first.store(&race, zero, Some(eight)) == Kind::Logged);
-    let refined = sweeper.refine(&race, card).is_ok();
-    let Ok(closed) = close_small(rt.alloc(), race, first, second, sweeper) else {
-        return Ok(());
-    };
-    assert!(rt; closed.target(zero) == Some(eight));
-    assert!(rt; closed.marked(card) != refined && closed.has(card, to_one) == refined);
-    Ok(())
-}

@@ -27,8 +27,6 @@ mod race;
 #[cfg(test)]
 mod reading;
 #[cfg(test)]
-mod refused_growths;
-#[cfg(test)]
 mod refused_traces;
 #[cfg(test)]
 mod streams;

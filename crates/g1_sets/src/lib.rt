@@ -12,7 +12,5 @@ mod hasher;
 mod members;
 mod rows;
 mod sets;
-#[cfg(test)]
-mod tests;
 
 pub use sets::Sets;

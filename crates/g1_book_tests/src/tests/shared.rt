@@ -13,7 +13,6 @@ use std::sync::ledger::{Blank, Ledger};
 
 mod answers;
 mod full;
-mod growths;
 mod guard;
 mod pause;
 mod threads;

@@ -20,7 +20,6 @@ use std::process::Abort;
 use std::sync::Wait;
 use std::test::Fail;
 
-mod growths;
 mod rounds;
 
 /// A caller's ends of the line, at a book that is lent.

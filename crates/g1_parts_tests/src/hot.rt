@@ -1,0 +1,155 @@
+//! What no clause says: that the rule of hotness, in counts and cards written out, is the one that is meant, and that
+//! the calls succeed.
+ghost use Rattle.std.specs.Prelude.{◌≡◌, ◌≤◌, length};
+ghost use Rattle.g1_layout.specs.Shape.{card_count};
+
+use g1_hot::{Hot, Offer};
+use g1_layout::{Card, Layout, NoMemory};
+use std::alloc::Global;
+use std::process::Abort;
+use std::test::Fail;
+
+/// A ring beside the layout whose cards it counts: 17 regions of 256 cards, more than a ring can hold.
+#[derive(Drop)]
+struct Fixture {
+    layout: Layout,
+    hot: Hot,
+    ghost counts_each_card: { length hot.counts ≡ card_count layout },
+}
+
+impl Fixture {
+    fn new(rt: &impl Abort, alloc: Global, limit: u32, capacity: usize) -> Result<Fixture, NoMemory>
+        requires limit { limit ≤ 255 }
+        requires some { 1 ≤ capacity }
+        requires most { capacity ≤ 4096 }
+    {
+        let layout = Layout::new(17, 256, 1).expect(rt, "a layout within the limits");
+        let hot = Hot::new(alloc, layout, limit, capacity)?;
+        Ok(Fixture { layout, hot })
+    }
+
+    fn card(&self, rt: &impl Abort, number: u32) -> Card {
+        self.layout.card(number).expect(rt, "a card of the layout")
+    }
+
+    /// Offers the card of this number, which does not stand in the ring, after asking what the answer would be.
+    fn offer(&mut self, rt: &impl Abort, number: u32) -> Offer {
+        let card = self.layout.card(number).expect(rt, "a card of the layout");
+        assert!(rt; !self.hot.contains(card), "card {number}");
+        let would = self.hot.would(card);
+        let answer = self.hot.offer(card);
+        assert_eq!(rt; answer, would, "card {number}");
+        answer
+    }
+
+    fn pop(&mut self) -> Option<Card> {
+        self.hot.pop_oldest()
+    }
+
+    /// Offers the cards from 0 on, as many as this, to a ring that has room for them and finds each of them hot.
+    fn fill(&mut self, rt: &impl Abort, cards: u32) {
+        for number in 0..cards {
+            assert_eq!(rt; self.offer(rt, number), Offer::Kept, "card {number}");
+            assert_eq!(rt; self.hot.len(), number as usize + 1);
+        }
+    }
+}
+
+/// How often card 3 is refined before it is hot.
+fn colds_before_hot(rt: &impl Abort, alloc: Global, limit: u32) -> Result<u32, NoMemory>
+    requires { limit ≤ 255 }
+{
+    let mut fixture = Fixture::new(rt, alloc, limit, 1)?;
+    for colds in 0..300 {
+        if fixture.offer(rt, 3) == Offer::Kept {
+            return Ok(colds);
+        }
+    }
+    Ok(300)
+}
+
+#[test]
+fn a_card_is_hot_once_it_was_refined_as_often_as_the_limit(rt: HostRuntime) -> Result<(), Fail> {
+    assert_eq!(rt; colds_before_hot(&rt, rt.alloc(), 0)?, 0);
+    assert_eq!(rt; colds_before_hot(&rt, rt.alloc(), 1)?, 1);
+    assert_eq!(rt; colds_before_hot(&rt, rt.alloc(), 255)?, 255);
+    Ok(())
+}
+
+#[test]
+fn each_card_has_its_own_count(rt: HostRuntime) -> Result<(), Fail> {
+    let mut fixture = Fixture::new(&rt, rt.alloc(), 2, 8)?;
+    for (number, want) in [
+        (0, Offer::Cold),
+        (4351, Offer::Cold),
+        (0, Offer::Cold),
+        (0, Offer::Kept),
+        (4351, Offer::Cold),
+        (4351, Offer::Kept),
+    ] {
+        assert_eq!(rt; fixture.offer(&rt, number), want, "card {number}");
+    }
+    Ok(())
+}
+
+#[test]
+fn a_ring_of_one_hands_out_the_card_before(rt: HostRuntime) -> Result<(), Fail> {
+    let mut fixture = Fixture::new(&rt, rt.alloc(), 0, 1)?;
+    fixture.fill(&rt, 1);
+    for number in 1..5 {
+        let before = fixture.card(&rt, number - 1);
+        assert_eq!(rt; fixture.offer(&rt, number), Offer::Out(before));
+        assert_eq!(rt; fixture.hot.len(), 1);
+    }
+    Ok(())
+}
+
+#[test]
+fn the_largest_ring_hands_out_its_oldest(rt: HostRuntime) -> Result<(), Fail> {
+    let mut fixture = Fixture::new(&rt, rt.alloc(), 0, 4096)?;
+    fixture.fill(&rt, 4096);
+    for number in 4096..4352 {
+        let oldest = fixture.card(&rt, number - 4096);
+        assert_eq!(rt; fixture.hot.oldest(), Some(oldest));
+        assert_eq!(rt; fixture.offer(&rt, number), Offer::Out(oldest));
+        assert_eq!(rt; fixture.hot.len(), 4096);
+    }
+    Ok(())
+}
+
+#[test]
+fn the_ring_empties_oldest_first(rt: HostRuntime) -> Result<(), Fail> {
+    let mut fixture = Fixture::new(&rt, rt.alloc(), 0, 4)?;
+    assert!(rt; fixture.hot.is_empty());
+    fixture.fill(&rt, 3);
+    assert!(rt; !fixture.hot.is_empty());
+    for number in 0..3 {
+        let oldest = fixture.card(&rt, number);
+        assert_eq!(rt; fixture.hot.oldest(), Some(oldest));
+        assert_eq!(rt; fixture.pop(), Some(oldest));
+    }
+    assert_eq!(rt; fixture.hot.oldest(), None);
+    assert_eq!(rt; fixture.pop(), None);
+    assert!(rt; fixture.hot.is_empty());
+    Ok(())
+}
+
+#[test]
+fn a_reset_forgets_the_counts_and_keeps_the_ring(rt: HostRuntime) -> Result<(), Fail> {
+    let mut fixture = Fixture::new(&rt, rt.alloc(), 1, 4)?;
+    for (number, want) in [(7, Offer::Cold), (7, Offer::Kept), (4351, Offer::Cold)] {
+        assert_eq!(rt; fixture.offer(&rt, number), want, "card {number}");
+    }
+    fixture.hot.reset_counts();
+    assert_eq!(rt; fixture.hot.oldest(), Some(fixture.card(&rt, 7)));
+    assert_eq!(rt; fixture.pop(), Some(fixture.card(&rt, 7)));
+    for (number, want) in [
+        (7, Offer::Cold),
+        (4351, Offer::Cold),
+        (7, Offer::Kept),
+        (4351, Offer::Kept),
+    ] {
+        assert_eq!(rt; fixture.offer(&rt, number), want, "card {number}");
+    }
+    Ok(())
+}

@@ -1,0 +1,5 @@
+//! Logs, the completed buffers of one thread, and the line between threads.
+mod done;
+mod filling;
+mod line;
+mod samples;

@@ -1,0 +1,363 @@
+ghost use Rattle.std.specs.Prelude.{◌≡◌, ◌≤◌, IfOk};
+ghost use Rattle.g1_log.specs.Ends.{IsSenderOf, IsTakerOf, sender_rights, taker_rights};
+
+use crate::log::samples;
+use arrayvec::ArrayVec;
+use g1_layout::NoMemory;
+use g1_log::{Buffer, Line, Parcel, Sender, Taker};
+use std::alloc::Global;
+use std::process::Abort;
+use std::sync::Wait;
+use std::test::*;
+use std::thread;
+use std::thread::Threads;
+
+// The buffer of this card alone.
+fn buffer(card: u32) -> Buffer {
+    samples::buffer(&[card]).unwrap_or_else(|_| Buffer::of(ArrayVec::new()))
+}
+
+fn first_card(buffer: &Buffer) -> Option<u32> {
+    buffer.cards().first().map(|card| card.number())
+}
+
+// What a put that did not succeed handed back.
+fn back(answer: Result<(), Buffer>) -> Option<u32> {
+    match answer {
+        Ok(()) => None,
+        Err(buffer) => first_card(&buffer),
+    }
+}
+
+// The sender, the number and the card of a parcel.
+fn read(parcel: Option<Parcel>) -> Option<(u32, u64, Option<u32>)> {
+    let parcel = parcel?;
+    Some((parcel.sender, parcel.number, first_card(&parcel.buffer)))
+}
+
+#[test]
+fn one_sender_and_one_taker(rt: HostRuntime) -> Result<(), Fail> {
+    let (line, mut senders, mut takers) = Line::new(rt.alloc(), 2, 1, 1)?;
+    let sender = &mut senders[0];
+    let taker = &mut takers[0];
+    assert!(rt; line.is_empty_for(taker));
+    assert_eq!(rt; back(line.put(&rt, sender, buffer(10))), None);
+    assert!(rt; !line.is_empty_for(taker));
+    assert_eq!(rt; back(line.put(&rt, sender, buffer(11))), None);
+    assert_eq!(rt; back(line.put(&rt, sender, buffer(12))), Some(12));
+    assert_eq!(rt; read(line.take(&rt, taker)), Some((0, 0, Some(10))));
+    assert_eq!(rt; back(line.put(&rt, sender, buffer(12))), None);
+    assert_eq!(rt; line.len(&rt), 2);
+    assert_eq!(rt; read(line.take(&rt, taker)), Some((0, 1, Some(11))));
+    assert_eq!(rt; read(line.take(&rt, taker)), Some((0, 2, Some(12))));
+    assert_eq!(rt; read(line.take(&rt, taker)), None);
+    let settled = line.settle(&rt, senders, takers);
+    assert_eq!(rt;
+        (settled.sent(), settled.taken(), settled.left()),
+        (3, 3, 0)
+    );
+    Ok(())
+}
+
+#[test]
+fn two_senders_and_one_taker(rt: HostRuntime) -> Result<(), Fail> {
+    let (line, mut senders, mut takers) = Line::new(rt.alloc(), 2, 2, 1)?;
+    assert_eq!(rt; back(line.put(&rt, &mut senders[0], buffer(20))), None);
+    assert_eq!(rt; back(line.put(&rt, &mut senders[1], buffer(21))), None);
+    assert_eq!(rt;
+        read(line.take(&rt, &mut takers[0])),
+        Some((0, 0, Some(20)))
+    );
+    let mut settled = line.settle(&rt, senders, takers);
+    assert_eq!(rt;
+        (settled.sent(), settled.taken(), settled.left()),
+        (2, 1, 1)
+    );
+    assert_eq!(rt; read(settled.next(&rt)), Some((1, 0, Some(21))));
+    assert_eq!(rt; read(settled.next(&rt)), None);
+    Ok(())
+}
+
+// A buffer of 256 cards, from this one on.
+fn long_buffer(first: u32) -> Result<Buffer, Fail> {
+    let mut cards = ArrayVec::new();
+    for offset in 0..256 {
+        let card = samples::card(first.saturating_add(offset))?;
+        cards.try_push(card).map_err(|_| "too many cards")?;
+    }
+    Ok(Buffer::of(cards))
+}
+
+fn assert_long(rt: &impl Abort, buffer: &Buffer, first: u32) {
+    assert_eq!(rt; buffer.cards().len(), 256);
+    for (offset, card) in buffer.cards().iter().enumerate() {
+        assert_eq!(rt; card.number() as usize, first as usize + offset);
+    }
+}
+
+// Puts a buffer of 256 cards for each place of an empty line. A further one comes back.
+fn fill<R: Abort + Wait>(rt: &R, line: &Line, mut sender: Sender, capacity: u32) -> Result<(), Fail>
+    requires of { IsSenderOf line.now sender }
+    requires few { capacity ≤ 1024 }
+{
+    for number in 0..capacity {
+        let put = line.put(rt, &mut sender, long_buffer(number * 60)?);
+        assert!(rt; put.is_ok());
+    }
+    let further = line.put(rt, &mut sender, long_buffer(capacity * 60)?);
+    let back = further.err().ok_or("a buffer past the capacity")?;
+    assert_long(rt, &back, capacity * 60);
+    assert_eq!(rt; line.len(rt), capacity as usize);
+    Ok(())
+}
+
+// Takes all buffers of a full line, and compares each card.
+fn empty<R: Abort + Wait>(rt: &R, line: &Line, mut taker: Taker, capacity: u32) -> Result<(), Fail>
+    requires of { IsTakerOf line.now taker }
+    requires few { capacity ≤ 1024 }
+{
+    for number in 0..capacity {
+        let parcel = line.take(rt, &mut taker).ok_or("too few buffers")?;
+        assert_eq!(rt; (parcel.sender, parcel.number), (0, u64::from(number)));
+        assert_long(rt, &parcel.buffer, number * 60);
+    }
+    assert_eq!(rt; read(line.take(rt, &mut taker)), None);
+    Ok(())
+}
+
+#[test]
+fn long_buffers_fill_a_line(rt: HostRuntime) -> Result<(), Fail> {
+    for capacity in [1, 1024] {
+        let (line, mut senders, mut takers) = Line::new(rt.alloc(), capacity as usize, 1, 1)?;
+        fill(&rt, &line, senders.remove(0), capacity)?;
+        empty(&rt, &line, takers.remove(0), capacity)?;
+    }
+    Ok(())
+}
+
+// Puts twelve buffers of one card each, from this one on.
+fn put_twelve<R: Abort + Wait>(rt: &R, line: &Line, mut sender: Sender, first: u32)
+    requires { IsSenderOf line.now sender }
+{
+    for turn in 0..12 {
+        let put = line.put(rt, &mut sender, buffer(first.saturating_add(turn)));
+        assert_eq!(rt; back(put), None);
+    }
+}
+
+// Takes eight parcels, with the cards from this one on.
+fn take_eight<R: Abort + Wait>(rt: &R, line: &Line, mut taker: Taker, first: u32)
+    requires { IsTakerOf line.now taker }
+{
+    for turn in 0..8 {
+        let card = first.saturating_add(turn);
+        let wanted = (card / 12, u64::from(card % 12), Some(card));
+        assert_eq!(rt; read(line.take(rt, &mut taker)), Some(wanted));
+    }
+}
+
+// Eight senders put twelve buffers each, and twelve takers take eight each: every card comes out once, under its sender.
+#[test]
+fn as_many_senders_and_takers_as_a_line_has(rt: HostRuntime) -> Result<(), Fail> {
+    let (line, senders, takers) = Line::new(rt.alloc(), 96, 8, 12)?;
+    let mut next: u32 = 0;
+    for sender in senders {
+        put_twelve(&rt, &line, sender, next);
+        next = next.saturating_add(12);
+    }
+    assert_eq!(rt; line.len(&rt), 96);
+    next = 0;
+    for taker in takers {
+        take_eight(&rt, &line, taker, next);
+        next = next.saturating_add(8);
+    }
+    assert_eq!(rt; line.len(&rt), 0);
+    Ok(())
+}
+
+// The sender, the number and the card.
+type Label = (u32, u64, u32);
+
+fn label(parcel: &Parcel) -> Label {
+    (
+        parcel.sender,
+        parcel.number,
+        first_card(&parcel.buffer).unwrap_or(0),
+    )
+}
+
+// The cards of the buffers that were put.
+fn put_cards<R: Wait>(
+    rt: &R,
+    alloc: Global,
+    line: &Line,
+    mut sender: Sender,
+) -> Result<(Sender, Vec<u32>), NoMemory>
+    requires { IsSenderOf line.now sender }
+    ensures { IfOk result (λ r. IsSenderOf line.now r.0 × (sender_rights r.0 ≡ sender_rights sender)) }
+{
+    let mut put = Vec::new(alloc);
+    for card in 0..1000 {
+        if line.put(rt, &mut sender, buffer(card)).is_ok() {
+            put.push(card)?;
+        } else {
+            thread::yield_now();
+        }
+    }
+    Ok((sender, put))
+}
+
+// The labels of the parcels that were taken.
+fn take_labels<R: Wait>(
+    rt: &R,
+    alloc: Global,
+    line: &Line,
+    mut taker: Taker,
+) -> Result<(Taker, Vec<Label>), NoMemory>
+    requires { IsTakerOf line.now taker }
+    ensures { IfOk result (λ r. IsTakerOf line.now r.0 × (taker_rights r.0 ≡ taker_rights taker)) }
+{
+    let mut taken = Vec::new(alloc);
+    for _ in 0..1000 {
+        match line.take(rt, &mut taker) {
+            Some(parcel) => taken.push(label(&parcel))?,
+            None => thread::yield_now(),
+        }
+    }
+    Ok((taker, taken))
+}
+
+type Put = Result<(Sender, Vec<u32>), NoMemory>;
+
+type Took = Result<(Taker, Vec<Label>), NoMemory>;
+
+// Two senders put, each in a thread of its own.
+fn put_both<R: Threads + Wait + Sync>(
+    rt: &R,
+    alloc: Global,
+    line: &Line,
+    first: Sender,
+    second: Sender,
+) -> (Put, Put)
+    requires { IsSenderOf line.now first × IsSenderOf line.now second }
+    ensures first { IfOk result.0 (λ r. IsSenderOf line.now r.0 × (sender_rights r.0 ≡ sender_rights first)) }
+    ensures second { IfOk result.1 (λ r. IsSenderOf line.now r.0 × (sender_rights r.0 ≡ sender_rights second)) }
+{
+    thread::join(
+        rt,
+        move || -> Put
+            requires { IsSenderOf line.now first }
+            ensures { IfOk result (λ r. IsSenderOf line.entry.now r.0 × (sender_rights r.0 ≡ sender_rights first)) }
+        { put_cards(rt, alloc, line, first) },
+        move || -> Put
+            requires { IsSenderOf line.now second }
+            ensures { IfOk result (λ r. IsSenderOf line.entry.now r.0 × (sender_rights r.0 ≡ sender_rights second)) }
+        { put_cards(rt, alloc, line, second) },
+    )
+}
+
+// Two takers take, each in a thread of its own.
+fn take_both<R: Threads + Wait + Sync>(
+    rt: &R,
+    alloc: Global,
+    line: &Line,
+    one: Taker,
+    other: Taker,
+) -> (Took, Took)
+    requires { IsTakerOf line.now one × IsTakerOf line.now other }
+    ensures first { IfOk result.0 (λ r. IsTakerOf line.now r.0 × (taker_rights r.0 ≡ taker_rights one)) }
+    ensures second { IfOk result.1 (λ r. IsTakerOf line.now r.0 × (taker_rights r.0 ≡ taker_rights other)) }
+{
+    thread::join(
+        rt,
+        move || -> Took
+            requires { IsTakerOf line.now one }
+            ensures { IfOk result (λ r. IsTakerOf line.entry.now r.0 × (taker_rights r.0 ≡ taker_rights one)) }
+        { take_labels(rt, alloc, line, one) },
+        move || -> Took
+            requires { IsTakerOf line.now other }
+            ensures { IfOk result (λ r. IsTakerOf line.entry.now r.0 × (taker_rights r.0 ≡ taker_rights other)) }
+        { take_labels(rt, alloc, line, other) },
+    )
+}
+
+// Whether the numbers of each of two senders rise.
+fn rises(labels: &[Label]) -> bool {
+    let mut next = [0, 0];
+    for (sender, number, _) in labels {
+        let at = if *sender == 0 { 0 } else { 1 };
+        if *number < next[at] {
+            return false;
+        }
+        next[at] = number.saturating_add(1);
+    }
+    true
+}
+
+// How many labels are of this sender, number and card.
+fn times(labels: &[Label], sender: u32, number: usize, card: u32) -> usize {
+    labels
+        .iter()
+        .filter(|l| l.0 == sender && l.1 == number as u64 && l.2 == card)
+        .count()
+}
+
+// Whether each card that was put has its label once.
+fn each_once(labels: &[Label], sender: u32, put: &[u32]) -> bool {
+    for (number, card) in put.iter().enumerate() {
+        if times(labels, sender, number, *card) != 1 {
+            return false;
+        }
+    }
+    true
+}
+
+#[test]
+fn line_in_threads(rt: HostRuntime) -> Result<(), Fail> {
+    let alloc = rt.alloc();
+    let (line, mut senders, mut takers) = Line::new(alloc, 4, 2, 2)?;
+    let shared = &line;
+    let handle = &rt;
+    let second = senders.remove(1);
+    let first = senders.remove(0);
+    let other = takers.remove(1);
+    let one = takers.remove(0);
+    let (puts, takes) = thread::join(
+        &rt,
+        move || -> (Put, Put)
+            requires { IsSenderOf shared.now first × IsSenderOf shared.now second }
+            ensures first { IfOk result.0 (λ r. IsSenderOf shared.entry.now r.0 × (sender_rights r.0 ≡ sender_rights first)) }
+            ensures second { IfOk result.1 (λ r. IsSenderOf shared.entry.now r.0 × (sender_rights r.0 ≡ sender_rights second)) }
+        { put_both(handle, alloc, shared, first, second) },
+        move || -> (Took, Took)
+            requires { IsTakerOf shared.now one × IsTakerOf shared.now other }
+            ensures first { IfOk result.0 (λ r. IsTakerOf shared.entry.now r.0 × (taker_rights r.0 ≡ taker_rights one)) }
+            ensures second { IfOk result.1 (λ r. IsTakerOf shared.entry.now r.0 × (taker_rights r.0 ≡ taker_rights other)) }
+        { take_both(handle, alloc, shared, one, other) },
+    );
+    let (a, b) = puts;
+    let (c, d) = takes;
+    let (first, put) = a?;
+    let (second, put_too) = b?;
+    let (one, taken) = c?;
+    let (other, mut labels) = d?;
+    assert!(rt; rises(taken.as_slice()));
+    assert!(rt; rises(labels.as_slice()));
+    labels.extend_from_slice(taken.as_slice())?;
+    let mut settled = line.settle(
+        &rt,
+        vec![in alloc; first, second]?,
+        vec![in alloc; one, other]?,
+    );
+    for _ in 0..4 {
+        if let Some(parcel) = settled.next(&rt) {
+            labels.push(label(&parcel))?;
+        }
+    }
+    // (no put comes back before the line has held four)
+    assert!(rt; labels.len() >= 4);
+    assert_eq!(rt; labels.len(), put.len() + put_too.len());
+    assert!(rt; each_once(labels.as_slice(), 0, put.as_slice()));
+    assert!(rt; each_once(labels.as_slice(), 1, put_too.as_slice()));
+    Ok(())
+}
