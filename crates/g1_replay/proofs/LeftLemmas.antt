@@ -1,5 +1,5 @@
 -- The table that a race of scripts leaves, by what its racers have stored.
-use Rattle.std.proofs.Common.{◌≡◌, ◌≢◌, ◌⊎◌, ◌<◌, ◌+◌, ◌-◌, ◌≤◌, ℕ, List, length, map, take, ap, sym, subst, ◌∙◌, refl, arith, Option, Some, None, inl, inr, ⊎_elim, Contains, get_or, true}
+use Rattle.std.proofs.Common.{◌≡◌, ◌≢◌, ◌⊎◌, ◌<◌, ◌+◌, ◌-◌, ◌≤◌, ℕ, List, length, take, ap, sym, subst, ◌∙◌, refl, arith, Option, Some, None, inl, inr, ⊎_elim, Contains, get_or}
 use mathlib.Core.Option.{some}
 use lib.ListN.{get_elem?}
 use Rattle.std.proofs.lemmas.List.{length-map, length-take-le}
@@ -10,7 +10,7 @@ use Rattle.g1_core.specs.Adoption.{IsPairOf}
 use Rattle.g1_core.proofs.SetLemmas.{in_pairs}
 use Rattle.g1_race.specs.declared.view.View.{View}
 use Rattle.g1_race.specs.Begin.{Begun}
-use Rattle.g1_race.specs.Race.{History, Among, AmongStores, BeganInto, In, IsCrossing, IsKnown, IsOver, card_of, histories_of, last_to, region_at, shape_of, word_of}
+use Rattle.g1_race.specs.Race.{History, Among, AmongStores, BeganInto, In, IsKnown, IsOver, histories_of, last_to, shape_of, word_of}
 use Rattle.g1_race.specs.Members.{null_begun}
 use Rattle.g1_race.specs.Over.{Ended, refs_of, table_of, target_of}
 use Rattle.g1_race.proofs.AtBeginning.{at_zeros}

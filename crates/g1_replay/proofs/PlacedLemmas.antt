@@ -1,12 +1,10 @@
 -- Lists whose items fit their places, and lists of members, by kinds.
-use Rattle.std.proofs.Common.{◌≡◌, ℕ, zero, suc, ◌+◌, List, [], ◌∷◌, ◌++◌, length, map, ap, sym, subst, ◌∙◌, refl, arith, append_assoc, All, Option, Some, None}
+use Rattle.std.proofs.Common.{◌≡◌, ℕ, suc, ◌+◌, List, [], ◌∷◌, ◌++◌, length, map, ap, sym, subst, ◌∙◌, refl, arith, append_assoc, All, Option}
 use Rattle.std.specs.Prelude.{sum_by}
 use Rattle.std.specs.List.{filter_map}
 use Rattle.std.proofs.lemmas.List.{map-append}
 use Rattle.std.proofs.lemmas.List.Elements.{filter_map-append, All-nil, All-cons, All-head, All-tail}
 use Rattle.std.proofs.lemmas.List.Sums.{sum_by-cons, sum_by_push}
-use Rattle.g1_log.specs.declared.ends.Sender.{Sender}
-use Rattle.g1_log.specs.declared.ends.Taker.{Taker}
 use Rattle.g1_log.specs.declared.line.Line.{Line}
 use Rattle.g1_log.specs.Ends.{sender_rights, taker_rights, IsSenderOf, IsTakerOf}
 use Rattle.g1_race.specs.declared.race.Race.{Race}

@@ -1,5 +1,5 @@
 -- What a race writes, and the whole output where its end says what it is.
-use Rattle.std.proofs.Common.{◌≡◌, ℕ, List, [], ◌++◌, refl, sym, subst, ap, ◌∙◌, append-nil, Option, Some, None, inl, inr}
+use Rattle.std.proofs.Common.{◌≡◌, ℕ, List, [], ◌++◌, refl, subst, ap, ◌∙◌, append-nil, Option, Some, None, inl, inr}
 use Rattle.std.specs.Prelude.{Result, Ok, Err, IfErr, IfSome, count_by}
 use Rattle.std.specs.Io.KnownBytes.{Appends}
 use Rattle.g1_layout.specs.Shape.{Shape}

@@ -1,5 +1,5 @@
 -- What the members of a race have stored once its jobs were run.
-use Rattle.std.proofs.Common.{◌≡◌, ◌<◌, ◌≤◌, ◌+◌, ℕ, suc, List, [], ◌∷◌, ◌++◌, length, map, ap, sym, subst, ◌∙◌, refl, arith, nat_lt, true, false, append-nil, Option, Some, None, inl, inr}
+use Rattle.std.proofs.Common.{◌≡◌, ◌<◌, ◌≤◌, ◌+◌, ℕ, suc, List, [], ◌∷◌, length, map, ap, sym, subst, ◌∙◌, refl, arith, nat_lt, true, false, append-nil, Option, Some, None, inl, inr}
 use Rattle.std.specs.Prelude.{Bool, Result, Ok, Err, All, sum_by}
 use Rattle.std.specs.List.{filter_map, AllZip}
 use Rattle.std.specs.Option.{option_or}

@@ -1,12 +1,11 @@
 -- What a script's stores come to: a racer's history, and its stores as the commands of the trace.
-use Rattle.std.proofs.Common.{◌≡◌, ◌≢◌, ◌⊎◌, ℕ, ◌+◌, suc, List, [], ◌∷◌, ◌++◌, Bool, true, false, cond, eqb, ap, sym, ◌∙◌, refl, inl, inr, append_assoc, append-nil, Option, Some, None, ⊎_elim}
-use Rattle.std.specs.Prelude.{◌==◌, ◌&&◌, if◌then◌else◌, Contains}
+use Rattle.std.proofs.Common.{◌≡◌, ℕ, List, [], ◌∷◌, ◌++◌, Bool, true, false, cond, eqb, ap, sym, ◌∙◌, refl, inl, inr, append_assoc, append-nil, Option, Some, None, ⊎_elim}
+use Rattle.std.specs.Prelude.{◌==◌, ◌&&◌, if◌then◌else◌}
 use Rattle.std.specs.Option.{option_or}
 use Rattle.std.specs.List.{cons_option, filter_map}
-use Rattle.g1_race.specs.Race.{History, In, last_to, word_of, gained}
+use Rattle.g1_race.specs.Race.{In, last_to, word_of}
 use Rattle.g1_race.proofs.Plain.{in_either}
-use Rattle.g1_steps.specs.Ask.{Ask, AskStore, AskFlush, AskWork, ask_of, asks_of}
-use Rattle.g1_steps.specs.declared.desk.Step.{Step}
+use Rattle.g1_steps.specs.Ask.{Ask, AskStore, AskFlush, AskWork, asks_of}
 use Rattle.g1_steps.specs.declared.desk.Step.TheVariants as step
 use Rattle.g1_trace.specs.declared.command.Command.{Command}
 use Rattle.g1_trace.specs.declared.command.Command.TheVariants.{Store, Flush}

@@ -1,12 +1,11 @@
 -- Drains of a core, one after another.
 use Rattle.std.specs.Prelude.{◌≡◌, ℕ, List, [], ◌∷◌, ◌++◌}
 use Rattle.std.proofs.Common.{refl, sym, ap, ◌∙◌, subst, append_assoc}
-use Rattle.g1_layout.specs.Shape.{Shape}
 use Rattle.g1_core.specs.declared.reply.Drained.{Drained}
 use Rattle.g1_core.specs.declared.reply.Drained.TheVariants.{Cards, Short}
 use Rattle.g1_core.specs.Calls.{drain_entry}
 use Rattle.g1_core.specs.Machine.{Machine}
-use Rattle.g1_core.specs.Run.{IsStep, table_after}
+use Rattle.g1_core.specs.Run.{IsStep}
 use Rattle.g1_core.specs.Table.{Table}
 use Rattle.g1_trace.specs.declared.command.Command.{Command}
 use Rattle.g1_core.specs.declared.entry.Call.TheVariants.{Drain}

@@ -1,5 +1,4 @@
 use Rattle.std.proofs.Common.{rules}
-use Rattle.std.proofs.KnownBytes.{Appends-nil}
 use Rattle.std.proofs.lemmas.Result.{err_from_is_err_and}
 use Rattle.g1_replay.proofs.ScriptedLemmas.{head_stops, lines_stop, lines_read}
 use Rattle.g1_replay.proofs.listing.read_scripts.Goals as goal

@@ -1,4 +1,3 @@
-use Rattle.std.proofs.Common.{List, [], ap, sym, ◌∙◌}
 use Rattle.g1_replay.specs.RaceJobs.{racer_in, sender_in, sweeper_in, taker_in}
 use Rattle.g1_replay.proofs.PlacedLemmas.{sorted_more}
 use Rattle.g1_replay.proofs.RanRaceLemmas.{first_left}

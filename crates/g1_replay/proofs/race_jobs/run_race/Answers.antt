@@ -1,6 +1,5 @@
-use Rattle.std.proofs.Common.{◌≡◌, ◌+◌, ℕ, List, length, map, ap, sym, subst, ◌∙◌, arith, All, Contains}
+use Rattle.std.proofs.Common.{◌≡◌, ◌+◌, List, length, map, ap, sym, subst, ◌∙◌, arith, All}
 use Rattle.std.specs.Prelude.{sum_by}
-use Rattle.std.specs.List.{filter_map}
 use Rattle.g1_layout.specs.Shape as layout
 use Rattle.g1_core.specs.Adoption.{IsPairOf}
 use Rattle.g1_log.specs.declared.ends.Sender.{Sender}
@@ -13,7 +12,6 @@ use Rattle.g1_race.specs.Race.{IsKnown, IsOver}
 use Rattle.g1_race.specs.Members.{null_begun, race_begun, race_id, racer_race, racer_view, sweeper_race, sweeper_view}
 use Rattle.g1_replay.specs.declared.race_desk.Member.{Member}
 use Rattle.g1_replay.specs.Members.{member_rights}
-use Rattle.g1_replay.specs.RaceJobs.{racer_in, sender_in, sweeper_in, taker_in}
 use Rattle.g1_replay.proofs.LeftLemmas.{table_left}
 use Rattle.g1_replay.proofs.PlacedLemmas.{racers_of, senders_of, sweepers_of, takers_of, sorted_length, sorted_rights}
 use Rattle.g1_replay.proofs.RanRaceLemmas.{are_run, each_own, every_own, views_of}

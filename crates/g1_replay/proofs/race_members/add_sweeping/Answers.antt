@@ -1,4 +1,4 @@
-use Rattle.std.proofs.Common.{◌≡◌, ap, sym, refl, arith, nat_lt, false, Some, vec_len}
+use Rattle.std.proofs.Common.{◌≡◌, sym, refl, arith, nat_lt, false, Some, vec_len}
 use Rattle.std.proofs.lemmas.Bool.{le-ltb}
 use Rattle.std.proofs.lemmas.List.Elements.{All-head, All-pop, All-rest, All-same}
 use Rattle.g1_log.specs.Ends.{taker_rights, IsTakerOf}

@@ -1,4 +1,4 @@
-use Rattle.std.proofs.Common.{List, ℕ, ap, subst, ◌∙◌}
+use Rattle.std.proofs.Common.{List, ℕ, ap, subst}
 use Rattle.std.proofs.lemmas.Result.{err_from_is_err_and}
 use Rattle.g1_layout.specs.Shape.{Shape}
 use Rattle.g1_core.specs.Machine.{Machine}
