@@ -1,4 +1,7 @@
-//! Traces: text commands for the machinery, and the replies as text.
+//! Replays: a trace is read line by line and played on a book, by one thread ([`run`]), by a crew of threads under one lock
+//! ([`crew`]), or by threads whose stores race ([`race`]). Each answers how it ended ([`End`]).
+//!
+//! What a line asks for, and the line of every answer, stands in `g1_trace`; the command line in `g1_options`.
 #![tactic(auto)]
 
 mod calls;
