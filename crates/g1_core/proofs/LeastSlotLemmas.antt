@@ -1,6 +1,7 @@
 -- The least slot that enters a region, and what is read to find it.
 use Rattle.std.proofs.Common.{◌≡◌, inl, inr, ℕ, ◌<◌, ◌≤◌, ◌+◌, ◌-◌, ◌*◌, List, [], ◌∷◌, ◌++◌, length, Option, Some, None, refl, sym, ap, ◌∙◌, subst, arith, take}
 use Rattle.std.specs.Prelude.{Contains, slice_get}
+use Rattle.std.proofs.Math.Nat.{mul-le-mul_right}
 use Rattle.std.proofs.lemmas.Bool.{cases_lt}
 use Rattle.std.proofs.lemmas.List.Elements.{Contains-append_cases}
 use Rattle.std.proofs.lemmas.Nat.{row_fits}
@@ -144,3 +145,14 @@ pub read_next : (heap now new : Cells) (index : ℕ) → AreRead heap now (index
 read_next heap now new index before here =
     let slots : now.layout.slots ≡ heap.layout.slots = ap (λ (h : Cells). h.layout.slots) before.cells in
     read_more heap now new (index * heap.layout.slots) now.layout.slots ((index + 1) * heap.layout.slots) before here (omega arith)
+
+-- what was read for some of the cards, and for one of them more, is at most what all of them have
+pub read_all : (heap now : Cells) (index many : ℕ) → AreRead heap now (index * heap.layout.slots) → index ≤ many → AreRead heap now (many * heap.layout.slots)
+read_all heap now index many read fits = read_at_most heap now (index * heap.layout.slots) (many * heap.layout.slots) read (mul-le-mul_right heap.layout.slots fits)
+
+pub read_one_more : (heap now new : Cells) (index many : ℕ) → AreRead heap now (index * heap.layout.slots) → AreRead now new now.layout.slots → index < many → AreRead heap new (many * heap.layout.slots)
+read_one_more heap now new index many before here fits = read_all heap new (index + 1) many (read_next heap now new index before here) (omega arith)
+
+-- the layout is the same
+pub read_layout : (heap now : Cells) (most : ℕ) → AreRead heap now most → heap.layout ≡ now.layout
+read_layout heap now most read = sym (ap (λ (h : Cells). h.layout) read.cells)
