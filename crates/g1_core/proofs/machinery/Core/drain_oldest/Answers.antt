@@ -1,8 +1,9 @@
 use Rattle.std.proofs.Common.{sym, subst}
 use Rattle.g1_hot.specs.Ring.{popped}
 use Rattle.g1_core.specs.Machine.{Machine, machine_from}
-use Rattle.g1_core.specs.Pause.{IsCardDrained}
-use Rattle.g1_core.proofs.DrainCardLemmas.{IsDrainedTo, oldest_drained, oldest_some}
+use Rattle.g1_core.specs.Pause.{IsCardDrained, IsCardRead}
+use Rattle.g1_core.proofs.DrainCardLemmas.{IsDrainedTo, oldest_drained, oldest_some, read_core, card_read}
+use Rattle.g1_core.proofs.ReferenceLemmas.{err_holds}
 use Rattle.g1_core.proofs.machinery.Core.drain_oldest.Goals as goal
 
 pub refine_card-requires-clause-some : goal.refine_card-requires-clause-some
@@ -23,3 +24,13 @@ returns-clause-ok c =
     let ring = c.pop_oldest.ensures.ring in
     subst (λ r. IsCardDrained c.args.self.now c.in-Some.card (popped c.args.self.now.state.ring) (machine_from c.refine_card.new.heap c.refine_card.new.sets.pairs r c.self.inside.config)) (sym ring)
     (subst (λ (m : Machine). IsCardDrained m c.in-Some.card (popped m.state.ring) (machine_from c.refine_card.new.heap c.refine_card.new.sets.pairs (popped c.self.inside.hot) c.self.inside.config)) c.self.view_is t.drained)
+
+-- a refused record has only read the card
+pub invariant_of-self : goal.invariant_of-self
+invariant_of-self c = read_core c.self.inside.heap c.self.inside.sets c.self.inside.hot c.self.inside.pending c.self.inside.config c.self.invariant c.refine_card.new.heap c.refine_card.new.sets c.refine_card.new.pending
+    c.in_err-refine_card.ensures.read c.in_err-refine_card.ensures.err c.in_err-refine_card.ensures.as_many
+
+pub returns-in_err-refine_card-clause-err : goal.returns-in_err-refine_card-clause-err
+returns-in_err-refine_card-clause-err c = err_holds c.from_residual.result (subst (λ (m : Machine). IsCardRead m (machine_from c.refine_card.new.heap c.refine_card.new.sets.pairs c.self.inside.hot c.self.inside.config)) c.self.view_is
+    (card_read c.self.inside.heap c.self.inside.sets c.self.inside.hot c.self.inside.pending c.self.inside.config c.self.invariant c.refine_card.new.heap c.refine_card.new.sets c.refine_card.new.pending
+    c.in_err-refine_card.ensures.read c.in_err-refine_card.ensures.err c.in_err-refine_card.ensures.as_many))
