@@ -1,5 +1,6 @@
-use Rattle.std.proofs.Common.{length, ap, ◌∙◌, sym, refl, Some}
+use Rattle.std.proofs.Common.{◌<◌, ℕ, length, ap, subst, ◌∙◌, sym, refl, Some}
 use Rattle.std.proofs.lemmas.Bool.{true≢false}
+use Rattle.g1_layout.specs.Shape.{card_count}
 use Rattle.g1_hot.specs.declared.offer.Offer.{Offer}
 use Rattle.g1_hot.specs.declared.offer.Offer.TheVariants.{Out}
 use Rattle.g1_heap.specs.declared.mark.Mark.TheVariants.{Held}
@@ -7,7 +8,9 @@ use Rattle.g1_heap.specs.Cells.{Cells, with_mark, reads_after}
 use Rattle.g1_core.specs.Machine.{Machine}
 use Rattle.g1_core.specs.Turns.{refined_by}
 use Rattle.g1_core.proofs.RefinedLemmas.{refined_none}
-use Rattle.g1_core.proofs.RefineLemmas.{none_offered, dirty_pending, turned_cold, turned_kept, turned_out, IsTurnedTo}
+use Rattle.g1_core.proofs.RefineLemmas.{none_offered, dirty_pending, apart, out_within, turned_cold, turned_kept, turned_out, IsTurnedTo}
+use Rattle.g1_core.proofs.DrainCardLemmas.{read_core, card_read}
+use Rattle.g1_core.proofs.ReferenceLemmas.{err_holds}
 use Rattle.g1_core.proofs.ReadLemmas.{none_read, one_read}
 use Rattle.g1_core.proofs.machinery.Core.turn.Goals as goal
 
@@ -80,3 +83,62 @@ pub returns-in-Out-clause-reads : goal.returns-in-Out-clause-reads
 returns-in-Out-clause-reads c =
     ap (λ (h : Cells). h.reads) (c.set_mark-in-Out.ensures ∙ ap (λ (h : Cells). with_mark h c.args.card Held) c.in_ok-refine_card-in-Out.ensures.cleaned)
     ∙ ap (λ (m : Machine). reads_after m.reads m.state.table.layout.slots) c.self.view_is ∙ one_read c.args.self.now.reads c.args.self.now.state.table.layout.slots 1 refl
+
+-- a refused record has only read the card
+pub invariant_of-self : goal.invariant_of-self
+invariant_of-self c = read_core c.self.inside.heap c.self.inside.sets c.self.inside.hot c.self.inside.pending c.self.inside.config c.self.invariant c.refine_card.new.heap c.refine_card.new.sets c.refine_card.new.pending
+    c.in_err-refine_card-in-Cold.ensures.read c.in_err-refine_card-in-Cold.ensures.err c.in_err-refine_card-in-Cold.ensures.as_many
+
+pub returns-in_err-refine_card-in-Cold-clause-err : goal.returns-in_err-refine_card-in-Cold-clause-err
+returns-in_err-refine_card-in-Cold-clause-err c = err_holds c.from_residual.result ((card_read c.self.inside.heap c.self.inside.sets c.self.inside.hot c.self.inside.pending c.self.inside.config c.self.invariant c.refine_card.new.heap c.refine_card.new.sets c.refine_card.new.pending
+    c.in_err-refine_card-in-Cold.ensures.read c.in_err-refine_card-in-Cold.ensures.err c.in_err-refine_card-in-Cold.ensures.as_many).state ∙ ap (λ (m : Machine). m.state) c.self.view_is)
+
+pub returns-in_err-refine_card-in-Cold-clause-tried : goal.returns-in_err-refine_card-in-Cold-clause-tried
+returns-in_err-refine_card-in-Cold-clause-tried c = err_holds c.from_residual.result ((card_read c.self.inside.heap c.self.inside.sets c.self.inside.hot c.self.inside.pending c.self.inside.config c.self.invariant c.refine_card.new.heap c.refine_card.new.sets c.refine_card.new.pending
+    c.in_err-refine_card-in-Cold.ensures.read c.in_err-refine_card-in-Cold.ensures.err c.in_err-refine_card-in-Cold.ensures.as_many).reads ∙ ap (λ (m : Machine). reads_after m.reads m.state.table.layout.slots) c.self.view_is)
+
+pub invariant_of-self-in_err-refine_card-in-Out : goal.invariant_of-self-in_err-refine_card-in-Out
+invariant_of-self-in_err-refine_card-in-Out c = read_core c.self.inside.heap c.self.inside.sets c.self.inside.hot c.self.inside.pending c.self.inside.config c.self.invariant c.refine_card-in-Out.new.heap c.refine_card-in-Out.new.sets c.refine_card-in-Out.new.pending
+    c.in_err-refine_card-in-Out.ensures.read c.in_err-refine_card-in-Out.ensures.err c.in_err-refine_card-in-Out.ensures.as_many
+
+pub returns-in_err-refine_card-in-Out-clause-err : goal.returns-in_err-refine_card-in-Out-clause-err
+returns-in_err-refine_card-in-Out-clause-err c = err_holds c.from_residual-in_err-refine_card-in-Out.result ((card_read c.self.inside.heap c.self.inside.sets c.self.inside.hot c.self.inside.pending c.self.inside.config c.self.invariant c.refine_card-in-Out.new.heap c.refine_card-in-Out.new.sets c.refine_card-in-Out.new.pending
+    c.in_err-refine_card-in-Out.ensures.read c.in_err-refine_card-in-Out.ensures.err c.in_err-refine_card-in-Out.ensures.as_many).state ∙ ap (λ (m : Machine). m.state) c.self.view_is)
+
+pub returns-in_err-refine_card-in-Out-clause-tried : goal.returns-in_err-refine_card-in-Out-clause-tried
+returns-in_err-refine_card-in-Out-clause-tried c = err_holds c.from_residual-in_err-refine_card-in-Out.result ((card_read c.self.inside.heap c.self.inside.sets c.self.inside.hot c.self.inside.pending c.self.inside.config c.self.invariant c.refine_card-in-Out.new.heap c.refine_card-in-Out.new.sets c.refine_card-in-Out.new.pending
+    c.in_err-refine_card-in-Out.ensures.read c.in_err-refine_card-in-Out.ensures.err c.in_err-refine_card-in-Out.ensures.as_many).reads ∙ ap (λ (m : Machine). reads_after m.reads m.state.table.layout.slots) c.self.view_is)
+
+-- the card is one of the heap, and does not stand in the ring
+pub would-offer-requires : goal.would-offer-requires
+would-offer-requires c = subst (λ (n : ℕ). c.args.card < n) (sym c.self.invariant.parts.counts) (c.is_dirty-dirty.ensures.within c.if-not-dirty.false)
+
+pub refine_card-requires-clause-card : goal.refine_card-requires-clause-card
+refine_card-requires-clause-card c = c.is_dirty-dirty.ensures.within c.if-not-dirty.false
+
+pub refine_card-requires-in-Out-clause-card : goal.refine_card-requires-in-Out-clause-card
+refine_card-requires-in-Out-clause-card c = out_within c.self.inside.heap c.self.inside.sets c.self.inside.hot c.self.inside.pending c.self.inside.config c.args.self.now c.self.invariant c.self.view_is c.args.card (c.is_dirty-dirty.ensures.dirty.0 c.if-not-dirty.false) c.in-Out.oldest (sym c.would-offer.ensures.answer ∙ c.in-Out.is)
+
+pub set_mark-requires : goal.set_mark-requires
+set_mark-requires c = c.is_dirty-dirty.ensures.within c.if-not-dirty.false
+
+pub set_mark-requires-in-Out : goal.set_mark-requires-in-Out
+set_mark-requires-in-Out c = subst (λ (h : Cells). c.args.card < card_count h.layout) (sym c.in_ok-refine_card-in-Out.ensures.cleaned) (c.is_dirty-dirty.ensures.within c.if-not-dirty.false)
+
+pub offer-requires-clause-within : goal.offer-requires-clause-within
+offer-requires-clause-within c = subst (λ (n : ℕ). c.args.card < n) (sym c.self.invariant.parts.counts) (c.is_dirty-dirty.ensures.within c.if-not-dirty.false)
+
+pub offer-requires-clause-absent : goal.offer-requires-clause-absent
+offer-requires-clause-absent c = apart c.self.inside.heap c.self.inside.sets c.self.inside.hot c.self.inside.pending c.self.inside.config c.args.self.now c.self.invariant c.self.view_is c.args.card (c.is_dirty-dirty.ensures.dirty.0 c.if-not-dirty.false)
+
+pub offer-requires-in-Kept-clause-within : goal.offer-requires-in-Kept-clause-within
+offer-requires-in-Kept-clause-within c = subst (λ (n : ℕ). c.args.card < n) (sym c.self.invariant.parts.counts) (c.is_dirty-dirty.ensures.within c.if-not-dirty.false)
+
+pub offer-requires-in-Kept-clause-absent : goal.offer-requires-in-Kept-clause-absent
+offer-requires-in-Kept-clause-absent c = apart c.self.inside.heap c.self.inside.sets c.self.inside.hot c.self.inside.pending c.self.inside.config c.args.self.now c.self.invariant c.self.view_is c.args.card (c.is_dirty-dirty.ensures.dirty.0 c.if-not-dirty.false)
+
+pub offer-requires-in-Out-clause-within : goal.offer-requires-in-Out-clause-within
+offer-requires-in-Out-clause-within c = subst (λ (n : ℕ). c.args.card < n) (sym c.self.invariant.parts.counts) (c.is_dirty-dirty.ensures.within c.if-not-dirty.false)
+
+pub offer-requires-in-Out-clause-absent : goal.offer-requires-in-Out-clause-absent
+offer-requires-in-Out-clause-absent c = apart c.self.inside.heap c.self.inside.sets c.self.inside.hot c.self.inside.pending c.self.inside.config c.args.self.now c.self.invariant c.self.view_is c.args.card (c.is_dirty-dirty.ensures.dirty.0 c.if-not-dirty.false)
