@@ -1,5 +1,5 @@
 -- A drain, whole and short, is a step of the plain table.
-use Rattle.std.proofs.Common.{◌≡◌, inl, ℕ, ◌+◌, false, List, [], ◌++◌, length, refl, sym, ap, ◌∙◌, subst, arith}
+use Rattle.std.proofs.Common.{◌≡◌, inl, ℕ, ◌<◌, ◌+◌, false, List, [], ◌++◌, length, refl, sym, ap, ◌∙◌, subst, arith}
 use Rattle.std.specs.Prelude.{◌&&◌, Contains, not}
 use Rattle.std.specs.FinSet as set
 use Rattle.std.specs.Ordering.{nat_cmp}
@@ -7,14 +7,16 @@ use Rattle.std.proofs.lemmas.Bool.{true≢false}
 use Rattle.std.proofs.lemmas.List.{append-nil, length-append}
 use Rattle.g1_layout.specs.Shape.{Shape, IsShape}
 use Rattle.g1_layout.specs.Sets.{set_of}
-use Rattle.g1_hot.specs.Ring.{Ring}
+use Rattle.g1_hot.specs.Ring.{Ring, reset}
 use Rattle.g1_core.specs.declared.entry.Entry.{Entry}
+use Rattle.g1_core.specs.declared.reply.Drained.TheVariants as answers
 use Rattle.g1_core.specs.Run.{IsStep}
+use Rattle.g1_core.specs.Calls.{drain_entry}
 use Rattle.g1_core.proofs.RunLemmas.{HasSlots, has_slots, step_covered}
-use Rattle.g1_core.specs.Table.{Table, IsCovered}
+use Rattle.g1_core.specs.Table.{Table, AreMembers, IsCovered, refined}
 use Rattle.g1_core.specs.Machine.{Machine}
 use Rattle.g1_core.specs.Turns.{is_dirty}
-use Rattle.g1_core.specs.Pause.{AreDirtyBelow, Drains, IsDirtyDrained, IsDirtyStopped, IsRingDrained, IsShortDrain, IsAllDrained}
+use Rattle.g1_core.specs.Pause.{AreDirtyBelow, Drains, IsDirtyDrained, IsDirtyStopped, IsRingDrained, IsDrainOrder, IsDrainOf, IsShortDrain, IsWholeDrain, IsAllDrained, reset_machine, with_cards}
 use Rattle.g1_core.proofs.SetLemmas.{same_cards}
 use Rattle.g1_core.proofs.TableLemmas.{refined_pending}
 use Rattle.g1_core.proofs.TurnLemmas.{to_dirty}
@@ -66,3 +68,39 @@ module _ (a b : Machine) (xs : List ℕ) (n : ℕ) (h : IsRingDrained a xs n b) 
 -- a step keeps cover
 pub step_keeps_cover : (l : Shape) (old new : Table) (e : Entry) → l ≡ old.layout → IsShape l → IsCovered old → IsStep old e new → IsCovered new
 step_keeps_cover l old new e same shape cover step = subst IsCovered (sym step.after) (step_covered old e (subst HasSlots same (has_slots l shape)) step.allowed cover)
+
+-- a drain after which the set's list is refused is a short one
+pub drained_short : (old mid : Machine) (cards : List ℕ) → IsAllDrained old cards mid → IsShortDrain old cards mid
+drained_short old mid cards all = record { order = subst (IsDrainOrder old.state cards) (sym all.left) all.order; tried = length cards; each = omega arith; most = omega arith; drains = all.drains }
+
+-- what the pause answers, with the cards as the reply lists them
+module _ (old : Machine) (region : ℕ) (within : region < old.state.table.layout.regions) (cards listed : List ℕ) (same : listed ≡ cards) where
+  module _ (new : Machine) (short : IsShortDrain old cards new) where
+    pub short_drain : IsShortDrain old listed new
+    short_drain = subst (λ (cs : List ℕ). IsShortDrain old cs new) (sym same) short
+
+    pub short_drain_step : (caller : ℕ) → IsStep old.state.table (drain_entry caller region (answers.Short listed)) new.state.table
+    short_drain_step caller = subst (λ (cs : List ℕ). IsStep old.state.table (drain_entry caller region (answers.Short cs)) new.state.table) (sym same)
+        (record { allowed = record { numbers = within; refines = short.drains.refines; answers = tt }; after = short.drains.table })
+
+  module _ (mid : Machine) (all : IsAllDrained old cards mid) (new : Machine) (after : new ≡ reset_machine mid) (members : List ℕ) (are : AreMembers mid.state.table region members) where
+    pub whole_drain : IsDrainOf old region (answers.Cards members listed) new
+    whole_drain =
+        let whole : IsWholeDrain old cards (reset_machine mid) = record {
+          order = all.order;
+          refines = all.drains.refines;
+          table = all.drains.table;
+          nothing = all.nothing;
+          ring = ap reset (all.drains.ring ∙ ap (with_cards old.state.ring) all.left);
+          settings = all.drains.settings;
+          reads = all.drains.reads;
+        } in
+        subst (λ (m : Machine). IsDrainOf old region (answers.Cards members listed) m) (sym after) (subst (λ (cs : List ℕ). IsWholeDrain old cs (reset_machine mid)) (sym same) whole, are)
+
+    pub whole_drain_step : (caller : ℕ) → IsStep old.state.table (drain_entry caller region (answers.Cards members listed)) new.state.table
+    whole_drain_step caller =
+        let table : mid.state.table ≡ refined cards old.state.table = all.drains.table in
+        subst (λ (cs : List ℕ). IsStep old.state.table (drain_entry caller region (answers.Cards members cs)) new.state.table) (sym same) (record {
+          allowed = record { numbers = within; refines = all.drains.refines; answers = (ap (λ (t : Table). t.pending) (sym table) ∙ all.nothing, subst (λ (t : Table). AreMembers t region members) table are) };
+          after = ap (λ (m : Machine). m.state.table) after ∙ table;
+        })
