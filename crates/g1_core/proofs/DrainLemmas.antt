@@ -1,5 +1,5 @@
 -- A drain, whole and short, is a step of the plain table.
-use Rattle.std.proofs.Common.{◌≡◌, inl, ℕ, ◌<◌, ◌+◌, false, List, [], ◌++◌, length, refl, sym, ap, ◌∙◌, subst, arith}
+use Rattle.std.proofs.Common.{◌≡◌, inl, inr, ℕ, ◌<◌, ◌+◌, false, List, [], ◌++◌, length, refl, sym, ap, ◌∙◌, subst, arith}
 use Rattle.std.specs.Prelude.{◌&&◌, Contains, not}
 use Rattle.std.specs.FinSet as set
 use Rattle.std.specs.Ordering.{nat_cmp}
@@ -20,7 +20,7 @@ use Rattle.g1_core.specs.Pause.{AreDirtyBelow, Drains, IsDirtyDrained, IsDirtySt
 use Rattle.g1_core.proofs.SetLemmas.{same_cards}
 use Rattle.g1_core.proofs.TableLemmas.{refined_pending}
 use Rattle.g1_core.proofs.TurnLemmas.{to_dirty}
-use Rattle.g1_core.proofs.DrainLoopLemmas.{drains_both, and_true}
+use Rattle.g1_core.proofs.DrainLoopLemmas.{drains_both, none_below, and_true}
 
 -- the dirty cards are the same once the ring is drained
 module _ (a b : Machine) (xs : List ℕ) (n : ℕ) (h : IsRingDrained a xs n b) (left : b.state.ring.cards ≡ []) where
@@ -69,7 +69,16 @@ module _ (a b : Machine) (xs : List ℕ) (n : ℕ) (h : IsRingDrained a xs n b) 
 pub step_keeps_cover : (l : Shape) (old new : Table) (e : Entry) → l ≡ old.layout → IsShape l → IsCovered old → IsStep old e new → IsCovered new
 step_keeps_cover l old new e same shape cover step = subst IsCovered (sym step.after) (step_covered old e (subst HasSlots same (has_slots l shape)) step.allowed cover)
 
--- a drain after which the set's list is refused is a short one
+-- a drain that stops in the ring is short, and so is a whole one after which the set's list is refused
+pub short_ring : (old new : Machine) (cards : List ℕ) → IsRingDrained old cards (length cards + 1) new → IsShortDrain old cards new
+short_ring old new cards h = record {
+  order = record { held = cards; dirty = []; bound = 0; parts = sym (append-nil cards); ring = h.order; below = none_below old.state; turn = inr refl };
+  tried = length cards + 1;
+  each = omega arith;
+  most = omega arith;
+  drains = h.drains;
+}
+
 pub drained_short : (old mid : Machine) (cards : List ℕ) → IsAllDrained old cards mid → IsShortDrain old cards mid
 drained_short old mid cards all = record { order = subst (IsDrainOrder old.state cards) (sym all.left) all.order; tried = length cards; each = omega arith; most = omega arith; drains = all.drains }
 
