@@ -1,9 +1,10 @@
 use Rattle.std.proofs.Common.{◌≡◌, sym, subst, true}
 use Rattle.g1_core.specs.Machine.{Machine, machine_from}
 use Rattle.g1_core.specs.Turns.{is_dirty}
-use Rattle.g1_core.specs.Pause.{IsCardDrained}
+use Rattle.g1_core.specs.Pause.{IsCardDrained, IsCardRead}
 use Rattle.g1_core.proofs.PartLemmas.{mark_dirty}
-use Rattle.g1_core.proofs.DrainCardLemmas.{IsDrainedTo, card_drained, dirty_inside}
+use Rattle.g1_core.proofs.DrainCardLemmas.{IsDrainedTo, card_drained, dirty_inside, read_core, card_read}
+use Rattle.g1_core.proofs.ReferenceLemmas.{err_holds}
 use Rattle.g1_core.proofs.machinery.Core.drain_card.Goals as goal
 
 pub refine_card-requires-clause-card : goal.refine_card-requires-clause-card
@@ -27,3 +28,13 @@ returns-clause-ok c =
     c.in_ok-refine_card.ensures.cleaned c.in_ok-refine_card.ensures.pairs c.in_ok-refine_card.ensures.layout c.in_ok-refine_card.ensures.less
     (mark_dirty c.self.inside.heap c.self.inside.sets.pairs c.self.inside.hot c.self.inside.pending c.self.invariant.parts c.args.card (subst (λ (m : Machine). is_dirty m.state c.args.card ≡ true) (sym c.self.view_is) c.requires)) in
     subst (λ (m : Machine). IsCardDrained m c.args.card m.state.ring (machine_from c.refine_card.new.heap c.refine_card.new.sets.pairs c.self.inside.hot c.self.inside.config)) c.self.view_is t.drained
+
+-- a refused record has only read the card
+pub invariant_of-self : goal.invariant_of-self
+invariant_of-self c = read_core c.self.inside.heap c.self.inside.sets c.self.inside.hot c.self.inside.pending c.self.inside.config c.self.invariant c.refine_card.new.heap c.refine_card.new.sets c.refine_card.new.pending
+    c.in_err-refine_card.ensures.read c.in_err-refine_card.ensures.err c.in_err-refine_card.ensures.as_many
+
+pub returns-in_err-refine_card-clause-err : goal.returns-in_err-refine_card-clause-err
+returns-in_err-refine_card-clause-err c = err_holds c.from_residual.result (subst (λ (m : Machine). IsCardRead m (machine_from c.refine_card.new.heap c.refine_card.new.sets.pairs c.self.inside.hot c.self.inside.config)) c.self.view_is
+    (card_read c.self.inside.heap c.self.inside.sets c.self.inside.hot c.self.inside.pending c.self.inside.config c.self.invariant c.refine_card.new.heap c.refine_card.new.sets c.refine_card.new.pending
+    c.in_err-refine_card.ensures.read c.in_err-refine_card.ensures.err c.in_err-refine_card.ensures.as_many))

@@ -1,5 +1,7 @@
-use Rattle.std.proofs.Common.{sym, refl, inl, inr, true, false}
+use Rattle.std.proofs.Common.{ℕ, ◌<◌, sym, refl, ap, ◌∙◌, subst, inl, inr, true, false}
+use Rattle.g1_layout.specs.Shape.{Shape, slot_count, card_count}
 use Rattle.g1_heap.specs.declared.mark.Mark.TheVariants.{Clean, Dirty, Held}
+use Rattle.g1_core.specs.Machine.{Machine}
 use Rattle.g1_core.proofs.MarkLemmas.{held_clean, dirty_clean}
 use Rattle.g1_core.proofs.StoreLemmas.{kind_at}
 use Rattle.g1_core.proofs.machinery.Core.kind.Goals as goal
@@ -15,3 +17,13 @@ returns-in-Dirty c = sym (kind_at c.self.inside.heap c.self.inside.sets.pairs c.
 pub returns-in-Held : goal.returns-in-Held
 returns-in-Held c = sym (kind_at c.self.inside.heap c.self.inside.sets.pairs c.self.inside.hot c.self.inside.config c.args.self.now c.self.view_is c.layout-layout.result c.args.slot c.in-Some.place _ _ c.card_of.result _ Held true
     c.layout-layout.ensures.layout c.in-Some.is c.if-eq.ensures c.region_of.ensures.quotient c.region_of-2.ensures.quotient c.card_of.ensures.quotient c.in-Held.ensures (λ e. absurd (held_clean Held refl e)) (λ ne. refl) (inr (held_clean Held refl)))
+
+-- what is asked of the layout, which is the machine's
+pub region_of-requires : goal.region_of-requires
+region_of-requires c = subst (λ (l : Shape). c.args.slot < slot_count l) (sym (c.layout-layout.ensures.layout ∙ ap (λ (m : Machine). m.state.table.layout) c.self.view_is)) c.requires.slot
+
+pub card_of-requires : goal.card_of-requires
+card_of-requires c = subst (λ (l : Shape). c.args.slot < slot_count l) (sym (c.layout-layout.ensures.layout ∙ ap (λ (m : Machine). m.state.table.layout) c.self.view_is)) c.requires.slot
+
+pub mark-requires : goal.mark-requires
+mark-requires c = subst (λ (l : Shape). c.card_of.result < card_count l) c.layout-layout.ensures.layout c.card_of.ensures.within
