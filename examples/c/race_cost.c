@@ -61,17 +61,23 @@ __attribute__((noinline)) static unsigned exchanges(struct seat *seat, uint32_t 
     return sum == UINT64_MAX && expected == 0;
 }
 
+// Looks at a store that was not answered as expected: where the log was full, takes it and stores again.
+__attribute__((noinline)) static unsigned is_wrong(struct g1_member *racer, uint32_t slot, uint32_t target, uint32_t kind, uint32_t expected) {
+    uint32_t cards[G1_LOG], count;
+    if (kind != G1_LOG_FULL || g1_race_take_log(racer, cards, G1_LOG, &count) != G1_DONE) {
+        return 1;
+    }
+    return g1_race_store(racer, slot, target) != expected;
+}
+
 __attribute__((noinline)) static unsigned race(struct seat *seat, uint32_t expected) {
     struct g1_member racer = seat->racer;
-    uint32_t cards[G1_LOG], count;
     unsigned wrong = 0;
     for (size_t i = 0; i < STORES; i++) {
         uint32_t kind = g1_race_store(&racer, seat->slots[i], seat->targets[i]);
-        if (kind == G1_LOG_FULL) {
-            wrong += g1_race_take_log(&racer, cards, G1_LOG, &count) != G1_DONE;
-            kind = g1_race_store(&racer, seat->slots[i], seat->targets[i]);
+        if (kind != expected) {
+            wrong += is_wrong(&racer, seat->slots[i], seat->targets[i], kind, expected);
         }
-        wrong += kind != expected;
     }
     seat->racer = racer;
     return wrong;

@@ -3,6 +3,7 @@ use Rattle.std.proofs.Common.{◌≡◌, ◌≢◌, ℕ, ◌+◌, ◌-◌, ◌/�
 use Rattle.atomic_table.specs.Table.{State, Me, Allows}
 use Rattle.atomic_table.specs.Seated.{TableId}
 use Rattle.atomic_table.specs.declared.shared.Seat.{Seat}
+use Rattle.g1_layout.specs.Shape.{slot_count}
 use Rattle.g1_race.specs.declared.view.Shape.{Shape}
 use Rattle.g1_race.specs.declared.view.View.{View}
 use Rattle.g1_race.specs.declared.race.Race.{Race}
@@ -70,20 +71,27 @@ races_after z k r q p n b old table hands view = record {
 -- what the steps of a store owe, in a race
 
 module _ (race : Race) (id : ℕ) (me : Me (Unit {0}) View) where
-  pub write_owed : (p n : ℕ) → Idle race.shape me.0 → ((h : History) × (me.0.histories ≡ h ∷ [])) → p < race.shape.slots → n ≤ race.shape.slots
-      → Allows (λ (s : State (Unit {0}) View). Raced race.table.shared.key s.words s.views) race.table.shared.table_id.slots id me p (λ _. n) (λ _ after. after ≡ (wrote me.0 p n, me.1))
-  write_owed p n idle one lt fits = subst (λ (begun : Begun). Allows (λ (s : State (Unit {0}) View). Raced begun s.words s.views) race.table.shared.table_id.slots id me p (λ _. n) (λ _ after. after ≡ (wrote me.0 p n, me.1)))
-      (sym race.key_is) (allows_write (race_begun race) race.table.shared.table_id.slots id p n me one.0 (record { shape = idle.shape; weight = idle.weight }) idle.rest.0 one.1 lt fits)
+  pub write_owed : (p n : ℕ) → Idle race.shape me.0 → ((h : History) × (me.0.histories ≡ h ∷ [])) → p < slot_count race.layout → n ≤ slot_count race.layout
+      → (p < race.table.shared.table_id.words) × Allows (λ (s : State (Unit {0}) View). Raced race.table.shared.key s.words s.views) race.table.shared.table_id.slots id me p (λ _. n) (λ _ after. after ≡ (wrote me.0 p n, me.1))
+  write_owed p n idle one lt fits =
+      let slots : race.shape.slots ≡ slot_count race.layout = ap (λ (k : Shape). k.slots) race.laid in
+      let below : p < race.shape.slots = omega (arith, lt, slots) in (
+        omega (arith, race.words_are, below),
+        subst (λ (begun : Begun). Allows (λ (s : State (Unit {0}) View). Raced begun s.words s.views) race.table.shared.table_id.slots id me p (λ _. n) (λ _ after. after ≡ (wrote me.0 p n, me.1)))
+            (sym race.key_is) (allows_write (race_begun race) race.table.shared.table_id.slots id p n me one.0 (record { shape = idle.shape; weight = idle.weight }) idle.rest.0 one.1 below (omega (arith, fits, slots))),
+      )
 
-  pub look_owed : (c : ℕ) → Sits race.shape me.0 → me.0.owed ≡ Some c → c < race.shape.cards
-      → Allows (λ (s : State (Unit {0}) View). Raced race.table.shared.key s.words s.views) race.table.shared.table_id.slots id me (race.shape.slots + c) (λ n. n) (λ n after. after ≡ (looked me.0 n, me.1))
-  look_owed c sits owes lt = subst (λ (begun : Begun). Allows (λ (s : State (Unit {0}) View). Raced begun s.words s.views) race.table.shared.table_id.slots id me (race.shape.slots + c) (λ n. n) (λ n after. after ≡ (looked me.0 n, me.1)))
-      (sym race.key_is) (allows_look (race_begun race) race.table.shared.table_id.slots id c me sits owes lt)
+  pub look_owed : (c m : ℕ) → race.shape.slots ≡ m → Sits race.shape me.0 → me.0.owed ≡ Some c → c < race.shape.cards
+      → Allows (λ (s : State (Unit {0}) View). Raced race.table.shared.key s.words s.views) race.table.shared.table_id.slots id me (m + c) (λ n. n) (λ n after. after ≡ (looked me.0 n, me.1))
+  look_owed c m e sits owes lt = subst (λ (first : ℕ). Allows (λ (s : State (Unit {0}) View). Raced race.table.shared.key s.words s.views) race.table.shared.table_id.slots id me (first + c) (λ n. n) (λ n after. after ≡ (looked me.0 n, me.1))) e
+      (subst (λ (begun : Begun). Allows (λ (s : State (Unit {0}) View). Raced begun s.words s.views) race.table.shared.table_id.slots id me (race.shape.slots + c) (λ n. n) (λ n after. after ≡ (looked me.0 n, me.1)))
+      (sym race.key_is) (allows_look (race_begun race) race.table.shared.table_id.slots id c me sits owes lt))
 
-  pub dirty_owed : (c : ℕ) → Sits race.shape me.0 → me.0.owed ≡ Some c → c < race.shape.cards
-      → Allows (λ (s : State (Unit {0}) View). Raced race.table.shared.key s.words s.views) race.table.shared.table_id.slots id me (race.shape.slots + c) (λ _. 1) (λ n after. after ≡ (dirtied me.0 (race.shape.slots + c - me.0.shape.slots) n, me.1))
-  dirty_owed c sits owes lt = subst (λ (begun : Begun). Allows (λ (s : State (Unit {0}) View). Raced begun s.words s.views) race.table.shared.table_id.slots id me (race.shape.slots + c) (λ _. 1) (λ n after. after ≡ (dirtied me.0 (race.shape.slots + c - me.0.shape.slots) n, me.1)))
-      (sym race.key_is) (allows_dirty (race_begun race) race.table.shared.table_id.slots id c me sits owes lt)
+  pub dirty_owed : (c m : ℕ) → race.shape.slots ≡ m → Sits race.shape me.0 → me.0.owed ≡ Some c → c < race.shape.cards
+      → Allows (λ (s : State (Unit {0}) View). Raced race.table.shared.key s.words s.views) race.table.shared.table_id.slots id me (m + c) (λ _. 1) (λ n after. after ≡ (dirtied me.0 (m + c - me.0.shape.slots) n, me.1))
+  dirty_owed c m e sits owes lt = subst (λ (first : ℕ). Allows (λ (s : State (Unit {0}) View). Raced race.table.shared.key s.words s.views) race.table.shared.table_id.slots id me (first + c) (λ _. 1) (λ n after. after ≡ (dirtied me.0 (first + c - me.0.shape.slots) n, me.1))) e
+      (subst (λ (begun : Begun). Allows (λ (s : State (Unit {0}) View). Raced begun s.words s.views) race.table.shared.table_id.slots id me (race.shape.slots + c) (λ _. 1) (λ n after. after ≡ (dirtied me.0 (race.shape.slots + c - me.0.shape.slots) n, me.1)))
+      (sym race.key_is) (allows_dirty (race_begun race) race.table.shared.table_id.slots id c me sits owes lt))
 
   pub clean_owed : (c : ℕ) → Idle race.shape me.0 → c < race.shape.cards
       → Allows (λ (s : State (Unit {0}) View). Raced race.table.shared.key s.words s.views) race.table.shared.table_id.slots id me (race.shape.slots + c) (λ _. 0) (λ n after. after ≡ (cleaned me.0 (race.shape.slots + c - me.0.shape.slots) n, me.1))
