@@ -4,7 +4,8 @@ use crate::steps::Step::{Drain, Members, Pending, Refine, Status, Store, Target}
 use crate::steps::play;
 use g1_core::Fill::{Full, No};
 use g1_core::Kind::{AlreadyDirty, Logged, Null, SameRegion};
-use g1_core::{Config, Core, Layout, Log};
+use g1_core::{Config, Core, Kind, Layout, Log};
+use std::process::Abort;
 use std::test::Fail;
 
 #[test]
@@ -22,6 +23,21 @@ fn the_barrier_has_four_kinds_of_store(rt: HostRuntime) -> Result<(), Fail> {
     play(&rt, rt.alloc(), 4, 4, &steps)
 }
 
+/// Stores into a log that has room, which is answered the kind and no buffer.
+fn store_with_room(
+    rt: &impl Abort,
+    core: &mut Core,
+    log: &mut Log,
+    (from, to): (u32, u32),
+    kind: Kind,
+) {
+    assert!(rt; log.has_room());
+    let from = slot(rt, core, from);
+    let to = slot(rt, core, to);
+    let reply = core.store_with_room(log, from, Some(to));
+    assert_eq!(rt; (reply.kind, reply.fill), (kind, No));
+}
+
 // The third card would fill the log.
 #[test]
 fn a_log_of_three_has_room_for_two_cards(rt: HostRuntime) -> Result<(), Fail> {
@@ -35,11 +51,7 @@ fn a_log_of_three_has_room_for_two_cards(rt: HostRuntime) -> Result<(), Fail> {
         (4, 5, SameRegion),
         (4, 8, Logged),
     ] {
-        assert!(rt; log.has_room());
-        let from = slot(&rt, &core, from);
-        let to = slot(&rt, &core, to);
-        let reply = core.store_with_room(&mut log, from, Some(to));
-        assert_eq!(rt; (reply.kind, reply.fill), (kind, No));
+        store_with_room(&rt, &mut core, &mut log, (from, to), kind);
     }
     assert!(rt; !log.has_room());
     assert!(rt; numbers_of(&rt, log.cards()).as_slice() == [0, 1].as_slice());
