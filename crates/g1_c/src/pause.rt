@@ -1,27 +1,16 @@
 //! The pause.
-ghost use Rattle.std.specs.Prelude.{◌≡◌, ◌<◌, ◌≤◌, take, IfOk, OnErr};
+ghost use Rattle.std.specs.Prelude.{◌≡◌, ◌<◌, take};
 ghost use Rattle.g1_core.specs.Table.{IsCovered};
-ghost use Rattle.g1_c.specs.Codes.{Between};
-ghost use Rattle.g1_c.specs.Replies.{DrainsTo, IsDrain, FitsIn};
+ghost use Rattle.g1_handles.specs.Codes.{Between};
+ghost use Rattle.g1_handles.specs.Replies.{DrainsTo};
 
-use crate::code::{DONE, LONG, Refusal, SHORT};
-use crate::handle::Handle;
-use crate::list::{fits, put};
 use core::mem::replace_with;
-use g1_core::{CardList, Core, Drained};
-use raw_box::RawBox;
+use g1_core::Drained;
+use g1_handles::code::{DONE, LONG, SHORT};
+use g1_handles::handle::Handle;
+use g1_handles::list::put;
+use g1_handles::pause::{Drain, drain_in};
 use std::alloc::Global;
-
-/// What a drain gives to C.
-#[derive(Drop)]
-pub enum Drain {
-    /// Nothing is pending: the set of the region, and which cards were refined.
-    Whole(CardList, CardList),
-    /// A growth was refused after just these cards were refined.
-    Short(CardList),
-    /// A list is longer than its array. The array has room for every card of the heap, but no clause rules this out.
-    Long,
-}
 
 /// Refines all that is pending and answers the remembered set of a region: its cards, ascending, stand first in `cards`, and those
 /// that were refined, in order, in `refined`. Each array has room for every card of the heap.
@@ -61,54 +50,6 @@ pub extern "C" fn g1_drain(
             put(list.as_slice(), refined);
             *refined_count = list.len() as u32;
             DONE
-        }
-    }
-}
-
-fn drain_in(handle: Handle, words: (Global, u32, usize, usize)) -> (Handle, Result<Drain, Refusal>)
-    ensures drained { IfOk result.1 (λ answer. Between handle.value result.0.value (λ old new. IsDrain old words.1 answer new)) }
-    ensures room { IfOk result.1 (λ answer. FitsIn words.2 words.3 answer) }
-    ensures refused { OnErr result.1 (result.0.value ≡ handle.value) }
-{
-    let Some(core) = handle.into_raw_box() else {
-        return (Handle::closed(words.0), Err(Refusal::NotOpen));
-    };
-    let mut core = core.into_box();
-    let answer = drain_one(&mut core, words.1, words.2, words.3);
-    (Handle::of(RawBox::of(core)), answer)
-}
-
-fn drain_one(
-    core: &mut Core,
-    region: u32,
-    room: usize,
-    refined_room: usize,
-) -> Result<Drain, Refusal>
-    ensures drained { IfOk result (λ answer. IsDrain core.old region answer core.new) }
-    ensures room { IfOk result (λ answer. FitsIn room refined_room answer) }
-    ensures refused { OnErr result (core.new ≡ core.old) }
-{
-    let layout = core.layout();
-    let Some(region) = layout.region(region) else {
-        return Err(Refusal::NoRegion);
-    };
-    let most = layout.card_count() as usize;
-    if room < most || refined_room < most {
-        return Err(Refusal::NoRoom);
-    }
-    match core.drain(region) {
-        Err(_) => Err(Refusal::NoMemory),
-        Ok(Drained::Short { refined }) => {
-            if !fits(&refined, refined_room) {
-                return Ok(Drain::Long);
-            }
-            Ok(Drain::Short(refined))
-        }
-        Ok(Drained::Cards { cards, refined }) => {
-            if !fits(&cards, room) || !fits(&refined, refined_room) {
-                return Ok(Drain::Long);
-            }
-            Ok(Drain::Whole(cards, refined))
         }
     }
 }

@@ -1,16 +1,13 @@
 //! A race that is over becomes a core.
-ghost use Rattle.std.specs.Prelude.{◌≡◌, ◌<◌, None, Some, IsSome, IfOk, OnErr};
+ghost use Rattle.std.specs.Prelude.{◌≡◌, ◌<◌, None, Some, IsSome};
 ghost use Rattle.g1_race.specs.Over.{core_of};
-ghost use Rattle.g1_c.specs.Codes.{settings_of};
-ghost use Rattle.g1_c.specs.Racing.{OfOver};
+ghost use Rattle.g1_handles.specs.Codes.{settings_of};
+ghost use Rattle.g1_handles.specs.Racing.{OfOver};
 
-use crate::calls::{config, open_in};
-use crate::code::{DONE, Refusal};
-use crate::handle::Handle;
-use crate::over_handle::{OverHandle, Remains};
 use core::mem::replace_with;
-use g1_core::Core;
-use raw_box::RawBox;
+use g1_handles::handle::Handle;
+use g1_handles::over_handle::OverHandle;
+use g1_handles::race_core::{close_in, open_core};
 use std::alloc::Global;
 
 /// Opens a closed handle on what a race left: each slot refers to what it referred to when the race ended, the cards that were dirty
@@ -27,43 +24,7 @@ pub extern "C" fn g1_race_core(
     ensures closed { result ≡ 0 → (handle.old.value ≡ None) × (over.new.value ≡ None) }
     ensures refused { 0 < result → (handle.new.value ≡ handle.old.value) × (over.new.value ≡ over.old.value) }
 {
-    match replace_with(over, (alloc, hot, ring), core_in) {
-        Err(refusal) => refusal.word(),
-        Ok(core) => {
-            let word = replace_with(handle, core, open_in);
-            if word == DONE {
-                replace_with(over, alloc, close_in);
-            }
-            word
-        }
-    }
-}
-
-/// A core of what is left, which stays.
-fn core_in(over: OverHandle, words: (Global, u32, u32)) -> (OverHandle, Result<Box<Core>, Refusal>)
-    ensures core { IfOk result.1 (λ core. OfOver over.value (λ e. core.value ≡ core_of e (settings_of words.1 words.2))) }
-    ensures same { result.0.value ≡ over.value }
-{
-    let Some(remains) = over.into_raw_box() else {
-        return (OverHandle::closed(words.0), Err(Refusal::NotOpen));
-    };
-    let remains = remains.into_box();
-    let core = core_of(words.0, &remains, words.1, words.2);
-    (OverHandle::of(RawBox::of(remains)), core)
-}
-
-fn core_of(alloc: Global, remains: &Remains, hot: u32, ring: u32) -> Result<Box<Core>, Refusal>
-    ensures { IfOk result (λ core. OfOver (Some remains.now) (λ e. core.value ≡ core_of e (settings_of hot ring))) }
-{
-    let Remains::Over(closed) = remains else {
-        return Err(Refusal::NotOpen);
-    };
-    let Some(config) = config(hot, ring) else {
-        return Err(Refusal::BadSettings);
-    };
-    let core = closed.to_core(alloc, config)?;
-    let core = Box::new(alloc, core)?;
-    Ok(core)
+    open_core(alloc, over, handle, hot, ring)
 }
 
 /// Closes the handle of a race that is over, and gives back all memory that it held. The race is gone.
@@ -74,16 +35,4 @@ pub extern "C" fn g1_over_close(alloc: Global, over: &mut OverHandle) -> u32
     ensures refused { 0 < result → over.old.value ≡ None }
 {
     replace_with(over, alloc, close_in)
-}
-
-fn close_in(over: OverHandle, alloc: Global) -> (OverHandle, u32)
-    ensures closed { result.0.value ≡ None }
-    ensures done { IsSome over.value → result.1 ≡ 0 }
-    ensures refused { 0 < result.1 → over.value ≡ None }
-{
-    let Some(remains) = over.into_raw_box() else {
-        return (OverHandle::closed(alloc), Refusal::NotOpen.word());
-    };
-    let _remains = remains.into_box();
-    (OverHandle::closed(alloc), DONE)
 }

@@ -1,19 +1,13 @@
 //! The log of a racer.
-ghost use Rattle.std.specs.Prelude.{◌≡◌, ◌<◌, ◌≤◌, length, take, Some, IfOk, IfErr, IsOk, OnErr};
-ghost use Rattle.g1_c.specs.Racing.{OfRacer, IfRacer, TakesLog};
+ghost use Rattle.std.specs.Prelude.{◌≡◌, ◌<◌, ◌≤◌, length, take};
+ghost use Rattle.g1_handles.specs.Racing.{OfRacer, IfRacer, TakesLog};
 
-use crate::code::{DONE, OTHER_ROLE, Refusal};
-use crate::list::put;
-use crate::member::Member;
-use crate::member_handle::MemberHandle;
-use arrayvec::ArrayVec;
 use core::mem::replace_with;
-use g1_layout::Card;
-use raw_box::RawBox;
+use g1_handles::code::{DONE, Refusal};
+use g1_handles::list::put;
+use g1_handles::member_handle::MemberHandle;
+use g1_handles::race_log::{LOG, take_in};
 use std::alloc::Global;
-
-/// How many cards a racer's log has room for.
-const LOG: usize = 256;
 
 /// Takes the cards that a racer has logged, oldest first: they stand first in `cards`, which has room for 256, and the log is empty.
 /// They stay dirty until a sweeper of the race refines them, or a drain after it.
@@ -41,30 +35,4 @@ pub extern "C" fn g1_race_take_log(
             DONE
         }
     }
-}
-
-fn take_in(member: MemberHandle, alloc: Global) -> (MemberHandle, Result<ArrayVec<Card, LOG>, u32>)
-    ensures log { IfOk result.1 (λ log. OfRacer member.value (λ a. OfRacer result.0.value (λ b. TakesLog a log.items b))) }
-    ensures taken { IfRacer member.value (λ a. IsOk result.1) }
-    ensures word { IfErr result.1 (λ word. 0 < word) }
-    ensures refused { OnErr result.1 (result.0.value ≡ member.value) }
-{
-    let Some(member) = member.into_raw_box() else {
-        return (MemberHandle::closed(alloc), Err(Refusal::NotOpen.word()));
-    };
-    let mut member = member.into_box();
-    let log = take_of(&mut member);
-    (MemberHandle::of(RawBox::of(member)), log)
-}
-
-fn take_of(member: &mut Member) -> Result<ArrayVec<Card, LOG>, u32>
-    ensures log { IfOk result (λ log. OfRacer (Some member.old) (λ a. OfRacer (Some member.new) (λ b. TakesLog a log.items b))) }
-    ensures taken { IfRacer (Some member.old) (λ a. IsOk result) }
-    ensures word { IfErr result (λ word. 0 < word) }
-    ensures refused { OnErr result (member.new ≡ member.old) }
-{
-    let Member::Racer(racing) = member else {
-        return Err(OTHER_ROLE);
-    };
-    Ok(racing.racer.take_log())
 }

@@ -2,15 +2,12 @@
 ghost use Rattle.std.specs.Prelude.{◌≡◌, ◌<◌, None, IsSome};
 ghost use Rattle.g1_layout.specs.Shape.{Shape};
 ghost use Rattle.g1_core.specs.Table.{opening};
-ghost use Rattle.g1_c.specs.Racing.{held, AreClosed, IsBegunFor};
+ghost use Rattle.g1_handles.specs.Racing.{held, AreClosed, IsBegunFor};
 
-use crate::calls::Counts;
-use crate::code::{BAD_MEMBERS, DONE, Refusal};
-use crate::member_handle::MemberHandle;
-use crate::seats::{are_closed, are_counts, seat};
 use core::mem::replace_with;
-use g1_layout::Layout;
-use g1_race::Race;
+use g1_handles::calls::Counts;
+use g1_handles::member_handle::MemberHandle;
+use g1_handles::race_open::{close_in, open_race};
 use std::alloc::Global;
 
 /// Opens a race over a heap whose slots are all null and whose cards are all clean, for as many racers (1 to 8) and sweepers (1 to 4)
@@ -26,27 +23,7 @@ pub extern "C" fn g1_race_open(
     ensures closed { result ≡ 0 → AreClosed (held racers.old) × AreClosed (held sweepers.old) }
     ensures refused { 0 < result → (held racers.new ≡ held racers.old) × (held sweepers.new ≡ held sweepers.old) }
 {
-    if !are_counts(racers.len(), sweepers.len()) {
-        return BAD_MEMBERS;
-    }
-    if !are_closed(alloc, racers) || !are_closed(alloc, sweepers) {
-        return Refusal::AlreadyOpen.word();
-    }
-    let Some(layout) = Layout::new(counts.regions, counts.cards, counts.slots) else {
-        return Refusal::BadLayout.word();
-    };
-    let Ok((race, new_racers, new_sweepers)) = Race::open(
-        alloc,
-        layout,
-        racers.len() as u32,
-        sweepers.len() as u32,
-    ) else {
-        return Refusal::NoMemory.word();
-    };
-    match seat(alloc, race, new_racers, new_sweepers, racers, sweepers) {
-        Ok(()) => DONE,
-        Err(refusal) => refusal.word(),
-    }
+    open_race(alloc, counts, racers, sweepers)
 }
 
 /// Closes a member's handle without its race, which then has too few members to be closed: its memory is given back with the last
@@ -58,16 +35,4 @@ pub extern "C" fn g1_member_close(alloc: Global, member: &mut MemberHandle) -> u
     ensures refused { 0 < result → member.old.value ≡ None }
 {
     replace_with(member, alloc, close_in)
-}
-
-fn close_in(member: MemberHandle, alloc: Global) -> (MemberHandle, u32)
-    ensures closed { result.0.value ≡ None }
-    ensures done { IsSome member.value → result.1 ≡ 0 }
-    ensures refused { 0 < result.1 → member.value ≡ None }
-{
-    let Some(member) = member.into_raw_box() else {
-        return (MemberHandle::closed(alloc), Refusal::NotOpen.word());
-    };
-    let _member = member.into_box();
-    (MemberHandle::closed(alloc), DONE)
 }

@@ -1,19 +1,11 @@
 //! A core becomes a race.
-ghost use Rattle.std.specs.Prelude.{◌≡◌, ◌+◌, ◌<◌, ◌≤◌, None, IfOk, OnErr};
-ghost use Rattle.g1_race.specs.Race.{shape_of};
-ghost use Rattle.g1_race.specs.Drain.{began};
-ghost use Rattle.g1_race.specs.Members.{race_layout, race_shape, race_begun, AreFreshRacers, AreFreshSweepers};
-ghost use Rattle.g1_c.specs.Codes.{OfOpen};
-ghost use Rattle.g1_c.specs.Racing.{held, AreClosed, IsBegunFor, IsAsBefore};
+ghost use Rattle.std.specs.Prelude.{◌≡◌, ◌<◌, None};
+ghost use Rattle.g1_handles.specs.Codes.{OfOpen};
+ghost use Rattle.g1_handles.specs.Racing.{held, AreClosed, IsBegunFor, IsAsBefore};
 
-use crate::calls::close_in;
-use crate::code::{BAD_MEMBERS, DONE, Refusal};
-use crate::handle::Handle;
-use crate::member_handle::MemberHandle;
-use crate::seats::{are_closed, are_counts, seat};
-use core::mem::replace_with;
-use g1_race::{Race, Racer, Sweeper};
-use raw_box::RawBox;
+use g1_handles::handle::Handle;
+use g1_handles::member_handle::MemberHandle;
+use g1_handles::race_resume::resume_race;
 use std::alloc::Global;
 
 /// Opens a race that begins with the core of a handle, which is closed, for as many racers (1 to 8) and sweepers (1 to 4) as there are
@@ -30,46 +22,5 @@ pub extern "C" fn g1_race_resume(
     ensures closed { result ≡ 0 → (handle.new.value ≡ None) × AreClosed (held racers.old) × AreClosed (held sweepers.old) }
     ensures refused { 0 < result → IsAsBefore handle.old.value handle.new.value × (held racers.new ≡ held racers.old) × (held sweepers.new ≡ held sweepers.old) }
 {
-    if !are_counts(racers.len(), sweepers.len()) {
-        return BAD_MEMBERS;
-    }
-    if !are_closed(alloc, racers) || !are_closed(alloc, sweepers) {
-        return Refusal::AlreadyOpen.word();
-    }
-    let counts = (alloc, racers.len() as u32, sweepers.len() as u32);
-    match replace_with(handle, counts, begin_in) {
-        Err(refusal) => refusal.word(),
-        Ok((race, new_racers, new_sweepers)) => {
-            match seat(alloc, race, new_racers, new_sweepers, racers, sweepers) {
-                Err(refusal) => refusal.word(),
-                Ok(()) => {
-                    replace_with(handle, alloc, close_in);
-                    DONE
-                }
-            }
-        }
-    }
-}
-
-/// A race that begins with the core, which stays as it is but for its count of reads.
-fn begin_in(
-    handle: Handle,
-    words: (Global, u32, u32),
-) -> (Handle, Result<(Race, Vec<Racer>, Vec<Sweeper>), Refusal>)
-    requires racers { (1 ≤ words.1) × (words.1 ≤ 8) }
-    requires sweepers { (1 ≤ words.2) × (words.2 ≤ 4) }
-    ensures began { IfOk result.1 (λ r. OfOpen handle.value (λ core. began (race_layout r.0) (race_begun r.0) ≡ core.state.table)) }
-    ensures racers { IfOk result.1 (λ r. AreFreshRacers r.0 words.1 r.1) }
-    ensures sweepers { IfOk result.1 (λ r. AreFreshSweepers r.0 words.2 r.2) }
-    ensures same { IsAsBefore handle.value result.0.value }
-{
-    let Some(core) = handle.into_raw_box() else {
-        return (Handle::closed(words.0), Err(Refusal::NotOpen));
-    };
-    let mut core = core.into_box();
-    let begun = match Race::begin_from(words.0, &mut core, words.1, words.2) {
-        Ok(members) => Ok(members),
-        Err(_) => Err(Refusal::NoMemory),
-    };
-    (Handle::of(RawBox::of(core)), begun)
+    resume_race(alloc, handle, racers, sweepers)
 }

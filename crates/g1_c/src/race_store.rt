@@ -1,16 +1,13 @@
 //! Stores of a race.
-ghost use Rattle.std.specs.Prelude.{◌≡◌, ◌<◌, ◌≤◌, Some};
+ghost use Rattle.std.specs.Prelude.{◌≡◌, ◌<◌, ◌≤◌};
 ghost use Rattle.arrayvec.specs.ArrayVec.{array_vec_len};
 ghost use Rattle.g1_race.specs.Members.{race_layout};
-ghost use Rattle.g1_c.specs.Codes.{IsStoreOf};
-ghost use Rattle.g1_c.specs.Racing.{OfRacer, IfRacer, StoresWord, racer_race_of};
+ghost use Rattle.g1_handles.specs.Codes.{IsStoreOf};
+ghost use Rattle.g1_handles.specs.Racing.{OfRacer, IfRacer, StoresWord, racer_race_of};
 
-use crate::code::{LOG_FULL, OTHER_ROLE, Refusal, kind_word};
-use crate::member::{Member, Racing};
-use crate::member_handle::MemberHandle;
-use crate::store::reference;
 use core::mem::replace_with;
-use raw_box::RawBox;
+use g1_handles::member_handle::MemberHandle;
+use g1_handles::race_store::store_in;
 use std::alloc::Global;
 
 /// Stores a reference into a slot, or null, beside whatever the other members of the race do, and answers the kind of store: 0 null,
@@ -28,47 +25,4 @@ pub extern "C" fn g1_race_store(
     ensures refused { 3 < result → member.new.value ≡ member.old.value }
 {
     replace_with(member, (alloc, slot, target), store_in)
-}
-
-fn store_in(member: MemberHandle, words: (Global, u32, u32)) -> (MemberHandle, u32)
-    ensures stored { result.1 ≤ 3 → OfRacer member.value (λ a. OfRacer result.0.value (λ b. StoresWord a words.1 words.2 result.1 b)) }
-    ensures taken { IfRacer member.value (λ a. array_vec_len a.racer.log < 256 → IsStoreOf (race_layout (racer_race_of a)) words.1 words.2 → result.1 ≤ 3) }
-    ensures refused { 3 < result.1 → result.0.value ≡ member.value }
-{
-    let Some(member) = member.into_raw_box() else {
-        return (MemberHandle::closed(words.0), Refusal::NotOpen.word());
-    };
-    let mut member = member.into_box();
-    let code = store_of(&mut member, words.1, words.2);
-    (MemberHandle::of(RawBox::of(member)), code)
-}
-
-fn store_of(member: &mut Member, slot: u32, target: u32) -> u32
-    ensures stored { result ≤ 3 → OfRacer (Some member.old) (λ a. OfRacer (Some member.new) (λ b. StoresWord a slot target result b)) }
-    ensures taken { IfRacer (Some member.old) (λ a. array_vec_len a.racer.log < 256 → IsStoreOf (race_layout (racer_race_of a)) slot target → result ≤ 3) }
-    ensures refused { 3 < result → member.new ≡ member.old }
-{
-    let Member::Racer(racing) = member else {
-        return OTHER_ROLE;
-    };
-    store_by(racing, slot, target)
-}
-
-fn store_by(racing: &mut Racing, slot: u32, target: u32) -> u32
-    ensures stored { result ≤ 3 → StoresWord racing.old slot target result racing.new }
-    ensures taken { array_vec_len racing.old.racer.log < 256 → IsStoreOf (race_layout (racer_race_of racing.old)) slot target → result ≤ 3 }
-    ensures refused { 3 < result → racing.new ≡ racing.old }
-{
-    if !racing.racer.has_room() {
-        return LOG_FULL;
-    }
-    let layout = racing.race.layout();
-    let Some(slot) = layout.slot(slot) else {
-        return Refusal::NoSlot.word();
-    };
-    let Some(target) = reference(layout, target) else {
-        return Refusal::NoSlot.word();
-    };
-    let kind = racing.racer.store(&racing.race, slot, target);
-    kind_word(kind)
 }

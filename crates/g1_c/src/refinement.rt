@@ -1,17 +1,13 @@
 //! Refinement.
-ghost use Rattle.std.specs.Prelude.{◌≡◌, ◌<◌, ◌≤◌, length, take, false, true, if◌then◌else◌, IfOk, OnErr};
-ghost use Rattle.g1_c.specs.Codes.{Between};
-ghost use Rattle.g1_c.specs.Replies.{RefinesTo, reply_of};
+ghost use Rattle.std.specs.Prelude.{◌≡◌, ◌<◌, ◌≤◌, take};
+ghost use Rattle.g1_handles.specs.Codes.{Between};
+ghost use Rattle.g1_handles.specs.Replies.{RefinesTo, reply_of};
 
-use crate::code::{DONE, Refusal, SHORT};
-use crate::handle::Handle;
-use crate::list::put;
-use arrayvec::ArrayVec;
 use core::mem::replace_with;
-use g1_core::{Core, RefineReply};
-use g1_layout::{Card, Layout};
-use g1_log::Buffer;
-use raw_box::RawBox;
+use g1_handles::code::{DONE, Refusal};
+use g1_handles::handle::Handle;
+use g1_handles::list::put;
+use g1_handles::refinement::{refine_in, word_of};
 use std::alloc::Global;
 
 /// What a refinement counted.
@@ -60,59 +56,4 @@ pub extern "C" fn g1_refine(
             word_of(&reply)
         }
     }
-}
-
-/// The word of a reply.
-fn word_of(reply: &RefineReply) -> u32
-    requires taken { reply.now.taken ≡ (if reply.now.short then 0 else 1) }
-    requires left { reply.now.left ≡ 0 }
-    ensures reply { reply.now ≡ reply_of result reply.now.refined reply.now.hot reply.now.skipped }
-    ensures few { result ≤ 3 }
-{
-    if reply.short { SHORT } else { DONE }
-}
-
-fn refine_in(handle: Handle, words: (Global, &[u32])) -> (Handle, Result<RefineReply, Refusal>)
-    ensures refined { IfOk result.1 (λ reply. Between handle.value result.0.value (λ old new. RefinesTo old words.entry.1.now reply new)) }
-    ensures taken { IfOk result.1 (λ reply. (reply.taken ≡ (if reply.short then 0 else 1)) × (reply.left ≡ 0)) }
-    ensures few { IfOk result.1 (λ reply. (length reply.refined ≤ length words.entry.1.now) × (length reply.refined ≤ 256)) }
-    ensures refused { OnErr result.1 (result.0.value ≡ handle.value) }
-{
-    let Some(core) = handle.into_raw_box() else {
-        return (Handle::closed(words.0), Err(Refusal::NotOpen));
-    };
-    let mut core = core.into_box();
-    let answer = refine_one(&mut core, words.1);
-    (Handle::of(RawBox::of(core)), answer)
-}
-
-fn refine_one(core: &mut Core, cards: &[u32]) -> Result<RefineReply, Refusal>
-    ensures refined { IfOk result (λ reply. RefinesTo core.old cards.now reply core.new) }
-    ensures taken { IfOk result (λ reply. (reply.taken ≡ (if reply.short then 0 else 1)) × (reply.left ≡ 0)) }
-    ensures few { IfOk result (λ reply. (length reply.refined ≤ length cards.now) × (length reply.refined ≤ 256)) }
-    ensures refused { OnErr result (core.new ≡ core.old) }
-{
-    let buffer = buffer_of(core.layout(), cards)?;
-    match core.refine(Some(&buffer)) {
-        Ok(reply) => Ok(reply),
-        Err(_) => Err(Refusal::NoMemory),
-    }
-}
-
-/// The cards of these numbers.
-fn buffer_of(layout: Layout, cards: &[u32]) -> Result<Buffer, Refusal>
-    ensures cards { IfOk result (λ buffer. buffer ≡ cards.now) }
-    ensures few { IfOk result (λ buffer. length buffer ≤ 256) }
-{
-    let mut list: ArrayVec<Card, 256> = ArrayVec::new();
-    for i in 0..cards.len() {
-        let Some(card) = layout.card(cards[i]) else {
-            return Err(Refusal::NoCard);
-        };
-        if list.is_full() {
-            return Err(Refusal::TooManyCards);
-        }
-        list.push(card);
-    }
-    Ok(Buffer::of(list))
 }

@@ -1,0 +1,8 @@
+-- The race that was opened is the one that the handles are of.
+use Rattle.std.proofs.Common.{ap, ◌∙◌}
+use Rattle.g1_core.specs.Table.{opening}
+use Rattle.g1_handles.proofs.race_open.open_race.Goals as goal
+
+pub returns-in-Ok-seat-clause-opened : goal.returns-in-Ok-seat-clause-opened
+returns-in-Ok-seat-clause-opened c _ =
+    (c.in-Ok.race, c.in-Ok.ensures.began ∙ ap opening c.in-Some.ensures.1, c.in-Ok-seat.ensures.seated)

@@ -1,0 +1,20 @@
+-- The race begins with the table of the handle's core.
+use Rattle.std.proofs.Common.{◌≡◌}
+use Rattle.std.specs.Prelude.{Option, Some, None}
+use Rattle.g1_core.specs.Machine.{Machine}
+use Rattle.g1_race.specs.Drain.{began}
+use Rattle.g1_race.specs.Members.{race_layout, race_begun}
+use Rattle.g1_handles.specs.Codes.{OfOpen}
+use Rattle.g1_handles.specs.Racing.{held, IsBegunFor}
+use Rattle.g1_handles.proofs.race_resume.resume_race.Goals as goal
+
+-- what follows of a core follows of the handle's
+open_too : (P Q : Machine → Type 0) (m : Option Machine) → OfOpen m P → ((core : Machine) → P core → Q core) → OfOpen m Q
+open_too P Q None p f = p
+open_too P Q (Some core) p f = f core p
+
+pub returns-in-Ok-seat-clause-resumed : goal.returns-in-Ok-seat-clause-resumed
+returns-in-Ok-seat-clause-resumed c _ =
+    let race = c.in-Ok.race in
+    open_too (λ core. began (race_layout race) (race_begun race) ≡ core.state.table) (λ core. IsBegunFor core.state.table (held c.seat.new.racers) (held c.seat.new.sweepers)) c.args.handle.now.value
+    c.in-Ok.ensures.0 (λ core begun. (race, begun, c.in-Ok-seat.ensures.seated))

@@ -1,0 +1,41 @@
+-- Several stores one after the other.
+use Rattle.std.specs.Prelude.{◌<◌, ℕ, List, [], ◌∷◌, ◌++◌, length, slice_index_or, Option, Some, None, fold}
+use Rattle.g1_layout.specs.Shape as layout
+use Rattle.g1_layout.specs.declared.kind.Kind.{Kind}
+use Rattle.g1_layout.specs.declared.kind.Kind.TheVariants.{Null, SameRegion, AlreadyDirty, Logged}
+use Rattle.g1_layout.specs.Shape.{card_of}
+use Rattle.g1_core.specs.Machine.{Machine}
+use Rattle.g1_core.specs.Run.{kind_of}
+use Rattle.g1_handles.specs.declared.batch.Store.{Store}
+use Rattle.g1_handles.specs.Codes.{reference_of, stored_machine, IsStoreOf}
+
+-- the machine after some stores, and the cards that they logged, in order
+pub record Made : Type 0 where
+  pub machine : Machine
+  pub cards : List ℕ
+
+-- the card of a store of this kind, where it is logged
+abbrev pub logged_card : Kind → ℕ → Option ℕ
+logged_card Logged card = Some card
+logged_card Null card = None
+logged_card SameRegion card = None
+logged_card AlreadyDirty card = None
+
+abbrev pub cards_of : List ℕ → Option ℕ → List ℕ
+cards_of cards None = cards
+cards_of cards (Some card) = cards ++ card ∷ []
+
+-- one store more
+abbrev pub made : Made → Store → Made
+made m store = record {
+  machine = stored_machine m.machine store.slot (reference_of store.target);
+  cards = cards_of m.cards (logged_card (kind_of m.machine.state.table store.slot (reference_of store.target)) (card_of m.machine.state.table.layout store.slot));
+}
+
+-- these stores, each after the one before
+abbrev pub made_all : Machine → List Store → Made
+made_all m stores = fold made (record { machine = m; cards = [] }) stores
+
+-- The store at this place names a slot or a target that the heap does not have.
+abbrev pub IsFaultAt : layout.Shape → List Store → ℕ → Type 0
+IsFaultAt l stores i = (i < length stores) × ((d : Store) → IsStoreOf l (slice_index_or stores i d).slot (slice_index_or stores i d).target → ⊥)

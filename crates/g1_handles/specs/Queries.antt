@@ -1,0 +1,43 @@
+-- What the answers to questions stand for.
+use Rattle.std.specs.Prelude.{◌≡◌, ◌≤◌, ◌<◌, ◌+◌, ◌-◌, ◌^◌, ℕ, Bool, List, Option, length, min}
+use Rattle.std.specs.FinSet as set
+use Rattle.g1_core.specs.Table.{target_of, AreMembers}
+use Rattle.g1_core.specs.Machine.{Machine}
+use Rattle.g1_core.specs.Run.{IsStep}
+use Rattle.g1_core.specs.Calls.{target_entry, pending_entry, members_entry, status_entry}
+use Rattle.g1_core.specs.declared.reply.Status.{Status}
+use Rattle.g1_handles.specs.declared.members.Listed.{Listed}
+use Rattle.g1_handles.specs.declared.members.Listed.TheVariants.{Members, NoRoom}
+
+-- The slot refers to the target. One slot was read, and nothing else has changed.
+pub record RefersTo (old : Machine) (slot : ℕ) (target : Option ℕ) (new : Machine) : Type 0 where
+  pub refers : target ≡ target_of old.state.table slot
+  pub machine : new ≡ record { state = old.state; settings = old.settings; reads = min (old.reads + 1) (2 ^ 64 - 1) }
+  pub step : (caller : ℕ) → IsStep old.state.table (target_entry caller slot target) new.state.table
+
+-- The answer is whether the card is pending.
+pub record IsToldPending (m : Machine) (card : ℕ) (answer : Bool) : Type 0 where
+  pub pending : answer ≡ set.contains m.state.table.pending card
+  pub step : (caller : ℕ) → IsStep m.state.table (pending_entry caller card answer) m.state.table
+
+-- The status counts the pending cards and the recorded pairs.
+pub record HasStatus (m : Machine) (status : Status) : Type 0 where
+  pub pending : status.pending ≡ set.len m.state.table.pending
+  pub recorded : status.recorded ≡ set.len m.state.table.recorded
+  pub step : (caller : ℕ) → IsStep m.state.table (status_entry caller status) m.state.table
+
+-- These cards are recorded for the region, ascending, each once.
+pub record HasMembers (m : Machine) (region : ℕ) (cards : List ℕ) : Type 0 where
+  pub members : AreMembers m.state.table region cards
+  pub step : (caller : ℕ) → IsStep m.state.table (members_entry caller region cards) m.state.table
+
+-- So many cards are recorded for the region, and an array of this length has no room for them.
+pub record LacksRoom (m : Machine) (region room count : ℕ) : Type 0 where
+  pub cards : List ℕ
+  pub members : AreMembers m.state.table region cards
+  pub counted : count ≡ length cards
+  pub more : room < count
+
+abbrev pub IsListed : Machine → ℕ → ℕ → Listed → Type 0
+IsListed m region room (Members cards) = HasMembers m region cards × (length cards ≤ room) × (length cards ≤ 65536)
+IsListed m region room (NoRoom count) = LacksRoom m region room count

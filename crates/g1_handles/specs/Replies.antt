@@ -1,0 +1,67 @@
+-- What the words that C gets stand for.
+use Rattle.std.specs.Prelude.{◌≡◌, ◌≤◌, ◌+◌, ◌*◌, ℕ, Option, Some, None, List, length, ◌==◌, not, if◌then◌else◌, ⊤}
+use Rattle.std.specs.FinSet as set
+use Rattle.g1_core.specs.Table.{IsCovered}
+use Rattle.g1_core.specs.Machine.{Machine, IsLater, IsOnlyRead}
+use Rattle.g1_core.specs.Run.{IsStep}
+use Rattle.g1_core.specs.Pause.{IsDrainOf}
+use Rattle.g1_core.specs.Refinement.{IsTurned, AreCardsRead}
+use Rattle.g1_core.specs.Calls.{clear_entry, drain_entry, redirect_entry, refine_entry}
+use Rattle.g1_core.specs.Clearing.{member_count}
+use Rattle.g1_core.specs.Redirect.{IsRedirectOf}
+use Rattle.g1_core.specs.declared.reply.RefineReply.{RefineReply}
+use Rattle.g1_core.specs.declared.reply.ClearReply.{ClearReply}
+use Rattle.g1_core.specs.declared.reply.Redirected.{Redirected}
+use Rattle.g1_core.specs.declared.reply.Drained.{Drained}
+use Rattle.g1_core.specs.declared.reply.Drained.TheVariants as drained
+use Rattle.g1_handles.specs.declared.pause.Drain.{Drain}
+use Rattle.g1_handles.specs.declared.pause.Drain.TheVariants.{Whole, Short, Long}
+
+-- A refinement of these cards got the reply.
+pub record RefinesTo (old : Machine) (cards : List ℕ) (reply : RefineReply) (new : Machine) : Type 0 where
+  pub turned : IsTurned old.state cards reply new.state
+  pub reads : AreCardsRead old reply new
+  pub step : (caller : ℕ) → IsStep old.state.table (refine_entry caller reply) new.state.table
+  pub later : IsLater old new
+
+-- the reply of a refinement that C is told by a word (0 where it is not short), the refined cards and two counts
+abbrev pub reply_of : ℕ → List ℕ → ℕ → ℕ → RefineReply
+reply_of word refined hot skipped = record { taken = if word == 0 then 1 else 0; refined = refined; hot = hot; skipped = skipped; left = 0; short = not (word == 0) }
+
+-- A drain of the region answered this.
+pub record DrainsTo (old : Machine) (region : ℕ) (answer : Drained) (new : Machine) : Type 0 where
+  pub drained : IsDrainOf old region answer new
+  pub step : (caller : ℕ) → IsStep old.state.table (drain_entry caller region answer) new.state.table
+  pub later : IsLater old new
+
+abbrev pub IsDrain : Machine → ℕ → Drain → Machine → Type 0
+IsDrain old region (Whole cards refined) new = DrainsTo old region (drained.Cards cards refined) new
+IsDrain old region (Short refined) new = DrainsTo old region (drained.Short refined) new
+IsDrain old region Long new = IsCovered new.state.table
+
+-- The lists fit into arrays of these lengths.
+abbrev pub FitsIn : ℕ → ℕ → Drain → Type 0
+FitsIn room refined_room (Whole cards refined) = (length cards ≤ room) × (length cards ≤ 65536) × (length refined ≤ refined_room) × (length refined ≤ 65536)
+FitsIn room refined_room (Short refined) = (length refined ≤ refined_room) × (length refined ≤ 65536)
+FitsIn room refined_room Long = ⊤
+
+-- A clear of the region got the reply.
+pub record ClearsTo (old : Machine) (region : ℕ) (reply : ClearReply) (new : Machine) : Type 0 where
+  pub step : (caller : ℕ) → IsStep old.state.table (clear_entry caller region reply) new.state.table
+  pub ring : new.state.ring ≡ old.state.ring
+  pub unread : 1 ≤ set.len old.state.table.pending → new.reads ≡ old.reads
+  pub reads : new.reads ≤ old.reads + member_count old.state.table region * old.state.table.layout.slots
+  pub later : IsLater old new
+
+-- A redirect from one region to another answered this.
+pub record RedirectsTo (old : Machine) (from to : ℕ) (answer : Redirected) (new : Machine) : Type 0 where
+  pub redirected : IsRedirectOf old from to answer new
+  pub step : (caller : ℕ) → IsStep old.state.table (redirect_entry caller from to answer) new.state.table
+  pub later : IsLater old new
+
+-- Nothing but the count of reads has changed.
+abbrev pub IsLeft : Option Machine → Option Machine → Type 0
+IsLeft None None = ⊤
+IsLeft None (Some new) = ⊥
+IsLeft (Some old) None = ⊥
+IsLeft (Some old) (Some new) = IsOnlyRead old new

@@ -1,0 +1,98 @@
+//! Several stores by one call.
+ghost use Rattle.std.specs.Prelude.{◌≡◌, ◌<◌, ◌≤◌, true, false, length, take, IfOk, OnErr, IfSome, IfNone, MatchOption};
+ghost use Rattle.g1_handles.specs.Codes.{Between, IsStoreOf};
+ghost use Rattle.g1_handles.specs.Batch.{Made, made, made_all, cards_of, IsFaultAt};
+
+use crate::code::Refusal;
+use crate::handle::Handle;
+use crate::store::reference;
+use arrayvec::ArrayVec;
+use g1_core::Core;
+use g1_layout::{Card, Kind};
+use g1_log::Log;
+use raw_box::RawBox;
+use std::alloc::Global;
+
+/// One store: the slot, and the place that it is to refer to, or null.
+#[repr(C)]
+#[derive(Clone, Copy, Debug)]
+pub struct Store {
+    /// The slot.
+    pub slot: u32,
+    /// The place, or the word for null.
+    pub target: u32,
+}
+
+/// The stores that were made.
+#[derive(Drop)]
+pub struct Stored {
+    /// The cards of those that were logged, in order.
+    pub cards: ArrayVec<Card, 256>,
+    /// How many there were.
+    pub count: usize,
+    /// Whether they are all that were given.
+    pub is_whole: bool,
+}
+
+/// Stores in order at the core of a handle, up to the first that names a slot or a place that the heap does not have.
+pub fn store_all_in(handle: Handle, words: (Global, &[Store])) -> (Handle, Result<Stored, Refusal>)
+    ensures made { IfOk result.1 (λ answer. Between handle.value result.0.value (λ old new. record { machine = new; cards = answer.cards.items } ≡ made_all old (take answer.count words.entry.1.now))) }
+    ensures whole { IfOk result.1 (λ answer. answer.is_whole ≡ true → answer.count ≡ length words.entry.1.now) }
+    ensures stopped { IfOk result.1 (λ answer. answer.is_whole ≡ false → IfSome handle.value (λ old. IsFaultAt old.state.table.layout words.entry.1.now answer.count)) }
+    ensures few { IfOk result.1 (λ answer. (length answer.cards.items ≤ answer.count) × (answer.count ≤ 256) × (answer.count ≤ length words.entry.1.now)) }
+    ensures refused { OnErr result.1 (result.0.value ≡ handle.value) }
+{
+    let Some(core) = handle.into_raw_box() else {
+        return (Handle::closed(words.0), Err(Refusal::NotOpen));
+    };
+    let mut core = core.into_box();
+    if words.1.len() > 256 {
+        return (Handle::of(RawBox::of(core)), Err(Refusal::TooManyCards));
+    }
+    let stored = store_each(&mut core, words.1);
+    (Handle::of(RawBox::of(core)), Ok(stored))
+}
+
+fn store_each(core: &mut Core, stores: &[Store]) -> Stored
+    requires { length stores.now ≤ 256 }
+    ensures made { record { machine = core.new; cards = result.cards.items } ≡ made_all core.old (take result.count stores.now) }
+    ensures whole { result.is_whole ≡ true → result.count ≡ length stores.now }
+    ensures stopped { result.is_whole ≡ false → IsFaultAt core.old.state.table.layout stores.now result.count }
+    ensures few { (length result.cards.items ≤ result.count) × (result.count ≤ 256) × (result.count ≤ length stores.now) }
+{
+    let mut cards: ArrayVec<Card, 256> = ArrayVec::new();
+    for i in 0..stores.len() {
+        let Some(card) = store_next(core, stores[i]) else {
+            return Stored {
+                cards,
+                count: i,
+                is_whole: false,
+            };
+        };
+        if let Some(card) = card {
+            cards.push(card);
+        }
+    }
+    Stored {
+        cards,
+        count: stores.len(),
+        is_whole: true,
+    }
+}
+
+/// Makes one store, and answers its card where it is logged; `None` where the heap has no such slot or place.
+fn store_next(core: &mut Core, store: Store) -> Option<Option<Card>>
+    ensures layout { core.new.state.table.layout ≡ core.old.state.table.layout }
+    ensures none { IfNone result (IsStoreOf core.old.state.table.layout store.slot store.target → ⊥) }
+    ensures made { MatchOption result (core.new ≡ core.old) (λ card. (cards : _) → record { machine = core.new; cards = cards_of cards card } ≡ made (record { machine = core.old; cards = cards }) store) }
+{
+    let layout = core.layout();
+    let slot = layout.slot(store.slot)?;
+    let target = reference(layout, store.target)?;
+    let mut log = Log::new(256);
+    let (reply, _buffer) = core.store(&mut log, slot, target);
+    match reply.kind {
+        Kind::Logged => Some(Some(layout.card_of(slot))),
+        Kind::Null | Kind::SameRegion | Kind::AlreadyDirty => Some(None),
+    }
+}

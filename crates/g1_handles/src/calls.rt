@@ -1,0 +1,78 @@
+//! Opening and closing a handle.
+ghost use Rattle.std.specs.Prelude.{◌≡◌, ◌<◌, Some, None, IfOk, IfSome, IsSome};
+ghost use Rattle.g1_layout.specs.Shape.{Shape};
+ghost use Rattle.g1_core.specs.Machine.{Machine, new_machine};
+ghost use Rattle.g1_handles.specs.Codes.{settings_of};
+
+use crate::code::{DONE, Refusal};
+use crate::handle::Handle;
+use g1_core::{Config, Core};
+use g1_layout::Layout;
+use raw_box::RawBox;
+use std::alloc::Global;
+
+/// How many regions, cards a region and slots a card a heap has.
+#[repr(C)]
+#[derive(Clone, Copy, Debug)]
+pub struct Counts {
+    /// How many regions.
+    pub regions: u32,
+    /// How many cards a region has.
+    pub cards: u32,
+    /// How many slots a card has.
+    pub slots: u32,
+}
+
+/// A core of its own on the heap.
+pub fn new_core(alloc: Global, counts: &Counts, hot: u32, ring: u32) -> Result<Box<Core>, Refusal>
+    ensures { IfOk result (λ core. core.value ≡ new_machine (record { regions = counts.now.regions; cards = counts.now.cards; slots = counts.now.slots }) (settings_of hot ring)) }
+{
+    let Some(layout) = Layout::new(counts.regions, counts.cards, counts.slots) else {
+        return Err(Refusal::BadLayout);
+    };
+    let Some(config) = config(hot, ring) else {
+        return Err(Refusal::BadSettings);
+    };
+    let Ok(core) = Core::new(alloc, layout, config) else {
+        return Err(Refusal::NoMemory);
+    };
+    match Box::new(alloc, core) {
+        Ok(core) => Ok(core),
+        Err(_) => Err(Refusal::NoMemory),
+    }
+}
+
+/// The settings of a core: these, and the defaults of the others.
+pub(crate) fn config(hot: u32, ring: u32) -> Option<Config>
+    ensures { IfSome result (λ config. config ≡ settings_of hot ring) }
+{
+    let log = Config::LOG.default as usize;
+    let limit = Config::LIMIT.default as usize;
+    let start = Config::START.default as usize;
+    Config::new(log, limit, hot, ring as usize, start)
+}
+
+/// Puts a core into a handle that is closed.
+pub fn open_in(handle: Handle, core: Box<Core>) -> (Handle, u32)
+    ensures new { result.1 ≡ 0 → result.0.value ≡ Some core.value }
+    ensures closed { result.1 ≡ 0 → handle.value ≡ None }
+    ensures refused { 0 < result.1 → result.0.value ≡ handle.value }
+{
+    match handle.into_raw_box() {
+        Some(kept) => (Handle::of(kept), Refusal::AlreadyOpen.word()),
+        None => (Handle::of(RawBox::of(core)), DONE),
+    }
+}
+
+/// Closes a handle, and drops the core that it had.
+pub fn close_in(handle: Handle, alloc: Global) -> (Handle, u32)
+    ensures closed { result.0.value ≡ None }
+    ensures done { IsSome handle.value → result.1 ≡ 0 }
+    ensures refused { 0 < result.1 → handle.value ≡ None }
+{
+    let Some(core) = handle.into_raw_box() else {
+        return (Handle::closed(alloc), Refusal::NotOpen.word());
+    };
+    let _core = core.into_box();
+    (Handle::closed(alloc), DONE)
+}

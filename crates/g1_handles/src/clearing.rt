@@ -1,0 +1,51 @@
+//! The clear.
+ghost use Rattle.std.specs.Prelude.{◌≡◌, ◌<◌, IfOk, OnErr};
+ghost use Rattle.g1_core.specs.Machine.{IsOnlyRead};
+ghost use Rattle.g1_handles.specs.Codes.{Between, cleared_of, IsClearWord};
+ghost use Rattle.g1_handles.specs.Replies.{ClearsTo, IsLeft};
+
+use crate::code::{DONE, Refusal, STILL_PENDING, STILL_REFERENCED};
+use crate::handle::Handle;
+use g1_core::{ClearReply, Core};
+use raw_box::RawBox;
+use std::alloc::Global;
+
+/// The clear of a region at the core of a handle: the word of its reply, and the number that goes with it.
+pub fn clear_in(handle: Handle, words: (Global, u32)) -> (Handle, Result<(u32, u32), Refusal>)
+    ensures cleared { IfOk result.1 (λ answer. Between handle.value result.0.value (λ old new. ClearsTo old words.1 (cleared_of answer.0 answer.1) new)) }
+    ensures words { IfOk result.1 (λ answer. IsClearWord answer.0 answer.1) }
+    ensures left { IfOk result.1 (λ answer. 0 < answer.0 → IsLeft handle.value result.0.value) }
+    ensures refused { OnErr result.1 (result.0.value ≡ handle.value) }
+{
+    let Some(core) = handle.into_raw_box() else {
+        return (Handle::closed(words.0), Err(Refusal::NotOpen));
+    };
+    let mut core = core.into_box();
+    let answer = clear_one(&mut core, words.1);
+    (Handle::of(RawBox::of(core)), answer)
+}
+
+fn clear_one(core: &mut Core, region: u32) -> Result<(u32, u32), Refusal>
+    ensures cleared { IfOk result (λ answer. ClearsTo core.old region (cleared_of answer.0 answer.1) core.new) }
+    ensures words { IfOk result (λ answer. IsClearWord answer.0 answer.1) }
+    ensures left { IfOk result (λ answer. 0 < answer.0 → IsOnlyRead core.old core.new) }
+    ensures refused { OnErr result (core.new ≡ core.old) }
+{
+    let layout = core.layout();
+    let Some(region) = layout.region(region) else {
+        return Err(Refusal::NoRegion);
+    };
+    Ok(words_of(core.clear(region)))
+}
+
+/// The word of a reply, and the number that goes with it.
+fn words_of(reply: ClearReply) -> (u32, u32)
+    ensures reply { cleared_of result.0 result.1 ≡ reply }
+    ensures words { IsClearWord result.0 result.1 }
+{
+    match reply {
+        ClearReply::Cleared => (DONE, 0),
+        ClearReply::Pending(count) => (STILL_PENDING, count),
+        ClearReply::StillReferenced(slot) => (STILL_REFERENCED, slot.number()),
+    }
+}

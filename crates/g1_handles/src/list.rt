@@ -1,0 +1,22 @@
+//! Lists of cards in the caller's arrays.
+ghost use Rattle.std.specs.Prelude.{◌≡◌, ◌≤◌, length, take, IsTrue};
+
+use g1_core::CardList;
+use g1_layout::Card;
+
+/// Writes the numbers of the cards to the front of an array.
+pub fn put(cards: &[Card], array: &mut [u32])
+    requires { length cards.now ≤ length array.old }
+    ensures { take (length cards.now) array.new ≡ cards.now }
+{
+    for i in 0..cards.len() {
+        array[i] = cards[i].number();
+    }
+}
+
+/// Whether an array of this length has room for the list, whose length C can be told.
+pub(crate) fn fits(list: &CardList, room: usize) -> bool
+    ensures { IsTrue result → (length list.now ≤ room) × (length list.now ≤ 65536) }
+{
+    list.len() <= room && list.len() <= 65_536
+}

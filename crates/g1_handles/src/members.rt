@@ -1,0 +1,51 @@
+//! The remembered set of a region, as it is recorded.
+ghost use Rattle.std.specs.Prelude.{◌≡◌, ◌≢◌, ◌<◌, IfOk, IfErr};
+ghost use Rattle.g1_handles.specs.Codes.{OfOpen};
+ghost use Rattle.g1_handles.specs.Queries.{IsListed};
+
+use crate::code::Refusal;
+use crate::handle::Handle;
+use g1_core::{CardList, Core};
+use raw_box::RawBox;
+use std::alloc::Global;
+
+/// What a list of members gives to C.
+#[derive(Drop)]
+pub enum Listed {
+    /// The members.
+    Members(CardList),
+    /// The array is too small: how many members there are.
+    NoRoom(u32),
+}
+
+/// The members of a region at the core of a handle, for an array of a length.
+pub fn members_in(handle: Handle, words: (Global, u32, usize)) -> (Handle, Result<Listed, Refusal>)
+    ensures listed { IfOk result.1 (λ answer. OfOpen handle.value (λ machine. IsListed machine words.1 words.2 answer)) }
+    ensures refused { IfErr result.1 (λ refusal. refusal ≢ Refusal.NoRoom) }
+    ensures same { result.0.value ≡ handle.value }
+{
+    let Some(core) = handle.into_raw_box() else {
+        return (Handle::closed(words.0), Err(Refusal::NotOpen));
+    };
+    let core = core.into_box();
+    let answer = members_one(&core, words.1, words.2);
+    (Handle::of(RawBox::of(core)), answer)
+}
+
+fn members_one(core: &Core, region: u32, room: usize) -> Result<Listed, Refusal>
+    ensures listed { IfOk result (λ answer. IsListed core.now region room answer) }
+    ensures refused { IfErr result (λ refusal. refusal ≢ Refusal.NoRoom) }
+{
+    let layout = core.layout();
+    let Some(region) = layout.region(region) else {
+        return Err(Refusal::NoRegion);
+    };
+    let Ok(members) = core.members(region) else {
+        return Err(Refusal::NoMemory);
+    };
+    if members.len() <= room {
+        Ok(Listed::Members(members))
+    } else {
+        Ok(Listed::NoRoom(members.len() as u32))
+    }
+}

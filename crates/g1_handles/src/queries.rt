@@ -1,0 +1,94 @@
+//! Questions: what a slot refers to, whether a card is pending, and how much is pending and recorded.
+ghost use Rattle.std.specs.Prelude.{◌≡◌, ◌<◌, ◌≤◌, ◌==◌, IfOk, OnErr, IfSome, IsSome};
+ghost use Rattle.g1_layout.specs.Shape.{slot_count, card_count};
+ghost use Rattle.g1_handles.specs.Codes.{Between, OfOpen, reference_of};
+ghost use Rattle.g1_handles.specs.Queries.{RefersTo, IsToldPending, HasStatus};
+
+use crate::code::{NULL, Refusal};
+use crate::handle::Handle;
+use g1_core::{Core, Status};
+use g1_layout::{Layout, Slot};
+use raw_box::RawBox;
+use std::alloc::Global;
+
+/// The word of what a slot refers to at the core of a handle.
+pub fn target_in(handle: Handle, words: (Global, u32)) -> (Handle, Result<u32, Refusal>)
+    ensures target { IfOk result.1 (λ word. Between handle.value result.0.value (λ old new. RefersTo old words.1 (reference_of word) new)) }
+    ensures answered { OnErr result.1 (IfSome handle.value (λ old. slot_count old.state.table.layout ≤ words.1)) }
+    ensures refused { OnErr result.1 (result.0.value ≡ handle.value) }
+{
+    let Some(core) = handle.into_raw_box() else {
+        return (Handle::closed(words.0), Err(Refusal::NotOpen));
+    };
+    let mut core = core.into_box();
+    let answer = target_one(&mut core, words.1);
+    (Handle::of(RawBox::of(core)), answer)
+}
+
+fn target_one(core: &mut Core, slot: u32) -> Result<u32, Refusal>
+    ensures target { IfOk result (λ word. RefersTo core.old slot (reference_of word) core.new) }
+    ensures answered { OnErr result (slot_count core.old.state.table.layout ≤ slot) }
+    ensures refused { OnErr result (core.new ≡ core.old) }
+{
+    let layout = core.layout();
+    let Some(slot) = layout.slot(slot) else {
+        return Err(Refusal::NoSlot);
+    };
+    Ok(word_of(layout, core.target(slot)))
+}
+
+/// The word of a reference.
+fn word_of(layout: Layout, target: Option<Slot>) -> u32
+    requires { IfSome target (λ place. place < slot_count layout) }
+    ensures { reference_of result ≡ target }
+{
+    let _limit = layout.slot_count();
+    match target {
+        None => NULL,
+        Some(place) => place.number(),
+    }
+}
+
+/// Whether a card is pending at the core of a handle, as a word.
+pub fn is_pending_in(handle: Handle, words: (Global, u32)) -> (Handle, u32)
+    ensures pending { result.1 ≤ 1 → OfOpen handle.value (λ machine. IsToldPending machine words.1 (result.1 == 1)) }
+    ensures answered { IfSome handle.value (λ machine. words.1 < card_count machine.state.table.layout → result.1 ≤ 1) }
+    ensures same { result.0.value ≡ handle.value }
+{
+    let Some(core) = handle.into_raw_box() else {
+        return (Handle::closed(words.0), Refusal::NotOpen.word());
+    };
+    let core = core.into_box();
+    let answer = is_pending_one(&core, words.1);
+    (Handle::of(RawBox::of(core)), answer)
+}
+
+fn is_pending_one(core: &Core, card: u32) -> u32
+    ensures pending { result ≤ 1 → IsToldPending core.now card (result == 1) }
+    ensures answered { card < card_count core.now.state.table.layout → result ≤ 1 }
+{
+    let Some(card) = core.layout().card(card) else {
+        return Refusal::NoCard.word();
+    };
+    core.is_pending(card) as u32
+}
+
+/// How much is pending and recorded at the core of a handle.
+pub fn status_in(handle: Handle, alloc: Global) -> (Handle, Result<Status, Refusal>)
+    ensures status { IfOk result.1 (λ status. OfOpen handle.value (λ machine. HasStatus machine status)) }
+    ensures answered { OnErr result.1 (IsSome handle.value → ⊥) }
+    ensures same { result.0.value ≡ handle.value }
+{
+    let Some(core) = handle.into_raw_box() else {
+        return (Handle::closed(alloc), Err(Refusal::NotOpen));
+    };
+    let core = core.into_box();
+    let status = status_one(&core);
+    (Handle::of(RawBox::of(core)), Ok(status))
+}
+
+fn status_one(core: &Core) -> Status
+    ensures { HasStatus core.now result }
+{
+    core.status()
+}

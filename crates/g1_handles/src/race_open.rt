@@ -1,0 +1,61 @@
+//! How a race begins, and how a member's handle is closed without its race.
+ghost use Rattle.std.specs.Prelude.{◌≡◌, ◌<◌, None, IsSome};
+ghost use Rattle.g1_layout.specs.Shape.{Shape};
+ghost use Rattle.g1_core.specs.Table.{opening};
+ghost use Rattle.g1_handles.specs.Racing.{held, AreClosed, IsBegunFor};
+
+use crate::calls::Counts;
+use crate::code::{BAD_MEMBERS, DONE, Refusal};
+use crate::member_handle::MemberHandle;
+use crate::seats::{are_closed, are_counts, seat};
+use core::mem::replace_with;
+use g1_layout::Layout;
+use g1_race::Race;
+use std::alloc::Global;
+
+/// Opens a race over a heap whose slots are all null and whose cards are all clean, and seats its members.
+pub fn open_race(
+    alloc: Global,
+    counts: &Counts,
+    racers: &mut [MemberHandle],
+    sweepers: &mut [MemberHandle],
+) -> u32
+    ensures opened { let l : Shape = record { regions = counts.now.regions; cards = counts.now.cards; slots = counts.now.slots } in result ≡ 0 → IsBegunFor (opening l) (held racers.new) (held sweepers.new) }
+    ensures closed { result ≡ 0 → AreClosed (held racers.old) × AreClosed (held sweepers.old) }
+    ensures refused { 0 < result → (held racers.new ≡ held racers.old) × (held sweepers.new ≡ held sweepers.old) }
+{
+    if !are_counts(racers.len(), sweepers.len()) {
+        return BAD_MEMBERS;
+    }
+    if !are_closed(alloc, racers) || !are_closed(alloc, sweepers) {
+        return Refusal::AlreadyOpen.word();
+    }
+    let Some(layout) = Layout::new(counts.regions, counts.cards, counts.slots) else {
+        return Refusal::BadLayout.word();
+    };
+    let Ok((race, new_racers, new_sweepers)) = Race::open(
+        alloc,
+        layout,
+        racers.len() as u32,
+        sweepers.len() as u32,
+    ) else {
+        return Refusal::NoMemory.word();
+    };
+    match seat(alloc, race, new_racers, new_sweepers, racers, sweepers) {
+        Ok(()) => DONE,
+        Err(refusal) => refusal.word(),
+    }
+}
+
+/// Closes a member's handle without its race, and drops the member.
+pub fn close_in(member: MemberHandle, alloc: Global) -> (MemberHandle, u32)
+    ensures closed { result.0.value ≡ None }
+    ensures done { IsSome member.value → result.1 ≡ 0 }
+    ensures refused { 0 < result.1 → member.value ≡ None }
+{
+    let Some(member) = member.into_raw_box() else {
+        return (MemberHandle::closed(alloc), Refusal::NotOpen.word());
+    };
+    let _member = member.into_box();
+    (MemberHandle::closed(alloc), DONE)
+}

@@ -1,0 +1,57 @@
+//! Stores of a race.
+ghost use Rattle.std.specs.Prelude.{◌≡◌, ◌<◌, ◌≤◌, Some};
+ghost use Rattle.arrayvec.specs.ArrayVec.{array_vec_len};
+ghost use Rattle.g1_race.specs.Members.{race_layout};
+ghost use Rattle.g1_handles.specs.Codes.{IsStoreOf};
+ghost use Rattle.g1_handles.specs.Racing.{OfRacer, IfRacer, StoresWord, racer_race_of};
+
+use crate::code::{LOG_FULL, OTHER_ROLE, Refusal, kind_word};
+use crate::member::{Member, Racing};
+use crate::member_handle::MemberHandle;
+use crate::store::reference;
+use raw_box::RawBox;
+use std::alloc::Global;
+
+/// The store of a slot and a target by the racer of a handle, which stays open.
+pub fn store_in(member: MemberHandle, words: (Global, u32, u32)) -> (MemberHandle, u32)
+    ensures stored { result.1 ≤ 3 → OfRacer member.value (λ a. OfRacer result.0.value (λ b. StoresWord a words.1 words.2 result.1 b)) }
+    ensures taken { IfRacer member.value (λ a. array_vec_len a.racer.log < 256 → IsStoreOf (race_layout (racer_race_of a)) words.1 words.2 → result.1 ≤ 3) }
+    ensures refused { 3 < result.1 → result.0.value ≡ member.value }
+{
+    let Some(member) = member.into_raw_box() else {
+        return (MemberHandle::closed(words.0), Refusal::NotOpen.word());
+    };
+    let mut member = member.into_box();
+    let code = store_of(&mut member, words.1, words.2);
+    (MemberHandle::of(RawBox::of(member)), code)
+}
+
+fn store_of(member: &mut Member, slot: u32, target: u32) -> u32
+    ensures stored { result ≤ 3 → OfRacer (Some member.old) (λ a. OfRacer (Some member.new) (λ b. StoresWord a slot target result b)) }
+    ensures taken { IfRacer (Some member.old) (λ a. array_vec_len a.racer.log < 256 → IsStoreOf (race_layout (racer_race_of a)) slot target → result ≤ 3) }
+    ensures refused { 3 < result → member.new ≡ member.old }
+{
+    let Member::Racer(racing) = member else {
+        return OTHER_ROLE;
+    };
+    store_by(racing, slot, target)
+}
+
+fn store_by(racing: &mut Racing, slot: u32, target: u32) -> u32
+    ensures stored { result ≤ 3 → StoresWord racing.old slot target result racing.new }
+    ensures taken { array_vec_len racing.old.racer.log < 256 → IsStoreOf (race_layout (racer_race_of racing.old)) slot target → result ≤ 3 }
+    ensures refused { 3 < result → racing.new ≡ racing.old }
+{
+    if !racing.racer.has_room() {
+        return LOG_FULL;
+    }
+    let layout = racing.race.layout();
+    let Some(slot) = layout.slot(slot) else {
+        return Refusal::NoSlot.word();
+    };
+    let Some(target) = reference(layout, target) else {
+        return Refusal::NoSlot.word();
+    };
+    let kind = racing.racer.store(&racing.race, slot, target);
+    kind_word(kind)
+}
