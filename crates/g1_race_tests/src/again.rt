@@ -1,20 +1,19 @@
 //! A race becomes a core, and the core a race again.
-ghost use Rattle.std.specs.Prelude.{◌≡◌, IfOk};
-
-use crate::small::{close_small, open_small, resume_small};
+use crate::small::Seen::{Has, Marked, Target};
+use crate::small::Step::{First, Refine, Second};
+use crate::small::{Small, are, see};
 use g1_core::{Config, Core, Drained};
-use g1_layout::{Card, Kind, Layout};
+use g1_layout::Kind::{AlreadyDirty, Logged, Null};
+use g1_layout::NoMemory;
 use g1_race::Closed;
-use std::alloc::{AllocError, Global};
+use std::alloc::Global;
 use std::test::Fail;
 
 // A core of the closed race, with the settings by default.
-fn core_of(alloc: Global, closed: Closed) -> Result<Core, AllocError>
-    ensures { IfOk result (λ core. core.state.table.layout ≡ closed.layout) }
-{
+fn core_of(alloc: Global, closed: Closed) -> Result<Core, NoMemory> {
     match closed.into_core(alloc, Config::default()) {
         Ok(core) => Ok(core),
-        Err(_) => Err(AllocError),
+        Err((_, error)) => Err(error),
     }
 }
 
@@ -34,43 +33,32 @@ fn drains(core: &mut Core, number: u32, cards: &[u32]) -> bool {
     }
 }
 
-// Whether these are the cards of these numbers.
-fn are(cards: &[Card], numbers: &[u32]) -> bool {
-    cards.len() == numbers.len()
-        && cards
-            .iter()
-            .zip(numbers)
-            .all(|(card, number)| card.number() == *number)
+// Whether the core has read nothing, and the card of this number is pending.
+fn is_unread_and_pending(core: &Core, number: u32) -> bool {
+    let Some(card) = core.layout().card(number) else {
+        return false;
+    };
+    core.is_pending(card) && core.reads() == 0
 }
 
 #[test]
 fn a_race_is_a_core_and_a_race_again(rt: HostRuntime) -> Result<(), Fail> {
-    let layout = Layout::new(4, 2, 4).expect(&rt, "layout");
-    let zero = layout.slot(0).expect(&rt, "slot");
-    let one = layout.slot(1).expect(&rt, "slot");
-    let eight = layout.slot(8).expect(&rt, "slot");
-    let sixteen = layout.slot(16).expect(&rt, "slot");
-    let card = layout.card(0).expect(&rt, "card");
-    let (race, mut first, mut second, sweeper) = open_small(rt.alloc(), layout)?;
-    assert!(rt; first.store(&race, zero, Some(eight)) == Kind::Logged);
-    assert!(rt; second.store(&race, one, Some(sixteen)) == Kind::AlreadyDirty);
-    let closed = close_small(rt.alloc(), race, first, second, sweeper)?;
+    let steps = [First(0, Some(8), Logged), Second(1, Some(16), AlreadyDirty)];
+    let closed = Small::open(rt.alloc())?.close_after(&rt, rt.alloc(), &steps)?;
     let mut core = core_of(rt.alloc(), closed)?;
-    assert!(rt; core.is_pending(card) && core.reads() == 0);
+    assert!(rt; is_unread_and_pending(&core, 0));
     assert!(rt; drains(&mut core, 1, &[0]));
-    let layout = core.layout();
-    let zero = layout.slot(0).expect(&rt, "slot");
-    let four = layout.slot(4).expect(&rt, "slot");
-    let eight = layout.slot(8).expect(&rt, "slot");
-    let card = layout.card(0).expect(&rt, "card");
-    let next = layout.card(1).expect(&rt, "card");
-    let to_one = layout.region(1).expect(&rt, "region");
-    let (race, mut first, second, sweeper) = resume_small(rt.alloc(), core)?;
-    assert!(rt; first.store(&race, four, Some(eight)) == Kind::Logged);
-    let closed = close_small(rt.alloc(), race, first, second, sweeper)?;
-    assert!(rt; closed.target(zero) == Some(eight) && closed.target(four) == Some(eight));
-    assert!(rt; !closed.marked(card) && closed.marked(next));
-    assert!(rt; closed.has(card, to_one) && !closed.has(next, to_one));
+    let steps = [First(4, Some(8), Logged)];
+    let closed = Small::resume(rt.alloc(), core)?.close_after(&rt, rt.alloc(), &steps)?;
+    let seen = [
+        Target(0, Some(8)),
+        Target(4, Some(8)),
+        Marked(0, false),
+        Marked(1, true),
+        Has(0, 1, true),
+        Has(1, 1, false),
+    ];
+    see(&rt, &closed, &seen);
     let mut core = core_of(rt.alloc(), closed)?;
     assert!(rt; drains(&mut core, 1, &[0, 1]) && drains(&mut core, 2, &[0]));
     Ok(())
@@ -78,22 +66,16 @@ fn a_race_is_a_core_and_a_race_again(rt: HostRuntime) -> Result<(), Fail> {
 
 #[test]
 fn a_card_that_began_dirty_is_dirty_until_it_is_swept(rt: HostRuntime) -> Result<(), Fail> {
-    let layout = Layout::new(4, 2, 4).expect(&rt, "layout");
-    let zero = layout.slot(0).expect(&rt, "slot");
-    let one = layout.slot(1).expect(&rt, "slot");
-    let eight = layout.slot(8).expect(&rt, "slot");
-    let card = layout.card(0).expect(&rt, "card");
-    let to_one = layout.region(1).expect(&rt, "region");
-    let (race, mut first, second, sweeper) = open_small(rt.alloc(), layout)?;
-    assert!(rt; first.store(&race, zero, Some(eight)) == Kind::Logged);
-    let closed = close_small(rt.alloc(), race, first, second, sweeper)?;
+    let steps = [First(0, Some(8), Logged)];
+    let closed = Small::open(rt.alloc())?.close_after(&rt, rt.alloc(), &steps)?;
     let core = core_of(rt.alloc(), closed)?;
-    let (race, mut first, mut second, mut sweeper) = resume_small(rt.alloc(), core)?;
-    assert!(rt; first.store(&race, one, Some(eight)) == Kind::AlreadyDirty);
-    assert!(rt; sweeper.refine(&race, card).is_ok());
-    assert!(rt; second.store(&race, zero, None) == Kind::Null);
-    let closed = close_small(rt.alloc(), race, first, second, sweeper)?;
-    assert!(rt; !closed.marked(card) && closed.has(card, to_one));
-    assert!(rt; closed.target(zero).is_none());
+    let steps = [
+        First(1, Some(8), AlreadyDirty),
+        Refine(0),
+        Second(0, None, Null),
+    ];
+    let closed = Small::resume(rt.alloc(), core)?.close_after(&rt, rt.alloc(), &steps)?;
+    let seen = [Marked(0, false), Has(0, 1, true), Target(0, None)];
+    see(&rt, &closed, &seen);
     Ok(())
 }

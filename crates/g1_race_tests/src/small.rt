@@ -1,86 +1,200 @@
-//! Races of two racers, whose logs are empty, and one sweeper.
-ghost use Rattle.std.specs.Prelude.{◌≡◌, IfOk};
-ghost use Rattle.arrayvec.specs.ArrayVec.{array_vec_len};
-ghost use Rattle.g1_race.specs.Race.{shape_of};
+//! Races of two racers and one sweeper, played by steps, over the heap `4 2 4`: card `c` has the slots from `4 * c` on, region `r`
+//! those from `8 * r` on.
+ghost use Rattle.std.specs.Prelude.{◌≡◌, ◌<◌, IfSome};
+ghost use Rattle.g1_layout.specs.Shape.{slot_count};
 ghost use Rattle.g1_race.specs.Members.{race_id, race_layout, race_shape, racer_race, sweeper_race, AreFreshRacers, AreFreshSweepers};
 
 use g1_core::Core;
-use g1_layout::Layout;
+use g1_layout::{Card, Kind, Layout, NoMemory, Slot};
 use g1_race::{Closed, Race, Racer, Sweeper};
 use std::alloc::{AllocError, Global};
+use std::process::Abort;
+use std::test::Fail;
 
-/// Opens a race over a heap of nulls.
-pub(crate) fn open_small(
-    alloc: Global,
-    layout: Layout,
-) -> Result<(Race, Racer, Racer, Sweeper), AllocError>
-    ensures layout { IfOk result (λ r. race_layout r.0 ≡ layout) }
-    ensures shape { IfOk result (λ r. race_shape r.0 ≡ shape_of layout 3) }
-    ensures members { IfOk result (λ r. (racer_race r.1 ≡ race_id r.0) × (racer_race r.2 ≡ race_id r.0) × (sweeper_race r.3 ≡ race_id r.0)) }
-    ensures room { IfOk result (λ r. (array_vec_len r.1.log ≡ 0) × (array_vec_len r.2.log ≡ 0)) }
-{
-    let Ok((race, racers, sweepers)) = Race::open(alloc, layout, 2, 1) else {
-        return Err(AllocError);
-    };
-    let (first, second, sweeper) = three(&race, racers, sweepers);
-    Ok((race, first, second, sweeper))
+/// A call of a race, and its answer.
+#[derive(Clone, Copy)]
+pub(crate) enum Step<'a> {
+    /// A store of a place or null into a slot by the first racer: its kind.
+    First(u32, Option<u32>, Kind),
+    /// One by the second racer.
+    Second(u32, Option<u32>, Kind),
+    /// The cards that the first racer has logged, which it gives up.
+    FirstLog(&'a [u32]),
+    /// Those of the second racer.
+    SecondLog(&'a [u32]),
+    /// A refinement of a card.
+    Refine(u32),
 }
 
-/// Opens a race that goes on from a core.
-pub(crate) fn resume_small(
-    alloc: Global,
-    core: Core,
-) -> Result<(Race, Racer, Racer, Sweeper), AllocError>
-    ensures layout { IfOk result (λ r. race_layout r.0 ≡ core.state.table.layout) }
-    ensures shape { IfOk result (λ r. race_shape r.0 ≡ shape_of core.state.table.layout 3) }
-    ensures members { IfOk result (λ r. (racer_race r.1 ≡ race_id r.0) × (racer_race r.2 ≡ race_id r.0) × (sweeper_race r.3 ≡ race_id r.0)) }
-    ensures room { IfOk result (λ r. (array_vec_len r.1.log ≡ 0) × (array_vec_len r.2.log ≡ 0)) }
-{
-    let Ok((race, racers, sweepers)) = Race::resume(alloc, core, 2, 1) else {
-        return Err(AllocError);
-    };
-    let (first, second, sweeper) = three(&race, racers, sweepers);
-    Ok((race, first, second, sweeper))
+/// What is seen of a race that is closed.
+#[derive(Clone, Copy)]
+pub(crate) enum Seen {
+    /// The place that a slot refers to.
+    Target(u32, Option<u32>),
+    /// Whether a card is dirty.
+    Marked(u32, bool),
+    /// Whether a card is recorded for a region.
+    Has(u32, u32, bool),
+}
+
+/// A race, and who takes part in it.
+#[derive(Drop)]
+pub(crate) struct Small {
+    race: Race,
+    first: Racer,
+    second: Racer,
+    sweeper: Sweeper,
+    ghost members: { (race_shape race).members ≡ 3 },
+    ghost racing_first: { racer_race first ≡ race_id race },
+    ghost racing_second: { racer_race second ≡ race_id race },
+    ghost sweeping: { sweeper_race sweeper ≡ race_id race },
+}
+
+impl Small {
+    /// A race over nulls.
+    pub(crate) fn open(alloc: Global) -> Result<Small, Fail> {
+        let layout = Layout::new(4, 2, 4).ok_or("layout")?;
+        let (race, racers, sweepers) = Race::open(alloc, layout, 2, 1)?;
+        Ok(Small::new(race, racers, sweepers))
+    }
+
+    /// A race that goes on from a core.
+    pub(crate) fn resume(alloc: Global, core: Core) -> Result<Small, NoMemory> {
+        match Race::resume(alloc, core, 2, 1) {
+            Ok((race, racers, sweepers)) => Ok(Small::new(race, racers, sweepers)),
+            Err((_, error)) => Err(error),
+        }
+    }
+
+    fn new(race: Race, racers: Vec<Racer>, sweepers: Vec<Sweeper>) -> Small
+        requires members { (race_shape race).members ≡ 3 }
+        requires racers { AreFreshRacers race 2 racers }
+        requires sweepers { AreFreshSweepers race 1 sweepers }
+    {
+        let (first, second, sweeper) = three(&race, racers, sweepers);
+        Small {
+            race,
+            first,
+            second,
+            sweeper,
+        }
+    }
+
+    /// Takes the steps in order, and closes the race.
+    pub(crate) fn close_after(
+        self,
+        rt: &impl Abort,
+        alloc: Global,
+        steps: &[Step],
+    ) -> Result<Closed, AllocError> {
+        let mut small = self;
+        for step in steps {
+            small.take(rt, *step);
+        }
+        small.close(alloc)
+    }
+
+    fn take(&mut self, rt: &impl Abort, step: Step) {
+        match step {
+            Step::First(from, to, kind) => {
+                store(rt, &self.race, &mut self.first, from, to, kind);
+            }
+            Step::Second(from, to, kind) => {
+                store(rt, &self.race, &mut self.second, from, to, kind);
+            }
+            Step::FirstLog(cards) => {
+                assert!(rt; are(self.first.take_log().as_slice(), cards));
+            }
+            Step::SecondLog(cards) => {
+                assert!(rt; are(self.second.take_log().as_slice(), cards));
+            }
+            Step::Refine(number) => {
+                let card = self.race.layout().card(number).expect(rt, "card");
+                assert!(rt; self.sweeper.refine(&self.race, card).is_ok());
+            }
+        }
+    }
+
+    fn close(self, alloc: Global) -> Result<Closed, AllocError> {
+        let Small {
+            race,
+            first,
+            second,
+            sweeper,
+        } = self;
+        let mut racers = Vec::new(alloc);
+        racers.push(first)?;
+        racers.push(second)?;
+        let mut sweepers = Vec::new(alloc);
+        sweepers.push(sweeper)?;
+        Ok(race.close(racers, sweepers))
+    }
 }
 
 // The members of a race that has begun.
 fn three(race: &Race, mut racers: Vec<Racer>, mut sweepers: Vec<Sweeper>) -> (Racer, Racer, Sweeper)
     requires racers { AreFreshRacers race.now 2 racers }
     requires sweepers { AreFreshSweepers race.now 1 sweepers }
-    ensures first { (racer_race result.0 ≡ race_id race.now) × (array_vec_len result.0.log ≡ 0) }
-    ensures second { (racer_race result.1 ≡ race_id race.now) × (array_vec_len result.1.log ≡ 0) }
+    ensures first { racer_race result.0 ≡ race_id race.now }
+    ensures second { racer_race result.1 ≡ race_id race.now }
     ensures sweeper { sweeper_race result.2 ≡ race_id race.now }
 {
-    let (Some(mut second), Some(mut first), Some(sweeper)) = (
-        racers.pop(),
-        racers.pop(),
-        sweepers.pop(),
-    ) else {
+    let (Some(second), Some(first), Some(sweeper)) = (racers.pop(), racers.pop(), sweepers.pop())
+    else {
         unreachable!()
     };
-    first.take_log();
-    second.take_log();
     (first, second, sweeper)
 }
 
-/// Ends the race.
-pub(crate) fn close_small(
-    alloc: Global,
-    race: Race,
-    first: Racer,
-    second: Racer,
-    sweeper: Sweeper,
-) -> Result<Closed, AllocError>
-    requires members { (race_shape race).members ≡ 3 }
-    requires first { racer_race first ≡ race_id race }
-    requires second { racer_race second ≡ race_id race }
-    requires sweeper { sweeper_race sweeper ≡ race_id race }
-    ensures { IfOk result (λ o. o.layout ≡ race_layout race) }
+fn store(rt: &impl Abort, race: &Race, racer: &mut Racer, from: u32, to: Option<u32>, kind: Kind)
+    requires { racer_race racer.old ≡ race_id race.now }
+    ensures { racer_race racer.new ≡ racer_race racer.old }
 {
-    let mut racers = Vec::new(alloc);
-    racers.push(first)?;
-    racers.push(second)?;
-    let mut sweepers = Vec::new(alloc);
-    sweepers.push(sweeper)?;
-    Ok(race.close(racers, sweepers))
+    let from = race.layout().slot(from).expect(rt, "slot");
+    let to = place(rt, race, to);
+    assert!(rt; racer.has_room());
+    assert_eq!(rt; racer.store(race, from, to), kind);
+}
+
+// The place of this number.
+fn place(rt: &impl Abort, race: &Race, number: Option<u32>) -> Option<Slot>
+    ensures { IfSome result (λ place. place < slot_count (race_layout race.now)) }
+{
+    Some(race.layout().slot(number?).expect(rt, "place"))
+}
+
+/// Whether these are the cards of these numbers.
+pub(crate) fn are(cards: &[Card], numbers: &[u32]) -> bool {
+    for (card, number) in cards.iter().zip(numbers) {
+        if card.number() != *number {
+            return false;
+        }
+    }
+    cards.len() == numbers.len()
+}
+
+fn number_of(place: Option<Slot>) -> Option<u32> {
+    Some(place?.number())
+}
+
+/// Looks at a race that is closed.
+pub(crate) fn see(rt: &impl Abort, closed: &Closed, seen: &[Seen]) {
+    let layout = closed.layout();
+    for fact in seen {
+        match fact {
+            Seen::Target(from, to) => {
+                let from = layout.slot(*from).expect(rt, "slot");
+                assert!(rt; number_of(closed.target(from)) == *to);
+            }
+            Seen::Marked(number, is) => {
+                let card = layout.card(*number).expect(rt, "card");
+                assert_eq!(rt; closed.marked(card), *is);
+            }
+            Seen::Has(number, region, is) => {
+                let card = layout.card(*number).expect(rt, "card");
+                let region = layout.region(*region).expect(rt, "region");
+                assert_eq!(rt; closed.has(card, region), *is);
+            }
+        }
+    }
 }

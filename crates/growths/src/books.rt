@@ -2,7 +2,9 @@
 ghost use Rattle.std.specs.Prelude.{◌≡◌, [], IfOk};
 ghost use Rattle.g1_book.specs.History.{opened};
 
-use crate::numbers::{Numbers, are_numbered, buffer, card, numbers_of, region, slot, small};
+use crate::numbers::{
+    Numbers, are_numbered, buffer, card, number_of, numbers_of, place_of, region, slot, small,
+};
 use crate::outcome::{Failure, check, refused, short};
 use g1_book::{Book, Entry, Reply};
 use g1_core::{ClearReply, Config};
@@ -53,17 +55,18 @@ pub(crate) enum Ask<'a> {
 }
 
 impl Ask<'_> {
-    pub(crate) fn name(&self) -> &'static str {
+    /// The name of the call of a book, and of that of a shared book, which asks for no store and no refinement.
+    pub(crate) fn names(&self) -> (&'static str, &'static str) {
         match self {
-            Ask::Store(..) => "Book::store",
-            Ask::Refine(_) => "Book::refine",
-            Ask::Target(_) => "Book::target",
-            Ask::Pending(_) => "Book::is_pending",
-            Ask::Members(_) => "Book::members",
-            Ask::Status => "Book::status",
-            Ask::Drain(_) => "Book::drain",
-            Ask::Clear(_) => "Book::clear",
-            Ask::Redirect(..) => "Book::redirect",
+            Ask::Store(..) => ("Book::store", "no call"),
+            Ask::Refine(_) => ("Book::refine", "no call"),
+            Ask::Target(_) => ("Book::target", "Shared::target"),
+            Ask::Pending(_) => ("Book::is_pending", "Shared::is_pending"),
+            Ask::Members(_) => ("Book::members", "Shared::members"),
+            Ask::Status => ("Book::status", "Shared::status"),
+            Ask::Drain(_) => ("Book::drain", "Shared::drain"),
+            Ask::Clear(_) => ("Book::clear", "Shared::clear"),
+            Ask::Redirect(..) => ("Book::redirect", "Shared::redirect"),
         }
     }
 }
@@ -116,65 +119,42 @@ impl Kept {
         answer: Answer<'_>,
         before: Before<'_>,
     ) -> Result<(), Failure> {
-        let Some(done) = self.attempt(rt, ask, order, answer)? else {
+        let Some(done) = self.attempt(rt, ask, Some(order), answer)? else {
             return Ok(());
         };
         let (first, rest) = order.split_at_checked(done).ok_or(Failure::Wrong)?;
         self.is_left(rt, before, first)?;
-        let again = self.attempt(rt, ask, rest, answer)?;
+        let again = self.attempt(rt, ask, Some(rest), answer)?;
         check(rt, again.is_none(), "a call of a book was refused twice")
     }
 
-    /// Drains a region, whatever is pending, and compares its set. A refused or short drain is made again.
-    pub(crate) fn has_set(
-        &mut self,
-        rt: &impl Eprint,
-        of: u32,
-        set: &[u32],
-    ) -> Result<(), Failure> {
-        if self.drained(rt, of, set)? {
-            return Ok(());
+    /// Drains each region, whatever is pending, and compares its set. A refused or short drain is made again.
+    pub(crate) fn has_sets(&mut self, rt: &impl Eprint, sets: &[&[u32]; 4]) -> Result<(), Failure> {
+        for (of, set) in (0..4).zip(sets) {
+            let (ask, answer) = (Ask::Drain(of), Answer::Cards(set));
+            if self.attempt(rt, ask, None, answer)?.is_some() {
+                let again = self.attempt(rt, ask, None, answer)?;
+                check(rt, again.is_none(), "a drain was refused twice")?;
+            }
         }
-        let again = self.drained(rt, of, set)?;
-        check(rt, again, "a drain was refused twice")
+        Ok(())
     }
 
-    // Whether the drain was whole.
-    fn drained(&mut self, rt: &impl Eprint, of: u32, set: &[u32]) -> Result<bool, Failure> {
-        match self.drain(of) {
-            Err(Failure::NoMemory) => {
-                refused(rt, "Book::drain");
-                return Ok(false);
-            }
-            answer => answer?,
-        }
-        let last = self.book.entries().last().ok_or(Failure::Wrong)?;
-        match &last.reply {
-            Reply::Short => {
-                short(rt, "Book::drain", last.refined.len());
-                Ok(false)
-            }
-            Reply::Cards(cards) => {
-                check(rt, are_numbered(cards.as_slice(), set), "a region's set")?;
-                Ok(true)
-            }
-            _ => Err(Failure::Wrong),
-        }
-    }
-
-    // Makes the call once. Answers `None` where it was whole, and else how many cards were refined, which are the first ones.
+    // Makes the call once. Answers `None` where it was whole, and else how many cards were refined, which are the first ones of
+    // the order, if there is one.
     fn attempt(
         &mut self,
         rt: &impl Eprint,
         ask: Ask<'_>,
-        order: &[u32],
+        order: Option<&[u32]>,
         answer: Answer<'_>,
     ) -> Result<Option<usize>, Failure> {
+        let (name, _) = ask.names();
         let entries = self.book.entries().len();
         let cards = self.log.len();
         match self.call(ask) {
             Err(Failure::NoMemory) => {
-                refused(rt, ask.name());
+                refused(rt, name);
                 let now = self.book.entries().len();
                 check(rt, now == entries, "a refused call was entered")?;
                 check(rt, self.log.len() == cards, "a refused call was logged")?;
@@ -185,26 +165,46 @@ impl Kept {
                 let now = self.book.entries().len();
                 check(rt, now == entries.saturating_add(1), "how many entries")?;
                 let last = self.book.entries().last().ok_or(Failure::Wrong)?;
-                entered(rt, ask.name(), last, order, answer)
+                entered(rt, name, last, order, answer)
             }
         }
     }
 
     fn call(&mut self, ask: Ask<'_>) -> Result<(), Failure> {
+        let layout = self.book.layout();
         match ask {
-            Ask::Store(from, to) => self.store(from, to),
-            Ask::Refine(cards) => self.refine(cards),
-            Ask::Target(number) => self.target(number).map(|_| ()),
-            Ask::Pending(number) => self.is_pending(number).map(|_| ()),
-            Ask::Members(number) => self.members(number),
-            Ask::Status => self.status(),
-            Ask::Drain(number) => self.drain(number),
-            Ask::Clear(number) => self.clear(number),
-            Ask::Redirect(from, to) => self.redirect(from, to),
+            Ask::Store(from, to) => return self.store(from, to),
+            Ask::Refine(cards) => {
+                let lent = buffer(&layout, cards)?;
+                let _ = self.book.refine(0, Some(&lent))?;
+            }
+            Ask::Target(number) => {
+                let _ = self.target(number)?;
+            }
+            Ask::Pending(number) => {
+                let _ = self.is_pending(number)?;
+            }
+            Ask::Members(number) => {
+                let of = region(&layout, number)?;
+                let _ = self.book.members(0, of)?;
+            }
+            Ask::Status => {
+                let _ = self.book.status(0)?;
+            }
+            Ask::Drain(number) => {
+                let of = region(&layout, number)?;
+                let _ = self.book.drain(0, of)?;
+            }
+            Ask::Clear(number) => {
+                let of = region(&layout, number)?;
+                let _ = self.book.clear(0, of)?;
+            }
+            Ask::Redirect(from, to) => return self.redirect(from, to),
         }
+        Ok(())
     }
 
-    pub(crate) fn store(&mut self, from: u32, to: u32) -> Result<(), Failure> {
+    fn store(&mut self, from: u32, to: u32) -> Result<(), Failure> {
         let layout = self.book.layout();
         let from = slot(&layout, from)?;
         let to = slot(&layout, to)?;
@@ -212,46 +212,6 @@ impl Kept {
             return Err(Failure::Wrong);
         }
         let _ = self.book.store(0, &mut self.log, from, Some(to))?;
-        Ok(())
-    }
-
-    fn refine(&mut self, cards: &[u32]) -> Result<(), Failure> {
-        let lent = buffer(&self.book.layout(), cards)?;
-        let _ = self.book.refine(0, Some(&lent))?;
-        Ok(())
-    }
-
-    fn target(&mut self, number: u32) -> Result<Option<u32>, Failure> {
-        let from = slot(&self.book.layout(), number)?;
-        let place = self.book.target(0, from)?;
-        Ok(place.map(|slot| slot.number()))
-    }
-
-    fn is_pending(&mut self, number: u32) -> Result<bool, Failure> {
-        let card = card(&self.book.layout(), number)?;
-        Ok(self.book.is_pending(0, card)?)
-    }
-
-    fn members(&mut self, number: u32) -> Result<(), Failure> {
-        let of = region(&self.book.layout(), number)?;
-        let _ = self.book.members(0, of)?;
-        Ok(())
-    }
-
-    fn status(&mut self) -> Result<(), Failure> {
-        let _ = self.book.status(0)?;
-        Ok(())
-    }
-
-    fn drain(&mut self, number: u32) -> Result<(), Failure> {
-        let of = region(&self.book.layout(), number)?;
-        let _ = self.book.drain(0, of)?;
-        Ok(())
-    }
-
-    fn clear(&mut self, number: u32) -> Result<(), Failure> {
-        let of = region(&self.book.layout(), number)?;
-        let _ = self.book.clear(0, of)?;
         Ok(())
     }
 
@@ -266,6 +226,16 @@ impl Kept {
         Ok(())
     }
 
+    fn target(&mut self, number: u32) -> Result<Option<u32>, Failure> {
+        let from = slot(&self.book.layout(), number)?;
+        Ok(number_of(self.book.target(0, from)?))
+    }
+
+    fn is_pending(&mut self, number: u32) -> Result<bool, Failure> {
+        let card = card(&self.book.layout(), number)?;
+        Ok(self.book.is_pending(0, card)?)
+    }
+
     // Whether these cards were refined since, and all else is as it was.
     fn is_left(
         &mut self,
@@ -274,13 +244,8 @@ impl Kept {
         refined: &[u32],
     ) -> Result<(), Failure> {
         for number in 0..32 {
-            let wanted = before.references.iter().find(|(from, _)| *from == number);
-            let now = self.target(number)?;
-            check(
-                rt,
-                now == wanted.map(|(_, to)| *to),
-                "what a slot of a book refers to",
-            )?;
+            let is = self.target(number)? == place_of(before.references, number);
+            check(rt, is, "what a slot of a book refers to")?;
         }
         for number in 0..8 {
             let wanted = before.pending.contains(&number) && !refined.contains(&number);
@@ -289,11 +254,8 @@ impl Kept {
         }
         let status = self.book.status(0)?;
         let recorded = before.recorded.saturating_add(refined.len());
-        check(
-            rt,
-            status.recorded as usize == recorded,
-            "how many pairs a book has recorded",
-        )
+        let is = status.recorded as usize == recorded;
+        check(rt, is, "how many pairs a book has recorded")
     }
 }
 
@@ -302,26 +264,25 @@ pub(crate) fn entered(
     rt: &impl Eprint,
     call: &str,
     entry: &Entry,
-    order: &[u32],
+    order: Option<&[u32]>,
     answer: Answer<'_>,
 ) -> Result<Option<usize>, Failure> {
     check(rt, entry.caller == 0, "whose entry it is")?;
     let refined = numbers_of(entry.refined.as_slice())?;
-    if is_short(&entry.reply) {
+    let is_short = is_short(&entry.reply);
+    if is_short {
         short(rt, call, refined.len());
-        check(
-            rt,
-            order.starts_with(refined.as_slice()),
-            "the order of a short call",
-        )?;
+    }
+    if let Some(order) = order {
+        let is = order.starts_with(refined.as_slice())
+            && (is_short || order.len() == refined.len());
+        check(rt, is, "which cards were refined")?;
+    }
+    if is_short {
         return Ok(Some(refined.len()));
     }
-    check(rt, refined.as_slice() == order, "which cards were refined")?;
-    check(
-        rt,
-        is_answer(&entry.reply, answer, &refined),
-        "what was answered",
-    )?;
+    let is = is_answer(&entry.reply, answer, &refined);
+    check(rt, is, "what was answered")?;
     Ok(None)
 }
 
@@ -351,7 +312,7 @@ fn is_answer(reply: &Reply, answer: Answer<'_>, refined: &Numbers) -> bool {
                 && matches!(answer, Answer::Refined(cards) if cards == refined.len().saturating_add(*skipped as usize))
         }
         Reply::Target(place) => {
-            matches!(answer, Answer::Target(wanted) if place.map(|slot| slot.number()) == wanted)
+            matches!(answer, Answer::Target(wanted) if number_of(*place) == wanted)
         }
         Reply::Pending(is) => matches!(answer, Answer::Pending(wanted) if *is == wanted),
         Reply::Cards(cards) => {

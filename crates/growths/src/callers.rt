@@ -11,19 +11,28 @@ ghost use Rattle.g1_steps.specs.Opening.{AreNewMutators, IsNewMutator};
 use crate::books::{Kept, new_book, settings};
 use crate::numbers::{numbers_of, slot};
 use crate::outcome::{Failure, check, refused, short, told};
-use g1_core::{CardList, Config, Fill, RefineReply, StoreReply};
+use crate::plans::{FLUSH, HELP, OPEN, Plan, ROUND, Step, TAKE};
+use g1_book::Refusal;
+use g1_core::{CardList, Config, Fill, StoreReply};
 use g1_layout::NoMemory;
 use g1_log::{Line, Log, Taker};
-use g1_steps::{FlushReply, LentBook, Mutator, open_line, refine, work};
+use g1_steps::{LentBook, Mutator, open_line, refine, work};
 use std::sync::Wait;
 use std::vec::IntoIter;
 
+const SCENARIOS: [(&str, Plan); 5] = [
+    ("callers at a line", OPEN),
+    ("a mutator that helps", HELP),
+    ("a flush that helps", FLUSH),
+    ("a buffer of the line", TAKE),
+    ("a round of refinement", ROUND),
+];
+
 pub(crate) fn play<R: Wait + Print + Eprint + AllocGlobal>(rt: &R) -> Result<(), Failure> {
-    told(rt, "callers at a line", at_line(rt, 4, 4, opened))?;
-    told(rt, "a mutator that helps", at_line(rt, 2, 1, helped))?;
-    told(rt, "a flush that helps", at_line(rt, 2, 1, flushed))?;
-    told(rt, "a buffer of the line", at_line(rt, 2, 4, taken))?;
-    told(rt, "a round of refinement", at_line(rt, 1, 10, round))
+    for (name, plan) in &SCENARIOS {
+        told(rt, name, at_line(rt, plan))?;
+    }
+    Ok(())
 }
 
 /// A mutator, its taker, and the line of both.
@@ -35,14 +44,9 @@ struct Ends<'a> {
     ghost of: { IsSenderOf line.now mutator.sender × IsTakerOf line.now taker } by { Prim.hlevel props },
 }
 
-// Plays a scenario on a new book and a new line, for logs of `log` cards and a line of `limit` buffers.
-fn at_line<
-    R: Wait + Eprint + AllocGlobal,
-    F: FnOnce(&R, &mut Kept, &mut Ends<'_>) -> Result<(), Failure>,
->(rt: &R, log: usize, limit: usize, scenario: F) -> Result<(), Failure>
-    requires { F.IsAlwaysCallable scenario }
-{
-    let config = settings(log, limit)?;
+// Plays at a new book and a new line, and drains each region.
+fn at_line<R: Wait + Eprint + AllocGlobal>(rt: &R, plan: &Plan) -> Result<(), Failure> {
+    let config = settings(plan.log, plan.limit)?;
     let book = new_book(rt, config)?;
     let log = Log::new(8);
     let mut kept = Kept { book, log };
@@ -54,7 +58,8 @@ fn at_line<
     };
     let taker = next_taker(&line, &mut takers);
     let mut ends = Ends::new(&line, mutator, taker);
-    scenario(rt, &mut kept, &mut ends)
+    ends.play(rt, &mut kept, plan)?;
+    kept.has_sets(rt, &plan.sets)
 }
 
 // The first mutator.
@@ -108,6 +113,27 @@ impl<'a> Ends<'a> {
 }
 
 impl Ends<'_> {
+    fn play<R: Wait + Eprint>(
+        &mut self,
+        rt: &R,
+        kept: &mut Kept,
+        plan: &Plan,
+    ) -> Result<(), Failure> {
+        check(rt, self.line.len(rt) == 0, "a new line holds a buffer")?;
+        check(rt, self.mutator.log.is_empty(), "a new log has a card")?;
+        for step in plan.steps {
+            match step {
+                Step::Store(reference, fill, cards) => {
+                    self.stored(rt, kept, *reference, *fill, cards)?
+                }
+                Step::Flush(cards) => self.flushed(rt, kept, cards)?,
+                Step::Refine(cards, left) => self.refined(rt, kept, cards, *left)?,
+                Step::Work(cards) => self.worked(rt, kept, cards)?,
+            }
+        }
+        Ok(())
+    }
+
     fn store<R: Wait>(
         &mut self,
         rt: &R,
@@ -126,22 +152,6 @@ impl Ends<'_> {
             self.mutator
                 .store(rt, self.line, &mut calls, from, Some(to))?,
         )
-    }
-
-    fn flush<R: Wait>(&mut self, rt: &R, kept: &mut Kept) -> FlushReply {
-        let mut calls = LentBook::new(&mut kept.book, 0);
-        self.mutator.flush(rt, self.line, &mut calls)
-    }
-
-    fn refine<R: Wait>(&mut self, rt: &R, kept: &mut Kept) -> Result<RefineReply, Failure> {
-        let mut calls = LentBook::new(&mut kept.book, 0);
-        Ok(refine(rt, self.line, &mut self.taker, &mut calls)?)
-    }
-
-    fn work<R: Wait>(&mut self, rt: &R, kept: &mut Kept) -> Result<RefineReply, Failure> {
-        let start = kept.book.config().start();
-        let mut calls = LentBook::new(&mut kept.book, 0);
-        Ok(work(rt, self.line, &mut self.taker, &mut calls, start)?)
     }
 
     // Stores a reference, again where that is refused, which leaves entries and log.
@@ -172,6 +182,77 @@ impl Ends<'_> {
         let is_refused = reply.short && reply.refined.is_empty() && made == 1;
         check(rt, made == wanted || is_refused, "what a store entered")
     }
+
+    // Flushes the log into a full line, and refines what was in it.
+    fn flushed<R: Wait + Eprint>(
+        &mut self,
+        rt: &R,
+        kept: &mut Kept,
+        cards: &[u32],
+    ) -> Result<(), Failure> {
+        let mut calls = LentBook::new(&mut kept.book, 0);
+        let reply = self.mutator.flush(rt, self.line, &mut calls);
+        is_helped(rt, "Mutator::flush", &reply.refined, reply.short, cards)?;
+        let is = reply.cards as usize == cards.len() && self.mutator.log.is_empty();
+        check(rt, is, "how many cards were flushed")
+    }
+
+    // Refines the oldest buffer. A refused refinement gives up the buffer that it took, and enters nothing.
+    fn refined<R: Wait + Eprint>(
+        &mut self,
+        rt: &R,
+        kept: &mut Kept,
+        cards: &[u32],
+        left: u32,
+    ) -> Result<(), Failure> {
+        let entries = kept.book.entries().len();
+        let mut calls = LentBook::new(&mut kept.book, 0);
+        match refine(rt, self.line, &mut self.taker, &mut calls) {
+            Err(Refusal::NoMemory) => {
+                refused(rt, "refine");
+                let now = kept.book.entries().len();
+                check(rt, now == entries, "a refused refinement was entered")?;
+            }
+            answer => {
+                let reply = answer?;
+                is_helped(rt, "refine", &reply.refined, reply.short, cards)?;
+                check(rt, reply.left == left, "how many buffers are left")?;
+            }
+        }
+        let is = self.line.len(rt) == left as usize;
+        check(rt, is, "how many buffers the line holds")
+    }
+
+    // A round of refinement. A refused one gives up one buffer at most.
+    fn worked<R: Wait + Eprint>(
+        &mut self,
+        rt: &R,
+        kept: &mut Kept,
+        cards: &[u32],
+    ) -> Result<(), Failure> {
+        let entries = kept.book.entries().len();
+        let held = self.line.len(rt);
+        let start = kept.book.config().start();
+        let mut calls = LentBook::new(&mut kept.book, 0);
+        let reply = match work(rt, self.line, &mut self.taker, &mut calls, start) {
+            Err(Refusal::NoMemory) => {
+                refused(rt, "work");
+                let now = kept.book.entries().len();
+                check(rt, now == entries, "a refused round was entered")?;
+                let is = self.line.len(rt) >= held.saturating_sub(1);
+                return check(rt, is, "what a refused round gave up");
+            }
+            answer => answer?,
+        };
+        is_helped(rt, "work", &reply.refined, reply.short, cards)?;
+        let refined = reply.refined.len();
+        let is = reply.taken as usize == refined;
+        check(rt, is, "how many buffers a round took")?;
+        let made = kept.book.entries().len().saturating_sub(entries);
+        // a short call is entered too
+        let is = made == refined || reply.short && made == refined.saturating_add(1);
+        check(rt, is, "what a round entered")
+    }
 }
 
 /// A help refines these cards, or where it is short the first of them.
@@ -192,104 +273,4 @@ pub(crate) fn is_helped(
         now.len() < cards.len() && cards.starts_with(now.as_slice()),
         "which cards a short step refined",
     )
-}
-
-fn opened<R: Wait + Eprint>(rt: &R, kept: &mut Kept, ends: &mut Ends<'_>) -> Result<(), Failure> {
-    check(rt, ends.line.len(rt) == 0, "a new line holds a buffer")?;
-    check(rt, ends.mutator.log.is_empty(), "a new log has a card")?;
-    ends.stored(rt, kept, (0, 24), Fill::No, &[])?;
-    kept.has_set(rt, 3, &[0])
-}
-
-// The second full log finds the line full, and its mutator refines it.
-fn helped<R: Wait + Eprint>(rt: &R, kept: &mut Kept, ends: &mut Ends<'_>) -> Result<(), Failure> {
-    ends.stored(rt, kept, (0, 24), Fill::No, &[])?;
-    ends.stored(rt, kept, (4, 16), Fill::Full, &[])?;
-    ends.stored(rt, kept, (8, 24), Fill::No, &[])?;
-    ends.stored(rt, kept, (31, 0), Fill::Helped, &[2, 7])?;
-    sets(rt, kept)
-}
-
-fn sets(rt: &impl Eprint, kept: &mut Kept) -> Result<(), Failure> {
-    kept.has_set(rt, 0, &[7])?;
-    kept.has_set(rt, 1, &[])?;
-    kept.has_set(rt, 2, &[1])?;
-    kept.has_set(rt, 3, &[0, 2])
-}
-
-// A flush is never refused; its help is short where the history cannot grow.
-fn flushed<R: Wait + Eprint>(rt: &R, kept: &mut Kept, ends: &mut Ends<'_>) -> Result<(), Failure> {
-    ends.stored(rt, kept, (0, 24), Fill::No, &[])?;
-    ends.stored(rt, kept, (4, 16), Fill::Full, &[])?;
-    ends.stored(rt, kept, (8, 24), Fill::No, &[])?;
-    let filled = ends.flush(rt, kept);
-    is_helped(rt, "Mutator::flush", &filled.refined, filled.short, &[2])?;
-    ends.stored(rt, kept, (31, 0), Fill::No, &[])?;
-    let last = ends.flush(rt, kept);
-    is_helped(rt, "Mutator::flush", &last.refined, last.short, &[7])?;
-    let cards = (filled.cards, last.cards, ends.mutator.log.len());
-    check(rt, cards == (1, 1, 0), "how many cards were flushed")?;
-    sets(rt, kept)
-}
-
-// A refused refinement gives up the buffer that it took, and a drain finds its cards.
-fn taken<R: Wait + Eprint>(rt: &R, kept: &mut Kept, ends: &mut Ends<'_>) -> Result<(), Failure> {
-    ends.stored(rt, kept, (0, 24), Fill::No, &[])?;
-    ends.stored(rt, kept, (4, 16), Fill::Full, &[])?;
-    ends.stored(rt, kept, (8, 24), Fill::No, &[])?;
-    ends.stored(rt, kept, (31, 0), Fill::Full, &[])?;
-    for (cards, left) in [(&[0, 1], 1), (&[2, 7], 0)] {
-        let entries = kept.book.entries().len();
-        match ends.refine(rt, kept) {
-            Err(Failure::NoMemory) => {
-                refused(rt, "refine");
-                let now = kept.book.entries().len();
-                check(rt, now == entries, "a refused refinement was entered")?;
-            }
-            answer => {
-                let reply = answer?;
-                is_helped(rt, "refine", &reply.refined, reply.short, cards)?;
-                check(rt, reply.left == left, "how many buffers are left")?;
-            }
-        }
-        check(
-            rt,
-            ends.line.len(rt) == left as usize,
-            "how many buffers the line holds",
-        )?;
-    }
-    sets(rt, kept)
-}
-
-// Six buffers, of which a round leaves one. A refused round gives up one buffer at most.
-fn round<R: Wait + Eprint>(rt: &R, kept: &mut Kept, ends: &mut Ends<'_>) -> Result<(), Failure> {
-    for card in 0..6 {
-        ends.stored(rt, kept, (4 * card, 24), Fill::Full, &[])?;
-    }
-    let entries = kept.book.entries().len();
-    match ends.work(rt, kept) {
-        Err(Failure::NoMemory) => {
-            refused(rt, "work");
-            let now = kept.book.entries().len();
-            check(rt, now == entries, "a refused round was entered")?;
-            check(rt, ends.line.len(rt) >= 5, "what a refused round gave up")?;
-        }
-        answer => {
-            let reply = answer?;
-            is_helped(rt, "work", &reply.refined, reply.short, &[0, 1, 2, 3, 4])?;
-            check(
-                rt,
-                reply.taken as usize == reply.refined.len(),
-                "how many buffers a round took",
-            )?;
-            let made = kept.book.entries().len().saturating_sub(entries);
-            let refined = reply.refined.len();
-            check(
-                rt,
-                made == refined || reply.short && made == refined.saturating_add(1),
-                "what a round entered",
-            )?;
-        }
-    }
-    kept.has_set(rt, 3, &[0, 1, 2, 3, 4, 5])
 }

@@ -1,9 +1,11 @@
 //! Cores whose slots, cards and regions are named by number, and what is seen of them.
 
-use crate::numbers::{Numbers, buffer, card, numbers_of, region, slot, small};
+pub(crate) mod steps;
+
+use crate::numbers::{Numbers, buffer, card, number_of, numbers_of, place_of, region, slot, small};
 use crate::outcome::{Failure, check, refused};
 use arrayvec::ArrayVec;
-use g1_core::{Config, Core, Drained, Redirected};
+use g1_core::{Config, Core, Drained, Redirected, RefineReply};
 use g1_layout::NoMemory;
 use g1_log::Log;
 
@@ -27,43 +29,23 @@ pub(crate) fn new_core<R: Eprint + AllocGlobal>(
 /// Stores the references: each slot with the place that it refers to.
 pub(crate) fn store(core: &mut Core, references: &[(u32, u32)]) -> Result<(), Failure> {
     for (from, to) in references {
-        store_one(core, *from, *to)?;
+        let layout = core.layout();
+        let from = slot(&layout, *from)?;
+        let to = slot(&layout, *to)?;
+        let mut log = Log::new(2);
+        let _ = core.store(&mut log, from, Some(to));
     }
     Ok(())
-}
-
-fn store_one(core: &mut Core, from: u32, to: u32) -> Result<(), Failure> {
-    let layout = core.layout();
-    let from = slot(&layout, from)?;
-    let to = slot(&layout, to)?;
-    let mut log = Log::new(2);
-    let _ = core.store(&mut log, from, Some(to));
-    Ok(())
-}
-
-/// What a refinement answered.
-#[derive(Drop)]
-pub(crate) struct Turns {
-    pub(crate) refined: Numbers,
-    pub(crate) hot: u32,
-    pub(crate) skipped: u32,
-    pub(crate) short: bool,
 }
 
 /// Refines a buffer of these cards.
-pub(crate) fn refine(core: &mut Core, cards: &[u32]) -> Result<Turns, Failure> {
+pub(crate) fn refine(core: &mut Core, cards: &[u32]) -> Result<RefineReply, Failure> {
     let lent = buffer(&core.layout(), cards)?;
     let reply = core.refine(Some(&lent))?;
-    let refined = numbers_of(reply.refined.as_slice())?;
     if reply.taken == u32::from(reply.short) || reply.left != 0 {
         return Err(Failure::Wrong);
     }
-    Ok(Turns {
-        refined,
-        hot: reply.hot,
-        skipped: reply.skipped,
-        short: reply.short,
-    })
+    Ok(reply)
 }
 
 /// A call that refines all that is pending.
@@ -75,53 +57,37 @@ pub(crate) enum PauseCall {
     Redirect(u32, u32),
 }
 
-/// What it answered.
-#[derive(Drop)]
-pub(crate) enum PauseReply {
-    /// The cards that were refined, and the drained set, or how many slots a redirect changed.
-    Whole(Numbers, Numbers),
-    /// The cards that were refined.
-    Short(Numbers),
-}
-
-pub(crate) fn pause(core: &mut Core, call: PauseCall) -> Result<PauseReply, Failure> {
-    match call {
-        PauseCall::Drain(of) => drain(core, of),
-        PauseCall::Redirect(from, to) => redirect(core, from, to),
-    }
-}
-
-fn drain(core: &mut Core, of: u32) -> Result<PauseReply, Failure> {
-    let of = region(&core.layout(), of)?;
-    match core.drain(of)? {
-        Drained::Cards { cards, refined } => Ok(PauseReply::Whole(
-            numbers_of(refined.as_slice())?,
-            numbers_of(cards.as_slice())?,
-        )),
-        Drained::Short { refined } => Ok(PauseReply::Short(numbers_of(refined.as_slice())?)),
-    }
-}
-
-fn redirect(core: &mut Core, from: u32, to: u32) -> Result<PauseReply, Failure> {
+/// Makes the call. Answers the cards that were refined and, where it was whole, the drained set, or how many slots a redirect
+/// changed.
+pub(crate) fn pause(
+    core: &mut Core,
+    call: PauseCall,
+) -> Result<(Numbers, Option<Numbers>), Failure> {
     let layout = core.layout();
-    let from = region(&layout, from)?;
-    let to = region(&layout, to)?;
-    if from == to {
-        return Err(Failure::Wrong);
+    match call {
+        PauseCall::Drain(of) => match core.drain(region(&layout, of)?)? {
+            Drained::Cards { cards, refined } => {
+                let set = numbers_of(cards.as_slice())?;
+                Ok((numbers_of(refined.as_slice())?, Some(set)))
+            }
+            Drained::Short { refined } => Ok((numbers_of(refined.as_slice())?, None)),
+        },
+        PauseCall::Redirect(from, to) => {
+            let from = region(&layout, from)?;
+            let to = region(&layout, to)?;
+            if from == to {
+                return Err(Failure::Wrong);
+            }
+            match core.redirect(from, to)? {
+                Redirected::Moved { slots, refined } => {
+                    let mut moved = ArrayVec::new();
+                    moved.try_push(slots)?;
+                    Ok((numbers_of(refined.as_slice())?, Some(moved)))
+                }
+                Redirected::Short { refined } => Ok((numbers_of(refined.as_slice())?, None)),
+            }
+        }
     }
-    match core.redirect(from, to)? {
-        Redirected::Moved { slots, refined } => Ok(PauseReply::Whole(
-            numbers_of(refined.as_slice())?,
-            one(slots)?,
-        )),
-        Redirected::Short { refined } => Ok(PauseReply::Short(numbers_of(refined.as_slice())?)),
-    }
-}
-
-fn one(number: u32) -> Result<Numbers, Failure> {
-    let mut numbers = ArrayVec::new();
-    numbers.try_push(number).map_err(|_| Failure::Wrong)?;
-    Ok(numbers)
 }
 
 /// The members of a region's set.
@@ -143,14 +109,14 @@ pub(crate) struct State {
 pub(crate) fn state_of(core: &mut Core) -> Result<State, Failure> {
     let mut references = ArrayVec::new();
     for number in 0..32 {
-        references
-            .try_push(target(core, number)?)
-            .map_err(|_| Failure::Wrong)?;
+        let from = slot(&core.layout(), number)?;
+        references.try_push(number_of(core.target(from)))?;
     }
     let mut pending = ArrayVec::new();
     for number in 0..8 {
-        if is_pending(core, number)? {
-            pending.try_push(number).map_err(|_| Failure::Wrong)?;
+        let card = card(&core.layout(), number)?;
+        if core.is_pending(card) {
+            pending.try_push(number)?;
         }
     }
     let status = core.status();
@@ -165,16 +131,6 @@ pub(crate) fn state_of(core: &mut Core) -> Result<State, Failure> {
     })
 }
 
-fn target(core: &mut Core, number: u32) -> Result<Option<u32>, Failure> {
-    let from = slot(&core.layout(), number)?;
-    Ok(core.target(from).map(|place| place.number()))
-}
-
-fn is_pending(core: &Core, number: u32) -> Result<bool, Failure> {
-    let card = card(&core.layout(), number)?;
-    Ok(core.is_pending(card))
-}
-
 /// Whether just these slots refer, each to its place, just these cards are pending, and `recorded` pairs are recorded.
 pub(crate) fn is_seen(
     rt: &impl Eprint,
@@ -184,19 +140,12 @@ pub(crate) fn is_seen(
     recorded: usize,
 ) -> Result<(), Failure> {
     let now = state_of(core)?;
-    for (number, place) in now.references.iter().enumerate() {
-        let wanted = references.iter().find(|(from, _)| *from as usize == number);
-        check(
-            rt,
-            *place == wanted.map(|(_, to)| *to),
-            "what a slot refers to",
-        )?;
+    for (place, number) in now.references.iter().zip(0..32) {
+        let is = *place == place_of(references, number);
+        check(rt, is, "what a slot refers to")?;
     }
-    check(
-        rt,
-        now.pending.as_slice() == pending,
-        "which cards are pending",
-    )?;
+    let is = now.pending.as_slice() == pending;
+    check(rt, is, "which cards are pending")?;
     check(rt, now.recorded == recorded, "how many pairs are recorded")
 }
 

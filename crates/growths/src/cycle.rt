@@ -1,37 +1,33 @@
 //! The cycle: making a core of a closed race and a race of a core take memory.
 //!
 //! The heap has 4 regions of 2 cards of 4 slots: card `c` has the slots from `4 * c` on, region `r` those from `8 * r` on.
-ghost use Rattle.std.specs.Prelude.{◌≡◌, IfOk, vec_len};
-ghost use Rattle.std.specs.List.{All};
-ghost use Rattle.g1_race.specs.Members.{race_id, race_shape, racer_race, sweeper_race};
+ghost use Rattle.std.specs.Prelude.{◌≡◌, IfOk};
+ghost use Rattle.g1_race.specs.Members.{race_shape, AreFreshRacers, AreFreshSweepers};
 
-use crate::cores::{PauseCall, is_left, is_seen, new_core, state_of, store};
-use crate::machinery::{drained, paused, refined, rest};
-use crate::outcome::{Failure, refused, told};
-use crate::race::{REFERENCES, are_refined, closed_after};
+use crate::cores::PauseCall::Drain;
+use crate::cores::steps::Step::{Pause, Refine, See, Store};
+use crate::cores::steps::{rest, take};
+use crate::cores::{is_left, new_core, state_of};
+use crate::outcome::{Failure, refused};
+use crate::race::{REFERENCES, are_refined, closed_after, raced};
 use g1_core::{Config, Core};
 use g1_layout::NoMemory;
 use g1_race::{Closed, Race, Racer, Sweeper};
 
-pub(crate) fn play<R: Print + Eprint + AllocGlobal>(rt: &R) -> Result<(), Failure> {
-    told(rt, "a core of a race", race_to_core(rt))?;
-    told(rt, "a race that a core becomes", core_to_race(rt))
-}
-
-// Cards 0 and 1 are refined in the race, and card 2 is dirty.
-fn race_to_core<R: Eprint + AllocGlobal>(rt: &R) -> Result<(), Failure> {
-    let (closed, done) = closed_after(rt, 2)?;
+/// A core of a race in which cards 0 and 1 are refined, and card 2 is dirty.
+pub(crate) fn race_to_core<R: Eprint + AllocGlobal>(rt: &R) -> Result<(), Failure> {
+    let (closed, done) = closed_after(rt, &REFERENCES, 2)?;
     let mut core = core_of(rt, closed, done)?;
     are_drained(rt, &mut core, done)
 }
 
-// The same is left of a race that begins with it.
-fn core_to_race<R: Eprint + AllocGlobal>(rt: &R) -> Result<(), Failure> {
+/// The same is left of a race that begins with a core.
+pub(crate) fn core_to_race<R: Eprint + AllocGlobal>(rt: &R) -> Result<(), Failure> {
     let mut core = new_core(rt, 4, 4)?;
-    store(&mut core, &REFERENCES)?;
-    refined(rt, &mut core, &[0, 1], &[0, 1], 0)?;
+    let steps = [Store(&REFERENCES), Refine(&[0, 1], &[0, 1], 0)];
+    take(rt, &mut core, &steps)?;
     let (race, racers, sweepers) = resumed(rt, core)?;
-    let closed = race.close(racers, sweepers);
+    let (closed, _) = raced(rt, race, racers, sweepers, &[], 0)?;
     are_refined(rt, &closed, 2)?;
     let mut core = core_of(rt, closed, 2)?;
     are_drained(rt, &mut core, 2)
@@ -56,12 +52,15 @@ fn core_of<R: Eprint + AllocGlobal>(rt: &R, closed: Closed, done: u32) -> Result
 // Whether the core has the references, the first cards recorded and the others pending, and drains what the race stored.
 fn are_drained(rt: &impl Eprint, core: &mut Core, done: u32) -> Result<(), Failure> {
     let pending = rest(&[0, 1, 2], done as usize);
-    is_seen(rt, core, &REFERENCES, pending, done as usize)?;
-    paused(rt, core, PauseCall::Drain(3), pending, &[0, 2])?;
-    is_seen(rt, core, &REFERENCES, &[], 3)?;
-    drained(rt, core, 0, &[])?;
-    drained(rt, core, 1, &[])?;
-    drained(rt, core, 2, &[1])
+    let steps = [
+        See(&REFERENCES, pending, done as usize),
+        Pause(Drain(3), pending, &[0, 2]),
+        See(&REFERENCES, &[], 3),
+        Pause(Drain(0), &[], &[]),
+        Pause(Drain(1), &[], &[]),
+        Pause(Drain(2), &[], &[1]),
+    ];
+    take(rt, core, &steps)
 }
 
 // Makes a race of one racer and one sweeper of the core. A refused one gives the core back as it was, and is tried again.
@@ -70,8 +69,8 @@ fn resumed<R: Eprint + AllocGlobal>(
     mut core: Core,
 ) -> Result<(Race, Vec<Racer>, Vec<Sweeper>), Failure>
     ensures members { IfOk result (λ r. (race_shape r.0).members ≡ 2) }
-    ensures racers { IfOk result (λ r. (vec_len r.1 ≡ 1) × All (λ racer. racer_race racer ≡ race_id r.0) r.1.items) }
-    ensures sweepers { IfOk result (λ r. (vec_len r.2 ≡ 1) × All (λ sweeper. sweeper_race sweeper ≡ race_id r.0) r.2.items) }
+    ensures racers { IfOk result (λ r. AreFreshRacers r.0 1 r.1) }
+    ensures sweepers { IfOk result (λ r. AreFreshSweepers r.0 1 r.2) }
 {
     let before = state_of(&mut core)?;
     match Race::resume(rt.alloc(), core, 1, 1) {

@@ -3,13 +3,9 @@ ghost use Rattle.std.specs.Prelude.{◌≡◌, length};
 ghost use Rattle.g1_layout.specs.Shape.{card_count};
 
 use crate::numbers::{card, small};
-use crate::outcome::{Failure, check, refused, told};
+use crate::outcome::{Failure, check, refused};
 use g1_hot::{Hot, Offer};
 use g1_layout::{Layout, NoMemory};
-
-pub(crate) fn play<R: Print + Eprint + AllocGlobal>(rt: &R) -> Result<(), Failure> {
-    told(rt, "a ring of hot cards", new_ring(rt))
-}
 
 /// A ring beside the layout whose cards it counts.
 #[derive(Drop)]
@@ -30,8 +26,8 @@ impl Counted {
     }
 }
 
-// It is made again, with each count 0 and no card in the ring.
-fn new_ring<R: Eprint + AllocGlobal>(rt: &R) -> Result<(), Failure> {
+/// A refused ring is made again, with each count 0 and no card in the ring.
+pub(crate) fn new_ring<R: Eprint + AllocGlobal>(rt: &R) -> Result<(), Failure> {
     let layout = small()?;
     let hot = match Hot::new(rt.alloc(), layout, 1, 2) {
         Ok(hot) => hot,

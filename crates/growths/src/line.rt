@@ -1,16 +1,12 @@
 //! The line of completed buffers: making one takes memory.
 
-use crate::outcome::{Failure, check, refused, told};
+use crate::outcome::{Failure, check, refused};
 use g1_layout::NoMemory;
 use g1_log::Line;
 use std::sync::Wait;
 
-pub(crate) fn play<R: Wait + Print + Eprint + AllocGlobal>(rt: &R) -> Result<(), Failure> {
-    told(rt, "a line", new_line(rt))
-}
-
-// It is made again: empty, with its senders and its takers.
-fn new_line<R: Wait + Eprint + AllocGlobal>(rt: &R) -> Result<(), Failure> {
+/// A refused line is made again: empty, with its senders and its takers.
+pub(crate) fn new_line<R: Wait + Eprint + AllocGlobal>(rt: &R) -> Result<(), Failure> {
     let (line, senders, takers) = match Line::new(rt.alloc(), 4, 8, 12) {
         Ok(made) => made,
         Err(NoMemory) => {

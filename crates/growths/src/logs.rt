@@ -1,13 +1,9 @@
 //! The completed buffers of one thread: adding one takes memory.
 
 use crate::numbers::{are_numbered, buffer, small};
-use crate::outcome::{Failure, check, refused, told};
+use crate::outcome::{Failure, check, refused};
 use g1_layout::Layout;
 use g1_log::{Done, Why};
-
-pub(crate) fn play<R: Print + Eprint + AllocGlobal>(rt: &R) -> Result<(), Failure> {
-    told(rt, "completed buffers", completed(rt))
-}
 
 // How many buffers: more than the first growth makes room for.
 const LIMIT: u32 = 40;
@@ -17,8 +13,8 @@ fn cards_of(turn: u32) -> [u32; 2] {
     [turn % 8, turn / 8 % 8]
 }
 
-// Buffers up to the limit: a refused one comes back and is added again. Then all leave in their order.
-fn completed<R: Eprint + AllocGlobal>(rt: &R) -> Result<(), Failure> {
+/// Buffers up to the limit: a refused one comes back and is added again. Then all leave in their order.
+pub(crate) fn completed<R: Eprint + AllocGlobal>(rt: &R) -> Result<(), Failure> {
     let layout = small()?;
     let mut done = Done::new(rt.alloc(), LIMIT as usize);
     for turn in 0..LIMIT {
@@ -79,5 +75,8 @@ fn add(rt: &impl Eprint, layout: &Layout, done: &mut Done, turn: u32) -> Result<
             "a refused add changed the oldest",
         )?;
     }
-    done.add(back).map_err(|_| Failure::NoMemory)
+    match done.add(back) {
+        Ok(()) => Ok(()),
+        Err(_) => Err(Failure::NoMemory),
+    }
 }

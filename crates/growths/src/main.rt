@@ -6,8 +6,8 @@
 //! scenario says so on standard error, compares what was left with what the call's contract says, and makes the call
 //! again. So every run prints the same lines and ends with status 0.
 //!
-//! There is a file for each layer, and in it a function for each scenario. A new scenario is a function there and a line in the
-//! file's `play`.
+//! There is a file for each layer. A layer of few scenarios has a function for each, which `play` calls here; one of many has a
+//! `play` of its own, over a table with a line for each.
 #![tactic(auto)]
 
 mod books;
@@ -22,11 +22,12 @@ mod logs;
 mod machinery;
 mod numbers;
 mod outcome;
+mod plans;
 mod race;
 mod sets;
 mod shared;
 
-use outcome::Failure;
+use outcome::{Failure, told};
 use std::process::ExitCode;
 use std::sync::Wait;
 
@@ -39,15 +40,17 @@ fn main(rt: HostRuntime) -> ExitCode {
 
 // The scenarios, lowest layer first.
 fn play<R: Wait + Print + Eprint + AllocGlobal>(rt: &R) -> Result<(), Failure> {
-    heap::play(rt)?;
-    logs::play(rt)?;
-    line::play(rt)?;
-    hot::play(rt)?;
+    told(rt, "a heap", heap::new_heap(rt))?;
+    told(rt, "completed buffers", logs::completed(rt))?;
+    told(rt, "a line", line::new_line(rt))?;
+    told(rt, "a ring of hot cards", hot::new_ring(rt))?;
     sets::play(rt)?;
     machinery::play(rt)?;
     history::play(rt)?;
     callers::play(rt)?;
     shared::play(rt)?;
-    race::play(rt)?;
-    cycle::play(rt)
+    told(rt, "a race", race::untouched(rt))?;
+    told(rt, "a refinement of a race", race::cards_refined(rt))?;
+    told(rt, "a core of a race", cycle::race_to_core(rt))?;
+    told(rt, "a race that a core becomes", cycle::core_to_race(rt))
 }

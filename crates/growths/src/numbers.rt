@@ -1,4 +1,4 @@
-//! Slots, cards and regions by their numbers, and lists of cards compared with numbers.
+//! Slots, cards and regions by their numbers, and lists of cards and references compared with numbers.
 ghost use Rattle.std.specs.Prelude.{◌<◌, IfOk};
 ghost use Rattle.g1_layout.specs.Shape.{slot_count, card_count};
 
@@ -7,14 +7,10 @@ use arrayvec::ArrayVec;
 use g1_layout::{Card, Layout, Region, Slot};
 use g1_log::Buffer;
 
-/// A heap of `regions` regions of `cards` cards of `slots` slots.
-pub(crate) fn layout(regions: u32, cards: u32, slots: u32) -> Result<Layout, Failure> {
-    Layout::new(regions, cards, slots).ok_or(Failure::Wrong)
-}
-
-/// The heap of most scenarios: card `c` has the slots from `4 * c` on, region `r` those from `8 * r` on.
+/// The heap of most scenarios, of 4 regions of 2 cards of 4 slots: card `c` has the slots from `4 * c` on, region `r` those
+/// from `8 * r` on.
 pub(crate) fn small() -> Result<Layout, Failure> {
-    layout(4, 2, 4)
+    Layout::new(4, 2, 4).ok_or(Failure::Wrong)
 }
 
 pub(crate) fn slot(layout: &Layout, number: u32) -> Result<Slot, Failure>
@@ -39,9 +35,7 @@ pub(crate) fn region(layout: &Layout, number: u32) -> Result<Region, Failure>
 pub(crate) fn buffer(layout: &Layout, numbers: &[u32]) -> Result<Buffer, Failure> {
     let mut cards = ArrayVec::new();
     for number in numbers {
-        cards
-            .try_push(card(layout, *number)?)
-            .map_err(|_| Failure::Wrong)?;
+        cards.try_push(card(layout, *number)?)?;
     }
     Ok(Buffer::of(cards))
 }
@@ -53,24 +47,32 @@ pub(crate) type Numbers = ArrayVec<u32, 8>;
 pub(crate) fn numbers_of(cards: &[Card]) -> Result<Numbers, Failure> {
     let mut numbers = ArrayVec::new();
     for card in cards {
-        numbers.try_push(card.number()).map_err(|_| Failure::Wrong)?;
+        numbers.try_push(card.number())?;
     }
     Ok(numbers)
 }
 
 /// Whether the cards have just these numbers, in this order.
 pub(crate) fn are_numbered(cards: &[Card], numbers: &[u32]) -> bool {
-    cards
-        .iter()
-        .map(|card| card.number())
-        .eq(numbers.iter().copied())
+    for (card, number) in cards.iter().zip(numbers) {
+        if card.number() != *number {
+            return false;
+        }
+    }
+    cards.len() == numbers.len()
 }
 
-/// Whether the cards have the numbers from this one on, in order.
-pub(crate) fn are_numbered_from(cards: &[Card], first: u32) -> bool {
-    cards
-        .iter()
-        .map(|card| card.number())
-        .zip(first..=u32::MAX)
-        .all(|(number, wanted)| number == wanted)
+/// The number of the place that a slot refers to.
+pub(crate) fn number_of(place: Option<Slot>) -> Option<u32> {
+    Some(place?.number())
+}
+
+/// The number of the place that the slot of this number refers to, by these references.
+pub(crate) fn place_of(references: &[(u32, u32)], number: u32) -> Option<u32> {
+    for (from, to) in references {
+        if *from == number {
+            return Some(*to);
+        }
+    }
+    None
 }

@@ -1,10 +1,11 @@
 //! How a scenario ends, and how it says which call was refused.
 
+use arrayvec::CapacityError;
 use g1_book::Refusal;
 use g1_layout::NoMemory;
 
 /// Why a scenario goes no further.
-#[derive(Clone, Copy, Debug, PartialEq, Eq)]
+#[derive(Clone, Copy)]
 pub(crate) enum Failure {
     /// A growth was refused: the call that met it is made again.
     NoMemory,
@@ -25,6 +26,13 @@ impl From<Refusal> for Failure {
             Refusal::NoMemory => Failure::NoMemory,
             Refusal::BookFull => Failure::Wrong,
         }
+    }
+}
+
+/// No list of a scenario has more than it has room for.
+impl<T: Drop> From<CapacityError<T>> for Failure {
+    fn from(_: CapacityError<T>) -> Failure {
+        Failure::Wrong
     }
 }
 

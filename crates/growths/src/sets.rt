@@ -1,42 +1,25 @@
 //! The remembered sets: making them, recording cards and listing them take memory.
 ghost use Rattle.std.specs.Prelude.{◌≡◌};
 
-use crate::numbers::{self, are_numbered_from, layout};
+use crate::numbers;
 use crate::outcome::{Failure, check, refused, told};
-use g1_layout::{Card, Layout, NoMemory, Region};
+use g1_layout::{Card, Layout, NoMemory};
 use g1_sets::Sets;
 
-pub(crate) fn play<R: Print + Eprint + AllocGlobal>(rt: &R) -> Result<(), Failure> {
-    told(
-        rt,
-        "cards recorded one by one",
-        on_sets(rt, 3, 64, recorded),
-    )?;
-    told(
-        rt,
-        "cards recorded together",
-        on_sets(rt, 3, 64, recorded_together),
-    )?;
-    told(rt, "a list of few cards", on_sets(rt, 4, 4, few_listed))?;
-    told(rt, "a list of many cards", on_sets(rt, 8, 128, many_listed))?;
-    told(
-        rt,
-        "a list of many cards of a large heap",
-        on_sets(rt, 64, 128, most_listed),
-    )
-}
+// How many regions of how many cards the heap of a list has, and how many cards the list.
+const LISTS: [(&str, u32, u32, u32); 3] = [
+    ("a list of few cards", 4, 4, 6),
+    ("a list of many cards", 8, 128, 600),
+    ("a list of many cards of a large heap", 64, 128, 1_100),
+];
 
-// Plays a scenario on new sets, for `regions` regions of `cards` cards.
-fn on_sets<R: Eprint + AllocGlobal, F: FnOnce(&R, &mut Numbered) -> Result<(), Failure>>(
-    rt: &R,
-    regions: u32,
-    cards: u32,
-    scenario: F,
-) -> Result<(), Failure>
-    requires { F.IsAlwaysCallable scenario }
-{
-    let mut sets = Numbered::new(rt, regions, cards)?;
-    scenario(rt, &mut sets)
+pub(crate) fn play<R: Print + Eprint + AllocGlobal>(rt: &R) -> Result<(), Failure> {
+    told(rt, "cards recorded one by one", recorded(rt))?;
+    told(rt, "cards recorded together", recorded_together(rt))?;
+    for (name, regions, cards, members) in LISTS {
+        told(rt, name, listed(rt, regions, cards, members))?;
+    }
+    Ok(())
 }
 
 /// Sets whose cards and regions are named by number.
@@ -48,12 +31,9 @@ struct Numbered {
 }
 
 impl Numbered {
-    ghost use Rattle.std.specs.Prelude.{◌<◌, IfOk};
-    ghost use Rattle.g1_layout.specs.Shape.{card_count};
-
     // Sets of no card, for `regions` regions of `cards` cards.
     fn new<R: Eprint + AllocGlobal>(rt: &R, regions: u32, cards: u32) -> Result<Numbered, Failure> {
-        let layout = layout(regions, cards, 1)?;
+        let layout = Layout::new(regions, cards, 1).ok_or(Failure::Wrong)?;
         let sets = match Sets::new(rt.alloc(), layout) {
             Ok(sets) => sets,
             Err(NoMemory) => {
@@ -65,21 +45,9 @@ impl Numbered {
         Ok(Numbered { layout, sets })
     }
 
-    fn card(&self, number: u32) -> Result<Card, Failure>
-        ensures { IfOk result (λ card. card < card_count self.now.layout) }
-    {
-        numbers::card(&self.layout, number)
-    }
-
-    fn region(&self, number: u32) -> Result<Region, Failure>
-        ensures { IfOk result (λ region. region < self.now.layout.regions) }
-    {
-        numbers::region(&self.layout, number)
-    }
-
     // Whether the region's set has just these cards and then `count` from 0 on, in the order of insertion.
     fn has_just(&self, region: u32, first: &[u32], count: u32) -> Result<bool, Failure> {
-        let region = self.region(region)?;
+        let region = numbers::region(&self.layout, region)?;
         for index in 0..self.sets.len(region) {
             let number = match first.get(index as usize) {
                 Some(number) => *number,
@@ -93,22 +61,22 @@ impl Numbered {
     }
 
     fn record(&mut self, card: u32, first: u32, second: u32) -> Result<(), Failure> {
-        let card = self.card(card)?;
-        let first = self.region(first)?;
-        let second = self.region(second)?;
+        let card = numbers::card(&self.layout, card)?;
+        let first = numbers::region(&self.layout, first)?;
+        let second = numbers::region(&self.layout, second)?;
         Ok(self.sets.record(card, &[first, second])?)
     }
 
     // Two cards, one of them named twice.
     fn record_many(&mut self, first: u32, second: u32, region: u32) -> Result<(), Failure> {
-        let first = self.card(first)?;
-        let second = self.card(second)?;
-        let region = self.region(region)?;
+        let first = numbers::card(&self.layout, first)?;
+        let second = numbers::card(&self.layout, second)?;
+        let region = numbers::region(&self.layout, region)?;
         Ok(self.sets.record_many(&[first, second, first], region)?)
     }
 
     fn cards(&self, region: u32) -> Result<Vec<Card>, Failure> {
-        let region = self.region(region)?;
+        let region = numbers::region(&self.layout, region)?;
         Ok(self.sets.cards(region)?)
     }
 }
@@ -117,26 +85,21 @@ impl Numbered {
 const EARLIER: [u32; 3] = [60, 61, 62];
 
 // Cards 0 to 39 go into two sets. Where either cannot grow, neither has the card.
-fn recorded(rt: &impl Eprint, sets: &mut Numbered) -> Result<(), Failure> {
+fn recorded<R: Eprint + AllocGlobal>(rt: &R) -> Result<(), Failure> {
+    let mut sets = Numbered::new(rt, 3, 64)?;
     for card in EARLIER {
-        if sets.record(card, 2, 2) == Err(Failure::NoMemory) {
+        if let Err(Failure::NoMemory) = sets.record(card, 2, 2) {
             refused(rt, "Sets::record");
             sets.record(card, 2, 2)?;
         }
     }
     for card in 0..40 {
-        if sets.record(card, 1, 2) == Err(Failure::NoMemory) {
+        if let Err(Failure::NoMemory) = sets.record(card, 1, 2) {
             refused(rt, "Sets::record");
-            check(
-                rt,
-                sets.has_just(1, &[], card)?,
-                "a refused record changed the first set",
-            )?;
-            check(
-                rt,
-                sets.has_just(2, &EARLIER, card)?,
-                "a refused record changed the second set",
-            )?;
+            let is = sets.has_just(1, &[], card)?;
+            check(rt, is, "a refused record changed the first set")?;
+            let is = sets.has_just(2, &EARLIER, card)?;
+            check(rt, is, "a refused record changed the second set")?;
             sets.record(card, 1, 2)?;
         }
     }
@@ -146,16 +109,14 @@ fn recorded(rt: &impl Eprint, sets: &mut Numbered) -> Result<(), Failure> {
 }
 
 // Cards 0 to 39 go into one set, two at a time. Where it cannot grow, it has neither.
-fn recorded_together(rt: &impl Eprint, sets: &mut Numbered) -> Result<(), Failure> {
+fn recorded_together<R: Eprint + AllocGlobal>(rt: &R) -> Result<(), Failure> {
+    let mut sets = Numbered::new(rt, 3, 64)?;
     for pair in 0..20 {
         let first = 2 * pair;
-        if sets.record_many(first, first + 1, 1) == Err(Failure::NoMemory) {
+        if let Err(Failure::NoMemory) = sets.record_many(first, first + 1, 1) {
             refused(rt, "Sets::record_many");
-            check(
-                rt,
-                sets.has_just(1, &[], first)?,
-                "a refused call changed the set",
-            )?;
+            let is = sets.has_just(1, &[], first)?;
+            check(rt, is, "a refused call changed the set")?;
             sets.record_many(first, first + 1, 1)?;
         }
     }
@@ -163,24 +124,17 @@ fn recorded_together(rt: &impl Eprint, sets: &mut Numbered) -> Result<(), Failur
     check(rt, sets.sets.total() == 40, "another set has a card")
 }
 
-// A set of few cards is sorted.
-fn few_listed(rt: &impl Eprint, sets: &mut Numbered) -> Result<(), Failure> {
-    listed(rt, sets, 4, 6)
-}
-
-// The cards of a large set are listed by flags for the cards of the heap.
-fn many_listed(rt: &impl Eprint, sets: &mut Numbered) -> Result<(), Failure> {
-    listed(rt, sets, 128, 600)
-}
-
-fn most_listed(rt: &impl Eprint, sets: &mut Numbered) -> Result<(), Failure> {
-    listed(rt, sets, 128, 1_100)
-}
-
 // The first region's set has `members` cards, from its neighbour's first card on; they were recorded from the last to the first.
-fn listed(rt: &impl Eprint, sets: &mut Numbered, first: u32, members: u32) -> Result<(), Failure> {
-    for card in (first..first.saturating_add(members)).rev() {
-        if sets.record(card, 0, 0) == Err(Failure::NoMemory) {
+// A set of few cards is sorted, and the cards of a large one are listed by flags for the cards of the heap.
+fn listed<R: Eprint + AllocGlobal>(
+    rt: &R,
+    regions: u32,
+    cards: u32,
+    members: u32,
+) -> Result<(), Failure> {
+    let mut sets = Numbered::new(rt, regions, cards)?;
+    for card in (cards..cards.saturating_add(members)).rev() {
+        if let Err(Failure::NoMemory) = sets.record(card, 0, 0) {
             refused(rt, "Sets::record");
             sets.record(card, 0, 0)?;
         }
@@ -188,23 +142,16 @@ fn listed(rt: &impl Eprint, sets: &mut Numbered, first: u32, members: u32) -> Re
     let list = match sets.cards(0) {
         Err(Failure::NoMemory) => {
             refused(rt, "Sets::cards");
-            check(
-                rt,
-                sets.sets.total() == members,
-                "a refused list changed the sets",
-            )?;
+            let is = sets.sets.total() == members;
+            check(rt, is, "a refused list changed the sets")?;
             sets.cards(0)?
         }
         answer => answer?,
     };
-    check(
-        rt,
-        list.len() == members as usize,
-        "the list has another length",
-    )?;
-    check(
-        rt,
-        are_numbered_from(list.as_slice(), first),
-        "the list is not ascending",
-    )
+    let is = list.len() == members as usize;
+    check(rt, is, "the list has another length")?;
+    for (card, number) in list.as_slice().iter().zip(cards..=u32::MAX) {
+        check(rt, card.number() == number, "the list is not ascending")?;
+    }
+    Ok(())
 }

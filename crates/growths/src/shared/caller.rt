@@ -7,12 +7,16 @@ use crate::books::{Answer, Ask, entered};
 use crate::callers::is_helped;
 use crate::numbers::{card, region, slot};
 use crate::outcome::{Failure, check, refused};
-use g1_core::{Fill, RefineReply, StoreReply};
+use crate::plans::{Plan, Step};
+use g1_book::Refusal;
+use g1_core::{Fill, StoreReply};
 use g1_layout::Layout;
 use g1_shared::{Caller, Frame, Shared};
-use g1_steps::FlushReply;
 use std::sync::Wait;
 use std::sync::ledger::Ledger;
+
+/// A call that is one call under the lock, the cards that it refines in order, and its answer.
+pub(crate) type Call = (Ask<'static>, &'static [u32], Answer<'static>);
 
 /// A shared book, and its only caller, which is a mutator.
 #[derive(Drop)]
@@ -23,8 +27,29 @@ pub(crate) struct SharedCaller<'a, M: Frame, S: Ledger> {
 }
 
 impl<M: Frame, S: Ledger> SharedCaller<'_, M, S> {
-    /// How many of its calls were entered, and how many of these are stores.
-    pub(crate) fn counts(&self) -> (u64, u64) {
+    /// Takes the steps of a plan, and makes the calls then.
+    pub(crate) fn play<R: Wait + Eprint>(
+        &mut self,
+        rt: &R,
+        plan: &Plan,
+        calls: &[Call],
+    ) -> Result<(), Failure> {
+        for step in plan.steps {
+            match step {
+                Step::Store(reference, fill, cards) => self.stored(rt, *reference, *fill, cards)?,
+                Step::Flush(cards) => self.flushed(rt, cards)?,
+                Step::Refine(cards, left) => self.refined(rt, cards, *left)?,
+                Step::Work(cards) => self.worked(rt, cards)?,
+            }
+        }
+        for (ask, order, answer) in calls {
+            self.made(rt, *ask, order, *answer)?;
+        }
+        Ok(())
+    }
+
+    // How many of its calls were entered, and how many of these are stores.
+    fn counts(&self) -> (u64, u64) {
         (self.caller.made(), self.caller.stored())
     }
 
@@ -45,24 +70,8 @@ impl<M: Frame, S: Ledger> SharedCaller<'_, M, S> {
         Ok(self.shared.store(rt, &mut self.caller, from, Some(to))?)
     }
 
-    fn flush<R: Wait>(&mut self, rt: &R) -> Result<FlushReply, Failure> {
-        let mutators = self.shared.lock(rt).book().mutators();
-        if self.caller.number() >= mutators {
-            return Err(Failure::Wrong);
-        }
-        Ok(self.shared.flush(rt, &mut self.caller))
-    }
-
-    pub(crate) fn refine<R: Wait>(&mut self, rt: &R) -> Result<RefineReply, Failure> {
-        Ok(self.shared.refine(rt, &mut self.caller)?)
-    }
-
-    pub(crate) fn work<R: Wait>(&mut self, rt: &R) -> Result<RefineReply, Failure> {
-        Ok(self.shared.work(rt, &mut self.caller)?)
-    }
-
-    /// Whether from `least` to `most` calls were entered since, and as many entries as calls are in the history.
-    pub(crate) fn has_made<R: Wait + Eprint>(
+    // Whether from `least` to `most` calls were entered since, and as many entries as calls are in the history.
+    fn has_made<R: Wait + Eprint>(
         &self,
         rt: &R,
         before: (u64, u64),
@@ -77,8 +86,8 @@ impl<M: Frame, S: Ledger> SharedCaller<'_, M, S> {
         check(rt, entries as u64 == calls, "how many entries there are")
     }
 
-    /// Stores a reference, again where that is refused, which leaves the caller's counts.
-    pub(crate) fn stored<R: Wait + Eprint>(
+    // Stores a reference, again where that is refused, which leaves the caller's counts.
+    fn stored<R: Wait + Eprint>(
         &mut self,
         rt: &R,
         reference: (u32, u32),
@@ -105,27 +114,66 @@ impl<M: Frame, S: Ledger> SharedCaller<'_, M, S> {
         check(rt, stores == before.1.saturating_add(1), "how many stores")
     }
 
-    /// Flushes the log into a full line, and refines what was in it. A short help may be no entry.
-    pub(crate) fn flushed<R: Wait + Eprint>(
-        &mut self,
-        rt: &R,
-        cards: &[u32],
-    ) -> Result<(), Failure> {
+    // Flushes the log into a full line, and refines what was in it. A short help may be no entry.
+    fn flushed<R: Wait + Eprint>(&mut self, rt: &R, cards: &[u32]) -> Result<(), Failure> {
         let before = self.counts();
-        let reply = self.flush(rt)?;
+        let mutators = self.shared.lock(rt).book().mutators();
+        if self.caller.number() >= mutators {
+            return Err(Failure::Wrong);
+        }
+        let reply = self.shared.flush(rt, &mut self.caller);
         let is = reply.cards as usize == cards.len();
         check(rt, is, "how many cards were flushed")?;
         is_helped(rt, "Shared::flush", &reply.refined, reply.short, cards)?;
         let is_refused = reply.short && reply.refined.is_empty();
         self.has_made(rt, before, if is_refused { 0 } else { 1 }, 1)
     }
+
+    // Refines the oldest buffer. A refused refinement gives up the buffer that it took, and enters nothing.
+    fn refined<R: Wait + Eprint>(
+        &mut self,
+        rt: &R,
+        cards: &[u32],
+        left: u32,
+    ) -> Result<(), Failure> {
+        let before = self.counts();
+        let reply = match self.shared.refine(rt, &mut self.caller) {
+            Err(Refusal::NoMemory) => {
+                refused(rt, "Shared::refine");
+                return self.has_made(rt, before, 0, 0);
+            }
+            answer => answer?,
+        };
+        is_helped(rt, "Shared::refine", &reply.refined, reply.short, cards)?;
+        check(rt, reply.left == left, "how many buffers are left")?;
+        self.has_made(rt, before, 1, 1)
+    }
+
+    // A round of refinement.
+    fn worked<R: Wait + Eprint>(&mut self, rt: &R, cards: &[u32]) -> Result<(), Failure> {
+        let before = self.counts();
+        let reply = match self.shared.work(rt, &mut self.caller) {
+            Err(Refusal::NoMemory) => {
+                refused(rt, "Shared::work");
+                return self.has_made(rt, before, 0, 0);
+            }
+            answer => answer?,
+        };
+        is_helped(rt, "Shared::work", &reply.refined, reply.short, cards)?;
+        let refined = reply.refined.len() as u64;
+        let is = reply.taken as u64 == refined;
+        check(rt, is, "how many buffers a round took")?;
+        // a short call is entered too
+        let most = refined.saturating_add(u64::from(reply.short));
+        self.has_made(rt, before, refined, most)
+    }
 }
 
 /// The calls that are one call under the lock.
 impl<M: Frame, S: Ledger> SharedCaller<'_, M, S> {
-    /// Makes a call that refines these cards in this order. A refused one leaves the caller's counts, and a short one is
-    /// entered; either is made again, and takes up where it stopped.
-    pub(crate) fn made<R: Wait + Eprint>(
+    // Makes a call that refines these cards in this order. A refused one leaves the caller's counts, and a short one is
+    // entered; either is made again, and takes up where it stopped.
+    fn made<R: Wait + Eprint>(
         &mut self,
         rt: &R,
         ask: Ask<'_>,
@@ -148,10 +196,11 @@ impl<M: Frame, S: Ledger> SharedCaller<'_, M, S> {
         order: &[u32],
         answer: Answer<'_>,
     ) -> Result<Option<usize>, Failure> {
+        let (_, name) = ask.names();
         let before = self.counts();
         match self.call(rt, ask) {
             Err(Failure::NoMemory) => {
-                refused(rt, name_of(ask));
+                refused(rt, name);
                 self.has_made(rt, before, 0, 0)?;
                 Ok(Some(0))
             }
@@ -160,7 +209,7 @@ impl<M: Frame, S: Ledger> SharedCaller<'_, M, S> {
                 self.has_made(rt, before, 1, 1)?;
                 let guard = self.shared.lock(rt);
                 let last = guard.book().entries().last().ok_or(Failure::Wrong)?;
-                entered(rt, name_of(ask), last, order, answer)
+                entered(rt, name, last, Some(order), answer)
             }
         }
     }
@@ -206,19 +255,5 @@ impl<M: Frame, S: Ledger> SharedCaller<'_, M, S> {
         }
         let _ = self.shared.redirect(rt, &mut self.caller, from, to)?;
         Ok(())
-    }
-}
-
-// The name that a refused call is told by.
-fn name_of(ask: Ask<'_>) -> &'static str {
-    match ask {
-        Ask::Target(_) => "Shared::target",
-        Ask::Pending(_) => "Shared::is_pending",
-        Ask::Members(_) => "Shared::members",
-        Ask::Status => "Shared::status",
-        Ask::Drain(_) => "Shared::drain",
-        Ask::Clear(_) => "Shared::clear",
-        Ask::Redirect(..) => "Shared::redirect",
-        Ask::Store(..) | Ask::Refine(_) => "no call that is asked",
     }
 }
