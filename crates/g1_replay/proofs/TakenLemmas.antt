@@ -1,5 +1,5 @@
 -- What a machinery takes after a command.
-use Rattle.std.proofs.Common.{◌≡◌, ◌<◌, ◌≤◌, ℕ, List, length, ap, sym, ◌∙◌, arith, true, false}
+use Rattle.std.proofs.Common.{◌≡◌, ◌≤◌, ℕ, List, length, ap, sym, ◌∙◌, arith, true, false}
 use Rattle.g1_layout.specs.Shape.{Shape}
 use Rattle.g1_book.specs.History.{History, layout_in}
 use Rattle.g1_steps.specs.Lent.{Grows}
