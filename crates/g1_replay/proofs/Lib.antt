@@ -10,6 +10,7 @@ pub mod RanLemmas
 pub mod ScriptedLemmas
 pub mod CrewLemmas
 pub mod SweptLemmas
+pub mod TakenLemmas
 pub mod PlacedLemmas
 pub mod StoreLemmas
 pub mod RanRaceLemmas

@@ -1,5 +1,5 @@
 -- Lists whose items fit their places, and lists of members, by kinds.
-use Rattle.std.proofs.Common.{◌≡◌, ℕ, suc, ◌+◌, List, [], ◌∷◌, ◌++◌, length, map, ap, sym, subst, ◌∙◌, refl, arith, append_assoc, All, Option}
+use Rattle.std.proofs.Common.{◌≡◌, ℕ, suc, ◌+◌, List, [], ◌∷◌, ◌++◌, length, map, ap, sym, subst, ◌∙◌, refl, arith, append_assoc, All, Option, append-nil}
 use Rattle.std.specs.Prelude.{sum_by}
 use Rattle.std.specs.List.{filter_map}
 use Rattle.std.proofs.lemmas.List.{map-append}
@@ -31,6 +31,10 @@ pub list_moves : {A B : Type 0} (f : A → B) (xs now : List A) (ys rest : List 
 list_moves f xs now ys rest x y all p q e was =
     ap (λ l. map f l ++ rest) p ∙ ap (λ l. l ++ rest) (map-append f xs (x ∷ [])) ∙ append_assoc (map f xs) (f x ∷ []) rest ∙ ap (λ z. map f xs ++ z ∷ rest) e ∙ ap (λ l. map f xs ++ l) (sym q) ∙ was
 
+pub all_moved : {B : Type 0} (old rest all : List B) → length rest ≡ 0 → old ++ rest ≡ all → old ≡ all
+all_moved old [] all e was = sym (append-nil old) ∙ was
+all_moved old (y ∷ rest) all e was = absurd (omega (arith, e))
+
 -- the first of the members that are left is sorted in behind those that were
 pub sorted_more : {D B : Type 0} (member : D → Member) (kind : Member → Option B) (old new all : List B) (ds rest : List D) (d : D) (m : Member) → new ≡ old ++ filter_map kind (m ∷ []) → ds ≡ d ∷ rest → m ≡ member d
     → old ++ filter_map kind (map member ds) ≡ all → new ++ filter_map kind (map member rest) ≡ all
@@ -38,6 +42,14 @@ sorted_more member kind old new all ds rest d m p q e was =
     ap (λ l. l ++ filter_map kind (map member rest)) p ∙ append_assoc old (filter_map kind (m ∷ [])) (filter_map kind (map member rest))
     ∙ ap (λ l. old ++ l) (sym (filter_map-append kind (m ∷ []) (map member rest)))
     ∙ ap (λ (x : Member). old ++ filter_map kind (x ∷ map member rest)) e ∙ ap (λ l. old ++ filter_map kind (map member l)) (sym q) ∙ was
+
+-- at first no member is sorted, and at the end none is left
+pub sorted_none : {D B : Type 0} (member : D → Member) (kind : Member → Option B) (old : List B) (ds all : List D) → old ≡ [] → ds ≡ all → old ++ filter_map kind (map member ds) ≡ filter_map kind (map member all)
+sorted_none member kind old ds all p q = ap (λ l. l ++ filter_map kind (map member ds)) p ∙ ap (λ l. filter_map kind (map member l)) q
+
+pub sorted_all : {D B : Type 0} (member : D → Member) (kind : Member → Option B) (old all : List B) (ds : List D) → length ds ≡ 0 → old ++ filter_map kind (map member ds) ≡ all → old ≡ all
+sorted_all member kind old all [] e was = sym (append-nil old) ∙ was
+sorted_all member kind old all (d ∷ ds) e was = absurd (omega (arith, e))
 
 -- the kinds of members, sorted
 

@@ -80,6 +80,11 @@ none_first o os e = split (refusal_in o) (first_refusal os) e
 pub first_left : {D : Type 0} (outcome : D → Option (Result ℕ (ℕ × Refusal))) (ds rest : List D) (d : D) (total : Option Refusal) → ds ≡ d ∷ rest → None ≡ refusal_in (outcome d) → first_refusal (map outcome ds) ≡ total → first_refusal (map outcome rest) ≡ total
 first_left {D = D} outcome ds rest d total e none was = ap (λ (o : Option Refusal). option_or o (first_refusal (map outcome rest))) none ∙ ap (λ (l : List D). first_refusal (map outcome l)) (sym e) ∙ was
 
+-- where no job is left, none was refused
+pub none_left : {D : Type 0} (outcome : D → Option (Result ℕ (ℕ × Refusal))) (ds : List D) (total : Option Refusal) → length ds ≡ 0 → first_refusal (map outcome ds) ≡ total → total ≡ None
+none_left outcome [] total e was = sym was
+none_left outcome (d ∷ ds) total e was = absurd (omega (arith, e))
+
 module _ {D : Type 0} (member : D → Member) where
   abbrev pub Did : D → List Ask → D → Type 0
   Did d asks e = MemberDid (member d) asks (member e)

@@ -17,6 +17,11 @@ pub kept_ok : {V E : Type 0} (r : Result V E) (old new : List ℕ) (card : ℕ) 
 kept_ok (Ok v) old new card h = λ other c. swept_before old new card other h c
 kept_ok (Err e) old new card h = tt
 
+-- and the card itself does, by each of its names
+pub swept_ok : {V E : Type 0} (r : Result V E) (old new : List ℕ) (card asked count : ℕ) → card ≡ asked → OnOk r (new ≡ card ∷ old) → OnOk r (asked < count → Contains new asked)
+swept_ok (Ok v) old new card asked count e h = λ lt. subst (λ (k : ℕ). Contains new k) e (swept_here old new card h)
+swept_ok (Err x) old new card asked count e h = tt
+
 -- one card more
 pub swept_more : (count : ℕ) (cards old new : List ℕ) (i d : ℕ) → i < length cards → (get_or cards i d < count → Contains new (get_or cards i d)) → ((other : ℕ) → Contains old other → Contains new other)
     → All (λ card. card < count → Contains old card) (take i cards) → All (λ card. card < count → Contains new card) (take (i + 1) cards)

@@ -1,6 +1,34 @@
+use Rattle.std.proofs.Common.{arith}
+use Rattle.std.proofs.lemmas.List.Elements.{length_all_zip}
 use Rattle.g1_replay.proofs.ScriptLemmas.{script_fits_for}
 use Rattle.g1_replay.proofs.crew_jobs.run_jobs.Goals as goal
+
+pub open-requires-clause-made : goal.open-requires-clause-made
+open-requires-clause-made g c = c.requires.made
+
+pub open-requires-clause-stored : goal.open-requires-clause-stored
+open-requires-clause-stored g c = c.requires.stored
+
+pub open-requires-clause-terms : goal.open-requires-clause-terms
+open-requires-clause-terms g c = c.requires.terms
+
+pub open-requires-clause-empty : goal.open-requires-clause-empty
+open-requires-clause-empty g c = c.requires.empty
+
+pub jobs_of-requires : goal.jobs_of-requires
+jobs_of-requires g c = λ k d lt. (c.in-Ok.ensures.each k d (omega (arith, lt, c.in-Ok.ensures.callers, c.in-Ok.callers.ok.0))).of
 
 pub run_crew-requires-after_bounds : goal.run_crew-requires-after_bounds
 run_crew-requires-after_bounds g c lts lives k d lt =
     script_fits_for g.M.Frame.terms.layout c.args.options.now.mutators g.M.Frame.terms.mutators c.args.options.now.rounds _ c.args.commands.now _ c.requires.mutators c.requires.commands (c.in_ok-jobs.ensures.scripts k d lt)
+
+-- as many come back as there are callers, for whom there is room
+pub callers_of-callers-requires : goal.callers_of-callers-requires
+callers_of-callers-requires g c =
+    let run = length_all_zip _ c.in_ok-jobs.jobs.items c.in_ok-done.done.items c.in_ok-done.ensures in (
+      c.in_ok-room.ensures.len,
+      omega (arith, run, c.in_ok-room.ensures.capacity, c.in_ok-jobs.ensures.len, c.in-Ok.ensures.callers, c.in_ok-jobs.jobs.ok.0, c.in_ok-done.done.ok.0),
+    )
+
+pub returns-clause-terms : goal.returns-clause-terms
+returns-clause-terms g c = c.finish.ensures.terms
