@@ -1,5 +1,5 @@
 -- One call more of a counted book, by one of its callers.
-use Rattle.std.specs.Prelude.{◌≡◌, ◌<◌, ◌≤◌, ◌*◌, ◌^◌, ◌↔◌, ℕ, ◌+◌, Bool, true, [], ◌∷◌, ◌++◌, Option, Result, Ok, Err, false, length, count_by, cond, IfOk, OnOk, OnErr, IsSome}
+use Rattle.std.specs.Prelude.{◌≡◌, ◌<◌, ◌≤◌, ◌*◌, ◌^◌, ◌↔◌, ℕ, ◌+◌, Bool, true, [], ◌∷◌, Option, Result, Ok, Err, false, length, count_by, cond, IfOk, OnOk, OnErr, IsSome}
 use Rattle.std.specs.Result.{IsErr}
 use Rattle.std.proofs.Common.{sym, ap, ◌∙◌, subst, arith, refl, length-append}
 use Rattle.g1_layout.specs.Shape.{Shape}
@@ -40,6 +40,14 @@ call_counted terms made now stored old e new was h plain one = (
 
 below_word : (made n m limit : ℕ) → made ≡ n → m ≡ n + 1 → m ≤ limit → limit ≤ 1000000 → made < 2 ^ 32
 below_word made n m limit same more within high = omega arith
+
+-- a store counts in both totals
+pub store_counted : (terms : Terms) (made now stored all : ℕ) (old : History) (e : Entry) (new : History) → AreCounted terms made stored old → IsEntered old e new → is_store e ≡ true → now ≡ made + 1 → all ≡ stored + 1 → AreCounted terms now all new
+store_counted terms made now stored all old e new was h store one more = (
+  one ∙ ap (λ (n : ℕ). n + 1) was.0 ∙ sym (entries_more old e new h),
+  more ∙ ap (λ (b : Bool). stored + cond b 1 0) (sym store) ∙ stores_more old.entries new.entries e stored was.1 h.entries,
+  h.terms ∙ was.2,
+)
 
 -- there is room in the total for one more
 pub total_fits : (terms : Terms) (made stored : ℕ) (old new : History) (e : Entry) → AreCounted terms made stored old → IsEntered old e new → IsHistory new → made < 2 ^ 32

@@ -1,9 +1,16 @@
+use Rattle.std.proofs.Common.{refl}
 use Rattle.g1_core.specs.Calls.{store_entry}
-use Rattle.g1_shared.proofs.CallLemmas.{same_counted, entered_of, store_tallied, full_as, if_refused, on_refused}
+use Rattle.g1_shared.proofs.CallLemmas.{same_counted, store_counted, total_fits, entered_of, store_tallied, full_as, if_refused, on_refused}
 use Rattle.g1_shared.proofs.counted.Counted.store_by.Goals as goal
 
 pub invariant_of-self : goal.invariant_of-self
 invariant_of-self g c = same_counted _ _ _ _ _ c.self.invariant c.in_err-answer.ensures.err
+
+pub raise-requires : goal.raise-requires
+raise-requires g c = record { part = c.counts.invariant.0; same = c.counts.invariant.1; fits = total_fits _ _ _ _ _ _ c.self.invariant c.in_ok-answer.ensures.entered c.entries-entries.ensures.history }
+
+pub invariant_of-self-2 : goal.invariant_of-self-2
+invariant_of-self-2 g c = store_counted _ _ _ _ _ _ _ _ c.self.invariant c.in_ok-answer.ensures.entered refl c.raise.ensures.total c.raise-2.ensures.total
 
 pub invariant_of-counts : goal.invariant_of-counts
 invariant_of-counts g c = (c.raise.ensures.parts, c.raise.ensures.amount, c.raise-2.ensures.parts, c.raise-2.ensures.amount)
