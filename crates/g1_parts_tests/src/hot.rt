@@ -42,6 +42,10 @@ impl Fixture {
         answer
     }
 
+    fn oldest(&self) -> Option<Card> {
+        self.hot.oldest()
+    }
+
     fn pop(&mut self) -> Option<Card> {
         self.hot.pop_oldest()
     }
@@ -55,24 +59,15 @@ impl Fixture {
     }
 }
 
-/// How often card 3 is refined before it is hot.
-fn colds_before_hot(rt: &impl Abort, alloc: Global, limit: u32) -> Result<u32, NoMemory>
-    requires { limit ≤ 255 }
-{
-    let mut fixture = Fixture::new(rt, alloc, limit, 1)?;
-    for colds in 0..300 {
-        if fixture.offer(rt, 3) == Offer::Kept {
-            return Ok(colds);
-        }
-    }
-    Ok(300)
-}
-
 #[test]
 fn a_card_is_hot_once_it_was_refined_as_often_as_the_limit(rt: HostRuntime) -> Result<(), Fail> {
-    assert_eq!(rt; colds_before_hot(&rt, rt.alloc(), 0)?, 0);
-    assert_eq!(rt; colds_before_hot(&rt, rt.alloc(), 1)?, 1);
-    assert_eq!(rt; colds_before_hot(&rt, rt.alloc(), 255)?, 255);
+    for limit in [0, 1, 255] {
+        let mut fixture = Fixture::new(&rt, rt.alloc(), limit, 1)?;
+        for _ in 0..limit {
+            assert_eq!(rt; fixture.offer(&rt, 3), Offer::Cold, "limit {limit}");
+        }
+        assert_eq!(rt; fixture.offer(&rt, 3), Offer::Kept, "limit {limit}");
+    }
     Ok(())
 }
 
@@ -92,27 +87,18 @@ fn each_card_has_its_own_count(rt: HostRuntime) -> Result<(), Fail> {
     Ok(())
 }
 
+/// The ring of one card hands out the card before; the largest ring, the card 4,096 before.
 #[test]
-fn a_ring_of_one_hands_out_the_card_before(rt: HostRuntime) -> Result<(), Fail> {
-    let mut fixture = Fixture::new(&rt, rt.alloc(), 0, 1)?;
-    fixture.fill(&rt, 1);
-    for number in 1..5 {
-        let before = fixture.card(&rt, number - 1);
-        assert_eq!(rt; fixture.offer(&rt, number), Offer::Out(before));
-        assert_eq!(rt; fixture.hot.len(), 1);
-    }
-    Ok(())
-}
-
-#[test]
-fn the_largest_ring_hands_out_its_oldest(rt: HostRuntime) -> Result<(), Fail> {
-    let mut fixture = Fixture::new(&rt, rt.alloc(), 0, 4096)?;
-    fixture.fill(&rt, 4096);
-    for number in 4096..4352 {
-        let oldest = fixture.card(&rt, number - 4096);
-        assert_eq!(rt; fixture.hot.oldest(), Some(oldest));
-        assert_eq!(rt; fixture.offer(&rt, number), Offer::Out(oldest));
-        assert_eq!(rt; fixture.hot.len(), 4096);
+fn a_full_ring_hands_out_its_oldest(rt: HostRuntime) -> Result<(), Fail> {
+    for (capacity, end) in [(1, 5), (4096, 4352)] {
+        let mut fixture = Fixture::new(&rt, rt.alloc(), 0, capacity as usize)?;
+        fixture.fill(&rt, capacity);
+        for number in capacity..end {
+            let oldest = fixture.card(&rt, number - capacity);
+            assert_eq!(rt; fixture.oldest(), Some(oldest));
+            assert_eq!(rt; fixture.offer(&rt, number), Offer::Out(oldest));
+            assert_eq!(rt; fixture.hot.len(), capacity as usize);
+        }
     }
     Ok(())
 }
@@ -125,11 +111,12 @@ fn the_ring_empties_oldest_first(rt: HostRuntime) -> Result<(), Fail> {
     assert!(rt; !fixture.hot.is_empty());
     for number in 0..3 {
         let oldest = fixture.card(&rt, number);
-        assert_eq!(rt; fixture.hot.oldest(), Some(oldest));
-        assert_eq!(rt; fixture.pop(), Some(oldest));
+        assert_eq!(rt;
+            (fixture.oldest(), fixture.pop()),
+            (Some(oldest), Some(oldest))
+        );
     }
-    assert_eq!(rt; fixture.hot.oldest(), None);
-    assert_eq!(rt; fixture.pop(), None);
+    assert_eq!(rt; (fixture.oldest(), fixture.pop()), (None, None));
     assert!(rt; fixture.hot.is_empty());
     Ok(())
 }
@@ -141,8 +128,11 @@ fn a_reset_forgets_the_counts_and_keeps_the_ring(rt: HostRuntime) -> Result<(), 
         assert_eq!(rt; fixture.offer(&rt, number), want, "card {number}");
     }
     fixture.hot.reset_counts();
-    assert_eq!(rt; fixture.hot.oldest(), Some(fixture.card(&rt, 7)));
-    assert_eq!(rt; fixture.pop(), Some(fixture.card(&rt, 7)));
+    let oldest = fixture.card(&rt, 7);
+    assert_eq!(rt;
+        (fixture.oldest(), fixture.pop()),
+        (Some(oldest), Some(oldest))
+    );
     for (number, want) in [
         (7, Offer::Cold),
         (4351, Offer::Cold),

@@ -3,6 +3,7 @@
 use g1_layout::{Card, Kind, Layout, NoMemory, Region, Slot};
 use std::alloc::Global;
 use std::collections::HashSet;
+use std::process::Abort;
 use std::test::Fail;
 
 #[test]
@@ -26,24 +27,43 @@ fn limits(rt: HostRuntime) {
         (u32::MAX, u32::MAX, u32::MAX, false),
     ];
     for (regions, cards, slots, good) in heaps {
-        let layout = Layout::new(regions, cards, slots);
-        assert_eq!(rt; layout.is_some(), good, "heap {regions} {cards} {slots}");
-        if let Some(layout) = layout {
-            assert_eq!(rt; layout.counts(), (regions, cards, slots));
-        }
+        let counts = good.then_some((regions, cards, slots));
+        assert_eq!(rt;
+            counts_of(regions, cards, slots),
+            counts,
+            "heap {regions} {cards} {slots}"
+        );
     }
+}
+
+// The counts of this heap, if there is one.
+fn counts_of(regions: u32, cards: u32, slots: u32) -> Option<(u32, u32, u32)> {
+    Some(Layout::new(regions, cards, slots)?.counts())
+}
+
+// The numbers of a slot, a card and a region, where the heap of 4 regions of 2 cards of 4 slots has them.
+fn numbers_of(slot: u32, card: u32, region: u32) -> [Option<u32>; 3] {
+    let mut numbers = [None; 3];
+    let Some(layout) = Layout::new(4, 2, 4) else {
+        return numbers;
+    };
+    if let Some(slot) = layout.slot(slot) {
+        numbers[0] = Some(slot.number());
+    }
+    if let Some(card) = layout.card(card) {
+        numbers[1] = Some(card.number());
+    }
+    if let Some(region) = layout.region(region) {
+        numbers[2] = Some(region.number());
+    }
+    numbers
 }
 
 #[test]
 fn numbers_end_with_the_heap(rt: HostRuntime) {
-    let layout = Layout::new(4, 2, 4).expect(&rt, "good");
-    assert_eq!(rt; layout.slot(31).map(Slot::number), Some(31));
-    assert_eq!(rt; layout.slot(32), None);
-    assert_eq!(rt; layout.slot(u32::MAX), None);
-    assert_eq!(rt; layout.card(7).map(Card::number), Some(7));
-    assert_eq!(rt; layout.card(8), None);
-    assert_eq!(rt; layout.region(3).map(Region::number), Some(3));
-    assert_eq!(rt; layout.region(4), None);
+    assert_eq!(rt; numbers_of(31, 7, 3), [Some(31), Some(7), Some(3)]);
+    assert_eq!(rt; numbers_of(32, 8, 4), [None, None, None]);
+    assert_eq!(rt; numbers_of(u32::MAX, 8, 4), [None, None, None]);
 }
 
 // each slot with its card, its region, and the first slot of that card
@@ -66,31 +86,35 @@ fn places_of_slots(rt: HostRuntime) {
         ((256, 64, 64), 4_096, (64, 1, 4_096)),
         ((256, 64, 64), 1_048_575, (16_383, 255, 1_048_512)),
     ];
-    for ((regions, cards, slots), number, (card, region, first)) in slots {
-        let layout = Layout::new(regions, cards, slots).expect(&rt, "good");
-        let slot = layout.slot(number).expect(&rt, "a slot");
-        let its_card = layout.card_of(slot);
-        assert_eq!(rt; its_card.number(), card, "card of {number}");
+    for (heap, number, (card, region, first)) in slots {
         assert_eq!(rt;
-            layout.region_of(slot).number(),
-            region,
-            "region of {number}"
-        );
-        assert_eq!(rt;
-            layout.region_of_card(its_card).number(),
-            region,
-            "region of card {card}"
-        );
-        assert_eq!(rt;
-            layout.first_slot(its_card).number(),
-            first,
-            "first slot of card {card}"
+            place_of(&rt, heap, number),
+            (card, region, region, first),
+            "slot {number} of {heap:?}"
         );
     }
 }
 
+// The card of a slot, the region of both, and the first slot of the card.
+fn place_of(
+    rt: &impl Abort,
+    (regions, cards, slots): (u32, u32, u32),
+    number: u32,
+) -> (u32, u32, u32, u32) {
+    let layout = Layout::new(regions, cards, slots).expect(rt, "good");
+    let slot = layout.slot(number).expect(rt, "a slot");
+    let card = layout.card_of(slot);
+    (
+        card.number(),
+        layout.region_of(slot).number(),
+        layout.region_of_card(card).number(),
+        layout.first_slot(card).number(),
+    )
+}
+
+// a slot at an offset of a card and of another region, and what places and a refused growth say as texts
 #[test]
-fn slots_at_an_offset(rt: HostRuntime) -> Result<(), Fail> {
+fn slots_at_an_offset_and_texts(rt: HostRuntime) -> Result<(), Fail> {
     let layout = Layout::new(3, 5, 7).expect(&rt, "good");
     assert_eq!(rt; (layout.slot_count(), layout.card_count()), (105, 15));
     let card = layout.card(14).expect(&rt, "a card");
@@ -98,14 +122,13 @@ fn slots_at_an_offset(rt: HostRuntime) -> Result<(), Fail> {
     let region = layout.region(1).expect(&rt, "a region");
     let moved = layout.same_offset(layout.slot_at(card, 6), region);
     assert_eq!(rt; moved.number(), 69);
-    let alloc = rt.alloc();
-    let text = format!(in alloc; "slot {moved}, card {card:>3}, region {region}")?;
-    assert_eq!(rt; text.as_str(), "slot 69, card  14, region 1");
+    let text = format!(in rt.alloc(); "slot {moved}, card {card:>3}, region {region}, {NoMemory}")?;
+    assert_eq!(rt; text.as_str(), "slot 69, card  14, region 1, no memory");
     Ok(())
 }
 
 #[test]
-fn numbers_compare_and_hash(rt: HostRuntime) -> Result<(), Fail> {
+fn numbers_and_kinds_compare(rt: HostRuntime) -> Result<(), Fail> {
     let layout = Layout::new(4, 2, 4).expect(&rt, "good");
     assert_eq!(rt; layout.slot(0), Some(Slot::default()));
     assert_eq!(rt; layout.card(0), Some(Card::default()));
@@ -113,17 +136,19 @@ fn numbers_compare_and_hash(rt: HostRuntime) -> Result<(), Fail> {
     assert!(rt; layout.slot(8) < layout.slot(9));
     assert!(rt; layout.card(5) > layout.card(4));
     assert!(rt; layout.region(1) <= layout.region(1));
-    let mut cards = HashSet::new(rt.alloc());
-    assert!(rt; cards.insert(Card::default())?);
-    assert!(rt; !cards.insert(Card::default())?);
-    Ok(())
-}
-
-#[test]
-fn kinds_differ(rt: HostRuntime) {
+    assert_eq!(rt; insert_twice(rt.alloc())?, (true, false));
     assert_eq!(rt; Kind::Logged, Kind::Logged);
     assert!(rt; Kind::AlreadyDirty != Kind::Logged);
     assert!(rt; Kind::SameRegion != Kind::Null);
+    Ok(())
+}
+
+// Whether a set of cards was told something new, the first time and again.
+fn insert_twice(alloc: Global) -> Result<(bool, bool), Fail> {
+    let mut cards = HashSet::new(alloc);
+    let first = cards.insert(Card::default())?;
+    let again = cards.insert(Card::default())?;
+    Ok((first, again))
 }
 
 fn numbers_up_to(alloc: Global, room: usize) -> Result<Vec<u64>, NoMemory> {
@@ -137,9 +162,5 @@ fn numbers_up_to(alloc: Global, room: usize) -> Result<Vec<u64>, NoMemory> {
 fn a_refused_growth(rt: HostRuntime) -> Result<(), Fail> {
     assert_eq!(rt; numbers_up_to(rt.alloc(), 0)?.len(), 1);
     assert_eq!(rt; numbers_up_to(rt.alloc(), usize::MAX).err(), Some(NoMemory));
-    assert_eq!(rt;
-        format!(in rt.alloc(); "{}", NoMemory)?.as_str(),
-        "no memory"
-    );
     Ok(())
 }

@@ -11,4 +11,6 @@ mod layout;
 #[cfg(test)]
 mod log;
 #[cfg(test)]
+mod samples;
+#[cfg(test)]
 mod sets;

@@ -2,4 +2,3 @@
 mod done;
 mod filling;
 mod line;
-mod samples;

@@ -1,11 +1,15 @@
 //! What a proof does not show: that calls succeed, with the cards in the order that was worked out by hand.
 ghost use Rattle.std.specs.Prelude.{◌≡◌};
 
+use crate::samples::are_numbered;
 use g1_layout::{Card, Layout, Region};
 use g1_sets::Sets;
 use std::alloc::Global;
 use std::process::Abort;
 use std::test::Fail;
+
+// A region, its cards as they came, and as they ascend.
+type Wanted<'a> = (u32, &'a [u32], &'a [u32]);
 
 // Sets whose cards and regions are named by number.
 #[derive(Drop)]
@@ -65,37 +69,36 @@ impl Numbered {
         Ok(self.sets.has(card, region))
     }
 
-    // A walk gives these cards, and `cards` gives them sorted.
-    fn assert_cards(
-        &self,
-        rt: &impl Abort,
-        region: u32,
-        inserted: &[u32],
-        sorted: &[u32],
-    ) -> Result<(), Fail> {
-        let region = self.region(region)?;
+    // How many cards there are in all, and those of some regions: a walk gives the first, and `cards` the second, sorted.
+    fn assert_sets(&self, rt: &impl Abort, total: u32, wanted: &[Wanted<'_>]) -> Result<(), Fail> {
+        assert!(rt; self.sets.total() == total);
+        for (region, inserted, sorted) in wanted {
+            let region = self.region(*region)?;
+            self.assert_walked(rt, region, inserted);
+            assert!(rt; are_numbered(self.sets.members(region), inserted));
+            assert!(rt; are_numbered(self.sets.cards(region)?.as_slice(), sorted));
+        }
+        Ok(())
+    }
+
+    fn assert_walked(&self, rt: &impl Abort, region: Region, inserted: &[u32])
+        requires { region < self.now.layout.regions }
+    {
         assert!(rt; self.sets.len(region) as usize == inserted.len());
         for index in 0..self.sets.len(region) {
             let card = self.sets.at(region, index);
             assert!(rt; inserted.get(index as usize) == Some(&card.number()));
         }
-        assert!(rt; are_numbered(self.sets.members(region), inserted));
-        assert!(rt; are_numbered(self.sets.cards(region)?.as_slice(), sorted));
-        Ok(())
     }
 
     // Every card, from the last to the first of these numbers, for one region.
     fn fill(&mut self, region: u32, first: u32, end: u32) -> Result<(), Fail> {
         for number in (first..end).rev() {
-            self.record_one(number, region)?;
+            let card = self.card(number)?;
+            let region = self.region(region)?;
+            self.sets.record(card, &[region])?;
         }
         Ok(())
-    }
-
-    fn record_one(&mut self, card: u32, region: u32) -> Result<(), Fail> {
-        let card = self.card(card)?;
-        let region = self.region(region)?;
-        Ok(self.sets.record(card, &[region])?)
     }
 
     fn assert_ascending(
@@ -107,39 +110,43 @@ impl Numbered {
     ) -> Result<(), Fail> {
         let region = self.region(region)?;
         let cards = self.sets.cards(region)?;
-        assert!(rt; cards.iter().map(|card| card.number()).eq(first..end));
+        let mut next = first;
+        for card in cards.as_slice() {
+            assert_eq!(rt; card.number(), next);
+            next = next.saturating_add(1);
+        }
+        assert_eq!(rt; next, end);
         Ok(())
     }
-}
-
-// Whether the cards have just these numbers, in this order.
-fn are_numbered(cards: &[Card], numbers: &[u32]) -> bool {
-    cards
-        .iter()
-        .map(|card| card.number())
-        .eq(numbers.iter().copied())
 }
 
 #[test]
 fn each_call_once(rt: HostRuntime) -> Result<(), Fail> {
     let mut sets = Numbered::new(rt.alloc(), 4, 2, 4)?;
-    sets.record(7, 0, 3)?;
-    sets.record(2, 0, 0)?;
-    sets.record(7, 0, 0)?;
-    sets.assert_cards(&rt, 0, &[7, 2], &[2, 7])?;
-    sets.assert_cards(&rt, 1, &[], &[])?;
-    sets.assert_cards(&rt, 3, &[7], &[7])?;
-    assert!(rt; sets.has(7, 3)? && !sets.has(2, 3)? && !sets.has(7, 1)?);
-    assert!(rt; sets.sets.total() == 3);
-    sets.record_many([5, 2], 1)?;
-    sets.record_many([2, 0], 3)?;
-    sets.assert_cards(&rt, 1, &[5, 2], &[2, 5])?;
-    sets.assert_cards(&rt, 3, &[7, 2, 0], &[0, 2, 7])?;
+    for (card, first, second) in [(7, 0, 3), (2, 0, 0), (7, 0, 0)] {
+        sets.record(card, first, second)?;
+    }
+    sets.assert_sets(
+        &rt,
+        3,
+        &[(0, &[7, 2], &[2, 7]), (1, &[], &[]), (3, &[7], &[7])],
+    )?;
+    for (card, region, has) in [(7, 3, true), (2, 3, false), (7, 1, false)] {
+        assert!(rt;
+            sets.has(card, region)? == has,
+            "card {card} for region {region}"
+        );
+    }
+    for (cards, region) in [([5, 2], 1), ([2, 0], 3)] {
+        sets.record_many(cards, region)?;
+    }
+    sets.assert_sets(
+        &rt,
+        7,
+        &[(1, &[5, 2], &[2, 5]), (3, &[7, 2, 0], &[0, 2, 7])],
+    )?;
     sets.clear(0)?;
-    sets.assert_cards(&rt, 0, &[], &[])?;
-    sets.assert_cards(&rt, 3, &[7, 2, 0], &[0, 2, 7])?;
-    assert!(rt; sets.sets.total() == 5);
-    Ok(())
+    sets.assert_sets(&rt, 5, &[(0, &[], &[]), (3, &[7, 2, 0], &[0, 2, 7])])
 }
 
 #[test]

@@ -1,39 +1,38 @@
-ghost use Rattle.std.specs.Prelude.{◌≤◌};
-
-use crate::log::samples::{are_numbered, buffer};
+use crate::samples::{are_numbered, buffer};
 use g1_log::{Done, Why};
-use std::alloc::Global;
 use std::process::Abort;
 use std::test::Fail;
 
-// Adds buffers up to the limit and one more, and takes them all out again.
-fn fill_and_empty(rt: &impl Abort, alloc: Global, limit: u32) -> Result<(), Fail>
-    requires low { 1 ≤ limit }
-    requires high { limit ≤ 1024 }
-{
-    let mut done = Done::new(alloc, limit as usize);
-    for number in 0..limit {
-        done.add(buffer(&[number])?).map_err(|(_, why)| why)?;
+// Adds the buffer of these cards.
+fn add(done: &mut Done, numbers: &[u32]) -> Result<(), Fail> {
+    match done.add(buffer(numbers)?) {
+        Ok(()) => Ok(()),
+        Err((_, why)) => Err(Fail::from(why)),
     }
-    let Err((back, why)) = done.add(buffer(&[2000])?) else {
-        return Err(Fail::new("a buffer past the limit"));
-    };
-    assert_eq!(rt; why, Why::Full);
-    assert!(rt; are_numbered(back.cards(), &[2000]));
-    assert_eq!(rt; done.len(), limit as usize);
-    for number in 0..limit {
-        let oldest = done.take_oldest().ok_or("too few buffers")?;
-        assert!(rt; are_numbered(oldest.cards(), &[number]));
-    }
-    assert!(rt; done.is_empty());
-    assert!(rt; done.take_oldest().is_none());
-    Ok(())
 }
 
+// Buffers are added up to the limit and one more, and all taken out again.
 #[test]
 fn buffers_leave_oldest_first_up_to_the_limit(rt: HostRuntime) -> Result<(), Fail> {
-    fill_and_empty(&rt, rt.alloc(), 1)?;
-    fill_and_empty(&rt, rt.alloc(), 1024)
+    for limit in [1, 1024] {
+        let mut done = Done::new(rt.alloc(), limit as usize);
+        for number in 0..limit {
+            add(&mut done, &[number])?;
+        }
+        let Err((back, why)) = done.add(buffer(&[2000])?) else {
+            return Err(Fail::new("a buffer past the limit"));
+        };
+        assert_eq!(rt; why, Why::Full);
+        assert!(rt; are_numbered(back.cards(), &[2000]));
+        assert_eq!(rt; done.len(), limit as usize);
+        for number in 0..limit {
+            let oldest = done.take_oldest().ok_or("too few buffers")?;
+            assert!(rt; are_numbered(oldest.cards(), &[number]));
+        }
+        assert!(rt; done.is_empty());
+        assert!(rt; done.take_oldest().is_none());
+    }
+    Ok(())
 }
 
 // Cuts the oldest buffer, which has these cards.
@@ -48,9 +47,9 @@ fn cut(rt: &impl Abort, done: &mut Done, numbers: &[u32], n: usize) -> Result<()
 #[test]
 fn the_oldest_buffer_is_cut_from_the_front(rt: HostRuntime) -> Result<(), Fail> {
     let mut done = Done::new(rt.alloc(), 10);
-    done.add(buffer(&[1, 2, 3])?).map_err(|(_, why)| why)?;
-    done.add(buffer(&[4])?).map_err(|(_, why)| why)?;
-    done.add(buffer(&[])?).map_err(|(_, why)| why)?;
+    for numbers in [[1, 2, 3].as_slice(), &[4], &[]] {
+        add(&mut done, numbers)?;
+    }
     cut(&rt, &mut done, &[1, 2, 3], 1)?;
     cut(&rt, &mut done, &[2, 3], 2)?;
     assert_eq!(rt; done.len(), 2);

@@ -1,37 +1,27 @@
-ghost use Rattle.std.specs.Prelude.{◌≤◌};
-
-use crate::log::samples::{are_numbered, card};
+use crate::samples::{are_numbered, card};
 use g1_log::{Buffer, Log};
-use std::process::Abort;
 use std::test::Fail;
 
-// Fills an empty log twice, and compares each answer with the numbers that were pushed.
-fn fill_twice(rt: &impl Abort, size: u32) -> Result<(), Fail>
-    requires low { 1 ≤ size }
-    requires high { size ≤ 256 }
-{
-    let mut log = Log::new(size as usize);
-    for first in [0, 1000] {
-        for number in 0..size - 1 {
-            assert!(rt; log.push(card(first + number)?).is_none());
-            assert_eq!(rt; log.len(), number as usize + 1);
-        }
-        let filled = log.push(card(first + size - 1)?).ok_or("not filled")?;
-        assert_eq!(rt; filled.cards().len(), size as usize);
-        for (number, card) in filled.cards().iter().enumerate() {
-            assert_eq!(rt; card.number() as usize, first as usize + number);
-        }
-        assert!(rt; log.is_empty());
-        assert!(rt; log.take().is_none());
-    }
-    Ok(())
-}
-
+// An empty log is filled twice, and each answer compared with the numbers that were pushed.
 #[test]
 fn a_filled_log_is_handed_out_and_begins_anew(rt: HostRuntime) -> Result<(), Fail> {
-    fill_twice(&rt, 1)?;
-    fill_twice(&rt, 3)?;
-    fill_twice(&rt, 256)
+    for size in [1, 3, 256] {
+        let mut log = Log::new(size as usize);
+        for first in [0, 1000] {
+            for number in 0..size - 1 {
+                assert!(rt; log.push(card(first + number)?).is_none());
+                assert_eq!(rt; log.len(), number as usize + 1);
+            }
+            let filled = log.push(card(first + size - 1)?).ok_or("not filled")?;
+            assert_eq!(rt; filled.cards().len(), size as usize);
+            for (number, card) in filled.cards().iter().enumerate() {
+                assert_eq!(rt; card.number() as usize, first as usize + number);
+            }
+            assert!(rt; log.is_empty());
+            assert!(rt; log.take().is_none());
+        }
+    }
+    Ok(())
 }
 
 #[test]

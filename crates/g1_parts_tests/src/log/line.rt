@@ -1,10 +1,11 @@
 ghost use Rattle.std.specs.Prelude.{◌≡◌, ◌≤◌, IfOk};
-ghost use Rattle.g1_log.specs.Ends.{IsSenderOf, IsTakerOf, sender_rights, taker_rights};
+ghost use Rattle.g1_log.specs.Ends.{IsSenderOf, IsTakerOf, IsSameSender, IsSameTaker, sender_rights, taker_rights};
 
-use crate::log::samples;
+use crate::samples;
+use crate::samples::are_numbered;
 use arrayvec::ArrayVec;
 use g1_layout::NoMemory;
-use g1_log::{Buffer, Line, Parcel, Sender, Taker};
+use g1_log::{Buffer, Line, Parcel, Sender, Settled, Taker};
 use std::alloc::Global;
 use std::process::Abort;
 use std::sync::Wait;
@@ -14,25 +15,45 @@ use std::thread::Threads;
 
 // The buffer of this card alone.
 fn buffer(card: u32) -> Buffer {
-    samples::buffer(&[card]).unwrap_or_else(|_| Buffer::of(ArrayVec::new()))
+    match samples::buffer(&[card]) {
+        Ok(buffer) => buffer,
+        Err(_) => Buffer::of(ArrayVec::new()),
+    }
 }
 
-fn first_card(buffer: &Buffer) -> Option<u32> {
-    buffer.cards().first().map(|card| card.number())
+// The first card, or a number that no card has.
+fn first_card(buffer: &Buffer) -> u32 {
+    match buffer.cards().first() {
+        Some(card) => card.number(),
+        None => u32::MAX,
+    }
 }
 
-// What a put that did not succeed handed back.
-fn back(answer: Result<(), Buffer>) -> Option<u32> {
-    match answer {
+// Puts the buffer of this card. Where that does not succeed, answers the card of the buffer that comes back.
+fn put<R: Wait>(rt: &R, line: &Line, sender: &mut Sender, card: u32) -> Option<u32>
+    requires { IsSenderOf line.now sender.old }
+    ensures { IsSameSender sender.new sender.old }
+{
+    match line.put(rt, sender, buffer(card)) {
         Ok(()) => None,
-        Err(buffer) => first_card(&buffer),
+        Err(back) => Some(first_card(&back)),
     }
 }
 
 // The sender, the number and the card of a parcel.
-fn read(parcel: Option<Parcel>) -> Option<(u32, u64, Option<u32>)> {
+type Label = (u32, u64, u32);
+
+fn read(parcel: Option<Parcel>) -> Option<Label> {
     let parcel = parcel?;
     Some((parcel.sender, parcel.number, first_card(&parcel.buffer)))
+}
+
+// Takes a parcel.
+fn take<R: Wait>(rt: &R, line: &Line, taker: &mut Taker) -> Option<Label>
+    requires { IsTakerOf line.now taker.old }
+    ensures { IsSameTaker taker.new taker.old }
+{
+    read(line.take(rt, taker))
 }
 
 #[test]
@@ -41,16 +62,16 @@ fn one_sender_and_one_taker(rt: HostRuntime) -> Result<(), Fail> {
     let sender = &mut senders[0];
     let taker = &mut takers[0];
     assert!(rt; line.is_empty_for(taker));
-    assert_eq!(rt; back(line.put(&rt, sender, buffer(10))), None);
+    assert_eq!(rt; put(&rt, &line, sender, 10), None);
     assert!(rt; !line.is_empty_for(taker));
-    assert_eq!(rt; back(line.put(&rt, sender, buffer(11))), None);
-    assert_eq!(rt; back(line.put(&rt, sender, buffer(12))), Some(12));
-    assert_eq!(rt; read(line.take(&rt, taker)), Some((0, 0, Some(10))));
-    assert_eq!(rt; back(line.put(&rt, sender, buffer(12))), None);
+    assert_eq!(rt; put(&rt, &line, sender, 11), None);
+    assert_eq!(rt; put(&rt, &line, sender, 12), Some(12));
+    assert_eq!(rt; take(&rt, &line, taker), Some((0, 0, 10)));
+    assert_eq!(rt; put(&rt, &line, sender, 12), None);
     assert_eq!(rt; line.len(&rt), 2);
-    assert_eq!(rt; read(line.take(&rt, taker)), Some((0, 1, Some(11))));
-    assert_eq!(rt; read(line.take(&rt, taker)), Some((0, 2, Some(12))));
-    assert_eq!(rt; read(line.take(&rt, taker)), None);
+    assert_eq!(rt; take(&rt, &line, taker), Some((0, 1, 11)));
+    assert_eq!(rt; take(&rt, &line, taker), Some((0, 2, 12)));
+    assert_eq!(rt; take(&rt, &line, taker), None);
     let settled = line.settle(&rt, senders, takers);
     assert_eq!(rt;
         (settled.sent(), settled.taken(), settled.left()),
@@ -62,37 +83,26 @@ fn one_sender_and_one_taker(rt: HostRuntime) -> Result<(), Fail> {
 #[test]
 fn two_senders_and_one_taker(rt: HostRuntime) -> Result<(), Fail> {
     let (line, mut senders, mut takers) = Line::new(rt.alloc(), 2, 2, 1)?;
-    assert_eq!(rt; back(line.put(&rt, &mut senders[0], buffer(20))), None);
-    assert_eq!(rt; back(line.put(&rt, &mut senders[1], buffer(21))), None);
-    assert_eq!(rt;
-        read(line.take(&rt, &mut takers[0])),
-        Some((0, 0, Some(20)))
-    );
+    assert_eq!(rt; put(&rt, &line, &mut senders[0], 20), None);
+    assert_eq!(rt; put(&rt, &line, &mut senders[1], 21), None);
+    assert_eq!(rt; take(&rt, &line, &mut takers[0]), Some((0, 0, 20)));
     let mut settled = line.settle(&rt, senders, takers);
     assert_eq!(rt;
         (settled.sent(), settled.taken(), settled.left()),
         (2, 1, 1)
     );
-    assert_eq!(rt; read(settled.next(&rt)), Some((1, 0, Some(21))));
+    assert_eq!(rt; read(settled.next(&rt)), Some((1, 0, 21)));
     assert_eq!(rt; read(settled.next(&rt)), None);
     Ok(())
 }
 
-// A buffer of 256 cards, from this one on.
-fn long_buffer(first: u32) -> Result<Buffer, Fail> {
-    let mut cards = ArrayVec::new();
-    for offset in 0..256 {
-        let card = samples::card(first.saturating_add(offset))?;
-        cards.try_push(card).map_err(|_| "too many cards")?;
+// The numbers of 256 cards, from this one on: as many as a buffer has.
+fn long(first: u32) -> [u32; 256] {
+    let mut numbers = [first; 256];
+    for at in 1..256 {
+        numbers[at] = numbers[at - 1].saturating_add(1);
     }
-    Ok(Buffer::of(cards))
-}
-
-fn assert_long(rt: &impl Abort, buffer: &Buffer, first: u32) {
-    assert_eq!(rt; buffer.cards().len(), 256);
-    for (offset, card) in buffer.cards().iter().enumerate() {
-        assert_eq!(rt; card.number() as usize, first as usize + offset);
-    }
+    numbers
 }
 
 // Puts a buffer of 256 cards for each place of an empty line. A further one comes back.
@@ -101,12 +111,14 @@ fn fill<R: Abort + Wait>(rt: &R, line: &Line, mut sender: Sender, capacity: u32)
     requires few { capacity ≤ 1024 }
 {
     for number in 0..capacity {
-        let put = line.put(rt, &mut sender, long_buffer(number * 60)?);
+        let put = line.put(rt, &mut sender, samples::buffer(&long(number * 60))?);
         assert!(rt; put.is_ok());
     }
-    let further = line.put(rt, &mut sender, long_buffer(capacity * 60)?);
-    let back = further.err().ok_or("a buffer past the capacity")?;
-    assert_long(rt, &back, capacity * 60);
+    let numbers = long(capacity * 60);
+    let Err(back) = line.put(rt, &mut sender, samples::buffer(&numbers)?) else {
+        return Err(Fail::new("a buffer past the capacity"));
+    };
+    assert!(rt; are_numbered(back.cards(), &numbers));
     assert_eq!(rt; line.len(rt), capacity as usize);
     Ok(())
 }
@@ -119,9 +131,9 @@ fn empty<R: Abort + Wait>(rt: &R, line: &Line, mut taker: Taker, capacity: u32) 
     for number in 0..capacity {
         let parcel = line.take(rt, &mut taker).ok_or("too few buffers")?;
         assert_eq!(rt; (parcel.sender, parcel.number), (0, u64::from(number)));
-        assert_long(rt, &parcel.buffer, number * 60);
+        assert!(rt; are_numbered(parcel.buffer.cards(), &long(number * 60)));
     }
-    assert_eq!(rt; read(line.take(rt, &mut taker)), None);
+    assert_eq!(rt; take(rt, line, &mut taker), None);
     Ok(())
 }
 
@@ -140,8 +152,10 @@ fn put_twelve<R: Abort + Wait>(rt: &R, line: &Line, mut sender: Sender, first: u
     requires { IsSenderOf line.now sender }
 {
     for turn in 0..12 {
-        let put = line.put(rt, &mut sender, buffer(first.saturating_add(turn)));
-        assert_eq!(rt; back(put), None);
+        assert_eq!(rt;
+            put(rt, line, &mut sender, first.saturating_add(turn)),
+            None
+        );
     }
 }
 
@@ -151,8 +165,8 @@ fn take_eight<R: Abort + Wait>(rt: &R, line: &Line, mut taker: Taker, first: u32
 {
     for turn in 0..8 {
         let card = first.saturating_add(turn);
-        let wanted = (card / 12, u64::from(card % 12), Some(card));
-        assert_eq!(rt; read(line.take(rt, &mut taker)), Some(wanted));
+        let wanted = (card / 12, u64::from(card % 12), card);
+        assert_eq!(rt; take(rt, line, &mut taker), Some(wanted));
     }
 }
 
@@ -175,17 +189,6 @@ fn as_many_senders_and_takers_as_a_line_has(rt: HostRuntime) -> Result<(), Fail>
     Ok(())
 }
 
-// The sender, the number and the card.
-type Label = (u32, u64, u32);
-
-fn label(parcel: &Parcel) -> Label {
-    (
-        parcel.sender,
-        parcel.number,
-        first_card(&parcel.buffer).unwrap_or(0),
-    )
-}
-
 // The cards of the buffers that were put.
 fn put_cards<R: Wait>(
     rt: &R,
@@ -196,15 +199,15 @@ fn put_cards<R: Wait>(
     requires { IsSenderOf line.now sender }
     ensures { IfOk result (λ r. IsSenderOf line.now r.0 × (sender_rights r.0 ≡ sender_rights sender)) }
 {
-    let mut put = Vec::new(alloc);
+    let mut cards = Vec::new(alloc);
     for card in 0..1000 {
-        if line.put(rt, &mut sender, buffer(card)).is_ok() {
-            put.push(card)?;
+        if put(rt, line, &mut sender, card).is_none() {
+            cards.push(card)?;
         } else {
             thread::yield_now();
         }
     }
-    Ok((sender, put))
+    Ok((sender, cards))
 }
 
 // The labels of the parcels that were taken.
@@ -219,8 +222,8 @@ fn take_labels<R: Wait>(
 {
     let mut taken = Vec::new(alloc);
     for _ in 0..1000 {
-        match line.take(rt, &mut taker) {
-            Some(parcel) => taken.push(label(&parcel))?,
+        match take(rt, line, &mut taker) {
+            Some(label) => taken.push(label)?,
             None => thread::yield_now(),
         }
     }
@@ -294,66 +297,108 @@ fn rises(labels: &[Label]) -> bool {
     true
 }
 
-// How many labels are of this sender, number and card.
-fn times(labels: &[Label], sender: u32, number: usize, card: u32) -> usize {
-    labels
-        .iter()
-        .filter(|l| l.0 == sender && l.1 == number as u64 && l.2 == card)
-        .count()
+// How often the label stands among these.
+fn times(labels: &[Label], wanted: Label) -> usize {
+    let mut times: usize = 0;
+    for label in labels {
+        if *label == wanted {
+            times = times.saturating_add(1);
+        }
+    }
+    times
 }
 
 // Whether each card that was put has its label once.
 fn each_once(labels: &[Label], sender: u32, put: &[u32]) -> bool {
     for (number, card) in put.iter().enumerate() {
-        if times(labels, sender, number, *card) != 1 {
+        if times(labels, (sender, number as u64, *card)) != 1 {
             return false;
         }
     }
     true
 }
 
-#[test]
-fn line_in_threads(rt: HostRuntime) -> Result<(), Fail> {
-    let alloc = rt.alloc();
+// What each sender put, what each taker took, and what was left in the line.
+#[derive(Drop)]
+struct Ran {
+    put: Vec<u32>,
+    put_too: Vec<u32>,
+    taken: Vec<Label>,
+    taken_too: Vec<Label>,
+    left: Vec<Label>,
+}
+
+// Two senders and two takers at a line of four buffers, each in a thread of its own.
+fn run_in_threads<R: Threads + Wait + Sync>(rt: &R, alloc: Global) -> Result<Ran, NoMemory> {
     let (line, mut senders, mut takers) = Line::new(alloc, 4, 2, 2)?;
     let shared = &line;
-    let handle = &rt;
     let second = senders.remove(1);
     let first = senders.remove(0);
     let other = takers.remove(1);
     let one = takers.remove(0);
     let (puts, takes) = thread::join(
-        &rt,
+        rt,
         move || -> (Put, Put)
             requires { IsSenderOf shared.now first × IsSenderOf shared.now second }
             ensures first { IfOk result.0 (λ r. IsSenderOf shared.entry.now r.0 × (sender_rights r.0 ≡ sender_rights first)) }
             ensures second { IfOk result.1 (λ r. IsSenderOf shared.entry.now r.0 × (sender_rights r.0 ≡ sender_rights second)) }
-        { put_both(handle, alloc, shared, first, second) },
+        { put_both(rt, alloc, shared, first, second) },
         move || -> (Took, Took)
             requires { IsTakerOf shared.now one × IsTakerOf shared.now other }
             ensures first { IfOk result.0 (λ r. IsTakerOf shared.entry.now r.0 × (taker_rights r.0 ≡ taker_rights one)) }
             ensures second { IfOk result.1 (λ r. IsTakerOf shared.entry.now r.0 × (taker_rights r.0 ≡ taker_rights other)) }
-        { take_both(handle, alloc, shared, one, other) },
+        { take_both(rt, alloc, shared, one, other) },
     );
     let (a, b) = puts;
     let (c, d) = takes;
     let (first, put) = a?;
     let (second, put_too) = b?;
     let (one, taken) = c?;
-    let (other, mut labels) = d?;
-    assert!(rt; rises(taken.as_slice()));
-    assert!(rt; rises(labels.as_slice()));
-    labels.extend_from_slice(taken.as_slice())?;
-    let mut settled = line.settle(
-        &rt,
+    let (other, taken_too) = d?;
+    let settled = line.settle(
+        rt,
         vec![in alloc; first, second]?,
         vec![in alloc; one, other]?,
     );
+    Ok(Ran {
+        put,
+        put_too,
+        taken,
+        taken_too,
+        left: labels_left(rt, alloc, settled)?,
+    })
+}
+
+// The labels of what the line still had, up to four.
+fn labels_left<R: Wait>(
+    rt: &R,
+    alloc: Global,
+    mut settled: Settled,
+) -> Result<Vec<Label>, NoMemory> {
+    let mut left = Vec::new(alloc);
     for _ in 0..4 {
-        if let Some(parcel) = settled.next(&rt) {
-            labels.push(label(&parcel))?;
+        if let Some(label) = read(settled.next(rt)) {
+            left.push(label)?;
         }
     }
+    Ok(left)
+}
+
+// Each taker finds the numbers of each sender rising, and each card that was put comes out once, under its sender.
+#[test]
+fn line_in_threads(rt: HostRuntime) -> Result<(), Fail> {
+    let Ran {
+        put,
+        put_too,
+        taken,
+        taken_too,
+        left,
+    } = run_in_threads(&rt, rt.alloc())?;
+    assert!(rt; rises(taken.as_slice()));
+    assert!(rt; rises(taken_too.as_slice()));
+    let mut labels = taken;
+    labels.extend_from_slice(taken_too.as_slice())?;
+    labels.extend_from_slice(left.as_slice())?;
     // (no put comes back before the line has held four)
     assert!(rt; labels.len() >= 4);
     assert_eq!(rt; labels.len(), put.len() + put_too.len());
