@@ -3,6 +3,7 @@
 //! The heap has 4 regions of 2 cards of 4 slots: card `c` has the slots from `4 * c` on, region `r` those from `8 * r` on.
 ghost use Rattle.std.specs.Prelude.{◌≡◌, ◌≤◌, ◌<◌, [], IfOk};
 ghost use Rattle.g1_layout.specs.Shape.{slot_count, card_count};
+ghost use Rattle.g1_log.specs.Ends.{IsSenderOf, IsTakerOf};
 ghost use Rattle.g1_book.specs.History.{layout_in};
 
 use calls::{drain, number_of};
@@ -12,14 +13,16 @@ use g1_core::{
     StoreReply,
 };
 use g1_layout::{Card, Kind, Layout, NoMemory, Region, Slot};
-use g1_log::{Buffer, Log};
-use g1_steps::FlushReply;
+use g1_log::{Buffer, Line, Log, Taker};
+use g1_steps::{FlushReply, Mutator, open_line};
 use std::alloc::Global;
 use std::process::Abort;
+use steps::assert_drained;
 
 mod answers;
 mod calls;
 mod crew;
+mod lent;
 mod shared;
 mod steps;
 
@@ -58,6 +61,21 @@ pub(crate) fn region(rt: &impl Abort, book: &Book, number: u32) -> Region
     book.layout()
         .region(number)
         .expect(rt, "a region of the heap")
+}
+
+/// A line, and the mutator and the taker of one caller.
+pub(crate) fn ends(
+    rt: &impl Abort,
+    alloc: Global,
+    config: Config,
+) -> Result<(Line, Mutator, Taker), NoMemory>
+    ensures sender { IfOk result (λ made. IsSenderOf made.0 made.1.sender) }
+    ensures taker { IfOk result (λ made. IsTakerOf made.0 made.2) }
+{
+    let (line, mutators, takers) = open_line(alloc, config, 1, 1)?;
+    let mutator = mutators.into_iter().next().expect(rt, "a mutator");
+    let taker = takers.into_iter().next().expect(rt, "a taker");
+    Ok((line, mutator, taker))
 }
 
 /// The call that stores a reference to the place, or null.
@@ -111,42 +129,9 @@ pub(crate) fn has_cards(list: &CardList, numbers: &[u32]) -> bool {
             .all(|(card, number)| card.number() == *number)
 }
 
-/// Checks a logged store: what became of its log, and which cards a help refined. It is not short.
-pub(crate) fn assert_stored(rt: &impl Abort, reply: &StoreReply, fill: Fill, refined: &[u32]) {
-    assert_eq!(rt; (reply.kind, reply.fill), (Kind::Logged, fill));
-    assert!(rt; has_cards(&reply.refined, refined));
-    assert!(rt; !reply.short);
-}
-
-/// Checks a flush: how many cards, what became of the log, and which cards a help refined. It is not short.
-pub(crate) fn assert_flushed(
-    rt: &impl Abort,
-    reply: &FlushReply,
-    cards: u32,
-    fill: Fill,
-    refined: &[u32],
-) {
-    assert_eq!(rt; (reply.cards, reply.fill), (cards, fill));
-    assert!(rt; has_cards(&reply.refined, refined));
-    assert!(rt; !reply.short);
-}
-
-/// Checks a whole refinement: buffers taken, cards refined, skipped, and buffers left. None is hot.
-pub(crate) fn assert_refined(
-    rt: &impl Abort,
-    reply: &RefineReply,
-    taken: u32,
-    refined: &[u32],
-    skipped: u32,
-    left: u32,
-) {
-    assert_eq!(rt;
-        (reply.taken, reply.hot, reply.skipped),
-        (taken, 0, skipped)
-    );
-    assert!(rt; has_cards(&reply.refined, refined), "{:?}", reply.refined);
-    assert_eq!(rt; reply.left, left);
-    assert!(rt; !reply.short);
+/// Checks that the list has just these cards, in this order.
+pub(crate) fn assert_cards(rt: &impl Abort, list: &CardList, numbers: &[u32]) {
+    assert!(rt; has_cards(list, numbers), "{list:?}");
 }
 
 /// A reply as a test writes it, with numbers in place of cards and slots.
@@ -195,6 +180,21 @@ pub(crate) fn is_wanted(reply: &Reply, want: &Want<'_>) -> bool {
 /// An entry as a test writes it: caller, call, reply and refined cards.
 pub(crate) type WantedEntry<'a> = (u32, Call, Want<'a>, &'a [u32]);
 
+/// The entry of a logged store of a place into a slot by a caller, which has refined no card.
+pub(crate) fn store_entry(
+    rt: &impl Abort,
+    book: &Book,
+    (caller, from, to): (u32, u32, u32),
+    fill: Fill,
+) -> WantedEntry<'static> {
+    (
+        caller,
+        store_call(rt, book, from, Some(to)),
+        Want::Stored(Kind::Logged, fill),
+        &[],
+    )
+}
+
 /// Checks that the history is just these entries.
 pub(crate) fn assert_entries(rt: &impl Abort, book: &Book, wanted: &[WantedEntry<'_>]) {
     let entries = book.entries();
@@ -225,6 +225,17 @@ pub(crate) fn assert_stores(rt: &impl Abort, book: &Book, stores: usize) {
     }
 }
 
+/// Checks that five stores are followed by the calls of one round, each of which has refined one of the cards.
+pub(crate) fn assert_rounds(rt: &impl Abort, book: &Book, cards: &[u32]) {
+    let entries = book.entries();
+    assert_eq!(rt; entries.len(), cards.len().saturating_add(5));
+    for (entry, card) in entries.iter().skip(5).zip(cards) {
+        assert_eq!(rt; (entry.caller, entry.call), (0, Call::Refine));
+        assert!(rt; is_wanted(&entry.reply, &Want::Refined(1, 0, 0)));
+        assert!(rt; has_cards(&entry.refined, &[*card]));
+    }
+}
+
 /// Drains the region, and checks the set that it answers.
 pub(crate) fn assert_set(
     rt: &impl Abort,
@@ -232,11 +243,6 @@ pub(crate) fn assert_set(
     of: u32,
     set: &[u32],
 ) -> Result<(), Refusal> {
-    match drain(rt, book, 0, of)? {
-        Drained::Cards { cards, .. } => {
-            assert!(rt; has_cards(&cards, set), "the set of region {of}: {cards:?}");
-            Ok(())
-        }
-        Drained::Short { .. } => Err(Refusal::NoMemory),
-    }
+    assert_drained(rt, &drain(rt, book, 0, of)?, set);
+    Ok(())
 }

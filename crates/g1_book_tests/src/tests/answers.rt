@@ -1,7 +1,7 @@
 //! Each call once, with memory enough: what it answers and what it enters.
 use super::calls::{clear, is_pending, members, redirect, refine, status, target};
 use super::*;
-use g1_core::RefineReply;
+use crate::tests::steps::{assert_moved, assert_round, whole};
 use std::test::Fail;
 
 /// Two stores by two mutators fill logs of one card, and two refiners refine a buffer and none.
@@ -13,8 +13,8 @@ fn stores_and_refinements_are_entered(rt: HostRuntime) -> Result<(), Fail> {
 
 fn store_and_refine(rt: &impl Abort, book: &mut Book) -> Result<(), Refusal> {
     let buffer = two_stored(rt, book)?;
-    assert_taken(rt, &refine(book, 5, buffer.as_ref())?, 1, &[0]);
-    assert_taken(rt, &refine(book, 6, None)?, 0, &[]);
+    assert_round(rt, &refine(book, 5, buffer.as_ref())?, whole(1, &[0], 0));
+    assert_round(rt, &refine(book, 6, None)?, whole(0, &[], 0));
     assert_stores_and_refinements(rt, book);
     Ok(())
 }
@@ -33,12 +33,7 @@ fn two_stored(rt: &impl Abort, book: &mut Book) -> Result<Option<Buffer>, Refusa
 
 fn assert_stores_and_refinements(rt: &impl Abort, book: &Book) {
     let wanted = [
-        (
-            0,
-            store_call(rt, book, 0, Some(8)),
-            Want::Stored(Kind::Logged, Fill::Full),
-            [].as_slice(),
-        ),
+        store_entry(rt, book, (0, 0, 8), Fill::Full),
         (
             1,
             store_call(rt, book, 1, None),
@@ -49,13 +44,6 @@ fn assert_stores_and_refinements(rt: &impl Abort, book: &Book) {
         (6, Call::Refine, Want::Refined(0, 0, 0), [].as_slice()),
     ];
     assert_entries(rt, book, &wanted);
-}
-
-fn assert_taken(rt: &impl Abort, reply: &RefineReply, taken: u32, refined: &[u32]) {
-    assert_eq!(rt; reply.taken, taken);
-    assert!(rt; has_cards(&reply.refined, refined));
-    assert_eq!(rt; (reply.hot, reply.skipped, reply.left), (0, 0, 0));
-    assert!(rt; !reply.short);
 }
 
 /// The questions, while card 1 is pending and card 0 is recorded for region 1.
@@ -129,12 +117,7 @@ fn still_referenced(rt: &impl Abort, book: &Book) -> ClearReply {
 fn assert_drains_and_clears(rt: &impl Abort, book: &Book) {
     let two = region(rt, book, 2);
     let wanted = [
-        (
-            0,
-            store_call(rt, book, 4, Some(16)),
-            Want::Stored(Kind::Logged, Fill::No),
-            [].as_slice(),
-        ),
+        store_entry(rt, book, (0, 4, 16), Fill::No),
         (
             1,
             Call::Clear(two),
@@ -169,22 +152,20 @@ fn assert_drains_and_clears(rt: &impl Abort, book: &Book) {
 fn a_redirect_is_entered(rt: HostRuntime) -> Result<(), Fail> {
     let mut book = book(&rt, rt.alloc(), 2, 4, 10)?;
     move_one(&rt, &mut book)?;
-    assert_moved(&rt, &book);
+    assert_move_is_entered(&rt, &book);
     Ok(())
 }
 
 fn move_one(rt: &impl Abort, book: &mut Book) -> Result<(), Refusal> {
     let mut log = Log::new(2);
     let _ = store(rt, book, 0, &mut log, 0, Some(9))?;
-    let (moved, refined) = redirect(rt, book, 7, 1, 2)?;
-    assert_eq!(rt; moved, Some(1));
-    assert!(rt; has_cards(&refined, &[0]));
+    assert_moved(rt, &redirect(rt, book, 7, 1, 2)?, 1, &[0]);
     assert_eq!(rt; target(rt, book, 0, 0)?, Some(17));
     assert_set(rt, book, 1, &[])?;
     assert_set(rt, book, 2, &[0])
 }
 
-fn assert_moved(rt: &impl Abort, book: &Book) {
+fn assert_move_is_entered(rt: &impl Abort, book: &Book) {
     let call = Call::Redirect {
         from: region(rt, book, 1),
         to: region(rt, book, 2),

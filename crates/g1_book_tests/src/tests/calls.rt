@@ -2,7 +2,6 @@
 //!
 //! They promise nothing: what a call ensures ends at its return, so that a test of many calls carries few facts.
 use super::*;
-use g1_core::RefineReply;
 
 /// The number of a slot, if there is one.
 pub(crate) fn number_of(place: Option<Slot>) -> Option<u32> {
@@ -79,19 +78,15 @@ pub(crate) fn clear(
     book.clear(caller, of)
 }
 
-/// Redirects, and answers how many slots were moved, if any were, and which cards were refined.
 pub(crate) fn redirect(
     rt: &impl Abort,
     book: &mut Book,
     caller: u32,
     from: u32,
     to: u32,
-) -> Result<(Option<u32>, CardList), Refusal> {
+) -> Result<Redirected, Refusal> {
     let from = region(rt, book, from);
     let to = region(rt, book, to);
     assert!(rt; from.number() != to.number());
-    match book.redirect(caller, from, to)? {
-        Redirected::Moved { slots, refined } => Ok((Some(slots), refined)),
-        Redirected::Short { refined } => Ok((None, refined)),
-    }
+    book.redirect(caller, from, to)
 }

@@ -6,13 +6,14 @@ ghost use Rattle.g1_shared.specs.Callers.{IsCallerOf};
 ghost use Rattle.g1_book.specs.History.{terms_of};
 
 use super::*;
+use crate::tests::calls::number_of;
+use crate::tests::steps::{Calls, Step, take};
 use g1_shared::{Caller, Frame, Shared};
 use std::marker::Brand;
 use std::sync::Wait;
 use std::sync::ledger::{Blank, Ledger};
 
 mod answers;
-mod full;
 mod guard;
 mod pause;
 mod threads;
@@ -50,20 +51,19 @@ impl<M: Frame, S: Ledger> SharedCaller<'_, M, S> {
     {
         assert!(rt; self.caller.number() < self.shared.lock(rt).book().mutators());
     }
+}
 
+impl<M: Frame, S: Ledger> Calls for SharedCaller<'_, M, S> {
     fn store<R: Wait + Abort>(
         &mut self,
         rt: &R,
         from: u32,
-        to: Option<u32>,
+        to: u32,
     ) -> Result<StoreReply, Refusal> {
         self.assert_mutator(rt);
         let from = self.slot(rt, from);
-        let to = match to {
-            Some(place) => Some(self.slot(rt, place)),
-            None => None,
-        };
-        self.shared.store(rt, &mut self.caller, from, to)
+        let to = self.slot(rt, to);
+        self.shared.store(rt, &mut self.caller, from, Some(to))
     }
 
     fn flush<R: Wait + Abort>(&mut self, rt: &R) -> FlushReply {
@@ -71,17 +71,17 @@ impl<M: Frame, S: Ledger> SharedCaller<'_, M, S> {
         self.shared.flush(rt, &mut self.caller)
     }
 
-    fn refine<R: Wait>(&mut self, rt: &R) -> Result<RefineReply, Refusal> {
+    fn refine<R: Wait + Abort>(&mut self, rt: &R) -> Result<RefineReply, Refusal> {
         self.shared.refine(rt, &mut self.caller)
     }
 
-    fn work<R: Wait>(&mut self, rt: &R) -> Result<RefineReply, Refusal> {
+    fn work<R: Wait + Abort>(&mut self, rt: &R) -> Result<RefineReply, Refusal> {
         self.shared.work(rt, &mut self.caller)
     }
 
-    fn target<R: Wait + Abort>(&mut self, rt: &R, of: u32) -> Result<Option<Slot>, Refusal> {
+    fn target<R: Wait + Abort>(&mut self, rt: &R, of: u32) -> Result<Option<u32>, Refusal> {
         let of = self.slot(rt, of);
-        self.shared.target(rt, &mut self.caller, of)
+        Ok(number_of(self.shared.target(rt, &mut self.caller, of)?))
     }
 
     fn is_pending<R: Wait + Abort>(&mut self, rt: &R, of: u32) -> Result<bool, Refusal> {
@@ -94,7 +94,7 @@ impl<M: Frame, S: Ledger> SharedCaller<'_, M, S> {
         self.shared.members(rt, &mut self.caller, of)
     }
 
-    fn status<R: Wait>(&mut self, rt: &R) -> Result<Status, Refusal> {
+    fn status<R: Wait + Abort>(&mut self, rt: &R) -> Result<Status, Refusal> {
         self.shared.status(rt, &mut self.caller)
     }
 
@@ -130,12 +130,21 @@ trait Play {
     ) -> Result<(), Refusal>;
 }
 
-/// The first of the callers.
-fn first<'a, 'b, M: Frame, S: Ledger>(
-    rt: &impl Abort,
-    callers: &'a mut [SharedCaller<'b, M, S>],
-) -> &'a mut SharedCaller<'b, M, S> {
-    callers.first_mut().expect(rt, "a caller")
+/// Steps of callers, each with the number of its caller.
+type Steps<'a> = &'a [(usize, Step<'a>)];
+
+impl Play for Steps<'_> {
+    fn play<M: Frame, S: Ledger, R: Wait + Abort>(
+        &self,
+        rt: &R,
+        callers: &mut [SharedCaller<'_, M, S>],
+    ) -> Result<(), Refusal> {
+        for (number, step) in *self {
+            let caller = callers.get_mut(*number).expect(rt, "a caller");
+            take(rt, caller, *step)?;
+        }
+        Ok(())
+    }
 }
 
 /// The shared book, and its callers.

@@ -1,335 +1,219 @@
-//! What no clause says: that a line takes what is put and gives it back, and what the steps answer, worked by hand.
-//!
-//! The heap has 4 regions of 2 cards of 4 slots: card `c` has the slots from `4 * c` on, region `r` those from `8 * r` on.
-ghost use Rattle.std.specs.Prelude.{◌≤◌, IfOk, All};
-ghost use Rattle.std.proofs.Props.{props};
-ghost use Rattle.g1_log.specs.Ends.{IsSenderOf, IsTakerOf};
-
-use crate::tests::calls::members;
-use crate::tests::{
-    Want, assert_entries, assert_flushed, assert_refined, assert_set, assert_stored, assert_stores,
-    book, counts, has_cards, slot, store_call,
-};
-use g1_book::{Book, Refusal};
-use g1_core::{Call, Fill, RefineReply, StoreReply};
-use g1_layout::{Kind, NoMemory};
-use g1_log::{Line, Log, Sender, Taker};
-use g1_steps::{FlushReply, LentBook, Mutator, empty_line, refine, work};
-use std::alloc::Global;
-use std::process::Abort;
+//! Steps of a caller, each with the answer that it must get.
+use super::*;
 use std::sync::Wait;
-use std::test::Fail;
 
-mod rounds;
+/// The calls of a caller, with numbers for their arguments, whatever book it makes them to.
+pub(crate) trait Calls {
+    fn store<R: Wait + Abort>(&mut self, rt: &R, from: u32, to: u32) -> Result<StoreReply, Refusal>;
 
-/// A caller's ends of the line, at a book that is lent.
-#[derive(Drop)]
-struct CallerEnds<'a> {
-    line: &'a Line,
-    mutator: Mutator,
-    taker: Taker,
-    ghost of: { IsSenderOf line.now mutator.sender × IsTakerOf line.now taker } by { Prim.hlevel props },
-}
+    fn flush<R: Wait + Abort>(&mut self, rt: &R) -> FlushReply;
 
-impl CallerEnds<'_> {
-    fn flush<R: Wait>(&mut self, rt: &R, book: &mut Book, number: u32) -> FlushReply {
-        let mut calls = LentBook::new(book, number);
-        self.mutator.flush(rt, self.line, &mut calls)
-    }
+    fn refine<R: Wait + Abort>(&mut self, rt: &R) -> Result<RefineReply, Refusal>;
 
-    fn refine<R: Wait>(
+    fn work<R: Wait + Abort>(&mut self, rt: &R) -> Result<RefineReply, Refusal>;
+
+    fn target<R: Wait + Abort>(&mut self, rt: &R, of: u32) -> Result<Option<u32>, Refusal>;
+
+    fn is_pending<R: Wait + Abort>(&mut self, rt: &R, of: u32) -> Result<bool, Refusal>;
+
+    fn members<R: Wait + Abort>(&mut self, rt: &R, of: u32) -> Result<CardList, Refusal>;
+
+    fn status<R: Wait + Abort>(&mut self, rt: &R) -> Result<Status, Refusal>;
+
+    fn drain<R: Wait + Abort>(&mut self, rt: &R, of: u32) -> Result<Drained, Refusal>;
+
+    fn clear<R: Wait + Abort>(&mut self, rt: &R, of: u32) -> Result<ClearReply, Refusal>;
+
+    fn redirect<R: Wait + Abort>(
         &mut self,
         rt: &R,
-        book: &mut Book,
-        number: u32,
-    ) -> Result<RefineReply, Refusal> {
-        let mut calls = LentBook::new(book, number);
-        refine(rt, self.line, &mut self.taker, &mut calls)
-    }
+        from: u32,
+        to: u32,
+    ) -> Result<Redirected, Refusal>;
+}
 
-    fn work<R: Wait>(
-        &mut self,
-        rt: &R,
-        book: &mut Book,
-        number: u32,
-    ) -> Result<RefineReply, Refusal> {
-        let start = book.config().start();
-        let mut calls = LentBook::new(book, number);
-        work(rt, self.line, &mut self.taker, &mut calls, start)
-    }
+/// What a refinement or a round answers: buffers taken, cards refined, hot and skipped, buffers left, and whether it is short.
+#[derive(Clone, Copy)]
+pub(crate) struct Round<'a> {
+    pub(crate) taken: u32,
+    pub(crate) refined: &'a [u32],
+    pub(crate) hot: u32,
+    pub(crate) skipped: u32,
+    pub(crate) left: u32,
+    pub(crate) short: bool,
+}
 
-    fn pause<R: Wait>(rt: &R, callers: &mut [CallerEnds<'_>]) {
-        for at in 0..callers.len() {
-            callers[at].stop(rt, at == 0);
-        }
-    }
-
-    fn stop<R: Wait>(&mut self, rt: &R, takes: bool) {
-        if takes {
-            empty_line(rt, self.line, &mut self.taker);
-        }
-        self.mutator.stop();
+/// A whole refinement or round without a card that is hot or skipped.
+pub(crate) fn whole(taken: u32, refined: &[u32], left: u32) -> Round<'_> {
+    Round {
+        taken,
+        refined,
+        hot: 0,
+        skipped: 0,
+        left,
+        short: false,
     }
 }
 
-/// A caller with an empty log that `size` cards fill, and with one of the senders and one of the takers.
-fn caller<'a>(
-    rt: &impl Abort,
-    line: &'a Line,
-    senders: &mut Vec<Sender>,
-    takers: &mut Vec<Taker>,
-    size: usize,
-) -> CallerEnds<'a>
-    requires senders { All (IsSenderOf line.now) senders.old.items }
-    requires takers { All (IsTakerOf line.now) takers.old.items }
-    requires low { 1 ≤ size }
-    requires high { size ≤ 256 }
-    ensures senders { All (IsSenderOf line.now) senders.new.items }
-    ensures takers { All (IsTakerOf line.now) takers.new.items }
-{
-    let sender = senders.pop().expect(rt, "a sender for each caller");
-    let taker = takers.pop().expect(rt, "a taker for each caller");
-    let log = Log::new(size);
-    CallerEnds {
-        line,
-        mutator: Mutator { log, sender },
-        taker,
-    }
+/// A call with numbers for its arguments, and its answer.
+#[derive(Clone, Copy)]
+pub(crate) enum Step<'a> {
+    /// A logged store of a place into a slot: what becomes of the log, and which cards a help refines.
+    Store(u32, u32, Fill, &'a [u32]),
+    /// A logged store whose help the full history refuses.
+    StoreShort(u32, u32),
+    /// So many logged stores into slot 24, from the first slot of card 0, of card 1, and so on, each of which completes a buffer.
+    Completed(u32),
+    /// A flush: of how many cards, what becomes of the log, and which cards a help refines.
+    Flush(u32, Fill, &'a [u32]),
+    Refine(Round<'a>),
+    Work(Round<'a>),
+    /// The place that a slot refers to.
+    Target(u32, u32),
+    /// The recorded cards of a region.
+    Members(u32, &'a [u32]),
+    /// How many cards are pending.
+    Pending(u32),
+    /// A drain of a region: its set.
+    Drain(u32, &'a [u32]),
+    /// A redirect from one region to another: how many slots change, and which cards are refined.
+    Redirect(u32, u32, u32, &'a [u32]),
+    /// Calls that the full history refuses.
+    StoreFull(u32, u32),
+    RefineFull,
+    WorkFull,
+    /// Each call but those of a mutator, which the full history refuses.
+    AllFull,
 }
 
-/// What one caller does at a book that is lent.
-trait Steps {
-    fn run<R: Abort + Wait>(
-        &self,
-        rt: &R,
-        book: &mut Book,
-        ends: &mut CallerEnds<'_>,
-    ) -> Result<(), Refusal>;
-}
-
-/// Lets a caller make its steps: `log` cards fill its log, and `capacity` buffers its line.
-fn made<R: Abort + Wait>(
+/// Takes the steps in order.
+pub(crate) fn take_all<C: Calls, R: Wait + Abort>(
     rt: &R,
-    alloc: Global,
-    book: &mut Book,
-    log: usize,
-    capacity: usize,
-    steps: &impl Steps,
-) -> Result<(), Refusal>
-    requires log { (1 ≤ log) × (log ≤ 256) }
-    requires capacity { (1 ≤ capacity) × (capacity ≤ 1024) }
-{
-    let (line, mut senders, mut takers) = line(alloc, capacity)?;
-    let mut ends = caller(rt, &line, &mut senders, &mut takers, log);
-    steps.run(rt, book, &mut ends)
-}
-
-/// A line for one caller. A refused one is tried again.
-fn line(alloc: Global, capacity: usize) -> Result<(Line, Vec<Sender>, Vec<Taker>), NoMemory>
-    requires low { 1 ≤ capacity }
-    requires high { capacity ≤ 1024 }
-    ensures senders { IfOk result (λ made. All (IsSenderOf made.0) made.1.items) }
-    ensures takers { IfOk result (λ made. All (IsTakerOf made.0) made.2.items) }
-{
-    match Line::new(alloc, capacity, 1, 1) {
-        Ok(made) => Ok(made),
-        Err(NoMemory) => Line::new(alloc, capacity, 1, 1),
-    }
-}
-
-/// Stores a reference to the place.
-fn store<R: Abort + Wait>(
-    rt: &R,
-    book: &mut Book,
-    ends: &mut CallerEnds<'_>,
-    number: u32,
-    from: u32,
-    to: u32,
-) -> Result<StoreReply, Refusal> {
-    assert!(rt; number < book.mutators());
-    let from = slot(rt, book, from);
-    let to = slot(rt, book, to);
-    let mut calls = LentBook::new(book, number);
-    ends.mutator
-        .store(rt, ends.line, &mut calls, from, Some(to))
-}
-
-/// Checks which cards a region's remembered set has as it is recorded.
-fn assert_members(rt: &impl Abort, book: &mut Book, of: u32, set: &[u32]) -> Result<(), Refusal> {
-    assert!(rt; has_cards(&members(rt, book, 0, of)?, set));
-    Ok(())
-}
-
-struct FullLine;
-
-impl Steps for FullLine {
-    fn run<R: Abort + Wait>(
-        &self,
-        rt: &R,
-        book: &mut Book,
-        ends: &mut CallerEnds<'_>,
-    ) -> Result<(), Refusal> {
-        let first = store(rt, book, ends, 0, 0, 8)?;
-        assert_stored(rt, &first, Fill::Full, &[]);
-        let second = store(rt, book, ends, 0, 4, 8)?;
-        assert_stored(rt, &second, Fill::Helped, &[1]);
-        assert_help(rt, book);
-        assert_members(rt, book, 1, &[1])?;
-        assert_set(rt, book, 1, &[0, 1])
-    }
-}
-
-/// Into a line of one buffer a second log does not go: its mutator refines it, as a call of its own.
-#[test]
-fn a_full_line_makes_the_mutator_help(rt: HostRuntime) -> Result<(), Fail> {
-    let mut book = book(&rt, rt.alloc(), 1, 1, 20)?;
-    Ok(made(&rt, rt.alloc(), &mut book, 1, 1, &FullLine)?)
-}
-
-/// Checks the entries of two stores, of which the second helped.
-fn assert_help(rt: &impl Abort, book: &Book) {
-    let wanted = [
-        (
-            0,
-            store_call(rt, book, 0, Some(8)),
-            Want::Stored(Kind::Logged, Fill::Full),
-            [].as_slice(),
-        ),
-        (
-            0,
-            store_call(rt, book, 4, Some(8)),
-            Want::Stored(Kind::Logged, Fill::Full),
-            [].as_slice(),
-        ),
-        (0, Call::Refine, Want::Refined(1, 0, 0), [1].as_slice()),
-    ];
-    assert_entries(rt, book, &wanted);
-}
-
-struct OwnLog;
-
-impl Steps for OwnLog {
-    fn run<R: Abort + Wait>(
-        &self,
-        rt: &R,
-        book: &mut Book,
-        ends: &mut CallerEnds<'_>,
-    ) -> Result<(), Refusal> {
-        for (from, to, fill, refined) in [
-            (0, 8, Fill::No, [].as_slice()),
-            (4, 8, Fill::Full, &[]),
-            (8, 16, Fill::No, &[]),
-            (12, 16, Fill::Helped, &[2, 3]),
-        ] {
-            let reply = store(rt, book, ends, 0, from, to)?;
-            assert_stored(rt, &reply, fill, refined);
-        }
-        assert_members(rt, book, 2, &[2, 3])?;
-        assert_members(rt, book, 1, &[])?;
-        assert_flushed(rt, &ends.flush(rt, book, 0), 0, Fill::No, &[]);
-        Ok(())
-    }
-}
-
-/// The mutator's own log is refined, not the buffer in the line.
-#[test]
-fn a_help_refines_the_log_that_was_filled(rt: HostRuntime) -> Result<(), Fail> {
-    let mut book = book(&rt, rt.alloc(), 2, 1, 20)?;
-    Ok(made(&rt, rt.alloc(), &mut book, 2, 1, &OwnLog)?)
-}
-
-struct Flushes;
-
-impl Steps for Flushes {
-    fn run<R: Abort + Wait>(
-        &self,
-        rt: &R,
-        book: &mut Book,
-        ends: &mut CallerEnds<'_>,
-    ) -> Result<(), Refusal> {
-        let _ = store(rt, book, ends, 0, 0, 8)?;
-        let _ = store(rt, book, ends, 0, 4, 8)?;
-        assert_flushed(rt, &ends.flush(rt, book, 0), 2, Fill::Full, &[]);
-        let _ = store(rt, book, ends, 0, 8, 16)?;
-        assert_eq!(rt; book.entries().len(), 3);
-        assert_flushed(rt, &ends.flush(rt, book, 0), 1, Fill::Helped, &[2]);
-        assert_eq!(rt; book.entries().len(), 4);
-        assert_flushed(rt, &ends.flush(rt, book, 0), 0, Fill::No, &[]);
-        assert_refined(rt, &ends.refine(rt, book, 0)?, 1, &[0, 1], 0, 0);
-        Ok(())
-    }
-}
-
-/// A flush goes the way of a filled log: into the line, or where that is full, it helps. Only a help is an entry.
-#[test]
-fn a_flush_puts_or_helps(rt: HostRuntime) -> Result<(), Fail> {
-    let mut book = book(&rt, rt.alloc(), 4, 1, 20)?;
-    Ok(made(&rt, rt.alloc(), &mut book, 4, 1, &Flushes)?)
-}
-
-struct RefusedHelp;
-
-impl Steps for RefusedHelp {
-    fn run<R: Abort + Wait>(
-        &self,
-        rt: &R,
-        book: &mut Book,
-        ends: &mut CallerEnds<'_>,
-    ) -> Result<(), Refusal> {
-        let _ = store(rt, book, ends, 0, 0, 8)?;
-        let helped = store(rt, book, ends, 0, 4, 8)?;
-        assert_eq!(rt; (helped.kind, helped.fill), (Kind::Logged, Fill::Helped));
-        assert!(rt; helped.refined.is_empty() && helped.short);
-        let refused = store(rt, book, ends, 0, 8, 16);
-        assert_eq!(rt; refused.err(), Some(Refusal::BookFull));
-        assert_stores(rt, book, 2);
-        Ok(())
-    }
-}
-
-/// A help that the full history refuses makes the reply short; the store stands, and its card stays pending.
-#[test]
-fn a_refused_help_is_short(rt: HostRuntime) -> Result<(), Fail> {
-    let mut book = book(&rt, rt.alloc(), 1, 1, 2)?;
-    Ok(made(&rt, rt.alloc(), &mut book, 1, 1, &RefusedHelp)?)
-}
-
-/// A pause empties the logs of all callers and the line, without an entry, and a drain then finds each card by its mark.
-#[test]
-fn a_pause_empties_logs_and_line(rt: HostRuntime) -> Result<(), Fail> {
-    let mut book = book(&rt, rt.alloc(), 2, 4, 20)?;
-    let (line, mut senders, mut takers) = Line::new(rt.alloc(), 4, 2, 2)?;
-    let first = caller(&rt, &line, &mut senders, &mut takers, 2);
-    let second = caller(&rt, &line, &mut senders, &mut takers, 2);
-    let mut all = [first, second];
-    Ok(paused(&rt, &line, &mut book, &mut all)?)
-}
-
-fn paused<R: Abort + Wait>(
-    rt: &R,
-    line: &Line,
-    book: &mut Book,
-    all: &mut [CallerEnds<'_>],
+    caller: &mut C,
+    steps: &[Step<'_>],
 ) -> Result<(), Refusal> {
-    assert!(rt; all.len() == 2);
-    for (number, from) in [(0, 0), (1, 4), (0, 8), (1, 12), (0, 16), (1, 20)] {
-        let _ = store(rt, book, &mut all[number as usize], number, from, 24)?;
+    for step in steps {
+        take(rt, caller, *step)?;
     }
-    assert_eq!(rt; line.len(rt), 2);
-    CallerEnds::pause(rt, all);
-    assert_eq!(rt; line.len(rt), 0);
-    assert_logs_empty(rt, book, all);
-    assert_eq!(rt; book.entries().len(), 6);
-    assert_eq!(rt; counts(book)?.pending, 6);
-    assert_set(rt, book, 3, &[0, 1, 2, 3, 4, 5])?;
-    CallerEnds::pause(rt, &mut all[..0]);
     Ok(())
 }
 
-fn assert_logs_empty<R: Abort + Wait>(rt: &R, book: &mut Book, all: &mut [CallerEnds<'_>]) {
-    let mut number: u32 = 0;
-    for ends in all.iter_mut() {
-        assert_flushed(rt, &ends.flush(rt, book, number), 0, Fill::No, &[]);
-        number = number.saturating_add(1);
+/// Takes one step.
+pub(crate) fn take<C: Calls, R: Wait + Abort>(
+    rt: &R,
+    caller: &mut C,
+    step: Step<'_>,
+) -> Result<(), Refusal> {
+    match step {
+        Step::Store(from, to, fill, refined) => {
+            assert_stored(rt, &caller.store(rt, from, to)?, fill, refined);
+        }
+        Step::StoreShort(from, to) => assert_short(rt, &caller.store(rt, from, to)?),
+        Step::Completed(cards) => complete(rt, caller, cards)?,
+        Step::Flush(cards, fill, refined) => {
+            assert_flushed(rt, &caller.flush(rt), cards, fill, refined);
+        }
+        Step::Refine(round) => assert_round(rt, &caller.refine(rt)?, round),
+        Step::Work(round) => assert_round(rt, &caller.work(rt)?, round),
+        Step::Target(of, place) => assert_eq!(rt; caller.target(rt, of)?, Some(place)),
+        Step::Members(of, set) => assert_cards(rt, &caller.members(rt, of)?, set),
+        Step::Pending(cards) => assert_eq!(rt; caller.status(rt)?.pending, cards),
+        Step::Drain(of, set) => assert_drained(rt, &caller.drain(rt, of)?, set),
+        Step::Redirect(from, to, slots, refined) => {
+            assert_moved(rt, &caller.redirect(rt, from, to)?, slots, refined);
+        }
+        Step::StoreFull(from, to) => assert_full(rt, caller.store(rt, from, to).err()),
+        Step::RefineFull => assert_full(rt, caller.refine(rt).err()),
+        Step::WorkFull => assert_full(rt, caller.work(rt).err()),
+        Step::AllFull => refuse_all(rt, caller),
+    }
+    Ok(())
+}
+
+/// Makes each call but those of a mutator, and checks that the full history refuses it.
+fn refuse_all<C: Calls, R: Wait + Abort>(rt: &R, caller: &mut C) {
+    assert_full(rt, caller.refine(rt).err());
+    assert_full(rt, caller.target(rt, 0).err());
+    assert_full(rt, caller.is_pending(rt, 0).err());
+    assert_full(rt, caller.members(rt, 1).err());
+    assert_full(rt, caller.status(rt).err());
+    assert_full(rt, caller.drain(rt, 1).err());
+    assert_full(rt, caller.clear(rt, 1).err());
+    assert_full(rt, caller.redirect(rt, 1, 3).err());
+}
+
+/// Completes so many buffers of one card, which holds into region 3.
+fn complete<C: Calls, R: Wait + Abort>(rt: &R, caller: &mut C, cards: u32) -> Result<(), Refusal> {
+    for card in 0..cards {
+        let reply = caller.store(rt, card.saturating_mul(4), 24)?;
+        assert_stored(rt, &reply, Fill::Full, &[]);
+    }
+    Ok(())
+}
+
+/// Checks that a call was refused for the full history.
+fn assert_full(rt: &impl Abort, refusal: Option<Refusal>) {
+    assert_eq!(rt; refusal, Some(Refusal::BookFull));
+}
+
+/// Checks a logged store: what became of its log, and which cards a help refined. It is not short.
+pub(crate) fn assert_stored(rt: &impl Abort, reply: &StoreReply, fill: Fill, refined: &[u32]) {
+    assert_eq!(rt;
+        (reply.kind, reply.fill, reply.short),
+        (Kind::Logged, fill, false)
+    );
+    assert_cards(rt, &reply.refined, refined);
+}
+
+/// Checks a logged store whose help was refused.
+fn assert_short(rt: &impl Abort, reply: &StoreReply) {
+    assert_eq!(rt;
+        (reply.kind, reply.fill, reply.short),
+        (Kind::Logged, Fill::Helped, true)
+    );
+    assert_cards(rt, &reply.refined, &[]);
+}
+
+/// Checks a flush: how many cards, what became of the log, and which cards a help refined. It is not short.
+pub(crate) fn assert_flushed(
+    rt: &impl Abort,
+    reply: &FlushReply,
+    cards: u32,
+    fill: Fill,
+    refined: &[u32],
+) {
+    assert_eq!(rt;
+        (reply.cards, reply.fill, reply.short),
+        (cards, fill, false)
+    );
+    assert_cards(rt, &reply.refined, refined);
+}
+
+/// Checks a refinement or a round.
+pub(crate) fn assert_round(rt: &impl Abort, reply: &RefineReply, round: Round<'_>) {
+    assert_eq!(rt;
+        (reply.taken, reply.hot, reply.skipped),
+        (round.taken, round.hot, round.skipped)
+    );
+    assert_cards(rt, &reply.refined, round.refined);
+    assert_eq!(rt; (reply.left, reply.short), (round.left, round.short));
+}
+
+/// Checks a whole drain's set.
+pub(crate) fn assert_drained(rt: &impl Abort, reply: &Drained, set: &[u32]) {
+    match reply {
+        Drained::Cards { cards, .. } => assert_cards(rt, cards, set),
+        Drained::Short { .. } => assert!(rt; false, "a short drain"),
+    }
+}
+
+/// Checks a whole redirect: how many slots changed, and which cards were refined.
+pub(crate) fn assert_moved(rt: &impl Abort, reply: &Redirected, moved: u32, cards: &[u32]) {
+    match reply {
+        Redirected::Moved { slots, refined } => {
+            assert_eq!(rt; *slots, moved);
+            assert_cards(rt, refined, cards);
+        }
+        Redirected::Short { .. } => assert!(rt; false, "a short redirect"),
     }
 }

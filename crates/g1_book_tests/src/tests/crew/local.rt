@@ -21,17 +21,6 @@ fn plain_book(rt: &impl Abort, alloc: Global, history: usize) -> Result<Book, No
     Book::open(alloc, layout, Config::default(), 1, history)
 }
 
-/// A line, and the mutator and the taker of one caller.
-fn ends(rt: &impl Abort, alloc: Global, config: Config) -> Result<(Line, Mutator, Taker), NoMemory>
-    ensures sender { IfOk result (λ made. IsSenderOf made.0 made.1.sender) }
-    ensures taker { IfOk result (λ made. IsTakerOf made.0 made.2) }
-{
-    let (line, mutators, takers) = open_line(alloc, config, 1, 1)?;
-    let mutator = mutators.into_iter().next().expect(rt, "a mutator");
-    let taker = takers.into_iter().next().expect(rt, "a taker");
-    Ok((line, mutator, taker))
-}
-
 /// The desk of caller 0 at the book.
 fn desk_at<'a, R>(
     rt: &'a R,

@@ -3,6 +3,7 @@ ghost use Rattle.std.specs.Prelude.{◌≡◌, []};
 ghost use Rattle.g1_book.specs.History.{terms_of};
 
 use super::*;
+use crate::tests::steps::assert_stored;
 use std::test::Fail;
 
 /// A store and two questions under one lock, and how many calls and stores the caller has made after each.
@@ -52,12 +53,7 @@ fn the_guard_makes_the_calls_of_the_book(rt: HostRuntime) -> Result<(), Fail> {
     let (made, stored) = (Blank::new(2), Blank::new(2));
     let book = under_one_lock::<Brand, Brand, HostRuntime>(&rt, made, stored, book)?;
     let wanted = [
-        (
-            0,
-            store_call(&rt, &book, 0, Some(8)),
-            Want::Stored(Kind::Logged, Fill::Full),
-            [].as_slice(),
-        ),
+        store_entry(&rt, &book, (0, 0, 8), Fill::Full),
         (
             0,
             Call::Members(region(&rt, &book, 1)),

@@ -4,25 +4,29 @@ ghost use Rattle.g1_book.specs.History.{terms_of};
 ghost use Rattle.g1_shared.specs.Callers.{IsCallerOf};
 
 use super::*;
+use crate::tests::steps::Step::{Flush, Refine, Store};
+use crate::tests::steps::{assert_flushed, assert_round, whole};
+use g1_core::Fill::{Full, No};
 use std::test::Fail;
 
-struct NoCaller;
+/// Steps of the callers before a pause that is lent none of them, and after it.
+#[derive(Clone, Copy)]
+struct AroundAPause<'a> {
+    before: Steps<'a>,
+    after: Steps<'a>,
+}
 
-impl Play for NoCaller {
+impl Play for AroundAPause<'_> {
     fn play<M: Frame, S: Ledger, R: Wait + Abort>(
         &self,
         rt: &R,
         callers: &mut [SharedCaller<'_, M, S>],
     ) -> Result<(), Refusal> {
-        let caller = first(rt, callers);
-        for from in [0, 4, 8] {
-            let _ = caller.store(rt, from, Some(24))?;
+        self.before.play(rt, callers)?;
+        for caller in callers.iter().take(1) {
+            pause_nobody(rt, caller.shared);
         }
-        pause_nobody(rt, caller.shared);
-        assert_flushed(rt, &caller.flush(rt), 1, Fill::Full, &[]);
-        assert_refined(rt, &caller.refine(rt)?, 1, &[0, 1], 0, 1);
-        assert_refined(rt, &caller.refine(rt)?, 1, &[2], 0, 0);
-        Ok(())
+        self.after.play(rt, callers)
     }
 }
 
@@ -35,7 +39,19 @@ fn pause_nobody<M: Frame, S: Ledger, R: Wait>(rt: &R, shared: &Shared<M, S>) {
 #[test]
 fn a_pause_without_callers_does_nothing(rt: HostRuntime) -> Result<(), Fail> {
     let book = book(&rt, rt.alloc(), 2, 4, 10)?;
-    let mut book = played(&rt, rt.alloc(), book, 2, &NoCaller)?;
+    let play = AroundAPause {
+        before: &[
+            (0, Store(0, 24, No, &[])),
+            (0, Store(4, 24, Full, &[])),
+            (0, Store(8, 24, No, &[])),
+        ],
+        after: &[
+            (0, Flush(1, Full, &[])),
+            (0, Refine(whole(1, &[0, 1], 1))),
+            (0, Refine(whole(1, &[2], 0))),
+        ],
+    };
+    let mut book = played(&rt, rt.alloc(), book, 2, &play)?;
     assert_eq!(rt; book.entries().len(), 5);
     assert_eq!(rt; counts(&mut book)?.pending, 0);
     Ok(())
@@ -139,9 +155,9 @@ fn assert_emptied<M: Frame, S: Ledger, R: Wait + Abort>(
     requires { IsCallerOf shared.now caller }
 {
     assert_eq!(rt; (caller.made(), caller.stored()), (3, 3));
-    assert_refined(rt, &shared.work(rt, &mut caller)?, 0, &[], 0, 0);
+    assert_round(rt, &shared.work(rt, &mut caller)?, whole(0, &[], 0));
     assert!(rt; caller.number() < shared.lock(rt).book().mutators());
-    assert_flushed(rt, &shared.flush(rt, &mut caller), 0, Fill::No, &[]);
+    assert_flushed(rt, &shared.flush(rt, &mut caller), 0, No, &[]);
     assert_eq!(rt; shared.status(rt, &mut caller)?.pending, 6);
     Ok(())
 }

@@ -64,7 +64,7 @@ impl<M: Frame, S: Ledger> Recorder<'_, M, S> {
             8 * home,
             Some(8 * next),
         );
-        let stored = self.caller.store(rt, 8 * home, Some(8 * next))?;
+        let stored = self.caller.store(rt, 8 * home, 8 * next)?;
         let reply = Reply::Stored {
             kind: stored.kind,
             fill: stored.fill,
@@ -93,7 +93,8 @@ impl<M: Frame, S: Ledger> Recorder<'_, M, S> {
     fn ask<R: Wait + Abort>(&mut self, rt: &R) -> Result<(), Refusal> {
         let (home, next) = self.regions();
         let slot = self.caller.slot(rt, 8 * home);
-        let place = self.caller.target(rt, 8 * home)?;
+        let caller = &mut self.caller;
+        let place = caller.shared.target(rt, &mut caller.caller, slot)?;
         self.enter_plain(Call::Target(slot), Reply::Target(place))?;
         let card = self.caller.card(rt, 2 * home);
         let pending = self.caller.is_pending(rt, 2 * home)?;
