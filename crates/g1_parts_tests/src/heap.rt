@@ -98,7 +98,6 @@ fn a_lent_list_has_the_regions_that_are_not_known(rt: HostRuntime) -> Result<(),
         store(&rt, &mut heap, slot, place);
     }
     let mut targets = ArrayVec::new();
-    assert!(rt; targets.as_slice().is_empty());
     let mut known = RegionSet::new();
     for (learnt, card, want) in [
         (None, 0, [2, 1].as_slice()),

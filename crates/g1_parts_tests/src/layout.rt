@@ -130,16 +130,26 @@ fn slots_at_an_offset_and_texts(rt: HostRuntime) -> Result<(), Fail> {
 #[test]
 fn numbers_and_kinds_compare(rt: HostRuntime) -> Result<(), Fail> {
     let layout = Layout::new(4, 2, 4).expect(&rt, "good");
-    assert_eq!(rt; layout.slot(0), Some(Slot::default()));
-    assert_eq!(rt; layout.card(0), Some(Card::default()));
-    assert_eq!(rt; layout.region(0), Some(Region::default()));
-    assert!(rt; layout.slot(8) < layout.slot(9));
-    assert!(rt; layout.card(5) > layout.card(4));
-    assert!(rt; layout.region(1) <= layout.region(1));
+    assert_eq!(rt;
+        (layout.slot(0), layout.card(0), layout.region(0)),
+        (
+            Some(Slot::default()),
+            Some(Card::default()),
+            Some(Region::default())
+        )
+    );
+    assert_eq!(rt;
+        [
+            layout.slot(8) < layout.slot(9),
+            layout.card(5) > layout.card(4),
+            layout.region(1) <= layout.region(1),
+            Kind::Logged == Kind::Logged,
+            Kind::AlreadyDirty != Kind::Logged,
+            Kind::SameRegion != Kind::Null,
+        ],
+        [true; 6]
+    );
     assert_eq!(rt; insert_twice(rt.alloc())?, (true, false));
-    assert_eq!(rt; Kind::Logged, Kind::Logged);
-    assert!(rt; Kind::AlreadyDirty != Kind::Logged);
-    assert!(rt; Kind::SameRegion != Kind::Null);
     Ok(())
 }
 

@@ -22,15 +22,13 @@ fn buffers_leave_oldest_first_up_to_the_limit(rt: HostRuntime) -> Result<(), Fai
         let Err((back, why)) = done.add(buffer(&[2000])?) else {
             return Err(Fail::new("a buffer past the limit"));
         };
-        assert_eq!(rt; why, Why::Full);
         assert!(rt; are_numbered(back.cards(), &[2000]));
-        assert_eq!(rt; done.len(), limit as usize);
+        assert_eq!(rt; (why, done.len()), (Why::Full, limit as usize));
         for number in 0..limit {
             let oldest = done.take_oldest().ok_or("too few buffers")?;
             assert!(rt; are_numbered(oldest.cards(), &[number]));
         }
-        assert!(rt; done.is_empty());
-        assert!(rt; done.take_oldest().is_none());
+        assert!(rt; done.is_empty() && done.take_oldest().is_none());
     }
     Ok(())
 }
@@ -50,12 +48,16 @@ fn the_oldest_buffer_is_cut_from_the_front(rt: HostRuntime) -> Result<(), Fail> 
     for numbers in [[1, 2, 3].as_slice(), &[4], &[]] {
         add(&mut done, numbers)?;
     }
-    cut(&rt, &mut done, &[1, 2, 3], 1)?;
-    cut(&rt, &mut done, &[2, 3], 2)?;
-    assert_eq!(rt; done.len(), 2);
-    cut(&rt, &mut done, &[4], 0)?;
-    cut(&rt, &mut done, &[4], 1)?;
-    cut(&rt, &mut done, &[], 0)?;
+    for (numbers, n, left) in [
+        ([1, 2, 3].as_slice(), 1, 3),
+        (&[2, 3], 2, 2),
+        (&[4], 0, 2),
+        (&[4], 1, 1),
+        (&[], 0, 0),
+    ] {
+        cut(&rt, &mut done, numbers, n)?;
+        assert_eq!(rt; done.len(), left);
+    }
     assert!(rt; done.oldest().is_none());
     Ok(())
 }

@@ -17,8 +17,7 @@ fn a_filled_log_is_handed_out_and_begins_anew(rt: HostRuntime) -> Result<(), Fai
             for (number, card) in filled.cards().iter().enumerate() {
                 assert_eq!(rt; card.number() as usize, first as usize + number);
             }
-            assert!(rt; log.is_empty());
-            assert!(rt; log.take().is_none());
+            assert!(rt; log.is_empty() && log.take().is_none());
         }
     }
     Ok(())

@@ -62,16 +62,19 @@ fn one_sender_and_one_taker(rt: HostRuntime) -> Result<(), Fail> {
     let sender = &mut senders[0];
     let taker = &mut takers[0];
     assert!(rt; line.is_empty_for(taker));
-    assert_eq!(rt; put(&rt, &line, sender, 10), None);
-    assert!(rt; !line.is_empty_for(taker));
-    assert_eq!(rt; put(&rt, &line, sender, 11), None);
-    assert_eq!(rt; put(&rt, &line, sender, 12), Some(12));
-    assert_eq!(rt; take(&rt, &line, taker), Some((0, 0, 10)));
-    assert_eq!(rt; put(&rt, &line, sender, 12), None);
-    assert_eq!(rt; line.len(&rt), 2);
-    assert_eq!(rt; take(&rt, &line, taker), Some((0, 1, 11)));
-    assert_eq!(rt; take(&rt, &line, taker), Some((0, 2, 12)));
-    assert_eq!(rt; take(&rt, &line, taker), None);
+    let first = put(&rt, &line, sender, 10);
+    assert!(rt; first.is_none() && !line.is_empty_for(taker));
+    let puts = [put(&rt, &line, sender, 11), put(&rt, &line, sender, 12)];
+    assert_eq!(rt; puts, [None, Some(12)]);
+    let taken = take(&rt, &line, taker);
+    let again = put(&rt, &line, sender, 12);
+    assert_eq!(rt; (taken, again, line.len(&rt)), (Some((0, 0, 10)), None, 2));
+    let takes = [
+        take(&rt, &line, taker),
+        take(&rt, &line, taker),
+        take(&rt, &line, taker),
+    ];
+    assert_eq!(rt; takes, [Some((0, 1, 11)), Some((0, 2, 12)), None]);
     let settled = line.settle(&rt, senders, takers);
     assert_eq!(rt;
         (settled.sent(), settled.taken(), settled.left()),
@@ -83,16 +86,19 @@ fn one_sender_and_one_taker(rt: HostRuntime) -> Result<(), Fail> {
 #[test]
 fn two_senders_and_one_taker(rt: HostRuntime) -> Result<(), Fail> {
     let (line, mut senders, mut takers) = Line::new(rt.alloc(), 2, 2, 1)?;
-    assert_eq!(rt; put(&rt, &line, &mut senders[0], 20), None);
-    assert_eq!(rt; put(&rt, &line, &mut senders[1], 21), None);
-    assert_eq!(rt; take(&rt, &line, &mut takers[0]), Some((0, 0, 20)));
+    let puts = [
+        put(&rt, &line, &mut senders[0], 20),
+        put(&rt, &line, &mut senders[1], 21),
+    ];
+    let taken = take(&rt, &line, &mut takers[0]);
+    assert_eq!(rt; (puts, taken), ([None, None], Some((0, 0, 20))));
     let mut settled = line.settle(&rt, senders, takers);
     assert_eq!(rt;
         (settled.sent(), settled.taken(), settled.left()),
         (2, 1, 1)
     );
-    assert_eq!(rt; read(settled.next(&rt)), Some((1, 0, 21)));
-    assert_eq!(rt; read(settled.next(&rt)), None);
+    let left = [read(settled.next(&rt)), read(settled.next(&rt))];
+    assert_eq!(rt; left, [Some((1, 0, 21)), None]);
     Ok(())
 }
 
@@ -394,15 +400,14 @@ fn line_in_threads(rt: HostRuntime) -> Result<(), Fail> {
         taken_too,
         left,
     } = run_in_threads(&rt, rt.alloc())?;
-    assert!(rt; rises(taken.as_slice()));
-    assert!(rt; rises(taken_too.as_slice()));
+    assert!(rt; rises(taken.as_slice()) && rises(taken_too.as_slice()));
     let mut labels = taken;
     labels.extend_from_slice(taken_too.as_slice())?;
     labels.extend_from_slice(left.as_slice())?;
     // (no put comes back before the line has held four)
     assert!(rt; labels.len() >= 4);
     assert_eq!(rt; labels.len(), put.len() + put_too.len());
-    assert!(rt; each_once(labels.as_slice(), 0, put.as_slice()));
-    assert!(rt; each_once(labels.as_slice(), 1, put_too.as_slice()));
+    let labels = labels.as_slice();
+    assert!(rt; each_once(labels, 0, put.as_slice()) && each_once(labels, 1, put_too.as_slice()));
     Ok(())
 }
