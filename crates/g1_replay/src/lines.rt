@@ -16,7 +16,7 @@ pub const LINE_LIMIT: usize = 64;
 pub const READ_LIMIT: u64 = 1 << 40;
 
 /// What the bytes that a reader shows have of the line.
-#[derive(Clone, Copy, Debug)]
+#[derive(Clone, Copy)]
 pub enum Part {
     /// All the rest of it, with its line feed.
     Whole,
@@ -31,7 +31,7 @@ pub enum Part {
 }
 
 /// What one read gave.
-#[derive(Clone, Copy, Debug)]
+#[derive(Clone, Copy)]
 pub enum Byte {
     /// One byte.
     Some(u8),

@@ -12,7 +12,7 @@ use g1_trace::{Command, Dialect, read_command};
 use std::io::BufRead;
 
 /// What the next line asks for.
-#[derive(Clone, Copy, Debug, PartialEq, Eq)]
+#[derive(Clone, Copy)]
 pub enum Next {
     /// There is none: the input has ended.
     End,

@@ -3,7 +3,7 @@
 ghost use Rattle.std.specs.Prelude.{◌≤◌, ◌+◌};
 
 /// How many reads were made, and the number of the line that comes, from 1.
-#[derive(Debug, Drop)]
+#[derive(Drop)]
 pub struct Source {
     /// How many reads were made.
     pub reads: u64,

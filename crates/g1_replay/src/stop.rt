@@ -8,7 +8,7 @@ use g1_trace::{TraceFault, WriteFailed};
 use std::alloc::AllocError;
 
 /// Why a replay goes no further (docs/TRACES.md, Faults, Ends).
-#[derive(Clone, Copy, Debug, PartialEq, Eq)]
+#[derive(Clone, Copy)]
 pub enum Stop {
     /// A line has a fault.
     Fault(TraceFault),
