@@ -10,10 +10,7 @@ use std::thread::Threads;
 /// Each of the lines, between these others, and what the trace then prints.
 fn are_read<R: Abort + Threads + Wait + Sync + AllocGlobal>(
     rt: &R,
-    before: &str,
-    lines: &[&str],
-    behind: &str,
-    printed: &str,
+    (before, lines, behind, printed): Read<'_>,
 ) -> Result<(), Fail> {
     for line in lines {
         let trace = format!(in rt.alloc(); "heap 4 2 4\n{before}{line}\n{behind}")?;
@@ -29,57 +26,11 @@ fn are_read<R: Abort + Threads + Wait + Sync + AllocGlobal>(
     Ok(())
 }
 
-#[test]
-fn commands_with_one_number_or_none(rt: HostRuntime) -> Result<(), Fail> {
-    are_read(
-        &rt,
-        "store 0 0 8\nstore 1 4 8\nstore 1 8 16\n",
-        &["flush 1", "flush 0000000001", "  flush  1 "],
-        "",
-        "logged\nlogged\nlogged\nflushed 2\n",
-    )?;
-    let buffer = "store 0 0 24\nflush 0\n";
-    let refined = "logged\nflushed 1\nrefined 1 hot 0 skipped 0\n";
-    are_read(&rt, buffer, &["refine", " refine "], "", refined)?;
-    let left = "logged\nflushed 1\nworked 0 refined 0 hot 0 skipped 0 left 1\n";
-    are_read(&rt, buffer, &["work"], "", left)?;
-    let last = "store 0 31 0\n";
-    are_read(&rt, last, &["target 31"], "", "logged\nslot 0\n")?;
-    are_read(&rt, last, &["pending 7"], "", "logged\nyes\n")?;
-    are_read(
-        &rt,
-        "store 0 0 24\nflush 0\nrefine\n",
-        &["members 3"],
-        "",
-        "logged\nflushed 1\nrefined 1 hot 0 skipped 0\ncards 0\n",
-    )?;
-    are_read(
-        &rt,
-        last,
-        &["status"],
-        "",
-        "logged\nstatus pending 1 recorded 0\n",
-    )?;
-    are_read(
-        &rt,
-        last,
-        &["drain 0", "drain 00"],
-        "",
-        "logged\ndrained 7\n",
-    )?;
-    are_read(
-        &rt,
-        "store 0 0 16\ndrain 2\n",
-        &["clear 2"],
-        "",
-        "logged\ndrained 0\nrefused: still referenced by slot 0\n",
-    )
-}
+/// Lines before a command, forms of the command, lines behind it, and what the trace prints.
+type Read<'a> = (&'a str, &'a [&'a str], &'a str, &'a str);
 
-#[test]
-fn stores_and_redirects(rt: HostRuntime) -> Result<(), Fail> {
-    are_read(
-        &rt,
+const READ: [Read<'static>; 12] = [
+    (
         "",
         &[
             "store 0 7 15",
@@ -88,21 +39,71 @@ fn stores_and_redirects(rt: HostRuntime) -> Result<(), Fail> {
         ],
         "target 7\nflush 1\nflush 0\n",
         "logged\nslot 15\nflushed 0\nflushed 1\n",
-    )?;
-    are_read(
-        &rt,
+    ),
+    (
         "store 0 31 0\n",
         &["store 1 31 null"],
         "target 31\n",
         "logged\nnull\nnull\n",
-    )?;
-    are_read(
-        &rt,
+    ),
+    (
+        "store 0 0 8\nstore 1 4 8\nstore 1 8 16\n",
+        &["flush 1", "flush 0000000001", "  flush  1 "],
+        "",
+        "logged\nlogged\nlogged\nflushed 2\n",
+    ),
+    (
+        "store 0 0 24\nflush 0\n",
+        &["refine", " refine "],
+        "",
+        "logged\nflushed 1\nrefined 1 hot 0 skipped 0\n",
+    ),
+    (
+        "store 0 0 24\nflush 0\n",
+        &["work"],
+        "",
+        "logged\nflushed 1\nworked 0 refined 0 hot 0 skipped 0 left 1\n",
+    ),
+    ("store 0 31 0\n", &["target 31"], "", "logged\nslot 0\n"),
+    ("store 0 31 0\n", &["pending 7"], "", "logged\nyes\n"),
+    (
+        "store 0 0 24\nflush 0\nrefine\n",
+        &["members 3"],
+        "",
+        "logged\nflushed 1\nrefined 1 hot 0 skipped 0\ncards 0\n",
+    ),
+    (
+        "store 0 31 0\n",
+        &["status"],
+        "",
+        "logged\nstatus pending 1 recorded 0\n",
+    ),
+    (
+        "store 0 31 0\n",
+        &["drain 0", "drain 00"],
+        "",
+        "logged\ndrained 7\n",
+    ),
+    (
+        "store 0 0 16\ndrain 2\n",
+        &["clear 2"],
+        "",
+        "logged\ndrained 0\nrefused: still referenced by slot 0\n",
+    ),
+    (
         "store 0 8 25\n",
         &["redirect 3 0"],
         "target 8\n",
         "logged\nredirected 1\nslot 1\n",
-    )
+    ),
+];
+
+#[test]
+fn each_command_is_read(rt: HostRuntime) -> Result<(), Fail> {
+    for row in READ {
+        are_read(&rt, row)?;
+    }
+    Ok(())
 }
 
 /// Before the header and behind it.
@@ -144,11 +145,10 @@ fn are_refused<R: Abort + Threads + Wait + Sync + AllocGlobal>(
     Ok(())
 }
 
-/// Tab, carriage return and NUL belong to words, and no letter stands for another.
-#[test]
-fn no_such_command(rt: HostRuntime) -> Result<(), Fail> {
-    are_refused(
-        &rt,
+/// Faults, each with lines that are refused for it.
+const FAULTY: [(&str, &[&str]); 8] = [
+    // Tab, carriage return and NUL belong to words, and no letter stands for another.
+    (
         "no such command",
         &[
             "heap 4 2 4",
@@ -165,14 +165,9 @@ fn no_such_command(rt: HostRuntime) -> Result<(), Fail> {
             "drain#",
             "null",
         ],
-    )
-}
-
-/// Another number of words, whatever they are.
-#[test]
-fn wrong_words(rt: HostRuntime) -> Result<(), Fail> {
-    are_refused(
-        &rt,
+    ),
+    // Another number of words, whatever they are.
+    (
         "wrong words",
         &[
             "store",
@@ -191,14 +186,9 @@ fn wrong_words(rt: HostRuntime) -> Result<(), Fail> {
             "redirect x",
             "redirect 1 1 1",
         ],
-    )
-}
-
-/// Over all words, before any number is held against its limit; `null` in the place of a target alone.
-#[test]
-fn not_a_number(rt: HostRuntime) -> Result<(), Fail> {
-    are_refused(
-        &rt,
+    ),
+    // Over all words, before any number is held against its limit; `null` in the place of a target alone.
+    (
         "not a number",
         &[
             "store 0 x 99",
@@ -221,14 +211,9 @@ fn not_a_number(rt: HostRuntime) -> Result<(), Fail> {
             "redirect 9 x",
             "redirect x 9",
         ],
-    )
-}
-
-/// The leftmost number that is too large for its place decides, also one past 32 bits.
-#[test]
-fn numbers_past_their_limits(rt: HostRuntime) -> Result<(), Fail> {
-    are_refused(
-        &rt,
+    ),
+    // The leftmost number that is too large for its place decides, also one past 32 bits.
+    (
         "no such mutator",
         &[
             "store 2 99 99",
@@ -237,9 +222,8 @@ fn numbers_past_their_limits(rt: HostRuntime) -> Result<(), Fail> {
             "flush 4294967296",
             "store 4294967297 7 15",
         ],
-    )?;
-    are_refused(
-        &rt,
+    ),
+    (
         "no such slot",
         &[
             "store 1 32 0",
@@ -250,10 +234,9 @@ fn numbers_past_their_limits(rt: HostRuntime) -> Result<(), Fail> {
             "target 9999999999",
             "store 1 31 4294967303",
         ],
-    )?;
-    are_refused(&rt, "no such card", &["pending 8", "pending 4294967303"])?;
-    are_refused(
-        &rt,
+    ),
+    ("no such card", &["pending 8", "pending 4294967303"]),
+    (
         "no such region",
         &[
             "members 4",
@@ -263,12 +246,16 @@ fn numbers_past_their_limits(rt: HostRuntime) -> Result<(), Fail> {
             "redirect 0 4",
             "redirect 4 4",
         ],
-    )
-}
+    ),
+    ("same region twice", &["redirect 1 1", "redirect 1 01"]),
+];
 
 #[test]
-fn same_region_twice(rt: HostRuntime) -> Result<(), Fail> {
-    are_refused(&rt, "same region twice", &["redirect 1 1", "redirect 1 01"])
+fn each_faulty_line_has_its_fault(rt: HostRuntime) -> Result<(), Fail> {
+    for (fault, lines) in FAULTY {
+        are_refused(&rt, fault, lines)?;
+    }
+    Ok(())
 }
 
 /// The heap has a last slot, card and region of these numbers, and none of the next ones.

@@ -1,7 +1,6 @@
 //! The texts of help.
 use g1_replay::read_options;
 use std::process::Abort;
-use std::test::Fail;
 
 const WHOLE: &str = "\
 Replays traces for the remembered-set log of a region-based garbage collector
@@ -170,57 +169,34 @@ pub(crate) fn is_refused(rt: &(impl Abort + AllocGlobal), words: &[&str], text: 
     }
 }
 
-#[test]
-fn help_of_the_program(rt: HostRuntime) -> Result<(), Fail> {
-    is_refused(&rt, &["g1replay"], WHOLE);
-    is_refused(&rt, &["g1replay", "--help"], WHOLE);
-    is_refused(&rt, &["g1replay", "-h"], WHOLE);
-    is_refused(&rt, &["g1replay", "help"], WHOLE);
-    Ok(())
-}
-
-#[test]
-fn help_of_run(rt: HostRuntime) -> Result<(), Fail> {
-    is_refused(&rt, &["g1replay", "run", "--help"], OF_RUN);
-    is_refused(&rt, &["g1replay", "run", "-h"], OF_RUN);
-    is_refused(&rt, &["g1replay", "help", "run"], OF_RUN);
-    is_refused(
-        &rt,
+/// Command lines, each with the text that it is answered with.
+const LINES: [(&[&str], &str); 18] = [
+    (&["g1replay"], WHOLE),
+    (&["g1replay", "--help"], WHOLE),
+    (&["g1replay", "-h"], WHOLE),
+    (&["g1replay", "help"], WHOLE),
+    (&["g1replay", "run", "--help"], OF_RUN),
+    (&["g1replay", "run", "-h"], OF_RUN),
+    (&["g1replay", "help", "run"], OF_RUN),
+    (
         &["/usr/bin/g1replay", "run", "--log", "1", "--help"],
         OF_RUN,
-    );
-    Ok(())
-}
+    ),
+    (&["g1replay", "crew", "--help"], OF_CREW),
+    (&["g1replay", "crew", "-h"], OF_CREW),
+    (&["g1replay", "help", "crew"], OF_CREW),
+    (&["g1replay", "crew", "--rounds", "1", "--help"], OF_CREW),
+    (&["g1replay", "race", "--help"], OF_RACE),
+    (&["g1replay", "race", "-h"], OF_RACE),
+    (&["g1replay", "help", "race"], OF_RACE),
+    (&["g1replay", "race", "--rounds", "1", "--help"], OF_RACE),
+    (&["g1replay", "--version"], "g1replay 1.0.0\n"),
+    (&["g1replay", "-V"], "g1replay 1.0.0\n"),
+];
 
 #[test]
-fn help_of_crew(rt: HostRuntime) -> Result<(), Fail> {
-    is_refused(&rt, &["g1replay", "crew", "--help"], OF_CREW);
-    is_refused(&rt, &["g1replay", "crew", "-h"], OF_CREW);
-    is_refused(&rt, &["g1replay", "help", "crew"], OF_CREW);
-    is_refused(
-        &rt,
-        &["g1replay", "crew", "--rounds", "1", "--help"],
-        OF_CREW,
-    );
-    Ok(())
-}
-
-#[test]
-fn help_of_race(rt: HostRuntime) -> Result<(), Fail> {
-    is_refused(&rt, &["g1replay", "race", "--help"], OF_RACE);
-    is_refused(&rt, &["g1replay", "race", "-h"], OF_RACE);
-    is_refused(&rt, &["g1replay", "help", "race"], OF_RACE);
-    is_refused(
-        &rt,
-        &["g1replay", "race", "--rounds", "1", "--help"],
-        OF_RACE,
-    );
-    Ok(())
-}
-
-#[test]
-fn version_of_the_program(rt: HostRuntime) -> Result<(), Fail> {
-    is_refused(&rt, &["g1replay", "--version"], "g1replay 1.0.0\n");
-    is_refused(&rt, &["g1replay", "-V"], "g1replay 1.0.0\n");
-    Ok(())
+fn each_subcommand_has_its_help(rt: HostRuntime) {
+    for (words, text) in LINES {
+        is_refused(&rt, words, text);
+    }
 }

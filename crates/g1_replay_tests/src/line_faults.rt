@@ -42,11 +42,15 @@ Usage: g1replay run [OPTIONS]
 
 For more information, try '--help'.
 ";
-    is_refused(&rt, &["g1replay", "bench", "--log", "1"], bench);
-    is_refused(&rt, &["g1replay", "--mutators", "2", "run"], option_before);
-    is_refused(&rt, &["g1replay", "run", "--rounds", "1"], rounds);
-    is_refused(&rt, &["g1replay", "crew", "--pauses", "1"], pauses);
-    is_refused(&rt, &["g1replay", "run", "my.trace"], file);
+    for (words, text) in [
+        (["g1replay", "bench", "--log", "1"].as_slice(), bench),
+        (&["g1replay", "--mutators", "2", "run"], option_before),
+        (&["g1replay", "run", "--rounds", "1"], rounds),
+        (&["g1replay", "crew", "--pauses", "1"], pauses),
+        (&["g1replay", "run", "my.trace"], file),
+    ] {
+        is_refused(&rt, words, text);
+    }
 }
 
 #[test]
@@ -73,15 +77,21 @@ error: invalid value '1.5' for '--log <CARDS>': invalid digit found in string
 
 For more information, try '--help'.
 ";
-    is_refused(&rt, &["g1replay", "run", "--log", "1", "--log", "1"], twice);
-    is_refused(
-        &rt,
-        &["g1replay", "run", "--log=2", "--hot", "1", "--log", "1"],
-        twice,
-    );
-    is_refused(&rt, &["g1replay", "run", "--log"], no_value);
-    is_refused(&rt, &["g1replay", "run", "--log", "x"], no_number);
-    is_refused(&rt, &["g1replay", "run", "--log", "1.5"], fraction);
+    for (words, text) in [
+        (
+            ["g1replay", "run", "--log", "1", "--log", "1"].as_slice(),
+            twice,
+        ),
+        (
+            &["g1replay", "run", "--log=2", "--hot", "1", "--log", "1"],
+            twice,
+        ),
+        (&["g1replay", "run", "--log"], no_value),
+        (&["g1replay", "run", "--log", "x"], no_number),
+        (&["g1replay", "run", "--log", "1.5"], fraction),
+    ] {
+        is_refused(&rt, words, text);
+    }
 }
 
 /// With ample memory this repeats other tests. Where one growth is refused (`rt try --test --fail-alloc N`), it shows that
