@@ -51,7 +51,14 @@ fn a_flush_puts_or_helps(rt: HostRuntime) -> Result<(), Fail> {
         Refine(whole(1, &[0, 1], 0)),
     ];
     play(&rt, rt.alloc(), &mut book, &steps)?;
-    assert_eq!(rt; book.entries().len(), 5);
+    let wanted = [
+        store_entry(&rt, &book, (0, 0, 8), No),
+        store_entry(&rt, &book, (0, 4, 8), No),
+        store_entry(&rt, &book, (0, 8, 16), No),
+        (0, Call::Refine, Want::Refined(1, 0, 0), [2].as_slice()),
+        (0, Call::Refine, Want::Refined(1, 0, 0), [0, 1].as_slice()),
+    ];
+    assert_entries(&rt, &book, &wanted);
     Ok(())
 }
 

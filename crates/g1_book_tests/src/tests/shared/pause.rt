@@ -23,9 +23,8 @@ impl Play for AroundAPause<'_> {
         callers: &mut [SharedCaller<'_, M, S>],
     ) -> Result<(), Refusal> {
         self.before.play(rt, callers)?;
-        for caller in callers.iter().take(1) {
-            pause_nobody(rt, caller.shared);
-        }
+        let caller = callers.first().expect(rt, "a caller");
+        pause_nobody(rt, caller.shared);
         self.after.play(rt, callers)
     }
 }
