@@ -94,6 +94,11 @@ pub err_refused : {X E C : Type 0} (r : Result X E) (old now new : History) (cal
 err_refused (Ok x) old now new caller same is = tt
 err_refused (Err e) old now new caller same is = (is ∙ same, refl)
 
+-- a refused call leaves the caller as it was, whatever else it leaves
+pub caller_kept : {X E C : Type 0} (P : Type 0) (r : Result X E) (old new : C) → OnErr r (P × (new ≡ old)) → OnErr r (new ≡ old)
+caller_kept P (Ok x) old new h = tt
+caller_kept P (Err e) old new h = h.1
+
 -- the same where only the counts of the caller are lent
 pub entered_of : (old now new : History) (number n : ℕ) (e : ℕ → Entry) → old ≡ now → n ≡ number → IsEntered old (e n) new → IsEntered now (e number) new
 entered_of old now new number n e book same h = subst (λ (b : History). IsEntered b (e number) new) book (subst (λ k. IsEntered old (e k) new) same h)
