@@ -9,7 +9,7 @@ use std::process::Abort;
 // Adds the buffer of these cards.
 fn add(rt: &impl Abort, done: &mut Done, numbers: &[u32]) {
     let added = done.add(buffer(rt, numbers));
-    assert!(rt; added.is_ok());
+    added.expect(rt, "room for a buffer");
 }
 
 // Takes out the oldest buffer, which has this card alone.
