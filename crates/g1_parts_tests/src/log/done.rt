@@ -8,8 +8,8 @@ use std::process::Abort;
 
 // Adds the buffer of these cards.
 fn add(rt: &impl Abort, done: &mut Done, numbers: &[u32]) {
-    let added = done.add(buffer(rt, numbers));
-    added.expect(rt, "room for a buffer");
+    done.add(buffer(rt, numbers))
+        .expect(rt, "room for a buffer");
 }
 
 // Takes out the oldest buffer, which has this card alone.

@@ -7,7 +7,6 @@ use g1_log::{Buffer, Line, Parcel, Sender, Settled, Taker};
 use std::alloc::Global;
 use std::process::Abort;
 use std::sync::Wait;
-use std::test::*;
 use std::thread;
 use std::thread::Threads;
 
