@@ -1,10 +1,10 @@
 //! Heaps that were drawn and counted by hand.
 
+use crate::checks::assert_equal;
 use g1_layout::{Card, Kind, Layout, NoMemory, Region, Slot};
 use std::alloc::Global;
 use std::collections::HashSet;
 use std::process::Abort;
-use std::test::Fail;
 
 #[test]
 fn limits(rt: HostRuntime) {
@@ -26,18 +26,18 @@ fn limits(rt: HostRuntime) {
         (1, 67_108_865, 64, false),
         (u32::MAX, u32::MAX, u32::MAX, false),
     ];
-    for (regions, cards, slots, good) in heaps {
-        let counts = good.then_some((regions, cards, slots));
-        assert_eq!(rt;
-            counts_of(regions, cards, slots),
-            counts,
-            "heap {regions} {cards} {slots}"
+    for (regions, cards, slots, good) in &heaps {
+        let counts = (*regions, *cards, *slots);
+        assert_equal(
+            &rt,
+            (counts, counts_of(counts)),
+            (counts, good.then_some(counts)),
         );
     }
 }
 
 // The counts of this heap, if there is one.
-fn counts_of(regions: u32, cards: u32, slots: u32) -> Option<(u32, u32, u32)> {
+fn counts_of((regions, cards, slots): (u32, u32, u32)) -> Option<(u32, u32, u32)> {
     Some(Layout::new(regions, cards, slots)?.counts())
 }
 
@@ -61,9 +61,9 @@ fn numbers_of(slot: u32, card: u32, region: u32) -> [Option<u32>; 3] {
 
 #[test]
 fn numbers_end_with_the_heap(rt: HostRuntime) {
-    assert_eq!(rt; numbers_of(31, 7, 3), [Some(31), Some(7), Some(3)]);
-    assert_eq!(rt; numbers_of(32, 8, 4), [None, None, None]);
-    assert_eq!(rt; numbers_of(u32::MAX, 8, 4), [None, None, None]);
+    assert_equal(&rt, numbers_of(31, 7, 3), [Some(31), Some(7), Some(3)]);
+    assert_equal(&rt, numbers_of(32, 8, 4), [None, None, None]);
+    assert_equal(&rt, numbers_of(u32::MAX, 8, 4), [None, None, None]);
 }
 
 // each slot with its card, its region, and the first slot of that card
@@ -86,12 +86,10 @@ fn places_of_slots(rt: HostRuntime) {
         ((256, 64, 64), 4_096, (64, 1, 4_096)),
         ((256, 64, 64), 1_048_575, (16_383, 255, 1_048_512)),
     ];
-    for (heap, number, (card, region, first)) in slots {
-        assert_eq!(rt;
-            place_of(&rt, heap, number),
-            (card, region, region, first),
-            "slot {number} of {heap:?}"
-        );
+    for (heap, number, (card, region, first)) in &slots {
+        let place = place_of(&rt, *heap, *number);
+        let wanted = (*card, *region, *region, *first);
+        assert_equal(&rt, (*heap, *number, place), (*heap, *number, wanted));
     }
 }
 
@@ -112,53 +110,53 @@ fn place_of(
     )
 }
 
-// a slot at an offset of a card and of another region, and what places and a refused growth say as texts
 #[test]
-fn slots_at_an_offset_and_texts(rt: HostRuntime) -> Result<(), Fail> {
+fn slots_at_an_offset(rt: HostRuntime) {
     let layout = Layout::new(3, 5, 7).expect(&rt, "good");
-    assert_eq!(rt; (layout.slot_count(), layout.card_count()), (105, 15));
+    assert_equal(&rt, (layout.slot_count(), layout.card_count()), (105, 15));
     let card = layout.card(14).expect(&rt, "a card");
-    assert_eq!(rt; layout.slot_at(card, 6).number(), 104);
+    let slot = layout.slot_at(card, 6);
+    assert_equal(&rt, slot.number(), 104);
     let region = layout.region(1).expect(&rt, "a region");
-    let moved = layout.same_offset(layout.slot_at(card, 6), region);
-    assert_eq!(rt; moved.number(), 69);
-    let text = format!(in rt.alloc(); "slot {moved}, card {card:>3}, region {region}, {NoMemory}")?;
-    assert_eq!(rt; text.as_str(), "slot 69, card  14, region 1, no memory");
-    Ok(())
+    assert_equal(&rt, layout.same_offset(slot, region).number(), 69);
+}
+
+// what places and a refused growth say as texts
+#[test]
+fn places_have_their_texts(rt: HostRuntime) {
+    let layout = Layout::new(3, 5, 7).expect(&rt, "good");
+    let slot = layout.slot(69).expect(&rt, "a slot");
+    let card = layout.card(14).expect(&rt, "a card");
+    let region = layout.region(1).expect(&rt, "a region");
+    let text = format!(in rt.alloc(); "slot {slot}, card {card:>3}, region {region}, {NoMemory}");
+    let text = text.expect(&rt, "memory");
+    assert_equal(&rt, text.as_str(), "slot 69, card  14, region 1, no memory");
 }
 
 #[test]
-fn numbers_and_kinds_compare(rt: HostRuntime) -> Result<(), Fail> {
+fn numbers_and_kinds_compare(rt: HostRuntime) {
     let layout = Layout::new(4, 2, 4).expect(&rt, "good");
-    assert_eq!(rt;
-        (layout.slot(0), layout.card(0), layout.region(0)),
-        (
-            Some(Slot::default()),
-            Some(Card::default()),
-            Some(Region::default())
-        )
-    );
-    assert_eq!(rt;
-        [
-            layout.slot(8) < layout.slot(9),
-            layout.card(5) > layout.card(4),
-            layout.region(1) <= layout.region(1),
-            Kind::Logged == Kind::Logged,
-            Kind::AlreadyDirty != Kind::Logged,
-            Kind::SameRegion != Kind::Null,
-        ],
-        [true; 6]
-    );
-    assert_eq!(rt; insert_twice(rt.alloc())?, (true, false));
-    Ok(())
+    assert_equal(&rt, layout.slot(0), Some(Slot::default()));
+    assert_equal(&rt, layout.card(0), Some(Card::default()));
+    assert_equal(&rt, layout.region(0), Some(Region::default()));
+    let comparisons = [
+        layout.slot(8) < layout.slot(9),
+        layout.card(5) > layout.card(4),
+        layout.region(1) <= layout.region(1),
+        Kind::Logged == Kind::Logged,
+        Kind::AlreadyDirty != Kind::Logged,
+        Kind::SameRegion != Kind::Null,
+    ];
+    assert_equal(&rt, comparisons, [true; 6]);
+    assert_equal(&rt, insert_twice(&rt, rt.alloc()), (true, false));
 }
 
 // Whether a set of cards was told something new, the first time and again.
-fn insert_twice(alloc: Global) -> Result<(bool, bool), Fail> {
+fn insert_twice(rt: &impl Abort, alloc: Global) -> (bool, bool) {
     let mut cards = HashSet::new(alloc);
-    let first = cards.insert(Card::default())?;
-    let again = cards.insert(Card::default())?;
-    Ok((first, again))
+    let first = cards.insert(Card::default()).expect(rt, "memory");
+    let again = cards.insert(Card::default()).expect(rt, "memory");
+    (first, again)
 }
 
 fn numbers_up_to(alloc: Global, room: usize) -> Result<Vec<u64>, NoMemory> {
@@ -169,8 +167,12 @@ fn numbers_up_to(alloc: Global, room: usize) -> Result<Vec<u64>, NoMemory> {
 
 // `?` makes the error of the allocator's two errors; no memory holds that many numbers.
 #[test]
-fn a_refused_growth(rt: HostRuntime) -> Result<(), Fail> {
-    assert_eq!(rt; numbers_up_to(rt.alloc(), 0)?.len(), 1);
-    assert_eq!(rt; numbers_up_to(rt.alloc(), usize::MAX).err(), Some(NoMemory));
-    Ok(())
+fn a_refused_growth(rt: HostRuntime) {
+    let numbers = numbers_up_to(rt.alloc(), 0).expect(&rt, "memory");
+    assert_equal(&rt, numbers.len(), 1);
+    assert_equal(
+        &rt,
+        numbers_up_to(rt.alloc(), usize::MAX).err(),
+        Some(NoMemory),
+    );
 }

@@ -2,30 +2,20 @@
 use arrayvec::ArrayVec;
 use g1_layout::{Card, Layout};
 use g1_log::Buffer;
+use std::process::Abort;
 
 /// The card of this number in a heap of 65,536 cards.
-pub(crate) fn card(number: u32) -> Result<Card, &'static str> {
-    let layout = Layout::new(256, 256, 1).ok_or("no such heap")?;
-    layout.card(number).ok_or("no such card")
+pub(crate) fn card(rt: &impl Abort, number: u32) -> Card {
+    let layout = Layout::new(256, 256, 1).expect(rt, "a heap within the limits");
+    layout.card(number).expect(rt, "a card of the heap")
 }
 
 /// The buffer of the cards of these numbers.
-pub(crate) fn buffer(numbers: &[u32]) -> Result<Buffer, &'static str> {
+pub(crate) fn buffer(rt: &impl Abort, numbers: &[u32]) -> Buffer {
     let mut cards = ArrayVec::new();
     for number in numbers {
-        if cards.try_push(card(*number)?).is_err() {
-            return Err("too many cards");
-        }
+        let pushed = cards.try_push(card(rt, *number));
+        assert!(rt; pushed.is_ok());
     }
-    Ok(Buffer::of(cards))
-}
-
-/// Whether the cards have just these numbers, in this order.
-pub(crate) fn are_numbered(cards: &[Card], numbers: &[u32]) -> bool {
-    for (card, number) in cards.iter().zip(numbers) {
-        if card.number() != *number {
-            return false;
-        }
-    }
-    cards.len() == numbers.len()
+    Buffer::of(cards)
 }

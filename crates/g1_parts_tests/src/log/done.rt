@@ -1,71 +1,79 @@
-use crate::samples::{are_numbered, buffer};
+ghost use Rattle.std.specs.Prelude.{◌≤◌};
+
+use crate::checks::{assert_equal, assert_numbered};
+use crate::samples::buffer;
 use g1_log::{Done, Why};
+use std::alloc::Global;
 use std::process::Abort;
-use std::test::Fail;
 
 // Adds the buffer of these cards.
-fn add(done: &mut Done, numbers: &[u32]) -> Result<(), Fail> {
-    match done.add(buffer(numbers)?) {
-        Ok(()) => Ok(()),
-        Err((_, why)) => Err(Fail::from(why)),
-    }
+fn add(rt: &impl Abort, done: &mut Done, numbers: &[u32]) {
+    done.add(buffer(rt, numbers))
+        .expect(rt, "room for a buffer");
+}
+
+// Takes out the oldest buffer, which has this card alone.
+fn take(rt: &impl Abort, done: &mut Done, number: u32) {
+    let oldest = done.take_oldest().expect(rt, "a buffer");
+    assert_numbered(rt, oldest.cards(), &[number]);
+}
+
+// Checks that one buffer more comes back.
+fn assert_full(rt: &impl Abort, done: &mut Done) {
+    let refused = done.add(buffer(rt, &[2000])).err();
+    let (back, why) = refused.expect(rt, "a buffer past the limit");
+    assert_numbered(rt, back.cards(), &[2000]);
+    assert_equal(rt, why, Why::Full);
+}
+
+#[test]
+fn buffers_leave_oldest_first_up_to_the_limit(rt: HostRuntime) {
+    fill_and_empty(&rt, rt.alloc(), 1);
+    fill_and_empty(&rt, rt.alloc(), 1024);
 }
 
 // Buffers are added up to the limit and one more, and all taken out again.
-#[test]
-fn buffers_leave_oldest_first_up_to_the_limit(rt: HostRuntime) -> Result<(), Fail> {
-    for limit in [1, 1024] {
-        let mut done = Done::new(rt.alloc(), limit as usize);
-        for number in 0..limit {
-            add(&mut done, &[number])?;
-        }
-        let Err((back, why)) = done.add(buffer(&[2000])?) else {
-            return Err(Fail::new("a buffer past the limit"));
-        };
-        assert!(rt; are_numbered(back.cards(), &[2000]));
-        assert_eq!(rt; (why, done.len()), (Why::Full, limit as usize));
-        for number in 0..limit {
-            let oldest = done.take_oldest().ok_or("too few buffers")?;
-            assert!(rt; are_numbered(oldest.cards(), &[number]));
-        }
-        assert!(rt; done.is_empty() && done.take_oldest().is_none());
+fn fill_and_empty(rt: &impl Abort, alloc: Global, limit: u32)
+    requires low { 1 ≤ limit }
+    requires high { limit ≤ 1024 }
+{
+    let mut done = Done::new(alloc, limit as usize);
+    for number in 0..limit {
+        add(rt, &mut done, &[number]);
     }
-    Ok(())
+    assert_full(rt, &mut done);
+    assert_equal(rt, done.len(), limit as usize);
+    for number in 0..limit {
+        take(rt, &mut done, number);
+    }
+    assert!(rt; done.is_empty() && done.take_oldest().is_none());
 }
 
-// Cuts the oldest buffer, which has these cards.
-fn cut(rt: &impl Abort, done: &mut Done, numbers: &[u32], n: usize) -> Result<(), Fail> {
-    let oldest = done.oldest().ok_or("no buffer")?;
-    assert!(rt; are_numbered(oldest.cards(), numbers));
+// Cuts `n` cards from the oldest buffer, which has these cards, and leaves so many buffers.
+fn cut(rt: &impl Abort, done: &mut Done, numbers: &[u32], n: usize, left: usize) {
+    let oldest = done.oldest().expect(rt, "a buffer");
+    assert_numbered(rt, oldest.cards(), numbers);
     assert!(rt; n <= oldest.cards().len());
     done.cut_oldest(n);
-    Ok(())
+    assert_equal(rt, done.len(), left);
 }
 
 #[test]
-fn the_oldest_buffer_is_cut_from_the_front(rt: HostRuntime) -> Result<(), Fail> {
+fn the_oldest_buffer_is_cut_from_the_front(rt: HostRuntime) {
     let mut done = Done::new(rt.alloc(), 10);
-    for numbers in [[1, 2, 3].as_slice(), &[4], &[]] {
-        add(&mut done, numbers)?;
-    }
-    for (numbers, n, left) in [
-        ([1, 2, 3].as_slice(), 1, 3),
-        (&[2, 3], 2, 2),
-        (&[4], 0, 2),
-        (&[4], 1, 1),
-        (&[], 0, 0),
-    ] {
-        cut(&rt, &mut done, numbers, n)?;
-        assert_eq!(rt; done.len(), left);
-    }
+    add(&rt, &mut done, &[1, 2, 3]);
+    add(&rt, &mut done, &[4]);
+    add(&rt, &mut done, &[]);
+    cut(&rt, &mut done, &[1, 2, 3], 1, 3);
+    cut(&rt, &mut done, &[2, 3], 2, 2);
+    cut(&rt, &mut done, &[4], 0, 2);
+    cut(&rt, &mut done, &[4], 1, 1);
+    cut(&rt, &mut done, &[], 0, 0);
     assert!(rt; done.oldest().is_none());
-    Ok(())
 }
 
 #[test]
-fn errors_have_their_texts(rt: HostRuntime) -> Result<(), Fail> {
-    for (why, text) in [(Why::Full, "full"), (Why::NoMemory, "no memory")] {
-        assert_eq!(rt; format!(in rt.alloc(); "{why}")?.as_str(), text);
-    }
-    Ok(())
+fn errors_have_their_texts(rt: HostRuntime) {
+    let text = format!(in rt.alloc(); "{}, {}", Why::Full, Why::NoMemory);
+    assert_equal(&rt, text.expect(&rt, "memory").as_str(), "full, no memory");
 }

@@ -1,5 +1,6 @@
 use Rattle.std.proofs.Common.{◌≡◌, ℕ, ◌+◌, List, [], ◌∷◌, length, get_or, sum_by, ap, rules, arith}
 use Rattle.std.specs.List.{remove}
+use Rattle.std.proofs.lemmas.Result.{IfOk-at_ok}
 use Rattle.g1_log.specs.Ends.{sender_rights, taker_rights}
 use Rattle.g1_parts_tests.proofs.log.line.run_in_threads.Goals as goal
 
@@ -12,13 +13,15 @@ two f (x ∷ y ∷ z ∷ zs) n a b p q = absurd (omega arith)
 
 pub settle-settled-requires-clause-all : goal.settle-settled-requires-clause-all
 settle-settled-requires-clause-all g c =
-    let all = c.in_ok-line.ensures.all in
-    let s : sum_by sender_rights c.in_ok-line.senders.items ≡ sender_rights c.remove-first.result + sender_rights c.remove-second.result = two sender_rights c.in_ok-line.senders.items (search rules) c.remove-first.result c.remove-second.result c.remove-second.ensures.value (search rules) in
-    let t : sum_by taker_rights c.in_ok-line.takers.items ≡ taker_rights c.remove-one.result + taker_rights c.remove-other.result = two taker_rights c.in_ok-line.takers.items (search rules) c.remove-one.result c.remove-other.result c.remove-other.ensures.value (search rules) in
-    let a : sender_rights c.in_ok-first.first ≡ sender_rights c.remove-first.result = search rules in
-    let b : sender_rights c.in_ok-second.second ≡ sender_rights c.remove-second.result = search rules in
-    let d : taker_rights c.in_ok-one.one ≡ taker_rights c.remove-one.result = search rules in
-    let e : taker_rights c.in_ok-other.other ≡ taker_rights c.remove-other.result = search rules in
-    let v : sum_by sender_rights c.in_ok-vec.field-0.items ≡ (0 + sender_rights c.in_ok-first.first) + sender_rights c.in_ok-second.second = ap (sum_by sender_rights) c.in_ok-vec.ensures.items in
-    let w : sum_by taker_rights c.in_ok-vec-2.field-0.items ≡ (0 + taker_rights c.in_ok-one.one) + taker_rights c.in_ok-other.other = ap (sum_by taker_rights) c.in_ok-vec-2.ensures.items in
+    let all = IfOk-at_ok _ c.expect-line.ensures c.new.ensures.all in
+    let senders = IfOk-at_ok _ c.expect-line.ensures c.new.ensures.senders in
+    let takers = IfOk-at_ok _ c.expect-line.ensures c.new.ensures.takers in
+    let s = two sender_rights _ senders.0 c.remove-first.result c.remove-second.result c.remove-second.ensures.value (search rules) in
+    let t = two taker_rights _ takers.0 c.remove-one.result c.remove-other.result c.remove-other.ensures.value (search rules) in
+    let a : sender_rights c.join-puts.result.0.0.0 ≡ sender_rights c.remove-first.result = search rules in
+    let b : sender_rights c.join-puts.result.0.1.0 ≡ sender_rights c.remove-second.result = search rules in
+    let d : taker_rights c.join-puts.result.1.0.0 ≡ taker_rights c.remove-one.result = search rules in
+    let e : taker_rights c.join-puts.result.1.1.0 ≡ taker_rights c.remove-other.result = search rules in
+    let v = ap (sum_by sender_rights) (IfOk-at_ok _ c.expect-senders.ensures c.vec.ensures.items) in
+    let w = ap (sum_by taker_rights) (IfOk-at_ok _ c.expect-takers.ensures c.vec-2.ensures.items) in
     omega arith
