@@ -10,7 +10,7 @@ use g1_core::Config;
 use g1_layout::Layout;
 
 // Region 0 has the slots from 0 on, region 1 those from 8, region 2 those from 16 and region 3 those from 24.
-const BEFORE: [(u32, Option<u32>); 7] = [
+static BEFORE: [(u32, Option<u32>); 7] = [
     (0, Some(8)),
     (4, Some(9)),
     (16, Some(9)),
@@ -20,7 +20,7 @@ const BEFORE: [(u32, Option<u32>); 7] = [
     (10, Some(9)),
 ];
 
-const AFTER: [(u32, Option<u32>); 3] = [(20, Some(8)), (0, Some(11)), (17, Some(3))];
+static AFTER: [(u32, Option<u32>); 3] = [(20, Some(8)), (0, Some(11)), (17, Some(3))];
 
 fn main(rt: HostRuntime) -> Result<()> {
     let layout = Layout::new(4, 2, 4).context("outside the limits of a heap")?;

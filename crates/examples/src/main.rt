@@ -7,7 +7,7 @@ use std::io;
 use std::sync::Wait;
 use std::thread::Threads;
 
-const NAMES: [&str; 11] = [
+static NAMES: [&str; 11] = [
     "one_reference",
     "hot_card",
     "full_line_and_help",

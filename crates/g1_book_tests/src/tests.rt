@@ -9,8 +9,8 @@ ghost use Rattle.g1_book.specs.History.{layout_in};
 use calls::{drain, number_of};
 use g1_book::{Book, Refusal};
 use g1_core::{
-    Call, CardList, ClearReply, Config, Drained, Fill, Redirected, RefineReply, Reply, Status,
-    StoreReply,
+    Call, CardList, ClearReply, Config, Drained, Entry, Fill, Redirected, RefineReply, Reply,
+    Status, StoreReply,
 };
 use g1_layout::{Card, Kind, Layout, NoMemory, Region, Slot};
 use g1_log::{Buffer, Line, Log, Taker};
@@ -195,23 +195,25 @@ pub(crate) fn store_entry(
     )
 }
 
+/// Whether the entry is the one that is wanted.
+fn is_entry(entry: &Entry, want: &WantedEntry<'_>) -> bool {
+    entry.caller == want.0
+        && entry.call == want.1
+        && is_wanted(&entry.reply, &want.2)
+        && has_cards(&entry.refined, want.3)
+}
+
 /// Checks that the history is just these entries.
 pub(crate) fn assert_entries(rt: &impl Abort, book: &Book, wanted: &[WantedEntry<'_>]) {
+    assert_last(rt, book, 0, wanted);
+}
+
+/// Checks that just these entries stand after the first ones.
+pub(crate) fn assert_last(rt: &impl Abort, book: &Book, first: usize, wanted: &[WantedEntry<'_>]) {
     let entries = book.entries();
-    assert_eq!(rt; entries.len(), wanted.len());
-    for (at, (entry, want)) in entries.iter().zip(wanted).enumerate() {
-        assert_eq!(rt; entry.caller, want.0, "caller of entry {at}");
-        assert_eq!(rt; entry.call, want.1, "call of entry {at}");
-        assert!(rt;
-            is_wanted(&entry.reply, &want.2),
-            "reply of entry {at}: {:?}",
-            entry.reply
-        );
-        assert!(rt;
-            has_cards(&entry.refined, want.3),
-            "cards of entry {at}: {:?}",
-            entry.refined
-        );
+    assert_eq!(rt; entries.len(), first.saturating_add(wanted.len()));
+    for (entry, want) in entries.iter().skip(first).zip(wanted) {
+        assert!(rt; is_entry(entry, want), "{entry:?}");
     }
 }
 
@@ -230,9 +232,9 @@ pub(crate) fn assert_rounds(rt: &impl Abort, book: &Book, cards: &[u32]) {
     let entries = book.entries();
     assert_eq!(rt; entries.len(), cards.len().saturating_add(5));
     for (entry, card) in entries.iter().skip(5).zip(cards) {
-        assert_eq!(rt; (entry.caller, entry.call), (0, Call::Refine));
-        assert!(rt; is_wanted(&entry.reply, &Want::Refined(1, 0, 0)));
-        assert!(rt; has_cards(&entry.refined, &[*card]));
+        let refined = [*card];
+        let want = (0, Call::Refine, Want::Refined(1, 0, 0), refined.as_slice());
+        assert!(rt; is_entry(entry, &want), "{entry:?}");
     }
 }
 

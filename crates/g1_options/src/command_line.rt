@@ -2,7 +2,7 @@
 ghost use Rattle.std.specs.Prelude.{◌≡◌, ◌≤◌, List, [], Some, true, IfSome, IfOk, IfErr, OnOk, map, string_bytes};
 ghost use Rattle.clap.specs.Words.{Row, app_of, fault_of, found_of, kind_of, new_app, rows_of, subcommand_rows_of, takes};
 ghost use Rattle.g1_options.specs.Settings.{AreWithin};
-ghost use Rattle.g1_options.specs.CommandLine.{AreFor, AreSettingsRead, AreThreaded, IsLine, IsLocal, IsRead, line_app, mode_name, with_shared, with_threads};
+ghost use Rattle.g1_options.specs.CommandLine.{AreFor, AreSettingsRead, AreThreaded, IsLine, IsLocal, IsRead, line_app, line_top, mode_name, with_shared, with_threads};
 ghost use Rattle.g1_trace.specs.declared.mode.Mode.TheVariants.{Run as RunMode};
 
 use crate::options::Options;
@@ -158,21 +158,24 @@ pub fn read_options(alloc: Global, words: &[&str]) -> Result<(Mode, Options), Li
 fn line<'a>(alloc: Global) -> Result<Command<'a>, AllocError>
     ensures { IfOk result (λ c. app_of c ≡ line_app) }
 {
-    let run = named(alloc, "run", RUN_ABOUT, RUN_AFTER_HELP);
-    let crew = named(alloc, "crew", CREW_ABOUT, CREW_AFTER_HELP);
-    let race = named(alloc, "race", RACE_ABOUT, RACE_AFTER_HELP);
-    let run = with_shared(alloc, run)?;
-    let crew = with_threads(alloc, crew)?;
-    let race = with_threads(alloc, race)?;
+    let run = with_shared(alloc, named(alloc, "run", RUN_ABOUT, RUN_AFTER_HELP))?;
+    let line = top(alloc).subcommand(run)?;
+    let crew = with_threads(alloc, named(alloc, "crew", CREW_ABOUT, CREW_AFTER_HELP))?;
+    let line = line.subcommand(crew)?;
+    let race = with_threads(alloc, named(alloc, "race", RACE_ABOUT, RACE_AFTER_HELP))?;
+    line.subcommand(race)
+}
+
+// The program, which has no subcommand yet.
+fn top<'a>(alloc: Global) -> Command<'a>
+    ensures { app_of result ≡ line_top }
+{
     Command::new(alloc, "g1replay")
         .version(VERSION)
         .about(ABOUT)
         .after_help(AFTER_HELP)
         .arg_required_else_help(true)
         .subcommand_required(true)
-        .subcommand(run)?
-        .subcommand(crew)?
-        .subcommand(race)
 }
 
 // The subcommand of this name, which has no option yet.

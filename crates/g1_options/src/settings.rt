@@ -17,7 +17,7 @@ pub(crate) struct Setting {
     help: &'static str,
 }
 
-pub(crate) const MUTATORS: Setting = Setting {
+pub(crate) static MUTATORS: Setting = Setting {
     name: "mutators",
     unit: "COUNT",
     least: 1,
@@ -26,7 +26,7 @@ pub(crate) const MUTATORS: Setting = Setting {
     help: "Mutators of the trace, numbered from 0: 1 to 8",
 };
 
-pub(crate) const LOG: Setting = Setting {
+pub(crate) static LOG: Setting = Setting {
     name: "log",
     unit: "CARDS",
     least: 1,
@@ -35,7 +35,7 @@ pub(crate) const LOG: Setting = Setting {
     help: "Cards that fill a mutator's log: 1 to 256",
 };
 
-pub(crate) const LIMIT: Setting = Setting {
+pub(crate) static LIMIT: Setting = Setting {
     name: "limit",
     unit: "BUFFERS",
     least: 1,
@@ -44,7 +44,7 @@ pub(crate) const LIMIT: Setting = Setting {
     help: "Completed buffers that may wait for refinement: 1 to 1024",
 };
 
-pub(crate) const HOT: Setting = Setting {
+pub(crate) static HOT: Setting = Setting {
     name: "hot",
     unit: "TIMES",
     least: 0,
@@ -53,7 +53,7 @@ pub(crate) const HOT: Setting = Setting {
     help: "Refinements after which a card is hot, 0 for at once: 0 to 255",
 };
 
-pub(crate) const RING: Setting = Setting {
+pub(crate) static RING: Setting = Setting {
     name: "ring",
     unit: "CARDS",
     least: 1,
@@ -62,7 +62,7 @@ pub(crate) const RING: Setting = Setting {
     help: "Hot cards that are set aside: 1 to 4096",
 };
 
-pub(crate) const START: Setting = Setting {
+pub(crate) static START: Setting = Setting {
     name: "start",
     unit: "BUFFERS",
     least: 1,
@@ -71,7 +71,7 @@ pub(crate) const START: Setting = Setting {
     help: "Completed buffers that a round of 'work' wants: 1 to 1024",
 };
 
-pub(crate) const HISTORY: Setting = Setting {
+pub(crate) static HISTORY: Setting = Setting {
     name: "history",
     unit: "ENTRIES",
     least: 1,
@@ -80,7 +80,7 @@ pub(crate) const HISTORY: Setting = Setting {
     help: "Calls that the history takes: 1 to 1000000",
 };
 
-pub(crate) const REFINERS: Setting = Setting {
+pub(crate) static REFINERS: Setting = Setting {
     name: "refiners",
     unit: "COUNT",
     least: 1,
@@ -89,7 +89,7 @@ pub(crate) const REFINERS: Setting = Setting {
     help: "Threads that refine while the mutators store: 1 to 4",
 };
 
-pub(crate) const ROUNDS: Setting = Setting {
+pub(crate) static ROUNDS: Setting = Setting {
     name: "rounds",
     unit: "COUNT",
     least: 0,

@@ -6,7 +6,7 @@ use std::fmt::Write;
 use std::test::Fail;
 
 /// Helps that refine no card or more than one, a full history that refuses a help, and a round that it ends.
-const HELPS_AND_ROUNDS: [Worked; 5] = [
+static HELPS_AND_ROUNDS: [Worked; 5] = [
     Worked {
         name: "a help finds its card hot",
         words: &[
@@ -64,7 +64,7 @@ fn helps_and_rounds(rt: HostRuntime) -> Result<(), Fail> {
 
 /// Numbers of more than one digit, and lists of more than one card. In the heaps of 64 64 64 card `c` has the slots from `64 * c`
 /// on, and region `r` those from `4096 * r` on.
-const LONG_NUMBERS_AND_LISTS: [Worked; 6] = [
+static LONG_NUMBERS_AND_LISTS: [Worked; 6] = [
     Worked {
         name: "the last slot",
         words: &["g1replay", "run"],

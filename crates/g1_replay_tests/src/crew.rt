@@ -6,7 +6,7 @@ use g1_replay::{End, Mode, read_options};
 use std::io::BufReader;
 use std::test::Fail;
 
-const WORDS: [&str; 10] = [
+static WORDS: [&str; 10] = [
     "g1replay",
     "crew",
     "--mutators",

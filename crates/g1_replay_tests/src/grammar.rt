@@ -29,7 +29,7 @@ fn are_read<R: Abort + Threads + Wait + Sync + AllocGlobal>(
 /// Lines before a command, forms of the command, lines behind it, and what the trace prints.
 type Read<'a> = (&'a str, &'a [&'a str], &'a str, &'a str);
 
-const READ: [Read<'static>; 12] = [
+static READ: [Read<'static>; 12] = [
     (
         "",
         &[
@@ -146,7 +146,7 @@ fn are_refused<R: Abort + Threads + Wait + Sync + AllocGlobal>(
 }
 
 /// Faults, each with lines that are refused for it.
-const FAULTY: [(&str, &[&str]); 8] = [
+static FAULTY: [(&str, &[&str]); 8] = [
     // Tab, carriage return and NUL belong to words, and no letter stands for another.
     (
         "no such command",

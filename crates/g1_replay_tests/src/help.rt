@@ -170,7 +170,7 @@ pub(crate) fn is_refused(rt: &(impl Abort + AllocGlobal), words: &[&str], text: 
 }
 
 /// Command lines, each with the text that it is answered with.
-const LINES: [(&[&str], &str); 18] = [
+static LINES: [(&[&str], &str); 18] = [
     (&["g1replay"], WHOLE),
     (&["g1replay", "--help"], WHOLE),
     (&["g1replay", "-h"], WHOLE),

@@ -4,7 +4,7 @@ use g1_replay::End;
 use std::test::Fail;
 
 /// Faults, each with the number of its line.
-const REFUSED_TRACES: [Worked; 16] = [
+static REFUSED_TRACES: [Worked; 16] = [
     Worked {
         name: "slot_too_large",
         words: &["g1replay", "run"],

@@ -40,7 +40,7 @@ pub(crate) fn are_replayed<R: Abort + Wait + AllocGlobal>(
 }
 
 /// Stores, pauses, clears and the questions beside them.
-const STORES_AND_PAUSES: [Worked; 13] = [
+static STORES_AND_PAUSES: [Worked; 13] = [
     Worked {
         name: "store_then_drain",
         words: &["g1replay", "run"],
@@ -140,7 +140,7 @@ fn stores_and_pauses(rt: HostRuntime) -> Result<(), Fail> {
 }
 
 /// Logs, the line of completed buffers, helps and rounds.
-const LOGS_AND_BUFFERS: [Worked; 12] = [
+static LOGS_AND_BUFFERS: [Worked; 12] = [
     Worked {
         name: "full_line_makes_mutator_help",
         words: &["g1replay", "run", "--log", "1", "--limit", "1"],
@@ -242,7 +242,7 @@ fn logs_and_buffers(rt: HostRuntime) -> Result<(), Fail> {
 }
 
 /// The ring of hot cards.
-const HOT_CARDS: [Worked; 4] = [
+static HOT_CARDS: [Worked; 4] = [
     Worked {
         name: "hot_card_stays_pending",
         words: &[
@@ -283,7 +283,7 @@ fn hot_cards(rt: HostRuntime) -> Result<(), Fail> {
 }
 
 /// References that are moved to another region.
-const REDIRECTS: [Worked; 5] = [
+static REDIRECTS: [Worked; 5] = [
     Worked {
         name: "redirect_moves_reference",
         words: &["g1replay", "run"],

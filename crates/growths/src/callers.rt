@@ -20,7 +20,7 @@ use g1_steps::{LentBook, Mutator, open_line, refine, work};
 use std::sync::Wait;
 use std::vec::IntoIter;
 
-const SCENARIOS: [(&str, Plan); 5] = [
+static SCENARIOS: [(&str, Plan); 5] = [
     ("callers at a line", OPEN),
     ("a mutator that helps", HELP),
     ("a flush that helps", FLUSH),

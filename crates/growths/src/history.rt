@@ -22,9 +22,9 @@ struct Scenario {
 }
 
 // Cards 0, 1, 2, 7 and 4 hold into regions 3, 2, 3, 0 and 1.
-const REFERENCES: [(u32, u32); 5] = [(0, 24), (4, 16), (8, 24), (31, 0), (16, 8)];
+static REFERENCES: [(u32, u32); 5] = [(0, 24), (4, 16), (8, 24), (31, 0), (16, 8)];
 
-const CARDS: [u32; 5] = [0, 1, 2, 7, 4];
+static CARDS: [u32; 5] = [0, 1, 2, 7, 4];
 
 // As many entries as a history has room for at first, so that the call behind them makes it grow.
 const FOUR: usize = 4;
@@ -58,7 +58,7 @@ const MOVED: Before<'static> = Before {
     recorded: 4,
 };
 
-const SCENARIOS: [Scenario; 8] = [
+static SCENARIOS: [Scenario; 8] = [
     Scenario {
         name: "a book",
         stores: 0,

@@ -24,7 +24,7 @@ const ENTERING: [(u32, u32); 5] = [(0, 9), (4, 8), (12, 9), (21, 15), (28, 10)];
 
 const MOVED: [(u32, u32); 5] = [(0, 25), (4, 24), (12, 9), (21, 31), (28, 26)];
 
-const SCENARIOS: [Scenario; 8] = [
+static SCENARIOS: [Scenario; 8] = [
     // A new core refers nowhere, and nothing is pending or recorded.
     Scenario {
         name: "a core",

@@ -40,7 +40,7 @@ pub(crate) fn untouched<R: Eprint + AllocGlobal>(rt: &R) -> Result<(), Failure> 
 }
 
 /// Cards 0, 1 and 2 hold into regions 3, 2 and 3.
-pub(crate) const REFERENCES: [(u32, u32); 3] = [(0, 24), (4, 16), (8, 24)];
+pub(crate) static REFERENCES: [(u32, u32); 3] = [(0, 24), (4, 16), (8, 24)];
 
 /// A refused refinement changes no word and records nothing: the race is closed then, and another one goes through.
 pub(crate) fn cards_refined<R: Eprint + AllocGlobal>(rt: &R) -> Result<(), Failure> {

@@ -7,7 +7,7 @@ use g1_layout::{Card, Layout, NoMemory};
 use g1_sets::Sets;
 
 // How many regions of how many cards the heap of a list has, and how many cards the list.
-const LISTS: [(&str, u32, u32, u32); 3] = [
+static LISTS: [(&str, u32, u32, u32); 3] = [
     ("a list of few cards", 4, 4, 6),
     ("a list of many cards", 8, 128, 600),
     ("a list of many cards of a large heap", 64, 128, 1_100),
@@ -82,7 +82,7 @@ impl Numbered {
 }
 
 // What the second region has before the first has a card, so that their sets grow at different cards.
-const EARLIER: [u32; 3] = [60, 61, 62];
+static EARLIER: [u32; 3] = [60, 61, 62];
 
 // Cards 0 to 39 go into two sets. Where either cannot grow, neither has the card.
 fn recorded<R: Eprint + AllocGlobal>(rt: &R) -> Result<(), Failure> {

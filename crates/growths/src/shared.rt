@@ -29,7 +29,7 @@ struct Scenario {
 // The cards of the four stores.
 const PENDING: &[u32] = &[0, 1, 2, 7];
 
-const SCENARIOS: [Scenario; 10] = [
+static SCENARIOS: [Scenario; 10] = [
     Scenario {
         name: "a shared book",
         plan: OPEN,

@@ -13,12 +13,12 @@ use racing::{Stores, into_core, resume, run};
 
 // What each of two mutators stores, in its own order: a slot and the place that it is to refer to. Region 0 has the slots from 0
 // on, region 1 those from 8, region 2 those from 16 and region 3 those from 24.
-const BEFORE: [Stores; 2] = [
+static BEFORE: [Stores; 2] = [
     [(0, Some(8)), (5, Some(9)), (2, Some(16))],
     [(16, Some(9)), (20, Some(2)), (3, None)],
 ];
 
-const AFTER: [Stores; 2] = [
+static AFTER: [Stores; 2] = [
     [(5, None), (1, Some(26)), (9, None)],
     [(20, Some(24)), (8, Some(27)), (25, Some(24))],
 ];

@@ -20,7 +20,7 @@ use std::sync::ledger::{Blank, Ledger};
 use std::thread::Threads;
 
 // What each mutator stores: into which slot, and the slot that it is to refer to.
-const STORES: [[(u32, u32); 4]; 3] = [
+static STORES: [[(u32, u32); 4]; 3] = [
     [(0, 8), (1, 9), (4, 16), (9, 0)],
     [(16, 9), (20, 2), (17, 18), (12, 24)],
     [(24, 10), (28, 8), (25, 16), (5, 6)],

@@ -68,24 +68,28 @@ fn ask(rt: &impl Abort, book: &mut Book) -> Result<(), Refusal> {
     assert!(rt; has_cards(&members(rt, book, 3, 1)?, &[0]));
     assert_eq!(rt; status(book, 4)?, (1, 1));
     let wanted = [
-        (1, Call::Target(slot(rt, book, 0)), Want::Target(Some(8))),
-        (2, Call::Pending(card(rt, book, 1)), Want::Pending(true)),
-        (3, Call::Members(region(rt, book, 1)), Want::Cards(&[0])),
-        (4, Call::Status, Want::Status(1, 1)),
+        (
+            1,
+            Call::Target(slot(rt, book, 0)),
+            Want::Target(Some(8)),
+            [].as_slice(),
+        ),
+        (
+            2,
+            Call::Pending(card(rt, book, 1)),
+            Want::Pending(true),
+            [].as_slice(),
+        ),
+        (
+            3,
+            Call::Members(region(rt, book, 1)),
+            Want::Cards(&[0]),
+            [].as_slice(),
+        ),
+        (4, Call::Status, Want::Status(1, 1), [].as_slice()),
     ];
     assert_last(rt, book, 3, &wanted);
     Ok(())
-}
-
-/// Checks the entries after the first ones: caller, call and reply; none of them has refined a card.
-fn assert_last(rt: &impl Abort, book: &Book, first: usize, wanted: &[(u32, Call, Want<'_>)]) {
-    let entries = book.entries();
-    assert_eq!(rt; entries.len(), first.saturating_add(wanted.len()));
-    for (entry, want) in entries.iter().skip(first).zip(wanted) {
-        assert_eq!(rt; (entry.caller, entry.call), (want.0, want.1));
-        assert!(rt; is_wanted(&entry.reply, &want.2), "{:?}", entry.reply);
-        assert!(rt; entry.refined.is_empty());
-    }
 }
 
 /// A drain refines what is pending and answers the set. A clear is refused while a card is pending, then while a slot
@@ -172,10 +176,8 @@ fn assert_move_is_entered(rt: &impl Abort, book: &Book) {
     };
     let entries = book.entries();
     assert_eq!(rt; entries.len(), 5);
-    let entry = &entries[1];
-    assert_eq!(rt; (entry.caller, entry.call), (7, call));
-    assert!(rt; is_wanted(&entry.reply, &Want::Moved(1)));
-    assert!(rt; has_cards(&entry.refined, &[0]));
+    let want = (7, call, Want::Moved(1), [0].as_slice());
+    assert!(rt; is_entry(&entries[1], &want));
 }
 
 #[test]

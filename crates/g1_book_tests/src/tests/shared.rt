@@ -168,6 +168,16 @@ fn opened<M: Frame, S: Ledger>(
     }
 }
 
+/// Checks how many calls the caller has made under the lock, and how many of them are stores.
+fn assert_made<M: Frame, S: Ledger>(
+    rt: &impl Abort,
+    caller: &Caller<M, S>,
+    calls: u64,
+    stores: u64,
+) {
+    assert_eq!(rt; (caller.made(), caller.stored()), (calls, stores));
+}
+
 /// The caller with the book that made it.
 fn shared_caller<'a, M: Frame, S: Ledger>(
     shared: &'a Shared<M, S>,

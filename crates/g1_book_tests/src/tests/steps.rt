@@ -78,12 +78,19 @@ pub(crate) enum Step<'a> {
     Drain(u32, &'a [u32]),
     /// A redirect from one region to another: how many slots change, and which cards are refined.
     Redirect(u32, u32, u32, &'a [u32]),
-    /// Calls that the full history refuses.
-    StoreFull(u32, u32),
-    RefineFull,
-    WorkFull,
-    /// Each call but those of a mutator, which the full history refuses.
-    AllFull,
+    /// What the full history refuses.
+    Refused(Ask),
+}
+
+/// Calls with numbers for their arguments, whatever they would answer.
+#[derive(Clone, Copy)]
+pub(crate) enum Ask {
+    /// A store of a place into a slot.
+    Store(u32, u32),
+    Refine,
+    Work,
+    /// Each call but those of a mutator.
+    All,
 }
 
 /// Takes the steps in order.
@@ -122,12 +129,19 @@ pub(crate) fn take<C: Calls, R: Wait + Abort>(
         Step::Redirect(from, to, slots, refined) => {
             assert_moved(rt, &caller.redirect(rt, from, to)?, slots, refined);
         }
-        Step::StoreFull(from, to) => assert_full(rt, caller.store(rt, from, to).err()),
-        Step::RefineFull => assert_full(rt, caller.refine(rt).err()),
-        Step::WorkFull => assert_full(rt, caller.work(rt).err()),
-        Step::AllFull => refuse_all(rt, caller),
+        Step::Refused(ask) => refuse(rt, caller, ask),
     }
     Ok(())
+}
+
+/// Makes the calls, and checks that the full history refuses them.
+fn refuse<C: Calls, R: Wait + Abort>(rt: &R, caller: &mut C, ask: Ask) {
+    match ask {
+        Ask::Store(from, to) => assert_full(rt, caller.store(rt, from, to).err()),
+        Ask::Refine => assert_full(rt, caller.refine(rt).err()),
+        Ask::Work => assert_full(rt, caller.work(rt).err()),
+        Ask::All => refuse_all(rt, caller),
+    }
 }
 
 /// Makes each call but those of a mutator, and checks that the full history refuses it.

@@ -6,6 +6,7 @@ ghost use Rattle.g1_log.specs.Ends.{IsSenderOf, IsTakerOf};
 ghost use Rattle.g1_book.specs.History.{layout_in};
 
 use super::*;
+use crate::tests::steps::{assert_flushed, assert_round, assert_stored, whole};
 use g1_log::{Line, Taker};
 use g1_steps::{Desk, LentBook, LocalDesk, Mutator, Outcome, mutate, open_line, refiner};
 use std::sync::Wait;
@@ -46,12 +47,10 @@ fn a_desk_stores_flushes_and_begins_no_round(rt: HostRuntime) -> Result<(), Fail
     let layout = book.layout();
     let (line, mutator, taker) = ends(&rt, rt.alloc(), book.config())?;
     let mut desk = desk_at(&rt, &line, &mut book, mutator, taker);
-    let stored = desk.store(slot_in(&rt, layout, 0), Some(slot_in(&rt, layout, 8)))?;
-    assert_eq!(rt; (stored.kind, stored.fill), (Kind::Logged, Fill::No));
-    let flushed = desk.flush()?;
-    assert_eq!(rt; (flushed.cards, flushed.fill), (1, Fill::Full));
-    let reply = desk.work()?;
-    assert_eq!(rt; (reply.taken, reply.left), (0, 1));
+    let (from, to) = (slot_in(&rt, layout, 0), slot_in(&rt, layout, 8));
+    assert_stored(&rt, &desk.store(from, Some(to))?, Fill::No, &[]);
+    assert_flushed(&rt, &desk.flush()?, 1, Fill::Full, &[]);
+    assert_round(&rt, &desk.work()?, whole(0, &[], 1));
     Ok(())
 }
 
@@ -69,6 +68,24 @@ fn worked<R: Abort + Wait>(
     let mut desk = desk_at(rt, &line, book, mutator, taker);
     let made = mutate(&mut desk, steps.as_slice());
     Ok((made, refiner(&mut desk, 3)))
+}
+
+/// Checks how a script and the rounds after it end at a new book with room for `history` entries, and how many it has then.
+fn assert_worked<R: Abort + Wait>(
+    rt: &R,
+    alloc: Global,
+    history: usize,
+    wishes: &[Wish],
+    ends: (Outcome, Outcome),
+    entries: usize,
+) -> Result<(), NoMemory>
+    requires low { 1 ≤ history }
+    requires high { history ≤ 1000000 }
+{
+    let mut book = plain_book(rt, alloc, history)?;
+    assert_eq!(rt; worked(rt, alloc, &mut book, wishes)?, ends);
+    assert_eq!(rt; book.entries().len(), entries);
+    Ok(())
 }
 
 /// Stores of the cards 0, 1, 2 and so on into region 3, each of which is logged. A flush is a call without an entry.
@@ -94,11 +111,8 @@ fn a_full_book_ends_a_script(rt: HostRuntime) -> Result<(), Fail> {
         (3, between, Err((4, full))),
         (4, stores, Ok(5)),
     ] {
-        let mut book = plain_book(&rt, rt.alloc(), history)?;
-        let (outcome, rounds) = worked(&rt, rt.alloc(), &mut book, wishes.as_slice())?;
-        assert_eq!(rt; outcome, made);
-        assert_eq!(rt; rounds, Ok(3));
-        assert_eq!(rt; book.entries().len(), history);
+        let ends = (made, Ok(3));
+        assert_worked(&rt, rt.alloc(), history, &wishes, ends, history)?;
     }
     Ok(())
 }
@@ -124,11 +138,8 @@ fn a_full_book_ends_a_round(rt: HostRuntime) -> Result<(), Fail> {
         (7, 7, Ok(3)),
         (20, 9, Ok(3)),
     ] {
-        let mut book = plain_book(&rt, rt.alloc(), history)?;
-        let (outcome, refined) = worked(&rt, rt.alloc(), &mut book, wishes.as_slice())?;
-        assert_eq!(rt; outcome, Ok(10));
-        assert_eq!(rt; refined, rounds);
-        assert_eq!(rt; book.entries().len(), entries);
+        let ends = (Ok(10), rounds);
+        assert_worked(&rt, rt.alloc(), history, &wishes, ends, entries)?;
     }
     Ok(())
 }

@@ -154,12 +154,14 @@ fn run_all<R: Threads + Wait + Sync + Abort, M: Frame + Send + Sync, S: Ledger +
     Ok((shared.finish(callers), count))
 }
 
-/// How often the list has the card.
-fn times(list: &CardList, number: u32) -> usize {
-    list.as_slice()
+/// Checks that the list has the card once.
+fn assert_once(rt: &impl Abort, list: &CardList, number: u32) {
+    let times = list
+        .as_slice()
         .iter()
         .filter(|card| card.number() == number)
-        .count()
+        .count();
+    assert_eq!(rt; times, 1, "card {number} in {list:?}");
 }
 
 /// Checks a drain of the region against all slots: it answers no card twice, and each card that holds a reference into the
@@ -170,11 +172,7 @@ fn assert_drained(rt: &impl Abort, book: &mut Book, of: u32) -> Result<(), Refus
         return Err(Refusal::NoMemory);
     };
     for card in cards.as_slice() {
-        assert_eq!(rt;
-            times(&cards, card.number()),
-            1,
-            "{card:?} in the set of region {of}"
-        );
+        assert_once(rt, &cards, card.number());
     }
     for number in 0..SLOTS {
         let from = slot(rt, book, number);
@@ -182,14 +180,26 @@ fn assert_drained(rt: &impl Abort, book: &mut Book, of: u32) -> Result<(), Refus
             continue;
         };
         if place.number() / 32 == of && number / 32 != of {
-            assert_eq!(rt;
-                times(&cards, number / 8),
-                1,
-                "slot {number} into region {of}"
-            );
+            assert_once(rt, &cards, number / 8);
         }
     }
     Ok(())
+}
+
+/// Drains every region, and checks each of the drains.
+fn assert_all_drained(rt: &impl Abort, book: &mut Book) -> Result<(), Refusal> {
+    for of in 0..REGIONS {
+        assert_drained(rt, book, of)?;
+    }
+    Ok(())
+}
+
+/// How many stores the history has.
+fn stores_in(book: &Book) -> usize {
+    book.entries()
+        .iter()
+        .filter(|entry| matches!(entry.call, Call::Store { .. }))
+        .count()
 }
 
 /// Every call is made and entered, and the drains find every reference, whatever the threads did in what order. Cards
@@ -208,15 +218,7 @@ fn a_crew_makes_all_calls_and_loses_no_reference(rt: HostRuntime) -> Result<(), 
         book,
     )?;
     assert_eq!(rt; book.entries().len() as u64, count);
-    let stores = book
-        .entries()
-        .iter()
-        .filter(|entry| matches!(entry.call, Call::Store { .. }))
-        .count();
-    assert_eq!(rt; stores, 16_000);
+    assert_eq!(rt; stores_in(&book), 16_000);
     assert!(rt; 16_000 < count);
-    for of in 0..REGIONS {
-        assert_drained(&rt, &mut book, of)?;
-    }
-    Ok(())
+    Ok(assert_all_drained(&rt, &mut book)?)
 }

@@ -1,7 +1,7 @@
 //! What becomes of a log that is full or flushed.
 use super::*;
-use crate::tests::steps::Step::{Drain, Flush, Members, Refine, Store, StoreFull, StoreShort};
-use crate::tests::steps::whole;
+use crate::tests::steps::Step::{Drain, Flush, Members, Refine, Refused, Store, StoreShort};
+use crate::tests::steps::{Ask, whole};
 use g1_core::Fill::{Full, Helped, No};
 use std::test::Fail;
 
@@ -66,7 +66,11 @@ fn a_flush_puts_or_helps(rt: HostRuntime) -> Result<(), Fail> {
 #[test]
 fn a_refused_help_is_short(rt: HostRuntime) -> Result<(), Fail> {
     let mut book = book(&rt, rt.alloc(), 1, 1, 2)?;
-    let steps = [Store(0, 8, Full, &[]), StoreShort(4, 8), StoreFull(8, 16)];
+    let steps = [
+        Store(0, 8, Full, &[]),
+        StoreShort(4, 8),
+        Refused(Ask::Store(8, 16)),
+    ];
     play(&rt, rt.alloc(), &mut book, &steps)?;
     assert_stores(&rt, &book, 2);
     Ok(())

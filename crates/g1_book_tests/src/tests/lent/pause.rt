@@ -55,6 +55,47 @@ fn take_at<R: Abort + Wait>(
     take(rt, &mut caller, step)
 }
 
+/// Takes steps of callers of the book, each with the number of its caller.
+fn take_in_turn<R: Abort + Wait>(
+    rt: &R,
+    book: &mut Book,
+    callers: &mut [CallerEnds<'_>],
+    steps: &[(u32, Step<'_>)],
+) -> Result<(), Refusal> {
+    for (number, step) in steps {
+        take_at(rt, book, callers, *number, *step)?;
+    }
+    Ok(())
+}
+
+/// Takes the steps of two callers that are paused after their stores.
+fn take_around_a_pause<R: Abort + Wait>(
+    rt: &R,
+    book: &mut Book,
+    line: &Line,
+    callers: &mut [CallerEnds<'_>],
+) -> Result<(), Refusal> {
+    let before = [
+        (0, Store(0, 24, No, &[])),
+        (1, Store(4, 24, No, &[])),
+        (0, Store(8, 24, Full, &[])),
+        (1, Store(12, 24, Full, &[])),
+        (0, Store(16, 24, No, &[])),
+        (1, Store(20, 24, No, &[])),
+    ];
+    take_in_turn(rt, book, callers, &before)?;
+    assert_eq!(rt; line.len(rt), 2);
+    pause(rt, callers);
+    assert_eq!(rt; line.len(rt), 0);
+    let after = [
+        (0, Flush(0, No, &[])),
+        (1, Flush(0, No, &[])),
+        (0, Pending(6)),
+        (1, Drain(3, &[0, 1, 2, 3, 4, 5])),
+    ];
+    take_in_turn(rt, book, callers, &after)
+}
+
 /// A pause empties the logs of all callers and the line, without an entry, and a drain then finds each card by its mark.
 #[test]
 fn a_pause_empties_logs_and_line(rt: HostRuntime) -> Result<(), Fail> {
@@ -63,27 +104,7 @@ fn a_pause_empties_logs_and_line(rt: HostRuntime) -> Result<(), Fail> {
     let first = caller(&rt, &line, &mut senders, &mut takers);
     let second = caller(&rt, &line, &mut senders, &mut takers);
     let mut all = [first, second];
-    for (number, from, fill) in [
-        (0, 0, No),
-        (1, 4, No),
-        (0, 8, Full),
-        (1, 12, Full),
-        (0, 16, No),
-        (1, 20, No),
-    ] {
-        take_at(&rt, &mut book, &mut all, number, Store(from, 24, fill, &[]))?;
-    }
-    assert_eq!(rt; line.len(&rt), 2);
-    pause(&rt, &mut all);
-    assert_eq!(rt; line.len(&rt), 0);
-    for (number, step) in [
-        (0, Flush(0, No, &[])),
-        (1, Flush(0, No, &[])),
-        (0, Pending(6)),
-        (1, Drain(3, &[0, 1, 2, 3, 4, 5])),
-    ] {
-        take_at(&rt, &mut book, &mut all, number, step)?;
-    }
+    take_around_a_pause(&rt, &mut book, &line, &mut all)?;
     assert_eq!(rt; book.entries().len(), 8);
     pause(&rt, &mut all[..0]);
     Ok(())

@@ -1,9 +1,7 @@
 //! Refinements and rounds, where a round begins at five completed buffers.
 use super::*;
-use crate::tests::steps::Step::{
-    Completed, Drain, Members, Pending, Refine, RefineFull, Store, Work, WorkFull,
-};
-use crate::tests::steps::{Round, whole};
+use crate::tests::steps::Step::{Completed, Drain, Members, Pending, Refine, Refused, Store, Work};
+use crate::tests::steps::{Ask, Round, whole};
 use g1_core::Fill::Full;
 use std::test::Fail;
 
@@ -91,9 +89,9 @@ fn a_full_history_refuses_a_round(rt: HostRuntime) -> Result<(), Fail> {
     let mut book = book(&rt, rt.alloc(), 1, 10, 5)?;
     let steps = [
         Completed(5),
-        WorkFull,
+        Refused(Ask::Work),
         Work(whole(0, &[], 4)),
-        RefineFull,
+        Refused(Ask::Refine),
         Work(whole(0, &[], 3)),
     ];
     play(&rt, rt.alloc(), &mut book, &steps)?;

@@ -1,9 +1,7 @@
 //! What callers are answered, with memory enough, and what a full history refuses.
 use super::*;
-use crate::tests::steps::Step::{
-    AllFull, Completed, Drain, Redirect, Refine, RefineFull, Store, StoreFull, Target, Work,
-};
-use crate::tests::steps::{Round, whole};
+use crate::tests::steps::Step::{Completed, Drain, Redirect, Refine, Refused, Store, Target, Work};
+use crate::tests::steps::{Ask, Round, whole};
 use g1_core::Fill::{Full, No};
 use std::test::Fail;
 
@@ -92,11 +90,11 @@ fn three_callers_fill_a_shared_book(rt: HostRuntime) -> Result<(), Fail> {
         (0, Store(0, 8, No, &[])),
         (1, Store(4, 8, No, &[])),
         (2, Refine(whole(0, &[], 0))),
-        (0, StoreFull(12, 0)),
-        (1, StoreFull(12, 0)),
-        (0, AllFull),
-        (1, AllFull),
-        (2, AllFull),
+        (0, Refused(Ask::Store(12, 0))),
+        (1, Refused(Ask::Store(12, 0))),
+        (0, Refused(Ask::All)),
+        (1, Refused(Ask::All)),
+        (2, Refused(Ask::All)),
     ];
     let book = played(&rt, rt.alloc(), book, 3, &steps.as_slice())?;
     let wanted = [
@@ -116,7 +114,7 @@ fn a_refused_refinement_gives_up_its_buffer(rt: HostRuntime) -> Result<(), Fail>
     let steps = [
         (0, Store(0, 8, Full, &[])),
         (0, Work(whole(0, &[], 1))),
-        (0, RefineFull),
+        (0, Refused(Ask::Refine)),
         (0, Work(whole(0, &[], 0))),
     ];
     let book = played(&rt, rt.alloc(), book, 2, &steps.as_slice())?;

@@ -38,11 +38,11 @@ fn call_by_hand<M: Frame, S: Ledger, R: Wait + Abort>(
     let (reply, buffer) = guard.store(caller, from, Some(to))?;
     assert_stored(rt, &reply, Fill::Full, &[]);
     assert!(rt; buffer.is_some());
-    assert_eq!(rt; (caller.made(), caller.stored()), (1, 1));
+    assert_made(rt, caller, 1, 1);
     assert!(rt; guard.members(caller, of)?.is_empty());
-    assert_eq!(rt; (caller.made(), caller.stored()), (2, 1));
+    assert_made(rt, caller, 2, 1);
     assert_eq!(rt; guard.status(caller)?.pending, 1);
-    assert_eq!(rt; (caller.made(), caller.stored()), (3, 1));
+    assert_made(rt, caller, 3, 1);
     assert_eq!(rt; guard.book().entries().len(), 3);
     Ok(())
 }

@@ -139,8 +139,8 @@ fn assert_all_emptied<M: Frame, S: Ledger, R: Wait + Abort>(
 ) -> Result<(), Refusal>
     requires { All (IsCallerOf shared.now) callers.items }
 {
-    for caller in callers {
-        assert_emptied(rt, shared, caller)?;
+    for mut caller in callers {
+        assert_emptied(rt, shared, &mut caller)?;
     }
     Ok(())
 }
@@ -149,15 +149,15 @@ fn assert_all_emptied<M: Frame, S: Ledger, R: Wait + Abort>(
 fn assert_emptied<M: Frame, S: Ledger, R: Wait + Abort>(
     rt: &R,
     shared: &Shared<M, S>,
-    mut caller: Caller<M, S>,
+    caller: &mut Caller<M, S>,
 ) -> Result<(), Refusal>
-    requires { IsCallerOf shared.now caller }
+    requires { IsCallerOf shared.now caller.old }
 {
-    assert_eq!(rt; (caller.made(), caller.stored()), (3, 3));
-    assert_round(rt, &shared.work(rt, &mut caller)?, whole(0, &[], 0));
+    assert_made(rt, caller, 3, 3);
+    assert_round(rt, &shared.work(rt, caller)?, whole(0, &[], 0));
     assert!(rt; caller.number() < shared.lock(rt).book().mutators());
-    assert_flushed(rt, &shared.flush(rt, &mut caller), 0, No, &[]);
-    assert_eq!(rt; shared.status(rt, &mut caller)?.pending, 6);
+    assert_flushed(rt, &shared.flush(rt, caller), 0, No, &[]);
+    assert_eq!(rt; shared.status(rt, caller)?.pending, 6);
     Ok(())
 }
 

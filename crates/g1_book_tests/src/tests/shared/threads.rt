@@ -240,6 +240,13 @@ fn is_same(reply: &Reply, other: &Reply) -> bool {
     is_wanted(reply, &want)
 }
 
+fn is_same_entry(entry: &Entry, other: &Entry) -> bool {
+    entry.caller == other.caller
+        && entry.call == other.call
+        && is_same(&entry.reply, &other.reply)
+        && entry.refined.as_slice() == other.refined.as_slice()
+}
+
 /// Checks that the entries of the caller are its record, in order.
 fn assert_recorded(rt: &impl Abort, book: &Book, caller: u32, record: &[Entry]) {
     let mut wanted = record.iter();
@@ -248,16 +255,18 @@ fn assert_recorded(rt: &impl Abort, book: &Book, caller: u32, record: &[Entry]) 
             continue;
         }
         let want = wanted.next().expect(rt, "a reply for each entry");
-        assert_eq!(rt; (entry.caller, entry.call), (want.caller, want.call));
-        assert!(rt;
-            is_same(&entry.reply, &want.reply),
-            "{:?} for {:?}",
-            entry.reply,
-            want.reply
-        );
-        assert!(rt; entry.refined.as_slice() == want.refined.as_slice());
+        assert!(rt; is_same_entry(entry, want), "{entry:?} for {want:?}");
     }
     assert!(rt; wanted.next().is_none());
+}
+
+/// Checks that each caller's entries are its record, and that the line took what it flushed first.
+fn assert_all_recorded(rt: &impl Abort, book: &Book, records: &[Record]) {
+    assert_eq!(rt; records.len(), 4);
+    for (caller, record) in records.iter().enumerate() {
+        assert_eq!(rt; record.flushed, Some(Fill::Full));
+        assert_recorded(rt, book, caller as u32, record.entries.as_slice());
+    }
 }
 
 /// Each caller's entries are the replies that it was given, in its order, whatever the others do between them. A flush that
@@ -278,10 +287,6 @@ fn replies_are_entries(rt: HostRuntime) -> Result<(), Fail> {
         record.outcome?;
     }
     assert_eq!(rt; book.entries().len(), 160);
-    assert_eq!(rt; records.len(), 4);
-    for (caller, record) in records.iter().enumerate() {
-        assert_eq!(rt; record.flushed, Some(Fill::Full));
-        assert_recorded(&rt, &book, caller as u32, record.entries.as_slice());
-    }
+    assert_all_recorded(&rt, &book, records.as_slice());
     Ok(())
 }
