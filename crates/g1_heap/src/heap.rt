@@ -18,8 +18,9 @@ use memchr::memchr;
 use std::alloc::Global;
 use std::marker::Model;
 
-/// The slots of a heap and its card table: four bytes a slot and one byte a card, in a block each. The largest heap of 1,048,576 slots, with
-/// 65,536 cards, takes less than 4.3 MB.
+/// The slots of a heap and its card table: four bytes a slot and one byte a card, in a block each.
+/// The largest heap, of 1,073,741,824 slots and 16,777,216 cards, takes 4,312 MB, and the largest
+/// within the profile less than 4.3 MB.
 ///
 /// Every slot and card that a call is given lies within the heap's layout. No call takes memory but [`Heap::new`].
 #[derive(Drop)]

@@ -1,10 +1,10 @@
 -- A set of regions after one of its words is written.
-use Rattle.std.proofs.Common.{◌≡◌, ◌≢◌, inl, inr, ℕ, ◌<◌, ◌/◌, ◌%◌, List, length, get_or, sym, ap, ◌∙◌, arith, set as list_set}
+use Rattle.std.proofs.Common.{◌≡◌, ◌≢◌, inl, inr, ℕ, ◌<◌, ◌/◌, ◌%◌, length, get_or, sym, ap, ◌∙◌, arith, set as list_set}
 use Rattle.std.specs.Int.{bit_at}
 use Rattle.std.proofs.lemmas.Bool.{cases_eq}
 use Rattle.std.proofs.lemmas.List.{get_or-set_same, get_or-set_other}
 use Rattle.g1_layout.specs.declared.region_set.RegionSet.{RegionSet}
-use Rattle.g1_layout.specs.Regions.{HasRegion, Gains, Loses}
+use Rattle.g1_layout.specs.Regions.{Gains, Loses}
 
 -- the word of a region is written, and no other bit of it changes
 module _ (old : RegionSet) (word region : ℕ) (four : length old.words ≡ 4) (below : region < 256) (kept : (i : ℕ) → i < 64 → i ≢ region % 64 → bit_at word i ≡ bit_at (get_or old.words (region / 64) 0) i) where

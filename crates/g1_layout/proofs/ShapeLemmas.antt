@@ -85,5 +85,9 @@ same_offset_below l place to some less =
 pub card_count_le : (l : Shape) → IsShape l → card_count l ≤ slot_count l
 card_count_le l shape = omega (arith, mul-le-mul_left (card_count l) shape.slots_low)
 
-pub card_count_limit : (l : Shape) → IsShape l → card_count l ≤ 65536
-card_count_limit l shape = mul-le l.regions l.cards 256 256 shape.regions_high shape.cards_high
+pub card_count_limit : (l : Shape) → IsShape l → card_count l ≤ 16777216
+card_count_limit l shape = mul-le l.regions l.cards 256 65536 shape.regions_high shape.cards_high
+
+-- and slots
+pub slot_count_limit : (l : Shape) → IsShape l → slot_count l ≤ 1073741824
+slot_count_limit l shape = mul-le (card_count l) l.slots 16777216 64 (card_count_limit l shape) shape.slots_high

@@ -13,14 +13,19 @@ abbrev pub shape_code : Coded Shape
 shape_code =
     code_by (ℕ × (ℕ × ℕ)) (coded× coded_ℕ (coded× coded_ℕ coded_ℕ)) (λ l. (l.regions, (l.cards, l.slots))) (λ p. record { regions = p.0; cards = p.1.0; slots = p.1.1 }) (λ _. refl)
 
--- the limits
+-- the limits of every heap
 pub record IsShape (l : Shape) : Type 0 where
   pub regions_low : 1 ≤ l.regions
   pub regions_high : l.regions ≤ 256
   pub cards_low : 1 ≤ l.cards
-  pub cards_high : l.cards ≤ 256
+  pub cards_high : l.cards ≤ 65536
   pub slots_low : 1 ≤ l.slots
   pub slots_high : l.slots ≤ 64
+
+-- the narrower limits of the profile
+pub record IsWithinProfile (l : Shape) : Type 0 where
+  pub shape : IsShape l
+  pub cards : l.cards ≤ 256
   pub total : l.regions * l.cards * l.slots ≤ 1048576
 
 -- how many slots and cards the heap has

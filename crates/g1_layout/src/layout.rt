@@ -2,32 +2,40 @@
 
 ghost use Rattle.std.specs.Prelude.{◌≡◌, ◌*◌, ◌+◌, ◌<◌, ◌≤◌};
 ghost use Rattle.std.specs.Option.{SomeIff};
-ghost use Rattle.g1_layout.specs.Shape.{Shape, IsShape, slot_count, card_count, card_of, region_of, region_of_card, slot_at, same_offset};
+ghost use Rattle.g1_layout.specs.Shape.{Shape, IsShape, IsWithinProfile, slot_count, card_count};
+ghost use Rattle.g1_layout.specs.Shape.{card_of, region_of, region_of_card, slot_at, same_offset};
 
 use crate::card::Card;
-use crate::reciprocal::Reciprocal;
+use crate::reciprocal::{Reciprocal, TO_CARDS, TO_REGIONS};
 use crate::region::Region;
 use crate::slot::Slot;
 use std::marker::Model;
 
+// The limits of every heap: regions, cards a region and slots a card.
 const MAX_REGIONS: u32 = 256;
 
-const MAX_CARDS: u32 = 256;
+const MAX_CARDS: u32 = 65_536;
 
 const MAX_SLOTS: u32 = 64;
 
-const MAX_PLACES: u32 = 1_048_576;
+// The narrower limits of the profile: cards a region, and slots in all.
+const PROFILE_MAX_CARDS: u32 = 256;
 
-/// How many regions, cards a region and slots a card a heap has (docs/PROFILE.md, Limits), and so where each slot and
-/// card lies (docs/PROFILE.md, Geometry; regions of equal size are those of the ISMM 2004 paper, section 2.1).
+const PROFILE_MAX_HEAP_SLOTS: u32 = 1_048_576;
+
+/// How many regions, cards a region and slots a card a heap has (docs/PROFILE.md, Limits), and so
+/// where each slot and card lies (docs/PROFILE.md, Geometry; regions of equal size are those of the
+/// ISMM 2004 paper, section 2.1).
 ///
-/// Seven words that are copied freely. Every call is a few instructions and takes no memory; none but `new` divides.
+/// [`Layout::new`] makes one within the limits of the profile, [`Layout::large`] one of a runtime's
+/// size. Every call takes either. Seven words that are copied freely. Every call is a few
+/// instructions and takes no memory; none but these two divides.
 #[derive(Clone, Copy, Debug)]
 pub struct Layout {
     regions: u32,
-    cards: Reciprocal,
-    slots: Reciprocal,
-    region_slots: Reciprocal,
+    cards: Reciprocal<TO_REGIONS>,
+    slots: Reciprocal<TO_CARDS>,
+    region_slots: Reciprocal<TO_REGIONS>,
     // All slots of the heap, with which each number of a slot that comes from outside is compared.
     heap_slots: u32,
 }
@@ -44,41 +52,77 @@ impl Model for Layout {
 
     ghost invariant = { AreFields };
 
-    ghost inverse = { λ l. record { regions = l.regions; cards = l.cards; slots = l.slots; region_slots = l.cards * l.slots; heap_slots = l.regions * l.cards * l.slots } };
+    ghost inverse = { λ l. record {
+      regions = l.regions;
+      cards = l.cards;
+      slots = l.slots;
+      region_slots = l.cards * l.slots;
+      heap_slots = l.regions * l.cards * l.slots;
+    } };
 
     ghost use Rattle.std.proofs.Common.{sym};
 
-    ghost inverse_ok = { λ a h. λ i. record { regions = a.regions; cards = a.cards; slots = a.slots; region_slots = sym h.region_slots i; heap_slots = sym h.heap_slots i } };
+    ghost inverse_ok = { λ a h. λ i. record {
+      regions = a.regions;
+      cards = a.cards;
+      slots = a.slots;
+      region_slots = sym h.region_slots i;
+      heap_slots = sym h.heap_slots i;
+    } };
 }
 
 impl Layout {
-    /// A layout of `regions` regions of `cards` cards of `slots` slots.
+    /// A layout of `regions` regions of `cards` cards of `slots` slots, within the profile's
+    /// limits.
     ///
-    /// `None` exactly outside the limits: a count of 0, more than 256 regions, 256 cards a region or 64 slots a card,
-    /// or more than 1,048,576 slots in all.
+    /// `None` exactly outside them: a count of 0, more than 256 regions, 256 cards a region or 64
+    /// slots a card, or more than 1,048,576 slots in all.
     pub fn new(regions: u32, cards: u32, slots: u32) -> Option<Layout>
-        ensures { let l : Shape = record { regions = regions; cards = cards; slots = slots } in SomeIff result (IsShape l) l }
+        ensures { let l : Shape = record { regions = regions; cards = cards; slots = slots } in
+            SomeIff result (IsWithinProfile l) l }
     {
-        let counts_within = (1..=MAX_REGIONS).contains(&regions)
+        let layout = Layout::large(regions, cards, slots)?;
+        if cards > PROFILE_MAX_CARDS || layout.heap_slots > PROFILE_MAX_HEAP_SLOTS {
+            return None;
+        }
+        Some(layout)
+    }
+
+    /// A layout of `regions` regions of `cards` cards of `slots` slots, for the heap of a runtime:
+    /// of at most 2^30 slots, which are 8 GB of 8-byte words in regions of 32 MB and cards of 512
+    /// bytes.
+    ///
+    /// `None` exactly outside these limits: a count of 0, more than 256 regions, 65,536 cards a
+    /// region or 64 slots a card. What a heap takes in memory is in docs/PROFILE.md, Limits.
+    pub fn large(regions: u32, cards: u32, slots: u32) -> Option<Layout>
+        ensures { let l : Shape = record { regions = regions; cards = cards; slots = slots } in
+            SomeIff result (IsShape l) l }
+    {
+        let are_within = (1..=MAX_REGIONS).contains(&regions)
             && (1..=MAX_CARDS).contains(&cards)
             && (1..=MAX_SLOTS).contains(&slots);
-        if !counts_within {
+        if !are_within {
             return None;
         }
-        let heap_slots = regions * cards * slots;
-        if heap_slots > MAX_PLACES {
-            return None;
-        }
-        Some(Layout {
+        Some(Layout::of(regions, cards, slots))
+    }
+
+    // The layout of counts that are within the limits.
+    fn of(regions: u32, cards: u32, slots: u32) -> Layout
+        requires { let l : Shape = record { regions = regions; cards = cards; slots = slots } in
+            IsShape l }
+        ensures { result ≡ record { regions = regions; cards = cards; slots = slots } }
+    {
+        Layout {
             regions,
             cards: Reciprocal::new(cards),
             slots: Reciprocal::new(slots),
             region_slots: Reciprocal::new(cards * slots),
-            heap_slots,
-        })
+            heap_slots: regions * cards * slots,
+        }
     }
 
-    /// The counts that the layout was made with, which are within the limits: regions, cards a region, slots a card.
+    /// The counts that the layout was made with: regions, cards a region, slots a card.
     pub fn counts(&self) -> (u32, u32, u32)
         ensures regions { result.0 ≡ self.now.regions }
         ensures cards { result.1 ≡ self.now.cards }
@@ -88,7 +132,7 @@ impl Layout {
         (self.regions, self.cards.divisor(), self.slots.divisor())
     }
 
-    /// How many slots the heap has: at most 1,048,576.
+    /// How many slots the heap has: at most 1,073,741,824.
     pub fn slot_count(&self) -> u32
         ensures count { result ≡ slot_count self.now }
         ensures shape { IsShape self.now }
@@ -96,7 +140,7 @@ impl Layout {
         self.heap_slots
     }
 
-    /// How many cards the heap has: at most 65,536.
+    /// How many cards the heap has: at most 16,777,216.
     pub fn card_count(&self) -> u32
         ensures count { result ≡ card_count self.now }
         ensures shape { IsShape self.now }
@@ -137,7 +181,8 @@ impl Layout {
         }
     }
 
-    /// The card that a slot of this heap lies on: the slot's number by the slots a card, rounded down.
+    /// The card that a slot of this heap lies on: the slot's number by the slots a card, rounded
+    /// down.
     pub fn card_of(&self, slot: Slot) -> Card
         requires { slot < slot_count self.now }
         ensures quotient { result ≡ card_of self.now slot }
@@ -148,7 +193,8 @@ impl Layout {
         }
     }
 
-    /// The region that a slot of this heap lies in: the slot's number by the slots a region, rounded down.
+    /// The region that a slot of this heap lies in: the slot's number by the slots a region,
+    /// rounded down.
     pub fn region_of(&self, slot: Slot) -> Region
         requires { slot < slot_count self.now }
         ensures quotient { result ≡ region_of self.now slot }
@@ -159,7 +205,8 @@ impl Layout {
         }
     }
 
-    /// The region that a card of this heap lies in: the card's number by the cards a region, rounded down.
+    /// The region that a card of this heap lies in: the card's number by the cards a region,
+    /// rounded down.
     pub fn region_of_card(&self, card: Card) -> Region
         requires { card < card_count self.now }
         ensures quotient { result ≡ region_of_card self.now card }
@@ -170,7 +217,8 @@ impl Layout {
         }
     }
 
-    /// The first slot of a card of this heap. All the slots of the card follow it, and the heap has them all.
+    /// The first slot of a card of this heap. All the slots of the card follow it, and the heap has
+    /// them all.
     pub fn first_slot(&self, card: Card) -> Slot
         requires { card < card_count self.now }
         ensures first { result ≡ card * self.now.slots }
@@ -180,6 +228,7 @@ impl Layout {
             number: card.number * self.slots.divisor(),
         }
     }
+
     /// The slot at an offset of a card of this heap: offset 0 is the card's first slot.
     pub fn slot_at(&self, card: Card, offset: u32) -> Slot
         requires card { card < card_count self.now }
@@ -192,7 +241,8 @@ impl Layout {
         }
     }
 
-    /// The place at the same offset in another region, where an evacuation puts what lay at this one.
+    /// The place at the same offset in another region, where an evacuation puts what lay at this
+    /// one.
     pub fn same_offset(&self, place: Slot, to: Region) -> Slot
         requires place { place < slot_count self.now }
         requires to { to < self.now.regions }

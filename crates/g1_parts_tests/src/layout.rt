@@ -41,6 +41,36 @@ fn counts_of((regions, cards, slots): (u32, u32, u32)) -> Option<(u32, u32, u32)
     Some(Layout::new(regions, cards, slots)?.counts())
 }
 
+#[test]
+fn limits_of_large_heaps(rt: HostRuntime) {
+    let heaps = [
+        (1, 1, 1, true),
+        (256, 65, 64, true),
+        (256, 65_536, 64, true),
+        (1, 65_536, 64, true),
+        (0, 1, 1, false),
+        (1, 0, 1, false),
+        (1, 1, 0, false),
+        (257, 1, 1, false),
+        (1, 65_537, 1, false),
+        (1, 1, 65, false),
+        (u32::MAX, u32::MAX, u32::MAX, false),
+    ];
+    for (regions, cards, slots, good) in &heaps {
+        let counts = (*regions, *cards, *slots);
+        assert_equal(
+            &rt,
+            (counts, large_counts_of(counts)),
+            (counts, good.then_some(counts)),
+        );
+    }
+}
+
+// The counts of this large heap, if there is one.
+fn large_counts_of((regions, cards, slots): (u32, u32, u32)) -> Option<(u32, u32, u32)> {
+    Some(Layout::large(regions, cards, slots)?.counts())
+}
+
 // The numbers of a slot, a card and a region, where the heap of 4 regions of 2 cards of 4 slots has them.
 fn numbers_of(slot: u32, card: u32, region: u32) -> [Option<u32>; 3] {
     let mut numbers = [None; 3];
@@ -85,6 +115,22 @@ fn places_of_slots(rt: HostRuntime) {
         ((256, 64, 64), 4_095, (63, 0, 4_032)),
         ((256, 64, 64), 4_096, (64, 1, 4_096)),
         ((256, 64, 64), 1_048_575, (16_383, 255, 1_048_512)),
+        ((256, 65_536, 64), 4_194_303, (65_535, 0, 4_194_240)),
+        ((256, 65_536, 64), 4_194_304, (65_536, 1, 4_194_304)),
+        (
+            (256, 65_536, 64),
+            1_073_741_823,
+            (16_777_215, 255, 1_073_741_760),
+        ),
+        ((256, 65_535, 63), 4_128_704, (65_534, 0, 4_128_642)),
+        ((256, 65_535, 63), 4_128_705, (65_535, 1, 4_128_705)),
+        (
+            (256, 65_535, 63),
+            1_056_948_479,
+            (16_776_959, 255, 1_056_948_417),
+        ),
+        ((256, 65_536, 1), 16_777_215, (16_777_215, 255, 16_777_215)),
+        ((256, 1, 1), 255, (255, 255, 255)),
     ];
     for (heap, number, (card, region, first)) in &slots {
         let place = place_of(&rt, *heap, *number);
@@ -99,7 +145,7 @@ fn place_of(
     (regions, cards, slots): (u32, u32, u32),
     number: u32,
 ) -> (u32, u32, u32, u32) {
-    let layout = Layout::new(regions, cards, slots).expect(rt, "good");
+    let layout = Layout::large(regions, cards, slots).expect(rt, "good");
     let slot = layout.slot(number).expect(rt, "a slot");
     let card = layout.card_of(slot);
     (

@@ -23,7 +23,7 @@ impl Numbered {
     ghost use Rattle.g1_layout.specs.Shape.{card_count};
 
     fn new(rt: &impl Abort, alloc: Global, regions: u32, cards: u32, slots: u32) -> Numbered {
-        let layout = Layout::new(regions, cards, slots).expect(rt, "a layout within the limits");
+        let layout = Layout::large(regions, cards, slots).expect(rt, "a layout within the limits");
         let sets = Sets::new(alloc, layout).expect(rt, "memory");
         Numbered { layout, sets }
     }
@@ -155,6 +155,14 @@ fn few_cards_and_many(rt: HostRuntime) {
     sets.assert_ascending(&rt, 0, 130, 641);
     sets.fill(&rt, 0, 128, 642);
     sets.assert_ascending(&rt, 0, 128, 642);
+}
+
+#[test]
+fn many_cards_of_a_large_heap(rt: HostRuntime) {
+    let mut sets = Numbered::new(&rt, rt.alloc(), 2, 65_536, 1);
+    sets.fill(&rt, 0, 65_536, 131_072);
+    assert_equal(&rt, sets.sets.total(), 65_536);
+    sets.assert_ascending(&rt, 0, 65_536, 131_072);
 }
 
 #[test]

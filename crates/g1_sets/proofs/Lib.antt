@@ -1,4 +1,5 @@
 pub mod AscendingLemmas
+pub mod BitLemmas
 pub mod BoundLemmas
 pub mod ListLemmas
 pub mod PairLemmas

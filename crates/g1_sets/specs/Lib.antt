@@ -1,4 +1,5 @@
 pub mod Ascending
+pub mod Bits
 pub mod Hasher
 pub mod Members
 pub mod Pairs

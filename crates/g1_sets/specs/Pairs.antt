@@ -1,11 +1,11 @@
 -- What contracts see of the remembered sets: the recorded pairs (card, region), and the cards of each
 -- region in the order of their insertion.
-use Rattle.std.specs.Prelude.{◌≡◌, ◌↔◌, ◌<◌, ℕ, ◌+◌, ◌==◌, not, List, [], ◌∷◌, ◌++◌, map, length, fold, slice_index_or, nat_eq, if◌then◌else◌, replicate, Contains, IsTrue, All, refl}
+use Rattle.std.specs.Prelude.{◌≡◌, ◌≢◌, ◌↔◌, ◌<◌, ℕ, ◌+◌, ◌==◌, not, List, [], ◌∷◌, ◌++◌, map, length, fold, slice_index_or, nat_eq, if◌then◌else◌, replicate, Contains, IsTrue, All, refl}
 use Rattle.std.specs.Coded.{Coded, code_by, coded×, coded_list, coded_ℕ}
 use Rattle.std.specs.FinSet as set
 use Rattle.std.specs.List.{IsDistinct, list_any}
 use Rattle.std.specs.List.Sorted.{IsStrictlyIncreasing}
-use Rattle.g1_layout.specs.Shape.{Shape, shape_code, card_count}
+use Rattle.g1_layout.specs.Shape.{Shape, shape_code, card_count, region_of_card}
 use Rattle.g1_layout.specs.Sets.{PairSet}
 
 pub record Pairs : Type 0 where
@@ -52,6 +52,10 @@ pub record AreLists (l : Shape) (lists : List (List ℕ)) : Type 0 where
 pub record AreTied (s : Pairs) : Type 0 where
   pub lists : AreLists s.layout s.lists
   pub members : (card region : ℕ) → Contains (list_at s.lists region) card ↔ IsTrue (set.contains s.pairs (card, region))
+
+-- each recorded card lies outside its region
+abbrev pub HasOnlyOutside : Shape → PairSet → Type 0
+HasOnlyOutside l pairs = (card region : ℕ) → IsTrue (set.contains pairs (card, region)) → region_of_card l card ≢ region
 
 -- no pair is recorded
 abbrev pub new_pairs : Shape → Pairs

@@ -8,6 +8,7 @@
 #![tactic(auto)]
 
 mod ascending;
+mod bits;
 mod hasher;
 mod members;
 mod rows;

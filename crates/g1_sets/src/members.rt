@@ -104,13 +104,13 @@ pub(crate) fn insert_many(sets: &mut [Members], region: Region, cards: &[Card])
 }
 
 // How many cards the sets have together.
-pub(crate) fn total(sets: &[Members]) -> u32
-    requires { sum_by length (lists_of sets.now) < 2 ^ 32 }
+pub(crate) fn total(sets: &[Members]) -> u64
+    requires { sum_by length (lists_of sets.now) < 2 ^ 64 }
     ensures { result ≡ sum_by length (lists_of sets.now) }
 {
     let mut total = 0;
     for members in sets {
-        total += members.len() as u32;
+        total += members.len() as u64;
     }
     total
 }

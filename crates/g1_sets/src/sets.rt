@@ -1,10 +1,10 @@
 //! The sets of all regions, and what is recorded in them.
-ghost use Rattle.std.specs.Prelude.{◌≡◌, ◌↔◌, ◌<◌, ℕ, length, replicate, [], Some, slice_get, slice_set, All, IsTrue, IfOk, OnOk, OnErr};
+ghost use Rattle.std.specs.Prelude.{◌≡◌, ◌↔◌, ◌<◌, ℕ, length, min, replicate, [], Some, slice_get, slice_set, All, IsTrue, IfOk, OnOk, OnErr};
 ghost use Rattle.std.specs.FinSet as set;
-ghost use Rattle.g1_layout.specs.Shape.{card_count};
+ghost use Rattle.g1_layout.specs.Shape.{IsWithinProfile, card_count};
 ghost use Rattle.g1_layout.specs.Regions.{HasRegion};
 ghost use Rattle.g1_sets.specs.Members.{lists_of};
-ghost use Rattle.g1_sets.specs.Pairs.{list_at, of_card, of_region, with_cards, without, new_pairs, AreCardsOf, AreTied, Joins};
+ghost use Rattle.g1_sets.specs.Pairs.{list_at, of_card, of_region, with_cards, without, new_pairs, HasOnlyOutside, AreCardsOf, AreTied, Joins};
 
 use crate::ascending::ascending;
 use crate::members::{Members, insert_into, insert_many, make_room_for, make_rooms, total};
@@ -24,7 +24,8 @@ pub struct Sets {
     alloc: Global,
     layout: Layout,
     sets: Vec<Members>,
-    // By card: the regions whose sets have it. They spare a look-up where a pair is recorded already.
+    // By card: the regions whose sets have it. They spare a look-up where a pair is recorded
+    // already.
     rows: Vec<RegionSet>,
 }
 
@@ -56,8 +57,8 @@ fn empty_sets(alloc: Global, regions: u32) -> Result<Vec<Members>, NoMemory>
 impl Sets {
     /// Sets of no card, one for each region of the layout.
     ///
-    /// It takes memory for one row of a set a region and for 32 bytes a card; a set takes none until its first card.
-    /// `NoMemory` where one of these growths was refused.
+    /// It takes memory for one row of a set a region and for 32 bytes a card; a set takes none
+    /// until its first card. `NoMemory` where one of these growths was refused.
     pub fn new(alloc: Global, layout: Layout) -> Result<Sets, NoMemory>
         ensures { IfOk result (λ sets. sets ≡ new_pairs layout) }
     {
@@ -145,11 +146,18 @@ impl Sets {
     }
 
     /// How many pairs of a card and a region are recorded. Cost: one step a region.
+    ///
+    /// Exact where each recorded card lies outside its region, and always in a heap within the
+    /// limits of [`Layout::new`]. A larger heap has room for 2^32 pairs with those inside, one more
+    /// than the greatest answer, which then stands for all of them.
     pub fn total(&self) -> u32
-        ensures { result ≡ set.len self.now.pairs }
+        ensures total { result ≡ min (set.len self.now.pairs) 4294967295 }
+        ensures outside { HasOnlyOutside self.now.layout self.now.pairs → result ≡ set.len self.now.pairs }
+        ensures profile { IsWithinProfile self.now.layout → result ≡ set.len self.now.pairs }
     {
         let _ = self.layout.counts();
-        total(self.sets.as_slice())
+        let pairs = total(self.sets.as_slice());
+        pairs.min(4_294_967_295) as u32
     }
 
     /// The card at this place of the region's set, in the order of insertion. Constant time.
@@ -163,7 +171,8 @@ impl Sets {
         self.sets[region.number() as usize].as_slice()[index as usize]
     }
 
-    /// The cards of the region's set, in the order of insertion: those of `at`, for a walk over all of them. Constant time.
+    /// The cards of the region's set, in the order of insertion: those of `at`, for a walk over all
+    /// of them. Constant time.
     pub fn members(&self, region: Region) -> &[Card]
         requires { region < self.now.layout.regions }
         ensures cards { result.now ≡ list_at self.now.lists region }
@@ -191,8 +200,10 @@ impl Sets {
 
     /// The cards of the region's set, ascending, each once.
     ///
-    /// `NoMemory` where the vector was refused. Cost: one sort of the set; for a set of at least 512 cards and an eighth
-    /// of the heap's, one pass over it and one over a flag for each card of the heap.
+    /// `NoMemory` where the vector was refused, or, in a heap of more than 65,536 cards, the room
+    /// for a bit for each card. Cost: one pass over a set that was filled in ascending order. Any
+    /// other takes two passes and one over the words of a bit for each card of the heap, or one
+    /// sort where it has fewer cards than 64 or a 1,024th of the heap's, and then asks for no bits.
     pub fn cards(&self, region: Region) -> Result<Vec<Card>, NoMemory>
         requires { region < self.now.layout.regions }
         ensures { IfOk result (λ cards. AreCardsOf self.now.pairs region cards.items) }

@@ -1,5 +1,6 @@
 use Rattle.std.proofs.Common.{◌≡◌, ◌∙◌, ◌+◌, ◌-◌, ◌*◌, ◌/◌, arith, ap, length, get_or, take, drop, refl, subst, ℕ}
 use Rattle.arrayvec.specs.ArrayVec.{ArrayVec, array_vec_len}
+use Rattle.g1_layout.proofs.ShapeLemmas.{slot_count_limit}
 use Rattle.g1_heap.specs.Listing.{IsListedUpTo}
 use Rattle.g1_heap.proofs.CellLemmas.{ref_of-null}
 use Rattle.g1_heap.proofs.ListingLemmas.{listed_none, listed_nulls, listed_as}
@@ -31,7 +32,7 @@ loop-group-preserved c =
             (listed_as c.args.layout.now row c.insert.new.self (at + 8) _ c.if-has_reference.seen _ c.if-has_reference.targets.items w.seen-is (ap (λ (v : ArrayVec ℕ). v.items) w.targets-is)
             (listed_nulls c.args.layout.now row c.insert.new.self at (at + 8) c.loop-group.seen c.loop-group.targets.items (omega arith) (λ k from lt.
             let null : get_or row k 0 ≡ 4294967295 = word_of_group row at k 4294967295 (c.has_reference.ensures w.if-has_reference.false) from lt in
-            ref_of-null c.args.layout.now (get_or row k 0) (omega (arith, null, c.counts-slots.ensures.shape.total)))
+            ref_of-null c.args.layout.now (get_or row k 0) (omega (arith, null, slot_count_limit c.args.layout.now c.counts-slots.ensures.shape)))
             c.loop-group.invariant.listed));
       }
     ]

@@ -1,10 +1,10 @@
-use Rattle.std.proofs.Common.{◌≡◌, ◌<◌, ◌+◌, ◌∙◌, length, ap, subst, sym, refl, take}
-use Rattle.std.specs.Prelude.{slice_set, Contains}
+use Rattle.std.proofs.Common.{◌+◌, length, subst, sym, take}
+use Rattle.std.specs.Prelude.{slice_set}
 use Rattle.g1_layout.specs.declared.region_set.RegionSet.{RegionSet}
 use Rattle.g1_layout.specs.Regions.{Gains}
 use Rattle.indexmap.specs.IndexSet.{spare}
 use Rattle.g1_sets.specs.Members.{lists_of, rooms_of, HaveRoom}
-use Rattle.g1_sets.specs.Pairs.{list_at, Joins}
+use Rattle.g1_sets.specs.Pairs.{Joins}
 use Rattle.g1_sets.specs.Rows.{IsRowOf}
 use Rattle.g1_sets.proofs.RoomLemmas.{room_kept}
 use Rattle.g1_sets.proofs.RowLemmas.{row_joined}

@@ -2,9 +2,6 @@ use Rattle.std.proofs.Common.{arith}
 use Rattle.g1_sets.proofs.SetLemmas.{counted, counted_le}
 use Rattle.g1_sets.proofs.members.total.Goals as goal
 
-pub overflow_cast-total : goal.overflow_cast-total
-overflow_cast-total c = let le = counted_le c.args.sets.now c.loop-members.members-index c.members-item.result c.loop-members.total c.loop-members-test.true c.members-item.is c.loop-members.invariant in omega (arith, le, c.requires, c.len.ensures.len)
-
 pub overflow_add-total : goal.overflow_add-total
 overflow_add-total c = let le = counted_le c.args.sets.now c.loop-members.members-index c.members-item.result c.loop-members.total c.loop-members-test.true c.members-item.is c.loop-members.invariant in omega (arith, le, c.requires, c.len.ensures.len)
 

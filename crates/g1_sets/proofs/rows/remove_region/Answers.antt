@@ -1,4 +1,4 @@
-use Rattle.std.proofs.Common.{◌≡◌, ◌∷◌, ◌++◌, [], ap, length, subst, sym, take, take_all, ◌∙◌, ℕ}
+use Rattle.std.proofs.Common.{length, subst, sym, take, take_all, ℕ}
 use Rattle.std.specs.Prelude.{slice_set}
 use Rattle.g1_sets.specs.Rows.{RowsLose}
 use Rattle.g1_sets.proofs.RowLemmas.{lose_none, lose_more}

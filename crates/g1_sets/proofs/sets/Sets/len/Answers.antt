@@ -1,10 +1,11 @@
 use Rattle.std.proofs.Common.{◌≡◌, ap, subst, sym, ◌<◌, ◌≤◌, length, arith}
 use Rattle.g1_layout.specs.Shape.{card_count}
+use Rattle.g1_layout.proofs.ShapeLemmas.{card_count_limit}
 use Rattle.g1_sets.specs.Pairs.{Pairs, AreTied, list_at}
 use Rattle.g1_sets.specs.Members.{lists_of}
 use Rattle.g1_sets.proofs.PairLemmas.{tied}
 use Rattle.g1_sets.proofs.SetLemmas.{list_here}
-use Rattle.g1_sets.proofs.BoundLemmas.{few_listed, few_cards}
+use Rattle.g1_sets.proofs.BoundLemmas.{few_listed}
 use Rattle.g1_sets.proofs.sets.Sets.len.Goals as goal
 
 pub overflow_cast-result : goal.overflow_cast-result
@@ -12,7 +13,7 @@ overflow_cast-result c =
     let list : list_at (lists_of c.self.inside.sets.items) c.args.region ≡ c.index.result.now.keys = list_here c.self.inside.sets.items c.number.result c.args.region c.index.result.now c.self.inside.layout.regions c.index.ensures c.number.ensures c.self.invariant.of_heap.count (subst (λ (s : Pairs). c.args.region < s.layout.regions) (sym c.self.view_is) c.requires) in
     let few : length (list_at (lists_of c.self.inside.sets.items) c.args.region) ≤ card_count c.self.inside.layout = few_listed c.self.inside.layout (lists_of c.self.inside.sets.items) c.self.invariant.of_heap c.args.region in
     let same : length (list_at (lists_of c.self.inside.sets.items) c.args.region) ≡ length c.index.result.now.keys = ap length list in
-    let most : card_count c.self.inside.layout ≤ 65536 = few_cards c.self.inside.layout c.counts.ensures.shape in
+    let most : card_count c.self.inside.layout ≤ 16777216 = card_count_limit c.self.inside.layout c.counts.ensures.shape in
     omega (arith, few, same, most, c.len.ensures.len)
 
 pub returns-clause-tied : goal.returns-clause-tied

@@ -2,7 +2,6 @@ use Rattle.std.proofs.Common.{◌≡◌, ap, subst, sym, ◌∙◌, ◌<◌, ◌
 use Rattle.std.specs.Prelude.{slice_set}
 use Rattle.std.specs.FinSet as set
 use Rattle.g1_layout.specs.Shape.{card_count}
-use Rattle.g1_layout.specs.declared.region_set.RegionSet.{RegionSet}
 use Rattle.g1_sets.specs.Pairs.{Pairs, Joins, pairs_of, of_card}
 use Rattle.g1_sets.specs.Rows.{AreSets, IsRowOf}
 use Rattle.g1_sets.specs.Members.{lists_of}

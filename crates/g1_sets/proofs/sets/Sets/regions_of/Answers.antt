@@ -1,4 +1,4 @@
-use Rattle.std.proofs.Common.{◌<◌, arith, length, subst, sym, ◌↔◌}
+use Rattle.std.proofs.Common.{◌<◌, arith, subst, sym, ◌↔◌}
 use Rattle.std.specs.Prelude.{IsTrue}
 use Rattle.std.specs.FinSet as set
 use Rattle.g1_layout.specs.Shape.{card_count}
