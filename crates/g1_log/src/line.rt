@@ -121,6 +121,14 @@ impl Line {
         self.queue.is_empty_as::<Takes>(&mut taker.pass)
     }
 
+    /// How many parcels the line holds at most, as it was made. Constant time; no memory.
+    pub fn capacity(&self) -> usize
+        ensures capacity { result ≡ capacity_of self.now }
+        ensures few { result ≤ 1024 }
+    {
+        self.queue.capacity()
+    }
+
     /// How many parcels the queue held at some moment of the call. The clause says that they are at most the capacity, and
     /// no more. No memory.
     pub fn len<R: Wait>(&self, rt: &R) -> usize
