@@ -12,7 +12,7 @@ use Rattle.g1_core.specs.Machine.{State, Machine}
 use Rattle.g1_core.specs.Turns.{is_dirty}
 use Rattle.g1_core.specs.Pause.{with_cards, AreDirtyBelow, Drains, IsCardDrained, IsDirtyDrained, IsRingDrained}
 use Rattle.g1_core.proofs.SetLemmas.{in_list, in_set, All_by_member}
-use Rattle.g1_sets.proofs.AscendingLemmas.{increasing_push}
+use Rattle.g1_sets.proofs.BitLemmas.{increasing_push}
 use Rattle.g1_core.proofs.TableLemmas.{refined_pending}
 use Rattle.g1_core.proofs.MarkLemmas.{one_of}
 use Rattle.g1_core.proofs.RefinedLemmas.{refined_none, refined_both, refinable_push}

@@ -26,7 +26,7 @@ abbrev pub heap : Shape
 heap = record { regions = 4; cards = 2; slots = 4 }
 
 heap_within : IsShape heap
-heap_within = record { regions_low = omega arith; regions_high = omega arith; cards_low = omega arith; cards_high = omega arith; slots_low = omega arith; slots_high = omega arith; total = omega arith }
+heap_within = record { regions_low = omega arith; regions_high = omega arith; cards_low = omega arith; cards_high = omega arith; slots_low = omega arith; slots_high = omega arith }
 
 -- a store of a place in a slot, by caller 0
 abbrev stores : ℕ → Option ℕ → Kind → Entry

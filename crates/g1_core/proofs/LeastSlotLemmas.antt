@@ -1,10 +1,11 @@
 -- The least slot that enters a region, and what is read to find it.
-use Rattle.std.proofs.Common.{◌≡◌, inl, inr, ℕ, ◌<◌, ◌≤◌, ◌+◌, ◌-◌, ◌*◌, List, [], ◌∷◌, ◌++◌, length, Option, Some, None, refl, sym, ap, ◌∙◌, subst, arith, take}
-use Rattle.std.specs.Prelude.{Contains, slice_get}
+use Rattle.std.proofs.Common.{◌≡◌, ◌≢◌, inl, inr, ℕ, ◌<◌, ◌≤◌, ◌+◌, ◌-◌, ◌*◌, min, List, [], ◌∷◌, ◌++◌, length, get_or, Option, Some, None, refl, sym, ap, ◌∙◌, subst, arith, take}
+use Rattle.std.specs.Prelude.{All, Contains, slice_get}
 use Rattle.std.proofs.Math.Nat.{mul-le-mul_right}
 use Rattle.std.proofs.lemmas.Bool.{cases_lt}
 use Rattle.std.proofs.lemmas.List.Elements.{Contains-append_cases}
 use Rattle.std.proofs.lemmas.Nat.{row_fits}
+use Rattle.std.proofs.lemmas.Option.{get_or_from_slice_get}
 use Rattle.g1_layout.specs.Shape.{IsShape, slot_count, card_count, card_of, region_of_card, slot_at}
 use Rattle.g1_layout.specs.Sets.{PairSet}
 use Rattle.g1_layout.proofs.ShapeLemmas.{IsInRow, row_of_card, row_of_slot, card_of_below, region_of_slot}
@@ -86,6 +87,13 @@ module _ (t : Table) (shape : IsShape t.layout) (region : ℕ) where
     ],
   )
 
+  -- the slots of a later card are later
+  later_slot : (card slot other : ℕ) → card_of t.layout slot ≡ card → card < card_of t.layout other → slot ≤ other
+  later_slot card slot other on less =
+      let here : IsInRow t.layout card slot = row_of_card t.layout card slot shape on in
+      let there : IsInRow t.layout (card_of t.layout other) other = row_of_slot t.layout other shape in
+      omega (arith, here.below, there.from, row_fits card t.layout.slots (card_of t.layout other) t.layout.slots less (omega arith))
+
   module _ (cards : List ℕ) (card past : ℕ) (least : Option ℕ) (h : IsLeastFrom t cards region past least) where
     -- one more card, of which no slot before the end enters the region
     pub from_passed : ((slot : ℕ) → card_of t.layout slot ≡ card → card < past → Enters t slot region → ⊥) → IsLeastFrom t (cards ++ card ∷ []) region past least
@@ -107,14 +115,23 @@ module _ (t : Table) (shape : IsShape t.layout) (region : ℕ) where
       found = (
         first.0,
         λ other from e. elim (cases_lt card (card_of t.layout other)) [
-          | inl less ↦
-              let here : IsInRow t.layout card slot = row_of_card t.layout card slot shape on in
-              let there : IsInRow t.layout (card_of t.layout other) other = row_of_slot t.layout other shape in
-              omega (arith, here.below, there.from, row_fits card t.layout.slots (card_of t.layout other) t.layout.slots less (omega arith))
+          | inl less ↦ later_slot card slot other on less
           | inr past ↦ let same : card_of t.layout other ≡ card = omega arith in first.1 other (itself (card_of t.layout other) card same) e
         ],
       );
     }
+
+  -- the least slot of the card of the least number is that of all the cards
+  pub least_first : (cards : List ℕ) (first slot : ℕ) → All (λ card. first ≤ card) cards → card_of t.layout slot ≡ first → IsLeastOn t (first ∷ []) region (Some slot) → IsLeastOn t cards region (Some slot)
+  least_first cards first slot all on least = (
+    least.0,
+    λ other there e.
+        let past : first ≤ card_of t.layout other = subst (λ (card : ℕ). first ≤ card) there.2 (all there.0 (card_of t.layout other) there.1) in
+        elim (cases_lt first (card_of t.layout other)) [
+          | inl less ↦ later_slot first slot other on less
+          | inr not ↦ let same : card_of t.layout other ≡ first = omega arith in least.1 other (itself (card_of t.layout other) first same) e
+        ],
+  )
 
 -- the next card of a list, which is not read, or which the heap is read for
 module _ (heap now : Cells) (most : ℕ) (read : AreRead heap now most) (pairs : PairSet) (shape : IsShape heap.layout) (region : ℕ) (cards : List ℕ) (index card : ℕ) (at : slice_get cards index ≡ Some card) (past : ℕ) (least : Option ℕ)
@@ -131,9 +148,12 @@ module _ (heap now : Cells) (most : ℕ) (read : AreRead heap now most) (pairs :
   pub next_past : past ≤ card → past' ≡ past → least' ≡ least → IsLeastFrom (table_from heap pairs) (take (index + 1) cards) region past' least'
   next_past beyond same same_least = as_next past least same same_least (from_passed (table_from heap pairs) shape region (take index cards) card past least h (λ slot on less e. absurd (omega arith)))
 
+  pub next_known : IsLeastOn (table_from heap pairs) (card ∷ []) region None → past' ≡ past → least' ≡ least → IsLeastFrom (table_from heap pairs) (take (index + 1) cards) region past' least'
+  next_known none same same_least =
+      as_next past least same same_least (from_passed (table_from heap pairs) shape region (take index cards) card past least h (λ slot on less e. none slot (itself (card_of heap.layout slot) card on) e))
+
   pub next_none : ((pairs : PairSet) → IsLeastOn (table_from now pairs) (card ∷ []) region None) → past' ≡ past → least' ≡ least → IsLeastFrom (table_from heap pairs) (take (index + 1) cards) region past' least'
-  next_none none same same_least =
-      as_next past least same same_least (from_passed (table_from heap pairs) shape region (take index cards) card past least h (λ slot on less e. here None none slot (itself (card_of heap.layout slot) card on) e))
+  next_none none = next_known (here None none)
 
   pub next_some : card < past → (slot : ℕ) → card_of now.layout slot ≡ card → ((pairs : PairSet) → IsLeastOn (table_from now pairs) (card ∷ []) region (Some slot)) → past' ≡ card → least' ≡ Some slot
       → IsLeastFrom (table_from heap pairs) (take (index + 1) cards) region past' least'
@@ -152,6 +172,27 @@ read_all heap now index many read fits = read_at_most heap now (index * heap.lay
 
 pub read_one_more : (heap now new : Cells) (index many : ℕ) → AreRead heap now (index * heap.layout.slots) → AreRead now new now.layout.slots → index < many → AreRead heap new (many * heap.layout.slots)
 read_one_more heap now new index many before here fits = read_all heap new (index + 1) many (read_next heap now new index before here) (omega arith)
+
+-- what is read for the cards up to an index but one of them
+abbrev pub before_but : ℕ → ℕ → ℕ
+before_but index at = index - min 1 (index - at)
+
+module _ (heap now : Cells) (cards : List ℕ) (first : ℕ) (there : Contains cards first) (index : ℕ) (before : AreRead heap now (before_but index there.0 * heap.layout.slots)) where
+  pub read_other : (card : ℕ) (new : Cells) → slice_get cards index ≡ Some card → card ≢ first → AreRead now new now.layout.slots → AreRead heap new (before_but (index + 1) there.0 * heap.layout.slots)
+  read_other card new at other here =
+      let apart : there.0 ≢ index = λ e. other (sym (get_or_from_slice_get cards index card first at) ∙ ap (λ (k : ℕ). get_or cards k first) (sym e) ∙ there.2) in
+      let more : before_but index there.0 + 1 ≡ before_but (index + 1) there.0 = omega arith in
+      subst (λ (n : ℕ). AreRead heap new (n * heap.layout.slots)) more (read_next heap now new (before_but index there.0) before here)
+
+  pub read_skipped : AreRead heap now (before_but (index + 1) there.0 * heap.layout.slots)
+  read_skipped =
+      let fits : before_but index there.0 ≤ before_but (index + 1) there.0 = omega arith in
+      read_at_most heap now (before_but index there.0 * heap.layout.slots) (before_but (index + 1) there.0 * heap.layout.slots) before (mul-le-mul_right heap.layout.slots fits)
+
+  pub read_but_one : length cards ≤ index → index ≤ length cards → AreRead heap now ((length cards - 1) * heap.layout.slots)
+  read_but_one past within =
+      let all : before_but index there.0 ≡ length cards - 1 = omega (arith, there.1) in
+      subst (λ (n : ℕ). AreRead heap now (n * heap.layout.slots)) all before
 
 -- the layout is the same
 pub read_layout : (heap now : Cells) (most : ℕ) → AreRead heap now most → heap.layout ≡ now.layout

@@ -7,6 +7,7 @@ use Rattle.std.proofs.Math.Nat.{mul-le-mul}
 use Rattle.std.proofs.lemmas.List.FromFn.{length-enumerate_from}
 use Rattle.std.proofs.lemmas.List.Sums.{count_by-le-length}
 use Rattle.g1_layout.specs.Shape.{slot_count}
+use Rattle.g1_layout.proofs.ShapeLemmas.{slot_count_limit}
 use Rattle.g1_core.specs.declared.redirection.Change.{Change}
 use Rattle.g1_core.specs.Machine.{Machine, State, IsCore, pending_of, table_from, state_from, machine_from}
 use Rattle.g1_core.specs.Table.{Table, AreRefinable, refined, enters, moved, moved_count}
@@ -65,11 +66,11 @@ module _ (heap : Cells) (sets : Pairs) (ring : Ring) (pending : ℕ) (settings :
     counted_is : length references ≡ moved_count from (table_from heap sets.pairs)
     counted_is = ap (λ (cs : List Change). length cs) are ∙ (every_moved heap sets ring pending core from to apart to_inside none_pending tied).1
 
-    pub few_references : length references ≤ 1048576
+    pub few_references : length references ≤ 1073741824
     few_references =
         let most : count_by (enters heap.layout from) (enumerate_from 0 heap.refs) ≤ length (enumerate_from 0 heap.refs) = count_by-le-length (enters heap.layout from) (enumerate_from 0 heap.refs) in
         let slots : length (enumerate_from 0 heap.refs) ≡ slot_count heap.layout = length-enumerate_from 0 heap.refs ∙ core.parts.cells.slots in
-        let limit : slot_count heap.layout ≤ 1048576 = core.parts.cells.shape.total in
+        let limit : slot_count heap.layout ≤ 1073741824 = slot_count_limit heap.layout core.parts.cells.shape in
         let is : length references ≡ count_by (enters heap.layout from) (enumerate_from 0 heap.refs) = counted_is in
         omega arith
 

@@ -1,6 +1,6 @@
 //! The barrier: what a reference store does to the card table and to its mutator's log.
 ghost use Rattle.std.specs.Prelude.{◌≡◌, ◌≢◌, ◌<◌, ◌+◌, ℕ, [], false, length, IfSome, IsNone};
-ghost use Rattle.g1_layout.specs.Shape.{slot_count, card_of};
+ghost use Rattle.g1_layout.specs.Shape.{slot_count, card_count, card_of};
 
 use crate::list::CardList;
 use crate::machinery::Core;
@@ -17,23 +17,27 @@ impl Core {
     ghost use Rattle.g1_core.specs.Barrier.{logged, buffer_of, fill_of, unfilled, stored_machine};
     ghost use Rattle.g1_core.specs.Calls.{store_entry};
 
-    /// What kind of store it is.
-    fn kind(&self, slot: Slot, target: &Option<Slot>) -> Kind
+    /// What kind of store it is, and the card that a logged one dirties.
+    fn kind(&self, slot: Slot, target: &Option<Slot>) -> (Kind, Option<Card>)
         requires slot { slot < slot_count self.now.state.table.layout }
         requires target { IfSome target.now (λ place. place < slot_count self.now.state.table.layout) }
-        ensures { result ≡ kind_of self.now.state.table slot target.now }
+        ensures kind { result.0 ≡ kind_of self.now.state.table slot target.now }
+        ensures some { IfSome result.1 (λ card. (result.0 ≡ Kind.Logged) × (card ≡ card_of self.now.state.table.layout slot)) }
+        ensures none { IsNone result.1 → result.0 ≢ Kind.Logged }
+        ensures within { IfSome result.1 (λ card. card < card_count self.now.state.table.layout) }
     {
         let Some(place) = *target else {
-            return Kind::Null;
+            return (Kind::Null, None);
         };
         let layout = self.heap.layout();
         if layout.region_of(slot) == layout.region_of(place) {
-            return Kind::SameRegion;
+            return (Kind::SameRegion, None);
         }
-        match self.heap.mark(layout.card_of(slot)) {
-            Mark::Clean => return Kind::Logged,
-            Mark::Dirty => return Kind::AlreadyDirty,
-            Mark::Held => return Kind::AlreadyDirty,
+        let card = layout.card_of(slot);
+        match self.heap.mark(card) {
+            Mark::Clean => return (Kind::Logged, Some(card)),
+            Mark::Dirty => return (Kind::AlreadyDirty, None),
+            Mark::Held => return (Kind::AlreadyDirty, None),
         }
     }
 
@@ -108,13 +112,11 @@ impl Core {
         ensures cover { IsCovered self.new.state.table }
         ensures later { IsLater self.old self.new }
     {
-        let kind = self.kind(slot, &target);
+        let (kind, dirtied) = self.kind(slot, &target);
         self.heap.set(slot, target);
-        let Kind::Logged = kind else {
+        let Some(card) = dirtied else {
             return (kind, None);
         };
-        let layout = self.heap.layout();
-        let card = layout.card_of(slot);
         self.heap.set_mark(card, Mark::Dirty);
         self.pending += 1;
         (kind, Some(card))

@@ -1,5 +1,5 @@
 //! The clear: a region's remembered set is emptied once no reference enters the region.
-ghost use Rattle.std.specs.Prelude.{◌≡◌, ◌≢◌, ◌≤◌, ◌<◌, ◌+◌, ◌*◌, ℕ, [], ◌∷◌, IfSome, length};
+ghost use Rattle.std.specs.Prelude.{◌≡◌, ◌≢◌, ◌≤◌, ◌<◌, ◌+◌, ◌-◌, ◌*◌, ℕ, [], ◌∷◌, None, IfSome, IfNone, All, Contains, length};
 ghost use Rattle.std.specs.FinSet as set;
 ghost use Rattle.g1_layout.specs.Shape.{card_count, card_of};
 ghost use Rattle.g1_layout.specs.Sets.{PairSet};
@@ -10,7 +10,7 @@ ghost use Rattle.g1_core.specs.Clearing.{IsLeastOn, AreRead};
 use crate::machinery::Core;
 use crate::reply::ClearReply;
 use g1_heap::Heap;
-use g1_layout::{Card, Region, Slot};
+use g1_layout::{Card, Layout, Region, Slot};
 use g1_sets::Sets;
 
 impl Core {
@@ -49,8 +49,8 @@ impl Core {
     }
 }
 
-// The least slot on the cards of the region's set that lies outside the region and refers into it. A card at or past
-// that of the slot found last has no lesser one, and is not read.
+// The least slot on the cards of the region's set that lies outside the region and refers into it. It mostly lies on the
+// card of the least number, which is looked at first: no other card is read then.
 fn least_entering(heap: &mut Heap, sets: &Sets, region: Region) -> Option<Slot>
     requires region { region < heap.old.layout.regions }
     requires layouts { sets.now.layout ≡ heap.old.layout }
@@ -59,10 +59,43 @@ fn least_entering(heap: &mut Heap, sets: &Sets, region: Region) -> Option<Slot>
     ensures heap { AreRead heap.old heap.new (length (list_at sets.now.lists region) * heap.old.layout.slots) }
 {
     let layout = heap.layout();
+    let members = sets.members(region);
+    let first = first_of(layout, members)?;
+    if let Some(slot) = entering_on(heap, first, region) {
+        return Some(slot);
+    }
+    least_after(heap, members, first, region)
+}
+
+// The card of the least number, or `None` where there is no card.
+fn first_of(layout: Layout, cards: &[Card]) -> Option<Card>
+    requires { All (λ card. card < card_count layout) cards.now }
+    ensures none { IfNone result (length cards.now ≡ 0) }
+    ensures among { IfSome result (λ first. Contains cards.now first) }
+    ensures least { IfSome result (λ first. All (λ card. first ≤ card) cards.now) }
+{
+    let mut least = layout.card_count();
+    for card in cards {
+        least = least.min(card.number());
+    }
+    layout.card(least)
+}
+
+// The same of the cards where no slot of the first one refers into the region. A card at or past that of the slot found
+// last has no lesser one, and is not read.
+fn least_after(heap: &mut Heap, cards: &[Card], first: Card, region: Region) -> Option<Slot>
+    requires cards { All (λ card. card < card_count heap.old.layout) cards.now }
+    requires region { region < heap.old.layout.regions }
+    requires first { Contains cards.now first }
+    requires none { (pairs : PairSet) → IsLeastOn (table_from heap.old pairs) (first ∷ []) region None }
+    ensures least { (pairs : PairSet) → IsLeastOn (table_from heap.old pairs) cards.now region result }
+    ensures heap { AreRead heap.old heap.new ((length cards.now - 1) * heap.old.layout.slots) }
+{
+    let layout = heap.layout();
     let mut past = layout.card_count();
     let mut least = None;
-    for card in sets.members(region) {
-        if card.number() < past {
+    for card in cards {
+        if *card != first && card.number() < past {
             if let Some(slot) = entering_on(heap, *card, region) {
                 past = card.number();
                 least = Some(slot);

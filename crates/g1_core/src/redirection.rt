@@ -76,9 +76,10 @@ fn changes_into(
     ensures heap { AreRead heap.old heap.new (length (list_at sets.now.lists from) * heap.old.layout.slots) }
 {
     let layout = heap.layout();
-    let mut references = Vec::new(alloc);
-    let mut cards = Vec::new(alloc);
-    for index in 0..sets.len(from) {
+    let members = sets.len(from);
+    let mut references = Vec::with_capacity(alloc, members as usize)?;
+    let mut cards = Vec::with_capacity(alloc, members as usize)?;
+    for index in 0..members {
         let card = sets.at(from, index);
         let before = references.len();
         add_changes_on(heap, card, from, to, &mut references)?;

@@ -1,11 +1,11 @@
-use Rattle.std.proofs.Common.{◌≡◌, ◌<◌, ◌≤◌, ◌+◌, ◌*◌, ℕ, List, length, ap, sym, ◌∙◌, subst, arith, take_all, vec_items}
+use Rattle.std.proofs.Common.{◌≡◌, ◌<◌, ◌≤◌, ◌+◌, ℕ, List, length, ap, sym, ◌∙◌, subst, arith, take_all, vec_items}
 use Rattle.std.specs.Prelude.{All}
 use Rattle.std.proofs.lemmas.List.Elements.{All-push}
 use Rattle.g1_layout.specs.Shape.{Shape, card_count}
 use Rattle.g1_sets.specs.Pairs.{list_at}
 use Rattle.g1_core.specs.Redirect.{changes_of, slots_of, slots_on, AreGaining}
-use Rattle.g1_core.proofs.LeastSlotLemmas.{read_none, read_next, read_all, read_one_more, read_layout}
-use Rattle.g1_core.proofs.WalkLemmas.{references_next, card_changes, gains_next, gains_none, gaining_none, lies_outside, lies_inside, member_below}
+use Rattle.g1_core.proofs.LeastSlotLemmas.{read_next, read_all, read_one_more, read_layout}
+use Rattle.g1_core.proofs.WalkLemmas.{references_next, card_changes, gains_next, gains_none, lies_outside, lies_inside, member_below}
 use Rattle.g1_core.proofs.redirection.changes_into.Goals as goal
 use Rattle.g1_core.proofs.redirection.changes_into.Goals.{then-len-before+then-ne+in_ok-push, else-len-before, else-len-before-via-then-len-before+else-ne, else-len-before-via-else-len-before}
 
@@ -37,7 +37,7 @@ loop-index-preserved c =
         | then-len-before+then-ne+in_ok-push w ↦
             subst (λ (cards : List ℕ). All (λ card. card < card_count c.args.heap.now.layout) cards) (sym (ap vec_items w.cards-is ∙ w.in_ok-push.ensures.items))
             (All-push (λ card. card < card_count c.args.heap.now.layout) c.loop-index.cards.items c.at-card.result c.loop-index.invariant.within
-            (member_below c.args.sets.now c.args.heap.now.layout c.args.from c.loop-index.index c.at-card.result c.len-index-end.ensures.tied c.requires.layouts c.at-card.ensures))
+            (member_below c.args.sets.now c.args.heap.now.layout c.args.from c.loop-index.index c.at-card.result c.len-members.ensures.tied c.requires.layouts c.at-card.ensures))
         | else-len-before w ↦ subst (λ (cards : List ℕ). All (λ card. card < card_count c.args.heap.now.layout) cards) (sym (ap vec_items w.cards-is)) c.loop-index.invariant.within
       ];
       read = read_next c.args.heap.now c.loop-index.heap c.add_changes_on.new.heap c.loop-index.index c.loop-index.invariant.read c.in_ok-add_changes_on.ensures.heap;
@@ -45,37 +45,37 @@ loop-index-preserved c =
 
 pub returns-clause-cards : goal.returns-clause-cards
 returns-clause-cards c = subst (λ (cards : List ℕ). AreGaining c.args.heap.now.layout c.args.heap.now.refs c.args.from c.args.to cards c.loop-index.cards.items)
-    (take_all c.loop-index.index (list_at c.args.sets.now.lists c.args.from) (omega (arith, c.len-index-end.ensures.len, c.loop-index-test.false))) c.loop-index.invariant.cards
+    (take_all c.loop-index.index (list_at c.args.sets.now.lists c.args.from) (omega (arith, c.len-members.ensures.len, c.loop-index-test.false))) c.loop-index.invariant.cards
 
 pub returns-clause-references : goal.returns-clause-references
 returns-clause-references c = c.loop-index.invariant.references ∙ ap (λ (cards : List ℕ). changes_of c.args.heap.now.layout c.args.heap.now.refs c.args.from c.args.to (slots_on c.args.heap.now.layout cards))
-    (take_all c.loop-index.index (list_at c.args.sets.now.lists c.args.from) (omega (arith, c.len-index-end.ensures.len, c.loop-index-test.false)))
+    (take_all c.loop-index.index (list_at c.args.sets.now.lists c.args.from) (omega (arith, c.len-members.ensures.len, c.loop-index-test.false)))
 
 pub returns-clause-heap : goal.returns-clause-heap
 returns-clause-heap c = read_all c.args.heap.now c.loop-index.heap c.loop-index.index (length (list_at c.args.sets.now.lists c.args.from)) c.loop-index.invariant.read
-    (subst (λ (many : ℕ). c.loop-index.index ≤ many) c.len-index-end.ensures.len c.loop-index.auto.index-end)
+    (subst (λ (many : ℕ). c.loop-index.index ≤ many) c.len-members.ensures.len c.loop-index.auto.index-end)
 
 -- one that fails has read at most one card more
 pub returns-in_err-add_changes_on-clause-heap : goal.returns-in_err-add_changes_on-clause-heap
 returns-in_err-add_changes_on-clause-heap c = read_one_more c.args.heap.now c.loop-index.heap c.add_changes_on.new.heap c.loop-index.index (length (list_at c.args.sets.now.lists c.args.from)) c.loop-index.invariant.read
-    c.in_err-add_changes_on.ensures.heap (subst (λ (many : ℕ). c.loop-index.index < many) c.len-index-end.ensures.len c.loop-index-test.true)
+    c.in_err-add_changes_on.ensures.heap (subst (λ (many : ℕ). c.loop-index.index < many) c.len-members.ensures.len c.loop-index-test.true)
 
 pub returns-in_err-push-clause-heap : goal.returns-in_err-push-clause-heap
 returns-in_err-push-clause-heap c = read_one_more c.args.heap.now c.loop-index.heap c.add_changes_on.new.heap c.loop-index.index (length (list_at c.args.sets.now.lists c.args.from)) c.loop-index.invariant.read
-    c.in_ok-add_changes_on.ensures.heap (subst (λ (many : ℕ). c.loop-index.index < many) c.len-index-end.ensures.len c.loop-index-test.true)
+    c.in_ok-add_changes_on.ensures.heap (subst (λ (many : ℕ). c.loop-index.index < many) c.len-members.ensures.len c.loop-index-test.true)
 
 -- what is asked of the sets, the heap and the layout
-pub len-index-end-requires : goal.len-index-end-requires
-len-index-end-requires c = subst (λ (l : Shape). c.args.from < l.regions) (sym c.requires.layouts) c.requires.from
+pub len-members-requires : goal.len-members-requires
+len-members-requires c = subst (λ (l : Shape). c.args.from < l.regions) (sym c.requires.layouts) c.requires.from
 
 pub at-card-requires-clause-region : goal.at-card-requires-clause-region
 at-card-requires-clause-region c = subst (λ (l : Shape). c.args.from < l.regions) (sym c.requires.layouts) c.requires.from
 
 pub at-card-requires-clause-index : goal.at-card-requires-clause-index
-at-card-requires-clause-index c = subst (λ (many : ℕ). c.loop-index.index < many) c.len-index-end.ensures.len c.loop-index-test.true
+at-card-requires-clause-index c = subst (λ (many : ℕ). c.loop-index.index < many) c.len-members.ensures.len c.loop-index-test.true
 
 pub add_changes_on-requires-clause-card : goal.add_changes_on-requires-clause-card
-add_changes_on-requires-clause-card c = member_below c.args.sets.now c.loop-index.heap.layout c.args.from c.loop-index.index c.at-card.result c.len-index-end.ensures.tied
+add_changes_on-requires-clause-card c = member_below c.args.sets.now c.loop-index.heap.layout c.args.from c.loop-index.index c.at-card.result c.len-members.ensures.tied
     (c.requires.layouts ∙ read_layout c.args.heap.now c.loop-index.heap _ c.loop-index.invariant.read) c.at-card.ensures
 
 pub add_changes_on-requires-clause-from : goal.add_changes_on-requires-clause-from
@@ -85,4 +85,4 @@ pub add_changes_on-requires-clause-to : goal.add_changes_on-requires-clause-to
 add_changes_on-requires-clause-to c = subst (λ (l : Shape). c.args.to < l.regions) (read_layout c.args.heap.now c.loop-index.heap _ c.loop-index.invariant.read) c.requires.to
 
 pub region_of_card-requires : goal.region_of_card-requires
-region_of_card-requires c = member_below c.args.sets.now c.layout-layout.result c.args.from c.loop-index.index c.at-card.result c.len-index-end.ensures.tied (c.requires.layouts ∙ sym c.layout-layout.ensures.layout) c.at-card.ensures
+region_of_card-requires c = member_below c.args.sets.now c.layout-layout.result c.args.from c.loop-index.index c.at-card.result c.len-members.ensures.tied (c.requires.layouts ∙ sym c.layout-layout.ensures.layout) c.at-card.ensures

@@ -1,6 +1,10 @@
-use Rattle.std.proofs.Common.{ap, refl, ◌∙◌, ◌+◌, arith}
+use Rattle.std.proofs.Common.{◌≡◌, ◌<◌, ℕ, Option, Some, ap, refl, sym, subst, ◌∙◌, ◌+◌, arith}
+use Rattle.std.specs.Prelude.{IfSome, IsNone}
+use Rattle.g1_layout.specs.Shape.{Shape, card_count, card_of}
+use Rattle.g1_layout.specs.declared.kind.Kind.TheVariants.{Logged}
 use Rattle.g1_heap.specs.declared.mark.Mark.TheVariants.{Dirty}
 use Rattle.g1_heap.specs.Cells.{Cells, with_mark}
+use Rattle.g1_core.specs.Machine.{Machine}
 use Rattle.g1_core.proofs.StoreLemmas.{logged_at, plain_at, IsStored, few_cards}
 use Rattle.g1_core.proofs.SoundLemmas.{stored_later}
 use Rattle.g1_core.proofs.machinery.Core.mark.Goals as goal
@@ -8,11 +12,23 @@ use Rattle.g1_core.proofs.machinery.Core.mark.Goals as goal
 pub overflow_add-self : goal.overflow_add-self
 overflow_add-self c = omega (arith, few_cards c.self.inside.heap c.self.inside.sets c.self.inside.hot c.self.inside.pending c.self.invariant)
 
+-- the card that a store dirties, if any
+pub returns-clause-some : goal.returns-clause-some
+returns-clause-some c = subst (λ (o : Option ℕ). IfSome o (λ card. (c.kind-kind.result.0 ≡ Logged) × (card ≡ card_of c.args.self.now.state.table.layout c.args.slot))) c.in-Some.is c.kind-kind.ensures.some
+
+below : (o : Option ℕ) (card most : ℕ) → o ≡ Some card → IfSome o (λ card. card < most) → card < most
+below o card most is within = subst (λ (o : Option ℕ). IfSome o (λ card. card < most)) is within
+
+pub set_mark-requires : goal.set_mark-requires
+set_mark-requires c = subst (λ (l : Shape). c.in-Some.card < card_count l) (sym (ap (λ (h : Cells). h.layout) c.set.ensures ∙ ap (λ (m : Machine). m.state.table.layout) c.self.view_is)) (below c.kind-kind.result.1 c.in-Some.card (card_count c.args.self.now.state.table.layout) c.in-Some.is c.kind-kind.ensures.within)
+
 -- what a store leaves that is logged
 logged : (c : goal.After-self-1) → IsStored c.set_mark.new.self c.self.inside.sets c.self.inside.hot (c.self.inside.pending + 1) c.self.inside.config c.args.self.now c.args.slot c.args.target
-logged c = logged_at c.self.inside.heap c.self.inside.sets c.self.inside.hot c.self.inside.pending c.self.inside.config c.args.self.now c.self.invariant c.self.view_is
-    c.args.slot c.args.target c.kind-kind.result c.kind-kind.ensures c.requires.target c.set_mark.new.self (c.self.inside.pending + 1) c.card_of-card.result c.layout-layout.result c.in-Logged.is
-    (c.layout-layout.ensures.layout ∙ ap (λ (h : Cells). h.layout) c.set.ensures) c.card_of-card.ensures.quotient c.card_of-card.ensures.within refl (c.set_mark.ensures ∙ ap (λ (h : Cells). with_mark h c.card_of-card.result Dirty) c.set.ensures)
+logged c =
+    let its = returns-clause-some c in
+    logged_at c.self.inside.heap c.self.inside.sets c.self.inside.hot c.self.inside.pending c.self.inside.config c.args.self.now c.self.invariant c.self.view_is
+    c.args.slot c.args.target c.kind-kind.result.0 c.kind-kind.ensures.kind c.requires.target c.set_mark.new.self (c.self.inside.pending + 1) c.in-Some.card c.args.self.now.state.table.layout its.0
+    (sym (ap (λ (m : Machine). m.state.table.layout) c.self.view_is)) its.1 (below c.kind-kind.result.1 c.in-Some.card (card_count c.args.self.now.state.table.layout) c.in-Some.is c.kind-kind.ensures.within) refl (c.set_mark.ensures ∙ ap (λ (h : Cells). with_mark h c.in-Some.card Dirty) c.set.ensures)
 
 pub invariant_of-self-2 : goal.invariant_of-self-2
 invariant_of-self-2 c = (logged c).core
@@ -27,9 +43,12 @@ pub returns-clause-later : goal.returns-clause-later
 returns-clause-later c = stored_later c.set_mark.new.self c.self.inside.sets c.self.inside.hot (c.self.inside.pending + 1) c.self.inside.config c.args.self.now c.args.slot c.args.target (logged c)
 
 -- and one that is not
+pub returns-in_default-clause-none : goal.returns-in_default-clause-none
+returns-in_default-clause-none c = λ none. c.kind-kind.ensures.none (subst (λ (o : Option ℕ). IsNone o) (sym c.in_default.is) refl)
+
 plain : (c : goal.In_default) → IsStored c.set.new.self c.self.inside.sets c.self.inside.hot c.self.inside.pending c.self.inside.config c.args.self.now c.args.slot c.args.target
 plain c = plain_at c.self.inside.heap c.self.inside.sets c.self.inside.hot c.self.inside.pending c.self.inside.config c.args.self.now c.self.invariant c.self.view_is
-    c.args.slot c.args.target c.kind-kind.result c.kind-kind.ensures c.requires.target c.set.new.self c.in_default.not-Logged c.set.ensures
+    c.args.slot c.args.target c.kind-kind.result.0 c.kind-kind.ensures.kind c.requires.target c.set.new.self (c.kind-kind.ensures.none (subst (λ (o : Option ℕ). IsNone o) (sym c.in_default.is) refl)) c.set.ensures
 
 pub invariant_of-self : goal.invariant_of-self
 invariant_of-self c = (plain c).core

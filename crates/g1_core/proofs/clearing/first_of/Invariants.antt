@@ -1,0 +1,10 @@
+use Rattle.std.proofs.Common.{◌≡◌, ◌⊎◌, ◌≤◌, take}
+use Rattle.std.specs.Prelude.{All, Contains}
+use Rattle.g1_layout.specs.Shape.{card_count}
+use Rattle.g1_core.proofs.clearing.first_of.Given as goal
+
+abbrev pub invariant-loop-card : goal.invariant-loop-card
+invariant-loop-card l = record {
+  least : All (λ card. l.least ≤ card) (take l.card-index l.cards);
+  among : (l.least ≡ card_count l.layout) ⊎ Contains (take l.card-index l.cards) l.least;
+}
