@@ -1,5 +1,5 @@
 -- How counts grow.
-use Rattle.std.proofs.Common.{◌≡◌, ℕ, ◌+◌, ◌-◌, ◌/◌, ◌≤◌, Bool, true, false, cond, if◌then◌else◌, nat_lt, Option, Some, None, List, [], ◌∷◌, ◌++◌, length, map, refl, subst, ap, ◌∙◌, arith, append_assoc, length-append}
+use Rattle.std.proofs.Common.{◌≡◌, ℕ, ◌+◌, ◌-◌, ◌/◌, ◌≤◌, Bool, true, false, cond, if◌then◌else◌, nat_lt, Option, Some, None, List, [], ◌∷◌, ◌++◌, length, map, refl, sym, subst, ap, ◌∙◌, arith, append_assoc, append-nil, length-append}
 use Rattle.std.specs.Prelude.{count_by}
 use Rattle.std.proofs.lemmas.List.{length-map}
 use Rattle.std.proofs.lemmas.List.Sums.{sum_by-append}
@@ -8,9 +8,10 @@ use Rattle.g1_core.specs.declared.reply.RefineReply.{RefineReply}
 use Rattle.g1_core.specs.declared.entry.Entry.{Entry}
 use Rattle.g1_book.specs.declared.refusal.Refusal.{Refusal}
 use Rattle.g1_steps.specs.Made.{Made, Refused}
+use Rattle.g1_steps.specs.Steps.{GainsAtMost}
 use Rattle.g1_steps.specs.Rounds.{Turn, turn_call, round_calls, round_size, IsRound}
-use Rattle.g1_shared.specs.Counts.{Tally, one_call, counted, counted_then, is_store}
-use Rattle.g1_shared.specs.Callers.{GainsAtLeast}
+use Rattle.g1_shared.specs.Counts.{Tally, one_call, counted, counted_then, CountsDid, is_store}
+use Rattle.g1_shared.specs.Callers.{MakesFor}
 
 -- how many stores there are with one entry more
 pub stores_more : (es now : List Entry) (e : Entry) (n : ℕ) → n ≡ count_by is_store es → now ≡ es ++ e ∷ [] → n + cond (is_store e) 1 0 ≡ count_by is_store now
@@ -37,12 +38,38 @@ size_by false start seen = omega arith
 pub size_within : (start seen : ℕ) → round_size start seen ≤ seen
 size_within start seen = size_by (nat_lt seen start) start seen
 
--- a round has taken at least as many parcels as it says
-pub round_gains : {S : Type 0} (did : S → List Made → S → Type 0) (old : S) (before : List Parcel) (most : ℕ) (reply : RefineReply) (after : List Parcel) (new : S) → IsRound did old before most reply after new → GainsAtLeast before reply.taken after
-round_gains did old before most reply after new h =
-    let all = map (λ (t : Turn). t.parcel) h.turns in
+-- the same round, of whose calls something else is told
+pub round_as : {S T : Type 0} (did : S → List Made → S → Type 0) (tells : T → List Made → T → Type 0) (old new : S) (was now : T) (before : List Parcel) (most : ℕ) (reply : RefineReply) (after : List Parcel)
+    → ((calls : List Made) → did old calls new → tells was calls now) → IsRound did old before most reply after new → IsRound tells was before most reply after now
+round_as did tells old new was now before most reply after told h = record {
+  turns = h.turns;
+  refused = h.refused;
+  made = told (round_calls h.turns h.refused) h.made;
+  ends = h.ends;
+  taken = h.taken;
+  kept = h.kept;
+  sums = h.sums;
+  order = h.order;
+  few = h.few;
+  begun = h.begun;
+  within = h.within;
+  all = h.all;
+}
+
+-- a round makes no more entries than its taker gains parcels
+pub round_makes : (t : Tally) (before : List Parcel) (most : ℕ) (reply : RefineReply) (after : List Parcel) (u : Tally) → IsRound CountsDid t before most reply after u → MakesFor t.made before u.made after
+round_makes t before most reply after u h =
+    let all = map (λ (x : Turn). x.parcel) h.turns in
+    let worked = round_counted t h.turns h.refused in
     record {
       parcels = all ++ h.taken.parcels;
       gained = h.taken.gained ∙ append_assoc before all h.taken.parcels;
-      many = omega (arith, h.few, length-append all h.taken.parcels, length-map h.turns (λ (t : Turn). t.parcel));
+      within = omega (arith, ap (λ (c : Tally). c.made) h.made, worked.made, length-append all h.taken.parcels, length-map h.turns (λ (x : Turn). x.parcel));
     }
+
+-- where none was made, its taker may have gained parcels or not
+pub makes_none : (made made' : ℕ) (old new : List Parcel) → made' ≤ made → new ≡ old → MakesFor made old made' new
+makes_none made made' old new few same = record { parcels = []; gained = same ∙ sym (append-nil old); within = omega (arith, few) }
+
+pub makes_lost : (made made' most : ℕ) (old new : List Parcel) → made' ≤ made → GainsAtMost old most new → MakesFor made old made' new
+makes_lost made made' most old new few lost = record { parcels = lost.parcels; gained = lost.gained; within = omega (arith, few) }

@@ -1,3 +1,4 @@
 pub mod CallLemmas
 pub mod CountLemmas
 pub mod EachLemmas
+pub mod DeskLemmas

@@ -6,13 +6,15 @@ use Rattle.g1_log.specs.declared.ends.Taker.{Taker}
 use Rattle.g1_log.specs.declared.buffer.Buffer.{Buffer}
 use Rattle.g1_log.specs.declared.parcel.Parcel.{Parcel}
 use Rattle.g1_log.specs.Log.{Cards}
-use Rattle.g1_log.specs.Ends.{line_home, put_of, taken_of}
+use Rattle.g1_log.specs.Ends.{line_home, capacity_of, put_of, taken_of}
 use Rattle.g1_core.specs.Barrier.{logged, buffer_of}
+use Rattle.g1_core.specs.declared.reply.RefineReply.{RefineReply}
 use Rattle.g1_core.specs.declared.reply.Fill.{Fill}
 use Rattle.g1_core.specs.declared.reply.Fill.TheVariants.{No, Full, Helped}
 use Rattle.g1_steps.specs.declared.steps.mutator.Mutator.{Mutator}
-use Rattle.g1_shared.specs.Counts.{Tally, one_call}
-use Rattle.g1_steps.specs.Steps.{GainsAtMost}
+use Rattle.g1_shared.specs.Counts.{Tally, one_call, CountsDid}
+use Rattle.g1_steps.specs.Steps.{IsRefinement}
+use Rattle.g1_steps.specs.Rounds.{IsRound, round_size}
 use Rattle.g1_steps.specs.Opening.{IsNewMutator}
 use Rattle.g1_steps.specs.Marks.{MutatorMark, TakerMark, mutator_mark, taker_mark}
 
@@ -75,19 +77,27 @@ FlushesAt c No refined short d = (d.counts ≡ c.counts) × (put_list d ≡ put_
 FlushesAt c Full refined short d = (d.counts ≡ c.counts) × (put_list d ≡ put_list c ++ (log_of c).cards ∷ []) × (refined ≡ []) × (short ≡ false)
 FlushesAt c Helped refined short d = IsHelped c.counts.made refined short d.counts.made × (put_list d ≡ put_list c)
 
--- The list has grown by parcels, `least` of them or more.
-pub record GainsAtLeast (old : List Parcel) (least : ℕ) (new : List Parcel) : Type 0 where
+-- A refinement of a caller: its counts tell of the call.
+abbrev pub RefinesAt : Standing → RefineReply → Standing → Type 0
+RefinesAt c reply d = IsRefinement CountsDid c.counts c.taker reply d.taker d.counts
+
+-- A round of a caller at a line, which begins at `start` completed buffers: its counts tell of the calls.
+abbrev pub RoundsAt : Line → ℕ → Standing → RefineReply → Standing → Type 0
+RoundsAt line start c reply d =
+    (seen : ℕ) × (seen ≤ capacity_of line) × IsRound CountsDid c.counts (taken_list c) (round_size start seen) reply (taken_list d) d.counts
+
+-- The list has grown by parcels, and no more entries were made than these.
+pub record MakesFor (made : ℕ) (old : List Parcel) (made' : ℕ) (new : List Parcel) : Type 0 where
   pub parcels : List Parcel
   pub gained : new ≡ old ++ parcels
-  pub many : least ≤ length parcels
+  pub within : made' ≤ made + length parcels
 
--- A caller at a pause: its log is empty, and it has taken at most `most` parcels.
-pub record IsPaused (most : ℕ) (c d : Standing) : Type 0 where
+-- A caller at a pause: its log is empty.
+pub record IsPaused (c d : Standing) : Type 0 where
   pub mark : mark_of d ≡ mark_of c
   pub counts : d.counts ≡ c.counts
   pub empty : (log_of d).cards ≡ []
   pub put : put_list d ≡ put_list c
-  pub taken : GainsAtMost (taken_list c) most (taken_list d)
 
 -- Caller k as it begins, where the first `mutators` callers are mutators.
 pub record IsNewCaller (line : Line) (log mutators k : ℕ) (c : Standing) : Type 0 where

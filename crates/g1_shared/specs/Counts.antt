@@ -38,6 +38,10 @@ counted t (Stored slot target reply ∷ ms) = counted (one_store t) ms
 counted t (Refined buffer reply ∷ ms) = counted (one_call t) ms
 counted t (Refused refusal ∷ ms) = counted t ms
 
+-- the counts tell of the calls that were made
+abbrev pub CountsDid : Tally → List Made → Tally → Type 0
+CountsDid t calls u = u ≡ counted t calls
+
 pub counted_then : (t : Tally) (xs ys : List Made) → counted (counted t xs) ys ≡ counted t (xs ++ ys)
 counted_then t [] ys = refl
 counted_then t (Stored slot target reply ∷ xs) ys = counted_then (one_store t) xs ys

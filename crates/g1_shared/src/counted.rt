@@ -1,14 +1,15 @@
 //! A book with the totals of its calls and of its stores: what a shared book keeps under its lock.
-ghost use Rattle.std.specs.Prelude.{◌≡◌, ◌≢◌, ◌+◌, ◌*◌, ◌<◌, ◌≤◌, ◌^◌, ◌↔◌, [], false, length, count_by, IfOk, OnErr, OnOk, IfSome, option_map};
+ghost use Rattle.std.specs.Prelude.{◌≡◌, ◌≢◌, ◌+◌, ◌-◌, ◌*◌, ◌<◌, ◌≤◌, ◌^◌, ◌↔◌, [], false, length, min, count_by, IfOk, OnErr, OnOk, IfSome, option_map};
 ghost use Rattle.std.specs.FinSet as set;
 ghost use Rattle.g1_layout.specs.Shape.{slot_count, card_count, card_of};
-ghost use Rattle.g1_core.specs.Barrier.{logged, buffer_of, fill_of, unfilled};
+ghost use Rattle.g1_core.specs.Barrier.{logged, buffer_of, fill_of, unfilled, stored_machine};
 ghost use Rattle.g1_core.specs.Calls.{store_entry, refine_entry, target_entry, pending_entry, members_entry, status_entry, drain_entry, clear_entry, redirect_entry};
 ghost use Rattle.g1_core.specs.Clearing.{member_count};
 ghost use Rattle.g1_core.specs.Machine.{IsOnlyRead};
 ghost use Rattle.g1_core.specs.Pause.{IsDrainOf};
 ghost use Rattle.g1_core.specs.Redirect.{IsRedirectOf};
 ghost use Rattle.g1_core.specs.Refinement.{IsRefined, AreCardsRead};
+ghost use Rattle.g1_core.specs.Run.{kind_of};
 ghost use Rattle.g1_core.specs.Table.{target_of, AreMembers};
 ghost use Rattle.g1_shared.specs.Counts.{one_call, one_store, is_store};
 ghost use Rattle.g1_shared.specs.Callers.{called_once, HandsOut};
@@ -79,6 +80,8 @@ impl<M: Frame, S: Ledger> Counted<M, S> {
         requires slot { slot < slot_count M.terms.layout }
         requires target { IfSome target (λ place. place < slot_count M.terms.layout) }
         ensures entered { IfOk result (λ answer. IsEntered self.old (store_entry counts.old.number slot target answer.0) self.new) }
+        ensures kind { IfOk result (λ answer. answer.0.kind ≡ kind_of (table_in self.old) slot target) }
+        ensures machine { IfOk result (λ _. self.new.machine ≡ stored_machine self.old.machine slot target) }
         ensures fill { IfOk result (λ answer. answer.0.fill ≡ fill_of answer.1) }
         ensures plain { IfOk result (λ answer. (answer.0.refined ≡ []) × (answer.0.short ≡ false)) }
         ensures log { IfOk result (λ answer. log.new ≡ logged answer.0.kind log.old (card_of M.terms.layout slot)) }
@@ -163,6 +166,10 @@ impl<M: Frame, S: Ledger> Counted<M, S> {
         requires slot { slot < slot_count M.terms.layout }
         requires target { IfSome target (λ place. place < slot_count M.terms.layout) }
         ensures entered { IfOk result (λ answer. IsEntered self.old (store_entry caller.old.counts.number slot target answer.0) self.new) }
+        ensures kind { IfOk result (λ answer. answer.0.kind ≡ kind_of (table_in self.old) slot target) }
+        ensures fill { IfOk result (λ answer. answer.0.fill ≡ fill_of answer.1) }
+        ensures plain { IfOk result (λ answer. (answer.0.refined ≡ []) × (answer.0.short ≡ false)) }
+        ensures machine { IfOk result (λ _. self.new.machine ≡ stored_machine self.old.machine slot target) }
         ensures buffer { IfOk result (λ answer. HandsOut caller.old answer.0.kind (card_of M.terms.layout slot) answer.1 caller.new) }
         ensures counts { OnOk result (caller.new.counts ≡ one_store caller.old.counts) }
         ensures full { (result ≡ Err Refusal.BookFull) ↔ (length self.old.entries ≡ self.old.limit) }
@@ -186,6 +193,10 @@ impl<M: Frame, S: Ledger> Counted<M, S> {
         requires slot { slot < slot_count M.terms.layout }
         requires target { IfSome target (λ place. place < slot_count M.terms.layout) }
         ensures entered { IfOk result (λ answer. IsEntered self.old (store_entry counts.old.number slot target answer.0) self.new) }
+        ensures kind { IfOk result (λ answer. answer.0.kind ≡ kind_of (table_in self.old) slot target) }
+        ensures fill { IfOk result (λ answer. answer.0.fill ≡ fill_of answer.1) }
+        ensures plain { IfOk result (λ answer. (answer.0.refined ≡ []) × (answer.0.short ≡ false)) }
+        ensures machine { IfOk result (λ _. self.new.machine ≡ stored_machine self.old.machine slot target) }
         ensures buffer { IfOk result (λ answer. (mutator.new.log ≡ logged answer.0.kind mutator.old.log (card_of M.terms.layout slot)) × (answer.1 ≡ buffer_of answer.0.kind mutator.old.log (card_of M.terms.layout slot))) }
         ensures sender { mutator.new.sender ≡ mutator.old.sender }
         ensures counts { OnOk result (counts.new ≡ one_store counts.old) }
@@ -204,6 +215,7 @@ impl<M: Frame, S: Ledger> Counted<M, S> {
         ensures entered { IfOk result (λ reply. IsEntered self.old (refine_entry caller.old.counts.number reply) self.new) }
         ensures refined { IfOk result (λ reply. IsRefined self.old.machine.state (option_map (λ b. b.now) buffer.entry) reply self.new.machine.state) }
         ensures reads { IfOk result (λ reply. AreCardsRead self.old.machine reply self.new.machine) }
+        ensures counts { IfOk result (λ reply. (reply.taken ≤ 1) × (length reply.refined + reply.skipped ≤ 256) × (reply.hot ≤ 256)) }
         ensures made { OnOk result (caller.new ≡ called_once caller.old) }
         ensures full { (result ≡ Err Refusal.BookFull) ↔ (length self.old.entries ≡ self.old.limit) }
         ensures err { OnErr result ((self.new ≡ self.old) × (caller.new ≡ caller.old)) }
@@ -216,6 +228,7 @@ impl<M: Frame, S: Ledger> Counted<M, S> {
         requires { slot < slot_count M.terms.layout }
         ensures entered { IfOk result (λ target. IsEntered self.old (target_entry caller.old.counts.number slot target) self.new) }
         ensures target { IfOk result (λ target. target ≡ target_of (table_in self.old) slot) }
+        ensures machine { IfOk result (λ _. self.new.machine ≡ record self.old.machine { reads = min (self.old.machine.reads + 1) (2 ^ 64 - 1) }) }
         ensures made { OnOk result (caller.new ≡ called_once caller.old) }
         ensures full { (result ≡ Err Refusal.BookFull) ↔ (length self.old.entries ≡ self.old.limit) }
         ensures err { OnErr result ((self.new ≡ self.old) × (caller.new ≡ caller.old)) }
@@ -231,6 +244,7 @@ impl<M: Frame, S: Ledger> Counted<M, S> {
         requires { card < card_count M.terms.layout }
         ensures entered { IfOk result (λ answer. IsEntered self.old (pending_entry caller.old.counts.number card answer) self.new) }
         ensures pending { IfOk result (λ answer. answer ≡ set.contains (table_in self.old).pending card) }
+        ensures machine { self.new.machine ≡ self.old.machine }
         ensures made { OnOk result (caller.new ≡ called_once caller.old) }
         ensures full { (result ≡ Err Refusal.BookFull) ↔ (length self.old.entries ≡ self.old.limit) }
         ensures err { OnErr result ((self.new ≡ self.old) × (caller.new ≡ caller.old)) }
@@ -250,6 +264,7 @@ impl<M: Frame, S: Ledger> Counted<M, S> {
         requires { region < M.terms.layout.regions }
         ensures entered { IfOk result (λ cards. IsEntered self.old (members_entry caller.old.counts.number region cards) self.new) }
         ensures members { IfOk result (λ cards. AreMembers (table_in self.old) region cards) }
+        ensures machine { self.new.machine ≡ self.old.machine }
         ensures made { OnOk result (caller.new ≡ called_once caller.old) }
         ensures full { (result ≡ Err Refusal.BookFull) ↔ (length self.old.entries ≡ self.old.limit) }
         ensures err { OnErr result ((self.new ≡ self.old) × (caller.new ≡ caller.old)) }
@@ -264,6 +279,7 @@ impl<M: Frame, S: Ledger> Counted<M, S> {
     pub fn status(&mut self, caller: &mut Caller<M, S>) -> Result<Status, Refusal>
         ensures entered { IfOk result (λ status. IsEntered self.old (status_entry caller.old.counts.number status) self.new) }
         ensures counts { IfOk result (λ status. (status.pending ≡ set.len (table_in self.old).pending) × (status.recorded ≡ set.len (table_in self.old).recorded)) }
+        ensures machine { self.new.machine ≡ self.old.machine }
         ensures made { OnOk result (caller.new ≡ called_once caller.old) }
         ensures full { (result ≡ Err Refusal.BookFull) ↔ (length self.old.entries ≡ self.old.limit) }
         ensures err { OnErr result ((self.new ≡ self.old) × (caller.new ≡ caller.old)) }
@@ -299,6 +315,8 @@ impl<M: Frame, S: Ledger> Counted<M, S> {
         requires { region < M.terms.layout.regions }
         ensures entered { IfOk result (λ answer. IsEntered self.old (clear_entry caller.old.counts.number region answer) self.new) }
         ensures refused { IfOk result (λ answer. answer ≢ ClearReply.Cleared → IsOnlyRead self.old.machine self.new.machine) }
+        ensures ring { self.new.machine.state.ring ≡ self.old.machine.state.ring }
+        ensures unread { 1 ≤ set.len (table_in self.old).pending → self.new.machine.reads ≡ self.old.machine.reads }
         ensures reads { self.new.machine.reads ≤ self.old.machine.reads + member_count (table_in self.old) region * M.terms.layout.slots }
         ensures made { OnOk result (caller.new ≡ called_once caller.old) }
         ensures full { (result ≡ Err Refusal.BookFull) ↔ (length self.old.entries ≡ self.old.limit) }

@@ -30,16 +30,20 @@ pub struct Shared<M: Frame, S: Ledger> {
 }
 
 impl<M: Frame, S: Ledger> Model for Shared<M, S> {
+    ghost use Rattle.std.specs.Prelude.{◌≡◌};
     ghost use Rattle.g1_log.specs.declared.line.Line.{Line as L};
 
     ghost Value = { L };
 
     ghost view = { λ s. s.line };
+
+    ghost invariant = { λ s. s.start ≡ M.terms.settings.start };
 }
 
 impl<M: Frame, S: Ledger> Shared<M, S> {
     ghost use Rattle.std.specs.Sync.Mutex.{mutex_guard_value};
     ghost use Rattle.g1_core.specs.Table.{IsCovered};
+    ghost use Rattle.g1_core.specs.Machine.{IsSound};
     ghost use Rattle.g1_book.specs.History.{IsHistory, table_in, terms_of};
 
     /// The counted book, until the guard is dropped. It waits for the lock.
@@ -49,6 +53,7 @@ impl<M: Frame, S: Ledger> Shared<M, S> {
         ensures history { IsHistory (mutex_guard_value result) }
         ensures terms { terms_of (mutex_guard_value result) ≡ M.terms }
         ensures cover { IsCovered (table_in (mutex_guard_value result)) }
+        ensures sound { let h = mutex_guard_value result in IsSound h.machine.state }
     {
         let guard = self.counted.lock(rt);
         let _entries = guard.book().entries();

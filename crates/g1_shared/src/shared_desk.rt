@@ -1,9 +1,10 @@
 //! A desk at a shared book.
-ghost use Rattle.std.specs.Prelude.{◌≡◌, refl, nat_lt};
+ghost use Rattle.std.specs.Prelude.{◌≡◌, length, refl, nat_lt};
 ghost use Rattle.std.proofs.Props.{props};
-ghost use Rattle.g1_layout.specs.Shape.{slot_count};
+ghost use Rattle.g1_layout.specs.Shape.{slot_count, card_of};
+ghost use Rattle.g1_core.specs.Barrier.{logged};
 ghost use Rattle.g1_log.specs.Ends.{capacity_of};
-ghost use Rattle.g1_shared.specs.Callers.{IsCallerOf};
+ghost use Rattle.g1_shared.specs.Callers.{IsCallerOf, log_of, StoresAt, FlushesAt, RoundsAt};
 ghost use Rattle.g1_shared.specs.Did.{DeskDid, caller_did_none, desk_did_then};
 
 use crate::caller::Caller;
@@ -51,12 +52,22 @@ impl<'a, R, M: Frame, S: Ledger> SharedDesk<'a, R, M, S> {
     }
 }
 
+#[tactic(auto, using(crate::proofs::CountLemmas::makes_none, crate::proofs::CountLemmas::makes_lost))]
 impl<'a, R: Wait, M: Frame, S: Ledger> Desk for SharedDesk<'a, R, M, S> {
     ghost did = { λ s asks t. DeskDid (capacity_of s.shared.now) s.caller asks (capacity_of t.shared.now) t.caller };
 
     ghost slots = { λ s. slot_count M.terms.layout };
 
     ghost may_store = { λ s. nat_lt s.caller.counts.number M.terms.mutators };
+
+    ghost stored = { λ s slot target reply t.
+        StoresAt s.caller (card_of M.terms.layout slot) reply.fill reply.refined reply.short t.caller
+        × (log_of t.caller ≡ logged reply.kind (log_of s.caller) (card_of M.terms.layout slot)) };
+
+    ghost flushed = { λ s reply t. FlushesAt s.caller reply.fill reply.refined reply.short t.caller
+        × (reply.cards ≡ length (log_of s.caller).cards) };
+
+    ghost worked = { λ s reply t. RoundsAt s.shared.now M.terms.settings.start s.caller reply t.caller };
 
     fn store(&mut self, slot: Slot, target: Option<Slot>) -> Result<StoreReply, Refusal> {
         self.shared.store(self.rt, &mut self.caller, slot, target)

@@ -1,5 +1,7 @@
 -- Mutators as they begin, with one more.
 use Rattle.std.proofs.Common.{◌≡◌, ℕ, ◌+◌, List, [], ◌∷◌, ◌++◌, length, subst, sym, arith}
+use Rattle.std.specs.List.{All}
+use Rattle.std.proofs.lemmas.List.Elements.{All-nil, All-cons}
 use Rattle.g1_log.specs.declared.line.Line.{Line}
 use Rattle.g1_steps.specs.declared.steps.mutator.Mutator.{Mutator}
 use Rattle.g1_steps.specs.Opening.{IsNewMutator, AreNewMutators}
@@ -10,3 +12,8 @@ mutators_then line size k (x ∷ ms) m all new = let here : k + length (x ∷ ms
 
 pub mutators_more : (line : Line) (size k : ℕ) (ms now : List Mutator) (m : Mutator) → now ≡ ms ++ m ∷ [] → AreNewMutators line size k ms → IsNewMutator line size (k + length ms) m → AreNewMutators line size k now
 mutators_more line size k ms now m is all new = subst (AreNewMutators line size k) (sym is) (mutators_then line size k ms m all new)
+
+-- what holds of each mutator as it begins holds of all of them
+pub mutators_each : (line : Line) (size k : ℕ) (ms : List Mutator) (P : Mutator → Type 0) → ((n : ℕ) (m : Mutator) → IsNewMutator line size n m → P m) → AreNewMutators line size k ms → All P ms
+mutators_each line size k [] P each all = All-nil P
+mutators_each line size k (m ∷ ms) P each all = All-cons P m ms (each k m all.0) (mutators_each line size (k + 1) ms P each all.1)

@@ -10,8 +10,8 @@ use Rattle.g1_log.specs.declared.parcel.Parcel.{Parcel}
 use Rattle.g1_core.specs.declared.reply.RefineReply.{RefineReply}
 use Rattle.g1_book.specs.declared.refusal.Refusal.{Refusal}
 use Rattle.g1_steps.specs.Made.{Made, Refused}
-use Rattle.g1_steps.specs.Steps.{GainsAtMost}
-use Rattle.g1_steps.specs.Rounds.{Turn, turn_call, round_calls, IsRound, IsSumOf, IsRefused, replies_of, parcels_of, AreWholeButLast, FoundEmpty, Progress, IsNextOf, added}
+use Rattle.g1_steps.specs.Steps.{GainsAtMost, FoundEmpty}
+use Rattle.g1_steps.specs.Rounds.{Turn, turn_call, round_calls, IsRound, IsSumOf, IsRefused, replies_of, parcels_of, AreWholeButLast, Progress, IsNextOf, added}
 use Rattle.g1_steps.proofs.StepLemmas.{gains_nothing}
 
 -- A round so far: `calls` calls, all of them whole.

@@ -1,12 +1,12 @@
 -- What the steps add up to.
-use Rattle.std.proofs.Common.{◌≡◌, ◌+◌, ◌≤◌, ℕ, Bool, true, false, List, [], ◌∷◌, ◌++◌, Option, Some, None, refl, sym, subst, ap, ◌∙◌, arith, append_assoc, append-nil, length, length-append, map, if◌then◌else◌, nat_lt}
+use Rattle.std.proofs.Common.{◌≡◌, ◌+◌, ◌≤◌, ℕ, Bool, true, false, List, [], ◌∷◌, ◌++◌, Option, Some, None, refl, sym, subst, ap, ◌∙◌, inl, inr, arith, append_assoc, append-nil, length, length-append, map, if◌then◌else◌, nat_lt}
 use Rattle.g1_layout.specs.declared.kind.Kind.{Kind}
 use Rattle.g1_layout.specs.declared.kind.Kind.TheVariants.{SameRegion, Null, AlreadyDirty, Logged}
 use Rattle.g1_log.specs.declared.parcel.Parcel.{Parcel}
 use Rattle.g1_log.specs.Log.{Cards}
-use Rattle.std.specs.Prelude.{Result, Ok, Err, IfOk}
+use Rattle.std.specs.Prelude.{Result, Ok, Err, IfOk, IsNone, MatchOption}
 use Rattle.g1_log.specs.Line.{taken_by}
-use Rattle.g1_log.specs.Ends.{taker_view, WasOfLength}
+use Rattle.g1_log.specs.Ends.{taker_view, taken_of, WasOfLength, WasEmpty}
 use Rattle.g1_log.specs.declared.ends.Taker.{Taker}
 use Rattle.g1_core.specs.declared.reply.RefineReply.{RefineReply}
 use Rattle.g1_core.specs.Barrier.{buffer_of}
@@ -19,7 +19,7 @@ use Rattle.g1_book.specs.declared.refusal.Refusal.{Refusal}
 use Rattle.g1_steps.specs.Made.{Made, Stored, Refined, Refused, AreCalls, entries_of}
 use Rattle.g1_steps.specs.Lent.{Grows, IsBookCall}
 use Rattle.g1_steps.specs.Rounds.{Turn, round_calls, replies_of}
-use Rattle.g1_steps.specs.Steps.{Help, passed, filled, store_answer, GainsAtMost, IsTake, IsRefinement}
+use Rattle.g1_steps.specs.Steps.{Help, passed, filled, store_answer, GainsAtMost, Empties, IsTake, IsRefinement}
 
 handed_by : (filled : Bool) (cards buffer : List ℕ) → (if filled then None else Some cards) ≡ Some buffer → buffer ≡ cards
 handed_by true cards buffer is = cc
@@ -74,27 +74,44 @@ round_entries caller [] (Some refusal) = refl
 round_entries caller (t ∷ ts) None = ap (λ es. refine_entry caller t.reply ∷ es) (round_entries caller ts None)
 round_entries caller (t ∷ ts) (Some refusal) = ap (λ es. refine_entry caller t.reply ∷ es) (round_entries caller ts (Some refusal))
 
-pub gains_none : (xs : List Parcel) → GainsAtMost xs 0 xs
-gains_none xs = record { parcels = []; gained = sym (append-nil xs); few = omega arith }
-
-pub gains_one : (xs ys zs : List Parcel) (x : Parcel) (n : ℕ) → GainsAtMost xs n ys → zs ≡ ys ++ x ∷ [] → GainsAtMost xs (n + 1) zs
-gains_one xs ys zs x n h is = record {
-  parcels = h.parcels ++ x ∷ [];
-  gained = is ∙ ap (λ l. l ++ x ∷ []) h.gained ∙ append_assoc xs h.parcels (x ∷ []);
-  few = omega (arith, length-append h.parcels (x ∷ []), h.few);
-}
-
-pub gains_within : (xs ys zs : List Parcel) (n m : ℕ) → GainsAtMost xs n ys → zs ≡ ys → n ≤ m → GainsAtMost xs m zs
-gains_within xs ys zs n m h is less = record { parcels = h.parcels; gained = is ∙ h.gained; few = omega (arith, h.few) }
-
-pub gains_none_of : (xs ys : List Parcel) (n : ℕ) → ys ≡ xs → GainsAtMost xs n ys
-gains_none_of xs ys n is = record { parcels = []; gained = is ∙ sym (append-nil xs); few = omega arith }
-
 pub gains_nothing : (xs ys : List Parcel) → ys ≡ xs → GainsAtMost xs 1 ys
 gains_nothing xs ys is = record { parcels = []; gained = is ∙ sym (append-nil xs); few = omega arith }
 
 pub gains_single : (xs ys : List Parcel) (x : Parcel) → ys ≡ xs ++ x ∷ [] → GainsAtMost xs 1 ys
 gains_single xs ys x is = record { parcels = x ∷ []; gained = is; few = omega arith }
+
+-- A taker's list has gained just this many parcels.
+pub record GainsJust (old : List Parcel) (count : ℕ) (new : List Parcel) : Type 0 where
+  pub parcels : List Parcel
+  pub gained : new ≡ old ++ parcels
+  pub many : length parcels ≡ count
+
+pub gains_no_more : (xs : List Parcel) → GainsJust xs 0 xs
+gains_no_more xs = record { parcels = []; gained = sym (append-nil xs); many = refl }
+
+pub gains_one_more : (xs ys zs : List Parcel) (x : Parcel) (n : ℕ) → GainsJust xs n ys → zs ≡ ys ++ x ∷ [] → GainsJust xs (n + 1) zs
+gains_one_more xs ys zs x n h is = record {
+  parcels = h.parcels ++ x ∷ [];
+  gained = is ∙ ap (λ l. l ++ x ∷ []) h.gained ∙ append_assoc xs h.parcels (x ∷ []);
+  many = omega (arith, length-append h.parcels (x ∷ []), h.many);
+}
+
+-- a taker that took as many as the line holds, or found it empty, has emptied it
+pub empties_full : (xs ys : List Parcel) (n most : ℕ) → GainsJust xs n ys → n ≡ most → Empties xs most ys
+empties_full xs ys n most h is = record { parcels = h.parcels; gained = h.gained; few = omega (arith, h.many, is); ends = inl (h.many ∙ is) }
+
+pub empties_found : (xs ys zs : List Parcel) (taker : Taker) (n most : ℕ) → GainsJust xs n ys → n ≤ most → taken_of taker ≡ ys → WasEmpty taker → zs ≡ ys → Empties xs most zs
+empties_found xs ys zs taker n most h less has empty is = record {
+  parcels = h.parcels;
+  gained = is ∙ h.gained;
+  few = omega (arith, h.many, less);
+  ends = inr (record { taker = taker; has = has ∙ sym is; empty = empty });
+}
+
+-- a take that gave nothing
+pub took_none : (r : Option Parcel) (P : Type 0) (Q : Parcel → Type 0) → IsNone r → MatchOption r P Q → P
+took_none None P Q none h = h
+took_none (Some x) P Q none h = absurd (cc none)
 
 -- a taker that knows as much takes as the other does
 take_from : (a b : Taker) (parcel : Option Parcel) (c : Taker) → taker_view b ≡ taker_view a → IsTake b parcel c → IsTake a parcel c

@@ -3,13 +3,13 @@ use Rattle.std.specs.Prelude.{◌≡◌, ◌≤◌, ◌+◌, ◌-◌, ◌/◌, �
 use Rattle.std.specs.List.{flat_map}
 use Rattle.g1_log.specs.declared.ends.Taker.{Taker}
 use Rattle.g1_log.specs.declared.parcel.Parcel.{Parcel}
-use Rattle.g1_log.specs.Ends.{taken_of, WasEmpty}
+use Rattle.g1_log.specs.Ends.{taken_of}
 use Rattle.g1_core.specs.declared.reply.RefineReply.{RefineReply}
 use Rattle.g1_book.specs.declared.refusal.Refusal.{Refusal}
 use Rattle.g1_book.specs.declared.refusal.Refusal.TheVariants.{NoMemory}
 use Rattle.g1_steps.specs.declared.steps.refiner.Sums.{Sums}
 use Rattle.g1_steps.specs.Made.{Made, Refined, Refused}
-use Rattle.g1_steps.specs.Steps.{GainsAtMost}
+use Rattle.g1_steps.specs.Steps.{GainsAtMost, FoundEmpty}
 
 -- how many calls a round makes at most, where it begins at `start` completed buffers and sees `seen`
 abbrev pub round_size : ℕ → ℕ → ℕ
@@ -47,12 +47,6 @@ pub record IsSumOf (replies : List RefineReply) (reply : RefineReply) : Type 0 w
   pub hot : reply.hot ≡ sum_by (λ r. r.hot) replies
   pub skipped : reply.skipped ≡ sum_by (λ r. r.skipped) replies
   pub whole : reply.short ≡ false → All (λ r. r.short ≡ false) replies
-
--- A taker that had taken these parcels found the queue empty at some moment.
-pub record FoundEmpty (taken : List Parcel) : Type 0 where
-  pub taker : Taker
-  pub has : taken_of taker ≡ taken
-  pub empty : WasEmpty taker
 
 -- The next call was refused: room for its cards, before a buffer was taken, or the call itself, whose buffer is given up.
 abbrev pub IsRefused : {S : Type 0} → (S → List Made → S → Type 0) → S → Refusal → S → Type 0

@@ -112,6 +112,19 @@ pub record GainsAtMost (old : List Parcel) (most : ℕ) (new : List Parcel) : Ty
   pub gained : new ≡ old ++ parcels
   pub few : length parcels ≤ most
 
+-- A taker that had taken these parcels found the queue empty at some moment.
+pub record FoundEmpty (taken : List Parcel) : Type 0 where
+  pub taker : Taker
+  pub has : taken_of taker ≡ taken
+  pub empty : WasEmpty taker
+
+-- A taker emptied a line of at most `most` parcels: it took as many as that, or fewer, and then it found the queue empty.
+pub record Empties (old : List Parcel) (most : ℕ) (new : List Parcel) : Type 0 where
+  pub parcels : List Parcel
+  pub gained : new ≡ old ++ parcels
+  pub few : length parcels ≤ most
+  pub ends : (length parcels ≡ most) ⊎ FoundEmpty new
+
 -- A mutator at a pause: its log was emptied.
 pub record IsStopped (old new : Mutator) : Type 0 where
   pub log : new.log ≡ record { size = old.log.size; cards = [] }

@@ -1,5 +1,8 @@
 //! What workers do, and where.
-ghost use Rattle.std.specs.Prelude.{◌≡◌, ℕ, ◌<◌, [], ◌∷◌, ◌++◌, List, Bool, true, IfSome, OnErr, OnOk};
+ghost use Rattle.std.specs.Prelude.{◌≡◌, ℕ, ◌<◌, [], ◌∷◌, ◌++◌, List, Bool, true, IfSome, IfOk, OnErr, OnOk, Option};
+ghost use Rattle.g1_core.specs.declared.reply.StoreReply.{StoreReply as Stored};
+ghost use Rattle.g1_core.specs.declared.reply.RefineReply.{RefineReply as Worked};
+ghost use Rattle.g1_steps.specs.declared.steps.mutator.FlushReply.{FlushReply as Flushed};
 ghost use Rattle.g1_steps.specs.Ask.{Ask, AskStore, AskFlush, AskWork};
 
 use crate::steps::FlushReply;
@@ -43,12 +46,20 @@ pub trait Desk {
     /// Whether its caller is a mutator.
     ghost may_store: { Self → Bool };
 
+    /// What the answers of a store, a flush and a round tell of the desk before and after the call.
+    ghost stored: { Self → ℕ → Option ℕ → Stored → Self → Type 0 } = { λ _ _ _ _ _. Unit {0} };
+
+    ghost flushed: { Self → Flushed → Self → Type 0 } = { λ _ _ _. Unit {0} };
+
+    ghost worked: { Self → Worked → Self → Type 0 } = { λ _ _ _. Unit {0} };
+
     /// Stores a reference, or null.
     fn store(&mut self, slot: Slot, target: Option<Slot>) -> Result<StoreReply, Refusal>
         requires mutator { may_store self.old ≡ true }
         requires slot { slot < slots self.old }
         requires target { IfSome target (λ place. place < slots self.old) }
         ensures ok { OnOk result (did self.old (AskStore slot target ∷ []) self.new) }
+        ensures reply { IfOk result (λ reply. stored self.old slot target reply self.new) }
         ensures err { OnErr result (did self.old [] self.new) }
         ensures same { (slots self.new ≡ slots self.old) × (may_store self.new ≡ may_store self.old) };
 
@@ -56,12 +67,14 @@ pub trait Desk {
     fn flush(&mut self) -> Result<FlushReply, Refusal>
         requires { may_store self.old ≡ true }
         ensures ok { OnOk result (did self.old (AskFlush ∷ []) self.new) }
+        ensures reply { IfOk result (λ reply. flushed self.old reply self.new) }
         ensures err { OnErr result (did self.old [] self.new) }
         ensures same { (slots self.new ≡ slots self.old) × (may_store self.new ≡ may_store self.old) };
 
     /// Makes a round of refinement.
     fn work(&mut self) -> Result<RefineReply, Refusal>
         ensures ok { OnOk result (did self.old (AskWork ∷ []) self.new) }
+        ensures reply { IfOk result (λ reply. worked self.old reply self.new) }
         ensures err { OnErr result (did self.old [] self.new) }
         ensures same { (slots self.new ≡ slots self.old) × (may_store self.new ≡ may_store self.old) };
 

@@ -1,9 +1,11 @@
 //! A desk that shares what it works on with nobody.
-ghost use Rattle.std.specs.Prelude.{◌≡◌, Some, [], refl};
+ghost use Rattle.std.specs.Prelude.{◌≡◌, ◌≤◌, ◌++◌, ◌∷◌, ℕ, Some, [], refl};
 ghost use Rattle.std.proofs.Common.{◌∙◌};
 ghost use Rattle.std.proofs.Props.{props};
-ghost use Rattle.g1_layout.specs.Shape.{slot_count};
-ghost use Rattle.g1_log.specs.Ends.{IsSenderOf, IsTakerOf};
+ghost use Rattle.g1_layout.specs.Shape.{slot_count, card_of};
+ghost use Rattle.g1_log.specs.Ends.{IsSenderOf, IsTakerOf, capacity_of, taken_of};
+ghost use Rattle.g1_steps.specs.Steps.{IsStored, IsFlushed};
+ghost use Rattle.g1_steps.specs.Rounds.{IsRound, round_size};
 ghost use Rattle.g1_steps.specs.Marks.{mutator_mark, taker_mark};
 ghost use Rattle.g1_steps.specs.Served.{HasServed, served_then};
 
@@ -46,6 +48,7 @@ impl<'a, R, C> LocalDesk<'a, R, C> {
         ensures calls { result.calls ≡ calls }
         ensures mutator { result.mutator ≡ mutator }
         ensures taker { result.taker ≡ taker }
+        ensures start { result.start ≡ start }
     {
         LocalDesk {
             rt,
@@ -77,11 +80,21 @@ impl<'a, R, C> LocalDesk<'a, R, C> {
 }
 
 impl<'a, R: Wait, C: Calls> Desk for LocalDesk<'a, R, C> {
-    ghost did = { λ s asks t. HasServed C.did s.calls asks t.calls × (mutator_mark (Some t.mutator) ≡ mutator_mark (Some s.mutator)) × (taker_mark t.taker ≡ taker_mark s.taker) };
+    ghost did = { λ s asks t. HasServed C.did s.calls asks t.calls
+        × (mutator_mark (Some t.mutator) ≡ mutator_mark (Some s.mutator))
+        × (taker_mark t.taker ≡ taker_mark s.taker) × (t.start ≡ s.start) };
 
     ghost slots = { λ s. slot_count (C.layout s.calls) };
 
     ghost may_store = { λ s. C.may_store s.calls };
+
+    ghost stored = { λ s slot target reply t.
+        IsStored C.did s.calls slot target (s.mutator.log.cards ++ card_of (C.layout s.calls) slot ∷ []) reply t.calls };
+
+    ghost flushed = { λ s reply t. IsFlushed C.did s.calls s.mutator.log.cards reply t.calls };
+
+    ghost worked = { λ s reply t. (seen : ℕ) × (seen ≤ capacity_of s.line.now)
+        × IsRound C.did s.calls (taken_of s.taker) (round_size s.start seen) reply (taken_of t.taker) t.calls };
 
     fn store(&mut self, slot: Slot, target: Option<Slot>) -> Result<StoreReply, Refusal> {
         let reply = self
@@ -105,7 +118,7 @@ impl<'a, R: Wait, C: Calls> Desk for LocalDesk<'a, R, C> {
         Ok(reply)
     }
 
-    ghost none = { λ s. (record { calls = []; made = C.none s.calls; serves = refl }, refl, refl) };
+    ghost none = { λ s. (record { calls = []; made = C.none s.calls; serves = refl }, refl, refl, refl) };
 
-    ghost then = { λ s t u xs ys p q. (served_then C.did C.then s.calls t.calls u.calls xs ys p.0 q.0, q.1 ∙ p.1, q.2 ∙ p.2) };
+    ghost then = { λ s t u xs ys p q. (served_then C.did C.then s.calls t.calls u.calls xs ys p.0 q.0, q.1 ∙ p.1, q.2 ∙ p.2, q.3 ∙ p.3) };
 }

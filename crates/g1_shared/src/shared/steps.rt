@@ -1,10 +1,13 @@
 //! The steps of a caller over the locked book, and the pause.
-ghost use Rattle.std.specs.Prelude.{◌≡◌, ℕ, ◌+◌, ◌*◌, ◌<◌, ◌≤◌, ◌↔◌, ◌++◌, ◌∷◌, [], length, IfOk, OnErr, OnOk, IfSome, IsNone, All, slice_index_or};
+ghost use Rattle.std.specs.Prelude.{◌≡◌, ℕ, ◌+◌, ◌*◌, ◌<◌, ◌≤◌, ◌↔◌, ◌++◌, ◌∷◌, [], length, IfOk, OnErr, OnOk, IfSome, IsNone, All, slice_index_or, true, false};
 ghost use Rattle.g1_layout.specs.Shape.{slot_count, card_of};
 ghost use Rattle.g1_log.specs.declared.parcel.Parcel.{Parcel as P};
 ghost use Rattle.g1_log.specs.Ends.{capacity_of, taken_of, IsTakerOf, IsSameTaker};
+ghost use Rattle.g1_steps.specs.Steps.{GainsAtMost, Empties, MayRefuse};
+ghost use Rattle.g1_steps.specs.Rounds.{IsRound, round_size};
 ghost use Rattle.g1_core.specs.Barrier.{logged, buffer_of};
-ghost use Rattle.g1_shared.specs.Callers.{Standing, mark_of, IsCallerOf, log_of, taken_list, StoresAt, FlushesAt, GainsAtLeast, IsPaused};
+ghost use Rattle.g1_shared.specs.Counts.{CountsDid};
+ghost use Rattle.g1_shared.specs.Callers.{Standing, mark_of, IsCallerOf, log_of, taken_list, StoresAt, FlushesAt, RefinesAt, RoundsAt, IsPaused};
 
 use crate::caller::{Caller, Counts};
 use crate::ledgers::Frame;
@@ -40,6 +43,8 @@ impl<M: Frame, S: Ledger> Shared<M, S> {
         ensures taker { caller.new.taker ≡ caller.old.taker }
         ensures log { IfOk result (λ reply. log_of caller.new ≡ logged reply.kind (log_of caller.old) (card_of M.terms.layout slot)) }
         ensures fill { IfOk result (λ reply. (reply.fill ≡ Fill.No) ↔ IsNone (buffer_of reply.kind (log_of caller.old) (card_of M.terms.layout slot))) }
+        ensures helped { IfOk result (λ reply.
+            reply.fill ≡ Fill.Helped → IfSome caller.old.mutator (λ m. MayRefuse self.now m.sender)) }
         ensures ok { IfOk result (λ reply. StoresAt caller.old (card_of M.terms.layout slot) reply.fill reply.refined reply.short caller.new) }
         ensures err { OnErr result (caller.new ≡ caller.old) }
     {
@@ -63,6 +68,8 @@ impl<M: Frame, S: Ledger> Shared<M, S> {
         ensures mark { mark_of caller.new ≡ mark_of caller.old }
         ensures stored { caller.new.counts.stored ≡ caller.old.counts.stored }
         ensures taker { caller.new.taker ≡ caller.old.taker }
+        ensures helped { result.fill ≡ Fill.Helped → IfSome caller.old.mutator (λ m. MayRefuse self.now m.sender) }
+        ensures some { result.fill ≡ Fill.Full → 1 ≤ result.cards }
         ensures flushed { FlushesAt caller.old result.fill result.refined result.short caller.new }
         ensures cards { result.cards ≡ length (log_of caller.old).cards }
         ensures empty { (log_of caller.new).cards ≡ [] }
@@ -92,6 +99,8 @@ impl<M: Frame, S: Ledger> Shared<M, S> {
         ensures err { OnErr result (caller.new.counts ≡ caller.old.counts) }
         ensures numbers { IfOk result (λ reply. (reply.taken ≤ 1) × (length reply.refined + reply.skipped ≤ 256) × (reply.hot ≤ 256) × (reply.left ≤ capacity_of self.now)) }
         ensures taken { IfOk result (λ reply. reply.taken ≡ 1 → (x : P) × (taken_list caller.new ≡ taken_list caller.old ++ x ∷ [])) }
+        ensures refined { IfOk result (λ reply. RefinesAt caller.old reply caller.new) }
+        ensures gained { GainsAtMost (taken_list caller.old) 1 (taken_list caller.new) }
     {
         let mut calls = LockedBook {
             rt,
@@ -111,9 +120,10 @@ impl<M: Frame, S: Ledger> Shared<M, S> {
         ensures mark { mark_of caller.new ≡ mark_of caller.old }
         ensures stored { caller.new.counts.stored ≡ caller.old.counts.stored }
         ensures mutator { caller.new.mutator ≡ caller.old.mutator }
+        ensures round { IfOk result (λ reply. RoundsAt self.now M.terms.settings.start caller.old reply caller.new) }
+        ensures given_up { OnErr result (GainsAtMost (taken_list caller.old) 1 (taken_list caller.new)) }
         ensures made { (caller.old.counts.made ≤ caller.new.counts.made) × (caller.new.counts.made ≤ caller.old.counts.made + capacity_of self.now) }
         ensures err { OnErr result (caller.new.counts ≡ caller.old.counts) }
-        ensures taken { IfOk result (λ reply. GainsAtLeast (taken_list caller.old) reply.taken (taken_list caller.new)) }
         ensures numbers { IfOk result (λ reply. (reply.taken ≤ capacity_of self.now) × (length reply.refined + reply.skipped ≤ 256 * capacity_of self.now) × (reply.hot ≤ 256 * capacity_of self.now) × (reply.left ≤ capacity_of self.now)) }
     {
         self.work_by(rt, &mut caller.counts, &mut caller.taker)
@@ -128,10 +138,12 @@ impl<M: Frame, S: Ledger> Shared<M, S> {
     ) -> Result<RefineReply, Refusal>
         requires taker { IsTakerOf self.now taker.old }
         ensures kept { (counts.new.number ≡ counts.old.number) × (counts.new.stored ≡ counts.old.stored) }
+        ensures round { IfOk result (λ reply. (seen : ℕ) × (seen ≤ capacity_of self.now)
+            × IsRound CountsDid counts.old (taken_of taker.old) (round_size M.terms.settings.start seen) reply (taken_of taker.new) counts.new) }
+        ensures given_up { OnErr result (GainsAtMost (taken_of taker.old) 1 (taken_of taker.new)) }
         ensures made { (counts.old.made ≤ counts.new.made) × (counts.new.made ≤ counts.old.made + capacity_of self.now) }
         ensures same { IsSameTaker taker.new taker.old }
         ensures err { OnErr result (counts.new ≡ counts.old) }
-        ensures taken { IfOk result (λ reply. GainsAtLeast (taken_of taker.old) reply.taken (taken_of taker.new)) }
         ensures numbers { IfOk result (λ reply. (reply.taken ≤ capacity_of self.now) × (length reply.refined + reply.skipped ≤ 256 * capacity_of self.now) × (reply.hot ≤ 256 * capacity_of self.now) × (reply.left ≤ capacity_of self.now)) }
     {
         let mut calls = LockedBook {
@@ -145,12 +157,17 @@ impl<M: Frame, S: Ledger> Shared<M, S> {
     }
 
     /// What a pause does once the mutators stand still: it empties the logs of the callers that are lent, and the line by
-    /// the taker of the first. It makes no call, so the cards stay pending and a drain finds each of them.
+    /// the taker of the first (`empty_line`). It makes no call, so the cards stay pending and a drain finds each of them.
     ///
     /// Lent no caller it does nothing. It takes no lock and no memory.
     pub fn pause<R: Wait>(&self, rt: &R, callers: &mut [Caller<M, S>])
         requires mine { All (IsCallerOf self.now) callers.old }
-        ensures { (k : ℕ) (d : Standing) → k < length callers.old → IsPaused (capacity_of self.now) (slice_index_or callers.old k d) (slice_index_or callers.new k d) }
+        ensures paused { (k : ℕ) (d : Standing) → k < length callers.old
+            → IsPaused (slice_index_or callers.old k d) (slice_index_or callers.new k d) }
+        ensures first { (d : Standing) → 0 < length callers.old
+            → Empties (taken_list (slice_index_or callers.old 0 d)) (capacity_of self.now) (taken_list (slice_index_or callers.new 0 d)) }
+        ensures others { (k : ℕ) (d : Standing) → 1 ≤ k → k < length callers.old
+            → (slice_index_or callers.new k d).taker ≡ (slice_index_or callers.old k d).taker }
     {
         for at in 0..callers.len() {
             self.pause_one(rt, &mut callers[at], at == 0);
@@ -158,10 +175,12 @@ impl<M: Frame, S: Ledger> Shared<M, S> {
     }
 
     /// Empties the caller's log and, where it takes, the line.
-    #[tactic(auto, using(g1_steps::proofs::StepLemmas::gains_none_of))]
     fn pause_one<R: Wait>(&self, rt: &R, caller: &mut Caller<M, S>, takes: bool)
         requires mine { IsCallerOf self.now caller.old }
-        ensures { IsPaused (capacity_of self.now) caller.old caller.new }
+        ensures paused { IsPaused caller.old caller.new }
+        ensures emptied { takes ≡ true
+            → Empties (taken_list caller.old) (capacity_of self.now) (taken_list caller.new) }
+        ensures kept { takes ≡ false → caller.new.taker ≡ caller.old.taker }
     {
         if takes {
             empty_line(rt, &self.line, &mut caller.taker);

@@ -1,20 +1,20 @@
 //! What a pause does once the mutators stand still: it empties their logs and the line.
-ghost use Rattle.std.specs.Prelude.{◌≡◌, ℕ, ◌<◌, ◌≤◌, ◌++◌, ◌∷◌, [], length, slice_index_or, MatchOption};
-ghost use Rattle.g1_log.specs.Ends.{IsTakerOf, IsSameTaker, taken_of, capacity_of};
-ghost use Rattle.g1_steps.specs.Steps.{GainsAtMost, IsStopped};
+ghost use Rattle.std.specs.Prelude.{◌≡◌, ℕ, ◌<◌, ◌++◌, ◌∷◌, [], length, slice_index_or, MatchOption};
+ghost use Rattle.g1_log.specs.Ends.{IsTakerOf, IsSameTaker, taken_of, capacity_of, WasEmpty};
+ghost use Rattle.g1_steps.specs.Steps.{Empties, IsStopped};
 ghost use Rattle.g1_steps.specs.declared.steps.mutator.Mutator.{Mutator as M};
 
 use crate::steps::Mutator;
-use crate::steps::refiner::completed;
 use g1_log::{Line, Parcel, Taker};
 use std::sync::Wait;
 
-/// Empties the logs of mutators that stand still, and the line by this taker. It makes no call, so the cards stay pending
-/// and a drain finds each of them (docs/PROFILE.md, The steps of a caller).
+/// Empties the logs of mutators that stand still, and the line by this taker (`empty_line`). It makes no call, so the cards
+/// stay pending and a drain finds each of them (docs/PROFILE.md, The steps of a caller).
 pub fn stand_still<R: Wait>(rt: &R, line: &Line, taker: &mut Taker, mutators: &mut [Mutator])
     requires taker { IsTakerOf line.now taker.old }
-    ensures stopped { (k : ℕ) (d : M) → k < length mutators.old → IsStopped (slice_index_or mutators.old k d) (slice_index_or mutators.new k d) }
-    ensures taken { GainsAtMost (taken_of taker.old) (capacity_of line.now) (taken_of taker.new) }
+    ensures stopped { (k : ℕ) (d : M) → k < length mutators.old
+        → IsStopped (slice_index_or mutators.old k d) (slice_index_or mutators.new k d) }
+    ensures emptied { Empties (taken_of taker.old) (capacity_of line.now) (taken_of taker.new) }
     ensures same { IsSameTaker taker.new taker.old }
 {
     for at in 0..mutators.len() {
@@ -23,16 +23,17 @@ pub fn stand_still<R: Wait>(rt: &R, line: &Line, taker: &mut Taker, mutators: &m
     empty_line(rt, line, taker);
 }
 
-/// Takes what the line has, at most as many buffers as it holds, and gives it up. It makes no call, so the cards stay
-/// pending.
-#[tactic(auto, using(crate::proofs::StepLemmas::gains_none, crate::proofs::StepLemmas::gains_one, crate::proofs::StepLemmas::gains_within))]
+/// Takes buffers from the line until it is seen empty, at most as many as it holds, and gives them up. It makes no call,
+/// so the cards stay pending.
+///
+/// Where nobody puts meanwhile, the line is empty then.
+#[tactic(auto, using(crate::proofs::StepLemmas::gains_no_more, crate::proofs::StepLemmas::gains_one_more, crate::proofs::StepLemmas::empties_full, crate::proofs::StepLemmas::empties_found))]
 pub fn empty_line<R: Wait>(rt: &R, line: &Line, taker: &mut Taker)
     requires taker { IsTakerOf line.now taker.old }
-    ensures taken { GainsAtMost (taken_of taker.old) (capacity_of line.now) (taken_of taker.new) }
+    ensures emptied { Empties (taken_of taker.old) (capacity_of line.now) (taken_of taker.new) }
     ensures same { IsSameTaker taker.new taker.old }
 {
-    let most = completed(rt, line);
-    for turn in 0..most {
+    for turn in 0..line.capacity() {
         let _turn = turn;
         if take(rt, line, taker).is_none() {
             return;
@@ -43,7 +44,8 @@ pub fn empty_line<R: Wait>(rt: &R, line: &Line, taker: &mut Taker)
 // A take, of which the loop above needs no more.
 fn take<R: Wait>(rt: &R, line: &Line, taker: &mut Taker) -> Option<Parcel>
     requires taker { IsTakerOf line.now taker.old }
-    ensures taken { MatchOption result (taken_of taker.new ≡ taken_of taker.old) (λ x. taken_of taker.new ≡ taken_of taker.old ++ x ∷ []) }
+    ensures taken { MatchOption result ((taken_of taker.new ≡ taken_of taker.old) × WasEmpty taker.old)
+        (λ x. taken_of taker.new ≡ taken_of taker.old ++ x ∷ []) }
     ensures same { IsSameTaker taker.new taker.old }
 {
     line.take(rt, taker)

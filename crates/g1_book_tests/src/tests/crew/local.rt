@@ -22,13 +22,14 @@ fn plain_book(rt: &impl Abort, alloc: Global, history: usize) -> Result<Book, No
     Book::open(alloc, layout, Config::default(), 1, history)
 }
 
-/// The desk of caller 0 at the book.
+/// The desk of caller 0 at the book, whose rounds begin at `start` completed buffers.
 fn desk_at<'a, R>(
     rt: &'a R,
     line: &'a Line,
     book: &'a mut Book,
     mutator: Mutator,
     taker: Taker,
+    start: usize,
 ) -> LocalDesk<'a, R, LentBook<'a>>
     requires one { book.old.mutators ≡ 1 }
     requires sender { IsSenderOf line.now mutator.sender }
@@ -36,7 +37,6 @@ fn desk_at<'a, R>(
     ensures may { nat_lt result.calls.caller result.calls.book.now.mutators ≡ true }
     ensures layout { layout_in result.calls.book.now ≡ layout_in book.old }
 {
-    let start = book.config().start();
     LocalDesk::new(rt, line, LentBook::new(book, 0), mutator, taker, start)
 }
 
@@ -45,12 +45,39 @@ fn desk_at<'a, R>(
 fn a_desk_stores_flushes_and_begins_no_round(rt: HostRuntime) -> Result<(), Fail> {
     let mut book = plain_book(&rt, rt.alloc(), 10)?;
     let layout = book.layout();
-    let (line, mutator, taker) = ends(&rt, rt.alloc(), book.config())?;
-    let mut desk = desk_at(&rt, &line, &mut book, mutator, taker);
+    let config = book.config();
+    let (line, mutator, taker) = ends(&rt, rt.alloc(), config)?;
+    let mut desk = desk_at(&rt, &line, &mut book, mutator, taker, config.start());
     let (from, to) = (slot_in(&rt, layout, 0), slot_in(&rt, layout, 8));
     assert_stored(&rt, &desk.store(from, Some(to))?, Fill::No, &[]);
     assert_flushed(&rt, &desk.flush()?, 1, Fill::Full, &[]);
     assert_round(&rt, &desk.work()?, whole(0, &[], 1));
+    Ok(())
+}
+
+/// At a desk whose rounds begin at two buffers, two begin a round, which leaves none.
+#[test]
+fn a_desk_begins_a_round_at_its_start(rt: HostRuntime) -> Result<(), Fail> {
+    let mut book = plain_book(&rt, rt.alloc(), 10)?;
+    let layout = book.layout();
+    let (line, mutator, taker) = ends(&rt, rt.alloc(), book.config())?;
+    let mut desk = desk_at(&rt, &line, &mut book, mutator, taker, 2);
+    let to = slot_in(&rt, layout, 24);
+    assert_stored(
+        &rt,
+        &desk.store(slot_in(&rt, layout, 0), Some(to))?,
+        Fill::No,
+        &[],
+    );
+    assert_flushed(&rt, &desk.flush()?, 1, Fill::Full, &[]);
+    assert_stored(
+        &rt,
+        &desk.store(slot_in(&rt, layout, 4), Some(to))?,
+        Fill::No,
+        &[],
+    );
+    assert_flushed(&rt, &desk.flush()?, 1, Fill::Full, &[]);
+    assert_round(&rt, &desk.work()?, whole(2, &[0, 1], 0));
     Ok(())
 }
 
@@ -64,8 +91,9 @@ fn worked<R: Abort + Wait>(
     requires { book.old.mutators ≡ 1 }
 {
     let steps = steps_of(rt, alloc, book.layout(), wishes)?;
-    let (line, mutator, taker) = ends(rt, alloc, book.config())?;
-    let mut desk = desk_at(rt, &line, book, mutator, taker);
+    let config = book.config();
+    let (line, mutator, taker) = ends(rt, alloc, config)?;
+    let mut desk = desk_at(rt, &line, book, mutator, taker, config.start());
     let made = mutate(&mut desk, steps.as_slice());
     Ok((made, refiner(&mut desk, 3)))
 }

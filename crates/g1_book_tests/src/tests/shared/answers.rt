@@ -68,6 +68,18 @@ fn shared_work(rt: HostRuntime) -> Result<(), Fail> {
     Ok(())
 }
 
+/// A round begins where the settings of the book say: here at two buffers, and it leaves none.
+#[test]
+fn a_shared_round_begins_at_the_start_of_its_book(rt: HostRuntime) -> Result<(), Fail> {
+    let layout = Layout::new(4, 2, 4).expect(&rt, "a layout within the limits");
+    let config = Config::new(1, 10, 4, 4, 2).expect(&rt, "settings within the limits");
+    let book = Book::open(rt.alloc(), layout, config, 2, 10)?;
+    let steps = [(0, Completed(2)), (0, Work(whole(2, &[0, 1], 0)))];
+    let book = played(&rt, rt.alloc(), book, 2, &steps.as_slice())?;
+    assert_eq!(rt; book.entries().len(), 4);
+    Ok(())
+}
+
 /// A redirect moves the one reference into region 1 to the same offset of region 3.
 #[test]
 fn a_shared_redirect_moves_references(rt: HostRuntime) -> Result<(), Fail> {

@@ -1,7 +1,9 @@
-use Rattle.std.proofs.Common.{rules, arith, ◌≤◌, ap, subst, sym, length}
-use Rattle.g1_log.specs.Ends.{capacity_of}
-use Rattle.g1_steps.specs.Rounds.{round_size}
-use Rattle.g1_shared.proofs.CountLemmas.{IsWorked, round_counted, size_within, round_gains}
+use Rattle.std.proofs.Common.{rules, arith, ◌≡◌, ◌≤◌, ap, subst, sym, length}
+use Rattle.g1_log.specs.Ends.{capacity_of, taken_of}
+use Rattle.g1_steps.specs.Rounds.{IsRound, round_size}
+use Rattle.g1_shared.specs.Counts.{Tally, CountsDid}
+use Rattle.g1_shared.proofs.CountLemmas.{IsWorked, round_counted, size_within}
+use Rattle.g1_shared.proofs.DeskLemmas.{rounds_as}
 use Rattle.g1_shared.proofs.shared.Shared.work_by.Goals as goal
 
 pub returns-clause-kept : goal.returns-clause-kept
@@ -23,5 +25,12 @@ returns-clause-made g c =
     let few : length round.turns ≤ capacity_of c.args.self.now = omega (arith, within, size_within c.self.inside.start seen, fits, ap capacity_of c.self.view_is) in
     (search rules, search rules)
 
-pub returns-clause-taken : goal.returns-clause-taken
-returns-clause-taken g c = round_gains _ _ _ _ _ _ _ c.in_ok-reply.ensures.round.2
+pub returns-clause-round : goal.returns-clause-round
+returns-clause-round g c =
+    let round = c.in_ok-reply.ensures.round in
+    let given : c.work.new.calls.counts.now ≡ c.counts-1.given.0 = search rules in
+    let P : Tally → Type 0 = λ counts. IsRound CountsDid c.args.counts.now (taken_of c.args.taker.now) (round_size g.M.Frame.terms.settings.start round.0) c.in_ok-reply.reply (taken_of c.work.new.taker) counts in (
+      round.0,
+      subst (λ l. round.0 ≤ capacity_of l) c.self.view_is round.1,
+      subst P given (rounds_as _ CountsDid _ _ _ _ _ _ _ _ _ round.0 c.self.invariant (λ calls h. h.1) round.2),
+    )
