@@ -1,5 +1,6 @@
 -- A race over nulls begins with the opening table.
-use Rattle.std.proofs.Common.{◌≡◌, ℕ, zero, suc, ◌+◌, ◌≤◌, arith, eqb, List, [], ◌∷◌, map, take, drop, Bool, true, false, Option, Some, None, Result, Ok, Err, refl, sym, ap, ◌∙◌, replicate}
+use Rattle.std.proofs.Common.{◌≡◌, ℕ, zero, suc, ◌+◌, ◌≤◌, arith, eqb, List, [], ◌∷◌, map, take, drop, Option, None, Result, Ok, Err, refl, ap, ◌∙◌, replicate, reverse, ◌++◌}
+use Rattle.std.proofs.lemmas.List.{reverse-append}
 use Rattle.std.specs.Prelude.{IfOk}
 use Rattle.std.specs.FinSet as set
 use Rattle.g1_heap.specs.declared.mark.Mark.{Mark}
@@ -10,8 +11,12 @@ use Rattle.g1_core.specs.Table.{opening}
 use Rattle.g1_core.specs.Machine.{pending_of}
 use Rattle.g1_core.proofs.OpeningLemmas.{none_pending}
 use Rattle.g1_core.specs.Adoption.{marks_for}
-use Rattle.g1_race.specs.Over.{target_of, marks_of, refs_of, table_of}
-use Rattle.g1_race.proofs.AtBeginning.{zeros}
+use Rattle.g1_race.specs.Over.{target_of, ended, table_of}
+use Rattle.g1_race.specs.declared.view.Shape.{Shape}
+use Rattle.g1_race.specs.Race.{HasBit, beginning, bit_word, front, null_of, pairs_of_card, pairs_up_to, shape_of}
+use Rattle.g1_race.specs.Members.{null_begun}
+use Rattle.g1_race.proofs.Listing.{pair_clear}
+use Rattle.g1_race.proofs.AtBeginning.{zeros, no_bit, zeros_read}
 
 pub both_ok : {A E : Type 0} {P Q R : A → Type 0} (x : Result A E) → IfOk x P → IfOk x Q → ((a : A) → P a → Q a → R a) → IfOk x R
 both_ok (Ok a) p q f = f a p q
@@ -31,8 +36,45 @@ clean_marks zero m count e = ap (λ (k : ℕ). marks_for (map (λ x. eqb x 1) (z
 clean_marks (suc n) m zero e = absurd (omega arith)
 clean_marks (suc n) m (suc count) e = clean_marks n m count (omega arith)
 
-pub opening_table : (l : layout.Shape) → table_of (record { layout = l; words = zeros (slot_count l + card_count l); pairs = [] }) ≡ opening l
-opening_table l =
+front_zeros : (n count : ℕ) → n ≤ count → take n (zeros count) ≡ zeros n
+front_zeros zero count le = refl
+front_zeros (suc n) zero le = absurd (omega arith)
+front_zeros (suc n) (suc count) le = ap (λ (l : List ℕ). 0 ∷ l) (front_zeros n count (omega arith))
+
+no_pair : (k : Shape) (n : ℕ) (x : ℕ × ℕ) → HasBit k (zeros n) x → ⊥
+no_pair k n x b = no_bit k (zeros n) x (zeros_read n (bit_word k x)) b
+
+no_pairs_of : (k : Shape) (n c r : ℕ) → pairs_of_card k (zeros n) c r ≡ []
+no_pairs_of k n c zero = refl
+no_pairs_of k n c (suc r) = λ i. no_pairs_of k n c r i ++ pair_clear k (zeros n) (c, r) (no_pair k n (c, r)) i
+
+no_pairs : (k : Shape) (n c : ℕ) → pairs_up_to k (zeros n) c ≡ []
+no_pairs k n zero = refl
+no_pairs k n (suc c) = λ i. no_pairs k n c i ++ no_pairs_of k n c k.regions i
+
+table_at : (l : layout.Shape) → table_of (record { layout = l; words = zeros (slot_count l + card_count l); pairs = [] }) ≡ opening l
+table_at l =
     let slots = slot_count l in
     let cards = card_count l in
     λ i. record { layout = l; refs = null_refs slots (slots + cards) (omega arith) i; pending = (ap pending_of (clean_marks slots cards (slots + cards) refl) ∙ none_pending cards) i; recorded = set.empty }
+
+pub opening_table : (l : layout.Shape) (k : Shape) (m : ℕ) → k ≡ shape_of l m → table_of (ended l k (zeros (k.slots + k.cards + k.bits))) ≡ opening l
+opening_table l k m laid =
+    let count : k.slots + k.cards ≡ slot_count l + card_count l = ap (λ (s : Shape). s.slots + s.cards) laid in
+    let words : front k (zeros (k.slots + k.cards + k.bits)) ≡ zeros (slot_count l + card_count l) = front_zeros (k.slots + k.cards) (k.slots + k.cards + k.bits) (omega arith) ∙ ap zeros count in
+    (λ i. table_of (record { layout = l; words = words i; pairs = no_pairs k (k.slots + k.cards + k.bits) k.cards i })) ∙ table_at l
+
+-- what a race over nulls begins with
+pub begins_null : (l : layout.Shape) (m : ℕ) → beginning (null_of (shape_of l m)) ≡ null_begun l m
+begins_null l m =
+    let k = shape_of l m in
+    λ i. record { shape = k; words = front_zeros (k.slots + k.cards) (k.slots + k.cards + k.bits) (omega arith) i; pairs = no_pairs k (k.slots + k.cards + k.bits) k.cards i }
+
+-- empty logs, the last first
+replicate_snoc : {A : Type 0} (n : ℕ) (x : A) → replicate n x ++ x ∷ [] ≡ x ∷ replicate n x
+replicate_snoc zero x = refl
+replicate_snoc (suc n) x = ap (λ l. x ∷ l) (replicate_snoc n x)
+
+pub reverse_same : {A : Type 0} (n : ℕ) (x : A) → reverse (replicate n x) ≡ replicate n x
+reverse_same zero x = refl
+reverse_same (suc n) x = reverse-append (x ∷ []) (replicate n x) ∙ (ap (λ l. l ++ x ∷ []) (reverse_same n x) ∙ replicate_snoc n x)

@@ -1,5 +1,5 @@
 -- What a closed race keeps is what a core is made of.
-use Rattle.std.proofs.Common.{◌≡◌, ℕ, ◌+◌, ◌<◌, ◌≤◌, eqb, List, take, drop, get_or, length, Bool, Option, Some, None, All, IfSome, Contains, refl, sym, ap, ◌∙◌, subst, arith}
+use Rattle.std.proofs.Common.{◌≡◌, ℕ, ◌+◌, ◌<◌, eqb, List, take, drop, get_or, length, Bool, Option, Some, None, All, IfSome, sym, ◌∙◌, subst, arith}
 use mathlib.Core.Option.{some}
 use lib.ListN.{get_elem?}
 use Rattle.std.proofs.lemmas.List.{length-map, length-take-le, length-drop}
@@ -9,9 +9,9 @@ use Rattle.g1_layout.specs.Shape.{slot_count, card_count}
 use Rattle.g1_core.specs.Table.{IsCovered}
 use Rattle.g1_core.specs.Adoption.{table_with, IsPairOf}
 use Rattle.g1_race.specs.Race.{shape_of}
-use Rattle.g1_race.specs.Over.{Ended, joined, target_of, refs_of, marks_of, table_of, IsEnded}
-use Rattle.g1_race.proofs.Ends.{target_back, ended_covered}
-use Rattle.g1_race.proofs.Places.{at_read, at_untake, at_unmap, contains_listed}
+use Rattle.g1_race.specs.Over.{Ended, ended, target_of, refs_of, marks_of, IsEnded}
+use Rattle.g1_race.proofs.Ends.{target_back, begun_covered, pair_listed}
+use Rattle.g1_race.proofs.Places.{at_read, at_untake, at_unmap}
 
 pub length_marks : (e : Ended) → length e.words ≡ slot_count e.layout + card_count e.layout → length (marks_of e) ≡ card_count e.layout
 length_marks e sized = length-map (drop (slot_count e.layout) e.words) (λ n. eqb n 1) ∙ (length-drop (slot_count e.layout) e.words ∙ (let f = sized in omega arith))
@@ -24,29 +24,32 @@ pub record ArePartsOf (l : layout.Shape) (refs : List (Option ℕ)) (marks : Lis
   pub within : All (IsPairOf l) pairs
   pub cover : IsCovered (table_with l refs marks pairs)
 
-module _ (m : ℕ) (l : layout.Shape) (words : List ℕ) (lists : List (List (ℕ × ℕ))) (h : IsEnded (shape_of l m) l words lists) where
-  abbrev ended : Ended
-  ended = record { layout = l; words = words; pairs = joined lists }
+module _ (m : ℕ) (l : layout.Shape) (words : List ℕ) (h : IsEnded (shape_of l m) l words) where
+  abbrev end : Ended
+  end = ended l (shape_of l m) words
 
-  slots : length (refs_of ended) ≡ slot_count l
-  slots = length-map (take (slot_count l) words) target_of ∙ length-take-le (slot_count l) words (let e = h.sized in omega arith)
+  sized : length end.words ≡ slot_count l + card_count l
+  sized = length-take-le (slot_count l + card_count l) words (let e = h.begun.sized in omega arith)
 
-  places : All (λ t. IfSome t (λ p. p < slot_count l)) (refs_of ended)
-  places i d lt = fits (get_or (refs_of ended) i d) (at_unmap target_of (take (slot_count l) words) i (get_or (refs_of ended) i d) (at_read (refs_of ended) i d lt))
+  slots : length (refs_of end) ≡ slot_count l
+  slots = length-map (take (slot_count l) end.words) target_of ∙ length-take-le (slot_count l) end.words (omega (arith, sized))
+
+  places : All (λ t. IfSome t (λ p. p < slot_count l)) (refs_of end)
+  places i d lt = fits (get_or (refs_of end) i d) (at_unmap target_of (take (slot_count l) end.words) i (get_or (refs_of end) i d) (at_read (refs_of end) i d lt))
     where
-      fits : (t : Option ℕ) → ((n : ℕ) × (get_elem? (take (slot_count l) words) i ≡ some n) × (target_of n ≡ t)) → IfSome t (λ p. p < slot_count l)
+      fits : (t : Option ℕ) → ((n : ℕ) × (get_elem? (take (slot_count l) end.words) i ≡ some n) × (target_of n ≡ t)) → IfSome t (λ p. p < slot_count l)
       fits None x = tt
-      fits (Some p) x = let there = at_untake words (slot_count l) i x.0 x.1 in let le = h.bounded i x.0 there.0 there.1 in let is = target_back x.0 p x.2 in let goal : p < slot_count l = omega (arith, le, is) in goal
+      fits (Some p) x = let there = at_untake end.words (slot_count l) i x.0 x.1 in let le = h.begun.bounded i x.0 there.0 (at_untake words (slot_count l + card_count l) i x.0 there.1).1 in let is = target_back x.0 p x.2 in let goal : p < slot_count l = omega (arith, le, is) in goal
 
-  ended_parts : ArePartsOf l (refs_of ended) (marks_of ended) (joined lists)
+  ended_parts : ArePartsOf l (refs_of end) (marks_of end) end.pairs
   ended_parts = record {
     slots = slots;
     places = places;
-    cards = length_marks ended h.sized;
-    within = λ i d lt. h.within (get_or (joined lists) i d) (contains_listed lists _ (Contains-get_or (joined lists) i d lt));
-    cover = ended_covered (shape_of l m) l words lists refl h.covered;
+    cards = length_marks end sized;
+    within = λ i d lt. pair_listed (shape_of l m) l words h.laid h.begun (get_or end.pairs i d) (Contains-get_or end.pairs i d lt);
+    cover = begun_covered (shape_of l m) l words h.laid h.begun;
   }
 
   -- the same of lists that are equal to them
-  pub parts_fit : (refs : List (Option ℕ)) (marks : List Bool) (pairs : List (ℕ × ℕ)) → refs ≡ refs_of ended → marks ≡ marks_of ended → pairs ≡ joined lists → ArePartsOf l refs marks pairs
+  pub parts_fit : (refs : List (Option ℕ)) (marks : List Bool) (pairs : List (ℕ × ℕ)) → refs ≡ refs_of end → marks ≡ marks_of end → pairs ≡ end.pairs → ArePartsOf l refs marks pairs
   parts_fit refs marks pairs a b d = subst (λ (x : List (Option ℕ) × (List Bool × List (ℕ × ℕ))). ArePartsOf l x.0 x.1.0 x.1.1) (λ i. (sym a i, (sym b i, sym d i))) ended_parts

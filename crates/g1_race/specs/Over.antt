@@ -1,23 +1,20 @@
--- What is left of a race that is over, and what a core asks of it.
-use Rattle.std.specs.Prelude.{◌≡◌, ℕ, ◌+◌, ◌-◌, ◌<◌, ◌==◌, if◌then◌else◌, List, [], ◌∷◌, ◌++◌, length, map, take, drop, Bool, Option, Some, None}
+-- What is left of a race at a pause or at its end, as a table, and what a core asks of it.
+use Rattle.std.specs.Prelude.{◌≡◌, ℕ, ◌-◌, ◌==◌, if◌then◌else◌, List, map, take, drop, Bool, Option, Some, None}
 use Rattle.g1_layout.specs.Shape as layout
 use Rattle.g1_layout.specs.Shape.{slot_count}
 use Rattle.g1_core.specs.Table.{Table}
 use Rattle.g1_core.specs.Settings.{Settings}
 use Rattle.g1_core.specs.Machine.{Machine}
-use Rattle.g1_core.specs.Adoption.{table_with, adopted_machine, IsPairOf}
+use Rattle.g1_core.specs.Adoption.{table_with, adopted_machine}
 use Rattle.g1_race.specs.declared.view.Shape.{Shape}
-use Rattle.g1_race.specs.Race.{IsShape, Bounded, IsCovered, Listed, shape_of}
+use Rattle.g1_race.specs.Begin.{Start}
+use Rattle.g1_race.specs.Race.{IsBegun, front, pairs_up_to, start, shape_of}
 
--- the words of the slots and of the marks, and the pairs that the sweepers kept
+-- the words of the slots and of the marks, and the recorded pairs
 pub record Ended : Type 0 where
   pub layout : layout.Shape
   pub words : List ℕ
   pub pairs : List (ℕ × ℕ)
-
-abbrev pub joined : {A : Type 0} → List (List A) → List A
-joined [] = []
-joined (l ∷ ls) = l ++ joined ls
 
 -- what a slot's word refers to
 abbrev pub target_of : ℕ → Option ℕ
@@ -37,11 +34,31 @@ table_of e = table_with e.layout (refs_of e) (marks_of e) e.pairs
 abbrev pub core_of : Ended → Settings → Machine
 core_of e settings = adopted_machine e.layout settings (refs_of e) (marks_of e) e.pairs
 
--- what the parts of a closed race keep
-pub record IsEnded (k : Shape) (l : layout.Shape) (words : List ℕ) (lists : List (List (ℕ × ℕ))) : Type 0 where
+-- what a race's words say
+abbrev pub ended : layout.Shape → Shape → List ℕ → Ended
+ended l k words = record { layout = l; words = front k words; pairs = pairs_up_to k words k.cards }
+
+-- what the words of a closed race keep
+pub record IsEnded (k : Shape) (l : layout.Shape) (words : List ℕ) : Type 0 where
   pub laid : k ≡ shape_of l k.members
-  pub shaped : IsShape k
-  pub sized : length words ≡ k.slots + k.cards
-  pub bounded : Bounded k words
-  pub covered : IsCovered k words lists
-  pub within : (x : ℕ × ℕ) → Listed lists x → IsPairOf l x
+  pub begun : IsBegun (start k words)
+
+-- a race at a pause: its layout, also in plain numbers, the words of its table, the racers' logs,
+-- and how many sweepers there are
+pub record Halt : Type 0 where
+  pub layout : layout.Shape
+  pub shape : Shape
+  pub words : List ℕ
+  pub logs : List (List ℕ)
+  pub sweepers : ℕ
+
+abbrev pub ended_of : Halt → Ended
+ended_of h = ended h.layout h.shape h.words
+
+-- what a race that goes on from it begins with
+abbrev pub start_at : Halt → Start
+start_at h = start h.shape h.words
+
+-- its table
+abbrev pub halted : Halt → Table
+halted h = table_of (ended_of h)

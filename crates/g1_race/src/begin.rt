@@ -1,23 +1,130 @@
-//! What a race begins with.
+//! A core becomes a race at a pause: its table is placed into the words of a heap of nulls.
+ghost use Rattle.std.specs.Prelude.{◌≡◌, ℕ, ◌+◌, ◌<◌, ◌≤◌, [], IfOk, All, replicate};
+ghost use Rattle.std.specs.FinSet as set;
+ghost use mathlib.Core.Option.{some};
+ghost use lib.ListN.{get_elem?};
+ghost use Rattle.g1_core.specs.Adoption.{IsPairOf};
+ghost use Rattle.g1_race.specs.Race.{In, IsPair, IsOfCrossing, mark_word, null_of, shape_of};
+ghost use Rattle.g1_race.specs.Over.{halted, start_at};
+ghost use Rattle.g1_race.specs.Refining.{Notes};
+ghost use Rattle.g1_race.specs.Resumed.{AreCovered, AreMarked, ArePlaced, IsSame};
+ghost use Rattle.g1_race.specs.Members.{IsPaused};
 
-use crate::view::Shape;
-use g1_layout::{Card, Region};
-use std::marker::Model;
+use crate::drain::set_bit;
+use crate::paused::Paused;
+use crate::race::Race;
+use crate::racer::word_of;
+use crate::rule::Place;
+use crate::stopped::put;
+use g1_core::Core;
+use g1_layout::{Card, NoMemory, Region};
+use std::alloc::Global;
 
-/// What a race begins with: the words of its slots and marks, and the pairs (card, region) that were recorded before it.
-///
-/// The rule of the race speaks of it to the end, so it stands beside the words for as long as the race is open.
-#[derive(Drop)]
-pub struct Beginning {
-    pub(crate) shape: Shape,
-    pub(crate) words: Vec<u64>,
-    pub(crate) pairs: Vec<(Card, Region)>,
+impl Paused {
+    /// A heap at a pause with a core's whole table, for 1 to 64 racers and 1 to 64 sweepers: each
+    /// slot refers to what it refers to in the core, the pending cards are dirty, and the recorded
+    /// pairs are recorded. The settings and the refinement counts are not taken over.
+    ///
+    /// Reads each slot of the core once, and the core stays as it is but for its count of reads.
+    /// Takes the memory of [`Paused::open`] and for the time of the call that of the list of pairs.
+    /// On `NoMemory` nothing is left of the heap.
+    pub fn begin_from(
+        alloc: Global,
+        core: &mut Core,
+        racers: u32,
+        sweepers: u32,
+    ) -> Result<Paused, NoMemory>
+        requires racers { (1 ≤ racers) × (racers ≤ 64) }
+        requires sweepers { (1 ≤ sweepers) × (sweepers ≤ 64) }
+        ensures layout { IfOk result (λ p. p.layout ≡ core.old.state.table.layout) }
+        ensures shape { IfOk result (λ p.
+            p.shape ≡ shape_of core.old.state.table.layout (racers + sweepers)) }
+        ensures table { IfOk result (λ p. halted p ≡ core.old.state.table) }
+        ensures logs { IfOk result (λ p. p.logs ≡ replicate racers []) }
+        ensures sweepers { IfOk result (λ p. p.sweepers ≡ sweepers) }
+        ensures same { IsSame core.old core.new }
+    {
+        let pairs = core.pairs()?;
+        let mut paused = Paused::open(alloc, core.layout(), racers, sweepers)?;
+        paused.place(core, &pairs);
+        Ok(paused)
+    }
+
+    // Gives a heap of nulls the core's table.
+    fn place(&mut self, core: &mut Core, pairs: &[(Card, Region)])
+        requires layout { self.old.layout ≡ core.old.state.table.layout }
+        requires null { start_at self.old ≡ null_of self.old.shape }
+        requires pairs { set.from_list pairs.now ≡ core.old.state.table.recorded }
+        requires within { All (IsPairOf core.old.state.table.layout) pairs.now }
+        ensures table { halted self.new ≡ core.old.state.table }
+        ensures rest { self.new ≡ record self.old { words = self.new.words } }
+        ensures same { IsSame core.old core.new }
+    {
+        let _layout = core.layout();
+        place_pairs(&self.race, &mut self.seat, pairs);
+        place_marks(&self.race, &mut self.seat, core);
+        place_slots(&self.race, &mut self.seat, core);
+    }
 }
 
-impl Model for Beginning {
-    ghost use Rattle.g1_race.specs.Begin.{Begun};
+// Sets the bits of these pairs.
+fn place_pairs(race: &Race, seat: &mut Place, pairs: &[(Card, Region)])
+    requires seat { IsPaused race.now.table.shared.table_id race.now.shape seat.old }
+    requires pairs { (x : ℕ × ℕ) → In pairs.now x →
+        IsPair race.now.shape x × IsOfCrossing race.now.shape x }
+    ensures seat { IsPaused race.now.table.shared.table_id race.now.shape seat.new }
+    ensures notes { Notes race.now.shape seat.old.me.0.began_words seat.new.me.0.began_words
+        pairs.now }
+{
+    for pair in pairs {
+        set_bit(
+            race,
+            seat,
+            pair.0.number() as usize,
+            pair.1.number() as usize,
+        );
+    }
+}
 
-    ghost Value = { Begun };
+// Dirties the cards that are pending in the core.
+fn place_marks(race: &Race, seat: &mut Place, core: &Core)
+    requires seat { IsPaused race.now.table.shared.table_id race.now.shape seat.old }
+    requires layout { race.now.layout ≡ core.now.state.table.layout }
+    requires clean { (c : ℕ) → c < race.now.shape.cards →
+        get_elem? seat.old.me.0.began_words (mark_word race.now.shape c) ≡ some 0 }
+    ensures seat { IsPaused race.now.table.shared.table_id race.now.shape seat.new }
+    ensures marks { AreMarked race.now.shape core.now.state.table seat.old.me.0.began_words
+        seat.new.me.0.began_words race.now.shape.cards }
+{
+    for number in 0..race.shape.cards {
+        let Some(card) = race.layout.card(number as u32) else {
+            unreachable!()
+        };
+        if core.is_pending(card) {
+            put(race, seat, race.shape.slots + number, 1);
+        }
+    }
+}
 
-    ghost view = { λ a. record { shape = a.shape; words = a.words.items; pairs = a.pairs.items } };
+// Writes the core's references.
+fn place_slots(race: &Race, seat: &mut Place, core: &mut Core)
+    requires seat { IsPaused race.now.table.shared.table_id race.now.shape seat.old }
+    requires layout { race.now.layout ≡ core.old.state.table.layout }
+    requires null { (p : ℕ) → p < race.now.shape.slots →
+        get_elem? seat.old.me.0.began_words p ≡ some 0 }
+    requires covered { AreCovered race.now.shape core.old.state.table seat.old.me.0.began_words }
+    ensures seat { IsPaused race.now.table.shared.table_id race.now.shape seat.new }
+    ensures slots { ArePlaced race.now.shape core.old.state.table seat.old.me.0.began_words
+        seat.new.me.0.began_words race.now.shape.slots }
+    ensures same { IsSame core.old core.new }
+{
+    for number in 0..race.shape.slots {
+        let Some(slot) = race.layout.slot(number as u32) else {
+            unreachable!()
+        };
+        let word = word_of(core.target(slot));
+        if word != 0 {
+            put(race, seat, number, word);
+        }
+    }
 }

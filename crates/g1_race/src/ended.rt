@@ -1,12 +1,13 @@
-//! A race that is over: what its slots refer to, which of its cards are dirty, and which pairs were recorded.
-ghost use Rattle.std.specs.Prelude.{◌≡◌, ◌+◌, ◌<◌, ◌↔◌, IsTrue, IfSome, Contains};
+//! A race that is over: what its slots refer to, which of its cards are dirty, and which pairs were
+//! recorded.
+ghost use Rattle.std.specs.Prelude.{◌≡◌, ◌+◌, ◌<◌, ◌↔◌, IsTrue, IfSome};
 ghost use Rattle.g1_core.specs.Table.{target_of, IsPending, IsRecorded};
 ghost use mathlib.Core.Option.{some};
 ghost use lib.ListN.{get_elem?};
 ghost use Rattle.g1_layout.specs.Shape.{slot_count, card_count};
-ghost use Rattle.g1_race.specs.Race.{In};
 ghost use Rattle.g1_race.specs.Over.{refs_of, marks_of, table_of};
 
+use crate::pairs::has_bit;
 use crate::view::Shape;
 use g1_layout::{Card, Layout, Region, Slot};
 use std::alloc::Global;
@@ -14,25 +15,27 @@ use std::marker::Model;
 
 /// A race that is over, with no thread at it any more ([`Race::close`](crate::Race::close)).
 ///
-/// Its model is a table: the layout, the words of slots and marks, and the recorded pairs. Each slot that refers into another
-/// region has its card dirty or its pair recorded, and each pair has its card outside its region.
+/// Its model is a table: the layout, the words of slots and marks, and the recorded pairs, each
+/// once, by card and then by region. Each slot that refers into another region has its card dirty
+/// or its pair recorded, and each pair has its card outside its region.
 pub struct Closed {
     pub(crate) words: atomic_table::Closed<(), Global>,
     pub(crate) layout: Layout,
     pub(crate) shape: Shape,
-    pub(crate) lists: Vec<Vec<(Card, Region)>>,
 }
 
 impl Model for Closed {
-    ghost use Rattle.std.specs.Prelude.{◌≡◌, ◌+◌, map};
+    ghost use Rattle.std.specs.Prelude.{◌≡◌, ◌+◌};
     ghost use Rattle.std.specs.Slots.{slots_items, slots_len, IsFull};
-    ghost use Rattle.g1_race.specs.Over.{Ended, IsEnded, joined};
+    ghost use Rattle.g1_race.specs.Over.{Ended, IsEnded, ended};
 
     ghost Value = { Ended };
 
-    ghost view = { λ a. record { layout = a.layout; words = slots_items a.words.words; pairs = joined (map (λ v. v.items) a.lists.items) } };
+    ghost view = { λ a. ended a.layout a.shape (slots_items a.words.words) };
 
-    ghost invariant = { λ a. IsEnded a.shape a.layout (slots_items a.words.words) (map (λ v. v.items) a.lists.items) × (slots_len a.words.words ≡ a.shape.slots + a.shape.cards) × (slots_len a.words.slots ≡ 0) × IsFull a.words.words };
+    ghost invariant = { λ a. IsEnded a.shape a.layout (slots_items a.words.words)
+        × (slots_len a.words.words ≡ a.shape.slots + a.shape.cards + a.shape.bits)
+        × (slots_len a.words.slots ≡ 0) × IsFull a.words.words };
 }
 
 impl Drop for Closed {
@@ -41,7 +44,6 @@ impl Drop for Closed {
             words,
             layout: _,
             shape: _,
-            lists: _,
         } = self;
         words.free();
     }
@@ -57,7 +59,8 @@ impl Closed {
         self.target_at(slot.number() as usize)
     }
 
-    /// Whether the card is dirty: stored to since it was last refined, or dirty from the beginning. Reads one word.
+    /// Whether the card is dirty: stored to since it was last refined, or dirty from the beginning.
+    /// Reads one word.
     pub fn marked(&self, card: Card) -> bool
         requires { card < card_count self.now.layout }
         ensures { IsTrue result ↔ IsPending (table_of self.now) card }
@@ -65,23 +68,18 @@ impl Closed {
         self.marked_at(card.number() as usize)
     }
 
-    /// Whether the pair was recorded, by a sweeper or before the race. Looks through the recorded pairs one by one.
+    /// Whether the pair was recorded, by a sweeper or before the race. Reads one word.
     pub fn has(&self, card: Card, region: Region) -> bool
         ensures { IsTrue result ↔ IsRecorded (table_of self.now) card region }
     {
-        self.lists_pair(card, region)
-    }
-
-    // Whether some list has the pair.
-    fn lists_pair(&self, card: Card, region: Region) -> bool
-        ensures { IsTrue result ↔ Contains self.now.pairs (card, region) }
-    {
-        for list in &self.lists {
-            if is_in(list, card, region) {
-                return true;
-            }
+        let (card, region) = (card.number() as usize, region.number() as usize);
+        if card >= self.shape.cards {
+            return false;
         }
-        false
+        if region >= self.shape.regions {
+            return false;
+        }
+        has_bit(&self.words, self.shape, card, region)
     }
 
     // As `target`, by the number of the slot.
@@ -104,16 +102,4 @@ impl Closed {
     {
         self.words.word(self.shape.slots + card) == 1
     }
-}
-
-// Whether the list has the pair.
-fn is_in(list: &[(Card, Region)], card: Card, region: Region) -> bool
-    ensures { IsTrue result ↔ In list.now (card, region) }
-{
-    for pair in list {
-        if pair.0.number() == card.number() && pair.1.number() == region.number() {
-            return true;
-        }
-    }
-    false
 }

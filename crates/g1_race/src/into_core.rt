@@ -4,17 +4,20 @@ ghost use Rattle.g1_layout.specs.Shape.{slot_count, card_count};
 ghost use Rattle.g1_race.specs.Over.{refs_of, marks_of, core_of};
 
 use crate::ended::Closed;
+use crate::pairs::list_pairs;
 use g1_core::{Config, Core};
 use g1_layout::{Card, NoMemory, Region, Slot};
 use std::alloc::Global;
 
 impl Closed {
-    /// A core of this table: each slot refers to what it referred to when the race ended, the cards that were dirty then are
-    /// pending, and the pairs that the sweepers recorded, or that were recorded before the race, are recorded. Nothing is counted,
-    /// nothing was read and the hot ring is empty (docs/PROFILE.md, Racing stores).
+    /// A core of this table: each slot refers to what it referred to when the race ended, the cards
+    /// that were dirty then are pending, and the pairs that the sweepers recorded, or that were
+    /// recorded before the race, are recorded. Nothing is counted, nothing was read and the hot
+    /// ring is empty (docs/PROFILE.md, Racing stores).
     ///
-    /// Takes the memory of a core ([`Core::adopt`]), and for the time of the call 8 bytes for each slot, one for each card and
-    /// those of the pairs. `NoMemory` where a growth was refused: the race comes back as it was, and the call can be made again.
+    /// Takes the memory of a core ([`Core::adopt`]), and for the time of the call 8 bytes for each
+    /// slot, one for each card and 8 for each recorded pair. `NoMemory` where a growth was refused:
+    /// the race comes back as it was, and the call can be made again.
     pub fn into_core(self, alloc: Global, config: Config) -> Result<Core, (Closed, NoMemory)>
         ensures core { IfOk result (λ core. core ≡ core_of self config) }
         ensures refused { IfErr result (λ e. e.0 ≡ self) }
@@ -25,8 +28,8 @@ impl Closed {
         }
     }
 
-    /// As [`Closed::into_core`], and the race stays: for a caller that lets go of it only once it has the memory for all that it does
-    /// with the core.
+    /// As [`Closed::into_core`], and the race stays: for a caller that lets go of it only once it
+    /// has the memory for all that it does with the core.
     pub fn to_core(&self, alloc: Global, config: Config) -> Result<Core, NoMemory>
         ensures { IfOk result (λ core. core ≡ core_of self.now config) }
     {
@@ -49,8 +52,9 @@ impl Closed {
     fn refs(&self, alloc: Global) -> Result<Vec<Option<Slot>>, NoMemory>
         ensures { IfOk result (λ refs. refs.items ≡ refs_of self.now) }
     {
-        let mut refs = Vec::new(alloc);
-        for slot in 0..self.counts().0 {
+        let (slots, _) = self.counts();
+        let mut refs = Vec::with_capacity(alloc, slots)?;
+        for slot in 0..slots {
             refs.push(self.target_at(slot))?;
         }
         Ok(refs)
@@ -60,8 +64,9 @@ impl Closed {
     fn marks(&self, alloc: Global) -> Result<Vec<bool>, NoMemory>
         ensures { IfOk result (λ marks. marks.items ≡ marks_of self.now) }
     {
-        let mut marks = Vec::new(alloc);
-        for card in 0..self.counts().1 {
+        let (_, cards) = self.counts();
+        let mut marks = Vec::with_capacity(alloc, cards)?;
+        for card in 0..cards {
             marks.push(self.marked_at(card))?;
         }
         Ok(marks)
@@ -71,10 +76,6 @@ impl Closed {
     fn pairs(&self, alloc: Global) -> Result<Vec<(Card, Region)>, NoMemory>
         ensures { IfOk result (λ pairs. pairs.items ≡ self.now.pairs) }
     {
-        let mut pairs = Vec::new(alloc);
-        for list in &self.lists {
-            pairs.extend_from_slice(list)?;
-        }
-        Ok(pairs)
+        list_pairs(alloc, &self.words, self.layout, self.shape)
     }
 }

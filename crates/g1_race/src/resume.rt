@@ -1,28 +1,74 @@
-//! A core becomes a race: mutators race again after a pause.
-ghost use Rattle.std.specs.Prelude.{◌≡◌, ◌+◌, ◌≤◌, [], IfOk, IfErr, OnOk};
-ghost use Rattle.g1_layout.specs.Shape.{slot_count, card_count};
-ghost use Rattle.g1_race.specs.Race.{one_if, shape_of};
+//! How a race goes on after a pause, or from a core.
+ghost use Rattle.std.specs.Prelude.{◌≡◌, ◌+◌, ◌-◌, ◌<◌, ◌≤◌, [], All, IfOk, IfErr, length, map, reverse, vec_len, vec_capacity};
+ghost use Rattle.g1_race.specs.Race.{beginning, start_of, chair, shape_of};
+ghost use Rattle.g1_race.specs.Over.{halted, start_at};
 ghost use Rattle.g1_race.specs.Drain.{began};
-ghost use Rattle.g1_race.specs.Members.{race_layout, race_shape, race_begun, AreFreshRacers, AreFreshSweepers};
-ghost use Rattle.g1_race.specs.Resumed.{AreSlotWords, AreWords, IsSame};
+ghost use Rattle.g1_race.specs.Resumed.{IsSame};
+ghost use Rattle.g1_race.specs.Members.{race_id, race_layout, race_shape, racer_log, AreFreshRacers, AreFreshSweepers, HaveBegunWith, IsNewRacer, IsNewSweeper};
 
-use crate::begin::Beginning;
-use crate::open::{begin, shape_of};
+use crate::paused::Paused;
 use crate::race::{Race, Racer, Sweeper};
-use crate::racer::word_of;
+use crate::rule::{NewRacer, NewSweeper, Place, RaceTable, Thaws};
+use arrayvec::ArrayVec;
 use g1_core::Core;
-use g1_layout::{Layout, NoMemory};
+use g1_layout::{Card, NoMemory};
 use std::alloc::Global;
 
+impl Paused {
+    /// Lets the race go on: the racers get their logs back and have stored nothing, the sweepers
+    /// have swept nothing, and the race begins with the table as the pause left it. A racer has a
+    /// number of its own from here to the next pause.
+    ///
+    /// Takes no memory and cannot fail. Makes no step but one and those that split the seats.
+    pub fn resume(self) -> (Race, Vec<Racer>, Vec<Sweeper>)
+        ensures layout { race_layout result.0 ≡ self.layout }
+        ensures shape { race_shape result.0 ≡ self.shape }
+        ensures members { vec_len result.1 + vec_len result.2 ≡ (race_shape result.0).members }
+        ensures began { began self.layout (beginning (start_at self)) ≡ halted self }
+        ensures racers { (vec_len result.1 ≡ length self.logs)
+            × All (IsNewRacer (race_id result.0).0 (start_at self)) result.1.items }
+        ensures logs { map racer_log result.1.items ≡ self.logs }
+        ensures sweepers { (vec_len result.2 ≡ self.sweepers)
+            × All (IsNewSweeper (race_id result.0).0 (start_at self)) result.2.items }
+    {
+        let Paused {
+            race,
+            mut seat,
+            mut racers,
+            mut sweepers,
+            count,
+        } = self;
+        let Race {
+            table,
+            layout,
+            shape,
+            mut logs,
+        } = race;
+        table.shared.load::<Thaws>(&mut seat, 0);
+        seat_racers(&table, &mut seat, &mut logs, &mut racers);
+        seat_sweepers(&table, &mut seat, &mut sweepers, count);
+        let race = Race {
+            table,
+            layout,
+            shape,
+            logs,
+        };
+        (race, racers, sweepers)
+    }
+}
+
 impl Race {
-    /// Opens a race that begins with a core's whole table, with 1 to 8 racers and 1 to 4 sweepers: each slot refers to what it
-    /// refers to in the core, the pending cards are dirty, and the recorded pairs are recorded (docs/PROFILE.md, Racing stores).
+    /// Opens a race that begins with a core's whole table, with 1 to 8 racers and 1 to 4 sweepers:
+    /// each slot refers to what it refers to in the core, the pending cards are dirty, and the
+    /// recorded pairs are recorded (docs/PROFILE.md, Racing stores).
     ///
-    /// No racer has stored and no sweeper has refined. A card that is dirty from the beginning stands in no racer's log: a sweep
-    /// of that card, or a drain after the race, refines it. The settings and the refinement counts go with the core.
+    /// No racer has stored and no sweeper has refined. A card that is dirty from the beginning
+    /// stands in no racer's log: a sweep of that card, or a drain after the race, refines it. The
+    /// settings and the refinement counts go with the core.
     ///
-    /// Reads each slot once. Takes 8 bytes for each slot and each card, twice while it begins, and those of the pairs.
-    /// `NoMemory` where a growth was refused: the core comes back as it was, but for its count of reads.
+    /// Reads each slot once. Takes the memory of [`Paused::open`] and for the time of the call that
+    /// of the list of pairs. `NoMemory` where a growth was refused: the core comes back as it was,
+    /// but for its count of reads.
     pub fn resume(
         alloc: Global,
         mut core: Core,
@@ -32,8 +78,9 @@ impl Race {
         requires racers { (1 ≤ racers) × (racers ≤ 8) }
         requires sweepers { (1 ≤ sweepers) × (sweepers ≤ 4) }
         ensures layout { IfOk result (λ r. race_layout r.0 ≡ core.state.table.layout) }
-        ensures shape { IfOk result (λ r. race_shape r.0 ≡ shape_of core.state.table.layout (racers + sweepers)) }
-        ensures began { IfOk result (λ r. began (race_layout r.0) (race_begun r.0) ≡ core.state.table) }
+        ensures shape { IfOk result (λ r.
+            race_shape r.0 ≡ shape_of core.state.table.layout (racers + sweepers)) }
+        ensures began { IfOk result (λ r. HaveBegunWith core.state.table r.0 r.1 r.2) }
         ensures racers { IfOk result (λ r. AreFreshRacers r.0 racers r.1) }
         ensures sweepers { IfOk result (λ r. AreFreshSweepers r.0 sweepers r.2) }
         ensures refused { IfErr result (λ e. IsSame core e.0) }
@@ -44,8 +91,8 @@ impl Race {
         }
     }
 
-    /// As [`Race::resume`], and the core stays as it is, but for its count of reads: for a caller that lets go of the core only once it
-    /// has the memory for all that it does with the race.
+    /// As [`Race::resume`], and the core stays as it is, but for its count of reads: for a caller
+    /// that lets go of the core only once it has the memory for all that it does with the race.
     pub fn begin_from(
         alloc: Global,
         core: &mut Core,
@@ -55,63 +102,67 @@ impl Race {
         requires racers { (1 ≤ racers) × (racers ≤ 8) }
         requires sweepers { (1 ≤ sweepers) × (sweepers ≤ 4) }
         ensures layout { IfOk result (λ r. race_layout r.0 ≡ core.old.state.table.layout) }
-        ensures shape { IfOk result (λ r. race_shape r.0 ≡ shape_of core.old.state.table.layout (racers + sweepers)) }
-        ensures began { IfOk result (λ r. began (race_layout r.0) (race_begun r.0) ≡ core.old.state.table) }
+        ensures shape { IfOk result
+            (λ r. race_shape r.0 ≡ shape_of core.old.state.table.layout (racers + sweepers)) }
+        ensures began { IfOk result (λ r. HaveBegunWith core.old.state.table r.0 r.1 r.2) }
         ensures racers { IfOk result (λ r. AreFreshRacers r.0 racers r.1) }
         ensures sweepers { IfOk result (λ r. AreFreshSweepers r.0 sweepers r.2) }
         ensures same { IsSame core.old core.new }
     {
-        let layout = core.layout();
-        let shape = shape_of(layout, racers as usize + sweepers as usize);
-        let pairs = core.pairs()?;
-        let mut words = Vec::with_capacity(alloc, shape.slots + shape.cards)?;
-        push_slots(&mut words, core, layout)?;
-        push_marks(&mut words, core, layout)?;
-        let beginning = Beginning {
-            shape,
-            words,
-            pairs,
-        };
-        begin(alloc, layout, beginning, racers as usize, sweepers as usize)
+        let paused = Paused::begin_from(alloc, core, racers, sweepers)?;
+        Ok(paused.resume())
     }
 }
 
-// Adds the words of the slots.
-fn push_slots(words: &mut Vec<u64>, core: &mut Core, layout: Layout) -> Result<(), NoMemory>
-    requires layout { layout ≡ core.old.state.table.layout }
-    requires empty { words.old.items ≡ [] }
-    ensures words { OnOk result (AreSlotWords core.old.state.table (slot_count layout) words.new.items) }
-    ensures same { IsSame core.old core.new }
+// Splits off a seat for each racer, whose logs are these, the last first.
+fn seat_racers(
+    table: &RaceTable,
+    registrar: &mut Place,
+    logs: &mut Vec<ArrayVec<Card, 256>>,
+    racers: &mut Vec<Racer>,
+)
+    requires seat { registrar.old.table_id ≡ table.now.shared.table_id }
+    requires words { 0 < table.now.shared.table_id.words }
+    requires view { registrar.old.me ≡ (chair (start_of registrar.old.me.0) registrar.old.me.0.weight, []) }
+    requires shape { registrar.old.me.0.shape ≡ table.now.shared.key }
+    requires weight { vec_len logs.old ≤ registrar.old.me.0.weight }
+    requires empty { vec_len racers.old ≡ 0 }
+    requires room { vec_len logs.old ≤ vec_capacity racers.old }
+    ensures seat { registrar.new.table_id ≡ registrar.old.table_id }
+    ensures view { registrar.new.me ≡ (chair (start_of registrar.old.me.0) (registrar.old.me.0.weight - vec_len logs.old), []) }
+    ensures racers { (vec_len racers.new ≡ vec_len logs.old) × All (IsNewRacer table.now.shared.table_id (start_of registrar.old.me.0)) racers.new.items }
+    ensures logs { map racer_log racers.new.items ≡ reverse (map (λ l. l.items) logs.old.items) }
+    ensures capacity { vec_capacity logs.new ≡ vec_capacity logs.old }
 {
-    let (regions, cards, slots) = layout.counts();
-    for number in 0..regions * cards * slots {
-        let Some(slot) = layout.slot(number) else {
+    while let Some(log) = logs.pop() {
+        let seat = table.shared.split_seat::<NewRacer>(registrar);
+        let Ok(()) = racers.push(Racer { seat, log }) else {
             unreachable!()
         };
-        words.push(word_of(core.target(slot)))?;
     }
-    Ok(())
 }
 
-// Adds the words of the marks.
-fn push_marks(words: &mut Vec<u64>, core: &Core, layout: Layout) -> Result<(), NoMemory>
-    requires layout { layout ≡ core.now.state.table.layout }
-    requires slots { AreSlotWords core.now.state.table (slot_count layout) words.old.items }
-    ensures words { OnOk result (AreWords core.now.state.table (card_count layout) words.new.items) }
+// Splits off a seat for each sweeper.
+fn seat_sweepers(
+    table: &RaceTable,
+    registrar: &mut Place,
+    sweepers: &mut Vec<Sweeper>,
+    count: usize,
+)
+    requires seat { registrar.old.table_id ≡ table.now.shared.table_id }
+    requires words { 0 < table.now.shared.table_id.words }
+    requires view { registrar.old.me ≡ (chair (start_of registrar.old.me.0) registrar.old.me.0.weight, []) }
+    requires shape { registrar.old.me.0.shape ≡ table.now.shared.key }
+    requires weight { count ≤ registrar.old.me.0.weight }
+    requires empty { vec_len sweepers.old ≡ 0 }
+    requires room { count ≤ vec_capacity sweepers.old }
+    ensures seat { registrar.new.table_id ≡ registrar.old.table_id }
+    ensures sweepers { (vec_len sweepers.new ≡ count) × All (IsNewSweeper table.now.shared.table_id (start_of registrar.old.me.0)) sweepers.new.items }
 {
-    let (regions, cards, _) = layout.counts();
-    for number in 0..regions * cards {
-        let Some(card) = layout.card(number) else {
+    for _i in 0..count {
+        let seat = table.shared.split_seat::<NewSweeper>(registrar);
+        let Ok(()) = sweepers.push(Sweeper { seat }) else {
             unreachable!()
         };
-        words.push(mark_of(core.is_pending(card)))?;
     }
-    Ok(())
-}
-
-// The word of a mark.
-fn mark_of(marked: bool) -> u64
-    ensures { result ≡ one_if marked }
-{
-    if marked { 1 } else { 0 }
 }

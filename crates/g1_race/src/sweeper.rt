@@ -1,44 +1,44 @@
 //! Refinement that races with stores.
-ghost use Rattle.std.specs.Prelude.{◌≡◌, ◌+◌, ◌-◌, ◌*◌, ◌<◌, ◌≤◌, ◌++◌, [], ◌∷◌, IfOk, IfErr, OnOk, OnErr, vec_len, vec_capacity};
-ghost use Rattle.g1_race.specs.Race.{pair_at, shape_of};
+ghost use Rattle.std.specs.Prelude.{◌≡◌, ℕ, ◌+◌, ◌-◌, ◌*◌, ◌<◌, ◌≤◌, [], ◌∷◌, OnOk, OnErr};
+ghost use Rattle.std.specs.Result.{IsOk};
+ghost use Rattle.g1_race.specs.Race.{IsPair, recorded, start_of};
 ghost use Rattle.g1_layout.specs.Shape.{slot_count, card_count};
-ghost use Rattle.g1_race.specs.Members.{race_id, race_layout, sweeper_race, sweeper_view, Sweeps};
+ghost use Rattle.g1_race.specs.Members.{race_id, race_layout, sweeper_race, sweeper_start, sweeper_view, Sweeps, Recording, Holding};
 
+use crate::bits::bit_of;
 use crate::race::{Race, Sweeper};
-use crate::rule::{Cleans, Place, Reads};
-use g1_layout::{Card, Layout, NoMemory, Region};
+use crate::rule::{Cleans, Place, Reads, Records, Seeks};
+use g1_layout::{Card, NoMemory};
 
 impl Sweeper {
-    /// Refines a card: swaps its mark to clean, and then reads each of its slots in order and records the pair (card, region) of
-    /// each reference into another region, whether the card was dirty or not.
+    /// Refines a card: swaps its mark to clean, and then reads each of its slots in order and
+    /// records the pair (card, region) of each reference into another region, whether the card was
+    /// dirty or not.
     ///
-    /// A store to the card that comes too late to be read dirties it again, so nothing is lost. Room for a pair a slot is made
-    /// first: where memory is refused, `NoMemory` is answered and no word was touched. Waits for nobody. The sweeper and the card must
-    /// be of this race.
+    /// A store to the card that comes too late to be read dirties it again, so nothing is lost. A
+    /// pair is recorded by its bit among the words of the race, which is looked at first and set in
+    /// one step where it is clear. Takes no memory, so the answer is always `Ok`, and waits for
+    /// nobody. The sweeper and the card must be of this race.
     pub fn refine(&mut self, race: &Race, card: Card) -> Result<(), NoMemory>
         requires race { sweeper_race self.old ≡ race_id race.now }
         requires card { card < card_count (race_layout race.now) }
+        ensures done { IsOk result }
         ensures race { sweeper_race self.new ≡ sweeper_race self.old }
+        ensures start { sweeper_start self.new ≡ sweeper_start self.old }
         ensures swept { OnOk result ((sweeper_view self.new).swept ≡ card ∷ (sweeper_view self.old).swept) }
         ensures refused { OnErr result (sweeper_view self.new ≡ sweeper_view self.old) }
     {
-        self.pairs.reserve(race.shape.size)?;
-        sweep(
-            race,
-            &mut self.seat,
-            &mut self.pairs,
-            card.number() as usize,
-        );
+        sweep(race, &mut self.seat, card.number() as usize);
         Ok(())
     }
 }
 
-// Cleans a card, and then reads its slots, where the list has room for a pair a slot.
-fn sweep(race: &Race, seat: &mut Place, pairs: &mut Vec<(Card, Region)>, card: usize)
-    requires seat { Sweeps race.now.table.shared.table_id race.now.shape seat.old pairs.old.items }
-    requires room { vec_len pairs.old + race.now.shape.size ≤ vec_capacity pairs.old }
+// Cleans a card, and then reads its slots.
+fn sweep(race: &Race, seat: &mut Place, card: usize)
+    requires seat { Sweeps race.now.table.shared.table_id race.now.shape seat.old }
     requires card { card < race.now.shape.cards }
-    ensures seat { Sweeps race.now.table.shared.table_id race.now.shape seat.new pairs.new.items }
+    ensures seat { Sweeps race.now.table.shared.table_id race.now.shape seat.new }
+    ensures start { start_of seat.new.me.0 ≡ start_of seat.old.me.0 }
     ensures swept { seat.new.me.0.swept ≡ card ∷ seat.old.me.0.swept }
 {
     let shape = race.shape;
@@ -47,22 +47,22 @@ fn sweep(race: &Race, seat: &mut Place, pairs: &mut Vec<(Card, Region)>, card: u
     for i in 0..shape.size {
         let slot = card * shape.size + i;
         let word = words.load::<Reads>(seat, slot);
-        note_pair(pairs, race.layout, slot as u32, word as u32);
+        note_slot(race, seat, slot as u32, word as u32);
     }
 }
 
-// Keeps the pair of a slot's word, where it refers into another region.
-fn note_pair(pairs: &mut Vec<(Card, Region)>, layout: Layout, slot: u32, word: u32)
-    requires slot { slot < slot_count layout }
-    requires word { word ≤ slot_count layout }
-    requires room { vec_len pairs.old < vec_capacity pairs.old }
-    ensures pairs { pairs.new.items ≡ pairs.old.items ++ pair_at (shape_of layout 0) slot word }
-    ensures len { vec_len pairs.new ≤ vec_len pairs.old + 1 }
-    ensures capacity { vec_capacity pairs.old ≤ vec_capacity pairs.new }
+// Records the pair of a slot's word, where it refers into another region.
+fn note_slot(race: &Race, seat: &mut Place, slot: u32, word: u32)
+    requires slot { slot < slot_count race.now.layout }
+    requires word { word ≤ slot_count race.now.layout }
+    requires seat { Recording race.now.table.shared.table_id race.now.shape slot word seat.old }
+    ensures table { seat.new.table_id ≡ seat.old.table_id }
+    ensures seat { seat.new.me ≡ (recorded seat.old.me.0, seat.old.me.1) }
 {
     if word == 0 {
         return;
     }
+    let layout = race.layout;
     let (Some(slot), Some(target)) = (layout.slot(slot), layout.slot(word - 1)) else {
         unreachable!()
     };
@@ -70,7 +70,26 @@ fn note_pair(pairs: &mut Vec<(Card, Region)>, layout: Layout, slot: u32, word: u
     if layout.region_of(slot).number() == region.number() {
         return;
     }
-    let Ok(()) = pairs.push((layout.card_of(slot), region)) else {
-        unreachable!()
-    };
+    record_pair(
+        race,
+        seat,
+        layout.card_of(slot).number() as usize,
+        region.number() as usize,
+    );
+}
+
+// Sees that the bit of the pair is set.
+fn record_pair(race: &Race, seat: &mut Place, card: usize, region: usize)
+    requires pair { IsPair race.now.shape (card, region) }
+    requires seat { Holding race.now.table.shared.table_id race.now.shape (card, region) seat.old }
+    ensures table { seat.new.table_id ≡ seat.old.table_id }
+    ensures seat { seat.new.me ≡ (recorded seat.old.me.0, seat.old.me.1) }
+{
+    let words = &race.table.shared;
+    let (at, place) = bit_of(race.shape, card, region);
+    let found = words.load::<Seeks>(seat, at);
+    if (found >> place) & 1 == 1 {
+        return;
+    }
+    words.fetch_or::<Records>(seat, at, 1 << place);
 }

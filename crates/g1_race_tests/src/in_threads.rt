@@ -184,14 +184,21 @@ fn is_covered(closed: &Closed) -> bool {
 
 // How many pairs are recorded.
 fn pair_count(closed: &Closed) -> u64 {
-    let layout = closed.layout();
-    let (regions, cards, _) = layout.counts();
+    let (regions, cards, _) = closed.layout().counts();
     let mut count: u64 = 0;
-    for number in 0..regions * cards * regions {
-        let (Some(card), Some(region)) = (
-            layout.card(number / regions),
-            layout.region(number % regions),
-        ) else {
+    for number in 0..regions * cards {
+        count = count.saturating_add(pairs_of(closed, number));
+    }
+    count
+}
+
+// For how many regions the card of this number is recorded.
+fn pairs_of(closed: &Closed, number: u32) -> u64 {
+    let layout = closed.layout();
+    let (regions, _, _) = layout.counts();
+    let mut count: u64 = 0;
+    for region in 0..regions {
+        let (Some(card), Some(region)) = (layout.card(number), layout.region(region)) else {
             return u64::MAX;
         };
         if closed.has(card, region) {

@@ -1,4 +1,5 @@
-//! Tests of `g1_race` through its public calls: races played by hand, races that become cores and go on, and races of threads.
+//! Tests of `g1_race` through its public calls: races played by hand, races that become cores and go on, races that
+//! pause in place, and races of threads.
 #![tactic(auto)]
 
 #[cfg(test)]
@@ -9,5 +10,7 @@ mod by_hand;
 mod cycles;
 #[cfg(test)]
 mod in_threads;
+#[cfg(test)]
+mod paused;
 #[cfg(test)]
 mod small;

@@ -1,12 +1,12 @@
 //! Races of two racers and one sweeper, played by steps, over the heap `4 2 4`: card `c` has the slots from `4 * c` on, region `r`
 //! those from `8 * r` on.
-ghost use Rattle.std.specs.Prelude.{◌≡◌, ◌<◌, IfSome};
+ghost use Rattle.std.specs.Prelude.{◌≡◌, ◌<◌, All, IfSome, vec_len};
 ghost use Rattle.g1_layout.specs.Shape.{slot_count};
-ghost use Rattle.g1_race.specs.Members.{race_id, race_layout, race_shape, racer_race, sweeper_race, AreFreshRacers, AreFreshSweepers};
+ghost use Rattle.g1_race.specs.Members.{race_id, race_layout, race_shape, racer_race, sweeper_race};
 
 use g1_core::Core;
 use g1_layout::{Card, Kind, Layout, NoMemory, Slot};
-use g1_race::{Closed, Race, Racer, Sweeper};
+use g1_race::{Closed, Paused, Race, Racer, Sweeper};
 use std::alloc::{AllocError, Global};
 use std::process::Abort;
 use std::test::Fail;
@@ -68,8 +68,10 @@ impl Small {
 
     fn new(race: Race, racers: Vec<Racer>, sweepers: Vec<Sweeper>) -> Small
         requires members { (race_shape race).members ≡ 3 }
-        requires racers { AreFreshRacers race 2 racers }
-        requires sweepers { AreFreshSweepers race 1 sweepers }
+        requires two { vec_len racers ≡ 2 }
+        requires one { vec_len sweepers ≡ 1 }
+        requires racers { All (λ r. racer_race r ≡ race_id race) racers.items }
+        requires sweepers { All (λ w. sweeper_race w ≡ race_id race) sweepers.items }
     {
         let (first, second, sweeper) = three(&race, racers, sweepers);
         Small {
@@ -80,6 +82,27 @@ impl Small {
         }
     }
 
+    /// A race that goes on from a pause, with its two racers and its sweeper.
+    pub(crate) fn go_on(rt: &impl Abort, paused: Paused) -> Small {
+        let (race, racers, sweepers) = paused.resume();
+        assert!(rt; race.members() == 3 && racers.len() == 2);
+        Small::new(race, racers, sweepers)
+    }
+
+    /// Takes the steps in order, up to the next pause.
+    pub(crate) fn pause_after(
+        self,
+        rt: &impl Abort,
+        alloc: Global,
+        steps: &[Step],
+    ) -> Result<Paused, AllocError> {
+        let mut small = self;
+        for step in steps {
+            small.take(rt, *step);
+        }
+        small.pause(alloc)
+    }
+
     /// Takes the steps in order, and closes the race.
     pub(crate) fn close_after(
         self,
@@ -87,11 +110,7 @@ impl Small {
         alloc: Global,
         steps: &[Step],
     ) -> Result<Closed, AllocError> {
-        let mut small = self;
-        for step in steps {
-            small.take(rt, *step);
-        }
-        small.close(alloc)
+        Ok(self.pause_after(rt, alloc, steps)?.close())
     }
 
     fn take(&mut self, rt: &impl Abort, step: Step) {
@@ -115,7 +134,7 @@ impl Small {
         }
     }
 
-    fn close(self, alloc: Global) -> Result<Closed, AllocError> {
+    fn pause(self, alloc: Global) -> Result<Paused, AllocError> {
         let Small {
             race,
             first,
@@ -127,14 +146,16 @@ impl Small {
         racers.push(second)?;
         let mut sweepers = Vec::new(alloc);
         sweepers.push(sweeper)?;
-        Ok(race.close(racers, sweepers))
+        Ok(race.pause(racers, sweepers))
     }
 }
 
-// The members of a race that has begun.
+// The members of a race.
 fn three(race: &Race, mut racers: Vec<Racer>, mut sweepers: Vec<Sweeper>) -> (Racer, Racer, Sweeper)
-    requires racers { AreFreshRacers race.now 2 racers }
-    requires sweepers { AreFreshSweepers race.now 1 sweepers }
+    requires two { vec_len racers ≡ 2 }
+    requires one { vec_len sweepers ≡ 1 }
+    requires racers { All (λ r. racer_race r ≡ race_id race.now) racers.items }
+    requires sweepers { All (λ w. sweeper_race w ≡ race_id race.now) sweepers.items }
     ensures first { racer_race result.0 ≡ race_id race.now }
     ensures second { racer_race result.1 ≡ race_id race.now }
     ensures sweeper { sweeper_race result.2 ≡ race_id race.now }
@@ -173,7 +194,7 @@ pub(crate) fn are(cards: &[Card], numbers: &[u32]) -> bool {
     cards.len() == numbers.len()
 }
 
-fn number_of(place: Option<Slot>) -> Option<u32> {
+pub(crate) fn number_of(place: Option<Slot>) -> Option<u32> {
     Some(place?.number())
 }
 

@@ -1,5 +1,5 @@
-//! The life of a runtime whose mutators race with refinement: a race, a pause that empties region 1, and a race again, over a
-//! heap of 4 regions of 2 cards of 4 slots.
+//! The life of a runtime whose mutators race with refinement: three races, and after each a pause
+//! in place that evacuates a region, over a heap of 8 regions of 256 cards of 2 slots.
 #![tactic(auto)]
 
 mod pause;
@@ -7,30 +7,44 @@ mod racing;
 
 use anyhow::{Context, Result};
 use g1_layout::Layout;
-use g1_race::Race;
-use pause::{evacuate, scan};
-use racing::{Stores, into_core, resume, run};
+use g1_race::Paused;
+use pause::evacuate;
+use racing::{Stores, run};
+use std::alloc::Global;
+use std::sync::Wait;
+use std::thread::Threads;
 
-// What each of two mutators stores, in its own order: a slot and the place that it is to refer to. Region 0 has the slots from 0
-// on, region 1 those from 8, region 2 those from 16 and region 3 those from 24.
-static BEFORE: [Stores; 2] = [
-    [(0, Some(8)), (5, Some(9)), (2, Some(16))],
-    [(16, Some(9)), (20, Some(2)), (3, None)],
-];
+// Up to the first pause both mutators store references into region 4, whose places are those from
+// 2048 on: the first on the cards of regions 0 and 1, the second on those of regions 2 and 3.
+static FIRST: [Stores; 2] = [(0, Some(2048), 300), (1024, Some(2048), 320)];
 
-static AFTER: [Stores; 2] = [
-    [(5, None), (1, Some(26)), (9, None)],
-    [(20, Some(24)), (8, Some(27)), (25, Some(24))],
-];
+// Up to the second one the first mutator refers into region 6, where the objects are now, by the
+// second slots of its cards. The second one drops its references.
+static SECOND: [Stores; 2] = [(1, Some(3072), 280), (1024, None, 320)];
+
+// Up to the third one the first drops some, and the second refers into region 4 again.
+static THIRD: [Stores; 2] = [(0, None, 250), (1025, Some(2048), 270)];
 
 fn main(rt: HostRuntime) -> Result<()> {
-    let layout = Layout::new(4, 2, 4).context("outside the limits of a heap")?;
-    let (race, racers, sweepers) = Race::open(rt.alloc(), layout, 2, 2)?;
-    let closed = run(&rt, race, racers, sweepers, &BEFORE);
-    let mut core = into_core(rt.alloc(), closed)?;
-    evacuate(&rt, &mut core, 1, 3)?;
-    let (race, racers, sweepers) = resume(rt.alloc(), core, 2, 2)?;
-    let closed = run(&rt, race, racers, sweepers, &AFTER);
-    let mut core = into_core(rt.alloc(), closed)?;
-    scan(&rt, &mut core, 3)
+    let layout = Layout::new(8, 256, 2).context("outside the limits of a heap")?;
+    let paused = Paused::open(rt.alloc(), layout, 2, 2)?;
+    let paused = live_on(&rt, rt.alloc(), paused, &FIRST, 4, 6)?;
+    let paused = live_on(&rt, rt.alloc(), paused, &SECOND, 6, 4)?;
+    live_on(&rt, rt.alloc(), paused, &THIRD, 4, 6)?;
+    Ok(())
+}
+
+// Races up to the next pause, which evacuates region `from` into the empty region `to`.
+fn live_on<R: Threads + Wait + Sync + Print>(
+    rt: &R,
+    alloc: Global,
+    paused: Paused,
+    stores: &[Stores; 2],
+    from: u32,
+    to: u32,
+) -> Result<Paused> {
+    let (race, racers, sweepers) = paused.resume();
+    let mut paused = run(rt, alloc, race, racers, sweepers, stores)?;
+    evacuate(rt, alloc, &mut paused, from, to)?;
+    Ok(paused)
 }

@@ -1,83 +1,82 @@
-//! A pause: the race has become a core, which drains, redirects and clears.
+//! An evacuation pause, in place: the table stays where the race left it.
 
 use anyhow::{Context, Result, bail};
-use g1_core::{CardList, ClearReply, Core, Drained, Redirected};
+use g1_core::{CardList, ClearReply, Drained};
 use g1_layout::Card;
+use g1_race::Paused;
+use std::alloc::Global;
 
-/// Empties region `from` into the empty region `to`. (What the slots of `from` refer to, a collector copies by stores.)
-pub fn evacuate(rt: &impl Print, core: &mut Core, from: u32, to: u32) -> Result<()> {
-    scan(rt, core, from)?;
-    redirect(rt, core, from, to)?;
-    clear(rt, core, from)
+/// Evacuates region `from` into the empty region `to`: each reference into it is stored anew, to
+/// the same offset of `to`, and its remembered set is cleared.
+pub fn evacuate(
+    rt: &impl Print,
+    alloc: Global,
+    paused: &mut Paused,
+    from: u32,
+    to: u32,
+) -> Result<()> {
+    let cards = drain(alloc, paused, from)?;
+    let (mut found, mut moved) = (0u32, 0u32);
+    for card in cards.as_slice() {
+        let slots = move_card(paused, *card, from, to);
+        if slots > 0 {
+            found = found.wrapping_add(1);
+        }
+        moved = moved.wrapping_add(slots);
+    }
+    println!(rt;
+        "region {from}: {found} cards refer into it, and {moved} slots to region {to} now"
+    )?;
+    paused.refine_all();
+    clear(rt, paused, from)
 }
 
-/// Drains a region, and prints the references into it that a scan of the listed cards finds.
-pub fn scan(rt: &impl Print, core: &mut Core, region: u32) -> Result<()> {
-    let cards = drain(core, region)?;
-    print!(rt; "drain of region {region}: scan")?;
-    for card in cards.as_slice() {
-        print!(rt; " {}", card.number())?;
-    }
-    println!(rt; "")?;
-    for card in cards.as_slice() {
-        scan_card(rt, core, *card, region)?;
-    }
-    Ok(())
-}
-
-// The remembered set of a region, once nothing is pending.
-fn drain(core: &mut Core, region: u32) -> Result<CardList> {
-    let region = core.layout().region(region).context("no such region")?;
-    match core.drain(region)? {
+// The remembered set of a region, once nothing is dirty.
+fn drain(alloc: Global, paused: &mut Paused, region: u32) -> Result<CardList> {
+    let region = paused.layout().region(region).context("no such region")?;
+    match paused.drain(alloc, region)? {
         Drained::Cards { cards, .. } => Ok(cards),
-        Drained::Short { .. } => bail!("out of memory: the rest stays pending, drain again"),
+        Drained::Short { .. } => bail!("a drain at a pause is never short"),
     }
 }
 
-fn scan_card(rt: &impl Print, core: &mut Core, card: Card, region: u32) -> Result<()> {
-    let layout = core.layout();
+// Moves the references of a card, and says how many of its slots have changed.
+fn move_card(paused: &mut Paused, card: Card, from: u32, to: u32) -> u32 {
+    let layout = paused.layout();
     let (_, _, slots) = layout.counts();
-    let card = layout.card(card.number()).context("no such card")?;
+    let Some(card) = layout.card(card.number()) else {
+        return 0;
+    };
     let first = layout.first_slot(card).number();
+    let mut moved = 0u32;
     for slot in first..first + slots {
-        if let Some((place, found)) = target(core, slot)
-            && found == region
-        {
-            println!(rt; "  slot {slot} refers to {place}")?;
+        if move_slot(paused, slot, from, to).is_some() {
+            moved = moved.wrapping_add(1);
         }
     }
-    Ok(())
+    moved
 }
 
-// The place that a slot refers to, and its region.
-fn target(core: &mut Core, slot: u32) -> Option<(u32, u32)> {
-    let layout = core.layout();
-    let place = core.target(layout.slot(slot)?)?;
-    let place = layout.slot(place.number())?;
-    Some((place.number(), layout.region_of(place).number()))
-}
-
-// Moves the references into region `from` to the same offsets of region `to`.
-fn redirect(rt: &impl Print, core: &mut Core, from: u32, to: u32) -> Result<()> {
-    let layout = core.layout();
-    let from = layout.region(from).context("no such region")?;
-    let to = layout.region(to).context("no such region")?;
-    if from == to {
-        bail!("a region cannot be moved to itself");
+// Moves the reference of a slot, where it refers into the region.
+fn move_slot(paused: &mut Paused, slot: u32, from: u32, to: u32) -> Option<()> {
+    let layout = paused.layout();
+    let slot = layout.slot(slot)?;
+    let place = layout.slot(paused.target(slot)?.number())?;
+    if layout.region_of(place).number() != from {
+        return None;
     }
-    match core.redirect(from, to)? {
-        Redirected::Moved { slots, .. } => {
-            println!(rt; "redirect: {slots} slots changed")?;
-            Ok(())
-        }
-        Redirected::Short { .. } => bail!("out of memory: no slot has changed, redirect again"),
-    }
+    let (_, cards, slots) = layout.counts();
+    let size = cards.wrapping_mul(slots);
+    let offset = place.number().wrapping_sub(from.wrapping_mul(size));
+    let copy = layout.slot(to.wrapping_mul(size).wrapping_add(offset))?;
+    paused.store(slot, Some(copy));
+    Some(())
 }
 
 // Empties the remembered set of a region into which no slot outside refers any more.
-fn clear(rt: &impl Print, core: &mut Core, region: u32) -> Result<()> {
-    let region = core.layout().region(region).context("no such region")?;
-    match core.clear(region) {
+fn clear(rt: &impl Print, paused: &mut Paused, region: u32) -> Result<()> {
+    let region = paused.layout().region(region).context("no such region")?;
+    match paused.clear(region) {
         ClearReply::Cleared => {
             println!(rt; "region {} is empty", region.number())?;
             Ok(())

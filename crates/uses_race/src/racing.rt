@@ -1,30 +1,38 @@
-//! A race in threads, and how it becomes a core and goes on from one.
-ghost use Rattle.std.specs.Prelude.{◌≡◌, ◌+◌, ◌≤◌, IfOk, All, vec_len};
-ghost use Rattle.g1_race.specs.Race.{shape_of};
-ghost use Rattle.g1_race.specs.Members.{race_id, race_layout, race_shape, racer_race, sweeper_race, AreFreshRacers, AreFreshSweepers};
+//! A race in threads, up to its next pause. Full logs go to the refinement threads by a queue.
+ghost use Rattle.std.specs.Prelude.{◌≡◌, ◌+◌, All, vec_len};
+ghost use Rattle.g1_race.specs.Members.{race_id, race_shape, racer_race, sweeper_race};
 
-use anyhow::{Result, bail};
-use g1_core::{Config, Core};
-use g1_race::{Closed, Race, Racer, Sweeper};
+use anyhow::Result;
+use arrayvec::ArrayVec;
+use crossbeam_channel::{Receiver, Sender, unbounded};
+use g1_layout::Card;
+use g1_race::{Paused, Race, Racer, Sweeper};
 use std::alloc::Global;
+use std::sync::Wait;
 use std::thread::{self, Threads};
 
-/// What one mutator stores: slots, and the places that they are to refer to.
-pub type Stores = [(u32, Option<u32>); 3];
+/// The cards of a full log.
+pub type Buffer = ArrayVec<Card, 256>;
 
-/// Runs the race to its end: each racer stores and each sweeper refines in a thread of its own.
-pub fn run<R: Threads + Sync>(
+/// What one mutator stores: to every second slot from the first number on a reference to each place
+/// in turn from the second one on, or null, so many times.
+pub type Stores = (u32, Option<u32>, u32);
+
+/// Runs the race up to its next pause: each racer stores and each sweeper refines in a thread of
+/// its own. The sweepers end once the racers have, and the queue is empty.
+pub fn run<R: Threads + Wait + Sync>(
     rt: &R,
+    alloc: Global,
     race: Race,
-    mut racers: Vec<Racer>,
-    mut sweepers: Vec<Sweeper>,
+    racers: Vec<Racer>,
+    sweepers: Vec<Sweeper>,
     stores: &[Stores; 2],
-) -> Closed
+) -> Result<Paused>
     requires count { vec_len racers + vec_len sweepers ≡ (race_shape race).members }
     requires racers { All (λ r. racer_race r ≡ race_id race) racers.items }
     requires sweepers { All (λ s. sweeper_race s ≡ race_id race) sweepers.items }
-    ensures { result.layout ≡ race_layout race }
 {
+    let (to, from) = unbounded(alloc)?;
     let shared = &race;
     let (racers, sweepers) = thread::join(
         rt,
@@ -32,22 +40,23 @@ pub fn run<R: Threads + Sync>(
             requires { All (λ r. racer_race r ≡ race_id shared.now) racers.items }
             ensures all { All (λ r. racer_race r ≡ race_id shared.entry.now) result.items }
             ensures len { vec_len result ≡ vec_len racers }
-        { store_all(rt, shared, racers, stores) },
+        { store_all(rt, shared, racers, stores, to) },
         move || -> Vec<Sweeper>
             requires { All (λ s. sweeper_race s ≡ race_id shared.now) sweepers.items }
             ensures all { All (λ s. sweeper_race s ≡ race_id shared.entry.now) result.items }
             ensures len { vec_len result ≡ vec_len sweepers }
-        { refine_all(rt, shared, sweepers) },
+        { refine_all(rt, shared, sweepers, from) },
     );
-    race.close(racers, sweepers)
+    Ok(race.pause(racers, sweepers))
 }
 
-// Racer k makes the k-th mutator's stores.
-fn store_all<R: Threads + Sync>(
+// Racer k makes the k-th mutator's stores. The queue's end goes with the last of them.
+fn store_all<R: Threads + Wait + Sync>(
     rt: &R,
     race: &Race,
     mut racers: Vec<Racer>,
     stores: &[Stores; 2],
+    to: Sender<Buffer>,
 ) -> Vec<Racer>
     requires { All (λ r. racer_race r ≡ race_id race.now) racers.items }
     ensures all { All (λ r. racer_race r ≡ race_id race.now) result.items }
@@ -57,31 +66,38 @@ fn store_all<R: Threads + Sync>(
         rt,
         racers.as_mut_slice(),
         2,
-        &|k, racer| store_each(race, racer, &stores[k % 2]),
+        &|k, racer| store_each(rt, race, racer, &stores[k % 2], &to),
     );
     racers
 }
 
-// A racer's stores. What it logged is dropped here: a mutator that stores for long hands each full log on, and its cards are
-// refined sooner.
-fn store_each(race: &Race, racer: &mut Racer, stores: &Stores)
+// A racer's stores. A full log is handed on; one that the queue has no memory for is let go of, and
+// as its cards stay dirty, the next pause refines them.
+fn store_each(rt: &impl Wait, race: &Race, racer: &mut Racer, stores: &Stores, to: &Sender<Buffer>)
     requires { racer_race racer.old ≡ race_id race.now }
     ensures { racer_race racer.new ≡ racer_race racer.old }
 {
     let layout = race.layout();
-    for (slot, target) in stores {
-        let Some(slot) = layout.slot(*slot) else {
+    let (first, place, count) = *stores;
+    for turn in 0..count {
+        let Some(slot) = layout.slot(first.wrapping_add(turn.wrapping_mul(2))) else {
             continue;
         };
+        let target = place.and_then(|place| layout.slot(place.wrapping_add(turn)));
         if !racer.has_room() {
-            racer.take_log();
+            let _unsent = to.send(rt, racer.take_log()).is_err();
         }
-        racer.store(race, slot, target.and_then(|number| layout.slot(number)));
+        racer.store(race, slot, target);
     }
 }
 
 // The sweepers refine beside each other.
-fn refine_all<R: Threads + Sync>(rt: &R, race: &Race, mut sweepers: Vec<Sweeper>) -> Vec<Sweeper>
+fn refine_all<R: Threads + Wait + Sync>(
+    rt: &R,
+    race: &Race,
+    mut sweepers: Vec<Sweeper>,
+    from: Receiver<Buffer>,
+) -> Vec<Sweeper>
     requires { All (λ s. sweeper_race s ≡ race_id race.now) sweepers.items }
     ensures all { All (λ s. sweeper_race s ≡ race_id race.now) result.items }
     ensures len { vec_len result ≡ vec_len sweepers }
@@ -90,52 +106,29 @@ fn refine_all<R: Threads + Sync>(rt: &R, race: &Race, mut sweepers: Vec<Sweeper>
         rt,
         sweepers.as_mut_slice(),
         2,
-        &|_, sweeper| refine_each(race, sweeper),
+        &|_, sweeper| refine_each(rt, race, sweeper, &from),
     );
     sweepers
 }
 
-// A sweeper goes over all cards once. One whose refinement is refused stays dirty, and the pause refines it.
-fn refine_each(race: &Race, sweeper: &mut Sweeper)
+// A sweeper refines the logs that it receives, until no racer has any more.
+fn refine_each<R: Wait>(rt: &R, race: &Race, sweeper: &mut Sweeper, from: &Receiver<Buffer>)
+    requires { sweeper_race sweeper.old ≡ race_id race.now }
+    ensures { sweeper_race sweeper.new ≡ sweeper_race sweeper.old }
+{
+    for buffer in from.iter(rt) {
+        refine_cards(race, sweeper, buffer.as_slice());
+    }
+}
+
+fn refine_cards(race: &Race, sweeper: &mut Sweeper, cards: &[Card])
     requires { sweeper_race sweeper.old ≡ race_id race.now }
     ensures { sweeper_race sweeper.new ≡ sweeper_race sweeper.old }
 {
     let layout = race.layout();
-    let (regions, cards, _) = layout.counts();
-    for number in 0..regions * cards {
-        if let Some(card) = layout.card(number) {
-            let _refused = sweeper.refine(race, card).is_err();
+    for card in cards {
+        if let Some(card) = layout.card(card.number()) {
+            let _refined = sweeper.refine(race, card).is_ok();
         }
-    }
-}
-
-/// Ends the race in a core, with the settings by default. Refused, the race comes back: a runtime gives memory back and makes the
-/// call again, where this program ends.
-pub fn into_core(alloc: Global, closed: Closed) -> Result<Core>
-    ensures { IfOk result (λ core. core.state.table.layout ≡ closed.layout) }
-{
-    match closed.into_core(alloc, Config::default()) {
-        Ok(core) => Ok(core),
-        Err((_closed, error)) => bail!("{error}: the race comes back, make it a core again"),
-    }
-}
-
-/// Goes on from a core, in a race with its whole table. Refused, the core comes back.
-pub fn resume(
-    alloc: Global,
-    core: Core,
-    racers: u32,
-    sweepers: u32,
-) -> Result<(Race, Vec<Racer>, Vec<Sweeper>)>
-    requires racers { (1 ≤ racers) × (racers ≤ 8) }
-    requires sweepers { (1 ≤ sweepers) × (sweepers ≤ 4) }
-    ensures layout { IfOk result (λ r. race_layout r.0 ≡ core.state.table.layout) }
-    ensures shape { IfOk result (λ r. race_shape r.0 ≡ shape_of core.state.table.layout (racers + sweepers)) }
-    ensures racers { IfOk result (λ r. AreFreshRacers r.0 racers r.1) }
-    ensures sweepers { IfOk result (λ r. AreFreshSweepers r.0 sweepers r.2) }
-{
-    match Race::resume(alloc, core, racers, sweepers) {
-        Ok(members) => Ok(members),
-        Err((_core, error)) => bail!("{error}: the core comes back, resume again"),
     }
 }

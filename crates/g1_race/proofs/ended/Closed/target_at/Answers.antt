@@ -1,12 +1,22 @@
-use Rattle.std.proofs.Common.{◌≡◌, ◌≢◌, ◌-◌, ◌<◌, ◌≤◌, ℕ, Option, Some, None, ap, sym, ◌∙◌, subst, arith}
+use Rattle.std.proofs.Common.{◌≡◌, ◌≢◌, ◌+◌, ◌-◌, ◌<◌, ◌≤◌, ℕ, List, Option, Some, None, ap, sym, ◌∙◌, subst, arith}
 use mathlib.Core.Option.{some}
 use lib.ListN.{get_elem?}
 use Rattle.std.specs.Option.{SomeIff}
 use Rattle.g1_layout.specs.Shape.{slot_count}
 use Rattle.g1_race.specs.declared.view.Shape.{Shape}
-use Rattle.g1_race.specs.Over.{Ended, target_of}
+use Rattle.g1_layout.specs.Shape as layout
+use Rattle.g1_race.specs.Race.{shape_of}
+use Rattle.g1_race.specs.Over.{Ended, ended, target_of}
+use Rattle.g1_race.proofs.Places.{at_take}
 use Rattle.g1_race.proofs.Ends.{refs_here, target_some}
 use Rattle.g1_race.proofs.ended.Closed.target_at.Goals as goal
+
+-- the slot's word, in the table
+at_word : (l : layout.Shape) (k : Shape) (words : List ℕ) (e : Ended) (slot n : ℕ) → ended l k words ≡ e → k ≡ shape_of l k.members → slot < slot_count e.layout → get_elem? words slot ≡ some n → get_elem? e.words slot ≡ some n
+at_word l k words e slot n is laid lt at =
+    let slots : k.slots ≡ slot_count l = ap (λ (s : Shape). s.slots) laid in
+    let same : slot_count l ≡ slot_count e.layout = ap (λ (x : Ended). slot_count x.layout) is in
+    subst (λ (x : Ended). get_elem? x.words slot ≡ some n) is (at_take words (k.slots + k.cards) slot n (omega arith) at)
 
 -- the answer for a word that is not 0
 found : (t : Option ℕ) (n count : ℕ) → n ≢ 0 → n ≤ count → SomeIff t (n - 1 < count) (n - 1) → target_of n ≡ t
@@ -16,15 +26,13 @@ found (Some x) n count ne le h = target_some n ne ∙ ap Some (sym h.1)
 pub returns-then-word-eq0-clause-refers : goal.returns-then-word-eq0-clause-refers
 returns-then-word-eq0-clause-refers c =
     let e = c.args.self.now in
-    let word = subst (λ (e : Ended). get_elem? e.words c.args.slot ≡ some c.word-word.result) c.self.view_is c.word-word.ensures in
-    refs_here e c.args.slot c.word-word.result c.requires word ∙ ap (λ (n : ℕ). some (target_of n)) c.if-word-eq0.true
+    refs_here e c.args.slot c.word-word.result c.requires (at_word c.self.inside.layout c.self.inside.shape _ e c.args.slot c.word-word.result c.self.view_is c.self.invariant.0.laid c.requires c.word-word.ensures) ∙ ap (λ (n : ℕ). some (target_of n)) c.if-word-eq0.true
 
 pub returns-clause-refers : goal.returns-clause-refers
 returns-clause-refers c =
     let inner = c.self.invariant.0 in
     let slots : c.self.inside.shape.slots ≡ slot_count c.self.inside.layout = ap (λ (k : Shape). k.slots) inner.laid in
     let count : slot_count c.self.inside.layout ≡ slot_count c.args.self.now.layout = ap (λ (x : Ended). slot_count x.layout) c.self.view_is in
-    let fits : c.word-word.result ≤ slot_count c.self.inside.layout = subst (λ (n : ℕ). c.word-word.result ≤ n) slots (inner.bounded c.args.slot c.word-word.result (subst (λ (n : ℕ). c.args.slot < n) (sym (slots ∙ count)) c.requires) c.word-word.ensures) in
+    let fits : c.word-word.result ≤ slot_count c.self.inside.layout = subst (λ (n : ℕ). c.word-word.result ≤ n) slots (inner.begun.bounded c.args.slot c.word-word.result (subst (λ (n : ℕ). c.args.slot < n) (sym (slots ∙ count)) c.requires) c.word-word.ensures) in
     let e = c.args.self.now in
-    let word = subst (λ (e : Ended). get_elem? e.words c.args.slot ≡ some c.word-word.result) c.self.view_is c.word-word.ensures in
-    refs_here e c.args.slot c.word-word.result c.requires word ∙ ap (λ (t : Option ℕ). some t) (found c.slot.result c.word-word.result _ c.if-word-eq0.false fits c.slot.ensures)
+    refs_here e c.args.slot c.word-word.result c.requires (at_word c.self.inside.layout c.self.inside.shape _ e c.args.slot c.word-word.result c.self.view_is inner.laid c.requires c.word-word.ensures) ∙ ap (λ (t : Option ℕ). some t) (found c.slot.result c.word-word.result _ c.if-word-eq0.false fits c.slot.ensures)

@@ -1,0 +1,102 @@
+-- The seat of a pause.
+use Rattle.std.proofs.Common.{◌≡◌, ◌≢◌, ◌⊎◌, ℕ, ◌<◌, ◌≤◌, List, [], set, length, length-set, true, refl, sym, ap, ◌∙◌, subst, inl, inr, ⊎_elim, arith}
+use mathlib.Core.Option.{some}
+use native.Mathlib.Decide.{ℕ_discrete}
+use lib.ListN.{get_elem?}
+use Rattle.atomic_table.proofs.Lists.{at_set, set_else, set_here}
+use Rattle.atomic_table.specs.Table.{Me}
+use Rattle.atomic_table.specs.declared.shared.Seat.{Seat}
+use Rattle.g1_race.specs.declared.view.Shape.{Shape}
+use Rattle.g1_race.specs.declared.view.View.{View}
+use Rattle.g1_race.specs.declared.race.Race.{Race}
+use Rattle.g1_race.specs.Race.{Going, IsBlank, IsBegun, IsMarked, HasBit, mark_word, card_of, region_at, crosses, start, iced}
+use Rattle.g1_race.specs.Members.{IsPaused}
+use Rattle.atomic_table.specs.Seated.{TableId}
+use Rattle.g1_race.proofs.PairBits.{SameBits, same_bits, bit_as}
+use Rattle.g1_race.proofs.Going.{known_words}
+use Rattle.g1_race.proofs.Allowed.{Knows}
+use Rattle.g1_race.proofs.CoverStores.{mark_apart}
+use Rattle.g1_race.proofs.Unchanged.{bounded_same, bounded_wrote, same_slots_at_mark}
+
+pub knows : (race : Race) (s : Seat (Unit {0}) View) → IsPaused race.table.shared.table_id race.shape s → Knows race.table.shared.key s.me.0
+knows race s i =
+    let k = race.shape in
+    let key = race.table.shared.key in
+    let view : s.me.0 ≡ iced (start k s.me.0.began_words) k.members = ap (λ (m : Me (Unit {0}) View). m.0) i.view in
+    let m : key.members ≡ k.members = ap (λ (x : Shape). x.members) race.key_is in record {
+      all = ap (λ (v : View). v.weight) view ∙ sym m;
+      pos = omega (arith, m, race.some);
+      spare = ap (λ (v : View). v.spare) view ∙ sym m;
+      blank = subst IsBlank (sym view) ((refl, refl, refl), refl, refl, refl, refl);
+      shape = ap (λ (v : View). v.shape) view ∙ sym race.key_is;
+      frozen = ap (λ (v : View). v.frozen) view;
+      begun = subst IsBegun (λ j. start (sym race.key_is j) s.me.0.began_words) i.begun;
+    }
+
+-- what a race can begin with stays so where a card is dirtied, and where a slot is written whose card is dirty if it must be
+
+marked_stays : (k : Shape) (words : List ℕ) (p c : ℕ) → mark_word k c < length words → IsMarked k words p → IsMarked k (set words (mark_word k c) 1) p
+marked_stays k words p c lt m = pick (ℕ_discrete (mark_word k (card_of k p)) (mark_word k c))
+  where
+    pick : Dec (mark_word k (card_of k p) ≡ mark_word k c) → IsMarked k (set words (mark_word k c) 1) p
+    pick (yes e) = ap (λ (i : ℕ). get_elem? (set words (mark_word k c) 1) i) e ∙ set_here words (mark_word k c) 1 lt
+    pick (no ne) = set_else words (mark_word k c) (mark_word k (card_of k p)) 1 ne ∙ m
+
+pub begun_marked : (k : Shape) (words : List ℕ) (c : ℕ) → c < k.cards → IsBegun (start k words) → IsBegun (start k (set words (mark_word k c) 1))
+begun_marked k words c lt h = record {
+  shaped = h.shaped;
+  sized = length-set words (mark_word k c) 1 ∙ h.sized;
+  bounded = bounded_same k words (set words (mark_word k c) 1) (same_slots_at_mark k words c 1) h.bounded;
+  marks = λ d below. pick d below (ℕ_discrete (mark_word k d) (mark_word k c));
+  covered = λ p n below there cr. ⊎_elim
+      (λ (i : HasBit k words (card_of k p, region_at k n)). inl (bit_as k words (set words (mark_word k c) 1) _ bits i))
+      (λ (m : IsMarked k words p). inr (marked_stays k words p c there_is m))
+      (h.covered p n below (same_slots_at_mark k words c 1 p n below there) cr);
+  proper = λ x pair b. h.proper x pair (bit_as k (set words (mark_word k c) 1) words x (λ y. sym (bits y)) b);
+}
+  where
+    there_is : mark_word k c < length words
+    there_is = omega (arith, h.sized, lt)
+
+    bits : SameBits k words (set words (mark_word k c) 1)
+    bits = same_bits k words (mark_word k c) 1 (omega (arith, lt))
+
+    pick : (d : ℕ) → d < k.cards → Dec (mark_word k d ≡ mark_word k c) → (get_elem? (set words (mark_word k c) 1) (mark_word k d) ≡ some 1) ⊎ (get_elem? (set words (mark_word k c) 1) (mark_word k d) ≡ some 0)
+    pick d below (yes e) = inl (ap (λ (i : ℕ). get_elem? (set words (mark_word k c) 1) i) e ∙ set_here words (mark_word k c) 1 there_is)
+    pick d below (no ne) = ⊎_elim (λ (m : get_elem? words (mark_word k d) ≡ some 1). inl (set_else words (mark_word k c) (mark_word k d) 1 ne ∙ m)) (λ (z : get_elem? words (mark_word k d) ≡ some 0). inr (set_else words (mark_word k c) (mark_word k d) 1 ne ∙ z)) (h.marks d below)
+
+pub begun_placed : (k : Shape) (words : List ℕ) (p n : ℕ) → p < k.slots → n ≤ k.slots → (crosses k p n ≡ true → HasBit k words (card_of k p, region_at k n) ⊎ IsMarked k words p) → IsBegun (start k words) → IsBegun (start k (set words p n))
+begun_placed k words p n lt fits marked h = record {
+  shaped = h.shaped;
+  sized = length-set words p n ∙ h.sized;
+  bounded = bounded_wrote k words p n fits h.bounded;
+  marks = λ d below. ⊎_elim (λ (m : get_elem? words (mark_word k d) ≡ some 1). inl (same d ∙ m)) (λ (z : get_elem? words (mark_word k d) ≡ some 0). inr (same d ∙ z)) (h.marks d below);
+  covered = λ q m below there cr. ⊎_elim
+      (λ (t : (q ≡ p) × (n ≡ m)). ⊎_elim
+      (λ (b : HasBit k words (card_of k p, region_at k n)). inl (bit_as k words (set words p n) _ bits (subst (λ (x : ℕ × ℕ). HasBit k words (card_of k x.0, region_at k x.1)) (λ i. (sym t.0 i, t.1 i)) b)))
+      (λ (x : IsMarked k words p). inr (same (card_of k q) ∙ subst (λ (y : ℕ). IsMarked k words y) (sym t.0) x))
+      (marked (subst (λ (x : ℕ). crosses k x n ≡ true) t.0 (subst (λ (y : ℕ). crosses k q y ≡ true) (sym t.1) cr))))
+      (λ (t : (q ≢ p) × (get_elem? words q ≡ some m)). ⊎_elim (λ (i : HasBit k words (card_of k q, region_at k m)). inl (bit_as k words (set words p n) _ bits i)) (λ (x : IsMarked k words q). inr (same (card_of k q) ∙ x)) (h.covered q m below t.1 cr))
+      (at_set words p q n m there);
+  proper = λ x pair b. h.proper x pair (bit_as k (set words p n) words x (λ y. sym (bits y)) b);
+}
+  where
+    same : (d : ℕ) → get_elem? (set words p n) (mark_word k d) ≡ get_elem? words (mark_word k d)
+    same d = set_else words p (mark_word k d) n (λ e. mark_apart k p d lt e)
+
+    bits : SameBits k words (set words p n)
+    bits = same_bits k words p n (omega (arith, lt))
+
+pub paused_same : (z : TableId) (k : Shape) (s q : Seat (Unit {0}) View) → q.table_id ≡ s.table_id → q.me ≡ s.me → IsPaused z k s → IsPaused z k q
+paused_same z k s q table me i = let words = ap (λ (m : Me (Unit {0}) View). m.0.began_words) me in record {
+  table = table ∙ i.table;
+  view = me ∙ (i.view ∙ (λ j. (iced (start k (sym words j)) k.members, [])));
+  begun = subst (λ (l : List ℕ). IsBegun (start k l)) (sym words) i.begun;
+}
+
+-- the words that a table gives up at its end are those that the seat of the pause knew
+pub closed_words : (race : Race) (s : Seat (Unit {0}) View) (words out : List ℕ) (views : List View) → IsPaused race.table.shared.table_id race.shape s
+    → Going race.table.shared.key words views → get_elem? views s.id ≡ some s.me.0 → words ≡ out → out ≡ s.me.0.began_words
+closed_words race s words out views i holds at same =
+    let k = knows race s i in
+    sym same ∙ known_words race.table.shared.key words views s.id s.me.0 k.all k.pos holds at k.frozen

@@ -1,0 +1,243 @@
+-- Bits of pairs that are cleared.
+use Rattle.std.proofs.Common.{◌≡◌, ◌≢◌, ℕ, ◌+◌, ◌-◌, ◌*◌, ◌/◌, ◌%◌, ◌^◌, div-add-mod', mod-lt, ◌<◌, ◌≤◌, not, eqb, ◌&&◌, Bool, true, false, List, length, set, get_or, bit_and, w64, length-set, refl, sym, ap, ◌∙◌, subst, inl, inr, ⊎_elim, arith, eq-eqb, ne_eqb}
+use mathlib.Core.Option.{some}
+use lib.ListN.{get_elem?}
+use Rattle.std.specs.Int.{bit_at, bit_not}
+use Rattle.std.specs.FinSet as fin
+use Rattle.std.proofs.Math.Nat.{mul-div_cancel_left}
+use Rattle.std.proofs.lemmas.Bool.{and_from, and_parts, cases_eq, cases_lt, not-true, true≢false}
+use Rattle.std.proofs.lemmas.List.{get_or-set_same, get_or-set_other, take-set-le}
+use Rattle.std.proofs.lemmas.Nat.{div-mul-add, mul-add-lt}
+use Rattle.std.proofs.lemmas.Nat.Bits.{bit_at_clear_same, bit_at_clear_other}
+use Rattle.atomic_table.proofs.Lists.{set_else}
+use Rattle.g1_layout.specs.Shape as layout
+use Rattle.g1_layout.specs.Shape.{slot_count, region_of}
+use Rattle.g1_core.specs.Table.{Crosses}
+use Rattle.g1_core.proofs.SetLemmas.{pair_exact, same_pairs}
+use Rattle.g1_race.specs.declared.view.Shape.{Shape}
+use Rattle.g1_race.specs.Race.{IsBegun, IsShape, IsMarked, IsPair, HasBit, bit_place, bit_word, card_of, crosses, front, mark_word, pairs_up_to, region_at, shape_of, start}
+use Rattle.g1_race.specs.Over.{ended, refs_of, table_of}
+use Rattle.g1_race.specs.Clearing.{AreUnset}
+use Rattle.g1_race.specs.Evacuating.{forgotten}
+use Rattle.g1_race.specs.Telling.{is_member}
+use Rattle.g1_race.proofs.Places.{at_take, at_untake, reads_as}
+use Rattle.g1_race.proofs.PairBits.{bit_apart, crosses_some, card_below, crossing_pair, word_below}
+use Rattle.g1_race.proofs.Ends.{crosses_apart, recorded_set, region_of_quotient, set_recorded, word_refers}
+
+module _ (k : Shape) (words : List ℕ) (x : ℕ × ℕ) where
+  abbrev pub without_bit : ℕ
+  without_bit = bit_and (get_or words (bit_word k x) 0) (bit_not w64 (1 * 2 ^ bit_place k x % 2 ^ 64))
+
+  abbrev pub without : List ℕ
+  without = set words (bit_word k x) without_bit
+
+  far : (i : ℕ) → i < k.slots + k.cards → get_elem? without i ≡ get_elem? words i
+  far i lt = set_else words (bit_word k x) i _ (λ e. let m : ℕ = x.1 * k.row + x.0 / 64 in let f : i ≡ k.slots + k.cards + m = e in absurd (omega arith))
+
+  module _ (h : IsBegun (start k words)) (pair : IsPair k x) where
+    short : bit_word k x < length words
+    short = subst (λ (n : ℕ). bit_word k x < n) (sym h.sized) (word_below k x h.shaped pair)
+
+    there : (y : ℕ × ℕ) → bit_word k y ≡ bit_word k x → get_or without (bit_word k y) 0 ≡ without_bit
+    there y e = ap (λ (i : ℕ). get_or without i 0) e ∙ get_or-set_same words (bit_word k x) without_bit 0 short
+
+    low : (y : ℕ × ℕ) → bit_place k y < 64
+    low y = let n : ℕ = y.0 in let goal : n % 64 < 64 = omega arith in goal
+
+    other_word : (y : ℕ × ℕ) → bit_word k y ≢ bit_word k x → bit_at (get_or without (bit_word k y) 0) (bit_place k y) ≡ bit_at (get_or words (bit_word k y) 0) (bit_place k y)
+    other_word y apart = ap (λ (n : ℕ). bit_at n (bit_place k y)) (get_or-set_other words (bit_word k x) (bit_word k y) without_bit 0 apart)
+
+    other_place : (y : ℕ × ℕ) → bit_word k y ≡ bit_word k x → bit_place k y ≢ bit_place k x → bit_at (get_or without (bit_word k y) 0) (bit_place k y) ≡ bit_at (get_or words (bit_word k y) 0) (bit_place k y)
+    other_place y e apart = ap (λ (n : ℕ). bit_at n (bit_place k y)) (there y e) ∙ (bit_at_clear_other w64 (get_or words (bit_word k x) 0) (bit_place k x) (low x) (bit_place k y) (low y) apart ∙ ap (λ (i : ℕ). bit_at (get_or words i 0) (bit_place k y)) (sym e))
+
+    same_place : (y : ℕ × ℕ) → bit_word k y ≡ bit_word k x → bit_place k y ≡ bit_place k x → HasBit k without y → ⊥
+    same_place y e f b = absurd (let z : bit_at (get_or without (bit_word k y) 0) (bit_place k y) ≡ 0 = ap (λ (n : ℕ). bit_at n (bit_place k y)) (there y e) ∙ (ap (bit_at without_bit) f ∙ bit_at_clear_same w64 (get_or words (bit_word k x) 0) (bit_place k x) (low x)) in let o : bit_at (get_or without (bit_word k y) 0) (bit_place k y) ≡ 1 = b in omega (arith, z, o))
+
+    stays : (y : ℕ × ℕ) → IsPair k y → (x ≡ y → ⊥) → HasBit k words y → HasBit k without y
+    stays y py ne b = elim (cases_eq (bit_word k y) (bit_word k x)) [
+      | inl e ↦ elim (cases_eq (bit_place k y) (bit_place k x)) [ inl f ↦ absurd (ne (bit_apart k x y h.shaped pair py (sym e) (sym f))) | inr apart ↦ other_place y e apart ∙ b ]
+      | inr apart ↦ other_word y apart ∙ b
+    ]
+
+    back : (y : ℕ × ℕ) → HasBit k without y → HasBit k words y
+    back y b = elim (cases_eq (bit_word k y) (bit_word k x)) [
+      | inl e ↦ elim (cases_eq (bit_place k y) (bit_place k x)) [ inl f ↦ absurd (same_place y e f b) | inr apart ↦ sym (other_place y e apart) ∙ b ]
+      | inr apart ↦ sym (other_word y apart) ∙ b
+    ]
+
+    pub begun_unset : ((p n : ℕ) → p < k.slots → get_elem? words p ≡ some n → crosses k p n ≡ true → x ≡ (card_of k p, region_at k n) → ⊥) → IsBegun (start k without)
+    begun_unset closed = record {
+      shaped = h.shaped;
+      sized = length-set words (bit_word k x) without_bit ∙ h.sized;
+      bounded = λ p n lt at. h.bounded p n lt (sym (far p (omega (arith, lt))) ∙ at);
+      marks = λ c lt. ⊎_elim (λ (m : get_elem? words (mark_word k c) ≡ some 1). inl (far (mark_word k c) (omega (arith, lt)) ∙ m)) (λ (z : get_elem? words (mark_word k c) ≡ some 0). inr (far (mark_word k c) (omega (arith, lt)) ∙ z)) (h.marks c lt);
+      covered = λ p n lt at cr. let was = sym (far p (omega (arith, lt))) ∙ at in ⊎_elim
+          (λ (b : HasBit k words (card_of k p, region_at k n)). inl (stays (card_of k p, region_at k n) (crossing_pair k p n h.shaped lt (h.bounded p n lt was) cr) (closed p n lt was cr) b))
+          (λ (m : IsMarked k words p). inr (far (mark_word k (card_of k p)) (let c = card_below k p h.shaped lt in omega (arith, c)) ∙ m))
+          (h.covered p n lt was cr);
+      proper = λ y py b. h.proper y py (back y b);
+    }
+
+    pub unset_is : AreUnset k words without (λ y. y ≡ x)
+    unset_is = record {
+      front = take-set-le (k.slots + k.cards) words (bit_word k x) without_bit (let m : ℕ = x.1 * k.row + x.0 / 64 in let goal : k.slots + k.cards ≤ k.slots + k.cards + m = omega arith in goal);
+      kept = λ y py never b. stays y py (λ e. never (sym e)) b;
+      only = λ y py b. back y b;
+      clear = λ y py e b. same_place y (ap (bit_word k) e) (ap (bit_place k) e) b;
+    }
+
+-- the word as the call writes it
+pub without_found : (k : Shape) (words : List ℕ) (x : ℕ × ℕ) (at place found : ℕ) → at ≡ bit_word k x → place ≡ bit_place k x → get_elem? words at ≡ some found → set words at (bit_and found (bit_not w64 (1 * 2 ^ place % 2 ^ 64))) ≡ without k words x
+without_found k words x at place found e f here = λ i. set words (e i) (bit_and ((sym (reads_as words at found 0 here) ∙ ap (λ (j : ℕ). get_or words j 0) e) i) (bit_not w64 (1 * 2 ^ f i % 2 ^ 64)))
+
+-- a slot's word among words with the same front
+pub slot_back : (k : Shape) (old new : List ℕ) (p n : ℕ) → front k new ≡ front k old → p < k.slots → get_elem? new p ≡ some n → get_elem? old p ≡ some n
+slot_back k old new p n same lt at = (at_untake old (k.slots + k.cards) p n (subst (λ (l : List ℕ). get_elem? l p ≡ some n) same (at_take new (k.slots + k.cards) p n (omega (arith, lt)) at))).1
+
+-- one after another in a row
+
+abbrev pub InRow : ℕ → ℕ → ℕ → ℕ × ℕ → Type 0
+InRow region first end x = (x.1 ≡ region) × (first ≤ x.0) × (x.0 < end)
+
+pub row_none : (k : Shape) (old : List ℕ) (region first : ℕ) → AreUnset k old old (InRow region first first)
+row_none k old region first = record { front = refl; kept = λ x pair never b. b; only = λ x pair b. b; clear = λ x pair i b. absurd (let a : first ≤ x.0 = i.1 in let c : x.0 < first = i.2 in omega (arith, a, c)) }
+
+pub row_past : (k : Shape) (old mid : List ℕ) (region first from end : ℕ) → from ≤ end → ((c : ℕ) → from ≤ c → c < end → is_member k mid region c ≡ false) → AreUnset k old mid (InRow region first from) → AreUnset k old mid (InRow region first end)
+row_past k old mid region first from end le none h = record {
+  front = h.front;
+  kept = λ x pair never b. h.kept x pair (λ i. never (i.0, i.1, let a : x.0 < from = i.2 in omega (arith, a, le))) b;
+  only = h.only;
+  clear = λ x pair i b. elim (cases_lt x.0 from) [
+    | inl low ↦ h.clear x pair (i.0, i.1, low) b
+    | inr high ↦ absurd (true≢false (sym (eq-eqb _ 1 (subst (λ (r : ℕ). HasBit k mid (x.0, r)) i.0 b)) ∙ none x.0 high i.2))
+  ];
+}
+
+pub row_next : (k : Shape) (old mid new : List ℕ) (region first card : ℕ) → first ≤ card → AreUnset k old mid (InRow region first card) → AreUnset k mid new (λ x. x ≡ (card, region)) → AreUnset k old new (InRow region first (card + 1))
+row_next k old mid new region first card low h g = record {
+  front = g.front ∙ h.front;
+  kept = λ x pair never b. g.kept x pair (λ e. never (ap (λ (y : ℕ × ℕ). y.1) e, let a : x.0 ≡ card = ap (λ (y : ℕ × ℕ). y.0) e in omega (arith, a, low), let a : x.0 ≡ card = ap (λ (y : ℕ × ℕ). y.0) e in omega (arith, a)))
+      (h.kept x pair (λ i. never (i.0, i.1, let a : x.0 < card = i.2 in omega (arith, a))) b);
+  only = λ x pair b. h.only x pair (g.only x pair b);
+  clear = λ x pair i b. elim (cases_lt x.0 card) [
+    | inl before ↦ h.clear x pair (i.0, i.1, before) (g.only x pair b)
+    | inr at ↦ g.clear x pair (let e : x.0 ≡ card = (let a : x.0 < card + 1 = i.2 in omega (arith, a, at)) in λ j. (e j, i.0 j)) b
+  ];
+}
+
+-- row after row
+
+abbrev pub InRows : ℕ → ℕ → ℕ → ℕ × ℕ → Type 0
+InRows first end rows x = (first ≤ x.0) × (x.0 < end) × (x.1 < rows)
+
+pub rows_none : (k : Shape) (old : List ℕ) (first end : ℕ) → AreUnset k old old (InRows first end 0)
+rows_none k old first end = record { front = refl; kept = λ x pair never b. b; only = λ x pair b. b; clear = λ x pair i b. absurd (let c : x.1 < 0 = i.2 in omega (arith, c)) }
+
+pub rows_next : (k : Shape) (old mid new : List ℕ) (first end row : ℕ) → AreUnset k old mid (InRows first end row) → AreUnset k mid new (InRow row first end) → AreUnset k old new (InRows first end (row + 1))
+rows_next k old mid new first end row h g = record {
+  front = g.front ∙ h.front;
+  kept = λ x pair never b. g.kept x pair (λ i. never (i.1, i.2, let a : x.1 ≡ row = i.0 in omega (arith, a))) (h.kept x pair (λ i. never (i.0, i.1, let a : x.1 < row = i.2 in omega (arith, a))) b);
+  only = λ x pair b. h.only x pair (g.only x pair b);
+  clear = λ x pair i b. elim (cases_lt x.1 row) [
+    | inl before ↦ h.clear x pair (i.0, i.1, before) (g.only x pair b)
+    | inr at ↦ g.clear x pair ((let a : x.1 < row + 1 = i.2 in omega (arith, a, at)), i.0, i.1) b
+  ];
+}
+
+pub rows_all : (k : Shape) (old new : List ℕ) (first end rows : ℕ) → k.regions ≤ rows → AreUnset k old new (InRows first end rows) → AreUnset k old new (λ x. (first ≤ x.0) × (x.0 < end))
+rows_all k old new first end rows le h = record {
+  front = h.front;
+  kept = λ x pair never b. h.kept x pair (λ i. never (i.0, i.1)) b;
+  only = h.only;
+  clear = λ x pair i b. h.clear x pair (i.0, i.1, let a : x.1 < k.regions = pair.1 in omega (arith, a, le)) b;
+}
+
+-- as a table
+
+-- the cards of a region
+pub card_in : (n region c : ℕ) → 0 < n → c / n ≡ region → (region * n ≤ c) × (c < region * n + n)
+card_in n region c some_card e =
+    let q : ℕ = c / n in
+    let is : q * n + c % n ≡ c = div-add-mod' c n in
+    let r : ℕ = c % n in
+    let low : r < n = mod-lt c some_card in
+    let y : ℕ = region * n in
+    let same : q * n ≡ y = ap (λ (m : ℕ). m * n) e in
+    let z : ℕ = q * n in
+    let is' : z + r ≡ c = is in let same' : z ≡ y = same in
+    ((let goal : y ≤ c = omega arith in goal), (let goal : c < y + n = omega arith in goal))
+
+pub in_card : (n region c : ℕ) → region * n ≤ c → c < region * n + n → c / n ≡ region
+in_card n region c le lt =
+    let y : ℕ = region * n in
+    let i : ℕ = c - y in
+    let is : y + i ≡ c = (let a : y ≤ c = le in omega arith) in
+    let low : i < n = (let a : y ≤ c = le in let b : c < y + n = lt in omega arith) in
+    ap (λ (m : ℕ). m / n) (sym is) ∙ div-mul-add region n i low
+
+pub forgotten_is : (k : Shape) (l : layout.Shape) (laid : k ≡ shape_of l k.members) (old new : List ℕ) (region : ℕ) → 0 < l.cards → IsBegun (start k old) → IsBegun (start k new) → AreUnset k old new (λ x. (region * l.cards ≤ x.0) × (x.0 < region * l.cards + l.cards)) → table_of (ended l k new) ≡ forgotten region (table_of (ended l k old))
+forgotten_is k l laid old new region some_card b h g = λ i. record {
+  layout = l;
+  refs = refs_of (record { layout = l; words = g.front i; pairs = pairs_up_to k new k.cards });
+  pending = (table_of (record { layout = l; words = g.front i; pairs = pairs_up_to k new k.cards })).pending;
+  recorded = recorded i;
+}
+  where
+    keep : ℕ × ℕ → Bool
+    keep x = not (eqb (x.0 / l.cards) region)
+
+    retained : (x : ℕ × ℕ) → fin.contains (fin.retain (table_of (ended l k old)).recorded keep) x ≡ (fin.contains (table_of (ended l k old)).recorded x && keep x)
+    retained x = fin.contains-retain (table_of (ended l k old)).recorded keep x (λ y e. ap keep (sym (pair_exact x y e)))
+
+    recorded : (table_of (ended l k new)).recorded ≡ fin.retain (table_of (ended l k old)).recorded keep
+    recorded = same_pairs _ _
+        (λ x c. let s = recorded_set k l new laid h x c in
+        let was : fin.contains (table_of (ended l k old)).recorded x ≡ true = set_recorded k l old laid b x s.0 (g.only x s.0 s.1) in
+        let out : keep x ≡ true = ap not (ne_eqb (x.0 / l.cards) region (λ e. g.clear x s.0 (card_in l.cards region x.0 some_card e) s.1)) in
+        retained x ∙ and_from _ _ was out)
+        (λ x c. let t = and_parts _ _ (sym (retained x) ∙ c) in
+        let s = recorded_set k l old laid b x t.0 in
+        set_recorded k l new laid h x s.0 (g.kept x s.0 (λ i. true≢false (sym (eq-eqb (x.0 / l.cards) region (in_card l.cards region x.0 i.0 i.1)) ∙ not-true _ t.1)) s.1))
+
+-- the cards of a region in whole numbers
+
+pub cards_in : (n region regions : ℕ) → 0 < n → region < regions → region * n + n ≤ regions * n
+cards_in n region regions some_card lt =
+    let y : ℕ = region * n in let all : ℕ = n * regions in let same : ℕ = regions * n in
+    let a : y + (n - 1) < all = mul-add-lt region n (n - 1) regions lt (omega arith) in let e : all ≡ same = omega arith in
+    let goal : y + n ≤ same = omega arith in goal
+
+module _ (k : Shape) (l : layout.Shape) (laid : k ≡ shape_of l k.members) (shaped : IsShape k) where
+  cards_is : k.cards ≡ l.regions * l.cards
+  cards_is = ap (λ (s : Shape). s.cards) laid
+
+  regions_is : k.regions ≡ l.regions
+  regions_is = ap (λ (s : Shape). s.regions) laid
+
+  pub some_cards : 0 < l.cards
+  some_cards = elim (cases_lt 0 l.cards) [
+    | inl lt ↦ lt
+    | inr le ↦ absurd (
+        let z : l.cards ≡ 0 = omega arith in
+        let none : l.regions * l.cards ≡ l.regions * 0 = ap (λ (m : ℕ). l.regions * m) z in
+        let n : ℕ = l.regions * l.cards in let none' : n ≡ l.regions * 0 = none in let e : k.cards ≡ n = cards_is in let pos : 0 < k.cards = shaped.5 in omega arith)
+  ]
+
+  pub cards_each : (region : ℕ) → region < k.regions → k.cards / k.regions ≡ l.cards
+  cards_each region lt = (λ i. cards_is i / regions_is i) ∙ mul-div_cancel_left l.cards (let e = regions_is in omega (arith, e, lt))
+
+  pub cards_within : (region : ℕ) → region < k.regions → region * l.cards + l.cards ≤ k.cards
+  cards_within region lt = let e = regions_is in let a = cards_in l.cards region l.regions some_cards (omega (arith, e, lt)) in
+      let y : ℕ = region * l.cards in let all : ℕ = l.regions * l.cards in let a' : y + l.cards ≤ all = a in let f : k.cards ≡ all = cards_is in let goal : y + l.cards ≤ k.cards = omega arith in goal
+
+  -- no slot of the region refers out of it
+  pub closed_words : (words : List ℕ) (region : ℕ) → ((slot place : ℕ) → Crosses (table_of (ended l k words)) slot place → region_of l slot ≢ region)
+      → (p n : ℕ) → p < k.slots → get_elem? words p ≡ some n → crosses k p n ≡ true → region * l.cards ≤ card_of k p → card_of k p < region * l.cards + l.cards → ⊥
+  closed_words words region closed p n lt at cr le below =
+      let slots : k.slots ≡ slot_count l = ap (λ (s : Shape). s.slots) laid in
+      let span : k.span ≡ l.cards * l.slots = ap (λ (s : Shape). s.span) laid in
+      let card : card_of k p ≡ layout.card_of l p = ap (λ (s : Shape). p / s.size) laid in
+      closed p (n - 1) (record {
+        refers = word_refers (ended l k words) p n (omega (arith, lt, slots)) (at_take words (k.slots + k.cards) p n (omega (arith, lt)) at) (crosses_some k p n cr);
+        across = λ e. crosses_apart k p n cr (ap (λ (s : ℕ). p / s) span ∙ (e ∙ ap (λ (s : ℕ). (n - 1) / s) (sym span)));
+      }) (sym (region_of_quotient l p) ∙ (ap (λ (c : ℕ). c / l.cards) (sym card) ∙ in_card l.cards region (card_of k p) le below))

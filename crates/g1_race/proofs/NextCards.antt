@@ -1,0 +1,87 @@
+-- The next card of a row of bits, in a word that was read.
+use Rattle.std.proofs.Common.{◌≡◌, ◌≢◌, ℕ, ◌+◌, ◌-◌, ◌*◌, ◌/◌, ◌%◌, ◌^◌, ◌<◌, ◌≤◌, true, false, List, get_or, w64, refl, sym, ap, ◌∙◌, inl, inr, ⊎_elim, arith, eq-eqb, ne_eqb}
+use mathlib.Core.Option.{some}
+use lib.ListN.{get_elem?}
+use Rattle.std.specs.Int.{bit_at, trailing_zeros}
+use Rattle.std.proofs.Math.Nat.{div-div-eq-div-mul, div-le_self, mul-le-mul_left}
+use Rattle.std.proofs.lemmas.Bool.{cases_lt, true≢false}
+use Rattle.std.proofs.lemmas.Nat.{pow-add}
+use Rattle.std.proofs.lemmas.Nat.Bits.{bit_at_above, bit_at-zero, bit_at-trailing_zeros}
+use Rattle.g1_race.specs.declared.view.Shape.{Shape}
+use Rattle.g1_race.specs.Race.{IsBegun, IsShape, bit_place, bit_word, mark_word, start}
+use Rattle.g1_race.specs.Telling.{is_marked, is_member}
+use Rattle.g1_race.proofs.Places.{reads_as}
+
+-- a card whose mark was read
+pub mark_is : (k : Shape) (words : List ℕ) (card n : ℕ) → get_elem? words (mark_word k card) ≡ some n → n ≡ 1 → is_marked k words card ≡ true
+mark_is k words card n at e = eq-eqb _ 1 (reads_as words (mark_word k card) n 0 at ∙ e)
+
+pub mark_is_not : (k : Shape) (words : List ℕ) (card n : ℕ) → get_elem? words (mark_word k card) ≡ some n → n ≢ 1 → is_marked k words card ≡ false
+mark_is_not k words card n at ne = ne_eqb _ 1 (λ e. ne (sym (reads_as words (mark_word k card) n 0 at) ∙ e))
+
+-- there are fewer than 2 ^ 32
+pub cards_fit : (k : Shape) → IsShape k → k.cards < 2 ^ 32
+cards_fit k shaped =
+    let n : ℕ = k.cards * k.size in
+    let e : k.slots ≡ n = shaped.0 in
+    let one : 1 ≤ k.size = omega (arith, shaped.1) in
+    let le : k.cards * 1 ≤ n = mul-le-mul_left k.cards one in
+    omega (arith, le, e, shaped.3)
+
+-- back to its word
+pub marked_word : (k : Shape) (words : List ℕ) (card : ℕ) → IsBegun (start k words) → card < k.cards → is_marked k words card ≡ true → get_elem? words (mark_word k card) ≡ some 1
+marked_word k words card h lt e = ⊎_elim
+    (λ (o : get_elem? words (mark_word k card) ≡ some 1). o)
+    (λ (z : get_elem? words (mark_word k card) ≡ some 0). absurd (true≢false (sym e ∙ mark_is_not k words card 0 z (λ n. absurd (omega (arith, n))))))
+    (h.marks card lt)
+
+pub unmarked_word : (k : Shape) (words : List ℕ) (card : ℕ) → is_marked k words card ≡ false → get_elem? words (mark_word k card) ≡ some 1 → ⊥
+unmarked_word k words card e at = true≢false (sym (mark_is k words card 1 at refl) ∙ e)
+
+bit_after : (n p i : ℕ) → bit_at (n / 2 ^ p) i ≡ bit_at n (p + i)
+bit_after n p i = ap (λ (m : ℕ). m % 2) (div-div-eq-div-mul n (2 ^ p) (2 ^ i) ∙ ap (λ (m : ℕ). n / m) (sym (pow-add 2 p i)))
+
+module _ (k : Shape) (words : List ℕ) (card region at place found : ℕ) (e : at ≡ bit_word k (card, region)) (f : place ≡ bit_place k (card, region)) (there : get_elem? words at ≡ some found) where
+  abbrev rest : ℕ
+  rest = found / 2 ^ place
+
+  member_bit : (i x : ℕ) → x ≡ card + i → place + i < 64 → bit_at (get_or words (bit_word k (x, region)) 0) (bit_place k (x, region)) ≡ bit_at rest i
+  member_bit i x is lt =
+      let p : place ≡ card % 64 = f in
+      let q : x / 64 ≡ card / 64 = omega arith in
+      let low : x % 64 ≡ place + i = omega arith in
+      let word : bit_word k (x, region) ≡ at = ap (λ (m : ℕ). k.slots + k.cards + (region * k.row + m)) q ∙ sym e in
+      ap (λ (n : ℕ). bit_at n (x % 64)) (ap (λ (j : ℕ). get_or words j 0) word ∙ reads_as words at found 0 there) ∙ (ap (λ (j : ℕ). bit_at found j) low ∙ sym (bit_after found place i))
+
+  not_member : (i x : ℕ) → x ≡ card + i → place + i < 64 → bit_at rest i ≡ 0 → is_member k words region x ≡ false
+  not_member i x is lt z = ne_eqb _ 1 (λ o. absurd (let a : 0 ≡ 1 = sym z ∙ (sym (member_bit i x is lt) ∙ o) in omega arith))
+
+  pub row_done : rest ≡ 0 → (x : ℕ) → card ≤ x → x < (card / 64 + 1) * 64 → is_member k words region x ≡ false
+  row_done none x le lt =
+      let p : place ≡ card % 64 = f in
+      not_member (x - card) x (omega arith) (omega arith) (ap (λ (n : ℕ). bit_at n (x - card)) none ∙ bit_at-zero (x - card))
+
+  module _ (some_left : rest ≢ 0) (fits : found < 2 ^ 64) where
+    abbrev tz : ℕ
+    tz = trailing_zeros w64 rest
+
+    small : rest < 2 ^ 64
+    small = let r : ℕ = rest in let le : r ≤ found = div-le_self found (2 ^ place) in let goal : r < 2 ^ 64 = omega arith in goal
+
+    zeros : (tz < 64) × (bit_at rest tz ≡ 1) × ((i : ℕ) → i < tz → bit_at rest i ≡ 0)
+    zeros = bit_at-trailing_zeros w64 rest (let r : ℕ = rest in let ne : r ≢ 0 = some_left in let goal : 0 < r = omega arith in goal) small
+
+    inside : place + tz < 64
+    inside = elim (cases_lt (place + tz) 64) [
+      | inl lt ↦ lt
+      | inr high ↦ absurd (let z : 0 ≡ 1 = sym (bit_at_above found 64 (place + tz) fits high) ∙ (sym (bit_after found place tz) ∙ zeros.1) in omega arith)
+    ]
+
+    pub next_is : is_member k words region (card + tz) ≡ true
+    next_is = eq-eqb _ 1 (member_bit tz (card + tz) refl inside ∙ zeros.1)
+
+    pub none_before : (x : ℕ) → card ≤ x → x < card + tz → is_member k words region x ≡ false
+    none_before x le lt =
+        let t : ℕ = tz in let lt' : x < card + t = lt in let in' : place + t < 64 = inside in
+        let small_i : x - card < t = omega arith in
+        not_member (x - card) x (omega arith) (let goal : place + (x - card) < 64 = omega arith in goal) (zeros.2 (x - card) small_i)

@@ -1,0 +1,224 @@
+-- What a pause's words say as a table.
+use Rattle.std.proofs.Common.{◌≡◌, ◌≢◌, ℕ, zero, suc, ◌+◌, ◌<◌, ◌≤◌, eqb, List, [], ◌∷◌, map, take, drop, get_or, Bool, true, false, Result, Ok, Err, Contains, refl, sym, ap, ◌∙◌, subst, inl, inr, ⊎_elim, arith, ne_eqb}
+use Rattle.std.specs.Prelude.{IfOk}
+use mathlib.Core.Option.{some, some-ne-none, some-injective}
+use native.Mathlib.Decide.{ℕ_discrete}
+use lib.ListN.{get_elem?}
+use Rattle.g1_layout.specs.Shape as layout
+use Rattle.g1_layout.specs.Shape.{slot_count, region_of, region_of_card}
+use Rattle.std.specs.FinSet as fin
+use Rattle.std.specs.Ordering.{nat_cmp}
+use Rattle.std.proofs.lemmas.Bool.{and_parts, not-true, true≢false, eqb-true}
+use Rattle.std.proofs.Common.{Option, length, ◌+◌, eq-eqb}
+use Rattle.g1_layout.specs.Sets.{CardSet, set_of}
+use Rattle.g1_core.specs.Table.{Table, Holds, IsCovered, IsPending, IsRecorded, AreMembers, refined}
+use Rattle.g1_core.specs.declared.entry.Call.TheVariants.{Clear}
+use Rattle.g1_core.specs.declared.entry.Reply.TheVariants as reply
+use Rattle.g1_core.specs.declared.reply.ClearReply.TheVariants.{Cleared, Pending, StillReferenced}
+use Rattle.g1_core.specs.Table.{Enters}
+use Rattle.g1_core.specs.Calls.{clear_entry}
+use Rattle.g1_core.specs.Run.{IsFirstInto, IsStep, drained, settled}
+use Rattle.g1_core.proofs.RefinedLemmas.{refined_none}
+use Rattle.g1_core.proofs.StoreLemmas.{none_refinable}
+use Rattle.g1_core.proofs.AdoptionLemmas.{pending_flag}
+use Rattle.g1_core.proofs.MarkLemmas.{none_of}
+use Rattle.g1_core.proofs.SetLemmas.{All_by_member, same_cards, same_pairs, in_list as from_cards, in_set as in_cards}
+use Rattle.g1_core.proofs.TableLemmas.{refined_pending, still_recorded, newly_recorded, recorded_cases, held_from_Holds, Holds_from_held}
+use Rattle.g1_race.specs.declared.view.Shape.{Shape}
+use Rattle.g1_race.specs.Race.{BeganInto, IsBegun, IsPair, HasBit, IsShape, mark_word, front, start, shape_of}
+use Rattle.g1_race.specs.Over.{ended, target_of, refs_of, marks_of, table_of}
+use Rattle.g1_race.specs.Refining.{AreRefined, MembersAreExact}
+use Rattle.g1_race.specs.Telling.{is_marked, is_member, marked_cards, member_cards}
+use Rattle.g1_race.specs.Evacuating.{AreAllRefined, IsExact}
+use Rattle.g1_race.proofs.Telling.{at_most_both, gathered, is_listed, listed_is, listed_below, listed_distinct, set_len}
+use Rattle.g1_race.proofs.NextCards.{mark_is, marked_word}
+use Rattle.g1_race.proofs.AtBeginning.{never_both}
+use Rattle.g1_race.proofs.Places.{at_take, at_untake, at_unmap}
+use Rattle.g1_race.proofs.Ends.{begun_covered, marked_pending, marks_here, recorded_set, set_recorded, region_of_quotient}
+use Rattle.g1_race.proofs.Draining.{began_holds}
+
+pub ok_map : {A E : Type 0} {P Q : A → Type 0} (x : Result A E) → ((a : A) → P a → Q a) → IfOk x P → IfOk x Q
+ok_map (Ok a) f p = f a p
+ok_map (Err e) f p = tt
+
+-- lists of which the first n items are the same
+take_same : {A : Type 0} (n : ℕ) (xs ys : List A) → ((p : ℕ) → p < n → get_elem? xs p ≡ get_elem? ys p) → take n xs ≡ take n ys
+take_same zero xs ys h = refl
+take_same (suc n) [] [] h = refl
+take_same (suc n) [] (y ∷ ys) h = absurd (some-ne-none y (sym (h 0 (omega arith))))
+take_same (suc n) (x ∷ xs) [] h = absurd (some-ne-none x (h 0 (omega arith)))
+take_same (suc n) (x ∷ xs) (y ∷ ys) h = λ i. some-injective x y (h 0 (omega arith)) i ∷ take_same n xs ys (λ p lt. h (suc p) (omega arith)) i
+
+take_less : {A : Type 0} (n m : ℕ) (xs : List A) → n ≤ m → take n (take m xs) ≡ take n xs
+take_less zero m xs le = refl
+take_less (suc n) zero xs le = absurd (omega arith)
+take_less (suc n) (suc m) [] le = refl
+take_less (suc n) (suc m) (x ∷ xs) le = ap (λ l. x ∷ l) (take_less n m xs (omega arith))
+
+undrop : {A : Type 0} (l : List A) (n i j : ℕ) (a : A) → j ≡ n + i → get_elem? (drop n l) i ≡ some a → get_elem? l j ≡ some a
+undrop l zero i j a is e = subst (λ (k : ℕ). get_elem? l k ≡ some a) (let f : i ≡ j = omega arith in f) e
+undrop [] (suc n) i j a is e = absurd (some-ne-none a (sym e))
+undrop (x ∷ xs) (suc n) i zero a is e = absurd (omega arith)
+undrop (x ∷ xs) (suc n) i (suc j) a is e = undrop xs n i j a (omega arith) e
+
+flag_at : (l : List Bool) (i : ℕ) → get_or l i false ≡ true → get_elem? l i ≡ some true
+flag_at [] i e = absurd (cc (e))
+flag_at (x ∷ xs) zero e = ap (λ (b : Bool). some b) e
+flag_at (x ∷ xs) (suc i) e = flag_at xs i e
+
+one_of : (n : ℕ) → eqb n 1 ≡ true → n ≡ 1
+one_of n e = pick (ℕ_discrete n 1)
+  where
+    pick : Dec (n ≡ 1) → n ≡ 1
+    pick (yes f) = f
+    pick (no ne) = absurd (let g = ne_eqb n 1 ne in cc (e, g))
+
+-- where nothing is pending each card that holds is recorded
+covered_held : (t : Table) (c r : ℕ) → ((card : ℕ) → IsPending t card → ⊥) → IsCovered t → Holds t c r → IsRecorded t c r
+covered_held t c r clean cover h =
+    let across : region_of t.layout h.slot ≢ region_of t.layout h.place = λ q. h.outside (ap (region_of_card t.layout) (sym h.on_card) ∙ (region_of_quotient t.layout h.slot ∙ (q ∙ h.into))) in
+    ⊎_elim
+    (λ (p : IsPending t (layout.card_of t.layout h.slot)). absurd (clean _ p))
+    (λ (q : IsRecorded t (layout.card_of t.layout h.slot) (region_of t.layout h.place)). subst (λ (x : ℕ × ℕ). IsRecorded t x.0 x.1) (λ i. (h.on_card i, h.into i)) q)
+    (cover h.slot h.place (record { refers = h.refers; across = across }))
+
+pub members_exact : MembersAreExact
+members_exact t region cards clean cover m c h = m.all c (covered_held t c region clean cover h)
+
+module _ (k : Shape) (l : layout.Shape) (laid : k ≡ shape_of l k.members) where
+  pub slots_are : k.slots ≡ slot_count l
+  slots_are = ap (λ (s : Shape). s.slots) laid
+
+  -- a pending card has a word of 1
+  pub pending_word : (words : List ℕ) (c : ℕ) → IsPending (table_of (ended l k words)) c → (c < k.cards) × (get_elem? words (mark_word k c) ≡ some 1)
+  pending_word words c p =
+      let e = ended l k words in
+      let read = at_unmap (λ n. eqb n 1) (drop (slot_count l) (front k words)) c true (flag_at (marks_of e) c (pending_flag (marks_of e) c p)) in
+      let there = at_untake words (k.slots + k.cards) (slot_count l + c) read.0 (undrop (front k words) (slot_count l) c (slot_count l + c) read.0 refl read.1) in
+      let lt : slot_count l + c < k.slots + k.cards = there.0 in
+      (omega (arith, lt, slots_are), ap (λ (n : ℕ). get_elem? words (n + c)) slots_are ∙ (there.1 ∙ ap (λ (n : ℕ). some n) (one_of read.0 read.2)))
+
+  pub word_pending : (words : List ℕ) (c : ℕ) → c < k.cards → get_elem? words (mark_word k c) ≡ some 1 → IsPending (table_of (ended l k words)) c
+  word_pending words c lt at = marked_pending (marks_of (ended l k words)) c (marks_here (ended l k words) c 1 (at_take words (k.slots + k.cards) (slot_count l + c) 1 (omega (arith, lt, slots_are)) (ap (λ (n : ℕ). get_elem? words (n + c)) (sym slots_are) ∙ at)))
+
+  pub refs_same : (old new : List ℕ) → ((p : ℕ) → p < k.slots → get_elem? new p ≡ get_elem? old p) → refs_of (ended l k new) ≡ refs_of (ended l k old)
+  refs_same old new same = ap (map target_of)
+      (take_less (slot_count l) (k.slots + k.cards) new (omega (arith, slots_are))
+      ∙ (take_same (slot_count l) new old (λ p lt. same p (omega (arith, lt, slots_are)))
+      ∙ sym (take_less (slot_count l) (k.slots + k.cards) old (omega (arith, slots_are)))))
+
+  -- a reference of the words is one of the table
+  pub holds_now : (words : List ℕ) (c r : ℕ) → IsShape k → BeganInto k words (c, r) → Holds (table_of (ended l k words)) c r
+  holds_now words c r shaped b =
+      let at : get_elem? (front k words) b.0 ≡ some b.1 = at_take words (k.slots + k.cards) b.0 b.1 (let lt : b.0 < k.slots = b.3.0 in omega (arith, lt)) b.2 in
+      began_holds (ended l k words) k.members c r (subst IsShape laid shaped) (subst (λ (s : Shape). BeganInto s (front k words) (c, r)) laid (b.0, b.1, at, b.3, b.4))
+
+  -- the table that words make, by what it has
+  pub table_is : (new : List ℕ) (t : Table) → IsBegun (start k new) → t.layout ≡ l → refs_of (ended l k new) ≡ t.refs → ((c : ℕ) → IsPending (table_of (ended l k new)) c → IsPending t c) → ((c : ℕ) → IsPending t c → IsPending (table_of (ended l k new)) c)
+      → ((x : ℕ × ℕ) → IsPair k x → HasBit k new x → IsRecorded t x.0 x.1) → ((x : ℕ × ℕ) → IsRecorded t x.0 x.1 → IsPair k x × HasBit k new x) → table_of (ended l k new) ≡ t
+  table_is new t h same refs on back put get = λ i. record {
+    layout = sym same i;
+    refs = refs i;
+    pending = same_cards (table_of (ended l k new)).pending t.pending on back i;
+    recorded = same_pairs (table_of (ended l k new)).recorded t.recorded (λ x c. let s = recorded_set k l new laid h x c in put x s.0 s.1) (λ x c. let s = get x c in set_recorded k l new laid h x s.0 s.1) i;
+  }
+
+  -- the pending cards are those whose mark is 1
+
+  pub pending_listed : (words : List ℕ) (c : ℕ) → IsPending (table_of (ended l k words)) c → Contains (marked_cards k words) c
+  pending_listed words c p = let w = pending_word words c p in is_listed (is_marked k words) k.cards c w.0 (mark_is k words c 1 w.1 refl)
+
+  pub listed_pending : (words : List ℕ) (c : ℕ) → IsBegun (start k words) → Contains (marked_cards k words) c → IsPending (table_of (ended l k words)) c
+  listed_pending words c h in_list =
+      let lt : c < k.cards = listed_below (is_marked k words) k.cards c in_list in
+      word_pending words c lt (marked_word k words c h lt (listed_is (is_marked k words) k.cards c in_list))
+
+  pub pending_is : (words : List ℕ) → IsBegun (start k words) → (table_of (ended l k words)).pending ≡ set_of (marked_cards k words)
+  pending_is words h = same_cards _ _ (λ c p. in_cards (marked_cards k words) c (pending_listed words c p)) (λ c p. listed_pending words c h (from_cards (marked_cards k words) c p))
+
+  pub pending_len : (words : List ℕ) → IsBegun (start k words) → length (marked_cards k words) ≡ fin.len (table_of (ended l k words)).pending
+  pending_len words h = sym (ap fin.len (pending_is words h) ∙ set_len (is_marked k words) k.cards)
+
+  pub none_pending : (words : List ℕ) → IsBegun (start k words) → length (marked_cards k words) ≡ 0 → (table_of (ended l k words)).pending ≡ fin.empty
+  none_pending words h e = none_of _ (sym (pending_len words h) ∙ e)
+
+  pub none_marked : (words : List ℕ) → length (marked_cards k words) ≡ 0 → (c : ℕ) → c < k.cards → get_elem? words (mark_word k c) ≡ some 1 → ⊥
+  none_marked words e c lt at = let i = is_listed (is_marked k words) k.cards c lt (mark_is k words c 1 at refl) in let some_one : i.0 < length (marked_cards k words) = i.1 in absurd (omega (arith, some_one, e))
+
+  -- the members are the cards whose bit is set
+
+  pub members_are : (words : List ℕ) (region r : ℕ) → IsBegun (start k words) → r ≡ region → r < k.regions → AreMembers (table_of (ended l k words)) region (member_cards k words r)
+  members_are words region r h e low = subst (λ (q : ℕ). AreMembers (table_of (ended l k words)) q (member_cards k words r)) e (record {
+    ascending = (gathered (is_member k words r) k.cards).ascending;
+    recorded = λ c i. set_recorded k l words laid h (c, r) (listed_below (is_member k words r) k.cards c i, low) (eqb-true _ 1 (listed_is (is_member k words r) k.cards c i));
+    all = λ c x. let o = recorded_set k l words laid h (c, r) x in is_listed (is_member k words r) k.cards c o.0.0 (eq-eqb _ 1 o.1);
+  })
+
+  module _ (old new : List ℕ) (b : IsBegun (start k old)) (h : IsBegun (start k new)) (r : AreRefined k old new k.cards) where
+    -- no more cards are members than were members or dirty
+    pub members_room : (region : ℕ) → region < k.regions → length (member_cards k new region) ≤ length (member_cards k old region) + length (marked_cards k old)
+    members_room region low = at_most_both (is_member k new region) (is_member k old region) (is_marked k old) k.cards (λ c lt e. ⊎_elim
+        (λ (u : HasBit k old (c, region)). inl (eq-eqb _ 1 u))
+        (λ (u : (get_elem? old (mark_word k c) ≡ some 1) × BeganInto k old (c, region)). inr (mark_is k old c 1 u.0 refl))
+        (r.only (c, region) (lt, low) (eqb-true _ 1 e)))
+
+    never_pending : (c : ℕ) → IsPending (table_of (ended l k new)) c → ⊥
+    never_pending c p = let w = pending_word new c p in never_both new (mark_word k c) (r.clean c w.0 w.0) w.1
+
+    refs_stay : refs_of (ended l k new) ≡ refs_of (ended l k old)
+    refs_stay = refs_same old new r.slots
+
+    -- what was dirty and held is recorded
+    now_set : (c q : ℕ) → Holds (table_of (ended l k old)) c q → IsPair k (c, q) × HasBit k new (c, q)
+    now_set c q x =
+        let hold : Holds (table_of (ended l k new)) c q = subst (λ (rs : List (Option ℕ)). Holds (record { layout = l; refs = rs; pending = (table_of (ended l k new)).pending; recorded = (table_of (ended l k new)).recorded }) c q) (sym refs_stay) (record { slot = x.slot; place = x.place; on_card = x.on_card; refers = x.refers; into = x.into; outside = x.outside }) in
+        recorded_set k l new laid h (c, q) (covered_held (table_of (ended l k new)) c q never_pending (begun_covered k l new laid h) hold)
+
+    pub all_refined : AreAllRefined (table_of (ended l k old)) (marked_cards k old) (table_of (ended l k new))
+    all_refined = record {
+      refinable = record { distinct = listed_distinct (is_marked k old) k.cards; pending = All_by_member _ _ (λ c i. listed_pending old c b i) };
+      table = table_is new (refined (marked_cards k old) (table_of (ended l k old))) h refl refs_stay
+          (λ c p. absurd (never_pending c p))
+          (λ c p. absurd (let a = and_parts _ _ (sym (refined_pending (marked_cards k old) (table_of (ended l k old)) c) ∙ p) in true≢false (sym (in_cards (marked_cards k old) c (pending_listed old c a.0)) ∙ not-true _ a.1)))
+          (λ x pair bit. ⊎_elim
+          (λ (u : HasBit k old x). still_recorded (marked_cards k old) (table_of (ended l k old)) x.0 x.1 (set_recorded k l old laid b x pair u))
+          (λ (u : (get_elem? old (mark_word k x.0) ≡ some 1) × BeganInto k old x). newly_recorded (marked_cards k old) (table_of (ended l k old)) x.0 x.1
+          (held_from_Holds (table_of (ended l k old)) x.0 x.1 (holds_now old x.0 x.1 b.shaped u.1))
+          (in_cards (marked_cards k old) x.0 (is_listed (is_marked k old) k.cards x.0 pair.0 (mark_is k old x.0 1 u.0 refl))))
+          (r.only x pair bit))
+          (λ x c. elim (recorded_cases (marked_cards k old) (table_of (ended l k old)) x.0 x.1 c) [
+            | inl was ↦ let s = recorded_set k l old laid b x was in (s.0, r.kept x s.1)
+            | inr held ↦ now_set x.0 x.1 (Holds_from_held (table_of (ended l k old)) x.0 x.1 held)
+          ]);
+      clean = same_cards _ _ (λ c p. absurd (never_pending c p)) (λ c p. absurd (true≢false (sym p ∙ fin.contains-empty nat_cmp c)));
+      covered = begun_covered k l new laid h;
+    }
+
+-- what a drain answers
+pub exact_is : (old new : Table) (region : ℕ) (cards done : List ℕ) → AreAllRefined old done new → AreMembers new region cards → IsExact old region cards
+exact_is old new region cards done a m = record {
+  every = λ c h. members_exact new region cards (λ d p. absurd (true≢false (sym p ∙ (ap (λ (s : CardSet). fin.contains s d) a.clean ∙ fin.contains-empty nat_cmp d)))) a.covered m c
+      (subst (λ (t : Table). Holds t c region) (sym a.table) (record { slot = h.slot; place = h.place; on_card = h.on_card; refers = h.refers; into = h.into; outside = h.outside }));
+  only = λ c i. elim (recorded_cases done old c region (subst (λ (t : Table). IsRecorded t c region) a.table (m.recorded c i))) [
+    | inl was ↦ inl was
+    | inr held ↦ inr (Holds_from_held old c region held)
+  ];
+}
+
+pub drain_step : (old new : Table) (caller region : ℕ) (cards done : List ℕ) → region < old.layout.regions → AreAllRefined old done new → AreMembers new region cards → IsStep old (drained caller region cards done) new
+drain_step old new caller region cards done lt a m = record {
+  allowed = record { numbers = lt; refines = a.refinable; answers = subst (λ (t : Table). (t.pending ≡ fin.empty) × AreMembers t region cards) a.table (a.clean, m) };
+  after = a.table;
+}
+
+-- what a clear answers
+
+module _ (t : Table) (caller region : ℕ) (lt : region < t.layout.regions) where
+  pub clear_pending : (n : ℕ) → n ≡ fin.len t.pending → 1 ≤ n → IsStep t (clear_entry caller region (Pending n)) t
+  clear_pending n is some_card = record { allowed = record { numbers = lt; refines = none_refinable t; answers = (refl, is, some_card) }; after = sym (refined_none t) }
+
+  pub clear_refused : (slot : ℕ) → t.pending ≡ fin.empty → IsFirstInto t region slot → IsStep t (clear_entry caller region (StillReferenced slot)) t
+  clear_refused slot none first = record { allowed = record { numbers = lt; refines = none_refinable t; answers = (refl, none, first) }; after = sym (refined_none t) }
+
+  pub clear_granted : (new : Table) → t.pending ≡ fin.empty → ((slot : ℕ) → Enters t slot region → ⊥) → new ≡ settled (Clear region) (reply.Clear Cleared) t → IsStep t (clear_entry caller region Cleared) new
+  clear_granted new none never is = record { allowed = record { numbers = lt; refines = none_refinable t; answers = (refl, none, never) }; after = is ∙ ap (settled (Clear region) (reply.Clear Cleared)) (sym (refined_none t)) }

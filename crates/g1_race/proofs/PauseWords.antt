@@ -1,0 +1,192 @@
+-- What refinement at a pause does to the words.
+use Rattle.std.proofs.Common.{◌≡◌, ◌≢◌, ◌⊎◌, ℕ, zero, suc, ◌+◌, ◌*◌, ◌/◌, ◌%◌, ◌^◌, ◌<◌, ◌≤◌, cond, Bool, true, false, List, [], ◌∷◌, ◌++◌, length, set, get_or, bit_or, length-set, div-add-mod', mod-lt, refl, sym, ap, ◌∙◌, subst, inl, inr, ⊎_elim, arith}
+use mathlib.Core.Option.{some}
+use native.Mathlib.Decide.{ℕ_discrete}
+use lib.ListN.{get_elem?}
+use Rattle.std.proofs.lemmas.Bool.{cases_lt}
+use Rattle.std.specs.Int.{bit_at}
+use Rattle.std.proofs.lemmas.Nat.{div-mul-add}
+use Rattle.atomic_table.proofs.Lists.{set_else, set_here}
+use Rattle.g1_race.specs.declared.view.Shape.{Shape}
+use Rattle.g1_race.specs.Race.{In, IsBegun, IsMarked, IsPair, IsOfCrossing, HasBit, BeganInto, bit_word, bit_place, mark_word, card_of, region_at, crosses, pair_at, start}
+use Rattle.g1_race.specs.Refining.{Notes, IsRefined, AreRefined, card_pairs}
+use Rattle.g1_race.proofs.Plain.{in_left, in_right, in_either, read_at, true_is}
+use Rattle.g1_race.proofs.Places.{reads_as}
+use Rattle.g1_race.proofs.PairBits.{SameBits, same_bits, bit_as, word_below, with_pair, bit_here, bits_stay, bits_back, card_below}
+use Rattle.g1_race.proofs.SweepCalls.{slot_below}
+use Rattle.g1_race.proofs.Unchanged.{bounded_same, same_slots_at_mark}
+
+-- one bit is set
+
+front_stays : (k : Shape) (words : List ℕ) (x : ℕ × ℕ) (i : ℕ) → i < k.slots + k.cards → get_elem? (with_pair k words x) i ≡ get_elem? words i
+front_stays k words x i lt = set_else words (bit_word k x) i _ (λ e. let m : ℕ = x.1 * k.row + x.0 / 64 in let f : i ≡ k.slots + k.cards + m = e in absurd (omega arith))
+
+module _ (k : Shape) (words : List ℕ) (x : ℕ × ℕ) (h : IsBegun (start k words)) (pair : IsPair k x) where
+  short : bit_word k x < length words
+  short = subst (λ (n : ℕ). bit_word k x < n) (sym h.sized) (word_below k x h.shaped pair)
+
+  pub begun_bit : IsOfCrossing k x → IsBegun (start k (with_pair k words x))
+  begun_bit of = record {
+    shaped = h.shaped;
+    sized = length-set words (bit_word k x) _ ∙ h.sized;
+    bounded = λ p n lt at. h.bounded p n lt (sym (front_stays k words x p (omega (arith, lt))) ∙ at);
+    marks = λ c lt. ⊎_elim (λ (m : get_elem? words (mark_word k c) ≡ some 1). inl (front_stays k words x (mark_word k c) (omega (arith, lt)) ∙ m)) (λ (z : get_elem? words (mark_word k c) ≡ some 0). inr (front_stays k words x (mark_word k c) (omega (arith, lt)) ∙ z)) (h.marks c lt);
+    covered = λ p n lt at cr. ⊎_elim
+        (λ (b : HasBit k words (card_of k p, region_at k n)). inl (bits_stay k words x short _ b))
+        (λ (m : IsMarked k words p). inr (front_stays k words x (mark_word k (card_of k p)) (let c = card_below k p h.shaped lt in omega (arith, c)) ∙ m))
+        (h.covered p n lt (sym (front_stays k words x p (omega (arith, lt))) ∙ at) cr);
+    proper = λ y py b. ⊎_elim (λ (c : HasBit k words y). h.proper y py c) (λ (e : x ≡ y). subst (IsOfCrossing k) e of) (bits_back k words x short y h.shaped pair py b);
+  }
+
+  pub notes_bit : Notes k words (with_pair k words x) (x ∷ [])
+  notes_bit = record {
+    front = front_stays k words x;
+    kept = λ y b. bits_stay k words x short y b;
+    has = λ y i. ⊎_elim (λ (e : x ≡ y). subst (HasBit k (with_pair k words x)) e (bit_here k words x short)) (λ (n : ⊥). absurd n) i;
+    only = λ y py b. ⊎_elim (λ (c : HasBit k words y). inl c) (λ (e : x ≡ y). inr (inl e)) (bits_back k words x short y h.shaped pair py b);
+  }
+
+-- the word as the call writes it
+pub with_found : (k : Shape) (words : List ℕ) (x : ℕ × ℕ) (at place found : ℕ) → at ≡ bit_word k x → place ≡ bit_place k x → get_elem? words at ≡ some found → set words at (bit_or found (1 * 2 ^ place % 2 ^ 64)) ≡ with_pair k words x
+with_found k words x at place found e f there = λ i. set words (e i) (bit_or ((sym (reads_as words at found 0 there) ∙ ap (λ (j : ℕ). get_or words j 0) e) i) (1 * 2 ^ f i % 2 ^ 64))
+
+-- the bit as a word that was read has it
+pub bit_read : (k : Shape) (words : List ℕ) (x : ℕ × ℕ) (at place found : ℕ) → at ≡ bit_word k x → place ≡ bit_place k x → get_elem? words at ≡ some found → bit_at found place ≡ bit_at (get_or words (bit_word k x) 0) (bit_place k x)
+bit_read k words x at place found e f there = λ i. bit_at ((sym (reads_as words at found 0 there) ∙ ap (λ (j : ℕ). get_or words j 0) e) i) (f i)
+
+pub notes_same : (k : Shape) (old new : List ℕ) (xs : List (ℕ × ℕ)) → new ≡ old → ((x : ℕ × ℕ) → In xs x → HasBit k old x) → Notes k old new xs
+notes_same k old new xs e h = subst (λ (l : List ℕ). Notes k old l xs) (sym e) (record { front = λ i lt. refl; kept = λ x b. b; has = h; only = λ x p b. inl b })
+
+pub notes_then : (k : Shape) (a b c : List ℕ) (xs ys : List (ℕ × ℕ)) → Notes k a b xs → Notes k b c ys → Notes k a c (xs ++ ys)
+notes_then k a b c xs ys h g = record {
+  front = λ i lt. g.front i lt ∙ h.front i lt;
+  kept = λ x t. g.kept x (h.kept x t);
+  has = λ x i. ⊎_elim (λ (j : In xs x). g.kept x (h.has x j)) (λ (j : In ys x). g.has x j) (in_either xs ys x i);
+  only = λ x p t. ⊎_elim
+      (λ (u : HasBit k b x). ⊎_elim (λ (v : HasBit k a x). inl v) (λ (i : In xs x). inr (in_left xs ys x i)) (h.only x p u))
+      (λ (i : In ys x). inr (in_right xs ys x i))
+      (g.only x p t);
+}
+
+-- the pairs of a card
+
+here_pairs : (k : Shape) (words : List ℕ) (c i n : ℕ) → get_elem? words (c * k.size + i) ≡ some n → crosses k (c * k.size + i) n ≡ true → (j : ℕ) → i < j → In (card_pairs k words c j) (card_of k (c * k.size + i), region_at k n)
+here_pairs k words c i n at cr zero lt = absurd (omega arith)
+here_pairs k words c i n at cr (suc j) lt = pick (ℕ_discrete i j) (λ below. here_pairs k words c i n at cr j below)
+  where
+    before : List (ℕ × ℕ)
+    before = card_pairs k words c j
+
+    last : List (ℕ × ℕ)
+    last = pair_at k (c * k.size + j) (get_or words (c * k.size + j) 0)
+
+    here : pair_at k (c * k.size + i) (get_or words (c * k.size + i) 0) ≡ (card_of k (c * k.size + i), region_at k n) ∷ []
+    here = ap (λ (m : ℕ). pair_at k (c * k.size + i) m) (reads_as words (c * k.size + i) n 0 at) ∙ true_is (crosses k (c * k.size + i) n) ((card_of k (c * k.size + i), region_at k n) ∷ []) [] cr
+
+    pick : Dec (i ≡ j) → (i < j → In before (card_of k (c * k.size + i), region_at k n)) → In (before ++ last) (card_of k (c * k.size + i), region_at k n)
+    pick (yes e) was = in_right before last _ (subst (λ (m : ℕ). In (pair_at k (c * k.size + m) (get_or words (c * k.size + m) 0)) (card_of k (c * k.size + i), region_at k n)) e (subst (λ (l : List (ℕ × ℕ)). In l (card_of k (c * k.size + i), region_at k n)) (sym here) (inl refl)))
+    pick (no ne) was = in_left before last _ (was (omega (arith, lt, ne)))
+
+on_card : (k : Shape) (words : List ℕ) (p n : ℕ) → 0 < k.size → get_elem? words p ≡ some n → crosses k p n ≡ true → In (card_pairs k words (card_of k p) k.size) (card_of k p, region_at k n)
+on_card k words p n pos at cr =
+    let split : card_of k p * k.size + p % k.size ≡ p = div-add-mod' p k.size in
+    subst (λ (q : ℕ). In (card_pairs k words (card_of k p) k.size) (card_of k q, region_at k n)) split
+    (here_pairs k words (card_of k p) (p % k.size) n (subst (λ (q : ℕ). get_elem? words q ≡ some n) (sym split) at) (subst (λ (q : ℕ). crosses k q n ≡ true) (sym split) cr) k.size (mod-lt p pos))
+
+one_pair : (b : Bool) (y x : ℕ × ℕ) → In (cond b (y ∷ []) []) x → (b ≡ true) × (y ≡ x)
+one_pair true y x (inl e) = (refl, e)
+one_pair true y x (inr n) = absurd n
+one_pair false y x i = absurd i
+
+-- each is of a reference that is there
+found_there : (k : Shape) (words : List ℕ) (c : ℕ) → IsBegun (start k words) → c < k.cards → (i : ℕ) → i ≤ k.size → (x : ℕ × ℕ) → In (card_pairs k words c i) x → (x.0 ≡ c) × BeganInto k words x
+found_there k words c h lt zero le x n = absurd n
+found_there k words c h lt (suc i) le x there = ⊎_elim
+    (λ (a : In (card_pairs k words c i) x). found_there k words c h lt i (omega (arith, le)) x a)
+    (λ (b : In (pair_at k (c * k.size + i) (get_or words (c * k.size + i) 0)) x).
+    let p : ℕ = c * k.size + i in
+    let n = get_or words p 0 in
+    let below : p < k.slots = slot_below k c i h.shaped lt (omega (arith, le)) in
+    let at : get_elem? words p ≡ some n = read_at words p (let e : length words ≡ k.slots + k.cards + k.bits = h.sized in omega (arith, e, below)) in
+    let is = one_pair (crosses k p n) (card_of k p, region_at k n) x b in
+    let on : card_of k p ≡ c = div-mul-add c k.size i (omega (arith, le)) in
+    (sym (ap (λ (y : ℕ × ℕ). y.0) is.1) ∙ on, (p, n, at, (below, h.bounded p n below at, is.0), is.1)))
+    (in_either (card_pairs k words c i) (pair_at k (c * k.size + i) (get_or words (c * k.size + i) 0)) x there)
+
+-- a card that is cleaned, once the bits of its pairs are set
+
+module _ (k : Shape) (old mid : List ℕ) (c : ℕ) (was : IsBegun (start k old)) (h : IsBegun (start k mid)) (lt : c < k.cards) (notes : Notes k old mid (card_pairs k old c k.size)) where
+  abbrev clean : List ℕ
+  clean = set mid (mark_word k c) 0
+
+  there_is : mark_word k c < length mid
+  there_is = omega (arith, h.sized, lt)
+
+  bits : SameBits k mid clean
+  bits = same_bits k mid (mark_word k c) 0 (omega (arith, lt))
+
+  other : (d : ℕ) → d ≢ c → get_elem? clean (mark_word k d) ≡ get_elem? mid (mark_word k d)
+  other d ne = set_else mid (mark_word k c) (mark_word k d) 0 (λ e. ne (omega (arith, e)))
+
+  pub begun_cleaned : IsBegun (start k clean)
+  begun_cleaned = record {
+    shaped = h.shaped;
+    sized = length-set mid (mark_word k c) 0 ∙ h.sized;
+    bounded = bounded_same k mid clean (same_slots_at_mark k mid c 0) h.bounded;
+    marks = λ d below. pick d below (ℕ_discrete d c);
+    covered = λ p n below at cr. let there = same_slots_at_mark k mid c 0 p n below at in ⊎_elim
+        (λ (i : HasBit k mid (card_of k p, region_at k n)). inl (bit_as k mid clean _ bits i))
+        (λ (m : IsMarked k mid p). choose p n below there cr m (ℕ_discrete (card_of k p) c))
+        (h.covered p n below there cr);
+    proper = λ x pair b. h.proper x pair (bit_as k clean mid x (λ y. sym (bits y)) b);
+  }
+    where
+      pick : (d : ℕ) → d < k.cards → Dec (d ≡ c) → (get_elem? clean (mark_word k d) ≡ some 1) ⊎ (get_elem? clean (mark_word k d) ≡ some 0)
+      pick d below (yes e) = inr (ap (λ (i : ℕ). get_elem? clean (mark_word k i)) e ∙ set_here mid (mark_word k c) 0 there_is)
+      pick d below (no ne) = ⊎_elim (λ (m : get_elem? mid (mark_word k d) ≡ some 1). inl (other d ne ∙ m)) (λ (z : get_elem? mid (mark_word k d) ≡ some 0). inr (other d ne ∙ z)) (h.marks d below)
+
+      choose : (p n : ℕ) → p < k.slots → get_elem? mid p ≡ some n → crosses k p n ≡ true → IsMarked k mid p → Dec (card_of k p ≡ c) → HasBit k clean (card_of k p, region_at k n) ⊎ IsMarked k clean p
+      choose p n below there cr m (yes e) = inl (bit_as k mid clean _ bits (notes.has _ (subst (λ (d : ℕ). In (card_pairs k old d k.size) (card_of k p, region_at k n)) e (on_card k old p n was.shaped.1 (sym (notes.front p (omega (arith, below))) ∙ there) cr))))
+      choose p n below there cr m (no ne) = inr (other (card_of k p) ne ∙ m)
+
+  pub refined_is : IsRefined k old clean c
+  refined_is = record {
+    slots = λ p below. set_else mid (mark_word k c) p 0 (λ e. absurd (omega (arith, e, below))) ∙ notes.front p (omega (arith, below));
+    clean = set_here mid (mark_word k c) 0 there_is;
+    marks = λ d below ne. other d ne ∙ notes.front (mark_word k d) (omega (arith, below));
+    kept = λ x b. bit_as k mid clean x bits (notes.kept x b);
+    only = λ x pair b. ⊎_elim (λ (u : HasBit k old x). inl u) (λ (i : In (card_pairs k old c k.size) x). inr (found_there k old c was lt k.size (omega arith) x i)) (notes.only x pair (bit_as k clean mid x (λ y. sym (bits y)) b));
+  }
+
+-- one card after another
+
+pub refined_none : (k : Shape) (old : List ℕ) → AreRefined k old old 0
+refined_none k old = record { slots = λ p lt. refl; clean = λ c lt below. absurd (omega (arith, lt)); marks = λ c le below. refl; kept = λ x b. b; only = λ x pair b. inl b }
+
+began_back : (k : Shape) (old mid : List ℕ) (x : ℕ × ℕ) → ((p : ℕ) → p < k.slots → get_elem? mid p ≡ get_elem? old p) → BeganInto k mid x → BeganInto k old x
+began_back k old mid x same b = (b.0, b.1, sym (same b.0 b.3.0) ∙ b.2, b.3, b.4)
+
+-- the cards from one on to the next dirty one are clean
+pub refined_past : (k : Shape) (old mid : List ℕ) (n m : ℕ) → IsBegun (start k mid) → n ≤ m → ((c : ℕ) → n ≤ c → c < m → c < k.cards → get_elem? mid (mark_word k c) ≡ some 1 → ⊥) → AreRefined k old mid n → AreRefined k old mid m
+refined_past k old mid n m b le never h = record { slots = h.slots; clean = λ c up below. pick c up below (cases_lt c n); marks = λ c up below. h.marks c (omega (arith, up, le)) below; kept = h.kept; only = h.only }
+  where
+    pick : (c : ℕ) → c < m → c < k.cards → (c < n) ⊎ (n ≤ c) → get_elem? mid (mark_word k c) ≡ some 0
+    pick c up below (inl low) = h.clean c low below
+    pick c up below (inr high) = ⊎_elim (λ (o : get_elem? mid (mark_word k c) ≡ some 1). absurd (never c high up below o)) (λ (z : get_elem? mid (mark_word k c) ≡ some 0). z) (b.marks c below)
+
+-- a dirty card
+pub refined_next : (k : Shape) (old mid new : List ℕ) (n : ℕ) → n < k.cards → get_elem? mid (mark_word k n) ≡ some 1 → AreRefined k old mid n → IsRefined k mid new n → AreRefined k old new (n + 1)
+refined_next k old mid new n there dirty h g = record {
+  slots = λ p lt. g.slots p lt ∙ h.slots p lt;
+  clean = λ c lt below. pick c lt below (ℕ_discrete c n);
+  marks = λ c up below. g.marks c below (λ e. absurd (omega (arith, up, e))) ∙ h.marks c (omega (arith, up)) below;
+  kept = λ x b. g.kept x (h.kept x b);
+  only = λ x pair b. ⊎_elim
+      (λ (u : HasBit k mid x). h.only x pair u)
+      (λ (i : (x.0 ≡ n) × BeganInto k mid x). inr (subst (λ (c : ℕ). get_elem? old (mark_word k c) ≡ some 1) (sym i.0) (sym (h.marks n (omega arith) there) ∙ dirty), began_back k old mid x h.slots i.1))
+      (g.only x pair b);
+}
+  where
+    pick : (c : ℕ) → c < n + 1 → c < k.cards → Dec (c ≡ n) → get_elem? new (mark_word k c) ≡ some 0
+    pick c lt below (yes e) = ap (λ (d : ℕ). get_elem? new (mark_word k d)) e ∙ g.clean
+    pick c lt below (no ne) = g.marks c below ne ∙ h.clean c (omega (arith, lt, ne)) below

@@ -1,0 +1,45 @@
+use Rattle.std.proofs.Common.{ℕ, List, sym, ap, subst, arith}
+use Rattle.g1_race.specs.Refining.{IsRefined, AreRefined}
+use Rattle.g1_race.proofs.AtPause.{paused_same}
+use Rattle.g1_race.proofs.NextCards.{marked_word, unmarked_word}
+use Rattle.g1_race.proofs.PauseWords.{refined_none, refined_next, refined_past}
+use Rattle.g1_race.proofs.drain.refine_cards.Goals as goal
+
+pub loop-card-init : goal.loop-card-init
+loop-card-init c = record { seat = c.requires.seat; within = omega arith; refined = refined_none _ _ }
+
+pub next_marked-requires : goal.next_marked-requires
+next_marked-requires c = c.loop-card.invariant.seat
+
+pub refine_card-requires-clause-seat : goal.refine_card-requires-clause-seat
+refine_card-requires-clause-seat c = paused_same _ _ c.loop-card.seat c.next_marked.new.seat c.next_marked.ensures.seat.0 c.next_marked.ensures.seat.1 c.loop-card.invariant.seat
+
+pub loop-card-preserved : goal.loop-card-preserved
+loop-card-preserved c =
+    let k = c.args.race.now.shape in
+    let i = c.loop-card.invariant in
+    let old = c.args.seat.now.me.0.began_words in
+    let n = c.in-Some.card in
+    let mid = c.loop-card.seat.me.0.began_words in
+    let new = c.refine_card.new.seat.me.0.began_words in
+    let next = c.in-Some.ensures.next in
+    let same = ap (λ m. m.0.began_words) c.next_marked.ensures.seat.1 in
+    record {
+      seat = c.refine_card.ensures.seat;
+      within = omega (arith, next.1);
+      refined = refined_next k old mid new n next.1 (marked_word k mid n i.seat.begun next.1 next.2)
+          (refined_past k old mid c.loop-card.from n i.seat.begun next.0 (λ d le lt below at. unmarked_word k mid d (next.3 d le lt) at) i.refined)
+          (subst (λ (l : List ℕ). IsRefined k l new n) same c.refine_card.ensures.refined);
+    }
+
+pub returns-clause-seat : goal.returns-clause-seat
+returns-clause-seat c = paused_same _ _ c.loop-card.seat c.next_marked.new.seat c.next_marked.ensures.seat.0 c.next_marked.ensures.seat.1 c.loop-card.invariant.seat
+
+pub returns-clause-refined : goal.returns-clause-refined
+returns-clause-refined c =
+    let k = c.args.race.now.shape in
+    let i = c.loop-card.invariant in
+    let old = c.args.seat.now.me.0.began_words in
+    let mid = c.loop-card.seat.me.0.began_words in
+    subst (λ (l : List ℕ). AreRefined k old l k.cards) (sym (ap (λ m. m.0.began_words) c.next_marked.ensures.seat.1))
+    (refined_past k old mid c.loop-card.from k.cards i.seat.begun i.within (λ d le lt below at. unmarked_word k mid d (c.in_default.ensures.next d le lt) at) i.refined)

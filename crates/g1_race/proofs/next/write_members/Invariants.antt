@@ -1,0 +1,16 @@
+use Rattle.std.proofs.Common.{◌≡◌, ◌≤◌, ◌-◌, length}
+use Rattle.g1_race.specs.Telling.{cards_where, is_member}
+use Rattle.g1_race.specs.Evacuating.{AreWritten}
+use Rattle.g1_race.proofs.next.write_members.Given as goal
+
+abbrev pub invariant-loop-card : goal.invariant-loop-card
+invariant-loop-card l = record {
+  table : l.seat.table_id ≡ l.fn.seat.table_id;
+  me : l.seat.me ≡ l.fn.seat.me;
+  within : l.from ≤ l.race.shape.cards;
+  counted : l.count ≡ length (cards_where (is_member l.race.shape l.fn.seat.me.0.began_words l.region) l.from);
+  written : AreWritten (cards_where (is_member l.race.shape l.fn.seat.me.0.began_words l.region) l.from) l.fn.cards l.cards;
+}
+
+abbrev pub decreases-loop-card : goal.decreases-loop-card
+decreases-loop-card l = l.race.shape.cards - l.from

@@ -1,0 +1,31 @@
+use Rattle.std.proofs.Common.{ℕ, ◌<◌, List, sym, ap, subst, arith}
+use Rattle.g1_race.specs.declared.view.Shape.{Shape}
+use Rattle.g1_race.specs.Telling.{marked_cards, member_cards}
+use Rattle.g1_race.specs.Evacuating.{IsDrainedInto}
+use Rattle.g1_race.specs.Over.{Halt, halted, ended, table_of}
+use Rattle.g1_race.proofs.PauseTable.{all_refined, drain_step, exact_is, members_are}
+use Rattle.g1_race.proofs.paused.Paused.drain_into.Goals as goal
+
+pub returns-clause-drained : goal.returns-clause-drained
+returns-clause-drained c =
+    let race = c.self.inside.race in
+    let k = race.shape in
+    let l = race.layout in
+    let old = c.self.inside.seat.me.0.began_words in
+    let begun = c.self.invariant.0.begun in
+    let new = c.refine_cards.new.seat.me.0.began_words in
+    let number = c.number-number.result in
+    let low : number < k.regions = omega (arith, c.requires, c.number-number.ensures, ap (λ (s : Shape). s.regions) race.laid, ap (λ (h : Halt). h.layout.regions) c.self.view_is) in
+    let lt : c.args.region < l.regions = subst (λ (h : Halt). c.args.region < h.layout.regions) (sym c.self.view_is) c.requires in
+    let all = all_refined k l race.laid old new begun c.refine_cards.ensures.seat.begun c.refine_cards.ensures.refined in
+    let members = members_are k l race.laid new c.args.region number c.refine_cards.ensures.seat.begun c.number-number.ensures low in
+    let r : IsDrainedInto (table_of (ended l k old)) (table_of (ended l k new)) c.args.region c.write_members.result c.args.cards.now c.write_members.new.cards = record {
+      cards = member_cards k new number;
+      done = marked_cards k old;
+      step = λ caller. drain_step (table_of (ended l k old)) (table_of (ended l k new)) caller c.args.region (member_cards k new number) (marked_cards k old) lt all members;
+      exact = exact_is (table_of (ended l k old)) (table_of (ended l k new)) c.args.region (member_cards k new number) (marked_cards k old) all members;
+      counted = c.write_members.ensures.count;
+      written = c.write_members.ensures.cards;
+    } in
+    subst (λ (h : Halt). IsDrainedInto (halted h) (table_of (ended l k c.write_members.new.seat.me.0.began_words)) c.args.region c.write_members.result c.args.cards.now c.write_members.new.cards) c.self.view_is
+    (subst (λ (ws : List ℕ). IsDrainedInto (table_of (ended l k old)) (table_of (ended l k ws)) c.args.region c.write_members.result c.args.cards.now c.write_members.new.cards) (sym (ap (λ m. m.0.began_words) c.write_members.ensures.seat.1)) r)

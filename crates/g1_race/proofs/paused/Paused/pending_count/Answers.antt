@@ -1,0 +1,17 @@
+use Rattle.std.proofs.Common.{ap, ◌∙◌, arith}
+use Rattle.std.specs.FinSet as set
+use Rattle.g1_race.specs.Telling.{is_marked}
+use Rattle.g1_race.specs.Over.{Halt, halted}
+use Rattle.g1_race.proofs.Telling.{few}
+use Rattle.g1_race.proofs.NextCards.{cards_fit}
+use Rattle.g1_race.proofs.PauseTable.{pending_len}
+use Rattle.g1_race.proofs.paused.Paused.pending_count.Goals as goal
+
+pub overflow_cast-result : goal.overflow_cast-result
+overflow_cast-result c =
+    let race = c.self.inside.race in
+    let a = few (is_marked race.shape c.self.inside.seat.me.0.began_words) race.shape.cards in
+    omega (arith, a, c.count_marked.ensures.count, cards_fit race.shape race.shaped)
+
+pub returns-clause-count : goal.returns-clause-count
+returns-clause-count c = c.count_marked.ensures.count ∙ (pending_len c.self.inside.race.shape c.self.inside.race.layout c.self.inside.race.laid c.self.inside.seat.me.0.began_words c.self.invariant.0.begun ∙ ap (λ (h : Halt). set.len (halted h).pending) c.self.view_is)

@@ -1,0 +1,17 @@
+use Rattle.std.proofs.Common.{subst}
+use Rattle.g1_race.specs.Over.{Halt, halted, ended, table_of}
+use Rattle.g1_race.specs.Evacuating.{AreAllRefined}
+use Rattle.g1_race.specs.Telling.{marked_cards}
+use Rattle.g1_race.proofs.PauseTable.{all_refined}
+use Rattle.g1_race.proofs.paused.Paused.refine_all.Goals as goal
+
+pub returns-clause-refined : goal.returns-clause-refined
+returns-clause-refined c =
+    let race = c.self.inside.race in
+    let k = race.shape in
+    let old = c.self.inside.seat.me.0.began_words in
+    let new = c.refine_cards.new.seat.me.0.began_words in (
+      marked_cards k old,
+      subst (λ (h : Halt). AreAllRefined (halted h) (marked_cards k old) (table_of (ended race.layout k new))) c.self.view_is
+          (all_refined k race.layout race.laid old new c.self.invariant.0.begun c.refine_cards.ensures.seat.begun c.refine_cards.ensures.refined),
+    )

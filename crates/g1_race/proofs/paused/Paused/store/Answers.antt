@@ -1,0 +1,265 @@
+use Rattle.std.proofs.Common.{◌≡◌, ◌/◌, ◌+◌, ◌<◌, ◌≤◌, ℕ, true, false, List, set, ap, sym, ◌∙◌, subst, inr, arith}
+use mathlib.Core.Option.{some, some-injective}
+use lib.ListN.{get_elem?}
+use Rattle.atomic_table.proofs.Lists.{set_here}
+use Rattle.g1_layout.specs.declared.kind.Kind.TheVariants.{SameRegion, Null, AlreadyDirty, Logged}
+use Rattle.g1_layout.specs.Shape.{slot_count}
+use Rattle.g1_race.specs.declared.view.Shape.{Shape}
+use Rattle.g1_race.specs.Race.{IsBegun, card_of, mark_word, crosses, start, word_of}
+use Rattle.g1_race.specs.Over.{Halt, ended, halted, table_of}
+use Rattle.g1_race.proofs.StoreCalls.{word_fits}
+use Rattle.g1_race.proofs.PairBits.{card_below}
+use Rattle.g1_race.proofs.AtPause.{begun_marked, begun_placed}
+use Rattle.g1_race.proofs.PauseStores.{kind_clean, kind_dirty, kind_null, kind_same, logged_store, quiet_store, store_step}
+use Rattle.g1_race.proofs.paused.Paused.store.Goals as goal
+
+pub put-requires-clause-begun : goal.put-requires-clause-begun
+put-requires-clause-begun c =
+    let race = c.self.inside.race in
+    let k = race.shape in
+    let l = race.layout in
+    let words = c.self.inside.seat.me.0.began_words in
+    let begun = c.self.invariant.0.begun in
+    let target = c.args.target in
+    let slots : k.slots ≡ slot_count c.args.self.now.layout = ap (λ (x : Shape). x.slots) race.laid ∙ ap (λ (x : Halt). slot_count x.layout) c.self.view_is in
+    let lt : c.args.slot < k.slots = omega (arith, slots, c.requires.slot) in
+    let fits : word_of target ≤ k.slots = omega (arith, slots, word_fits target (slot_count c.args.self.now.layout) c.requires.target) in
+    let across : crosses k c.args.slot (word_of target) ≡ c.crosses-across.result = ap (λ (x : Shape). crosses x c.args.slot (word_of target)) race.laid ∙ sym c.crosses-across.ensures in
+    let within : crosses k c.args.slot (word_of target) ≡ false = across ∙ c.if-not-across.true in
+    subst (λ (ws : List ℕ). IsBegun (start k ws)) (λ i. set words (sym c.number-place.ensures i) (sym c.word_of-word.ensures i)) (begun_placed k words c.args.slot (word_of target) lt fits (λ cr. absurd (cc (cr, within))) begun)
+
+pub returns-then-word-eq0-clause-table : goal.returns-then-word-eq0-clause-table
+returns-then-word-eq0-clause-table c =
+    let race = c.self.inside.race in
+    let k = race.shape in
+    let l = race.layout in
+    let words = c.self.inside.seat.me.0.began_words in
+    let begun = c.self.invariant.0.begun in
+    let target = c.args.target in
+    let slots : k.slots ≡ slot_count c.args.self.now.layout = ap (λ (x : Shape). x.slots) race.laid ∙ ap (λ (x : Halt). slot_count x.layout) c.self.view_is in
+    let lt : c.args.slot < k.slots = omega (arith, slots, c.requires.slot) in
+    let fits : word_of target ≤ k.slots = omega (arith, slots, word_fits target (slot_count c.args.self.now.layout) c.requires.target) in
+    let across : crosses k c.args.slot (word_of target) ≡ c.crosses-across.result = ap (λ (x : Shape). crosses x c.args.slot (word_of target)) race.laid ∙ sym c.crosses-across.ensures in
+    let within : crosses k c.args.slot (word_of target) ≡ false = across ∙ c.if-not-across.true in
+    (quiet_store k l race.laid c.args.slot lt target (halted c.args.self.now) words c.put.new.seat.me.0.began_words (ap halted c.self.view_is) (c.put.ensures.words ∙ (λ i. set words (c.number-place.ensures i) (c.word_of-word.ensures i))) begun c.put.ensures.seat.begun Null (kind_null k l race.laid c.args.slot lt target (table_of (ended l k words)) (sym c.word_of-word.ensures ∙ c.if-word-eq0.true)) (λ e. cc)).1
+
+pub returns-then-word-eq0-clause-step : goal.returns-then-word-eq0-clause-step
+returns-then-word-eq0-clause-step c = λ caller.
+    let race = c.self.inside.race in
+    let k = race.shape in
+    let l = race.layout in
+    let words = c.self.inside.seat.me.0.began_words in
+    let begun = c.self.invariant.0.begun in
+    let target = c.args.target in
+    let slots : k.slots ≡ slot_count c.args.self.now.layout = ap (λ (x : Shape). x.slots) race.laid ∙ ap (λ (x : Halt). slot_count x.layout) c.self.view_is in
+    let lt : c.args.slot < k.slots = omega (arith, slots, c.requires.slot) in
+    let fits : word_of target ≤ k.slots = omega (arith, slots, word_fits target (slot_count c.args.self.now.layout) c.requires.target) in
+    let across : crosses k c.args.slot (word_of target) ≡ c.crosses-across.result = ap (λ (x : Shape). crosses x c.args.slot (word_of target)) race.laid ∙ sym c.crosses-across.ensures in
+    let within : crosses k c.args.slot (word_of target) ≡ false = across ∙ c.if-not-across.true in
+    let r = quiet_store k l race.laid c.args.slot lt target (halted c.args.self.now) words c.put.new.seat.me.0.began_words (ap halted c.self.view_is) (c.put.ensures.words ∙ (λ i. set words (c.number-place.ensures i) (c.word_of-word.ensures i))) begun c.put.ensures.seat.begun Null (kind_null k l race.laid c.args.slot lt target (table_of (ended l k words)) (sym c.word_of-word.ensures ∙ c.if-word-eq0.true)) (λ e. cc) in
+    store_step (halted c.args.self.now) _ caller c.args.slot target Null c.requires.slot c.requires.target r.0 r.1
+
+pub returns-then-not-across-clause-table : goal.returns-then-not-across-clause-table
+returns-then-not-across-clause-table c =
+    let race = c.self.inside.race in
+    let k = race.shape in
+    let l = race.layout in
+    let words = c.self.inside.seat.me.0.began_words in
+    let begun = c.self.invariant.0.begun in
+    let target = c.args.target in
+    let slots : k.slots ≡ slot_count c.args.self.now.layout = ap (λ (x : Shape). x.slots) race.laid ∙ ap (λ (x : Halt). slot_count x.layout) c.self.view_is in
+    let lt : c.args.slot < k.slots = omega (arith, slots, c.requires.slot) in
+    let fits : word_of target ≤ k.slots = omega (arith, slots, word_fits target (slot_count c.args.self.now.layout) c.requires.target) in
+    let across : crosses k c.args.slot (word_of target) ≡ c.crosses-across.result = ap (λ (x : Shape). crosses x c.args.slot (word_of target)) race.laid ∙ sym c.crosses-across.ensures in
+    let within : crosses k c.args.slot (word_of target) ≡ false = across ∙ c.if-not-across.true in
+    (quiet_store k l race.laid c.args.slot lt target (halted c.args.self.now) words c.put.new.seat.me.0.began_words (ap halted c.self.view_is) (c.put.ensures.words ∙ (λ i. set words (c.number-place.ensures i) (c.word_of-word.ensures i))) begun c.put.ensures.seat.begun SameRegion (kind_same k l race.laid c.args.slot lt target words (λ z. c.if-word-eq0.false (c.word_of-word.ensures ∙ z)) within) (λ e. cc)).1
+
+pub returns-then-not-across-clause-step : goal.returns-then-not-across-clause-step
+returns-then-not-across-clause-step c = λ caller.
+    let race = c.self.inside.race in
+    let k = race.shape in
+    let l = race.layout in
+    let words = c.self.inside.seat.me.0.began_words in
+    let begun = c.self.invariant.0.begun in
+    let target = c.args.target in
+    let slots : k.slots ≡ slot_count c.args.self.now.layout = ap (λ (x : Shape). x.slots) race.laid ∙ ap (λ (x : Halt). slot_count x.layout) c.self.view_is in
+    let lt : c.args.slot < k.slots = omega (arith, slots, c.requires.slot) in
+    let fits : word_of target ≤ k.slots = omega (arith, slots, word_fits target (slot_count c.args.self.now.layout) c.requires.target) in
+    let across : crosses k c.args.slot (word_of target) ≡ c.crosses-across.result = ap (λ (x : Shape). crosses x c.args.slot (word_of target)) race.laid ∙ sym c.crosses-across.ensures in
+    let within : crosses k c.args.slot (word_of target) ≡ false = across ∙ c.if-not-across.true in
+    let r = quiet_store k l race.laid c.args.slot lt target (halted c.args.self.now) words c.put.new.seat.me.0.began_words (ap halted c.self.view_is) (c.put.ensures.words ∙ (λ i. set words (c.number-place.ensures i) (c.word_of-word.ensures i))) begun c.put.ensures.seat.begun SameRegion (kind_same k l race.laid c.args.slot lt target words (λ z. c.if-word-eq0.false (c.word_of-word.ensures ∙ z)) within) (λ e. cc) in
+    store_step (halted c.args.self.now) _ caller c.args.slot target SameRegion c.requires.slot c.requires.target r.0 r.1
+
+pub put-requires-then-see-eq1-clause-begun : goal.put-requires-then-see-eq1-clause-begun
+put-requires-then-see-eq1-clause-begun c =
+    let race = c.self.inside.race in
+    let k = race.shape in
+    let l = race.layout in
+    let words = c.self.inside.seat.me.0.began_words in
+    let begun = c.self.invariant.0.begun in
+    let target = c.args.target in
+    let slots : k.slots ≡ slot_count c.args.self.now.layout = ap (λ (x : Shape). x.slots) race.laid ∙ ap (λ (x : Halt). slot_count x.layout) c.self.view_is in
+    let lt : c.args.slot < k.slots = omega (arith, slots, c.requires.slot) in
+    let fits : word_of target ≤ k.slots = omega (arith, slots, word_fits target (slot_count c.args.self.now.layout) c.requires.target) in
+    let across : crosses k c.args.slot (word_of target) ≡ c.crosses-across.result = ap (λ (x : Shape). crosses x c.args.slot (word_of target)) race.laid ∙ sym c.crosses-across.ensures in
+    let cr : crosses k c.args.slot (word_of target) ≡ true = across ∙ c.if-not-across.false in
+    let card : c.number.result ≡ card_of k c.args.slot = c.number.ensures ∙ (c.card_of.ensures.quotient ∙ ap (λ (x : Shape). c.args.slot / x.size) (sym race.laid)) in
+    let mark : get_elem? words (mark_word k (card_of k c.args.slot)) ≡ some c.see.result = subst (λ (n : ℕ). get_elem? words (k.slots + n) ≡ some c.see.result) card c.see.ensures.word in
+    let seen = ap (λ m. m.0.began_words) c.see.ensures.seat.1 in
+    let marked : get_elem? words (mark_word k (card_of k c.args.slot)) ≡ some 1 = mark ∙ ap (λ (n : ℕ). some n) c.if-see-eq1.true in
+    subst (λ (ws : List ℕ). IsBegun (start k ws)) (λ i. set (sym seen i) (sym c.number-place.ensures i) (sym c.word_of-word.ensures i)) (begun_placed k words c.args.slot (word_of target) lt fits (λ x. inr marked) begun)
+
+pub returns-then-see-eq1-clause-kind : goal.returns-then-see-eq1-clause-kind
+returns-then-see-eq1-clause-kind c =
+    let race = c.self.inside.race in
+    let k = race.shape in
+    let l = race.layout in
+    let words = c.self.inside.seat.me.0.began_words in
+    let begun = c.self.invariant.0.begun in
+    let target = c.args.target in
+    let slots : k.slots ≡ slot_count c.args.self.now.layout = ap (λ (x : Shape). x.slots) race.laid ∙ ap (λ (x : Halt). slot_count x.layout) c.self.view_is in
+    let lt : c.args.slot < k.slots = omega (arith, slots, c.requires.slot) in
+    let fits : word_of target ≤ k.slots = omega (arith, slots, word_fits target (slot_count c.args.self.now.layout) c.requires.target) in
+    let across : crosses k c.args.slot (word_of target) ≡ c.crosses-across.result = ap (λ (x : Shape). crosses x c.args.slot (word_of target)) race.laid ∙ sym c.crosses-across.ensures in
+    let cr : crosses k c.args.slot (word_of target) ≡ true = across ∙ c.if-not-across.false in
+    let card : c.number.result ≡ card_of k c.args.slot = c.number.ensures ∙ (c.card_of.ensures.quotient ∙ ap (λ (x : Shape). c.args.slot / x.size) (sym race.laid)) in
+    let mark : get_elem? words (mark_word k (card_of k c.args.slot)) ≡ some c.see.result = subst (λ (n : ℕ). get_elem? words (k.slots + n) ≡ some c.see.result) card c.see.ensures.word in
+    let seen = ap (λ m. m.0.began_words) c.see.ensures.seat.1 in
+    let marked : get_elem? words (mark_word k (card_of k c.args.slot)) ≡ some 1 = mark ∙ ap (λ (n : ℕ). some n) c.if-see-eq1.true in
+    (quiet_store k l race.laid c.args.slot lt target (halted c.args.self.now) words c.put-then-see-eq1.new.seat.me.0.began_words (ap halted c.self.view_is) (c.put-then-see-eq1.ensures.words ∙ (λ i. set (seen i) (c.number-place.ensures i) (c.word_of-word.ensures i))) begun c.put-then-see-eq1.ensures.seat.begun AlreadyDirty (kind_dirty k l race.laid c.args.slot lt target words begun cr marked) (λ e. cc)).0
+
+pub returns-then-see-eq1-clause-table : goal.returns-then-see-eq1-clause-table
+returns-then-see-eq1-clause-table c =
+    let race = c.self.inside.race in
+    let k = race.shape in
+    let l = race.layout in
+    let words = c.self.inside.seat.me.0.began_words in
+    let begun = c.self.invariant.0.begun in
+    let target = c.args.target in
+    let slots : k.slots ≡ slot_count c.args.self.now.layout = ap (λ (x : Shape). x.slots) race.laid ∙ ap (λ (x : Halt). slot_count x.layout) c.self.view_is in
+    let lt : c.args.slot < k.slots = omega (arith, slots, c.requires.slot) in
+    let fits : word_of target ≤ k.slots = omega (arith, slots, word_fits target (slot_count c.args.self.now.layout) c.requires.target) in
+    let across : crosses k c.args.slot (word_of target) ≡ c.crosses-across.result = ap (λ (x : Shape). crosses x c.args.slot (word_of target)) race.laid ∙ sym c.crosses-across.ensures in
+    let cr : crosses k c.args.slot (word_of target) ≡ true = across ∙ c.if-not-across.false in
+    let card : c.number.result ≡ card_of k c.args.slot = c.number.ensures ∙ (c.card_of.ensures.quotient ∙ ap (λ (x : Shape). c.args.slot / x.size) (sym race.laid)) in
+    let mark : get_elem? words (mark_word k (card_of k c.args.slot)) ≡ some c.see.result = subst (λ (n : ℕ). get_elem? words (k.slots + n) ≡ some c.see.result) card c.see.ensures.word in
+    let seen = ap (λ m. m.0.began_words) c.see.ensures.seat.1 in
+    let marked : get_elem? words (mark_word k (card_of k c.args.slot)) ≡ some 1 = mark ∙ ap (λ (n : ℕ). some n) c.if-see-eq1.true in
+    (quiet_store k l race.laid c.args.slot lt target (halted c.args.self.now) words c.put-then-see-eq1.new.seat.me.0.began_words (ap halted c.self.view_is) (c.put-then-see-eq1.ensures.words ∙ (λ i. set (seen i) (c.number-place.ensures i) (c.word_of-word.ensures i))) begun c.put-then-see-eq1.ensures.seat.begun AlreadyDirty (kind_dirty k l race.laid c.args.slot lt target words begun cr marked) (λ e. cc)).1
+
+pub returns-then-see-eq1-clause-step : goal.returns-then-see-eq1-clause-step
+returns-then-see-eq1-clause-step c = λ caller.
+    let race = c.self.inside.race in
+    let k = race.shape in
+    let l = race.layout in
+    let words = c.self.inside.seat.me.0.began_words in
+    let begun = c.self.invariant.0.begun in
+    let target = c.args.target in
+    let slots : k.slots ≡ slot_count c.args.self.now.layout = ap (λ (x : Shape). x.slots) race.laid ∙ ap (λ (x : Halt). slot_count x.layout) c.self.view_is in
+    let lt : c.args.slot < k.slots = omega (arith, slots, c.requires.slot) in
+    let fits : word_of target ≤ k.slots = omega (arith, slots, word_fits target (slot_count c.args.self.now.layout) c.requires.target) in
+    let across : crosses k c.args.slot (word_of target) ≡ c.crosses-across.result = ap (λ (x : Shape). crosses x c.args.slot (word_of target)) race.laid ∙ sym c.crosses-across.ensures in
+    let cr : crosses k c.args.slot (word_of target) ≡ true = across ∙ c.if-not-across.false in
+    let card : c.number.result ≡ card_of k c.args.slot = c.number.ensures ∙ (c.card_of.ensures.quotient ∙ ap (λ (x : Shape). c.args.slot / x.size) (sym race.laid)) in
+    let mark : get_elem? words (mark_word k (card_of k c.args.slot)) ≡ some c.see.result = subst (λ (n : ℕ). get_elem? words (k.slots + n) ≡ some c.see.result) card c.see.ensures.word in
+    let seen = ap (λ m. m.0.began_words) c.see.ensures.seat.1 in
+    let marked : get_elem? words (mark_word k (card_of k c.args.slot)) ≡ some 1 = mark ∙ ap (λ (n : ℕ). some n) c.if-see-eq1.true in
+    let r = quiet_store k l race.laid c.args.slot lt target (halted c.args.self.now) words c.put-then-see-eq1.new.seat.me.0.began_words (ap halted c.self.view_is) (c.put-then-see-eq1.ensures.words ∙ (λ i. set (seen i) (c.number-place.ensures i) (c.word_of-word.ensures i))) begun c.put-then-see-eq1.ensures.seat.begun AlreadyDirty (kind_dirty k l race.laid c.args.slot lt target words begun cr marked) (λ e. cc) in
+    store_step (halted c.args.self.now) _ caller c.args.slot target AlreadyDirty c.requires.slot c.requires.target r.0 r.1
+
+pub put-requires-2-clause-begun : goal.put-requires-2-clause-begun
+put-requires-2-clause-begun c =
+    let race = c.self.inside.race in
+    let k = race.shape in
+    let l = race.layout in
+    let words = c.self.inside.seat.me.0.began_words in
+    let begun = c.self.invariant.0.begun in
+    let target = c.args.target in
+    let slots : k.slots ≡ slot_count c.args.self.now.layout = ap (λ (x : Shape). x.slots) race.laid ∙ ap (λ (x : Halt). slot_count x.layout) c.self.view_is in
+    let lt : c.args.slot < k.slots = omega (arith, slots, c.requires.slot) in
+    let fits : word_of target ≤ k.slots = omega (arith, slots, word_fits target (slot_count c.args.self.now.layout) c.requires.target) in
+    let across : crosses k c.args.slot (word_of target) ≡ c.crosses-across.result = ap (λ (x : Shape). crosses x c.args.slot (word_of target)) race.laid ∙ sym c.crosses-across.ensures in
+    let cr : crosses k c.args.slot (word_of target) ≡ true = across ∙ c.if-not-across.false in
+    let card : c.number.result ≡ card_of k c.args.slot = c.number.ensures ∙ (c.card_of.ensures.quotient ∙ ap (λ (x : Shape). c.args.slot / x.size) (sym race.laid)) in
+    let mark : get_elem? words (mark_word k (card_of k c.args.slot)) ≡ some c.see.result = subst (λ (n : ℕ). get_elem? words (k.slots + n) ≡ some c.see.result) card c.see.ensures.word in
+    let seen = ap (λ m. m.0.began_words) c.see.ensures.seat.1 in
+    subst (λ (ws : List ℕ). IsBegun (start k ws)) (λ i. set (sym seen i) (mark_word k (sym card i)) 1) (begun_marked k words (card_of k c.args.slot) (card_below k c.args.slot race.shaped lt) begun)
+
+pub put-requires-3-clause-begun : goal.put-requires-3-clause-begun
+put-requires-3-clause-begun c =
+    let race = c.self.inside.race in
+    let k = race.shape in
+    let l = race.layout in
+    let words = c.self.inside.seat.me.0.began_words in
+    let begun = c.self.invariant.0.begun in
+    let target = c.args.target in
+    let slots : k.slots ≡ slot_count c.args.self.now.layout = ap (λ (x : Shape). x.slots) race.laid ∙ ap (λ (x : Halt). slot_count x.layout) c.self.view_is in
+    let lt : c.args.slot < k.slots = omega (arith, slots, c.requires.slot) in
+    let fits : word_of target ≤ k.slots = omega (arith, slots, word_fits target (slot_count c.args.self.now.layout) c.requires.target) in
+    let across : crosses k c.args.slot (word_of target) ≡ c.crosses-across.result = ap (λ (x : Shape). crosses x c.args.slot (word_of target)) race.laid ∙ sym c.crosses-across.ensures in
+    let cr : crosses k c.args.slot (word_of target) ≡ true = across ∙ c.if-not-across.false in
+    let card : c.number.result ≡ card_of k c.args.slot = c.number.ensures ∙ (c.card_of.ensures.quotient ∙ ap (λ (x : Shape). c.args.slot / x.size) (sym race.laid)) in
+    let mark : get_elem? words (mark_word k (card_of k c.args.slot)) ≡ some c.see.result = subst (λ (n : ℕ). get_elem? words (k.slots + n) ≡ some c.see.result) card c.see.ensures.word in
+    let seen = ap (λ m. m.0.began_words) c.see.ensures.seat.1 in
+    let mid = c.put-2.new.seat.me.0.began_words in
+    let is : mid ≡ set words (mark_word k (card_of k c.args.slot)) 1 = c.put-2.ensures.words ∙ (λ j. set (seen j) (mark_word k (card j)) 1) in
+    let here : get_elem? mid (mark_word k (card_of k c.args.slot)) ≡ some 1 = ap (λ (ws : List ℕ). get_elem? ws (mark_word k (card_of k c.args.slot))) is ∙ set_here words (mark_word k (card_of k c.args.slot)) 1 (let b = card_below k c.args.slot race.shaped lt in omega (arith, begun.sized, b)) in
+    subst (λ (ws : List ℕ). IsBegun (start k ws)) (λ i. set mid (sym c.number-place.ensures i) (sym c.word_of-word.ensures i)) (begun_placed k mid c.args.slot (word_of target) lt fits (λ x. inr here) c.put-2.ensures.seat.begun)
+
+pub returns-clause-kind : goal.returns-clause-kind
+returns-clause-kind c =
+    let race = c.self.inside.race in
+    let k = race.shape in
+    let l = race.layout in
+    let words = c.self.inside.seat.me.0.began_words in
+    let begun = c.self.invariant.0.begun in
+    let target = c.args.target in
+    let slots : k.slots ≡ slot_count c.args.self.now.layout = ap (λ (x : Shape). x.slots) race.laid ∙ ap (λ (x : Halt). slot_count x.layout) c.self.view_is in
+    let lt : c.args.slot < k.slots = omega (arith, slots, c.requires.slot) in
+    let fits : word_of target ≤ k.slots = omega (arith, slots, word_fits target (slot_count c.args.self.now.layout) c.requires.target) in
+    let across : crosses k c.args.slot (word_of target) ≡ c.crosses-across.result = ap (λ (x : Shape). crosses x c.args.slot (word_of target)) race.laid ∙ sym c.crosses-across.ensures in
+    let cr : crosses k c.args.slot (word_of target) ≡ true = across ∙ c.if-not-across.false in
+    let card : c.number.result ≡ card_of k c.args.slot = c.number.ensures ∙ (c.card_of.ensures.quotient ∙ ap (λ (x : Shape). c.args.slot / x.size) (sym race.laid)) in
+    let mark : get_elem? words (mark_word k (card_of k c.args.slot)) ≡ some c.see.result = subst (λ (n : ℕ). get_elem? words (k.slots + n) ≡ some c.see.result) card c.see.ensures.word in
+    let seen = ap (λ m. m.0.began_words) c.see.ensures.seat.1 in
+    let unmarked : get_elem? words (mark_word k (card_of k c.args.slot)) ≡ some 1 → ⊥ = λ at. c.if-see-eq1.false (some-injective c.see.result 1 (sym mark ∙ at)) in
+    (logged_store k l race.laid c.args.slot lt target (halted c.args.self.now) words c.put-3.new.seat.me.0.began_words (ap halted c.self.view_is) (c.put-3.ensures.words ∙ (λ i. set ((c.put-2.ensures.words ∙ (λ j. set (seen j) (mark_word k (card j)) 1)) i) (c.number-place.ensures i) (c.word_of-word.ensures i))) begun c.put-3.ensures.seat.begun (kind_clean k l race.laid c.args.slot lt target words cr unmarked)).0
+
+pub returns-clause-table : goal.returns-clause-table
+returns-clause-table c =
+    let race = c.self.inside.race in
+    let k = race.shape in
+    let l = race.layout in
+    let words = c.self.inside.seat.me.0.began_words in
+    let begun = c.self.invariant.0.begun in
+    let target = c.args.target in
+    let slots : k.slots ≡ slot_count c.args.self.now.layout = ap (λ (x : Shape). x.slots) race.laid ∙ ap (λ (x : Halt). slot_count x.layout) c.self.view_is in
+    let lt : c.args.slot < k.slots = omega (arith, slots, c.requires.slot) in
+    let fits : word_of target ≤ k.slots = omega (arith, slots, word_fits target (slot_count c.args.self.now.layout) c.requires.target) in
+    let across : crosses k c.args.slot (word_of target) ≡ c.crosses-across.result = ap (λ (x : Shape). crosses x c.args.slot (word_of target)) race.laid ∙ sym c.crosses-across.ensures in
+    let cr : crosses k c.args.slot (word_of target) ≡ true = across ∙ c.if-not-across.false in
+    let card : c.number.result ≡ card_of k c.args.slot = c.number.ensures ∙ (c.card_of.ensures.quotient ∙ ap (λ (x : Shape). c.args.slot / x.size) (sym race.laid)) in
+    let mark : get_elem? words (mark_word k (card_of k c.args.slot)) ≡ some c.see.result = subst (λ (n : ℕ). get_elem? words (k.slots + n) ≡ some c.see.result) card c.see.ensures.word in
+    let seen = ap (λ m. m.0.began_words) c.see.ensures.seat.1 in
+    let unmarked : get_elem? words (mark_word k (card_of k c.args.slot)) ≡ some 1 → ⊥ = λ at. c.if-see-eq1.false (some-injective c.see.result 1 (sym mark ∙ at)) in
+    (logged_store k l race.laid c.args.slot lt target (halted c.args.self.now) words c.put-3.new.seat.me.0.began_words (ap halted c.self.view_is) (c.put-3.ensures.words ∙ (λ i. set ((c.put-2.ensures.words ∙ (λ j. set (seen j) (mark_word k (card j)) 1)) i) (c.number-place.ensures i) (c.word_of-word.ensures i))) begun c.put-3.ensures.seat.begun (kind_clean k l race.laid c.args.slot lt target words cr unmarked)).1
+
+pub returns-clause-step : goal.returns-clause-step
+returns-clause-step c = λ caller.
+    let race = c.self.inside.race in
+    let k = race.shape in
+    let l = race.layout in
+    let words = c.self.inside.seat.me.0.began_words in
+    let begun = c.self.invariant.0.begun in
+    let target = c.args.target in
+    let slots : k.slots ≡ slot_count c.args.self.now.layout = ap (λ (x : Shape). x.slots) race.laid ∙ ap (λ (x : Halt). slot_count x.layout) c.self.view_is in
+    let lt : c.args.slot < k.slots = omega (arith, slots, c.requires.slot) in
+    let fits : word_of target ≤ k.slots = omega (arith, slots, word_fits target (slot_count c.args.self.now.layout) c.requires.target) in
+    let across : crosses k c.args.slot (word_of target) ≡ c.crosses-across.result = ap (λ (x : Shape). crosses x c.args.slot (word_of target)) race.laid ∙ sym c.crosses-across.ensures in
+    let cr : crosses k c.args.slot (word_of target) ≡ true = across ∙ c.if-not-across.false in
+    let card : c.number.result ≡ card_of k c.args.slot = c.number.ensures ∙ (c.card_of.ensures.quotient ∙ ap (λ (x : Shape). c.args.slot / x.size) (sym race.laid)) in
+    let mark : get_elem? words (mark_word k (card_of k c.args.slot)) ≡ some c.see.result = subst (λ (n : ℕ). get_elem? words (k.slots + n) ≡ some c.see.result) card c.see.ensures.word in
+    let seen = ap (λ m. m.0.began_words) c.see.ensures.seat.1 in
+    let unmarked : get_elem? words (mark_word k (card_of k c.args.slot)) ≡ some 1 → ⊥ = λ at. c.if-see-eq1.false (some-injective c.see.result 1 (sym mark ∙ at)) in
+    let r = logged_store k l race.laid c.args.slot lt target (halted c.args.self.now) words c.put-3.new.seat.me.0.began_words (ap halted c.self.view_is) (c.put-3.ensures.words ∙ (λ i. set ((c.put-2.ensures.words ∙ (λ j. set (seen j) (mark_word k (card j)) 1)) i) (c.number-place.ensures i) (c.word_of-word.ensures i))) begun c.put-3.ensures.seat.begun (kind_clean k l race.laid c.args.slot lt target words cr unmarked) in
+    store_step (halted c.args.self.now) _ caller c.args.slot target Logged c.requires.slot c.requires.target r.0 r.1

@@ -1,0 +1,13 @@
+use Rattle.std.proofs.Common.{◌≡◌, ◌-◌, ◌≤◌, [], All, vec_len, vec_capacity}
+use Rattle.g1_race.specs.Race.{start_of, chair}
+use Rattle.g1_race.specs.Members.{IsNewSweeper}
+use Rattle.g1_race.proofs.resume.seat_sweepers.Given as goal
+
+abbrev pub invariant-loop-i : goal.invariant-loop-i
+invariant-loop-i l = record {
+  seat : l.registrar.table_id ≡ l.fn.registrar.table_id;
+  view : l.registrar.me ≡ (chair (start_of l.fn.registrar.me.0) (l.fn.registrar.me.0.weight - l._i), []);
+  len : vec_len l.sweepers ≡ l._i;
+  room : l.count ≤ vec_capacity l.sweepers;
+  all : All (IsNewSweeper l.table.shared.table_id (start_of l.fn.registrar.me.0)) l.sweepers.items;
+}

@@ -1,0 +1,67 @@
+-- What the calls of an evacuation pause do to the plain table.
+use Rattle.std.specs.Prelude.{◌≡◌, ◌⊎◌, ℕ, ◌+◌, ◌*◌, ◌<◌, ◌≤◌, ◌==◌, not, zero, suc, false, List, [], None, Contains, length, slice_index}
+use Rattle.std.specs.FinSet as set
+use Rattle.g1_core.specs.declared.reply.Drained.{Drained}
+use Rattle.g1_core.specs.declared.reply.Drained.TheVariants.{Cards, Short}
+use Rattle.g1_layout.specs.declared.kind.Kind.{Kind}
+use Rattle.g1_layout.specs.Shape.{region_of_card}
+use Rattle.g1_core.specs.declared.reply.Fill.TheVariants.{No}
+use Rattle.g1_core.specs.declared.reply.StoreReply.{StoreReply}
+use Rattle.g1_core.specs.Table.{Table, Holds, IsRecorded, IsCovered, AreRefinable, refined}
+use Rattle.g1_core.specs.Run.{IsStep, drained, stored}
+use Rattle.g1_race.specs.Over.{Halt}
+
+-- all of a race at a pause but its words is as it was
+pub record IsSameRace (old new : Halt) : Type 0 where
+  pub layout : new.layout ≡ old.layout
+  pub shape : new.shape ≡ old.shape
+  pub logs : new.logs ≡ old.logs
+  pub sweepers : new.sweepers ≡ old.sweepers
+
+-- all that was pending is refined, which are these cards
+pub record AreAllRefined (old : Table) (cards : List ℕ) (new : Table) : Type 0 where
+  pub refinable : AreRefinable old cards
+  pub table : new ≡ refined cards old
+  pub clean : new.pending ≡ set.empty
+  pub covered : IsCovered new
+
+-- a drain is whole
+abbrev pub IsWhole : Drained → Type 0
+IsWhole (Cards cards refined) = Unit {0}
+IsWhole (Short refined) = ⊥
+
+-- what a drain of the region answers: every card that holds into it, and only cards that do or that were recorded for it
+pub record IsExact (old : Table) (region : ℕ) (cards : List ℕ) : Type 0 where
+  pub every : (card : ℕ) → Holds old card region → Contains cards card
+  pub only : (card : ℕ) → Contains cards card → IsRecorded old card region ⊎ Holds old card region
+
+-- what a store at a pause answers: it fills no log and refines nothing
+abbrev pub plain_reply : Kind → StoreReply
+plain_reply kind = record { kind = kind; fill = No; refined = []; short = false }
+
+-- null is stored to n slots, from one on
+abbrev pub nulled : ℕ → ℕ → Table → Table
+nulled first zero t = t
+nulled first (suc n) t = stored (nulled first n t) (first + n) None
+
+-- null is stored to each slot of the region
+abbrev pub wiped : ℕ → Table → Table
+wiped region t = nulled (region * (t.layout.cards * t.layout.slots)) (t.layout.cards * t.layout.slots) t
+
+-- the first ones of these cards stand in the slice, as far as it reaches, and behind them it is as it was
+pub record AreWritten (cards old new : List ℕ) : Type 0 where
+  pub first : (i : ℕ) → i < length cards → i < length old → slice_index new i ≡ slice_index cards i
+  pub rest : (i : ℕ) → length cards ≤ i → slice_index new i ≡ slice_index old i
+
+-- a drain of the region leaves the new table, and its answer is written into the slice
+pub record IsDrainedInto (old new : Table) (region count : ℕ) (before after : List ℕ) : Type 0 where
+  pub cards : List ℕ
+  pub done : List ℕ
+  pub step : (caller : ℕ) → IsStep old (drained caller region cards done) new
+  pub exact : IsExact old region cards
+  pub counted : count ≡ length cards
+  pub written : AreWritten cards before after
+
+-- the pairs of the region's cards are recorded no more
+abbrev pub forgotten : ℕ → Table → Table
+forgotten region t = record { layout = t.layout; refs = t.refs; pending = t.pending; recorded = set.retain t.recorded (λ pair. not (region_of_card t.layout pair.0 == region)) }

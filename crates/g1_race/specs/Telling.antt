@@ -1,0 +1,30 @@
+-- Cards that are told apart by a test: the dirty ones, and those of a region's remembered set.
+use Rattle.std.specs.Prelude.{◌≡◌, ℕ, ◌<◌, ◌≤◌, ◌==◌, List, [], ◌∷◌, ◌++◌, zero, suc, Bool, true, false, Option, Some, None, if◌then◌else◌, slice_index}
+use Rattle.std.specs.Int.{bit_at}
+use Rattle.g1_race.specs.declared.view.Shape.{Shape}
+use Rattle.g1_race.specs.Race.{bit_place, bit_word, mark_word}
+
+-- those of the first n cards of which the test is true, ascending
+abbrev pub cards_where : (ℕ → Bool) → ℕ → List ℕ
+cards_where test zero = []
+cards_where test (suc n) = cards_where test n ++ (if test n then n ∷ [] else [])
+
+-- whether the card is dirty
+abbrev pub is_marked : Shape → List ℕ → ℕ → Bool
+is_marked k words card = slice_index words (mark_word k card) == 1
+
+-- whether the card's pair with the region is recorded
+abbrev pub is_member : Shape → List ℕ → ℕ → ℕ → Bool
+is_member k words region card = bit_at (slice_index words (bit_word k (card, region))) (bit_place k (card, region)) == 1
+
+-- all dirty cards, and all of the region's set
+abbrev pub marked_cards : Shape → List ℕ → List ℕ
+marked_cards k words = cards_where (is_marked k words) k.cards
+
+abbrev pub member_cards : Shape → List ℕ → ℕ → List ℕ
+member_cards k words region = cards_where (is_member k words region) k.cards
+
+-- the least card from one on, below a limit, of which the test is true
+abbrev pub IsNext : (ℕ → Bool) → ℕ → ℕ → Option ℕ → Type 0
+IsNext test limit from None = (card : ℕ) → from ≤ card → card < limit → test card ≡ false
+IsNext test limit from (Some card) = (from ≤ card) × (card < limit) × (test card ≡ true) × ((other : ℕ) → from ≤ other → other < card → test other ≡ false)

@@ -1,0 +1,144 @@
+//! Refinement at a pause: which cards refer into a region.
+ghost use Rattle.std.specs.Prelude.{◌≡◌, ℕ, ◌+◌, ◌*◌, ◌<◌, ◌≤◌, [], ◌∷◌, IfOk, OnErr, List};
+ghost use Rattle.g1_layout.specs.Shape.{slot_count};
+ghost use Rattle.g1_core.specs.Run.{IsStep};
+ghost use Rattle.g1_core.specs.Calls.{drain_cards, drain_entry};
+ghost use Rattle.g1_race.specs.Race.{IsPair, IsOfCrossing, pair_at};
+ghost use Rattle.g1_race.specs.Over.{halted};
+ghost use Rattle.g1_race.specs.Refining.{Notes, IsRefined, AreRefined};
+ghost use Rattle.g1_race.specs.Evacuating.{IsSameRace, AreAllRefined, IsDrainedInto, IsWhole, IsExact};
+ghost use Rattle.g1_race.specs.Members.{IsPaused};
+
+use crate::bits::bit_of;
+use crate::next::{
+    count_marked, count_members, list_marked, list_members, next_marked, write_members,
+};
+use crate::paused::Paused;
+use crate::race::Race;
+use crate::rule::Place;
+use crate::stopped::{put, see};
+use g1_core::{CardList, Drained};
+use g1_layout::{Card, NoMemory, Region};
+use std::alloc::Global;
+
+impl Paused {
+    /// Refines every dirty card, and answers the remembered set of the region: ascending, each card
+    /// once, every card that holds into the region, and beside these only cards whose pair was
+    /// recorded before. Nothing is dirty then.
+    ///
+    /// The room for the answer is asked for first, and refinement takes none. `NoMemory` where it
+    /// was refused: nothing has changed. A drain is never `Short`.
+    pub fn drain(&mut self, alloc: Global, region: Region) -> Result<Drained, NoMemory>
+        requires { region < self.old.layout.regions }
+        ensures race { IsSameRace self.old self.new }
+        ensures whole { IfOk result IsWhole }
+        ensures step { IfOk result (λ answer. (caller : ℕ) → IsStep (halted self.old) (drain_entry caller region answer) (halted self.new)) }
+        ensures exact { IfOk result (λ answer. IsExact (halted self.old) region (drain_cards answer)) }
+        ensures err { OnErr result (self.new ≡ self.old) }
+    {
+        let number = region.number() as usize;
+        let pending = count_marked(&self.race, &mut self.seat);
+        let members = count_members(&self.race, &mut self.seat, number);
+        let mut refined = Vec::with_capacity(alloc, pending)?;
+        let mut cards = Vec::with_capacity(alloc, members + pending)?;
+        list_marked(&self.race, &mut self.seat, &mut refined);
+        refine_cards(&self.race, &mut self.seat);
+        list_members(&self.race, &mut self.seat, number, &mut cards);
+        let refined = CardList::of(refined);
+        let cards = CardList::of(cards);
+        Ok(Drained::Cards { cards, refined })
+    }
+
+    /// A drain that writes its answer into the slice, as far as that reaches, and returns how many
+    /// cards the answer has. Takes no memory.
+    pub fn drain_into(&mut self, region: Region, cards: &mut [Card]) -> usize
+        requires { region < self.old.layout.regions }
+        ensures race { IsSameRace self.old self.new }
+        ensures drained { IsDrainedInto (halted self.old) (halted self.new) region result cards.old cards.new }
+    {
+        let number = region.number() as usize;
+        refine_cards(&self.race, &mut self.seat);
+        write_members(&self.race, &mut self.seat, number, cards)
+    }
+
+    /// Refines every dirty card, in ascending order. The members of each region are exact then, so
+    /// one call serves a whole collection set. Takes no memory.
+    pub fn refine_all(&mut self)
+        ensures race { IsSameRace self.old self.new }
+        ensures refined { (cards : List ℕ) × AreAllRefined (halted self.old) cards (halted self.new) }
+    {
+        refine_cards(&self.race, &mut self.seat);
+    }
+}
+
+// Refines the dirty cards.
+pub(crate) fn refine_cards(race: &Race, seat: &mut Place)
+    requires seat { IsPaused race.now.table.shared.table_id race.now.shape seat.old }
+    ensures seat { IsPaused race.now.table.shared.table_id race.now.shape seat.new }
+    ensures refined { AreRefined race.now.shape seat.old.me.0.began_words seat.new.me.0.began_words race.now.shape.cards }
+{
+    let mut from = 0;
+    while let Some(card) = next_marked(race, seat, from) {
+        refine_card(race, seat, card);
+        from = card + 1;
+    }
+}
+
+// Records the pairs of the card's references, and cleans it.
+fn refine_card(race: &Race, seat: &mut Place, card: usize)
+    requires seat { IsPaused race.now.table.shared.table_id race.now.shape seat.old }
+    requires card { card < race.now.shape.cards }
+    ensures seat { IsPaused race.now.table.shared.table_id race.now.shape seat.new }
+    ensures refined { IsRefined race.now.shape seat.old.me.0.began_words seat.new.me.0.began_words card }
+{
+    let shape = race.shape;
+    for i in 0..shape.size {
+        let slot = card * shape.size + i;
+        let word = see(race, seat, slot);
+        note_slot(race, seat, slot as u32, word as u32);
+    }
+    put(race, seat, shape.slots + card, 0);
+}
+
+// Records the pair of a slot's word, where it refers into another region.
+fn note_slot(race: &Race, seat: &mut Place, slot: u32, word: u32)
+    requires slot { slot < slot_count race.now.layout }
+    requires word { word ≤ slot_count race.now.layout }
+    requires seat { IsPaused race.now.table.shared.table_id race.now.shape seat.old }
+    ensures seat { IsPaused race.now.table.shared.table_id race.now.shape seat.new }
+    ensures notes { Notes race.now.shape seat.old.me.0.began_words seat.new.me.0.began_words (pair_at race.now.shape slot word) }
+{
+    if word == 0 {
+        return;
+    }
+    let layout = race.layout;
+    let (Some(slot), Some(target)) = (layout.slot(slot), layout.slot(word - 1)) else {
+        unreachable!()
+    };
+    let region = layout.region_of(target);
+    if layout.region_of(slot).number() == region.number() {
+        return;
+    }
+    set_bit(
+        race,
+        seat,
+        layout.card_of(slot).number() as usize,
+        region.number() as usize,
+    );
+}
+
+// Sees that the bit of the pair is set.
+pub(crate) fn set_bit(race: &Race, seat: &mut Place, card: usize, region: usize)
+    requires seat { IsPaused race.now.table.shared.table_id race.now.shape seat.old }
+    requires pair { IsPair race.now.shape (card, region) }
+    requires proper { IsOfCrossing race.now.shape (card, region) }
+    ensures seat { IsPaused race.now.table.shared.table_id race.now.shape seat.new }
+    ensures notes { Notes race.now.shape seat.old.me.0.began_words seat.new.me.0.began_words ((card, region) ∷ []) }
+{
+    let (at, place) = bit_of(race.shape, card, region);
+    let found = see(race, seat, at);
+    if (found >> place) & 1 == 1 {
+        return;
+    }
+    put(race, seat, at, found | (1 << place));
+}

@@ -1,0 +1,85 @@
+//! The pairs that are recorded at a pause, and the cards that are dirty.
+ghost use Rattle.std.specs.Prelude.{◌≡◌, ◌+◌, ◌<◌, ◌≤◌, ◌↔◌, IsTrue, IfOk, ℕ};
+ghost use Rattle.std.specs.FinSet as set;
+ghost use Rattle.g1_core.specs.Table.{IsRecorded, AreMembers};
+ghost use Rattle.g1_core.specs.Run.{IsStep};
+ghost use Rattle.g1_core.specs.Calls.{members_entry};
+ghost use Rattle.g1_race.specs.Race.{HasBit, IsPair};
+ghost use Rattle.g1_race.specs.Over.{halted};
+ghost use Rattle.g1_race.specs.Clearing.{IsLeastPending};
+ghost use Rattle.g1_race.specs.Members.{IsPaused};
+
+use crate::bits::bit_of;
+use crate::next::{card_at, count_marked, count_members, list_members, next_marked};
+use crate::paused::Paused;
+use crate::race::Race;
+use crate::rule::Place;
+use crate::stopped::see;
+use g1_core::CardList;
+use g1_layout::{Card, NoMemory, Region};
+use std::alloc::Global;
+
+impl Paused {
+    /// Whether the pair is recorded. Reads one word.
+    pub fn has(&mut self, card: Card, region: Region) -> bool
+        ensures has { IsTrue result ↔ IsRecorded (halted self.old) card region }
+        ensures same { self.new ≡ self.old }
+    {
+        let (card, region) = (card.number() as usize, region.number() as usize);
+        if card >= self.race.shape.cards {
+            return false;
+        }
+        if region >= self.race.shape.regions {
+            return false;
+        }
+        is_set(&self.race, &mut self.seat, card, region)
+    }
+
+    /// The cards of a region's remembered set as it is recorded, ascending, each once. Cards that
+    /// are dirty may be missing in it. Reads a word for each 64 cards of the heap, and one more for
+    /// each card of the set, twice.
+    ///
+    /// `NoMemory` where the room for the list was refused.
+    pub fn members(&mut self, alloc: Global, region: Region) -> Result<CardList, NoMemory>
+        requires { region < self.old.layout.regions }
+        ensures members { IfOk result (λ cards. AreMembers (halted self.old) region cards) }
+        ensures step { IfOk result (λ cards. (caller : ℕ) → IsStep (halted self.old) (members_entry caller region cards) (halted self.new)) }
+        ensures same { self.new ≡ self.old }
+    {
+        let number = region.number() as usize;
+        let count = count_members(&self.race, &mut self.seat, number);
+        let mut cards = Vec::with_capacity(alloc, count)?;
+        list_members(&self.race, &mut self.seat, number, &mut cards);
+        Ok(CardList::of(cards))
+    }
+
+    /// How many cards are dirty. Reads a word for each card.
+    pub fn pending_count(&mut self) -> u32
+        ensures count { result ≡ set.len (halted self.old).pending }
+        ensures same { self.new ≡ self.old }
+    {
+        count_marked(&self.race, &mut self.seat) as u32
+    }
+
+    /// The least dirty card. Reads a word for each card up to it.
+    pub fn next_dirty(&mut self) -> Option<Card>
+        ensures dirty { IsLeastPending (halted self.old) result }
+        ensures same { self.new ≡ self.old }
+    {
+        let Some(card) = next_marked(&self.race, &mut self.seat, 0) else {
+            return None;
+        };
+        Some(card_at(&self.race, card))
+    }
+}
+
+// Whether the pair's bit is set.
+fn is_set(race: &Race, seat: &mut Place, card: usize, region: usize) -> bool
+    requires seat { IsPaused race.now.table.shared.table_id race.now.shape seat.old }
+    requires pair { IsPair race.now.shape (card, region) }
+    ensures set { IsTrue result ↔ HasBit race.now.shape seat.old.me.0.began_words (card, region) }
+    ensures seat { (seat.new.table_id ≡ seat.old.table_id) × (seat.new.me ≡ seat.old.me) }
+{
+    let (at, place) = bit_of(race.shape, card, region);
+    (see(race, seat, at) >> place) & 1 == 1
+}

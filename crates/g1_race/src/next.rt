@@ -1,0 +1,150 @@
+//! Where the next dirty card is, and the next card of a region's set.
+ghost use Rattle.std.specs.Prelude.{◌≡◌, ◌+◌, ◌*◌, ◌<◌, ◌≤◌, ℕ, [], length, vec_capacity};
+ghost use Rattle.g1_race.specs.Telling.{IsNext, is_marked, is_member, marked_cards, member_cards};
+ghost use Rattle.g1_race.specs.Evacuating.{AreWritten};
+ghost use Rattle.g1_race.specs.Members.{IsPaused};
+
+use crate::bits::bit_of;
+use crate::race::Race;
+use crate::rule::Place;
+use crate::stopped::see;
+use g1_layout::Card;
+
+// The least dirty card from one on.
+pub(crate) fn next_marked(race: &Race, seat: &mut Place, from: usize) -> Option<usize>
+    requires { IsPaused race.now.table.shared.table_id race.now.shape seat.old }
+    ensures next { IsNext (is_marked race.now.shape seat.old.me.0.began_words) race.now.shape.cards from result }
+    ensures seat { (seat.new.table_id ≡ seat.old.table_id) × (seat.new.me ≡ seat.old.me) }
+{
+    for card in from..race.shape.cards {
+        if see(race, seat, race.shape.slots + card) == 1 {
+            return Some(card);
+        }
+    }
+    None
+}
+
+// The least card from one on that is of the region's set.
+pub(crate) fn next_member(
+    race: &Race,
+    seat: &mut Place,
+    from: usize,
+    region: usize,
+) -> Option<usize>
+    requires seat { IsPaused race.now.table.shared.table_id race.now.shape seat.old }
+    requires region { region < race.now.shape.regions }
+    ensures next { IsNext (is_member race.now.shape seat.old.me.0.began_words region) race.now.shape.cards from result }
+    ensures seat { (seat.new.table_id ≡ seat.old.table_id) × (seat.new.me ≡ seat.old.me) }
+{
+    let cards = race.shape.cards;
+    let mut card = from;
+    while card < cards {
+        let (at, place) = bit_of(race.shape, card, region);
+        let rest = see(race, seat, at) >> place;
+        if rest != 0 {
+            let next = card + rest.trailing_zeros() as usize;
+            return if next < cards { Some(next) } else { None };
+        }
+        card = (card / 64 + 1) * 64;
+    }
+    None
+}
+
+// How many cards are dirty.
+pub(crate) fn count_marked(race: &Race, seat: &mut Place) -> usize
+    requires { IsPaused race.now.table.shared.table_id race.now.shape seat.old }
+    ensures count { result ≡ length (marked_cards race.now.shape seat.old.me.0.began_words) }
+    ensures seat { (seat.new.table_id ≡ seat.old.table_id) × (seat.new.me ≡ seat.old.me) }
+{
+    let mut count = 0;
+    let mut from = 0;
+    while let Some(card) = next_marked(race, seat, from) {
+        count += 1;
+        from = card + 1;
+    }
+    count
+}
+
+// Lists the dirty cards.
+pub(crate) fn list_marked(race: &Race, seat: &mut Place, cards: &mut Vec<Card>)
+    requires seat { IsPaused race.now.table.shared.table_id race.now.shape seat.old }
+    requires empty { cards.old.items ≡ [] }
+    requires room { length (marked_cards race.now.shape seat.old.me.0.began_words) ≤ vec_capacity cards.old }
+    ensures cards { cards.new.items ≡ marked_cards race.now.shape seat.old.me.0.began_words }
+    ensures seat { (seat.new.table_id ≡ seat.old.table_id) × (seat.new.me ≡ seat.old.me) }
+{
+    let mut from = 0;
+    while let Some(card) = next_marked(race, seat, from) {
+        cards.push_reserved(card_at(race, card));
+        from = card + 1;
+    }
+}
+
+// How many cards the region's set has.
+pub(crate) fn count_members(race: &Race, seat: &mut Place, region: usize) -> usize
+    requires seat { IsPaused race.now.table.shared.table_id race.now.shape seat.old }
+    requires region { region < race.now.shape.regions }
+    ensures count { result ≡ length (member_cards race.now.shape seat.old.me.0.began_words region) }
+    ensures seat { (seat.new.table_id ≡ seat.old.table_id) × (seat.new.me ≡ seat.old.me) }
+{
+    let mut count = 0;
+    let mut from = 0;
+    while let Some(card) = next_member(race, seat, from, region) {
+        count += 1;
+        from = card + 1;
+    }
+    count
+}
+
+// Lists the cards of the region's set.
+pub(crate) fn list_members(race: &Race, seat: &mut Place, region: usize, cards: &mut Vec<Card>)
+    requires seat { IsPaused race.now.table.shared.table_id race.now.shape seat.old }
+    requires region { region < race.now.shape.regions }
+    requires empty { cards.old.items ≡ [] }
+    requires room { length (member_cards race.now.shape seat.old.me.0.began_words region) ≤ vec_capacity cards.old }
+    ensures cards { cards.new.items ≡ member_cards race.now.shape seat.old.me.0.began_words region }
+    ensures seat { (seat.new.table_id ≡ seat.old.table_id) × (seat.new.me ≡ seat.old.me) }
+{
+    let mut from = 0;
+    while let Some(card) = next_member(race, seat, from, region) {
+        cards.push_reserved(card_at(race, card));
+        from = card + 1;
+    }
+}
+
+// Writes the cards of the region's set into the slice, as far as it reaches, and says how many
+// there are.
+pub(crate) fn write_members(
+    race: &Race,
+    seat: &mut Place,
+    region: usize,
+    cards: &mut [Card],
+) -> usize
+    requires seat { IsPaused race.now.table.shared.table_id race.now.shape seat.old }
+    requires region { region < race.now.shape.regions }
+    ensures count { result ≡ length (member_cards race.now.shape seat.old.me.0.began_words region) }
+    ensures cards { AreWritten (member_cards race.now.shape seat.old.me.0.began_words region) cards.old cards.new }
+    ensures seat { (seat.new.table_id ≡ seat.old.table_id) × (seat.new.me ≡ seat.old.me) }
+{
+    let mut count = 0;
+    let mut from = 0;
+    while let Some(card) = next_member(race, seat, from, region) {
+        if count < cards.len() {
+            cards[count] = card_at(race, card);
+        }
+        count += 1;
+        from = card + 1;
+    }
+    count
+}
+
+// The card with a number.
+pub(crate) fn card_at(race: &Race, card: usize) -> Card
+    requires { card < race.now.shape.cards }
+    ensures { result ≡ card }
+{
+    let Some(card) = race.layout.card(card as u32) else {
+        unreachable!()
+    };
+    card
+}

@@ -1,0 +1,116 @@
+//! How a race comes to a pause, and what is known then.
+ghost use Rattle.g1_core.specs.Table.{IsCovered};
+ghost use Rattle.g1_race.specs.Over.{halted, ended_of};
+ghost use Rattle.g1_core.specs.Adoption.{IsPairOf};
+ghost use Rattle.std.specs.Prelude.{◌≡◌, ℕ, ◌+◌, ◌<◌, ◌≤◌, ◌↔◌, ◌++◌, reverse, [], ◌∷◌, All, Contains, map, vec_len, vec_capacity};
+ghost use Rattle.g1_race.specs.Race.{IsOver, IsKnown, collected};
+ghost use Rattle.g1_race.specs.Members.{race_id, race_layout, race_shape, race_begun, racer_race, sweeper_race, racer_view, sweeper_view, racer_log, RacerOf, SweeperOf};
+
+use crate::paused::Paused;
+use crate::race::{Race, Racer, Sweeper};
+use crate::rule::{Comes, Freezes, Gathers, Place, RaceTable};
+use arrayvec::ArrayVec;
+use g1_layout::Card;
+
+impl Race {
+    /// Pauses the race in place: all its racers and sweepers are handed in, which is a condition,
+    /// and the table stays where it is.
+    ///
+    /// Each slot refers to what some racer stored to it last, or to what it referred to when the
+    /// race began and nobody has stored to it. A dirty card was claimed by some racer or began
+    /// dirty; a card that is clean and either of these was cleaned by some sweeper. A pair that a
+    /// sweeper recorded is of a reference that was stored or was there from the beginning, and its
+    /// card lies outside its region. A slot that refers into another region has its card dirty or
+    /// its pair recorded. The race began at its last resume, with what its racers and sweepers
+    /// know.
+    ///
+    /// Takes no memory, copies no word, and makes no step but those that join the seats and one.
+    /// The logs are kept for the racers.
+    pub fn pause(self, mut racers: Vec<Racer>, mut sweepers: Vec<Sweeper>) -> Paused
+        requires racers { (vec_len racers + vec_len sweepers ≡ (race_shape self).members)
+            × All (λ r. racer_race r ≡ race_id self) racers.items }
+        requires sweepers { All (λ w. sweeper_race w ≡ race_id self) sweepers.items }
+        ensures layout { result.layout ≡ race_layout self }
+        ensures shape { result.shape ≡ race_shape self }
+        ensures within { (x : ℕ × ℕ) → Contains (ended_of result).pairs x →
+            IsPairOf (race_layout self) x }
+        ensures cover { IsCovered (halted result) }
+        ensures pairs { let rs = map racer_view racers.items in
+            let ws = map sweeper_view sweepers.items in
+            (x : ℕ × ℕ) →
+            Contains (ended_of result).pairs x ↔ IsKnown (race_begun self rs ws) ws x }
+        ensures over { let rs = map racer_view racers.items in
+            let ws = map sweeper_view sweepers.items in
+            IsOver (race_begun self rs ws) (ended_of result).words rs ws }
+        ensures logs { result.logs ≡ map racer_log racers.items }
+        ensures sweepers { result.sweepers ≡ vec_len sweepers }
+    {
+        let Race {
+            table,
+            layout,
+            shape,
+            mut logs,
+        } = self;
+        let count = sweepers.len();
+        let (_, mut seat) = table.shared.load_new_seat::<Comes>(0);
+        logs.clear();
+        join_racers(&table, &mut seat, &mut logs, &mut racers);
+        join_sweepers(&table, &mut seat, &mut sweepers);
+        table.shared.load::<Freezes>(&mut seat, 0);
+        let race = Race {
+            table,
+            layout,
+            shape,
+            logs,
+        };
+        Paused {
+            race,
+            seat,
+            racers,
+            sweepers,
+            count,
+        }
+    }
+}
+
+// Joins the racers' seats to the registrar's, and keeps their logs, the last first.
+fn join_racers(
+    table: &RaceTable,
+    registrar: &mut Place,
+    logs: &mut Vec<ArrayVec<Card, 256>>,
+    racers: &mut Vec<Racer>,
+)
+    requires seat { registrar.old.table_id ≡ table.now.shared.table_id }
+    requires words { 0 < table.now.shared.table_id.words }
+    requires racers { All (RacerOf table.now.shared.table_id table.now.shared.key) racers.old.items }
+    requires room { vec_len logs.old + vec_len racers.old ≤ vec_capacity logs.old }
+    ensures logs { map (λ l. l.items) logs.new.items ≡ map (λ l. l.items) logs.old.items ++ reverse (map racer_log racers.old.items) }
+    ensures len { vec_len logs.new ≡ vec_len logs.old + vec_len racers.old }
+    ensures capacity { vec_capacity logs.old ≤ vec_capacity logs.new }
+    ensures seat { (registrar.new.table_id ≡ registrar.old.table_id) × (registrar.new.id ≡ registrar.old.id) }
+    ensures view { registrar.new.me ≡ (collected (map racer_view racers.old.items) registrar.old.me.0, registrar.old.me.1) }
+    ensures empty { (racers.new.items ≡ []) × (vec_capacity racers.new ≡ vec_capacity racers.old) }
+{
+    while let Some(racer) = racers.pop() {
+        let Racer { seat, log } = racer;
+        table.shared.join_seat::<Gathers>(registrar, seat);
+        let Ok(()) = logs.push(log) else {
+            unreachable!()
+        };
+    }
+}
+
+// Joins the sweepers' seats to the registrar's.
+fn join_sweepers(table: &RaceTable, registrar: &mut Place, sweepers: &mut Vec<Sweeper>)
+    requires seat { registrar.old.table_id ≡ table.now.shared.table_id }
+    requires words { 0 < table.now.shared.table_id.words }
+    requires sweepers { All (SweeperOf table.now.shared.table_id table.now.shared.key) sweepers.old.items }
+    ensures seat { (registrar.new.table_id ≡ registrar.old.table_id) × (registrar.new.id ≡ registrar.old.id) }
+    ensures view { registrar.new.me ≡ (collected (map sweeper_view sweepers.old.items) registrar.old.me.0, registrar.old.me.1) }
+    ensures empty { (sweepers.new.items ≡ []) × (vec_capacity sweepers.new ≡ vec_capacity sweepers.old) }
+{
+    while let Some(sweeper) = sweepers.pop() {
+        let Sweeper { seat } = sweeper;
+        table.shared.join_seat::<Gathers>(registrar, seat);
+    }
+}

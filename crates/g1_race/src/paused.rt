@@ -1,0 +1,34 @@
+//! A race at a pause: its whole table is known, and stands where it always stood.
+ghost use Rattle.std.specs.Prelude.{◌≡◌, ◌+◌, ◌<◌};
+
+use crate::race::{Race, Racer, Sweeper};
+use crate::rule::Place;
+use std::marker::Model;
+
+/// A race at a pause, with no thread at it.
+///
+/// Its model is a table: the layout and the words of slots, marks and pairs, with the racers' logs
+/// and the number of sweepers. Each slot that refers into another region has its card dirty or its
+/// pair recorded.
+#[derive(Drop)]
+pub struct Paused {
+    pub(crate) race: Race,
+    pub(crate) seat: Place,
+    // Empty, with room for all of them.
+    pub(crate) racers: Vec<Racer>,
+    pub(crate) sweepers: Vec<Sweeper>,
+    // How many sweepers there are.
+    pub(crate) count: usize,
+}
+
+impl Model for Paused {
+    ghost use Rattle.std.specs.Prelude.{◌≡◌, ◌+◌, ◌≤◌, [], map, reverse, vec_len, vec_capacity};
+    ghost use Rattle.g1_race.specs.Over.{Halt};
+    ghost use Rattle.g1_race.specs.Members.{IsPaused};
+
+    ghost Value = { Halt };
+
+    ghost view = { λ a. record { layout = a.race.layout; shape = a.race.shape; words = a.seat.me.0.began_words; logs = reverse (map (λ l. l.items) a.race.logs.items); sweepers = a.count } };
+
+    ghost invariant = { λ a. IsPaused a.race.table.shared.table_id a.race.shape a.seat × (vec_len a.race.logs + a.count ≡ a.race.shape.members) × (vec_len a.racers ≡ 0) × (vec_len a.sweepers ≡ 0) × (vec_len a.race.logs ≤ vec_capacity a.racers) × (a.count ≤ vec_capacity a.sweepers) };
+}

@@ -1,0 +1,112 @@
+//! What is read and stored at a pause.
+ghost use Rattle.std.specs.Prelude.{◌≡◌, ℕ, ◌+◌, ◌<◌, ◌≤◌, ◌^◌, IfSome, slice_set};
+ghost use Rattle.std.specs.FinSet as set;
+ghost use mathlib.Core.Option.{some};
+ghost use lib.ListN.{get_elem?};
+ghost use Rattle.g1_layout.specs.Shape.{slot_count, card_count};
+ghost use Rattle.g1_core.specs.Table.{target_of};
+ghost use Rattle.g1_core.specs.Run.{IsStep, kind_of, stored};
+ghost use Rattle.g1_core.specs.Calls.{target_entry, pending_entry, store_entry};
+ghost use Rattle.g1_race.specs.Race.{IsBegun, start, crosses, shape_of, word_of};
+ghost use Rattle.g1_race.specs.Over.{halted};
+ghost use Rattle.g1_race.specs.Evacuating.{IsSameRace, plain_reply};
+ghost use Rattle.g1_race.specs.Members.{IsPaused};
+
+use crate::paused::Paused;
+use crate::race::Race;
+use crate::racer::word_of;
+use crate::rule::{Place, Sees, Sets};
+use g1_layout::{Card, Kind, Layout, Slot};
+
+impl Paused {
+    /// What the slot refers to, or None for null. Reads one word.
+    pub fn target(&mut self, slot: Slot) -> Option<Slot>
+        requires { slot < slot_count self.old.layout }
+        ensures target { result ≡ target_of (halted self.old) slot }
+        ensures within { IfSome result (λ place. place < slot_count self.old.layout) }
+        ensures step { (caller : ℕ) → IsStep (halted self.old) (target_entry caller slot result) (halted self.new) }
+        ensures same { self.new ≡ self.old }
+    {
+        let place = slot.number() as usize;
+        let word = see(&self.race, &mut self.seat, place);
+        if word == 0 {
+            return None;
+        }
+        self.race.layout.slot(word as u32 - 1)
+    }
+
+    /// Whether the card is pending: dirty, by a store or from the beginning. Reads one word.
+    pub fn is_pending(&mut self, card: Card) -> bool
+        requires { card < card_count self.old.layout }
+        ensures pending { result ≡ set.contains (halted self.old).pending card }
+        ensures step { (caller : ℕ) → IsStep (halted self.old) (pending_entry caller card result) (halted self.new) }
+        ensures same { self.new ≡ self.old }
+    {
+        let place = self.race.shape.slots + card.number() as usize;
+        see(&self.race, &mut self.seat, place) == 1
+    }
+
+    /// Stores a reference (or null) into the slot, as the collector itself does, and dirties the
+    /// slot's card where the reference crosses regions. No log has the card. Answers what kind of
+    /// store it is: `Logged` where the card was clean. Takes no memory.
+    pub fn store(&mut self, slot: Slot, target: Option<Slot>) -> Kind
+        requires slot { slot < slot_count self.old.layout }
+        requires target { IfSome target (λ place. place < slot_count self.old.layout) }
+        ensures race { IsSameRace self.old self.new }
+        ensures kind { result ≡ kind_of (halted self.old) slot target }
+        ensures table { halted self.new ≡ stored (halted self.old) slot target }
+        ensures step { (caller : ℕ) → IsStep (halted self.old) (store_entry caller slot target (plain_reply result)) (halted self.new) }
+    {
+        let across = crosses(self.race.layout, &slot, &target);
+        let word = word_of(target);
+        let place = slot.number() as usize;
+        if !across {
+            put(&self.race, &mut self.seat, place, word);
+            if word == 0 {
+                return Kind::Null;
+            }
+            return Kind::SameRegion;
+        }
+        let mark = self.race.shape.slots + self.race.layout.card_of(slot).number() as usize;
+        if see(&self.race, &mut self.seat, mark) == 1 {
+            put(&self.race, &mut self.seat, place, word);
+            return Kind::AlreadyDirty;
+        }
+        put(&self.race, &mut self.seat, mark, 1);
+        put(&self.race, &mut self.seat, place, word);
+        Kind::Logged
+    }
+}
+
+// Reads a word, which is what the seat knows it to be.
+pub(crate) fn see(race: &Race, seat: &mut Place, word: usize) -> u64
+    requires seat { IsPaused race.now.table.shared.table_id race.now.shape seat.old }
+    requires word { word < race.now.shape.slots + race.now.shape.cards + race.now.shape.bits }
+    ensures word { get_elem? seat.old.me.0.began_words word ≡ some result }
+    ensures seat { (seat.new.table_id ≡ seat.old.table_id) × (seat.new.me ≡ seat.old.me) }
+{
+    race.table.shared.load::<Sees>(seat, word)
+}
+
+// Writes a word, where the words keep what each beginning has.
+pub(crate) fn put(race: &Race, seat: &mut Place, word: usize, new: u64)
+    requires seat { IsPaused race.now.table.shared.table_id race.now.shape seat.old }
+    requires word { word < race.now.shape.slots + race.now.shape.cards + race.now.shape.bits }
+    requires begun { IsBegun (start race.now.shape (slice_set seat.old.me.0.began_words word new)) }
+    ensures seat { IsPaused race.now.table.shared.table_id race.now.shape seat.new }
+    ensures words { seat.new.me.0.began_words ≡ slice_set seat.old.me.0.began_words word new }
+{
+    race.table.shared.store::<Sets>(seat, word, new);
+}
+
+// Whether a reference of the slot to the target crosses regions.
+fn crosses(layout: Layout, slot: &Slot, target: &Option<Slot>) -> bool
+    requires slot { slot.now < slot_count layout }
+    requires target { IfSome target.now (λ place. place < slot_count layout) }
+    ensures { result ≡ crosses (shape_of layout 0) slot.now (word_of target.now) }
+{
+    let Some(target) = target else {
+        return false;
+    };
+    layout.region_of(*slot).number() != layout.region_of(*target).number()
+}

@@ -1,0 +1,41 @@
+//! A region that is freed: its slots are nulled.
+ghost use Rattle.std.specs.Prelude.{◌≡◌, ℕ, ◌+◌, ◌*◌, ◌<◌, ◌≤◌, None};
+ghost use mathlib.Core.Option.{some};
+ghost use lib.ListN.{get_elem?};
+ghost use Rattle.g1_layout.specs.Shape.{region_of};
+ghost use Rattle.g1_core.specs.Table.{target_of};
+ghost use Rattle.g1_race.specs.Over.{halted, ended, table_of};
+ghost use Rattle.g1_race.specs.Evacuating.{IsSameRace, wiped};
+ghost use Rattle.g1_race.specs.Members.{IsPaused};
+
+use crate::paused::Paused;
+use crate::race::Race;
+use crate::rule::Place;
+use crate::stopped::put;
+use g1_layout::Region;
+
+impl Paused {
+    /// Stores null into each slot of the region, ascending. Takes no memory.
+    pub fn wipe(&mut self, region: Region)
+        requires { region < self.old.layout.regions }
+        ensures race { IsSameRace self.old self.new }
+        ensures table { halted self.new ≡ wiped region (halted self.old) }
+        ensures null { (slot : ℕ) → region_of self.old.layout slot ≡ region → target_of (halted self.new) slot ≡ None }
+    {
+        wipe_slots(&self.race, &mut self.seat, region.number() as usize);
+    }
+}
+
+// Stores null into each slot of the region.
+fn wipe_slots(race: &Race, seat: &mut Place, region: usize)
+    requires seat { IsPaused race.now.table.shared.table_id race.now.shape seat.old }
+    requires region { region < race.now.shape.regions }
+    ensures seat { IsPaused race.now.table.shared.table_id race.now.shape seat.new }
+    ensures table { table_of (ended race.now.layout race.now.shape seat.new.me.0.began_words) ≡ wiped region (table_of (ended race.now.layout race.now.shape seat.old.me.0.began_words)) }
+    ensures null { (i : ℕ) → i < race.now.shape.span → get_elem? seat.new.me.0.began_words (region * race.now.shape.span + i) ≡ some 0 }
+{
+    let first = region * race.shape.span;
+    for i in 0..race.shape.span {
+        put(race, seat, first + i, 0);
+    }
+}
