@@ -15,7 +15,8 @@ use Rattle.g1_race.specs.Members.{null_begun}
 use Rattle.g1_race.specs.Over.{Ended, refs_of, table_of, target_of}
 use Rattle.g1_race.proofs.AtBeginning.{at_zeros}
 use Rattle.g1_race.proofs.Draining.{in_shape, known_once, stored_now}
-use Rattle.g1_race.proofs.Ends.{crosses_some, refs_here, target_some}
+use Rattle.g1_race.proofs.Ends.{refs_here, target_some}
+use Rattle.g1_race.proofs.PairBits.{crosses_some}
 use Rattle.g1_race.proofs.Places.{in_contains, reads_as}
 use Rattle.g1_race.proofs.Plain.{read_at}
 use Rattle.g1_trace.specs.declared.command.Command.{Command}

@@ -9,6 +9,7 @@ pub mod DrainLemmas
 pub mod RanLemmas
 pub mod ScriptedLemmas
 pub mod CrewLemmas
+pub mod CrewScriptLemmas
 pub mod SweptLemmas
 pub mod TakenLemmas
 pub mod PlacedLemmas
@@ -18,3 +19,4 @@ pub mod LeftLemmas
 pub mod CoreDrainLemmas
 pub mod RaceLemmas
 pub mod ScriptLemmas
+pub mod JobLemmas

@@ -1,7 +1,7 @@
 -- A line that goes on in the bytes that a reader shows.
-use Rattle.std.proofs.Common.{inl, inr, ◌≡◌, ◌≢◌, ℕ, ◌+◌, ◌-◌, ◌<◌, ◌≤◌, List, [], ◌∷◌, ◌++◌, length, take, get_or, refl, sym, ap, subst, ◌∙◌, arith, append_assoc, append-nil, add-one, length-take-le, length-append, Option, Some, None, zero, suc, true}
+use Rattle.std.proofs.Common.{inl, inr, ◌≡◌, ◌≢◌, ℕ, ◌+◌, ◌-◌, ◌<◌, ◌≤◌, List, [], ◌∷◌, ◌++◌, length, take, get_or, refl, sym, ap, subst, ◌∙◌, arith, append_assoc, append-nil, add-one, length-take-le, length-append, Option, Some, None, zero, suc, true, false}
 use Rattle.std.specs.Prelude.{Ok, Err}
-use Rattle.std.proofs.KnownBytes.{Consumes-trans}
+use Rattle.std.proofs.KnownBytes.{Consumes-nil, Consumes-trans}
 use Rattle.std.proofs.Math.Seq.{take-suc}
 use Rattle.std.proofs.lemmas.Bool.{eq-eqb, eqb-true, cases_Bool, cases_lt, cond-true, cond-false, false≢true}
 use Rattle.std.specs.Iterator.{YieldsFirst}
@@ -9,10 +9,13 @@ use Rattle.std.specs.Option.{unwrap_or}
 use Rattle.memchr.specs.Find.{Nowhere, NoneBefore, Passes, IsFirst, IsFirstByte, is_byte, places, places_from}
 use Rattle.std.specs.Io.KnownBytes.{Consumes}
 use Rattle.g1_trace.specs.declared.fault.TraceFault.TheVariants as fault
+use Rattle.g1_trace.specs.Words.{IsPart}
+use Rattle.g1_trace.proofs.PlainLemmas.{part_joined}
+use Rattle.g1_replay.specs.declared.lines.Byte.TheVariants.{Some as OneByte, End as NoByte}
 use Rattle.g1_replay.specs.declared.lines.Part.{Part}
 use Rattle.g1_replay.specs.declared.lines.Part.TheVariants.{Whole, TooLong, More, Nothing, Failed}
-use Rattle.g1_replay.specs.declared.stop.Stop.TheVariants.{Fault}
-use Rattle.g1_replay.specs.Lines.{IsPart, EndsAtFeed, GoesOn, ReadsPart, ReadsLine}
+use Rattle.g1_replay.specs.declared.stop.Stop.TheVariants.{Fault, ReadFailed}
+use Rattle.g1_replay.specs.Lines.{EndsAtFeed, GoesOn, HasPart, IsSettled, Reads, ReadsPart, ReadsLine}
 
 -- one more byte
 part_push : (xs : List ℕ) (b : ℕ) → IsPart xs → b ≢ 10 → IsPart (xs ++ b ∷ [])
@@ -118,31 +121,65 @@ part_read old new Nothing n lost room shown begun line p h r e c =
     (e ∙ ap (λ k. begun ++ take k shown) p.0 ∙ append-nil begun, subst (λ k. Consumes old new (take k shown)) p.1 c)
 part_read old new Failed n lost room shown begun line p h r e c = absurd p
 
--- two parts are one
-joined : (xs ys : List ℕ) → IsPart xs → IsPart ys → IsPart (xs ++ ys)
-joined [] ys p q = q
-joined (x ∷ xs) ys p q = (p.0, joined xs ys p.1 q)
-
 -- what was read before a part, and bytes that end with it
 behind : (a b c : Option (List ℕ)) (begun line bytes more : List ℕ) → line ≡ begun ++ bytes → Consumes a b begun → Consumes b c (bytes ++ more) → Consumes a c (line ++ more)
 behind a b c begun line bytes more e p q = subst (Consumes a c) (sym (append_assoc begun bytes more) ∙ ap (λ l. l ++ more) (sym e)) (Consumes-trans a b c begun (bytes ++ more) p q)
 
 -- the last part of a line
-pub line_whole : (a b c : Option (List ℕ)) (begun line : List ℕ) → Consumes a b begun → IsPart begun → ReadsPart b c Whole begun line → ReadsLine a c (Ok true) line
-line_whole a b c begun line p part r = (behind a b c begun line r.0 (10 ∷ []) r.1 p r.2, subst IsPart (sym r.1) (joined begun r.0 part r.3), r.4)
+line_whole : (a b c : Option (List ℕ)) (begun line : List ℕ) → Consumes a b begun → IsPart begun → ReadsPart b c Whole begun line → ReadsLine a c (Ok true) line
+line_whole a b c begun line p part r = (behind a b c begun line r.0 (10 ∷ []) r.1 p r.2, subst IsPart (sym r.1) (part_joined begun r.0 part r.3), r.4)
 
-pub line_long : (a b c : Option (List ℕ)) (begun line : List ℕ) → Consumes a b begun → IsPart begun → ReadsPart b c TooLong begun line → ReadsLine a c (Err (Fault fault.TooLong)) line
+line_long : (a b c : Option (List ℕ)) (begun line : List ℕ) → Consumes a b begun → IsPart begun → ReadsPart b c TooLong begun line → ReadsLine a c (Err (Fault fault.TooLong)) line
 line_long a b c begun line p part r =
-    (r.1, behind a b c begun line r.0 (r.1 ∷ []) r.2 p r.3, r.4, subst IsPart (sym r.2) (joined begun r.0 part r.5), r.6)
+    (r.1, behind a b c begun line r.0 (r.1 ∷ []) r.2 p r.3, r.4, subst IsPart (sym r.2) (part_joined begun r.0 part r.5), r.6)
 
 -- a part, behind which more may come
-pub line_more : (a b c : Option (List ℕ)) (begun line : List ℕ) → Consumes a b begun → IsPart begun → ReadsPart b c More begun line → Consumes a c line × IsPart line × (length line ≤ 64)
+line_more : (a b c : Option (List ℕ)) (begun line : List ℕ) → Consumes a b begun → IsPart begun → ReadsPart b c More begun line → Consumes a c line × IsPart line × (length line ≤ 64)
 line_more a b c begun line p part r =
-    (subst (Consumes a c) (sym r.1) (Consumes-trans a b c begun r.0 p r.2), subst IsPart (sym r.1) (joined begun r.0 part r.3), r.4)
+    (subst (Consumes a c) (sym r.1) (Consumes-trans a b c begun r.0 p r.2), subst IsPart (sym r.1) (part_joined begun r.0 part r.3), r.4)
 
--- no part, and then one byte
-pub line_byte : (a b c d : Option (List ℕ)) (begun line : List ℕ) (byte : ℕ) → Consumes a b begun → IsPart begun → ReadsPart b c Nothing begun line → Consumes c d (byte ∷ []) → byte ≢ 10
-    → Consumes a d (line ++ byte ∷ []) × IsPart (line ++ byte ∷ [])
-line_byte a b c d begun line byte p part r q ne =
-    let stays : Consumes a c line = subst (Consumes a c) (append-nil begun ∙ sym r.0) (Consumes-trans a b c begun [] p r.1) in
-    (Consumes-trans a c d line (byte ∷ []) stays q, part_push line byte (subst IsPart (sym r.0) part) ne)
+-- no part: the line is as it was
+stays : (a b c : Option (List ℕ)) (begun line : List ℕ) → Consumes a b begun → IsPart begun → line ≡ begun → Consumes b c [] → Consumes a c line × IsPart line
+stays a b c begun line p part e q = (subst (Consumes a c) (append-nil begun ∙ sym e) (Consumes-trans a b c begun [] p q), subst IsPart (sym e) part)
+
+-- the first part of a line, and one behind others
+pub part_first : (a c : Option (List ℕ)) (part : Part) (line : List ℕ) → ReadsPart a c part [] line → HasPart a c part line
+part_first a c part line r = record { before = []; left = a; read = Consumes-nil a; one = tt; last = r }
+
+pub part_next : (a b c : Option (List ℕ)) (part : Part) (begun line : List ℕ) → Consumes a b begun → IsPart begun → ReadsPart b c part begun line → HasPart a c part line
+part_next a b c part begun line p one r = record { before = begun; left = b; read = p; one = one; last = r }
+
+-- what the last part of a line settles
+pub settled_whole : (a c : Option (List ℕ)) (line : List ℕ) → HasPart a c Whole line → IsSettled a c (Ok (Some true)) line
+settled_whole a c line p = line_whole a p.left c p.before line p.read p.one p.last
+
+pub settled_long : (a c : Option (List ℕ)) (line : List ℕ) → HasPart a c TooLong line → IsSettled a c (Err (Fault fault.TooLong)) line
+settled_long a c line p = line_long a p.left c p.before line p.read p.one p.last
+
+pub settled_more : (a c : Option (List ℕ)) (line : List ℕ) → HasPart a c More line → IsSettled a c (Ok None) line
+settled_more a c line p = line_more a p.left c p.before line p.read p.one p.last
+
+pub settled_failed : (a c : Option (List ℕ)) (line : List ℕ) → length line ≤ 64 → HasPart a c Failed line → IsSettled a c (Err ReadFailed) line
+settled_failed a c line short p = let s = stays a p.left c p.before line p.read p.one p.last.0 p.last.1 in (s.0, s.1, short)
+
+pub nothing_shown : (a c : Option (List ℕ)) (line : List ℕ) → HasPart a c Nothing line → Consumes a c line × IsPart line
+nothing_shown a c line p = stays a p.left c p.before line p.read p.one p.last.0 p.last.1
+
+-- what one byte settles, or no byte
+pub byte_failed : (a b c : Option (List ℕ)) (line : List ℕ) → Consumes a b line → IsPart line → length line ≤ 64 → Consumes b c [] → IsSettled a c (Err ReadFailed) line
+byte_failed a b c line p one short q = let s = stays a b c line line p one refl q in (s.0, s.1, short)
+
+pub byte_none : (a b c : Option (List ℕ)) (line : List ℕ) → Consumes a b line → line ≡ [] → Reads b c NoByte → IsSettled a c (Ok (Some false)) line
+byte_none a b c line p e q = (Consumes-trans a b c [] [] (subst (Consumes a b) e p) q.0, q.1, e)
+
+pub byte_cut : (a b c : Option (List ℕ)) (line : List ℕ) → Consumes a b line → IsPart line → length line ≤ 64 → 0 < length line → Reads b c NoByte → IsSettled a c (Err (Fault fault.Cut)) line
+byte_cut a b c line p one short some q = let s = stays a b c line line p one refl q.0 in (s.0, q.1, s.1, some, short)
+
+pub byte_feed : (a b c : Option (List ℕ)) (line : List ℕ) → Consumes a b line → IsPart line → length line ≤ 64 → Reads b c (OneByte 10) → IsSettled a c (Ok (Some true)) line
+byte_feed a b c line p one short q = (Consumes-trans a b c line (10 ∷ []) p q, one, short)
+
+pub byte_long : (a b c : Option (List ℕ)) (line : List ℕ) (byte : ℕ) → Consumes a b line → IsPart line → length line ≡ 64 → byte ≢ 10 → Reads b c (OneByte byte) → IsSettled a c (Err (Fault fault.TooLong)) line
+byte_long a b c line byte p one long ne q = (byte, Consumes-trans a b c line (byte ∷ []) p q, ne, one, long)
+
+pub byte_more : (a b c : Option (List ℕ)) (line : List ℕ) (byte : ℕ) → Consumes a b line → IsPart line → length line < 64 → byte ≢ 10 → Reads b c (OneByte byte) → IsSettled a c (Ok None) (line ++ byte ∷ [])
+byte_more a b c line byte p one room ne q = (Consumes-trans a b c line (byte ∷ []) p q, part_push line byte one ne, simp length-append (omega arith))

@@ -8,7 +8,8 @@ use Rattle.std.proofs.lemmas.List.Sums.{sum_by-cons, sum_by_push}
 use Rattle.g1_log.specs.declared.line.Line.{Line}
 use Rattle.g1_log.specs.Ends.{sender_rights, taker_rights, IsSenderOf, IsTakerOf}
 use Rattle.g1_race.specs.declared.race.Race.{Race}
-use Rattle.g1_race.specs.Members.{race_id, racer_race, sweeper_race}
+use Rattle.g1_race.specs.Race.{null_of}
+use Rattle.g1_race.specs.Members.{race_id, racer_race, racer_start, sweeper_race, sweeper_start}
 use Rattle.g1_replay.specs.declared.race_desk.Member.{Member}
 use Rattle.g1_replay.specs.declared.race_desk.Member.TheVariants.{Racing, Sweeping}
 use Rattle.g1_replay.specs.Members.{IsMemberOf, member_rights}
@@ -62,6 +63,17 @@ pub sweepers_of : (race : Race) (line : Line) (ms : List Member) → All (IsMemb
 sweepers_of race line [] all = All-nil (λ w. sweeper_race w ≡ race_id race)
 sweepers_of race line (Racing r s ∷ ms) all = sweepers_of race line ms (All-tail (IsMemberOf race line) (Racing r s) ms all)
 sweepers_of race line (Sweeping w t ∷ ms) all = All-cons (λ w. sweeper_race w ≡ race_id race) w (filter_map sweeper_in ms) (All-head (IsMemberOf race line) (Sweeping w t) ms all).0 (sweepers_of race line ms (All-tail (IsMemberOf race line) (Sweeping w t) ms all))
+
+-- they all began with nulls
+pub racers_begun_of : (race : Race) (line : Line) (ms : List Member) → All (IsMemberOf race line) ms → All (λ r. racer_start r ≡ null_of race.shape) (filter_map racer_in ms)
+racers_begun_of race line [] all = All-nil (λ r. racer_start r ≡ null_of race.shape)
+racers_begun_of race line (Racing r s ∷ ms) all = All-cons (λ r. racer_start r ≡ null_of race.shape) r (filter_map racer_in ms) (All-head (IsMemberOf race line) (Racing r s) ms all).2 (racers_begun_of race line ms (All-tail (IsMemberOf race line) (Racing r s) ms all))
+racers_begun_of race line (Sweeping w t ∷ ms) all = racers_begun_of race line ms (All-tail (IsMemberOf race line) (Sweeping w t) ms all)
+
+pub sweepers_begun_of : (race : Race) (line : Line) (ms : List Member) → All (IsMemberOf race line) ms → All (λ w. sweeper_start w ≡ null_of race.shape) (filter_map sweeper_in ms)
+sweepers_begun_of race line [] all = All-nil (λ w. sweeper_start w ≡ null_of race.shape)
+sweepers_begun_of race line (Racing r s ∷ ms) all = sweepers_begun_of race line ms (All-tail (IsMemberOf race line) (Racing r s) ms all)
+sweepers_begun_of race line (Sweeping w t ∷ ms) all = All-cons (λ w. sweeper_start w ≡ null_of race.shape) w (filter_map sweeper_in ms) (All-head (IsMemberOf race line) (Sweeping w t) ms all).2 (sweepers_begun_of race line ms (All-tail (IsMemberOf race line) (Sweeping w t) ms all))
 
 pub senders_of : (race : Race) (line : Line) (ms : List Member) → All (IsMemberOf race line) ms → All (IsSenderOf line) (filter_map sender_in ms)
 senders_of race line [] all = All-nil (IsSenderOf line)

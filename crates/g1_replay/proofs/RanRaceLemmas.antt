@@ -118,7 +118,7 @@ module _ {D : Type 0} (member : D → Member) where
         let ns = map (λ (job : Job D). member job.desk) ys in
         record {
           run = (run_of race line mutators rounds commands k (member x.desk) (member y.desk) x.script all.0 did, rest.run);
-          of = All-cons (IsMemberOf race line) (member y.desk) ns (did.race ∙ all.0.new.of.0, did.home ∙ all.0.new.of.1) rest.of;
+          of = All-cons (IsMemberOf race line) (member y.desk) ns (did.race ∙ all.0.new.of.0, did.home ∙ all.0.new.of.1, did.start ∙ all.0.new.of.2) rest.of;
           rights = omega (arith, did.rights, rest.rights, sum_by-cons member_rights (member x.desk) ms, sum_by-cons member_rights (member y.desk) ns);
           len = ap suc rest.len;
         }

@@ -1,5 +1,5 @@
 -- Lines that were read: one, and one after another.
-use Rattle.std.proofs.Common.{◌≡◌, ◌≢◌, ℕ, ◌+◌, ◌<◌, ◌≤◌, List, [], ◌∷◌, ◌++◌, refl, length, sym, ap, ◌∙◌, subst, arith, append_assoc, append-nil, Option, Some, None, true, false, rules}
+use Rattle.std.proofs.Common.{◌≡◌, ◌≢◌, ℕ, ◌+◌, ◌<◌, ◌≤◌, List, [], ◌∷◌, ◌++◌, refl, length, take, sym, ap, ◌∙◌, subst, arith, append_assoc, append-nil, Option, Some, None, true, false, rules}
 use Rattle.std.specs.Prelude.{Bool, Result, Ok, Err, nat_lt, option_to_list}
 use Rattle.std.proofs.KnownBytes.{Consumes-nil, Consumes-trans}
 use Rattle.std.proofs.lemmas.Bool.{ne_eqb}
@@ -12,9 +12,11 @@ use Rattle.g1_trace.specs.declared.fault.TraceFault.{TraceFault}
 use Rattle.g1_trace.specs.declared.fault.TraceFault.TheVariants.{TooLong, Cut, NoHeader}
 use Rattle.g1_trace.specs.Grammar.{read_command, read_header}
 use Rattle.g1_trace.specs.Trace.{read_on, read_line, after_line, at_end, before, faulty}
+use Rattle.g1_trace.specs.Words.{IsPart}
+use Rattle.g1_trace.specs.Plain.{IsLineBefore}
 use Rattle.g1_replay.specs.declared.stop.Stop.{Stop}
 use Rattle.g1_replay.specs.declared.stop.Stop.TheVariants.{Fault, ReadFailed}
-use Rattle.g1_replay.specs.Lines.{IsPart, ReadsLine}
+use Rattle.g1_replay.specs.Lines.{ReadsLine}
 use Rattle.g1_replay.specs.Reading.{IsLeft, IsReadStop, Reads}
 
 -- bytes of one line
@@ -89,6 +91,11 @@ header_read d heap n rd rd' line h e = line_read d None heap n rd rd' line [] h 
 pub command_read : (d : Dialect) (l : Shape) (n : ℕ) (rd rd' : Option (List ℕ)) (line : List ℕ) (o : Option Command) → ReadsLine rd rd' (Ok true) line → Ok o ≡ read_command l d line
     → Reads d (Some l) n (n + 1) rd rd' (Some l) (option_to_list o) (Ok true)
 command_read d l n rd rd' line o h e = line_read d (Some l) (Some l) n rd rd' line (option_to_list o) h (rw (← e) refl)
+
+-- a line at the front of what a reader shows
+pub shown_read : (d : Dialect) (l : Shape) (n : ℕ) (rd rd' : Option (List ℕ)) (shown : List ℕ) (c : Command) (count : ℕ) → IsLineBefore l d shown c count → Consumes rd rd' (take count shown)
+    → Reads d (Some l) n (n + 1) rd rd' (Some l) (c ∷ []) (Ok true)
+shown_read d l n rd rd' shown c count p moved = command_read d l n rd rd' p.line (Some c) (subst (Consumes rd rd') p.front moved, p.part, p.short) p.asks
 
 -- a whole line with a fault
 line_faulty : (d : Dialect) (heap : Option Shape) (n : ℕ) (rd rd' : Option (List ℕ)) (line : List ℕ) (f : TraceFault) → ReadsLine rd rd' (Ok true) line → Err f ≡ read_line d heap line

@@ -1,8 +1,8 @@
 -- A trace that is read to its end before its scripts are run: how it is read, what that comes to, and the whole output where it has a fault.
-use Rattle.std.proofs.Common.{◌≡◌, ℕ, List, [], ◌∷◌, ◌++◌, refl, sym, subst, ap, ◌∙◌, append-nil, Option, Some, None, inl, inr, ◌⊎◌, true, false, arith}
+use Rattle.std.proofs.Common.{◌≡◌, ℕ, List, [], ◌∷◌, ◌++◌, refl, sym, subst, ap, ◌∙◌, Option, Some, None, inl, inr, ◌⊎◌, true, false, arith}
 use Rattle.std.specs.Prelude.{Bool, Result, Ok, Err, IfSome}
 use Rattle.std.specs.Io.KnownBytes.{Appends}
-use Rattle.std.proofs.KnownBytes.{Appends-nil}
+use Rattle.std.proofs.KnownBytes.{Appends-nil, Consumes-nil}
 use Rattle.g1_layout.specs.Shape.{Shape}
 use Rattle.g1_trace.specs.declared.command.Command.{Command}
 use Rattle.g1_trace.specs.declared.dialect.Dialect.{Dialect}
@@ -29,19 +29,6 @@ Lists s cs text t = (t.commands.items ≡ s.commands.items ++ cs) × (text ≡ [
 abbrev pub Never : Listing → Type 0
 Never s = ⊥
 
--- a command that was not kept
-pub not_listed : (s t : Listing) (c : Command) (out : Option (List ℕ)) → t.commands.items ≡ s.commands.items → Does Lists Never (c ∷ []) s t out out (Err NoMemory)
-not_listed s t c out e = record {
-  done = [];
-  undone = c ∷ [];
-  all = refl;
-  stopped = omega arith;
-  text = [];
-  made = (e ∙ sym (append-nil s.commands.items), refl);
-  filled = λ e. cc;
-  written = Appends-nil out;
-}
-
 read_end : (stop : Stop) → IsReadStop stop → IsUnread (Err stop)
 read_end (Fault f) h = tt
 read_end ReadFailed h = tt
@@ -64,32 +51,76 @@ list_silent : (stop : Stop) (out out' : Option (List ℕ)) → IsReadStop stop �
 list_silent stop out out' (inl h) w = read_silent stop out out' h w
 list_silent stop out out' (inr e) w = let at : WrittenAt out out' NoMemory = subst (λ s. WrittenAt out out' s) e w in at
 
+-- memory was refused before anything was read
+pub stops_unread : (d : Dialect) (n : ℕ) (rd : Option (List ℕ)) → StopsReading d n n rd rd NoMemory
+stops_unread d n rd = record { heap = None; commands = []; ends = tt; read = record { lines = []; rest = []; consumed = Consumes-nil rd; passed = λ x. refl; met = refl } }
+
 -- a trace without a header
 pub head_stops : (d : Dialect) (n n' : ℕ) (rd rd' : Option (List ℕ)) (stop : Stop) → IsReadStop stop → Reads d None n n' rd rd' None [] (Err stop) → StopsReading d n n' rd rd' stop
 head_stops d n n' rd rd' stop h read = record { heap = None; commands = []; ends = read_end stop h; read = read }
 
--- a header, and then lines that were not read to their end
-pub lines_stop : (d : Dialect) (n n1 n' : ℕ) (l : Shape) (old new : Listing) (rd rd1 rd' out out' : Option (List ℕ)) (stop : Stop) → IsReadStop stop ⊎ (stop ≡ NoMemory)
-    → Reads d None n n1 rd rd1 (Some l) [] (Ok true) → Follows Lists Never d l n1 n' old new rd1 rd' out out' (Err stop) → StopsReading d n n' rd rd' stop × Appends out out' []
-lines_stop d n n1 n' l old new rd rd1 rd' out out' stop h head f = (
-  record {
-    heap = Some l;
-    commands = f.commands;
-    ends = list_end stop h;
-    read = reads_then d None (Some l) (Some l) n n1 n' rd rd1 rd' [] f.commands (Err stop) head f.read;
-  },
-  list_silent stop out out' h (subst (λ (x : List ℕ). Puts out out' (written_by {V = Bool} (Err stop)) x) f.done.made.1 f.done.written),
-)
+-- what takes the commands of lines and writes nothing
+module _ {S : Type 0} (Did : S → List Command → List ℕ → S → Type 0) (Full : S → Type 0) (silent : (s t : S) (cs : List Command) (text : List ℕ) → Did s cs text t → text ≡ []) where
+  -- a header, and then lines that were not read to their end
+  pub lines_stop : (d : Dialect) (n n1 n' : ℕ) (l : Shape) (old new : S) (rd rd1 rd' out out' : Option (List ℕ)) (stop : Stop) → IsReadStop stop ⊎ (stop ≡ NoMemory)
+      → Reads d None n n1 rd rd1 (Some l) [] (Ok true) → Follows Did Full d l n1 n' old new rd1 rd' out out' (Err stop) → StopsReading d n n' rd rd' stop × Appends out out' []
+  lines_stop d n n1 n' l old new rd rd1 rd' out out' stop h head f = (
+    record {
+      heap = Some l;
+      commands = f.commands;
+      ends = list_end stop h;
+      read = reads_then d None (Some l) (Some l) n n1 n' rd rd1 rd' [] f.commands (Err stop) head f.read;
+    },
+    list_silent stop out out' h (subst (λ (x : List ℕ). Puts out out' (written_by {V = Bool} (Err stop)) x) (silent old new f.done.done f.done.text f.done.made) f.done.written),
+  )
 
--- a header, and then lines that were
-pub lines_read : (d : Dialect) (n n1 n' : ℕ) (l : Shape) (old new : Listing) (rd rd1 rd' out out' : Option (List ℕ)) → old.commands.items ≡ []
-    → Reads d None n n1 rd rd1 (Some l) [] (Ok true) → Follows Lists Never d l n1 n' old new rd1 rd' out out' (Ok false) → Reads d None n n' rd rd' (Some l) new.commands.items (Ok false) × Appends out out' []
-lines_read d n n1 n' l old new rd rd1 rd' out out' none head f =
-    let kept : new.commands.items ≡ f.done.done = f.done.made.0 ∙ ap (λ (cs : List Command). cs ++ f.done.done) none in
-    let same : f.commands ≡ new.commands.items = all_done f.commands f.done.done f.done.undone f.done.all f.done.stopped ∙ sym kept in (
-      subst (λ (cs : List Command). Reads d None n n' rd rd' (Some l) cs (Ok false)) same (reads_then d None (Some l) (Some l) n n1 n' rd rd1 rd' [] f.commands (Ok false) head f.read),
-      subst (λ (x : List ℕ). Appends out out' x) f.done.made.1 f.done.written,
-    )
+  -- a header, and then lines that were
+  pub lines_read : (d : Dialect) (n n1 n' : ℕ) (l : Shape) (old new : S) (rd rd1 rd' out out' : Option (List ℕ)) → Reads d None n n1 rd rd1 (Some l) [] (Ok true)
+      → Follows Did Full d l n1 n' old new rd1 rd' out out' (Ok false) → (cs : List Command) × (text : List ℕ) × Reads d None n n' rd rd' (Some l) cs (Ok false) × Did old cs text new × Appends out out' []
+  lines_read d n n1 n' l old new rd rd1 rd' out out' head f =
+      let same : f.commands ≡ f.done.done = all_done f.commands f.done.done f.done.undone f.done.all f.done.stopped in (
+        f.done.done,
+        f.done.text,
+        subst (λ (cs : List Command). Reads d None n n' rd rd' (Some l) cs (Ok false)) same (reads_then d None (Some l) (Some l) n n1 n' rd rd1 rd' [] f.commands (Ok false) head f.read),
+        f.done.made,
+        subst (λ (x : List ℕ). Appends out out' x) (silent old new f.done.done f.done.text f.done.made) f.done.written,
+      )
+
+  -- a command that was not kept
+  pub not_kept : (s t : S) (c : Command) (out : Option (List ℕ)) → Did s [] [] t → Does Did Full (c ∷ []) s t out out (Err NoMemory)
+  not_kept s t c out made = record {
+    done = [];
+    undone = c ∷ [];
+    all = refl;
+    stopped = omega arith;
+    text = [];
+    made = made;
+    filled = λ e. cc;
+    written = Appends-nil out;
+  }
+
+  -- a command that was
+  pub is_kept : (s t : S) (c : Command) (out : Option (List ℕ)) → Did s (c ∷ []) [] t → Does Did Full (c ∷ []) s t out out (Ok true)
+  is_kept s t c out made = record {
+    done = c ∷ [];
+    undone = [];
+    all = refl;
+    stopped = refl;
+    text = [];
+    made = made;
+    filled = λ e. cc;
+    written = Appends-nil out;
+  }
+
+-- the commands of a list are those that were read
+pub listed : (d : Dialect) (n n' : ℕ) (l : Shape) (old new : Listing) (rd rd' out out' : Option (List ℕ)) → old.commands.items ≡ []
+    → (cs : List Command) × (text : List ℕ) × Reads d None n n' rd rd' (Some l) cs (Ok false) × Lists old cs text new × Appends out out' [] → Reads d None n n' rd rd' (Some l) new.commands.items (Ok false)
+listed d n n' l old new rd rd' out out' none r =
+    let kept : r.0 ≡ new.commands.items = sym (r.3.0 ∙ ap (λ (cs : List Command). cs ++ r.0) none) in
+    subst (λ (cs : List Command). Reads d None n n' rd rd' (Some l) cs (Ok false)) kept r.2
+
+pub lists_silent : (s t : Listing) (cs : List Command) (text : List ℕ) → Lists s cs text t → text ≡ []
+lists_silent s t cs text h = h.1
 
 puts_silent : {V E : Type 0} (a b : Option (List ℕ)) (r : Result V E) → Appends a b [] → Puts a b r []
 puts_silent a b (Ok v) w = w

@@ -1,6 +1,7 @@
 -- What a read of one line takes from the bytes that a reader has left.
-use Rattle.std.specs.Prelude.{◌≡◌, ◌≢◌, ℕ, List, [], ◌∷◌, ◌++◌, ◌≤◌, ◌<◌, length, take, slice_index, Bool, true, false, Result, Ok, Err, Option}
+use Rattle.std.specs.Prelude.{◌≡◌, ◌≢◌, ℕ, List, [], ◌∷◌, ◌++◌, ◌≤◌, ◌<◌, length, take, slice_index, Bool, true, false, Result, Ok, Err, Option, Some, None}
 use Rattle.std.specs.Io.KnownBytes.{Consumes, IsAtEnd}
+use Rattle.g1_trace.specs.Words.{IsPart}
 use Rattle.g1_trace.specs.declared.fault.TraceFault.TheVariants.{TooLong, Cut}
 use Rattle.g1_replay.specs.declared.lines.Byte.{Byte}
 use Rattle.g1_replay.specs.declared.lines.Byte.TheVariants.{Some as OneByte, End as NoByte, Failed as FailedByte}
@@ -14,11 +15,6 @@ abbrev pub Reads : Option (List ℕ) → Option (List ℕ) → Byte → Type 0
 Reads old new (OneByte b) = Consumes old new (b ∷ [])
 Reads old new NoByte = Consumes old new [] × IsAtEnd new
 Reads old new FailedByte = Consumes old new []
-
--- bytes without a line feed
-abbrev pub IsPart : List ℕ → Type 0
-IsPart [] = Unit {0}
-IsPart (b ∷ bytes) = (b ≢ 10) × IsPart bytes
 
 -- the first n bytes, with no line feed, and then the end or a line feed
 abbrev pub EndsAtFeed : List ℕ → ℕ → Type 0
@@ -40,6 +36,10 @@ ReadsPart old new More begun line = (bytes : List ℕ) × (line ≡ begun ++ byt
 ReadsPart old new Nothing begun line = (line ≡ begun) × Consumes old new []
 ReadsPart old new Failed begun line = (line ≡ begun) × Consumes old new []
 
+-- with the first `lost` of the shown bytes used up, this much of the line that was begun is read
+abbrev pub IsKept : (shown : List ℕ) → Part → (lost : ℕ) → (begun line : List ℕ) → Type 0
+IsKept shown part lost begun line = (old new : Option (List ℕ)) → Consumes old new (take lost shown) → ReadsPart old new part begun line
+
 -- the next line, of which the reader lost the front; at the end of the input there is none
 abbrev pub ReadsLine : Option (List ℕ) → Option (List ℕ) → Result Bool Stop → List ℕ → Type 0
 ReadsLine old new (Ok true) line = Consumes old new (line ++ 10 ∷ []) × IsPart line × (length line ≤ 64)
@@ -48,3 +48,17 @@ ReadsLine old new (Err (Fault TooLong)) line = (b : ℕ) × Consumes old new (li
 ReadsLine old new (Err (Fault Cut)) line = Consumes old new line × IsAtEnd new × IsPart line × (0 < length line) × (length line ≤ 64)
 ReadsLine old new (Err ReadFailed) line = Consumes old new line × IsPart line × (length line ≤ 64)
 ReadsLine old new (Err stop) line = ⊥
+
+-- A line was begun when the reader had the bytes of `begun` left, and the part of it that was taken last is this.
+pub record HasPart (begun now : Option (List ℕ)) (part : Part) (line : List ℕ) : Type 0 where
+  pub before : List ℕ
+  pub left : Option (List ℕ)
+  pub read : Consumes begun left before
+  pub one : IsPart before
+  pub last : ReadsPart left now part before line
+
+-- what came of a line: the line or none, what stops the reading, or nothing yet
+abbrev pub IsSettled : Option (List ℕ) → Option (List ℕ) → Result (Option Bool) Stop → List ℕ → Type 0
+IsSettled begun now (Ok (Some found)) line = ReadsLine begun now (Ok found) line
+IsSettled begun now (Ok None) line = Consumes begun now line × IsPart line × (length line ≤ 64)
+IsSettled begun now (Err stop) line = ReadsLine begun now (Err stop) line

@@ -6,8 +6,9 @@ use Rattle.g1_log.specs.declared.line.Line.{Line}
 use Rattle.g1_log.specs.Ends.{line_home, sender_home, taker_home, sender_rights, taker_rights}
 use Rattle.g1_race.specs.declared.race.Race.{Race}
 use Rattle.g1_race.specs.declared.view.Shape.{Shape}
-use Rattle.g1_race.specs.Race.{History, gained, word_of}
-use Rattle.g1_race.specs.Members.{race_id, racer_race, sweeper_race, racer_view}
+use Rattle.g1_race.specs.Begin.{Start}
+use Rattle.g1_race.specs.Race.{History, gained, null_of, word_of}
+use Rattle.g1_race.specs.Members.{race_id, race_shape, racer_race, racer_start, racer_view, sweeper_race, sweeper_start}
 use Rattle.g1_steps.specs.Ask.{Ask, AskStore, AskFlush, AskWork}
 use Rattle.g1_replay.specs.declared.race_desk.Member.{Member}
 use Rattle.g1_replay.specs.declared.race_desk.Member.TheVariants.{Racing, Sweeping}
@@ -16,6 +17,11 @@ use Rattle.g1_replay.specs.declared.race_desk.Member.TheVariants.{Racing, Sweepi
 abbrev pub member_race : Member → TableId × Shape
 member_race (Racing r s) = racer_race r
 member_race (Sweeping w t) = sweeper_race w
+
+-- what the race began with, as it knows it
+abbrev pub member_start : Member → Start
+member_start (Racing r s) = racer_start r
+member_start (Sweeping w t) = sweeper_start w
 
 -- the line that its end is of, and the shares of the line that this end has
 abbrev pub member_home : Member → TableId
@@ -40,9 +46,10 @@ abbrev pub member_histories : Member → List History
 member_histories (Racing r s) = (racer_view r).histories
 member_histories (Sweeping w t) = []
 
--- a member of this race, with an end of this line
+-- a member of this race, which began with nulls, with an end of this line
 abbrev pub IsMemberOf : Race → Line → Member → Type 0
 IsMemberOf race line m = (member_race m ≡ race_id race) × (member_home m ≡ line_home line)
+    × (member_start m ≡ null_of (race_shape race))
 
 -- what has been stored once these calls were made
 abbrev pub histories_after : List Ask → List History → List History
@@ -54,6 +61,7 @@ histories_after (AskWork ∷ asks) hs = histories_after asks hs
 -- A member made these calls: it is the same member with the same end of the line, and it has stored just what was asked of it, in order.
 pub record MemberDid (m : Member) (asks : List Ask) (n : Member) : Type 0 where
   pub race : member_race n ≡ member_race m
+  pub start : member_start n ≡ member_start m
   pub home : member_home n ≡ member_home m
   pub rights : member_rights n ≡ member_rights m
   pub kind : is_racer n ≡ is_racer m

@@ -13,11 +13,12 @@ after_both (AskFlush ∷ xs) ys hs = after_both xs ys hs
 after_both (AskWork ∷ xs) ys hs = after_both xs ys hs
 
 pub member_did_none : (m : Member) → MemberDid m [] m
-member_did_none m = record { race = refl; home = refl; rights = refl; kind = refl; stored = refl }
+member_did_none m = record { race = refl; start = refl; home = refl; rights = refl; kind = refl; stored = refl }
 
 pub member_did_then : (m n o : Member) (xs ys : List Ask) → MemberDid m xs n → MemberDid n ys o → MemberDid m (xs ++ ys) o
 member_did_then m n o xs ys p q = record {
   race = q.race ∙ p.race;
+  start = q.start ∙ p.start;
   home = q.home ∙ p.home;
   rights = q.rights ∙ p.rights;
   kind = q.kind ∙ p.kind;

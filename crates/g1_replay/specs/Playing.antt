@@ -1,9 +1,11 @@
 -- What is done with the commands of a trace, between two states of the reader, the writer and the one that plays.
-use Rattle.std.specs.Prelude.{◌≡◌, ◌<◌, ◌≤◌, ℕ, slice_index_or, List, [], ◌∷◌, ◌++◌, Bool, Result, Ok, Err, Option, Some, length}
+use Rattle.std.specs.Prelude.{◌≡◌, ◌≤◌, ℕ, List, [], ◌∷◌, ◌++◌, Bool, Result, Ok, Err, Option, Some, length}
 use Rattle.g1_layout.specs.Shape.{Shape}
 use Rattle.g1_core.specs.declared.entry.Call.{Call}
 use Rattle.g1_core.specs.declared.entry.Entry.{Entry}
-use Rattle.g1_book.specs.History.{History, opened}
+use Rattle.g1_log.specs.declared.line.Line.{Line}
+use Rattle.g1_log.specs.Ends.{capacity_of}
+use Rattle.g1_book.specs.History.{History, opened, layout_in}
 use Rattle.g1_steps.specs.Lent.{Grows}
 use Rattle.g1_book.specs.declared.refusal.Refusal.{Refusal}
 use Rattle.g1_book.specs.declared.refusal.Refusal.TheVariants as refusal
@@ -20,13 +22,12 @@ use Rattle.g1_replay.specs.Reading.{Reads}
 abbrev pub IsOpened : Shape → Options → History → Type 0
 IsOpened layout o book = book ≡ opened layout o.config o.mutators o.history
 
--- The first of these callers is at a line of as many completed buffers as the settings of the book say.
-abbrev pub IsLineSet : {E : Type 0} → (E → ℕ) → List E → History → Type 0
-IsLineSet {E} room callers book = (e : E) → 0 < length callers → room (slice_index_or callers 0 e) ≡ book.machine.settings.limit
-
--- The first of them is at a line of as many as before.
-abbrev pub IsLineKept : {E : Type 0} → (E → ℕ) → List E → List E → Type 0
-IsLineKept {E} room old new = (e : E) → 0 < length old → room (slice_index_or new 0 e) ≡ room (slice_index_or old 0 e)
+-- What plays commands over this heap in this dialect: its book is of them, with a mutator for each that they name, and a
+-- line of as many completed buffers as the settings of the book say.
+abbrev pub IsReady : History → ℕ → Line → Shape → Dialect → Type 0
+IsReady book mutators line layout dialect =
+    (layout_in book ≡ layout) × (book.mutators ≡ dialect.mutators) × (mutators ≡ dialect.mutators)
+    × (1 ≤ dialect.mutators) × (capacity_of line ≡ book.machine.settings.limit)
 
 -- the history has as many entries as it may have
 abbrev pub IsFull : History → Type 0

@@ -1,7 +1,11 @@
 -- The scripts of a crew: what each caller is to do.
-use Rattle.std.specs.Prelude.{◌≡◌, ℕ, ◌<◌, ◌≤◌, ◌==◌, List, [], ◌∷◌, Option, Some, None, Result, Err, if◌then◌else◌}
+use Rattle.std.specs.Prelude.{◌≡◌, ℕ, ◌<◌, ◌≤◌, ◌==◌, List, [], ◌∷◌, ◌++◌, length, take, map, count_by, sum_by, slice_index_or}
+use Rattle.std.specs.Prelude.{Option, Some, None, Result, Err, if◌then◌else◌}
+use Rattle.std.proofs.Common.{refl, sym, subst, ap, ◌∙◌, append-nil, append_assoc}
+use Rattle.std.proofs.lemmas.List.Elements.{filter_map-append}
 use Rattle.std.specs.List.{filter_map}
 use Rattle.std.specs.Option.{option_or}
+use Rattle.g1_steps.specs.Ask.{Ask, asks_in, is_store_ask}
 use Rattle.g1_steps.specs.declared.desk.Step.{Step}
 use Rattle.g1_steps.specs.declared.desk.Step.TheVariants as step
 use Rattle.g1_steps.specs.declared.desk.Script.{Script}
@@ -9,6 +13,12 @@ use Rattle.g1_steps.specs.declared.desk.Script.TheVariants.{Mutate, Refine}
 use Rattle.g1_book.specs.declared.refusal.Refusal.{Refusal}
 use Rattle.g1_trace.specs.declared.command.Command.{Command}
 use Rattle.g1_trace.specs.declared.command.Command.TheVariants.{Store, Flush}
+
+-- the call that a command asks of a mutator, and of which
+abbrev pub asked_in : Command → Option (ℕ × Step)
+asked_in (Store by slot target) = Some (by, step.Store slot target)
+asked_in (Flush by) = Some (by, step.Flush)
+asked_in c = None
 
 -- what a command asks of this mutator, if it is the mutator's
 abbrev pub step_for : ℕ → Command → Option Step
@@ -21,6 +31,38 @@ abbrev pub IsScriptOf : (mutators rounds number : ℕ) → List Command → Scri
 IsScriptOf mutators rounds number commands (Mutate steps) = (number < mutators) × (steps.items ≡ filter_map (step_for number) commands)
 IsScriptOf mutators rounds number commands (Refine made) = (mutators ≤ number) × (made ≡ rounds)
 
+-- The calls of these commands came behind those of their mutators.
+pub record AreKept {E : Type 0} (steps : E → List Step) (old : List E) (cs : List Command) (new : List E) : Type 0 where
+  pub len : length new ≡ length old
+  pub each : (k : ℕ) (d : E) → k < length old → steps (slice_index_or new k d) ≡ steps (slice_index_or old k d) ++ filter_map (step_for k) cs
+
+-- For each mutator the calls that the commands ask of it, in their order.
+abbrev pub AreScriptsOf : {E : Type 0} → (E → List Step) → List Command → List E → Type 0
+AreScriptsOf {E} steps commands scripts = (k : ℕ) (d : E) → k < length scripts → steps (slice_index_or scripts k d) ≡ filter_map (step_for k) commands
+
+-- The script of the caller of this number: that of its mutator, or rounds of refinement.
+abbrev pub IsScriptAt : {E : Type 0} → (E → List Step) → (rounds : ℕ) → List E → ℕ → Script → Type 0
+IsScriptAt {E} steps rounds scripts number (Mutate made) = (script : E) × (number < length scripts) × ((d : E) → slice_index_or scripts number d ≡ script) × (made.items ≡ steps script)
+IsScriptAt {E} steps rounds scripts number (Refine made) = (length scripts ≤ number) × (made ≡ rounds)
+
+-- scripts that grow
+pub kept_nothing : {E : Type 0} (steps : E → List Step) (old : List E) → AreKept steps old [] old
+kept_nothing steps old = record { len = refl; each = λ k d h. sym (append-nil (steps (slice_index_or old k d))) }
+
+pub kept_then : {E : Type 0} (steps : E → List Step) (a b c : List E) (cs ds : List Command) (xs ys : List ℕ) → AreKept steps a cs b × (xs ≡ []) → AreKept steps b ds c × (ys ≡ [])
+    → AreKept steps a (cs ++ ds) c × (xs ++ ys ≡ [])
+kept_then {E} steps a b c cs ds xs ys p q = (
+  record {
+    len = q.0.len ∙ p.0.len;
+    each = λ k d h.
+        let behind : k < length b = subst (λ n. k < n) (sym p.0.len) h in
+        q.0.each k d behind ∙ ap (λ (l : List Step). l ++ filter_map (step_for k) ds) (p.0.each k d h)
+        ∙ append_assoc (steps (slice_index_or a k d)) (filter_map (step_for k) cs) (filter_map (step_for k) ds)
+        ∙ ap (λ (l : List Step). steps (slice_index_or a k d) ++ l) (sym (filter_map-append (step_for k) cs ds));
+  },
+  ap (λ l. l ++ ys) p.1 ∙ q.1,
+)
+
 -- why a job was refused, if it was
 abbrev pub refusal_in : Option (Result ℕ (ℕ × Refusal)) → Option Refusal
 refusal_in (Some (Err refused)) = Some refused.1
@@ -30,3 +72,26 @@ refusal_in outcome = None
 abbrev pub first_refusal : List (Option (Result ℕ (ℕ × Refusal))) → Option Refusal
 first_refusal [] = None
 first_refusal (outcome ∷ outcomes) = option_or (refusal_in outcome) (first_refusal outcomes)
+
+-- A job of a crew as it came back: what it was to do, and its outcome.
+pub record JobEnd : Type 0 where
+  pub script : Script
+  pub outcome : Option (Result ℕ (ℕ × Refusal))
+
+-- what it asked for: all of its script, or what stands before the call that was refused
+abbrev pub asked_by : Script → Option (Result ℕ (ℕ × Refusal)) → List Ask
+asked_by script (Some (Err refused)) = take refused.0 (asks_in script)
+asked_by script outcome = asks_in script
+
+-- how many stores are among that
+abbrev pub stored_by : JobEnd → ℕ
+stored_by job = count_by is_store_ask (asked_by job.script job.outcome)
+
+-- The jobs of a crew came back, one a caller, in order. Each had the script of its caller, `refused` is why the first of
+-- those that were refused was, and as many stores were entered as all of them asked for.
+pub record HasCome {E : Type 0} (steps : E → List Step) (rounds callers : ℕ) (asked : List E) (refused : Option Refusal) (stores : ℕ) : Type 0 where
+  pub jobs : List JobEnd
+  pub many : length jobs ≡ callers
+  pub scripts : (k : ℕ) (d : JobEnd) → k < length jobs → IsScriptAt steps rounds asked k (slice_index_or jobs k d).script
+  pub first : refused ≡ first_refusal (map (λ job. job.outcome) jobs)
+  pub stored : stores ≡ sum_by stored_by jobs

@@ -3,6 +3,7 @@ use Rattle.std.specs.Prelude.{◌≡◌, ℕ, ◌<◌, Bool, true, false, List, 
 use Rattle.g1_log.specs.Log.{Cards}
 use Rattle.g1_core.specs.declared.entry.Call.{Call}
 use Rattle.g1_core.specs.declared.entry.Call.TheVariants.{Drain, Redirect}
+use Rattle.g1_steps.specs.declared.steps.mutator.Mutator.{Mutator}
 use Rattle.g1_trace.specs.declared.command.Command.{Command}
 use Rattle.g1_trace.specs.declared.command.Command.TheVariants as command
 
@@ -16,9 +17,9 @@ abbrev pub pauses : Command → Bool
 pauses (command.Call call) = is_pause call
 pauses _ = false
 
--- Each log is empty.
-abbrev pub AreStill : {E : Type 0} → (E → Cards) → List E → Type 0
-AreStill {E} log_of callers = (k : ℕ) (d : E) → k < length callers → (log_of (slice_index_or callers k d)).cards ≡ []
+-- The log of each is empty.
+abbrev pub AreStill : List Mutator → Type 0
+AreStill mutators = (k : ℕ) (d : Mutator) → k < length mutators → (slice_index_or mutators k d).log.cards ≡ []
 
 -- An empty log of this size.
 abbrev pub IsNewLog : ℕ → Cards → Type 0

@@ -1,62 +1,60 @@
 //! The jobs of a crew, and the book that they leave.
-ghost use Rattle.std.specs.Prelude.{◌≡◌, ◌+◌, ◌≤◌, [], IfErr, IfOk, All, map, vec_len, vec_capacity};
+ghost use Rattle.std.specs.Prelude.{◌≡◌, ◌+◌, ◌≤◌, ℕ, [], drop, true, IfErr, IfOk, All, map, count_by, vec_len, vec_capacity};
 ghost use Rattle.g1_shared.specs.Callers.{IsCallerOf};
+ghost use Rattle.g1_shared.specs.Counts.{is_store};
 ghost use Rattle.g1_book.specs.History.{terms_of};
-ghost use Rattle.g1_trace.specs.Grammar.{IsCommandOf};
+ghost use Rattle.g1_layout.specs.Shape.{slot_count};
+ghost use Rattle.g1_steps.specs.Ask.{StepFits};
+ghost use Rattle.g1_replay.specs.RaceJobs.{AllFrom};
 ghost use Rattle.g1_replay.specs.Scripted.{IsUnstarted};
-ghost use Rattle.g1_replay.specs.Scripts.{first_refusal, IsScriptOf};
+ghost use Rattle.g1_replay.specs.Scripts.{first_refusal, HasCome, IsScriptAt};
 
-use crate::scripts::{refusal_of, script_for};
+use crate::scripts::refusal_of;
 use crate::stop::Stop;
 use g1_book::{Book, Refusal};
 use g1_layout::NoMemory;
 use g1_options::Options;
 use g1_shared::{Caller, Frame, Shared, SharedDesk};
-use g1_steps::{Job, run_crew};
-use g1_trace::Command;
+use g1_steps::{Job, Script, Step, run_crew};
 use std::alloc::Global;
 use std::marker::Send;
 use std::sync::Wait;
 use std::sync::ledger::{Blank, Ledger};
 use std::thread::Threads;
 
-// A caller's desk and what it is to do there.
-fn job_of<'a, T, M: Frame, S: Ledger>(
-    rt: &'a T,
-    alloc: Global,
-    shared: &'a Shared<M, S>,
-    caller: Caller<M, S>,
-    commands: &[Command],
-    options: &Options,
-) -> Result<Job<SharedDesk<'a, T, M, S>>, NoMemory>
-    requires { IsCallerOf shared.now caller }
-    ensures { IfOk result (λ job. IsScriptOf options.now.mutators options.now.rounds job.desk.caller.counts.number commands.now job.script) }
+// The next script: the calls of a mutator, or rounds where none is left.
+fn next_script(scripts: &mut Vec<Vec<Step>>, rounds: u32) -> Script
+    ensures { (all : _) (k : ℕ) → scripts.old.items ≡ drop k all → IsScriptAt (λ steps. steps.items) rounds all k result × (scripts.new.items ≡ drop (k + 1) all) }
 {
-    let number = caller.number();
-    let script = script_for(alloc, commands, number, options)?;
-    Ok(Job {
-        desk: SharedDesk::new(rt, shared, caller),
-        script,
-        outcome: None,
-    })
+    if scripts.is_empty() {
+        return Script::Refine(rounds);
+    }
+    Script::Mutate(scripts.remove(0))
 }
 
-// One job a caller, in the order of the callers.
+// One job a caller, in the order of the callers: each mutator's calls, and then rounds of refinement.
 fn jobs_of<'a, T, M: Frame, S: Ledger>(
     rt: &'a T,
     alloc: Global,
     shared: &'a Shared<M, S>,
     callers: Vec<Caller<M, S>>,
-    commands: &[Command],
-    options: &Options,
+    scripts: Vec<Vec<Step>>,
+    rounds: u32,
 ) -> Result<Vec<Job<SharedDesk<'a, T, M, S>>>, NoMemory>
-    requires { All (IsCallerOf shared.now) callers.items }
-    ensures scripts { IfOk result (λ jobs. All (λ job. IsScriptOf options.now.mutators options.now.rounds job.desk.caller.counts.number commands.now job.script) jobs.items) }
+    requires { AllFrom (λ k caller. IsCallerOf shared.now caller × (caller.counts.number ≡ k)) 0 callers.items }
+    ensures scripts { IfOk result (λ jobs. All (λ job. IsScriptAt (λ steps. steps.items) rounds scripts.items job.desk.caller.counts.number job.script) jobs.items) }
+    ensures callers { IfOk result (λ jobs. map (λ job. job.desk.caller) jobs.items ≡ callers.items) }
     ensures len { IfOk result (λ jobs. vec_len jobs ≡ vec_len callers) }
 {
     let mut jobs = Vec::with_capacity(alloc, callers.len())?;
+    let mut left = scripts;
     for caller in callers {
-        jobs.push_reserved(job_of(rt, alloc, shared, caller, commands, options)?);
+        let script = next_script(&mut left, rounds);
+        jobs.push_reserved(Job {
+            desk: SharedDesk::new(rt, shared, caller),
+            script,
+            outcome: None,
+        });
     }
     Ok(jobs)
 }
@@ -67,6 +65,7 @@ fn callers_of<'a, T, M: Frame, S: Ledger>(
     room: Vec<Caller<M, S>>,
 ) -> (Vec<Caller<M, S>>, Option<Refusal>)
     requires { (vec_len room ≡ 0) × (vec_len jobs ≤ vec_capacity room) }
+    ensures callers { result.0.items ≡ map (λ job. job.desk.caller) jobs.entry.items }
     ensures len { vec_len result.0 ≡ vec_len jobs.entry }
     ensures first { result.1 ≡ first_refusal (map (λ job. job.outcome) jobs.entry.items) }
 {
@@ -84,8 +83,9 @@ fn callers_of<'a, T, M: Frame, S: Ledger>(
     (callers, refused)
 }
 
-/// Runs one job a mutator, with its lines of the trace as its script, and one a refiner. The book comes back with why
-/// the first of the jobs that were refused was.
+/// Runs one job a mutator, with its script, and one a refiner. The book comes back with why the
+/// first of the jobs that were refused was, in the order of the callers. Its stores are those of
+/// the scripts, of each up to its refusal.
 ///
 /// `NoMemory` where a growth for callers, jobs or scripts was refused, and `NoThread` where a thread could not be started:
 /// then the book is given up.
@@ -94,7 +94,7 @@ pub(crate) fn run_jobs<T: Threads + Wait + Sync, M: Frame + Send + Sync, S: Ledg
     alloc: Global,
     blanks: (Blank, Blank),
     book: Book,
-    commands: &[Command],
+    scripts: Vec<Vec<Step>>,
     options: &Options,
 ) -> Result<(Book, Option<Refusal>), Stop>
     requires made { (blanks.0.name ≡ M.name) × (blanks.0.parts ≡ M.parts) × (blanks.0.parts ≡ options.now.mutators + options.now.refiners) }
@@ -102,8 +102,12 @@ pub(crate) fn run_jobs<T: Threads + Wait + Sync, M: Frame + Send + Sync, S: Ledg
     requires terms { terms_of book ≡ M.terms }
     requires mutators { options.now.mutators ≡ M.terms.mutators }
     requires empty { book.entries ≡ [] }
-    requires commands { All (IsCommandOf M.terms.layout M.terms.mutators) commands.now }
+    requires count { vec_len scripts ≡ M.terms.mutators }
+    requires fits { All (λ steps. All (StepFits (slot_count M.terms.layout) true) steps.items) scripts.items }
     ensures terms { IfOk result (λ done. terms_of done.0 ≡ M.terms) }
+    ensures came { IfOk result (λ done. HasCome (λ steps. steps.items) options.now.rounds
+        (options.now.mutators + options.now.refiners) scripts.items done.1
+        (count_by is_store done.0.entries)) }
     ensures stops { IfErr result IsUnstarted }
 {
     let (made, stored) = blanks;
@@ -112,7 +116,7 @@ pub(crate) fn run_jobs<T: Threads + Wait + Sync, M: Frame + Send + Sync, S: Ledg
     let Ok((shared, callers)) = Shared::<M, S>::open(made, stored, book, count) else {
         return Err(Stop::NoMemory);
     };
-    let jobs = jobs_of(rt, alloc, &shared, callers, commands, options)?;
+    let jobs = jobs_of(rt, alloc, &shared, callers, scripts, options.rounds)?;
     let done = run_crew(rt, alloc, jobs)?;
     let (callers, refused) = callers_of(done, room);
     Ok((shared.finish(callers), refused))

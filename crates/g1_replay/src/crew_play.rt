@@ -1,7 +1,8 @@
 //! A trace is read to its end, the lines of each mutator are made by a thread of its own, and what has come of it is
 //! written.
-ghost use Rattle.std.specs.Prelude.{◌≡◌, ℕ, List, ◌++◌, All, Result, IfSome};
-ghost use Rattle.g1_trace.specs.Grammar.{IsCommandOf};
+ghost use Rattle.std.specs.Prelude.{◌≡◌, ℕ, List, ◌++◌, true, vec_len, All, Result, IfSome};
+ghost use Rattle.g1_layout.specs.Shape.{slot_count};
+ghost use Rattle.g1_steps.specs.Ask.{StepFits};
 ghost use Rattle.g1_trace.specs.declared.mode.Mode.TheVariants.{Crew};
 ghost use Rattle.g1_replay.specs.Crew.{Crewed, IsWholeCrew, Ran};
 ghost use Rattle.g1_replay.specs.Output.{IsEnded, ending_line};
@@ -10,16 +11,17 @@ ghost use Rattle.g1_replay.specs.Scripted.{IsRefusedTrace};
 ghost use Rattle.g1_replay.specs.declared.stop.Stop.{Stop};
 
 use crate::crew_jobs::run_jobs;
+use crate::crew_listing::read_crew;
 use crate::crew_output::put_crew;
 use crate::end::End;
 use crate::engine::put_end;
-use crate::listing::read_scripts;
 use crate::source::Source;
 use crate::stop::Stop;
 use g1_book::Book;
 use g1_layout::Layout;
 use g1_options::Options;
-use g1_trace::{Command, Dialect, Mode};
+use g1_steps::Step;
+use g1_trace::{Dialect, Mode};
 use std::alloc::Global;
 use std::io::{BufRead, Write};
 use std::marker::Brand;
@@ -27,16 +29,17 @@ use std::sync::Wait;
 use std::sync::ledger::Blank;
 use std::thread::Threads;
 
-// Runs the scripts of the commands, and writes what has come of it.
-fn run_commands<T: Threads + Wait + Sync, W: Write>(
+// Runs the scripts, and writes what has come of it.
+fn run_scripts<T: Threads + Wait + Sync, W: Write>(
     rt: &T,
     alloc: Global,
     layout: Layout,
-    commands: &[Command],
+    scripts: Vec<Vec<Step>>,
     output: &mut W,
     options: &Options,
 ) -> Result<(), Stop>
-    requires { All (IsCommandOf layout options.now.mutators) commands.now }
+    requires count { vec_len scripts ≡ options.now.mutators }
+    requires fits { All (λ steps. All (StepFits (slot_count layout) true) steps.items) scripts.items }
     ensures { (text : List ℕ) × Ran layout options.now.history result text × Writes (W.contents output.old) (W.contents output.new) result text }
 {
     let count = u64::from(options.mutators + options.refiners);
@@ -49,7 +52,7 @@ fn run_commands<T: Threads + Wait + Sync, W: Write>(
     )?;
     let blanks = (Blank::new(count), Blank::new(count));
     let (mut book, refused) = run_jobs::<T, Brand, Brand>(
-        rt, alloc, blanks, book, commands, options,
+        rt, alloc, blanks, book, scripts, options,
     )?;
     put_crew(&mut book, refused, options.history, output)
 }
@@ -70,8 +73,8 @@ fn play_crew<T: Threads + Wait + Sync, R: BufRead, W: Write>(
         mode: Mode::Crew,
         mutators: options.mutators,
     };
-    let (layout, commands) = read_scripts(rt, alloc, source, dialect, input, output)?;
-    run_commands(rt, alloc, layout, &commands, output, options)
+    let (layout, scripts) = read_crew(rt, alloc, source, dialect, input, output)?;
+    run_scripts(rt, alloc, layout, scripts, output, options)
 }
 
 /// Replays a trace by a crew: reads all of it, makes the calls of each mutator in a thread of its own with the refiners
@@ -88,7 +91,7 @@ fn play_crew<T: Threads + Wait + Sync, R: BufRead, W: Write>(
 /// Which cards are refined between two stores is free. So what is written of a trace that stores to a slot twice may
 /// differ between two runs.
 ///
-/// It keeps the commands and the scripts, asks the reader for bytes at most 2^40 times, and tries no failed read or write
+/// It keeps the scripts, asks the reader for bytes at most 2^40 times, and tries no failed read or write
 /// again. A line is one write or a few, so give it a writer with a buffer. Its threads wait for the lock of the book; all
 /// of them have been joined when it returns.
 pub fn crew<T: Threads + Wait + Sync, R: BufRead, W: Write>(

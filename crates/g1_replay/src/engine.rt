@@ -14,7 +14,6 @@ use crate::player::Player;
 use crate::source::Source;
 use crate::stop::Stop;
 use g1_layout::Layout;
-use g1_log::Line;
 use g1_options::Options;
 use g1_trace::{
     Dialect, Mode, WriteFailed, put_book_full, put_fault, put_no_memory, put_no_thread,
@@ -83,13 +82,10 @@ fn play_trace<T: Wait, R: BufRead, W: Write>(
         × Writes (W.contents output.old) (W.contents output.new) result text }
 {
     let layout = read_heap(source, input)?;
-    let capacity = options.config.limit();
-    let mutators = options.mutators;
-    let (line, senders, takers) = Line::new(alloc, capacity, mutators, mutators)?;
-    let mut machinery = Machinery::open(alloc, layout, options, &line, senders, takers)?;
+    let mut machinery = Machinery::open(alloc, layout, options)?;
     let dialect = Dialect {
         mode: Mode::Run,
-        mutators,
+        mutators: options.mutators,
     };
     let result = play_lines(rt, source, layout, dialect, input, &mut machinery, output);
     let _history = machinery.book.entries();

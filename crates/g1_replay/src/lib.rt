@@ -6,6 +6,7 @@
 
 mod calls;
 mod crew_jobs;
+mod crew_listing;
 mod crew_output;
 mod crew_play;
 mod drains;

@@ -1,7 +1,10 @@
 //! One line of a trace at a time, of at most 64 bytes before its line feed.
 
-ghost use Rattle.std.specs.Prelude.{◌≡◌, ℕ, List, [], ◌∷◌, ◌++◌, ◌≤◌, ◌<◌, ◌^◌, ◌+◌, length, Ok, true};
-ghost use Rattle.g1_replay.specs.Lines.{GoesOn, ReadsPart, Reads, ReadsLine, IsPart, EndsAtFeed};
+ghost use Rattle.std.specs.Prelude.{◌≡◌, ℕ, List, [], ◌∷◌, ◌++◌, ◌≤◌, ◌<◌, ◌^◌, ◌+◌, length, Ok, true, Option, IfErr};
+ghost use Rattle.std.specs.Io.KnownBytes.{Consumes};
+ghost use Rattle.g1_trace.specs.Words.{IsPart};
+ghost use Rattle.g1_replay.specs.Lines.{GoesOn, HasPart, IsKept, IsSettled, ReadsPart, Reads, ReadsLine, EndsAtFeed};
+ghost use Rattle.g1_replay.specs.Reading.{IsReadStop};
 
 use crate::stop::Stop;
 use arrayvec::ArrayVec;
@@ -69,17 +72,29 @@ fn part_of(shown: &[u8], room: usize) -> (Part, usize, usize)
     }
 }
 
+/// Keeps what the reader shows of a line that was begun. Answers what that is, and how many of the bytes it uses up.
+pub fn keep_part(shown: &[u8], line: &mut ArrayVec<u8, 64>) -> (Part, usize)
+    requires { length line.old.items ≤ 64 }
+    ensures kept { IsKept shown.now result.0 result.1 line.old.items line.new.items }
+    ensures within { result.1 ≤ length shown.now }
+    ensures short { length line.new.items ≤ 64 }
+{
+    let (part, count, taken) = part_of(shown, LINE_LIMIT - line.len());
+    let _fits = line.try_extend_from_slice(&shown[..count]);
+    (part, taken)
+}
+
 // Takes what the reader shows of the line.
 fn take_part<R: BufRead>(input: &mut R, line: &mut ArrayVec<u8, 64>) -> Part
     requires { length line.old.items ≤ 64 }
-    ensures { ReadsPart (R.remaining input.old) (R.remaining input.new) result line.old.items line.new.items }
+    ensures part { ReadsPart (R.remaining input.old) (R.remaining input.new) result line.old.items line.new.items }
+    ensures short { length line.new.items ≤ 64 }
 {
     let shown = match input.fill_buf() {
         Ok(shown) => shown,
         Err(_) => return Part::Failed,
     };
-    let (part, count, taken) = part_of(shown, LINE_LIMIT - line.len());
-    let _fits = line.try_extend_from_slice(&shown[..count]);
+    let (part, taken) = keep_part(shown, line);
     input.consume(taken);
     part
 }
@@ -96,12 +111,86 @@ fn read_byte<R: Read>(input: &mut R) -> Byte
     }
 }
 
+// What comes of a line with one byte more, or with none: whether there is one, or nothing yet.
+fn settle_byte(byte: Byte, line: &mut ArrayVec<u8, 64>) -> Result<Option<bool>, Stop>
+    requires { length line.old.items ≤ 64 }
+    ensures settled { (begun old new : Option (List ℕ)) → Consumes begun old line.old.items → IsPart line.old.items → Reads old new byte → IsSettled begun new result line.new.items }
+    ensures stops { IfErr result IsReadStop }
+    ensures short { length line.new.items ≤ 64 }
+{
+    match byte {
+        Byte::Failed => Err(Stop::ReadFailed),
+        Byte::End if line.is_empty() => Ok(Some(false)),
+        Byte::End => Err(Stop::Fault(TraceFault::Cut)),
+        Byte::Some(b'\n') => Ok(Some(true)),
+        Byte::Some(_) if line.len() >= LINE_LIMIT => Err(Stop::Fault(TraceFault::TooLong)),
+        Byte::Some(byte) => {
+            line.push(byte);
+            Ok(None)
+        }
+    }
+}
+
+// What comes of a line whose last part is this: whether there is one, or nothing yet. Where the reader showed nothing, one
+// read of one byte tells whether the input has ended.
+fn settle<R: BufRead>(
+    part: Part,
+    reads: &mut u64,
+    input: &mut R,
+    line: &mut ArrayVec<u8, 64>,
+) -> Result<Option<bool>, Stop>
+    requires { length line.old.items ≤ 64 }
+    ensures settled { (begun : Option (List ℕ)) → HasPart begun (R.remaining input.old) part line.old.items → IsSettled begun (R.remaining input.new) result line.new.items }
+    ensures stops { IfErr result IsReadStop }
+    ensures short { length line.new.items ≤ 64 }
+    ensures reads { reads.old ≤ reads.new }
+    ensures limit { reads.old ≤ 2 ^ 40 → reads.new ≤ 2 ^ 40 }
+{
+    match part {
+        Part::Whole => Ok(Some(true)),
+        Part::TooLong => Err(Stop::Fault(TraceFault::TooLong)),
+        Part::Failed => Err(Stop::ReadFailed),
+        Part::More => Ok(None),
+        Part::Nothing if *reads >= READ_LIMIT => Err(Stop::ReadFailed),
+        Part::Nothing => {
+            *reads += 1;
+            let byte = read_byte(input);
+            settle_byte(byte, line)
+        }
+    }
+}
+
+/// Reads the rest of a line, of which `first` was taken, into `line`. Answers and counts as [`next_line`] does.
+pub fn rest_of_line<R: BufRead>(
+    first: Part,
+    reads: &mut u64,
+    input: &mut R,
+    line: &mut ArrayVec<u8, 64>,
+) -> Result<bool, Stop>
+    requires { length line.old.items ≤ 64 }
+    ensures line { (begun : Option (List ℕ)) → HasPart begun (R.remaining input.old) first line.old.items → ReadsLine begun (R.remaining input.new) result line.new.items }
+    ensures stops { IfErr result IsReadStop }
+    ensures reads { reads.old ≤ reads.new }
+    ensures limit { reads.old ≤ 2 ^ 40 → reads.new ≤ 2 ^ 40 }
+{
+    let mut part = first;
+    'parts: loop {
+        if let Some(found) = settle(part, reads, input, line)? {
+            return Ok(found);
+        }
+        if *reads >= READ_LIMIT {
+            return Err(Stop::ReadFailed);
+        }
+        *reads += 1;
+        part = take_part(input, line);
+    }
+}
+
 /// Reads the next line into `line`, which is empty, and counts the reads in `reads` (docs/TRACES.md, Lines and words).
 /// Answers whether there is one: at the end of the input there is none.
 ///
 /// What the reader shows is taken at once. Where it shows nothing, one read of one byte tells whether the input has
 /// ended. Nothing behind the line feed is taken, and no read follows a failed one. Takes no memory.
-#[inline(always)]
 pub fn next_line<R: BufRead>(
     reads: &mut u64,
     input: &mut R,
@@ -113,28 +202,10 @@ pub fn next_line<R: BufRead>(
     ensures more { result ≡ Ok true → reads.old < reads.new }
     ensures limit { result ≡ Ok true → reads.new ≤ 2 ^ 40 }
 {
-    while *reads < READ_LIMIT {
-        *reads += 1;
-        match take_part(input, line) {
-            Part::Whole => return Ok(true),
-            Part::TooLong => return Err(Stop::Fault(TraceFault::TooLong)),
-            Part::Failed => return Err(Stop::ReadFailed),
-            Part::More => {}
-            Part::Nothing if *reads >= READ_LIMIT => return Err(Stop::ReadFailed),
-            Part::Nothing => {
-                *reads += 1;
-                match read_byte(input) {
-                    Byte::Failed => return Err(Stop::ReadFailed),
-                    Byte::End if line.is_empty() => return Ok(false),
-                    Byte::End => return Err(Stop::Fault(TraceFault::Cut)),
-                    Byte::Some(b'\n') => return Ok(true),
-                    Byte::Some(_) if line.len() >= LINE_LIMIT => {
-                        return Err(Stop::Fault(TraceFault::TooLong));
-                    }
-                    Byte::Some(byte) => line.push(byte),
-                }
-            }
-        }
+    if *reads >= READ_LIMIT {
+        return Err(Stop::ReadFailed);
     }
-    Err(Stop::ReadFailed)
+    *reads += 1;
+    let part = take_part(input, line);
+    rest_of_line(part, reads, input, line)
 }

@@ -5,7 +5,7 @@ ghost use Rattle.std.proofs.Props.{props};
 ghost use Rattle.arrayvec.specs.ArrayVec.{array_vec_len};
 ghost use Rattle.g1_layout.specs.Shape.{slot_count, card_count};
 ghost use Rattle.g1_log.specs.Ends.{line_home, put_of, IsSenderOf, IsSameSender};
-ghost use Rattle.g1_race.specs.Members.{race_id, race_layout, racer_race, racer_view, sweeper_race, sweeper_view};
+ghost use Rattle.g1_race.specs.Members.{race_id, race_layout, racer_race, racer_start, racer_view, sweeper_race, sweeper_start, sweeper_view};
 ghost use Rattle.g1_steps.specs.Steps.{PutsBy};
 ghost use Rattle.g1_replay.specs.Members.{is_racer, member_home, member_logged, member_race, MemberDid};
 ghost use Rattle.g1_replay.specs.MembersDid.{member_did_none, member_did_then};
@@ -101,6 +101,7 @@ fn hand_over<R: Wait>(rt: &R, line: &Line, racer: &mut Racer, sender: &mut Sende
     ensures cards { result.0 ≡ array_vec_len racer.old.log }
     ensures put { PutsBy result.1 racer.old.log.items (put_of sender.old) (put_of sender.new) }
     ensures race { racer_race racer.new ≡ racer_race racer.old }
+    ensures start { racer_start racer.new ≡ racer_start racer.old }
     ensures view { racer_view racer.new ≡ racer_view racer.old }
     ensures empty { array_vec_len racer.new.log ≡ 0 }
     ensures sender { IsSameSender sender.new sender.old }
@@ -120,6 +121,7 @@ fn hand_over<R: Wait>(rt: &R, line: &Line, racer: &mut Racer, sender: &mut Sende
 fn refine_one(race: &Race, sweeper: &mut Sweeper, card: Card) -> Result<(), NoMemory>
     requires { sweeper_race sweeper.old ≡ race_id race.now }
     ensures race { sweeper_race sweeper.new ≡ sweeper_race sweeper.old }
+    ensures start { sweeper_start sweeper.new ≡ sweeper_start sweeper.old }
     ensures swept { OnOk result (card < card_count (race_layout race.now) → Contains (sweeper_view sweeper.new).swept card) }
     ensures kept { OnOk result ((other : ℕ) → Contains (sweeper_view sweeper.old).swept other → Contains (sweeper_view sweeper.new).swept other) }
 {
@@ -133,6 +135,7 @@ fn refine_one(race: &Race, sweeper: &mut Sweeper, card: Card) -> Result<(), NoMe
 fn refine_all(race: &Race, sweeper: &mut Sweeper, cards: &[Card]) -> Result<(), NoMemory>
     requires { sweeper_race sweeper.old ≡ race_id race.now }
     ensures race { sweeper_race sweeper.new ≡ sweeper_race sweeper.old }
+    ensures start { sweeper_start sweeper.new ≡ sweeper_start sweeper.old }
     ensures swept { OnOk result (All (λ card. card < card_count (race_layout race.now) → Contains (sweeper_view sweeper.new).swept card) cards.now) }
 {
     for card in cards {

@@ -2,7 +2,8 @@
 ghost use Rattle.std.specs.Prelude.{◌≡◌, ◌+◌, ◌≤◌, ◌++◌, [], ◌∷◌, All, IfOk, OnOk, sum_by, vec_len};
 ghost use Rattle.std.specs.List.{filter_map};
 ghost use Rattle.g1_log.specs.Ends.{sender_rights, taker_rights, IsSenderOf, IsTakerOf};
-ghost use Rattle.g1_race.specs.Members.{AreFreshRacers, AreFreshSweepers};
+ghost use Rattle.g1_race.specs.Race.{null_of};
+ghost use Rattle.g1_race.specs.Members.{race_shape, racer_start, sweeper_start, AreFreshRacers, AreFreshSweepers, HaveBegun};
 ghost use Rattle.g1_replay.specs.Members.{member_rights};
 ghost use Rattle.g1_replay.specs.RaceJobs.{racer_in, sender_in, sweeper_in, taker_in, AllFrom, IsNewMember};
 
@@ -21,6 +22,7 @@ fn racing(
     mut senders: Vec<Sender>,
 ) -> Result<Vec<Member>, NoMemory>
     requires racers { AreFreshRacers race.now (vec_len racers) racers }
+    requires begun { All (λ r. racer_start r ≡ null_of (race_shape race.now)) racers.items }
     requires senders { (vec_len senders ≡ vec_len racers) × All (IsSenderOf line.now) senders.items }
     ensures new { IfOk result (λ members. AllFrom (IsNewMember race.now line.now (vec_len racers)) 0 members.items) }
     ensures len { IfOk result (λ members. vec_len members ≡ vec_len racers) }
@@ -43,6 +45,7 @@ fn add_sweeping(
 ) -> Result<(), NoMemory>
     requires members { AllFrom (IsNewMember race.now line.now (vec_len members.old)) 0 members.old.items }
     requires sweepers { AreFreshSweepers race.now (vec_len sweepers) sweepers }
+    requires begun { All (λ w. sweeper_start w ≡ null_of (race_shape race.now)) sweepers.items }
     requires takers { (vec_len takers ≡ vec_len sweepers) × All (IsTakerOf line.now) takers.items }
     ensures new { OnOk result (AllFrom (IsNewMember race.now line.now (vec_len members.old)) 0 members.new.items) }
     ensures len { OnOk result (vec_len members.new ≡ vec_len members.old + vec_len sweepers) }
@@ -67,6 +70,7 @@ pub(crate) fn members_of(
     requires racers { AreFreshRacers race.now (vec_len racing_ends.0) racing_ends.0 }
     requires senders { (vec_len racing_ends.1 ≡ vec_len racing_ends.0) × All (IsSenderOf line.now) racing_ends.1.items }
     requires sweepers { AreFreshSweepers race.now (vec_len sweeping_ends.0) sweeping_ends.0 }
+    requires begun { HaveBegun (null_of (race_shape race.now)) racing_ends.0 sweeping_ends.0 }
     requires takers { (vec_len sweeping_ends.1 ≡ vec_len sweeping_ends.0) × All (IsTakerOf line.now) sweeping_ends.1.items }
     ensures new { IfOk result (λ members. AllFrom (IsNewMember race.now line.now (vec_len racing_ends.0)) 0 members.items) }
     ensures len { IfOk result (λ members. vec_len members ≡ vec_len racing_ends.0 + vec_len sweeping_ends.0) }

@@ -1,7 +1,7 @@
 //! The scripts of a crew or a race: what each of its threads is to do, and why one was refused.
 ghost use Rattle.std.specs.Prelude.{◌≡◌, IfOk};
 ghost use Rattle.std.specs.List.{filter_map};
-ghost use Rattle.g1_replay.specs.Scripts.{refusal_in, step_for, IsScriptOf};
+ghost use Rattle.g1_replay.specs.Scripts.{asked_in, refusal_in, step_for, IsScriptOf};
 
 use g1_book::Refusal;
 use g1_layout::NoMemory;
@@ -10,17 +10,27 @@ use g1_steps::{Outcome, Script, Step};
 use g1_trace::Command;
 use std::alloc::Global;
 
+/// The call that a command asks of a mutator, and of which.
+pub(crate) fn asked(command: Command) -> Option<(u32, Step)>
+    ensures { result ≡ asked_in command }
+{
+    match command {
+        Command::Store {
+            mutator,
+            slot,
+            target,
+        } => Some((mutator, Step::Store(slot, target))),
+        Command::Flush { mutator } => Some((mutator, Step::Flush)),
+        Command::Refine | Command::Work | Command::Call(_) => None,
+    }
+}
+
 // What the command asks of this mutator, if it is the mutator's.
 fn step_of(mutator: u32, command: Command) -> Option<Step>
     ensures { result ≡ step_for mutator command }
 {
-    match command {
-        Command::Store {
-            mutator: by,
-            slot,
-            target,
-        } if by == mutator => Some(Step::Store(slot, target)),
-        Command::Flush { mutator: by } if by == mutator => Some(Step::Flush),
+    match asked(command) {
+        Some((by, step)) if by == mutator => Some(step),
         _ => None,
     }
 }

@@ -29,6 +29,8 @@ mod reading;
 #[cfg(test)]
 mod refused_traces;
 #[cfg(test)]
+mod spellings;
+#[cfg(test)]
 mod streams;
 #[cfg(test)]
 mod worked_traces;

@@ -2,3 +2,4 @@ pub mod WordLemmas
 pub mod PlaceLemmas
 pub mod ListLemmas
 pub mod PutLemmas
+pub mod PlainLemmas

@@ -19,7 +19,7 @@ space_byte : (line word : List ℕ) (i : ℕ) → i < length line → get_or lin
     → words_from word (drop i line) ≡ with_word word (words_from [] (drop (i + 1) line))
 space_byte line word i lt e = rw (drop-cons line i 0, e, add-one) refl
 
-with_word_some : (word : List ℕ) (words : List (List ℕ)) → 0 < length word → with_word word words ≡ word ∷ words
+pub with_word_some : (word : List ℕ) (words : List (List ℕ)) → 0 < length word → with_word word words ≡ word ∷ words
 with_word_some [] words h = absurd (omega arith)
 with_word_some (b ∷ bytes) words h = refl
 

@@ -1,8 +1,18 @@
 -- The words of a line, and the numbers that words are.
-use Rattle.std.specs.Prelude.{ℕ, ◌+◌, ◌-◌, ◌*◌, Bool, false, List, [], ◌∷◌, ◌++◌, ◌==◌, nat_lt, length, if◌then◌else◌, Result, Ok, Err}
+use Rattle.std.specs.Prelude.{◌≢◌, ℕ, ◌+◌, ◌-◌, ◌*◌, Bool, false, List, [], ◌∷◌, ◌++◌, ◌==◌, nat_lt, length, if◌then◌else◌, Result, Ok, Err}
 use Rattle.std.specs.Char.{is_ascii_digit}
 use Rattle.g1_trace.specs.declared.fault.TraceFault.{TraceFault}
 use Rattle.g1_trace.specs.declared.fault.TraceFault.TheVariants.{NotNumber}
+
+-- bytes without a line feed
+abbrev pub IsPart : List ℕ → Type 0
+IsPart [] = Unit {0}
+IsPart (b ∷ bytes) = (b ≢ 10) × IsPart bytes
+
+-- bytes without a space, and without a line feed
+abbrev pub IsSolid : List ℕ → Type 0
+IsSolid [] = Unit {0}
+IsSolid (b ∷ bytes) = (b ≢ 32) × (b ≢ 10) × IsSolid bytes
 
 -- a word that has ended, unless it has no byte
 abbrev pub with_word : List ℕ → List (List ℕ) → List (List ℕ)

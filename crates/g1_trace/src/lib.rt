@@ -12,6 +12,7 @@ mod list;
 mod mode;
 mod output;
 mod places;
+mod plain;
 mod print;
 mod words;
 
@@ -23,6 +24,7 @@ pub use header::read_header;
 pub use list::put_cards;
 pub use mode::Mode;
 pub use output::{WriteFailed, put, put_either};
+pub use plain::read_store;
 pub use print::{
     put_book_full, put_clear_reply, put_fault, put_flushed, put_no_memory, put_no_thread,
     put_read_failed, put_redirected, put_refine_reply, put_status, put_store_reply, put_stores,

@@ -17,6 +17,7 @@ pub struct WriteFailed;
 /// Writes all bytes, in as many writes as it takes.
 ///
 /// `WriteFailed` where a write fails or takes no byte; a beginning of the bytes stays written.
+#[inline(always)]
 pub fn put<W: Write>(output: &mut W, bytes: &[u8]) -> Result<(), WriteFailed>
     ensures { Puts (W.contents output.old) (W.contents output.new) result bytes.now }
 {
@@ -29,6 +30,7 @@ pub fn put<W: Write>(output: &mut W, bytes: &[u8]) -> Result<(), WriteFailed>
 }
 
 /// One write, which takes at least one byte or has failed.
+#[inline(always)]
 fn write_some<W: Write>(output: &mut W, bytes: &[u8]) -> Result<usize, WriteFailed>
     ensures count { IfOk result (λ n. (0 < n) × (n ≤ length bytes.now)) }
     ensures written { IfOk result (λ n. Appends (W.contents output.old) (W.contents output.new) (take n bytes.now)) }
@@ -42,6 +44,7 @@ fn write_some<W: Write>(output: &mut W, bytes: &[u8]) -> Result<usize, WriteFail
 }
 
 /// Writes one of two texts.
+#[inline(always)]
 pub fn put_either<W: Write>(
     output: &mut W,
     choice: bool,
@@ -50,7 +53,12 @@ pub fn put_either<W: Write>(
 ) -> Result<(), WriteFailed>
     ensures { Puts (W.contents output.old) (W.contents output.new) result (if choice then yes.now else no.now) }
 {
-    put(output, if choice { yes } else { no })
+    // Two calls, so that each copies a text of known length.
+    if choice {
+        put(output, yes)
+    } else {
+        put(output, no)
+    }
 }
 
 /// Writes a number in decimal digits, without leading zeros.

@@ -17,7 +17,7 @@ pub fn clamped(number: u64) -> u32
     number.min(u64::from(u32::MAX)) as u32
 }
 
-fn mutator(mutators: u32, number: u64) -> Result<u32, TraceFault>
+pub fn mutator(mutators: u32, number: u64) -> Result<u32, TraceFault>
     ensures read { result ≡ fit_below mutators NoMutator number }
     ensures valid { IfOk result (λ m. m < mutators) }
 {
@@ -28,7 +28,7 @@ fn mutator(mutators: u32, number: u64) -> Result<u32, TraceFault>
     }
 }
 
-fn slot(layout: Layout, number: u64) -> Result<Slot, TraceFault>
+pub fn slot(layout: Layout, number: u64) -> Result<Slot, TraceFault>
     requires { IsShape layout }
     ensures read { result ≡ fit_below (slot_count layout) NoSlot number }
     ensures valid { IfOk result (λ s. s < slot_count layout) }
@@ -73,7 +73,7 @@ fn number_or_null(word: &[u8], number: Result<u64, TraceFault>) -> Result<Option
     Ok(Some(number))
 }
 
-fn target(layout: Layout, number: Option<u64>) -> Result<Option<Slot>, TraceFault>
+pub fn target(layout: Layout, number: Option<u64>) -> Result<Option<Slot>, TraceFault>
     requires { IsShape layout }
     ensures read { result ≡ fit_target layout number }
     ensures valid { IfOk result (λ t. IfSome t (λ s. s < slot_count layout)) }

@@ -78,7 +78,7 @@ fn number(word: &[u8]) -> Result<u64, TraceFault>
 
 // How many digits the bytes begin with, of the 10 that a number may have, and their value.
 #[inline(always)]
-fn leading_digits(bytes: &[u8]) -> (usize, u64)
+pub fn leading_digits(bytes: &[u8]) -> (usize, u64)
     ensures bound { result.0 ≤ length bytes.now }
     ensures few { result.0 ≤ 10 }
     ensures value { read_digits 0 (take result.0 bytes.now) ≡ Ok result.1 }

@@ -1,6 +1,9 @@
-use Rattle.std.proofs.Common.{arith}
+use Rattle.std.proofs.Common.{ap, sym, ◌∙◌, zero-add, arith}
+use Rattle.g1_layout.specs.Shape.{slot_count}
 use Rattle.std.proofs.lemmas.List.Elements.{length_all_zip}
-use Rattle.g1_replay.proofs.ScriptLemmas.{script_fits_for}
+use Rattle.g1_log.specs.Ends.{capacity_of}
+use Rattle.g1_replay.proofs.JobLemmas.{has_come}
+use Rattle.g1_replay.proofs.CrewScriptLemmas.{each_from, script_at_fits}
 use Rattle.g1_replay.proofs.crew_jobs.run_jobs.Goals as goal
 
 pub open-requires-clause-made : goal.open-requires-clause-made
@@ -16,11 +19,14 @@ pub open-requires-clause-empty : goal.open-requires-clause-empty
 open-requires-clause-empty g c = c.requires.empty
 
 pub jobs_of-requires : goal.jobs_of-requires
-jobs_of-requires g c = λ k d lt. (c.in-Ok.ensures.each k d (omega (arith, lt, c.in-Ok.ensures.callers, c.in-Ok.callers.ok.0))).of
+jobs_of-requires g c = each_from _ 0 _ (λ k d lt.
+    let new = c.in-Ok.ensures.each k d (omega (arith, lt, c.in-Ok.ensures.callers, c.in-Ok.callers.ok.0)) in
+    (new.of, ap (λ tally. tally.number) new.counts ∙ sym (zero-add k)))
 
 pub run_crew-requires-after_bounds : goal.run_crew-requires-after_bounds
 run_crew-requires-after_bounds g c lts lives k d lt =
-    script_fits_for g.M.Frame.terms.layout c.args.options.now.mutators g.M.Frame.terms.mutators c.args.options.now.rounds _ c.args.commands.now _ c.requires.mutators c.requires.commands (c.in_ok-jobs.ensures.scripts k d lt)
+    script_at_fits (λ steps. steps.items) (slot_count g.M.Frame.terms.layout) c.args.options.now.rounds g.M.Frame.terms.mutators _ c.args.scripts.items _ (omega (arith, c.requires.count, c.args.scripts.ok.0)) c.requires.fits
+    (c.in_ok-jobs.ensures.scripts k d lt)
 
 -- as many come back as there are callers, for whom there is room
 pub callers_of-callers-requires : goal.callers_of-callers-requires
@@ -32,3 +38,10 @@ callers_of-callers-requires g c =
 
 pub returns-clause-terms : goal.returns-clause-terms
 returns-clause-terms g c = c.finish.ensures.terms
+
+pub returns-clause-came : goal.returns-clause-came
+returns-clause-came g c =
+    has_come (λ d. capacity_of d.shared.now) (λ d. d.caller) (λ steps. steps.items) _ _ _ _ _ c.in-Ok.callers.items c.callers_of-callers.result.0.items c.in_ok-jobs.jobs.items c.in_ok-done.done.items
+    c.in_ok-done.ensures c.in_ok-jobs.ensures.scripts c.in_ok-jobs.ensures.callers (omega (arith, c.in-Ok.ensures.callers, c.in-Ok.callers.ok.0))
+    (λ k d lt. (c.in-Ok.ensures.each k d (omega (arith, lt, c.in-Ok.ensures.callers, c.in-Ok.callers.ok.0))).counts)
+    c.callers_of-callers.ensures.first c.callers_of-callers.ensures.callers c.finish.ensures.stored

@@ -10,4 +10,4 @@ returns-in_err-layout g c =
 
 pub returns : goal.returns
 returns g c =
-    scripts_run (λ l _. Ran l c.args.options.now.history) _ _ _ c.in_ok-layout.layout _ _ _ _ _ _ c.run_commands.result c.in_ok-layout.ensures.read c.in_ok-layout.ensures.silent c.run_commands.ensures
+    scripts_run (λ l _. Ran l c.args.options.now.history) _ _ _ c.in_ok-layout.layout _ _ _ _ _ _ c.run_scripts.result c.in_ok-layout.ensures.read.1 c.in_ok-layout.ensures.silent c.run_scripts.ensures

@@ -7,11 +7,6 @@ returns-in_err-layout g c =
     let p = err_from_is_err_and c.from_residual.result c.from_residual.ensures.1 in
     rw (p.1, p.2) (head_told _ _ _ _ _ _ _ _ _ c.in_err-layout.ensures.stops (c.in_err-layout.ensures.read _))
 
-pub returns-in_err-line : goal.returns-in_err-line
-returns-in_err-line g c =
-    let p = err_from_is_err_and c.from_residual-in_err-line.result c.from_residual-in_err-line.ensures.1 in
-    rw (p.1, p.2) (unopened_told _ _ _ _ _ c.in_ok-layout.layout _ _ _ (c.in_ok-layout.ensures.read _))
-
 pub returns-in_err-machinery : goal.returns-in_err-machinery
 returns-in_err-machinery g c =
     let p = err_from_is_err_and c.from_residual-in_err-machinery.result c.from_residual-in_err-machinery.ensures.1 in

@@ -1,4 +1,4 @@
-use Rattle.std.proofs.Common.{◌≡◌, ◌+◌, List, length, map, ap, sym, subst, ◌∙◌, arith, All}
+use Rattle.std.proofs.Common.{◌≡◌, ◌+◌, ◌<◌, List, length, map, ap, refl, sym, subst, ◌∙◌, arith, All}
 use Rattle.std.specs.Prelude.{sum_by}
 use Rattle.g1_layout.specs.Shape as layout
 use Rattle.g1_core.specs.Adoption.{IsPairOf}
@@ -8,12 +8,15 @@ use Rattle.g1_log.specs.Ends.{sender_rights, taker_rights, IsSenderOf, IsTakerOf
 use Rattle.g1_race.specs.declared.race.Racer.{Racer}
 use Rattle.g1_race.specs.declared.race.Sweeper.{Sweeper}
 use Rattle.g1_race.specs.Begin.{Begun}
-use Rattle.g1_race.specs.Race.{IsKnown, IsOver}
-use Rattle.g1_race.specs.Members.{null_begun, race_begun, race_id, racer_race, racer_view, sweeper_race, sweeper_view}
+use Rattle.g1_race.specs.declared.view.Shape.{Shape}
+use Rattle.g1_race.specs.Race.{IsKnown, IsOver, beginning, null_of, shape_of}
+use Rattle.g1_race.proofs.Fresh.{begun_as}
+use Rattle.g1_race.proofs.Opening.{begins_null}
+use Rattle.g1_race.specs.Members.{null_begun, race_begun, race_id, racer_race, racer_start, racer_view, sweeper_race, sweeper_start, sweeper_view}
 use Rattle.g1_replay.specs.declared.race_desk.Member.{Member}
 use Rattle.g1_replay.specs.Members.{member_rights}
 use Rattle.g1_replay.proofs.LeftLemmas.{table_left}
-use Rattle.g1_replay.proofs.PlacedLemmas.{racers_of, senders_of, sweepers_of, takers_of, sorted_length, sorted_rights}
+use Rattle.g1_replay.proofs.PlacedLemmas.{racers_of, racers_begun_of, senders_of, sweepers_begun_of, sweepers_of, takers_of, sorted_length, sorted_rights}
 use Rattle.g1_replay.proofs.RanRaceLemmas.{are_run, each_own, every_own, views_of}
 use Rattle.g1_replay.proofs.race_jobs.run_race.Goals as goal
 
@@ -84,12 +87,18 @@ returns-clause-left g c =
     let closed = c.close.result in
     let count = mutators + c.args.options.now.refiners in
     let ms = map (λ job. job.desk.member) c.in_ok-done.done.items in
-    let sweepers = map sweeper_view c.in_ok-returned.returned.sweepers.items in
+    let rs = c.in_ok-returned.returned.racers.items in
+    let ws = c.in_ok-returned.returned.sweepers.items in
+    let sweepers = map sweeper_view ws in
     let run = are_run (λ d. d.member) race line mutators c.args.options.now.rounds commands 0 c.in_ok-jobs.jobs.items c.in_ok-done.done.items c.in_ok-jobs.ensures.jobs c.in_ok-done.ensures c.in_ok-returned.ensures.whole in
     let members = ap (λ (xs : List Member). length xs) c.in_ok-jobs.ensures.members in
     let laid = c.close.ensures.layout ∙ c.in_ok-race.ensures.layout in
-    let begun : race_begun race ≡ null_begun closed.layout count = c.in_ok-race.ensures.begun ∙ ap (λ (l : layout.Shape). null_begun l count) (sym laid) in
-    let over = subst (λ (xs : List Racer). IsOver (null_begun closed.layout count) closed.words (map racer_view xs) sweepers) c.in_ok-returned.ensures.racers (subst (λ (b : Begun). IsOver b closed.words (map racer_view c.in_ok-returned.returned.racers.items) sweepers) begun c.close.ensures.over) in
+    let racing = subst (λ (xs : List Racer). All (λ r. racer_start r ≡ null_of race.shape) xs) (sym c.in_ok-returned.ensures.racers) (racers_begun_of race line ms run.of) in
+    let sweeping = subst (λ (xs : List Sweeper). All (λ w. sweeper_start w ≡ null_of race.shape) xs) (sym c.in_ok-returned.ensures.sweepers) (sweepers_begun_of race line ms run.of) in
+    let some : 0 < length rs + length ws = omega (arith, ap (λ (xs : List Racer). length xs) c.in_ok-returned.ensures.racers, ap (λ (xs : List Sweeper). length xs) c.in_ok-returned.ensures.sweepers, sorted_length ms, run.len, members, c.in_ok-members.ensures.len, c.in_ok-race.ensures.racers.0, c.in_ok-members.members.ok.0, c.args.options.now.mutators_in) in
+    let begun : race_begun race (map racer_view rs) sweepers ≡ null_begun closed.layout count =
+    begun_as race (null_of race.shape) rs ws racing sweeping refl some ∙ (ap (λ (k : Shape). beginning (null_of k)) (c.in_ok-race.ensures.shape ∙ ap (λ (l : layout.Shape). shape_of l count) (sym laid)) ∙ begins_null closed.layout count) in
+    let over = subst (λ (xs : List Racer). IsOver (null_begun closed.layout count) closed.words (map racer_view xs) sweepers) c.in_ok-returned.ensures.racers (subst (λ (b : Begun). IsOver b closed.words (map racer_view rs) sweepers) begun c.close.ensures.over) in
     table_left closed count mutators commands (views_of ms) sweepers over
     (each_own mutators commands 0 ms run.run)
     (λ m lt. every_own mutators commands 0 ms run.run m (omega arith) lt

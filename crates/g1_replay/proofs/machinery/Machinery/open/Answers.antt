@@ -1,15 +1,17 @@
-use Rattle.std.proofs.Common.{◌≡◌, ◌∙◌, ap, subst, sym}
-use Rattle.std.specs.List.{All}
-use Rattle.std.proofs.lemmas.List.Elements.{All-get_or}
-use Rattle.g1_log.specs.Ends.{capacity_of}
+use Rattle.std.proofs.Common.{Some, ap, sym, ◌∙◌}
+use Rattle.std.proofs.lemmas.List.Elements.{All-pop}
+use Rattle.g1_log.specs.Ends.{IsNewTaker}
 use Rattle.g1_book.specs.History.{History}
-use Rattle.g1_replay.specs.Still.{IsNewLog}
-use Rattle.g1_replay.specs.declared.machinery.Ends.{Ends}
+use Rattle.g1_replay.proofs.TakenLemmas.{are_new_logs, are_senders}
 use Rattle.g1_replay.proofs.machinery.Machinery.open.Goals as goal
 
 pub returns-clause-logs : goal.returns-clause-logs
-returns-clause-logs c = subst (λ n. All (λ (e : Ends). IsNewLog n e.mutator.log) c.in_ok-callers.callers.items) c.log.ensures.cards c.in_ok-callers.ensures.logs
+returns-clause-logs c = are_new_logs _ _ 0 _ c.in_ok-line.ensures.mutators.1
 
 pub returns-clause-line : goal.returns-clause-line
-returns-clause-line c e some =
-    All-get_or (λ (x : Ends). capacity_of x.line.now ≡ capacity_of c.args.line.now) c.in_ok-callers.callers.items 0 e some c.in_ok-callers.ensures.lines ∙ c.requires.line ∙ sym (ap (λ (h : History). h.machine.settings.limit) c.in_ok-book.ensures)
+returns-clause-line c = c.in_ok-line.ensures.capacity ∙ sym (ap (λ (h : History). h.machine.settings.limit) c.in_ok-book.ensures)
+
+pub invariant_of-result : goal.invariant_of-result
+invariant_of-result c =
+    let last = All-pop (IsNewTaker c.in_ok-line.line) _ _ (Some c.take_last-taker.result) c.take_last-taker.ensures.items c.in_ok-line.ensures.takers.1 in
+    record { of = (are_senders _ _ 0 _ c.in_ok-line.ensures.mutators.1, last.1.of) }

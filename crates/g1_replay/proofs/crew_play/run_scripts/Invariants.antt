@@ -1,5 +1,5 @@
 use Rattle.g1_book.specs.History.{terms_of}
-use Rattle.g1_replay.proofs.crew_play.run_commands.Given as goal
+use Rattle.g1_replay.proofs.crew_play.run_scripts.Given as goal
 
 -- the ledgers are those of the blanks, and the terms those of the book
 abbrev pub ghosts-run_jobs-M-Ledger : goal.ghosts-run_jobs-M-Ledger

@@ -1,0 +1,145 @@
+-- Scripts that are kept as their trace is read, and the jobs that take them.
+use Rattle.std.proofs.Common.{◌≡◌, ◌≢◌, ◌==◌, ◌<◌, ◌≤◌, ℕ, ◌+◌, List, [], ◌∷◌, ◌++◌, suc, add-one, add-zero, ◌-◌, length, get_or, set, drop, drop-cons, refl, sym, subst, ap, ◌∙◌, append-nil, inl, inr, Option, Some, None, true, false, nat_lt, Bool, arith, rules}
+use Rattle.std.specs.Prelude.{All, Ok, unwrap_or, if◌then◌else◌}
+use Rattle.std.specs.List.{filter_map, cons_option}
+use Rattle.std.specs.Io.KnownBytes.{Appends}
+use Rattle.std.proofs.lemmas.Bool.{cases_Bool, eq-eqb, eqb-true, ne_eqb, false≢true}
+use Rattle.std.proofs.lemmas.List.{get_or-set_same, get_or-set_other, length-set, length-drop}
+use Rattle.g1_layout.specs.Shape.{Shape, slot_count}
+use Rattle.g1_steps.specs.Ask.{StepFits, ScriptFits}
+use Rattle.g1_steps.specs.declared.desk.Step.{Step}
+use Rattle.g1_steps.specs.declared.desk.Step.TheVariants as step
+use Rattle.g1_steps.specs.declared.desk.Script.{Script}
+use Rattle.g1_steps.specs.declared.desk.Script.TheVariants.{Mutate, Refine}
+use Rattle.g1_trace.specs.declared.command.Command.{Command}
+use Rattle.g1_trace.specs.declared.command.Command.TheVariants.{Store, Flush}
+use Rattle.g1_trace.specs.Grammar.{IsCommandOf}
+use Rattle.g1_trace.specs.declared.dialect.Dialect.{Dialect}
+use Rattle.g1_replay.specs.declared.crew_listing.Scripts.{Scripts}
+use Rattle.g1_replay.specs.RaceJobs.{AllFrom}
+use Rattle.g1_replay.specs.Reading.{Reads}
+use Rattle.g1_replay.specs.Scripts.{AreKept, AreScriptsOf, IsScriptAt, asked_in, step_for}
+
+-- what a command asks of the mutator that it names, and of another
+own_at : (by : ℕ) (s : Step) → (if by == by then Some s else None) ≡ Some s
+own_at by s = rw (eq-eqb by by refl) refl
+
+other_at : (by k : ℕ) (s : Step) → k ≢ by → (if by == k then Some s else None) ≡ None
+other_at by k s differ = rw (ne_eqb by k (λ e. differ (sym e))) refl
+
+pub asked_own : (c : Command) (a : ℕ × Step) → asked_in c ≡ Some a → step_for a.0 c ≡ Some a.1
+asked_own (Store by slot target) a e =
+    subst (λ (p : ℕ × Step). step_for p.0 (Store by slot target) ≡ Some p.1) (ap (λ (o : Option (ℕ × Step)). unwrap_or o a) e) (own_at by (step.Store slot target))
+asked_own (Flush by) a e = subst (λ (p : ℕ × Step). step_for p.0 (Flush by) ≡ Some p.1) (ap (λ (o : Option (ℕ × Step)). unwrap_or o a) e) (own_at by step.Flush)
+asked_own c a e = cc
+
+pub asked_other : (c : Command) (a : ℕ × Step) (k : ℕ) → asked_in c ≡ Some a → k ≢ a.0 → step_for k c ≡ None
+asked_other (Store by slot target) a k e =
+    subst (λ (p : ℕ × Step). k ≢ p.0 → step_for k (Store by slot target) ≡ None) (ap (λ (o : Option (ℕ × Step)). unwrap_or o a) e) (other_at by k (step.Store slot target))
+asked_other (Flush by) a k e = subst (λ (p : ℕ × Step). k ≢ p.0 → step_for k (Flush by) ≡ None) (ap (λ (o : Option (ℕ × Step)). unwrap_or o a) e) (other_at by k step.Flush)
+asked_other c a k e = λ differ. refl
+
+pub asked_none : (c : Command) (k : ℕ) → asked_in c ≡ None → step_for k c ≡ None
+asked_none (Store by slot target) k e = cc
+asked_none (Flush by) k e = cc
+asked_none c k e = refl
+
+-- the call of a command of the heap fits there
+pub asked_fits : (l : Shape) (m : ℕ) (c : Command) (a : ℕ × Step) → IsCommandOf l m c → asked_in c ≡ Some a → (a.0 < m) × StepFits (slot_count l) true a.1
+asked_fits l m (Store by slot target) a h e =
+    subst (λ (p : ℕ × Step). (p.0 < m) × StepFits (slot_count l) true p.1) (ap (λ (o : Option (ℕ × Step)). unwrap_or o a) e) (h.0, (refl, h.1, h.2))
+asked_fits l m (Flush by) a h e = subst (λ (p : ℕ × Step). (p.0 < m) × StepFits (slot_count l) true p.1) (ap (λ (o : Option (ℕ × Step)). unwrap_or o a) e) (h, refl)
+asked_fits l m c a h e = cc
+
+-- what a mutator is asked for: nothing
+pub nothing_own : (k : ℕ) (c : Command) → step_for k c ≡ None → filter_map (step_for k) (c ∷ []) ≡ []
+nothing_own k c e = ap (λ (o : Option Step). cons_option o []) e
+
+pub one_own : (k : ℕ) (c : Command) (s : Step) → step_for k c ≡ Some s → filter_map (step_for k) (c ∷ []) ≡ s ∷ []
+one_own k c s e = ap (λ (o : Option Step). cons_option o []) e
+
+-- an item within a list is the same whatever stands for one outside
+same_item : {E : Type 0} (xs : List E) (i : ℕ) (d e : E) → i < length xs → get_or xs i d ≡ get_or xs i e
+same_item xs i d e h = ap (λ l. get_or l 0 d) (sym (drop-cons xs i d h) ∙ drop-cons xs i e h)
+
+module _ {E : Type 0} (steps : E → List Step) where
+  -- one script has more, and no other
+  pub kept_at : (old : List E) (m : ℕ) (v w : E) (cs : List Command) (more : List Step) → m < length old → w ≡ get_or old m w → steps v ≡ steps w ++ more
+      → filter_map (step_for m) cs ≡ more → ((k : ℕ) → k ≢ m → filter_map (step_for k) cs ≡ []) → AreKept steps old cs (set old m v)
+  kept_at old m v w cs more h was grown own other = record {
+    len = length-set old m v;
+    each = λ k d below. elim (cases_Bool (k == m)) [
+      | inl same ↦ subst (λ (j : ℕ). steps (get_or (set old m v) j d) ≡ steps (get_or old j d) ++ filter_map (step_for j) cs) (sym (eqb-true k m same))
+          (ap steps (get_or-set_same old m v d h) ∙ grown ∙ ap (λ (x : E). steps x ++ more) (was ∙ same_item old m w d h) ∙ ap (λ (l : List Step). steps (get_or old m d) ++ l) (sym own))
+      | inr differ ↦
+          let ne : k ≢ m = λ e. false≢true (sym differ ∙ eq-eqb k m e) in
+          ap steps (get_or-set_other old m k v d ne) ∙ sym (append-nil (steps (get_or old k d))) ∙ ap (λ (l : List Step). steps (get_or old k d) ++ l) (sym (other k ne))
+    ];
+  }
+
+  -- no script has more
+  pub kept_none : (old : List E) (cs : List Command) → ((k : ℕ) → filter_map (step_for k) cs ≡ []) → AreKept steps old cs old
+  kept_none old cs none = record { len = refl; each = λ k d h. sym (append-nil (steps (get_or old k d))) ∙ ap (λ (l : List Step). steps (get_or old k d) ++ l) (sym (none k)) }
+
+  -- a script that was taken fits
+  pub script_at_fits : (slots rounds most number : ℕ) (scripts : List E) (made : Script) → length scripts ≡ most → All (λ v. All (StepFits slots true) (steps v)) scripts
+      → IsScriptAt steps rounds scripts number made → ScriptFits slots (nat_lt number most) made
+  script_at_fits slots rounds most number scripts (Mutate made) len all h =
+      let below : number < most = subst (λ n. number < n) len h.1 in
+      let yes : nat_lt number most ≡ true = search rules in
+      let P : Bool → Type 0 = λ b. All (StepFits slots b) made.items in
+      let fits : All (StepFits slots true) (steps h.0) = subst (λ (v : E). All (StepFits slots true) (steps v)) (h.2 h.0) (all number h.0 h.1) in
+      subst P (sym yes) (subst (λ (ss : List Step). All (StepFits slots true) ss) (sym h.3) fits)
+  script_at_fits slots rounds most number scripts (Refine made) len all h = tt
+
+-- what is left of a list from a place on
+module _ {E : Type 0} where
+  no_item : (xs : List E) → length xs ≡ 0 → xs ≡ []
+  no_item [] h = refl
+  no_item (x ∷ xs) h = absurd (omega arith)
+
+  pub none_left : (k : ℕ) (all now : List E) → now ≡ drop k all → length now ≡ 0 → (length all ≤ k) × (now ≡ drop (k + 1) all)
+  none_left k all now e none =
+      let long : length all - k ≡ 0 = sym (length-drop k all) ∙ ap length (sym e) ∙ none in
+      (omega arith, no_item now none ∙ sym (no_item (drop (k + 1) all) (length-drop (k + 1) all ∙ omega arith)))
+
+  pub some_left : (k : ℕ) (all now rest : List E) (item : E) → now ≡ drop k all → 0 < length now → item ≡ get_or now 0 item → rest ≡ drop 1 now
+      → (k < length all) × ((d : E) → get_or all k d ≡ item) × (rest ≡ drop (k + 1) all)
+  some_left k all now rest item e some first behind =
+      let long : length now ≡ length all - k = ap length e ∙ length-drop k all in
+      let below : k < length all = omega arith in
+      let next : drop 1 now ≡ drop (suc k) all = ap (drop 1) (e ∙ drop-cons all k item below) in (
+        below,
+        λ d. sym (first ∙ ap (λ (l : List E). get_or l 0 item) (e ∙ drop-cons all k d below)),
+        behind ∙ next ∙ ap (λ n. drop n all) (sym (add-one k)),
+      )
+
+  -- each item fits its place
+  pub each_from : (P : ℕ → E → Type 0) (j : ℕ) (xs : List E) → ((k : ℕ) (d : E) → k < length xs → P (j + k) (get_or xs k d)) → AllFrom P j xs
+  each_from P j [] h = tt
+  each_from P j (x ∷ xs) h = (
+    subst (λ n. P n x) (add-zero j) (h 0 x (omega arith)),
+    each_from P (suc j) xs (λ k d below. let later : j + suc k ≡ suc j + k = omega arith in subst (λ n. P n (get_or xs k d)) later (h (suc k) d (omega arith))),
+  )
+
+-- what scripts did with commands
+abbrev pub Kept : Scripts → List Command → List ℕ → Scripts → Type 0
+Kept s cs text t = AreKept (λ script. script.items) s.steps.items cs t.steps.items × (text ≡ [])
+
+abbrev pub Unfilled : Scripts → Type 0
+Unfilled s = ⊥
+
+pub kept_silent : (s t : Scripts) (cs : List Command) (text : List ℕ) → Kept s cs text t → text ≡ []
+kept_silent s t cs text h = h.1
+
+-- scripts that had nothing have what was read
+pub scripts_kept : (d : Dialect) (n n' : ℕ) (l : Shape) (old new : Scripts) (rd rd' out out' : Option (List ℕ)) → All (λ script. script.items ≡ []) old.steps.items
+    → (cs : List Command) × (text : List ℕ) × Reads d None n n' rd rd' (Some l) cs (Ok false) × Kept old cs text new × Appends out out' []
+    → (cs : List Command) × Reads d None n n' rd rd' (Some l) cs (Ok false) × AreScriptsOf (λ script. script.items) cs new.steps.items
+scripts_kept d n n' l old new rd rd' out out' none r = (
+  r.0,
+  r.2,
+  λ k e below.
+      let within : k < length old.steps.items = subst (λ m. k < m) r.3.0.len below in
+      r.3.0.each k e within ∙ ap (λ (ss : List Step). ss ++ filter_map (step_for k) r.0) (none k e within),
+)
