@@ -52,13 +52,11 @@ enum g1_kind {
 
 /*
  * What the other calls answer. A code from 8 on says that the call was refused and that nothing has changed, but for G1_LOST. That is so for
- * g1_store and g1_is_pending too, whose other answers are not these codes. G1_LONG is not known to be answered by any call: treat it as
- * a failure of the library, close the handle, and report it.
+ * g1_store and g1_is_pending too, whose other answers are not these codes.
  */
 enum g1_code {
     G1_DONE = 0,
     G1_SHORT = 1,            /* memory was refused in the middle: what the call says was done stands, and no more was */
-    G1_LONG = 2,             /* a list did not fit its array, though that has room for every card; no proof rules it out */
     G1_STOPPED = 3,          /* a store of several names no slot of the heap: those before it were made, and it and the later ones not */
     G1_NOT_OPEN = 8,         /* the handle is closed */
     G1_ALREADY_OPEN = 9,     /* the handle that was to be opened is open */
@@ -76,13 +74,13 @@ enum g1_code {
     G1_OTHER_ROLE = 21,      /* the handle is a sweeper's where a racer's is asked for, or a racer's where a sweeper's is */
     G1_LOG_FULL = 22,        /* the racer's log has G1_LOG cards: take it, and store again */
     G1_BAD_MEMBERS = 23,     /* not as many handles as the race has members, or as a race may have */
-    G1_LOST = 24             /* the handles were of several races: they are closed, and what they were of is gone */
+    G1_LOST = 24             /* handles of several races, where that is found: they are closed, and what they were of is gone */
 };
 
 /* How many cards g1_refine takes at most, and how many stores g1_store_all. */
 #define G1_LOG 256
 
-/* The counts of a heap: 1 to 256 regions, 1 to 256 cards a region, 1 to 64 slots a card, and at most 1,048,576 slots in all. */
+/* The counts of a heap: 1 to 256 regions, 1 to 65,536 cards a region, 1 to 64 slots a card. */
 struct g1_counts {
     uint32_t regions;
     uint32_t cards;
@@ -265,7 +263,8 @@ struct g1_over {
 
 /*
  * Opens a race over a new heap, all of whose slots are null, for as many racers and sweepers as there are closed handles. It takes 8
- * bytes a slot and 8 bytes a card, twice while it begins, and about a kilobyte for each racer.
+ * bytes a slot, 8 bytes a card and a bit for each pair of a card and a region, twice while it begins, and about two kilobytes for each
+ * racer and one for each sweeper.
  *
  * G1_DONE: each handle is open. G1_BAD_MEMBERS, G1_ALREADY_OPEN for any of the handles, G1_BAD_LAYOUT or G1_NO_MEMORY: nothing has changed.
  */
@@ -291,12 +290,10 @@ uint32_t g1_race_take_log(struct g1_member *member, uint32_t *cards, size_t card
 
 /*
  * A sweeper refines a card, beside whatever the other members do: it makes it clean, and then reads its slots and records which regions
- * they refer into, whether the card was dirty or not. A store that comes too late to be read makes it dirty again. It waits for nobody. The
- * sweeper's list of what it recorded grows by 8 bytes for each reference of the card into another region, also for one that it recorded before,
- * until the race is closed.
+ * they refer into, whether the card was dirty or not. A store that comes too late to be read makes it dirty again. It waits for nobody and
+ * takes no memory.
  *
- * G1_DONE. G1_SHORT: memory was refused, and the card is as it was; refine it again, or leave it to a drain after the race. G1_NO_CARD,
- * G1_OTHER_ROLE or G1_NOT_OPEN: nothing has changed.
+ * G1_DONE. G1_NO_CARD, G1_OTHER_ROLE or G1_NOT_OPEN: nothing has changed.
  */
 uint32_t g1_race_refine(struct g1_member *member, uint32_t card);
 
@@ -305,7 +302,8 @@ uint32_t g1_race_refine(struct g1_member *member, uint32_t card);
  * lies behind `over`, which was closed. Logs that were not taken are dropped; their cards stay dirty.
  *
  * G1_DONE. G1_BAD_MEMBERS, G1_OTHER_ROLE, G1_NOT_OPEN for a member's handle, G1_ALREADY_OPEN for `over` or G1_NO_MEMORY: nothing has changed.
- * G1_LOST where the handles are not of one race, which the caller sees to: they are closed, and their races can't be ended any more.
+ * Handles of several races, which the caller rules out, are not always found: then the behaviour is undefined. Where they are found the
+ * answer is G1_LOST: they are closed, and their races can't be ended any more.
  */
 uint32_t g1_race_close(struct g1_member *racers, size_t racers_length, struct g1_member *sweepers, size_t sweepers_length,
                        struct g1_over *over);

@@ -99,7 +99,7 @@ static void closed_handles(void) {
 
 static void counts_and_settings(void) {
     static const uint32_t bad[][3] = {
-        {0, 1, 1}, {1, 0, 1}, {1, 1, 0}, {257, 1, 1}, {1, 257, 1}, {1, 1, 65}, {256, 65, 64}, {ALL, ALL, ALL}, {65536, 65536, 1},
+        {0, 1, 1}, {1, 0, 1}, {1, 1, 0}, {257, 1, 1}, {1, 65537, 1}, {1, 1, 65}, {ALL, ALL, ALL}, {65536, 65536, 1},
     };
     struct g1 handle = {0};
     for (size_t i = 0; i < sizeof bad / sizeof *bad; i++) {
@@ -112,10 +112,16 @@ static void counts_and_settings(void) {
     answers(g1_open(&handle, &small, 4, 4097), G1_BAD_SETTINGS, "a ring of 4097");
     check(handle.core == NULL, "a refused open leaves zeros");
     struct g1_counts greatest = {256, 64, 64};
-    answers(g1_open(&handle, &greatest, 255, 4096), G1_DONE, "the greatest heap");
+    answers(g1_open(&handle, &greatest, 255, 4096), G1_DONE, "a heap of 1,048,576 slots");
     answers(g1_store(&handle, 1048575, 0), G1_STORED_LOGGED, "its last slot");
     answers(g1_store(&handle, 1048576, 0), G1_NO_SLOT, "the slot after it");
-    answers(g1_close(&handle), G1_DONE, "close of the greatest heap");
+    answers(g1_close(&handle), G1_DONE, "close of that heap");
+    struct g1_counts large = {2, 65536, 1};
+    answers(g1_open(&handle, &large, 255, 4096), G1_DONE, "a heap of the largest regions");
+    answers(g1_store(&handle, 131071, 65535), G1_STORED_LOGGED, "its last slot, into the other region");
+    answers(g1_store(&handle, 131071, 65536), G1_STORED_SAME_REGION, "and into its own");
+    answers(g1_store(&handle, 131072, 0), G1_NO_SLOT, "the slot after it");
+    answers(g1_close(&handle), G1_DONE, "close of the heap of the largest regions");
 }
 
 static void stores(void) {

@@ -71,14 +71,9 @@ static void stores(int racer, uint32_t slot, uint32_t target, uint32_t kind) {
     expect(g1_race_store(&racers[racer], slot, target) == kind, "store");
 }
 
-// Refines a card in the race; a refusal leaves it as it was.
+// Refines a card in the race, which takes no memory.
 static void refine(uint32_t card) {
-    uint32_t word = g1_race_refine(sweeper, card);
-    if (word == G1_SHORT) {
-        fprintf(stderr, "refine: no memory\n");
-        word = g1_race_refine(sweeper, card);
-    }
-    expect(word == G1_DONE, "refine");
+    expect(g1_race_refine(sweeper, card) == G1_DONE, "refine");
 }
 
 static uint32_t cards[CARDS], refined[CARDS], count, refined_count;

@@ -1,5 +1,5 @@
 //! What calls answer.
-use crate::{Card, Slot};
+use crate::{library, Card, Slot};
 use std::fmt;
 
 /// Why a call was refused: nothing has changed then.
@@ -23,13 +23,13 @@ pub enum Refusal {
 impl Refusal {
     pub(crate) fn of(word: u32) -> Refusal {
         match word {
-            10 => Refusal::NoMemory,
-            11 => Refusal::BadLayout,
-            12 => Refusal::BadSettings,
-            17 => Refusal::TooManyCards,
-            18 => Refusal::SameRegion,
-            22 => Refusal::LogFull,
-            23 => Refusal::BadMembers,
+            library::NO_MEMORY => Refusal::NoMemory,
+            library::BAD_LAYOUT => Refusal::BadLayout,
+            library::BAD_SETTINGS => Refusal::BadSettings,
+            library::TOO_MANY_CARDS => Refusal::TooManyCards,
+            library::SAME_REGION => Refusal::SameRegion,
+            library::LOG_FULL => Refusal::LogFull,
+            library::BAD_MEMBERS => Refusal::BadMembers,
             word => Refusal::Unexpected(word),
         }
     }
@@ -109,10 +109,10 @@ impl Kind {
     /// The kind of a word, for a store to this card.
     pub(crate) fn of(word: u32, card: Card) -> Result<Kind, Refusal> {
         match word {
-            0 => Ok(Kind::Null),
-            1 => Ok(Kind::SameRegion),
-            2 => Ok(Kind::Dirty),
-            3 => Ok(Kind::Logged(card)),
+            library::STORED_NULL => Ok(Kind::Null),
+            library::STORED_SAME_REGION => Ok(Kind::SameRegion),
+            library::STORED_DIRTY => Ok(Kind::Dirty),
+            library::STORED_LOGGED => Ok(Kind::Logged(card)),
             word => Err(Refusal::of(word)),
         }
     }

@@ -17,7 +17,7 @@ pub use numbers::{Card, Counts, Region, Slot};
 
 use library::{
     g1_clear, g1_close, g1_drain, g1_is_pending, g1_members, g1_open, g1_redirect, g1_refine, g1_status, g1_store,
-    g1_target, Handle, Tally, DONE, NULL, SHORT,
+    g1_target, Handle, Tally, DONE, NULL, SHORT, STILL_PENDING, STILL_REFERENCED,
 };
 use numbers::{Home, Numbers};
 use std::ptr::null_mut;
@@ -176,8 +176,8 @@ impl Heap {
         let mut detail = 0;
         match unsafe { g1_clear(&mut self.handle, region.number, &mut detail) } {
             DONE => Ok(Cleared::Cleared),
-            19 => Ok(Cleared::Pending(detail)),
-            20 => Ok(Cleared::StillReferenced(Slot {
+            STILL_PENDING => Ok(Cleared::Pending(detail)),
+            STILL_REFERENCED => Ok(Cleared::StillReferenced(Slot {
                 number: detail,
                 home: self.numbers.home,
             })),

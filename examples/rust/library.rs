@@ -91,6 +91,21 @@ extern "C" {
     pub fn g1_over_close(over: *mut Over) -> u32;
 }
 
-pub const NULL: u32 = u32::MAX;
+pub const NULL: u32 = 4_294_967_295;
+
+pub const STORED_NULL: u32 = 0;
+pub const STORED_SAME_REGION: u32 = 1;
+pub const STORED_DIRTY: u32 = 2;
+pub const STORED_LOGGED: u32 = 3;
+
 pub const DONE: u32 = 0;
 pub const SHORT: u32 = 1;
+pub const NO_MEMORY: u32 = 10;
+pub const BAD_LAYOUT: u32 = 11;
+pub const BAD_SETTINGS: u32 = 12;
+pub const TOO_MANY_CARDS: u32 = 17;
+pub const SAME_REGION: u32 = 18;
+pub const STILL_PENDING: u32 = 19;
+pub const STILL_REFERENCED: u32 = 20;
+pub const LOG_FULL: u32 = 22;
+pub const BAD_MEMBERS: u32 = 23;

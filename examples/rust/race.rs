@@ -4,7 +4,7 @@
 //! theirs. [`Race::close`] and [`Closed::into_heap`] make a heap of it for a pause, and [`Race::resume`] a race of the heap; numbers of the heap stay good.
 use crate::library::{
     g1_member_close, g1_over_close, g1_race_close, g1_race_core, g1_race_open, g1_race_refine, g1_race_resume,
-    g1_race_store, g1_race_take_log, Handle, Member, Over, DONE, SHORT,
+    g1_race_store, g1_race_take_log, Handle, Member, Over, DONE,
 };
 use crate::numbers::{Home, Numbers};
 use crate::{Card, Counts, Heap, Kind, Refusal, Region, Slot, LOG};
@@ -126,12 +126,13 @@ impl Race {
         let mut over = Over { race: null_mut() };
         let (some, few) = (racers.len(), sweepers.len());
         let word = unsafe { g1_race_close(racers.as_mut_ptr(), some, sweepers.as_mut_ptr(), few, &mut over) };
-        if word != DONE {
-            return Err((self, Refusal::of(word)));
-        }
+        // What the library closed is closed here too, whatever it answers.
         let all = self.racers.iter_mut().chain(&mut self.sweepers);
         for (seat, handle) in all.zip(racers.into_iter().chain(sweepers)) {
             seat.handle = handle;
+        }
+        if word != DONE {
+            return Err((self, Refusal::of(word)));
         }
         Ok(Closed {
             over,
@@ -159,12 +160,11 @@ impl Racer<'_> {
 }
 
 impl Sweeper<'_> {
-    /// Cleans a card, and then records which regions its slots refer into. Where memory is refused the card is as it was.
+    /// Cleans a card, and then records which regions its slots refer into. Takes no memory.
     pub fn refine(&mut self, card: Card) -> Result<(), Refusal> {
         self.numbers.has(card.home)?;
         match unsafe { g1_race_refine(&mut self.seat.handle, card.number) } {
             DONE => Ok(()),
-            SHORT => Err(Refusal::NoMemory),
             word => Err(Refusal::of(word)),
         }
     }

@@ -1,11 +1,12 @@
 //! Several stores by one call.
-ghost use Rattle.std.specs.Prelude.{◌≡◌, ◌<◌, ◌≤◌, length, take, IfSome};
-ghost use Rattle.g1_handles.specs.Codes.{Between};
+ghost use Rattle.std.specs.Prelude.{◌≡◌, ◌⊎◌, ◌<◌, ◌≤◌, length, take, IfSome};
+ghost use Rattle.g1_handles.specs.Codes.{Between, IsRefusal};
 ghost use Rattle.g1_handles.specs.Batch.{Made, made_all, IsFaultAt};
+ghost use Rattle.g1_handles.specs.Refusals.{AreStoresRefused};
 
 use core::mem::replace_with;
 use g1_handles::batch::{Store, store_all_in};
-use g1_handles::code::{DONE, Refusal, STOPPED};
+use g1_handles::code::{DONE, STOPPED};
 use g1_handles::handle::Handle;
 use g1_handles::list::put;
 use std::alloc::Global;
@@ -36,6 +37,9 @@ pub extern "C" fn g1_store_all(
     ensures made { result ≤ 3 → Between handle.old.value handle.new.value (λ old new. record { machine = new; cards = take batch.new.logged cards.new } ≡ made_all old (take batch.new.stored stores.now)) }
     ensures whole { result ≡ 0 → batch.new.stored ≡ length stores.now }
     ensures stopped { result ≡ 3 → IfSome handle.old.value (λ old. IsFaultAt old.state.table.layout stores.now batch.new.stored) }
+    ensures done { result ≤ 3 → (result ≡ 0) ⊎ (result ≡ 3) }
+    ensures why { 3 < result →
+        IsRefusal result (AreStoresRefused handle.old.value (length stores.now) (length cards.old)) }
     ensures refused { 3 < result → handle.new.value ≡ handle.old.value }
     ensures none { 3 < result → (batch.new.stored ≡ 0) × (batch.new.logged ≡ 0) }
 {
@@ -43,10 +47,7 @@ pub extern "C" fn g1_store_all(
         stored: 0,
         logged: 0,
     };
-    if cards.len() < stores.len() {
-        return Refusal::NoRoom.word();
-    }
-    match replace_with(handle, (alloc, stores), store_all_in) {
+    match replace_with(handle, (alloc, stores, cards.len()), store_all_in) {
         Err(refusal) => refusal.word(),
         Ok(stored) => {
             put(stored.cards.as_slice(), cards);

@@ -1,11 +1,12 @@
 //! Opening and closing a handle.
 ghost use Rattle.std.specs.Prelude.{◌≡◌, ◌<◌, Some, None, IsSome};
-ghost use Rattle.g1_layout.specs.Shape.{Shape};
 ghost use Rattle.g1_core.specs.Machine.{Machine, new_machine};
-ghost use Rattle.g1_handles.specs.Codes.{settings_of};
+ghost use Rattle.g1_handles.specs.Codes.{layout_of, settings_of, IsRefusal};
+ghost use Rattle.g1_handles.specs.Refusals.{IsOpenRefused};
 
 use core::mem::replace_with;
 use g1_handles::calls::{Counts, close_in, new_core, open_in};
+use g1_handles::code::DONE;
 use g1_handles::handle::Handle;
 use std::alloc::Global;
 
@@ -19,12 +20,19 @@ pub extern "C" fn g1_open(
     hot: u32,
     ring: u32,
 ) -> u32
-    ensures new { result ≡ 0 → handle.new.value ≡ Some (new_machine (record { regions = counts.now.regions; cards = counts.now.cards; slots = counts.now.slots }) (settings_of hot ring)) }
+    ensures new { result ≡ 0 →
+        handle.new.value ≡ Some (new_machine (layout_of counts.now) (settings_of hot ring)) }
     ensures closed { result ≡ 0 → handle.old.value ≡ None }
+    ensures why { 0 < result →
+        IsRefusal result (IsOpenRefused handle.old.value (layout_of counts.now) (settings_of hot ring)) }
     ensures refused { 0 < result → handle.new.value ≡ handle.old.value }
 {
-    match new_core(alloc, counts, hot, ring) {
-        Ok(core) => replace_with(handle, core, open_in),
+    let core = match new_core(alloc, counts, hot, ring) {
+        Ok(core) => core,
+        Err(refusal) => return refusal.word(),
+    };
+    match replace_with(handle, core, open_in) {
+        Ok(()) => DONE,
         Err(refusal) => refusal.word(),
     }
 }

@@ -1,6 +1,7 @@
 //! The clear.
 ghost use Rattle.std.specs.Prelude.{◌≡◌, ◌≢◌, ◌<◌};
-ghost use Rattle.g1_handles.specs.Codes.{Between};
+ghost use Rattle.g1_handles.specs.Codes.{Between, IsRefusal};
+ghost use Rattle.g1_handles.specs.Refusals.{IsClearRefused};
 ghost use Rattle.g1_handles.specs.Replies.{ClearsTo, IsLeft};
 
 use core::mem::replace_with;
@@ -17,6 +18,8 @@ pub extern "C" fn g1_clear(alloc: Global, handle: &mut Handle, region: u32, deta
     ensures pending { result ≡ 19 → Between handle.old.value handle.new.value (λ old new. ClearsTo old region (ClearReply.Pending detail.new) new) }
     ensures referenced { result ≡ 20 → Between handle.old.value handle.new.value (λ old new. ClearsTo old region (ClearReply.StillReferenced detail.new) new) }
     ensures none { result ≢ 19 → result ≢ 20 → detail.new ≡ 0 }
+    ensures why { 0 < result → result ≢ 19 → result ≢ 20 →
+        IsRefusal result (IsClearRefused handle.old.value region) }
     ensures refused { 0 < result → IsLeft handle.old.value handle.new.value }
 {
     match replace_with(handle, (alloc, region), clear_in) {

@@ -1,10 +1,11 @@
 //! The remembered set of a region, as it is recorded.
 ghost use Rattle.std.specs.Prelude.{◌≡◌, ◌≢◌, ◌<◌, length, take};
-ghost use Rattle.g1_handles.specs.Codes.{OfOpen};
+ghost use Rattle.g1_handles.specs.Codes.{OfOpen, IsRefusal};
 ghost use Rattle.g1_handles.specs.Queries.{HasMembers, LacksRoom};
+ghost use Rattle.g1_handles.specs.Refusals.{AreMembersRefused};
 
 use core::mem::replace_with;
-use g1_handles::code::{DONE, NO_ROOM};
+use g1_handles::code::{DONE, Refusal};
 use g1_handles::handle::Handle;
 use g1_handles::list::put;
 use g1_handles::members::{Listed, members_in};
@@ -22,6 +23,8 @@ pub extern "C" fn g1_members(
 ) -> u32
     ensures members { result ≡ 0 → OfOpen handle.old.value (λ machine. HasMembers machine region (take count.new cards.new)) }
     ensures room { result ≡ 16 → OfOpen handle.old.value (λ machine. LacksRoom machine region (length cards.old) count.new) }
+    ensures why { 0 < result → result ≢ 16 →
+        IsRefusal result (AreMembersRefused handle.old.value region) }
     ensures none { result ≢ 0 → result ≢ 16 → count.new ≡ 0 }
     ensures unwritten { 0 < result → cards.new ≡ cards.old }
     ensures same { handle.new.value ≡ handle.old.value }
@@ -31,7 +34,7 @@ pub extern "C" fn g1_members(
         Err(refusal) => refusal.word(),
         Ok(Listed::NoRoom(needed)) => {
             *count = needed;
-            NO_ROOM
+            Refusal::NoRoom.word()
         }
         Ok(Listed::Members(members)) => {
             put(members.as_slice(), cards);

@@ -1,15 +1,15 @@
 //! The pause.
-ghost use Rattle.std.specs.Prelude.{◌≡◌, ◌<◌, take};
-ghost use Rattle.g1_core.specs.Table.{IsCovered};
-ghost use Rattle.g1_handles.specs.Codes.{Between};
+ghost use Rattle.std.specs.Prelude.{◌≡◌, ◌<◌, length, take};
+ghost use Rattle.g1_handles.specs.Codes.{Between, IsRefusal};
+ghost use Rattle.g1_handles.specs.Refusals.{IsDrainRefused};
 ghost use Rattle.g1_handles.specs.Replies.{DrainsTo};
 
 use core::mem::replace_with;
 use g1_core::Drained;
-use g1_handles::code::{DONE, LONG, SHORT};
+use g1_handles::code::{DONE, SHORT};
 use g1_handles::handle::Handle;
 use g1_handles::list::put;
-use g1_handles::pause::{Drain, drain_in};
+use g1_handles::pause::drain_in;
 use std::alloc::Global;
 
 /// Refines all that is pending and answers the remembered set of a region: its cards, ascending, stand first in `cards`, and those
@@ -26,9 +26,11 @@ pub extern "C" fn g1_drain(
 ) -> u32
     ensures whole { result ≡ 0 → Between handle.old.value handle.new.value (λ old new. DrainsTo old region (Drained.Cards (take count.new cards.new) (take refined_count.new refined.new)) new) }
     ensures short { result ≡ 1 → Between handle.old.value handle.new.value (λ old new. DrainsTo old region (Drained.Short (take refined_count.new refined.new)) new) }
-    ensures long { result ≡ 2 → Between handle.old.value handle.new.value (λ old new. IsCovered new.state.table) }
     ensures none { 0 < result → count.new ≡ 0 }
-    ensures refused { 2 < result → handle.new.value ≡ handle.old.value }
+    ensures why { 1 < result →
+        IsRefusal result (IsDrainRefused handle.old.value region (length cards.old) (length refined.old)) }
+    ensures empty { 1 < result → refined_count.new ≡ 0 }
+    ensures refused { 1 < result → handle.new.value ≡ handle.old.value }
 {
     *count = 0;
     *refined_count = 0;
@@ -38,13 +40,17 @@ pub extern "C" fn g1_drain(
         drain_in,
     ) {
         Err(refusal) => refusal.word(),
-        Ok(Drain::Long) => LONG,
-        Ok(Drain::Short(list)) => {
+        Ok(Drained::Short { refined: list }) => {
             put(list.as_slice(), refined);
             *refined_count = list.len() as u32;
             SHORT
         }
-        Ok(Drain::Whole(members, list)) => {
+        Ok(
+            Drained::Cards {
+                cards: members,
+                refined: list,
+            },
+        ) => {
             put(members.as_slice(), cards);
             *count = members.len() as u32;
             put(list.as_slice(), refined);

@@ -1,11 +1,13 @@
 //! How a race begins, and how a member's handle is closed without its race.
 ghost use Rattle.std.specs.Prelude.{◌≡◌, ◌<◌, None, IsSome};
-ghost use Rattle.g1_layout.specs.Shape.{Shape};
 ghost use Rattle.g1_core.specs.Table.{opening};
+ghost use Rattle.g1_handles.specs.Codes.{layout_of, IsRefusal};
 ghost use Rattle.g1_handles.specs.Racing.{held, AreClosed, IsBegunFor};
+ghost use Rattle.g1_handles.specs.Refusals.{IsRaceRefused};
 
 use core::mem::replace_with;
 use g1_handles::calls::Counts;
+use g1_handles::code::DONE;
 use g1_handles::member_handle::MemberHandle;
 use g1_handles::race_open::{close_in, open_race};
 use std::alloc::Global;
@@ -19,11 +21,17 @@ pub extern "C" fn g1_race_open(
     racers: &mut [MemberHandle],
     sweepers: &mut [MemberHandle],
 ) -> u32
-    ensures opened { let l : Shape = record { regions = counts.now.regions; cards = counts.now.cards; slots = counts.now.slots } in result ≡ 0 → IsBegunFor (opening l) (held racers.new) (held sweepers.new) }
+    ensures opened { result ≡ 0 →
+        IsBegunFor (opening (layout_of counts.now)) (held racers.new) (held sweepers.new) }
     ensures closed { result ≡ 0 → AreClosed (held racers.old) × AreClosed (held sweepers.old) }
+    ensures why { 0 < result →
+        IsRefusal result (IsRaceRefused (layout_of counts.now) racers.old sweepers.old) }
     ensures refused { 0 < result → (held racers.new ≡ held racers.old) × (held sweepers.new ≡ held sweepers.old) }
 {
-    open_race(alloc, counts, racers, sweepers)
+    match open_race(alloc, counts, racers, sweepers) {
+        Ok(()) => DONE,
+        Err(refusal) => refusal.word(),
+    }
 }
 
 /// Closes a member's handle without its race, which then has too few members to be closed: its memory is given back with the last

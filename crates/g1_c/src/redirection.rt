@@ -1,6 +1,7 @@
 //! The redirect.
-ghost use Rattle.std.specs.Prelude.{◌≡◌, ◌<◌, take};
-ghost use Rattle.g1_handles.specs.Codes.{Between};
+ghost use Rattle.std.specs.Prelude.{◌≡◌, ◌<◌, length, take};
+ghost use Rattle.g1_handles.specs.Codes.{Between, IsRefusal};
+ghost use Rattle.g1_handles.specs.Refusals.{IsRedirectRefused};
 ghost use Rattle.g1_handles.specs.Replies.{RedirectsTo};
 
 use core::mem::replace_with;
@@ -27,6 +28,8 @@ pub extern "C" fn g1_redirect(
     ensures moved { result ≡ 0 → Between handle.old.value handle.new.value (λ old new. RedirectsTo old from to (Redirected.Moved moved.new (take refined_count.new refined.new)) new) }
     ensures short { result ≡ 1 → Between handle.old.value handle.new.value (λ old new. RedirectsTo old from to (Redirected.Short (take refined_count.new refined.new)) new) }
     ensures none { 0 < result → moved.new ≡ 0 }
+    ensures why { 1 < result →
+        IsRefusal result (IsRedirectRefused handle.old.value from to (length refined.old)) }
     ensures empty { 1 < result → refined_count.new ≡ 0 }
     ensures refused { 1 < result → handle.new.value ≡ handle.old.value }
 {

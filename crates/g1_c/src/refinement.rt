@@ -1,10 +1,10 @@
 //! Refinement.
-ghost use Rattle.std.specs.Prelude.{◌≡◌, ◌<◌, ◌≤◌, take};
-ghost use Rattle.g1_handles.specs.Codes.{Between};
+ghost use Rattle.std.specs.Prelude.{◌≡◌, ◌<◌, ◌≤◌, length, take};
+ghost use Rattle.g1_handles.specs.Codes.{Between, IsRefusal};
+ghost use Rattle.g1_handles.specs.Refusals.{IsRefinementRefused};
 ghost use Rattle.g1_handles.specs.Replies.{RefinesTo, reply_of};
 
 use core::mem::replace_with;
-use g1_handles::code::{DONE, Refusal};
 use g1_handles::handle::Handle;
 use g1_handles::list::put;
 use g1_handles::refinement::{refine_in, word_of};
@@ -32,19 +32,18 @@ pub extern "C" fn g1_refine(
     refined: &mut [u32],
     tally: &mut Tally,
 ) -> u32
-    ensures refined { result ≤ 3 → Between handle.old.value handle.new.value (λ old new. RefinesTo old cards.now (reply_of result (take tally.new.refined refined.new) tally.new.hot tally.new.skipped) new) }
-    ensures refused { 3 < result → handle.new.value ≡ handle.old.value }
-    ensures none { 3 < result → (tally.new.refined ≡ 0) × (tally.new.hot ≡ 0) × (tally.new.skipped ≡ 0) }
+    ensures refined { result ≤ 1 → Between handle.old.value handle.new.value (λ old new. RefinesTo old cards.now (reply_of result (take tally.new.refined refined.new) tally.new.hot tally.new.skipped) new) }
+    ensures why { 1 < result →
+        IsRefusal result (IsRefinementRefused handle.old.value cards.now (length refined.old)) }
+    ensures refused { 1 < result → handle.new.value ≡ handle.old.value }
+    ensures none { 1 < result → (tally.new.refined ≡ 0) × (tally.new.hot ≡ 0) × (tally.new.skipped ≡ 0) }
 {
     *tally = Tally {
         refined: 0,
         hot: 0,
         skipped: 0,
     };
-    if refined.len() < cards.len() {
-        return Refusal::NoRoom.word();
-    }
-    match replace_with(handle, (alloc, cards), refine_in) {
+    match replace_with(handle, (alloc, cards, refined.len()), refine_in) {
         Err(refusal) => refusal.word(),
         Ok(reply) => {
             put(reply.refined.as_slice(), refined);

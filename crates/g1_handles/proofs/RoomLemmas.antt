@@ -1,5 +1,5 @@
 -- How long the lists are that a core answers: no longer than the heap has cards.
-use Rattle.std.proofs.Common.{ℕ, ◌<◌, ◌≤◌, List, length, arith}
+use Rattle.std.proofs.Common.{ℕ, ◌<◌, ◌≤◌, List, All, length, arith}
 use Rattle.std.proofs.lemmas.Bool.{eqb-true}
 use Rattle.std.proofs.lemmas.List.Elements.{All-contains}
 use Rattle.std.proofs.lemmas.Map.Steps.{length-le_from_distinct_below}
@@ -8,7 +8,11 @@ use Rattle.std.proofs.lemmas.Map.Keys.{sorted_from_strictly_increasing}
 use Rattle.g1_layout.specs.Shape.{card_count}
 use Rattle.g1_layout.proofs.ShapeLemmas.{card_count_limit}
 use Rattle.g1_core.specs.Table.{IsPending, AreRefinable, AreMembers}
-use Rattle.g1_core.specs.Machine.{State, IsSound}
+use Rattle.g1_core.specs.Machine.{Machine, State, IsSound}
+use Rattle.g1_core.specs.Pause.{IsDrainOf}
+use Rattle.g1_core.specs.Calls.{drain_cards}
+use Rattle.g1_core.specs.declared.reply.Drained.{Drained}
+use Rattle.g1_core.specs.declared.reply.Drained.TheVariants.{Cards, Short}
 use Rattle.g1_core.proofs.SetLemmas.{All_by_member}
 
 -- distinct pending cards
@@ -20,6 +24,11 @@ pub few_members : (s : State) (region : ℕ) (cards : List ℕ) → IsSound s �
 few_members s region cards sound h =
     length-le_from_below (card_count s.table.layout) cards (sorted_from_strictly_increasing cards h.ascending) (All_by_member (λ card. card < card_count s.table.layout) cards (λ card c. (sound.recorded card region (h.recorded card c)).0))
 
--- a heap has at most 65,536 cards
-pub fits_words : (s : State) (cards : List ℕ) → IsSound s → length cards ≤ card_count s.table.layout → length cards ≤ 65536
-fits_words s cards sound few = let most : card_count s.table.layout ≤ 65536 = card_count_limit s.table.layout sound.shape in omega arith
+-- the cards of a drain's answer
+pub few_drained : (old new : Machine) (region : ℕ) (answer : Drained) (n : ℕ) → IsDrainOf old region answer new → All (λ card. card < n) (drain_cards answer) → length (drain_cards answer) ≤ n
+few_drained old new region (Cards cards refined) n h below = length-le_from_below n cards (sorted_from_strictly_increasing cards h.1.ascending) below
+few_drained old new region (Short refined) n h below = omega arith
+
+-- a heap has at most 2^24 cards
+pub fits_words : (s : State) (cards : List ℕ) → IsSound s → length cards ≤ card_count s.table.layout → length cards ≤ 16777216
+fits_words s cards sound few = let most : card_count s.table.layout ≤ 16777216 = card_count_limit s.table.layout sound.shape in omega arith

@@ -8,6 +8,33 @@ use Rattle.g1_core.specs.declared.reply.ClearReply.TheVariants.{Cleared, Pending
 use Rattle.g1_core.specs.Settings.{Settings}
 use Rattle.g1_core.specs.Machine.{Machine}
 use Rattle.g1_core.specs.Run.{stored}
+use Rattle.g1_handles.specs.declared.calls.Counts.{Counts}
+use Rattle.g1_handles.specs.declared.code.Refusal.{Refusal}
+use Rattle.g1_handles.specs.declared.code.Refusal.TheVariants as refusal
+
+-- the word of a refusal
+abbrev pub refusal_word : Refusal → ℕ
+refusal_word refusal.NotOpen = 8
+refusal_word refusal.AlreadyOpen = 9
+refusal_word refusal.NoMemory = 10
+refusal_word refusal.BadLayout = 11
+refusal_word refusal.BadSettings = 12
+refusal_word refusal.NoSlot = 13
+refusal_word refusal.NoCard = 14
+refusal_word refusal.NoRegion = 15
+refusal_word refusal.NoRoom = 16
+refusal_word refusal.TooManyCards = 17
+refusal_word refusal.SameRegion = 18
+refusal_word refusal.StillPending = 19
+refusal_word refusal.StillReferenced = 20
+refusal_word refusal.OtherRole = 21
+refusal_word refusal.LogFull = 22
+refusal_word refusal.BadMembers = 23
+refusal_word refusal.Lost = 24
+
+-- The word is that of a refusal of which this holds.
+abbrev pub IsRefusal : ℕ → (Refusal → Type 0) → Type 0
+IsRefusal word Q = (r : Refusal) × (word ≡ refusal_word r) × Q r
 
 -- the word of a kind of store
 abbrev pub kind_word : Kind → ℕ
@@ -42,6 +69,10 @@ Between (Some old) (Some new) Q = Q old new
 abbrev pub OfOpen : Option Machine → (Machine → Type 0) → Type 0
 OfOpen None Q = ⊥
 OfOpen (Some machine) Q = Q machine
+
+-- the layout that these counts ask for
+abbrev pub layout_of : Counts → Shape
+layout_of c = record { regions = c.regions; cards = c.cards; slots = c.slots }
 
 -- a store changes the table, and nothing else
 abbrev pub stored_machine : Machine → ℕ → Option ℕ → Machine

@@ -1,5 +1,6 @@
 pub mod Own
 pub mod Codes
+pub mod Refusals
 pub mod Replies
 pub mod Queries
 pub mod Batch

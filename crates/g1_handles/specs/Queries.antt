@@ -1,11 +1,12 @@
 -- What the answers to questions stand for.
-use Rattle.std.specs.Prelude.{◌≡◌, ◌≤◌, ◌<◌, ◌+◌, ◌-◌, ◌^◌, ℕ, Bool, List, Option, length, min}
+use Rattle.std.specs.Prelude.{◌≡◌, ◌<◌, ◌+◌, ◌-◌, ◌^◌, ℕ, Bool, List, Option, length, min}
 use Rattle.std.specs.FinSet as set
 use Rattle.g1_core.specs.Table.{target_of, AreMembers}
 use Rattle.g1_core.specs.Machine.{Machine}
 use Rattle.g1_core.specs.Run.{IsStep}
 use Rattle.g1_core.specs.Calls.{target_entry, pending_entry, members_entry, status_entry}
 use Rattle.g1_core.specs.declared.reply.Status.{Status}
+use Rattle.g1_handles.specs.Replies.{FitIn}
 use Rattle.g1_handles.specs.declared.members.Listed.{Listed}
 use Rattle.g1_handles.specs.declared.members.Listed.TheVariants.{Members, NoRoom}
 
@@ -39,5 +40,5 @@ pub record LacksRoom (m : Machine) (region room count : ℕ) : Type 0 where
   pub more : room < count
 
 abbrev pub IsListed : Machine → ℕ → ℕ → Listed → Type 0
-IsListed m region room (Members cards) = HasMembers m region cards × (length cards ≤ room) × (length cards ≤ 65536)
+IsListed m region room (Members cards) = HasMembers m region cards × FitIn room cards
 IsListed m region room (NoRoom count) = LacksRoom m region room count

@@ -1,16 +1,17 @@
 -- What the calls on the members of a race do.
-use Rattle.std.specs.Prelude.{◌↔◌, Contains, ◌≡◌, ℕ, List, [], ◌∷◌, ◌++◌, map, All, Option, Some, None, Bool, true, false, if◌then◌else◌}
+use Rattle.std.specs.Prelude.{◌↔◌, Contains, ◌≡◌, ◌≤◌, ℕ, List, [], ◌∷◌, ◌++◌, map, All, Option, Some, None, Bool, true, false, if◌then◌else◌}
 use Rattle.std.specs.Arc.{arc_value}
 use Rattle.g1_layout.specs.declared.kind.Kind.{Kind}
 use Rattle.g1_core.specs.Table.{Table}
 use Rattle.g1_core.specs.Machine.{Machine}
 use Rattle.g1_race.specs.declared.race.Race.{Race}
 use Rattle.g1_race.specs.declared.view.View.{View}
+use Rattle.g1_race.specs.Begin.{Start, Begun}
 use Rattle.g1_race.specs.Drain.{began}
 use Rattle.g1_race.specs.Over.{Ended}
 use Rattle.g1_race.specs.Resumed.{IsSame}
-use Rattle.g1_race.specs.Race.{card_of, word_of, stored, nothing, IsKnown, IsOver}
-use Rattle.g1_race.specs.Members.{race_layout, race_begun, race_shape, racer_view, sweeper_view, IsKind, is_logged, IsFreshRacer, IsFreshSweeper}
+use Rattle.g1_race.specs.Race.{beginning, card_of, word_of, stored, nothing, IsKnown, IsOver}
+use Rattle.g1_race.specs.Members.{race_layout, race_begun, race_shape, racer_start, racer_view, sweeper_start, sweeper_view, IsKind, is_logged, IsFreshRacer, IsFreshSweeper}
 use Rattle.g1_handles.specs.declared.member.Racing.{Racing}
 use Rattle.g1_handles.specs.declared.member.Sweeping.{Sweeping}
 use Rattle.g1_handles.specs.declared.member.Member.{Member}
@@ -71,12 +72,8 @@ pub record TakesLog (a : Racing) (log : List ℕ) (b : Racing) : Type 0 where
 -- a sweeper before and after it refined a card
 pub record Sweeps (a : Sweeping) (card : ℕ) (b : Sweeping) : Type 0 where
   pub race : sweeper_race_of b ≡ sweeper_race_of a
+  pub begin : sweeper_start b.sweeper ≡ sweeper_start a.sweeper
   pub swept : (sweeper_view b.sweeper).swept ≡ card ∷ (sweeper_view a.sweeper).swept
-
--- a sweeper that a call has left as it was, but for the room of its list
-pub record IsSameSweeper (a b : Sweeping) : Type 0 where
-  pub race : sweeper_race_of b ≡ sweeper_race_of a
-  pub view : sweeper_view b.sweeper ≡ sweeper_view a.sweeper
 
 -- what the handles hold
 abbrev pub held : List MemberHandle → List (Option Member)
@@ -86,26 +83,38 @@ held hs = map (λ h. h.value) hs
 abbrev pub AreClosed : List (Option Member) → Type 0
 AreClosed members = All (λ m. m ≡ None) members
 
--- the handle is a racer's of this race, and the racer has stored nothing
-abbrev pub IsFreshRacing : Race → Option Member → Type 0
-IsFreshRacing race m = OfRacer m (λ a. (racer_race_of a ≡ race) × IsFreshRacer race.table.shared.table_id race.shape a.racer)
+-- the handle is a racer's of this race, and the racer has stored nothing since the race began so
+abbrev pub IsFreshRacing : Race → Start → Option Member → Type 0
+IsFreshRacing race begin m = OfRacer m (λ a. (racer_race_of a ≡ race)
+    × IsFreshRacer race.table.shared.table_id race.shape a.racer × (racer_start a.racer ≡ begin))
 
--- the handle is a sweeper's of this race, and the sweeper has swept nothing
-abbrev pub IsFreshSweeping : Race → Option Member → Type 0
-IsFreshSweeping race m = OfSweeper m (λ b. (sweeper_race_of b ≡ race) × IsFreshSweeper race.table.shared.table_id race.shape b.sweeper)
+-- the handle is a sweeper's of this race, and the sweeper has swept nothing since the race began so
+abbrev pub IsFreshSweeping : Race → Start → Option Member → Type 0
+IsFreshSweeping race begin m = OfSweeper m (λ b. (sweeper_race_of b ≡ race)
+    × IsFreshSweeper race.table.shared.table_id race.shape b.sweeper × (sweeper_start b.sweeper ≡ begin))
 
--- the handles are those of the racers and of the sweepers of a race that has just begun
-abbrev pub AreSeated : Race → List (Option Member) → List (Option Member) → Type 0
-AreSeated race racers sweepers = All (IsFreshRacing race) racers × All (IsFreshSweeping race) sweepers
+-- a race may have this many racers and sweepers
+pub record AreCounts (racers sweepers : ℕ) : Type 0 where
+  pub some_racer : 1 ≤ racers
+  pub few_racers : racers ≤ 8
+  pub some_sweeper : 1 ≤ sweepers
+  pub few_sweepers : sweepers ≤ 4
 
--- the member is a racer of this race that has stored nothing, or, for a sweeper's role, a sweeper that has swept nothing
-abbrev pub IsFresh : Race → Bool → Option Member → Type 0
-IsFresh race true m = IsFreshRacing race m
-IsFresh race false m = IsFreshSweeping race m
+-- the handles are those of the racers and of the sweepers of a race that has just begun so
+abbrev pub AreSeated : Race → Start → List (Option Member) → List (Option Member) → Type 0
+AreSeated race begin racers sweepers = All (IsFreshRacing race begin) racers
+    × All (IsFreshSweeping race begin) sweepers
 
--- a race that has just begun with this table belongs to these handles
+-- the member is a racer of this race that has stored nothing, or, for a sweeper's role, a sweeper that
+-- has swept nothing, and the race began so
+abbrev pub IsFresh : Race → Start → Bool → Option Member → Type 0
+IsFresh race begin true m = IsFreshRacing race begin m
+IsFresh race begin false m = IsFreshSweeping race begin m
+
+-- a race that has just begun with this table, as all its members know, belongs to these handles
 abbrev pub IsBegunFor : Table → List (Option Member) → List (Option Member) → Type 0
-IsBegunFor table racers sweepers = (race : Race) × (began (race_layout race) (race_begun race) ≡ table) × AreSeated race racers sweepers
+IsBegunFor table racers sweepers = (race : Race) × (begin : Start)
+    × (began (race_layout race) (beginning begin) ≡ table) × AreSeated race begin racers sweepers
 
 -- if the handle is a racer's, it is one of this race
 abbrev pub IfRacerOf : Race → Option Member → Type 0
@@ -125,11 +134,16 @@ known_to None = nothing
 known_to (Some (Racer a)) = racer_view a.racer
 known_to (Some (Sweeper b)) = sweeper_view b.sweeper
 
+-- what a race began with, as its members know it
+abbrev pub begun_of : Race → List (Option Member) → List (Option Member) → Begun
+begun_of race racers sweepers = race_begun race (map known_to racers) (map known_to sweepers)
+
 -- what is left of a race that ended with these members
 pub record IsClosedOf (race : Race) (racers sweepers : List (Option Member)) (e : Ended) : Type 0 where
   pub layout : e.layout ≡ race_layout race
-  pub pairs : (x : ℕ × ℕ) → Contains e.pairs x ↔ IsKnown (race_begun race) (map known_to sweepers) x
-  pub over : IsOver (race_begun race) e.words (map known_to racers) (map known_to sweepers)
+  pub pairs : (x : ℕ × ℕ) →
+      Contains e.pairs x ↔ IsKnown (begun_of race racers sweepers) (map known_to sweepers) x
+  pub over : IsOver (begun_of race racers sweepers) e.words (map known_to racers) (map known_to sweepers)
 
 -- a race is left, and it is so of it
 abbrev pub OfOver : Option Remains → (Ended → Type 0) → Type 0

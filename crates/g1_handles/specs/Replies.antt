@@ -1,7 +1,6 @@
 -- What the words that C gets stand for.
 use Rattle.std.specs.Prelude.{◌≡◌, ◌≤◌, ◌+◌, ◌*◌, ℕ, Option, Some, None, List, length, ◌==◌, not, if◌then◌else◌, ⊤}
 use Rattle.std.specs.FinSet as set
-use Rattle.g1_core.specs.Table.{IsCovered}
 use Rattle.g1_core.specs.Machine.{Machine, IsLater, IsOnlyRead}
 use Rattle.g1_core.specs.Run.{IsStep}
 use Rattle.g1_core.specs.Pause.{IsDrainOf}
@@ -13,9 +12,6 @@ use Rattle.g1_core.specs.declared.reply.RefineReply.{RefineReply}
 use Rattle.g1_core.specs.declared.reply.ClearReply.{ClearReply}
 use Rattle.g1_core.specs.declared.reply.Redirected.{Redirected}
 use Rattle.g1_core.specs.declared.reply.Drained.{Drained}
-use Rattle.g1_core.specs.declared.reply.Drained.TheVariants as drained
-use Rattle.g1_handles.specs.declared.pause.Drain.{Drain}
-use Rattle.g1_handles.specs.declared.pause.Drain.TheVariants.{Whole, Short, Long}
 
 -- A refinement of these cards got the reply.
 pub record RefinesTo (old : Machine) (cards : List ℕ) (reply : RefineReply) (new : Machine) : Type 0 where
@@ -34,16 +30,9 @@ pub record DrainsTo (old : Machine) (region : ℕ) (answer : Drained) (new : Mac
   pub step : (caller : ℕ) → IsStep old.state.table (drain_entry caller region answer) new.state.table
   pub later : IsLater old new
 
-abbrev pub IsDrain : Machine → ℕ → Drain → Machine → Type 0
-IsDrain old region (Whole cards refined) new = DrainsTo old region (drained.Cards cards refined) new
-IsDrain old region (Short refined) new = DrainsTo old region (drained.Short refined) new
-IsDrain old region Long new = IsCovered new.state.table
-
--- The lists fit into arrays of these lengths.
-abbrev pub FitsIn : ℕ → ℕ → Drain → Type 0
-FitsIn room refined_room (Whole cards refined) = (length cards ≤ room) × (length cards ≤ 65536) × (length refined ≤ refined_room) × (length refined ≤ 65536)
-FitsIn room refined_room (Short refined) = (length refined ≤ refined_room) × (length refined ≤ 65536)
-FitsIn room refined_room Long = ⊤
+-- The cards fit into an array of this length, and C can be told how many they are.
+abbrev pub FitIn : ℕ → List ℕ → Type 0
+FitIn room cards = (length cards ≤ room) × (length cards ≤ 16777216)
 
 -- A clear of the region got the reply.
 pub record ClearsTo (old : Machine) (region : ℕ) (reply : ClearReply) (new : Machine) : Type 0 where

@@ -1,6 +1,7 @@
 //! Several stores by one call.
-ghost use Rattle.std.specs.Prelude.{◌≡◌, ◌<◌, ◌≤◌, true, false, length, take, IfOk, OnErr, IfSome, IfNone, MatchOption};
+ghost use Rattle.std.specs.Prelude.{◌≡◌, ◌<◌, ◌≤◌, true, false, length, take, IfOk, OnErr, IfErr, IfSome, IfNone, MatchOption};
 ghost use Rattle.g1_handles.specs.Codes.{Between, IsStoreOf};
+ghost use Rattle.g1_handles.specs.Refusals.{AreStoresRefused};
 ghost use Rattle.g1_handles.specs.Batch.{Made, made, made_all, cards_of, IsFaultAt};
 
 use crate::code::Refusal;
@@ -34,19 +35,29 @@ pub struct Stored {
     pub is_whole: bool,
 }
 
-/// Stores in order at the core of a handle, up to the first that names a slot or a place that the heap does not have.
-pub fn store_all_in(handle: Handle, words: (Global, &[Store])) -> (Handle, Result<Stored, Refusal>)
+/// Stores in order at the core of a handle, up to the first that names a slot or a place that the heap does not have, for an
+/// array of a length.
+pub fn store_all_in(
+    handle: Handle,
+    words: (Global, &[Store], usize),
+) -> (Handle, Result<Stored, Refusal>)
     ensures made { IfOk result.1 (λ answer. Between handle.value result.0.value (λ old new. record { machine = new; cards = answer.cards.items } ≡ made_all old (take answer.count words.entry.1.now))) }
     ensures whole { IfOk result.1 (λ answer. answer.is_whole ≡ true → answer.count ≡ length words.entry.1.now) }
     ensures stopped { IfOk result.1 (λ answer. answer.is_whole ≡ false → IfSome handle.value (λ old. IsFaultAt old.state.table.layout words.entry.1.now answer.count)) }
     ensures few { IfOk result.1 (λ answer. (length answer.cards.items ≤ answer.count) × (answer.count ≤ 256) × (answer.count ≤ length words.entry.1.now)) }
+    ensures room { IfOk result.1 (λ answer. length answer.cards.items ≤ words.entry.2) }
+    ensures why { IfErr result.1 (λ refusal.
+        AreStoresRefused handle.value (length words.entry.1.now) words.entry.2 refusal) }
     ensures refused { OnErr result.1 (result.0.value ≡ handle.value) }
 {
     let Some(core) = handle.into_raw_box() else {
         return (Handle::closed(words.0), Err(Refusal::NotOpen));
     };
     let mut core = core.into_box();
-    if words.1.len() > 256 {
+    if words.2 < words.1.len() {
+        return (Handle::of(RawBox::of(core)), Err(Refusal::NoRoom));
+    }
+    if 256 < words.1.len() {
         return (Handle::of(RawBox::of(core)), Err(Refusal::TooManyCards));
     }
     let stored = store_each(&mut core, words.1);

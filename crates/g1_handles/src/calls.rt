@@ -1,8 +1,9 @@
 //! Opening and closing a handle.
-ghost use Rattle.std.specs.Prelude.{◌≡◌, ◌<◌, Some, None, IfOk, IfSome, IsSome};
-ghost use Rattle.g1_layout.specs.Shape.{Shape};
+ghost use Rattle.std.specs.Prelude.{◌≡◌, ◌<◌, Some, None, IfOk, IfErr, OnOk, OnErr, SomeIff, IsSome};
 ghost use Rattle.g1_core.specs.Machine.{Machine, new_machine};
-ghost use Rattle.g1_handles.specs.Codes.{settings_of};
+ghost use Rattle.g1_core.specs.Settings.{AreSettings};
+ghost use Rattle.g1_handles.specs.Codes.{layout_of, settings_of};
+ghost use Rattle.g1_handles.specs.Refusals.{IsNewRefused};
 
 use crate::code::{DONE, Refusal};
 use crate::handle::Handle;
@@ -25,9 +26,12 @@ pub struct Counts {
 
 /// A core of its own on the heap.
 pub fn new_core(alloc: Global, counts: &Counts, hot: u32, ring: u32) -> Result<Box<Core>, Refusal>
-    ensures { IfOk result (λ core. core.value ≡ new_machine (record { regions = counts.now.regions; cards = counts.now.cards; slots = counts.now.slots }) (settings_of hot ring)) }
+    ensures new { IfOk result (λ core.
+        core.value ≡ new_machine (layout_of counts.now) (settings_of hot ring)) }
+    ensures why { IfErr result (λ refusal.
+        IsNewRefused (layout_of counts.now) (settings_of hot ring) refusal) }
 {
-    let Some(layout) = Layout::new(counts.regions, counts.cards, counts.slots) else {
+    let Some(layout) = Layout::large(counts.regions, counts.cards, counts.slots) else {
         return Err(Refusal::BadLayout);
     };
     let Some(config) = config(hot, ring) else {
@@ -44,7 +48,7 @@ pub fn new_core(alloc: Global, counts: &Counts, hot: u32, ring: u32) -> Result<B
 
 /// The settings of a core: these, and the defaults of the others.
 pub(crate) fn config(hot: u32, ring: u32) -> Option<Config>
-    ensures { IfSome result (λ config. config ≡ settings_of hot ring) }
+    ensures { SomeIff result (AreSettings (settings_of hot ring)) (settings_of hot ring) }
 {
     let log = Config::LOG.default as usize;
     let limit = Config::LIMIT.default as usize;
@@ -53,14 +57,15 @@ pub(crate) fn config(hot: u32, ring: u32) -> Option<Config>
 }
 
 /// Puts a core into a handle that is closed.
-pub fn open_in(handle: Handle, core: Box<Core>) -> (Handle, u32)
-    ensures new { result.1 ≡ 0 → result.0.value ≡ Some core.value }
-    ensures closed { result.1 ≡ 0 → handle.value ≡ None }
-    ensures refused { 0 < result.1 → result.0.value ≡ handle.value }
+pub fn open_in(handle: Handle, core: Box<Core>) -> (Handle, Result<(), Refusal>)
+    ensures new { OnOk result.1 ((handle.value ≡ None) × (result.0.value ≡ Some core.value)) }
+    ensures why { IfErr result.1 (λ refusal.
+        (refusal ≡ Refusal.AlreadyOpen) × IsSome handle.value) }
+    ensures refused { OnErr result.1 (result.0.value ≡ handle.value) }
 {
     match handle.into_raw_box() {
-        Some(kept) => (Handle::of(kept), Refusal::AlreadyOpen.word()),
-        None => (Handle::of(RawBox::of(core)), DONE),
+        Some(kept) => (Handle::of(kept), Err(Refusal::AlreadyOpen)),
+        None => (Handle::of(RawBox::of(core)), Ok(())),
     }
 }
 

@@ -1,10 +1,11 @@
 //! The clear.
-ghost use Rattle.std.specs.Prelude.{◌≡◌, ◌<◌, IfOk, OnErr};
+ghost use Rattle.std.specs.Prelude.{◌≡◌, ◌<◌, Some, IfOk, IfErr, OnErr};
 ghost use Rattle.g1_core.specs.Machine.{IsOnlyRead};
 ghost use Rattle.g1_handles.specs.Codes.{Between, cleared_of, IsClearWord};
+ghost use Rattle.g1_handles.specs.Refusals.{IsClearRefused};
 ghost use Rattle.g1_handles.specs.Replies.{ClearsTo, IsLeft};
 
-use crate::code::{DONE, Refusal, STILL_PENDING, STILL_REFERENCED};
+use crate::code::{DONE, Refusal};
 use crate::handle::Handle;
 use g1_core::{ClearReply, Core};
 use raw_box::RawBox;
@@ -15,6 +16,7 @@ pub fn clear_in(handle: Handle, words: (Global, u32)) -> (Handle, Result<(u32, u
     ensures cleared { IfOk result.1 (λ answer. Between handle.value result.0.value (λ old new. ClearsTo old words.1 (cleared_of answer.0 answer.1) new)) }
     ensures words { IfOk result.1 (λ answer. IsClearWord answer.0 answer.1) }
     ensures left { IfOk result.1 (λ answer. 0 < answer.0 → IsLeft handle.value result.0.value) }
+    ensures why { IfErr result.1 (λ refusal. IsClearRefused handle.value words.1 refusal) }
     ensures refused { OnErr result.1 (result.0.value ≡ handle.value) }
 {
     let Some(core) = handle.into_raw_box() else {
@@ -29,6 +31,7 @@ fn clear_one(core: &mut Core, region: u32) -> Result<(u32, u32), Refusal>
     ensures cleared { IfOk result (λ answer. ClearsTo core.old region (cleared_of answer.0 answer.1) core.new) }
     ensures words { IfOk result (λ answer. IsClearWord answer.0 answer.1) }
     ensures left { IfOk result (λ answer. 0 < answer.0 → IsOnlyRead core.old core.new) }
+    ensures why { IfErr result (λ refusal. IsClearRefused (Some core.old) region refusal) }
     ensures refused { OnErr result (core.new ≡ core.old) }
 {
     let layout = core.layout();
@@ -45,7 +48,7 @@ fn words_of(reply: ClearReply) -> (u32, u32)
 {
     match reply {
         ClearReply::Cleared => (DONE, 0),
-        ClearReply::Pending(count) => (STILL_PENDING, count),
-        ClearReply::StillReferenced(slot) => (STILL_REFERENCED, slot.number()),
+        ClearReply::Pending(count) => (Refusal::StillPending.word(), count),
+        ClearReply::StillReferenced(slot) => (Refusal::StillReferenced.word(), slot.number()),
     }
 }

@@ -1,7 +1,6 @@
 //! Lists of cards in the caller's arrays.
-ghost use Rattle.std.specs.Prelude.{◌≡◌, ◌≤◌, length, take, IsTrue};
+ghost use Rattle.std.specs.Prelude.{◌≡◌, ◌≤◌, length, take};
 
-use g1_core::CardList;
 use g1_layout::Card;
 
 /// Writes the numbers of the cards to the front of an array.
@@ -12,11 +11,4 @@ pub fn put(cards: &[Card], array: &mut [u32])
     for i in 0..cards.len() {
         array[i] = cards[i].number();
     }
-}
-
-/// Whether an array of this length has room for the list, whose length C can be told.
-pub(crate) fn fits(list: &CardList, room: usize) -> bool
-    ensures { IsTrue result → (length list.now ≤ room) × (length list.now ≤ 65536) }
-{
-    list.len() <= room && list.len() <= 65_536
 }

@@ -1,7 +1,8 @@
 //! The remembered set of a region, as it is recorded.
-ghost use Rattle.std.specs.Prelude.{◌≡◌, ◌≢◌, ◌<◌, IfOk, IfErr};
+ghost use Rattle.std.specs.Prelude.{◌≡◌, ◌<◌, Some, IfOk, IfErr};
 ghost use Rattle.g1_handles.specs.Codes.{OfOpen};
 ghost use Rattle.g1_handles.specs.Queries.{IsListed};
+ghost use Rattle.g1_handles.specs.Refusals.{AreMembersRefused};
 
 use crate::code::Refusal;
 use crate::handle::Handle;
@@ -21,7 +22,7 @@ pub enum Listed {
 /// The members of a region at the core of a handle, for an array of a length.
 pub fn members_in(handle: Handle, words: (Global, u32, usize)) -> (Handle, Result<Listed, Refusal>)
     ensures listed { IfOk result.1 (λ answer. OfOpen handle.value (λ machine. IsListed machine words.1 words.2 answer)) }
-    ensures refused { IfErr result.1 (λ refusal. refusal ≢ Refusal.NoRoom) }
+    ensures why { IfErr result.1 (λ refusal. AreMembersRefused handle.value words.1 refusal) }
     ensures same { result.0.value ≡ handle.value }
 {
     let Some(core) = handle.into_raw_box() else {
@@ -34,7 +35,7 @@ pub fn members_in(handle: Handle, words: (Global, u32, usize)) -> (Handle, Resul
 
 fn members_one(core: &Core, region: u32, room: usize) -> Result<Listed, Refusal>
     ensures listed { IfOk result (λ answer. IsListed core.now region room answer) }
-    ensures refused { IfErr result (λ refusal. refusal ≢ Refusal.NoRoom) }
+    ensures why { IfErr result (λ refusal. AreMembersRefused (Some core.now) region refusal) }
 {
     let layout = core.layout();
     let Some(region) = layout.region(region) else {

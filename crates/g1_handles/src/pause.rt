@@ -1,33 +1,26 @@
 //! The pause.
-ghost use Rattle.std.specs.Prelude.{◌≡◌, ◌<◌, IfOk, OnErr};
+ghost use Rattle.std.specs.Prelude.{◌≡◌, ◌<◌, Some, IfOk, IfErr, OnErr};
+ghost use Rattle.g1_core.specs.Calls.{drain_cards, drain_refined};
 ghost use Rattle.g1_handles.specs.Codes.{Between};
-ghost use Rattle.g1_handles.specs.Replies.{IsDrain, FitsIn};
+ghost use Rattle.g1_handles.specs.Refusals.{IsDrainRefused};
+ghost use Rattle.g1_handles.specs.Replies.{DrainsTo, FitIn};
 
 use crate::code::Refusal;
 use crate::handle::Handle;
-use crate::list::fits;
-use g1_core::{CardList, Core, Drained};
+use g1_core::{Core, Drained};
 use raw_box::RawBox;
 use std::alloc::Global;
-
-/// What a drain gives to C.
-#[derive(Drop)]
-pub enum Drain {
-    /// Nothing is pending: the set of the region, and which cards were refined.
-    Whole(CardList, CardList),
-    /// A growth was refused after just these cards were refined.
-    Short(CardList),
-    /// A list is longer than its array. The array has room for every card of the heap, but no clause rules this out.
-    Long,
-}
 
 /// The drain of a region at the core of a handle, for arrays of these lengths.
 pub fn drain_in(
     handle: Handle,
     words: (Global, u32, usize, usize),
-) -> (Handle, Result<Drain, Refusal>)
-    ensures drained { IfOk result.1 (λ answer. Between handle.value result.0.value (λ old new. IsDrain old words.1 answer new)) }
-    ensures room { IfOk result.1 (λ answer. FitsIn words.2 words.3 answer) }
+) -> (Handle, Result<Drained, Refusal>)
+    ensures drained { IfOk result.1 (λ answer. Between handle.value result.0.value (λ old new. DrainsTo old words.1 answer new)) }
+    ensures cards { IfOk result.1 (λ answer. FitIn words.2 (drain_cards answer)) }
+    ensures refined { IfOk result.1 (λ answer. FitIn words.3 (drain_refined answer)) }
+    ensures why { IfErr result.1 (λ refusal.
+        IsDrainRefused handle.value words.1 words.2 words.3 refusal) }
     ensures refused { OnErr result.1 (result.0.value ≡ handle.value) }
 {
     let Some(core) = handle.into_raw_box() else {
@@ -43,9 +36,12 @@ fn drain_one(
     region: u32,
     room: usize,
     refined_room: usize,
-) -> Result<Drain, Refusal>
-    ensures drained { IfOk result (λ answer. IsDrain core.old region answer core.new) }
-    ensures room { IfOk result (λ answer. FitsIn room refined_room answer) }
+) -> Result<Drained, Refusal>
+    ensures drained { IfOk result (λ answer. DrainsTo core.old region answer core.new) }
+    ensures cards { IfOk result (λ answer. FitIn room (drain_cards answer)) }
+    ensures refined { IfOk result (λ answer. FitIn refined_room (drain_refined answer)) }
+    ensures why { IfErr result (λ refusal.
+        IsDrainRefused (Some core.old) region room refined_room refusal) }
     ensures refused { OnErr result (core.new ≡ core.old) }
 {
     let layout = core.layout();
@@ -53,22 +49,14 @@ fn drain_one(
         return Err(Refusal::NoRegion);
     };
     let most = layout.card_count() as usize;
-    if room < most || refined_room < most {
+    if room < most {
+        return Err(Refusal::NoRoom);
+    }
+    if refined_room < most {
         return Err(Refusal::NoRoom);
     }
     match core.drain(region) {
+        Ok(answer) => Ok(answer),
         Err(_) => Err(Refusal::NoMemory),
-        Ok(Drained::Short { refined }) => {
-            if !fits(&refined, refined_room) {
-                return Ok(Drain::Long);
-            }
-            Ok(Drain::Short(refined))
-        }
-        Ok(Drained::Cards { cards, refined }) => {
-            if !fits(&cards, room) || !fits(&refined, refined_room) {
-                return Ok(Drain::Long);
-            }
-            Ok(Drain::Whole(cards, refined))
-        }
     }
 }

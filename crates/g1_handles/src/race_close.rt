@@ -5,7 +5,7 @@ ghost use Rattle.g1_race.specs.declared.race.Race.{Race};
 ghost use Rattle.g1_race.specs.Members.{race_id, racer_race, sweeper_race, racer_view, sweeper_view};
 ghost use Rattle.g1_handles.specs.Racing.{held, AreClosed, AreOfOneRace, IfRacerOf, IfSweeperOf, IsClosedOf, OfOver, known_to};
 
-use crate::code::{BAD_MEMBERS, DONE, LOST, OTHER_ROLE, Refusal};
+use crate::code::{DONE, Refusal};
 use crate::member::{Member, Racing, Sweeping};
 use crate::member_handle::MemberHandle;
 use crate::over_handle::{OverHandle, Remains};
@@ -29,7 +29,7 @@ pub fn close_race(
     ensures refused { 0 < result → result ≢ 24 → (held racers.new ≡ held racers.old) × (held sweepers.new ≡ held sweepers.old) × (over.new.value ≡ over.old.value) }
 {
     if !are_counts(racers.len(), sweepers.len()) {
-        return BAD_MEMBERS;
+        return Refusal::BadMembers.word();
     }
     let members = racers.len() + sweepers.len();
     if let Err(word) = look_at(alloc, racers, Role::Racer, members) {
@@ -72,10 +72,10 @@ fn look_at(
             return Err(Refusal::NotOpen.word());
         };
         if found != role {
-            return Err(OTHER_ROLE);
+            return Err(Refusal::OtherRole.word());
         }
         if count != members {
-            return Err(BAD_MEMBERS);
+            return Err(Refusal::BadMembers.word());
         }
     }
     Ok(())
@@ -133,16 +133,16 @@ fn close_all(
         return Err(Refusal::NoMemory.word());
     };
     let Some((gone_racers, share)) = gather_racers(alloc, racers, racer_room) else {
-        return Err(LOST);
+        return Err(Refusal::Lost.word());
     };
     let Some(gone_sweepers) = gather_sweepers(alloc, sweepers, sweeper_room) else {
-        return Err(LOST);
+        return Err(Refusal::Lost.word());
     };
     let Ok(race) = Arc::try_unwrap(share) else {
-        return Err(LOST);
+        return Err(Refusal::Lost.word());
     };
     if gone_racers.len() + gone_sweepers.len() != race.members() {
-        return Err(LOST);
+        return Err(Refusal::Lost.word());
     }
     *remains = Remains::Over(race.close(gone_racers, gone_sweepers));
     Ok(remains)

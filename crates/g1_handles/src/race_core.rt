@@ -27,13 +27,13 @@ pub fn open_core(
 {
     match replace_with(over, (alloc, hot, ring), core_in) {
         Err(refusal) => refusal.word(),
-        Ok(core) => {
-            let word = replace_with(handle, core, open_in);
-            if word == DONE {
+        Ok(core) => match replace_with(handle, core, open_in) {
+            Err(refusal) => refusal.word(),
+            Ok(()) => {
                 replace_with(over, alloc, close_in);
+                DONE
             }
-            word
-        }
+        },
     }
 }
 

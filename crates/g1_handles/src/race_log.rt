@@ -2,7 +2,7 @@
 ghost use Rattle.std.specs.Prelude.{◌≡◌, ◌<◌, Some, IfOk, IfErr, IsOk, OnErr};
 ghost use Rattle.g1_handles.specs.Racing.{OfRacer, IfRacer, TakesLog};
 
-use crate::code::{OTHER_ROLE, Refusal};
+use crate::code::Refusal;
 use crate::member::Member;
 use crate::member_handle::MemberHandle;
 use arrayvec::ArrayVec;
@@ -38,7 +38,7 @@ fn take_of(member: &mut Member) -> Result<ArrayVec<Card, LOG>, u32>
     ensures refused { OnErr result (member.new ≡ member.old) }
 {
     let Member::Racer(racing) = member else {
-        return Err(OTHER_ROLE);
+        return Err(Refusal::OtherRole.word());
     };
     Ok(racing.racer.take_log())
 }

@@ -1,11 +1,12 @@
 //! How a race begins, and how a member's handle is closed without its race.
-ghost use Rattle.std.specs.Prelude.{◌≡◌, ◌<◌, None, IsSome};
-ghost use Rattle.g1_layout.specs.Shape.{Shape};
+ghost use Rattle.std.specs.Prelude.{◌≡◌, ◌<◌, None, IsSome, IfErr, OnOk, OnErr};
 ghost use Rattle.g1_core.specs.Table.{opening};
+ghost use Rattle.g1_handles.specs.Codes.{layout_of};
 ghost use Rattle.g1_handles.specs.Racing.{held, AreClosed, IsBegunFor};
+ghost use Rattle.g1_handles.specs.Refusals.{IsRaceRefused};
 
 use crate::calls::Counts;
-use crate::code::{BAD_MEMBERS, DONE, Refusal};
+use crate::code::{DONE, Refusal};
 use crate::member_handle::MemberHandle;
 use crate::seats::{are_closed, are_counts, seat};
 use core::mem::replace_with;
@@ -19,19 +20,25 @@ pub fn open_race(
     counts: &Counts,
     racers: &mut [MemberHandle],
     sweepers: &mut [MemberHandle],
-) -> u32
-    ensures opened { let l : Shape = record { regions = counts.now.regions; cards = counts.now.cards; slots = counts.now.slots } in result ≡ 0 → IsBegunFor (opening l) (held racers.new) (held sweepers.new) }
-    ensures closed { result ≡ 0 → AreClosed (held racers.old) × AreClosed (held sweepers.old) }
-    ensures refused { 0 < result → (held racers.new ≡ held racers.old) × (held sweepers.new ≡ held sweepers.old) }
+) -> Result<(), Refusal>
+    ensures opened { OnOk result
+        (IsBegunFor (opening (layout_of counts.now)) (held racers.new) (held sweepers.new)) }
+    ensures closed { OnOk result (AreClosed (held racers.old) × AreClosed (held sweepers.old)) }
+    ensures why { IfErr result (λ refusal.
+        IsRaceRefused (layout_of counts.now) racers.old sweepers.old refusal) }
+    ensures refused { OnErr result ((held racers.new ≡ held racers.old) × (held sweepers.new ≡ held sweepers.old)) }
 {
     if !are_counts(racers.len(), sweepers.len()) {
-        return BAD_MEMBERS;
+        return Err(Refusal::BadMembers);
     }
-    if !are_closed(alloc, racers) || !are_closed(alloc, sweepers) {
-        return Refusal::AlreadyOpen.word();
+    if !are_closed(alloc, racers) {
+        return Err(Refusal::AlreadyOpen);
     }
-    let Some(layout) = Layout::new(counts.regions, counts.cards, counts.slots) else {
-        return Refusal::BadLayout.word();
+    if !are_closed(alloc, sweepers) {
+        return Err(Refusal::AlreadyOpen);
+    }
+    let Some(layout) = Layout::large(counts.regions, counts.cards, counts.slots) else {
+        return Err(Refusal::BadLayout);
     };
     let Ok((race, new_racers, new_sweepers)) = Race::open(
         alloc,
@@ -39,11 +46,11 @@ pub fn open_race(
         racers.len() as u32,
         sweepers.len() as u32,
     ) else {
-        return Refusal::NoMemory.word();
+        return Err(Refusal::NoMemory);
     };
     match seat(alloc, race, new_racers, new_sweepers, racers, sweepers) {
-        Ok(()) => DONE,
-        Err(refusal) => refusal.word(),
+        Ok(()) => Ok(()),
+        Err(_) => Err(Refusal::NoMemory),
     }
 }
 

@@ -1,10 +1,10 @@
 //! Refinement in a race.
-ghost use Rattle.std.specs.Prelude.{◌≡◌, ◌<◌, ◌≤◌, Some};
+ghost use Rattle.std.specs.Prelude.{◌≡◌, ◌<◌, Some};
 ghost use Rattle.g1_layout.specs.Shape.{card_count};
 ghost use Rattle.g1_race.specs.Members.{race_layout};
-ghost use Rattle.g1_handles.specs.Racing.{OfSweeper, IfSweeper, Sweeps, IsSameSweeper, sweeper_race_of};
+ghost use Rattle.g1_handles.specs.Racing.{OfSweeper, IfSweeper, Sweeps, sweeper_race_of};
 
-use crate::code::{DONE, OTHER_ROLE, Refusal, SHORT};
+use crate::code::{DONE, Refusal};
 use crate::member::{Member, Sweeping};
 use crate::member_handle::MemberHandle;
 use raw_box::RawBox;
@@ -13,9 +13,8 @@ use std::alloc::Global;
 /// The refinement of a card by the sweeper of a handle, which stays open.
 pub fn refine_in(member: MemberHandle, words: (Global, u32)) -> (MemberHandle, u32)
     ensures refined { result.1 ≡ 0 → OfSweeper member.value (λ a. OfSweeper result.0.value (λ b. Sweeps a words.1 b)) }
-    ensures short { result.1 ≡ 1 → OfSweeper member.value (λ a. OfSweeper result.0.value (λ b. IsSameSweeper a b)) }
-    ensures taken { IfSweeper member.value (λ a. words.1 < card_count (race_layout (sweeper_race_of a)) → result.1 ≤ 1) }
-    ensures refused { 1 < result.1 → result.0.value ≡ member.value }
+    ensures taken { IfSweeper member.value (λ a. words.1 < card_count (race_layout (sweeper_race_of a)) → result.1 ≡ 0) }
+    ensures refused { 0 < result.1 → result.0.value ≡ member.value }
 {
     let Some(member) = member.into_raw_box() else {
         return (MemberHandle::closed(words.0), Refusal::NotOpen.word());
@@ -27,27 +26,25 @@ pub fn refine_in(member: MemberHandle, words: (Global, u32)) -> (MemberHandle, u
 
 fn refine_of(member: &mut Member, card: u32) -> u32
     ensures refined { result ≡ 0 → OfSweeper (Some member.old) (λ a. OfSweeper (Some member.new) (λ b. Sweeps a card b)) }
-    ensures short { result ≡ 1 → OfSweeper (Some member.old) (λ a. OfSweeper (Some member.new) (λ b. IsSameSweeper a b)) }
-    ensures taken { IfSweeper (Some member.old) (λ a. card < card_count (race_layout (sweeper_race_of a)) → result ≤ 1) }
-    ensures refused { 1 < result → member.new ≡ member.old }
+    ensures taken { IfSweeper (Some member.old) (λ a. card < card_count (race_layout (sweeper_race_of a)) → result ≡ 0) }
+    ensures refused { 0 < result → member.new ≡ member.old }
 {
     let Member::Sweeper(sweeping) = member else {
-        return OTHER_ROLE;
+        return Refusal::OtherRole.word();
     };
     refine_by(sweeping, card)
 }
 
 fn refine_by(sweeping: &mut Sweeping, card: u32) -> u32
     ensures refined { result ≡ 0 → Sweeps sweeping.old card sweeping.new }
-    ensures short { result ≡ 1 → IsSameSweeper sweeping.old sweeping.new }
-    ensures taken { card < card_count (race_layout (sweeper_race_of sweeping.old)) → result ≤ 1 }
-    ensures refused { 1 < result → sweeping.new ≡ sweeping.old }
+    ensures taken { card < card_count (race_layout (sweeper_race_of sweeping.old)) → result ≡ 0 }
+    ensures refused { 0 < result → sweeping.new ≡ sweeping.old }
 {
     let Some(card) = sweeping.race.layout().card(card) else {
         return Refusal::NoCard.word();
     };
-    match sweeping.sweeper.refine(&sweeping.race, card) {
-        Ok(()) => DONE,
-        Err(_) => SHORT,
-    }
+    let Ok(()) = sweeping.sweeper.refine(&sweeping.race, card) else {
+        unreachable!()
+    };
+    DONE
 }

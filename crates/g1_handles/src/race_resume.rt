@@ -1,12 +1,11 @@
 //! A core becomes a race.
 ghost use Rattle.std.specs.Prelude.{◌≡◌, ◌<◌, ◌≤◌, None, IfOk};
-ghost use Rattle.g1_race.specs.Drain.{began};
-ghost use Rattle.g1_race.specs.Members.{race_layout, race_begun, AreFreshRacers, AreFreshSweepers};
+ghost use Rattle.g1_race.specs.Members.{AreFreshRacers, AreFreshSweepers, HaveBegunWith};
 ghost use Rattle.g1_handles.specs.Codes.{OfOpen};
 ghost use Rattle.g1_handles.specs.Racing.{held, AreClosed, IsBegunFor, IsAsBefore};
 
 use crate::calls::close_in;
-use crate::code::{BAD_MEMBERS, DONE, Refusal};
+use crate::code::{DONE, Refusal};
 use crate::handle::Handle;
 use crate::member_handle::MemberHandle;
 use crate::seats::{are_closed, are_counts, seat};
@@ -27,7 +26,7 @@ pub fn resume_race(
     ensures refused { 0 < result → IsAsBefore handle.old.value handle.new.value × (held racers.new ≡ held racers.old) × (held sweepers.new ≡ held sweepers.old) }
 {
     if !are_counts(racers.len(), sweepers.len()) {
-        return BAD_MEMBERS;
+        return Refusal::BadMembers.word();
     }
     if !are_closed(alloc, racers) || !are_closed(alloc, sweepers) {
         return Refusal::AlreadyOpen.word();
@@ -37,7 +36,7 @@ pub fn resume_race(
         Err(refusal) => refusal.word(),
         Ok((race, new_racers, new_sweepers)) => {
             match seat(alloc, race, new_racers, new_sweepers, racers, sweepers) {
-                Err(refusal) => refusal.word(),
+                Err(_) => Refusal::NoMemory.word(),
                 Ok(()) => {
                     replace_with(handle, alloc, close_in);
                     DONE
@@ -54,7 +53,7 @@ fn begin_in(
 ) -> (Handle, Result<(Race, Vec<Racer>, Vec<Sweeper>), Refusal>)
     requires racers { (1 ≤ words.1) × (words.1 ≤ 8) }
     requires sweepers { (1 ≤ words.2) × (words.2 ≤ 4) }
-    ensures began { IfOk result.1 (λ r. OfOpen handle.value (λ core. began (race_layout r.0) (race_begun r.0) ≡ core.state.table)) }
+    ensures began { IfOk result.1 (λ r. OfOpen handle.value (λ core. HaveBegunWith core.state.table r.0 r.1 r.2)) }
     ensures racers { IfOk result.1 (λ r. AreFreshRacers r.0 words.1 r.1) }
     ensures sweepers { IfOk result.1 (λ r. AreFreshSweepers r.0 words.2 r.2) }
     ensures same { IsAsBefore handle.value result.0.value }

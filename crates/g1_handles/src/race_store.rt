@@ -5,7 +5,7 @@ ghost use Rattle.g1_race.specs.Members.{race_layout};
 ghost use Rattle.g1_handles.specs.Codes.{IsStoreOf};
 ghost use Rattle.g1_handles.specs.Racing.{OfRacer, IfRacer, StoresWord, racer_race_of};
 
-use crate::code::{LOG_FULL, OTHER_ROLE, Refusal, kind_word};
+use crate::code::{Refusal, kind_word};
 use crate::member::{Member, Racing};
 use crate::member_handle::MemberHandle;
 use crate::store::reference;
@@ -32,7 +32,7 @@ fn store_of(member: &mut Member, slot: u32, target: u32) -> u32
     ensures refused { 3 < result → member.new ≡ member.old }
 {
     let Member::Racer(racing) = member else {
-        return OTHER_ROLE;
+        return Refusal::OtherRole.word();
     };
     store_by(racing, slot, target)
 }
@@ -43,7 +43,7 @@ fn store_by(racing: &mut Racing, slot: u32, target: u32) -> u32
     ensures refused { 3 < result → racing.new ≡ racing.old }
 {
     if !racing.racer.has_room() {
-        return LOG_FULL;
+        return Refusal::LogFull.word();
     }
     let layout = racing.race.layout();
     let Some(slot) = layout.slot(slot) else {

@@ -1,8 +1,9 @@
 //! The redirect.
-ghost use Rattle.std.specs.Prelude.{◌≡◌, ◌<◌, ◌≤◌, length, IfOk, OnErr};
+ghost use Rattle.std.specs.Prelude.{◌≡◌, ◌<◌, Some, IfOk, IfErr, OnErr};
 ghost use Rattle.g1_core.specs.Calls.{redirect_refined};
 ghost use Rattle.g1_handles.specs.Codes.{Between};
-ghost use Rattle.g1_handles.specs.Replies.{RedirectsTo};
+ghost use Rattle.g1_handles.specs.Refusals.{IsRedirectRefused};
+ghost use Rattle.g1_handles.specs.Replies.{RedirectsTo, FitIn};
 
 use crate::code::Refusal;
 use crate::handle::Handle;
@@ -16,8 +17,9 @@ pub fn redirect_in(
     words: (Global, u32, u32, usize),
 ) -> (Handle, Result<Redirected, Refusal>)
     ensures redirected { IfOk result.1 (λ answer. Between handle.value result.0.value (λ old new. RedirectsTo old words.1 words.2 answer new)) }
-    ensures room { IfOk result.1 (λ answer. length (redirect_refined answer) ≤ words.3) }
-    ensures few { IfOk result.1 (λ answer. length (redirect_refined answer) ≤ 65536) }
+    ensures refined { IfOk result.1 (λ answer. FitIn words.3 (redirect_refined answer)) }
+    ensures why { IfErr result.1 (λ refusal.
+        IsRedirectRefused handle.value words.1 words.2 words.3 refusal) }
     ensures refused { OnErr result.1 (result.0.value ≡ handle.value) }
 {
     let Some(core) = handle.into_raw_box() else {
@@ -30,8 +32,8 @@ pub fn redirect_in(
 
 fn redirect_one(core: &mut Core, from: u32, to: u32, room: usize) -> Result<Redirected, Refusal>
     ensures redirected { IfOk result (λ answer. RedirectsTo core.old from to answer core.new) }
-    ensures room { IfOk result (λ answer. length (redirect_refined answer) ≤ room) }
-    ensures few { IfOk result (λ answer. length (redirect_refined answer) ≤ 65536) }
+    ensures refined { IfOk result (λ answer. FitIn room (redirect_refined answer)) }
+    ensures why { IfErr result (λ refusal. IsRedirectRefused (Some core.old) from to room refusal) }
     ensures refused { OnErr result (core.new ≡ core.old) }
 {
     let layout = core.layout();
@@ -48,7 +50,7 @@ fn redirect_one(core: &mut Core, from: u32, to: u32, room: usize) -> Result<Redi
         return Err(Refusal::NoRoom);
     }
     match core.redirect(from, to) {
-        Err(_) => Err(Refusal::NoMemory),
         Ok(answer) => Ok(answer),
+        Err(_) => Err(Refusal::NoMemory),
     }
 }

@@ -1,6 +1,8 @@
 //! Refinement.
-ghost use Rattle.std.specs.Prelude.{◌≡◌, ◌<◌, ◌≤◌, length, false, true, if◌then◌else◌, IfOk, OnErr};
+ghost use Rattle.std.specs.Prelude.{◌≡◌, ◌<◌, ◌≤◌, length, false, true, if◌then◌else◌, All, Some, IfSome, IfNone, IfOk, IfErr, OnErr};
+ghost use Rattle.g1_layout.specs.Shape.{card_count};
 ghost use Rattle.g1_handles.specs.Codes.{Between};
+ghost use Rattle.g1_handles.specs.Refusals.{IsRefinementRefused};
 ghost use Rattle.g1_handles.specs.Replies.{RefinesTo, reply_of};
 
 use crate::code::{DONE, Refusal, SHORT};
@@ -17,53 +19,63 @@ pub fn word_of(reply: &RefineReply) -> u32
     requires taken { reply.now.taken ≡ (if reply.now.short then 0 else 1) }
     requires left { reply.now.left ≡ 0 }
     ensures reply { reply.now ≡ reply_of result reply.now.refined reply.now.hot reply.now.skipped }
-    ensures few { result ≤ 3 }
+    ensures few { result ≤ 1 }
 {
     if reply.short { SHORT } else { DONE }
 }
 
-/// The refinement of some cards at the core of a handle.
-pub fn refine_in(handle: Handle, words: (Global, &[u32])) -> (Handle, Result<RefineReply, Refusal>)
+/// The refinement of some cards at the core of a handle, for an array of a length.
+pub fn refine_in(
+    handle: Handle,
+    words: (Global, &[u32], usize),
+) -> (Handle, Result<RefineReply, Refusal>)
     ensures refined { IfOk result.1 (λ reply. Between handle.value result.0.value (λ old new. RefinesTo old words.entry.1.now reply new)) }
     ensures taken { IfOk result.1 (λ reply. (reply.taken ≡ (if reply.short then 0 else 1)) × (reply.left ≡ 0)) }
-    ensures few { IfOk result.1 (λ reply. (length reply.refined ≤ length words.entry.1.now) × (length reply.refined ≤ 256)) }
+    ensures few { IfOk result.1 (λ reply. (length reply.refined ≤ words.entry.2) × (length reply.refined ≤ 256)) }
+    ensures why { IfErr result.1 (λ refusal.
+        IsRefinementRefused handle.value words.entry.1.now words.entry.2 refusal) }
     ensures refused { OnErr result.1 (result.0.value ≡ handle.value) }
 {
     let Some(core) = handle.into_raw_box() else {
         return (Handle::closed(words.0), Err(Refusal::NotOpen));
     };
     let mut core = core.into_box();
-    let answer = refine_one(&mut core, words.1);
+    let answer = refine_one(&mut core, words.1, words.2);
     (Handle::of(RawBox::of(core)), answer)
 }
 
-fn refine_one(core: &mut Core, cards: &[u32]) -> Result<RefineReply, Refusal>
+fn refine_one(core: &mut Core, cards: &[u32], room: usize) -> Result<RefineReply, Refusal>
     ensures refined { IfOk result (λ reply. RefinesTo core.old cards.now reply core.new) }
     ensures taken { IfOk result (λ reply. (reply.taken ≡ (if reply.short then 0 else 1)) × (reply.left ≡ 0)) }
-    ensures few { IfOk result (λ reply. (length reply.refined ≤ length cards.now) × (length reply.refined ≤ 256)) }
+    ensures few { IfOk result (λ reply. (length reply.refined ≤ room) × (length reply.refined ≤ 256)) }
+    ensures why { IfErr result (λ refusal.
+        IsRefinementRefused (Some core.old) cards.now room refusal) }
     ensures refused { OnErr result (core.new ≡ core.old) }
 {
-    let buffer = buffer_of(core.layout(), cards)?;
+    if room < cards.len() {
+        return Err(Refusal::NoRoom);
+    }
+    if 256 < cards.len() {
+        return Err(Refusal::TooManyCards);
+    }
+    let Some(buffer) = buffer_of(core.layout(), cards) else {
+        return Err(Refusal::NoCard);
+    };
     match core.refine(Some(&buffer)) {
         Ok(reply) => Ok(reply),
         Err(_) => Err(Refusal::NoMemory),
     }
 }
 
-/// The cards of these numbers.
-fn buffer_of(layout: Layout, cards: &[u32]) -> Result<Buffer, Refusal>
-    ensures cards { IfOk result (λ buffer. buffer ≡ cards.now) }
-    ensures few { IfOk result (λ buffer. length buffer ≤ 256) }
+/// The cards of these numbers, or `None` where the heap lacks one of them.
+fn buffer_of(layout: Layout, cards: &[u32]) -> Option<Buffer>
+    requires { length cards.now ≤ 256 }
+    ensures cards { IfSome result (λ buffer. buffer ≡ cards.now) }
+    ensures none { IfNone result (All (λ card. card < card_count layout) cards.now → ⊥) }
 {
     let mut list: ArrayVec<Card, 256> = ArrayVec::new();
     for i in 0..cards.len() {
-        let Some(card) = layout.card(cards[i]) else {
-            return Err(Refusal::NoCard);
-        };
-        if list.is_full() {
-            return Err(Refusal::TooManyCards);
-        }
-        list.push(card);
+        list.push(layout.card(cards[i])?);
     }
-    Ok(Buffer::of(list))
+    Some(Buffer::of(list))
 }

@@ -2,13 +2,14 @@
 ghost use Rattle.std.specs.Prelude.{◌≡◌, ◌≤◌, Bool, true, false, Some, None, length, All, IsTrue, IfOk, OnOk, OnErr, vec_len};
 ghost use Rattle.std.specs.Arc.{arc_value};
 ghost use Rattle.g1_race.specs.declared.race.Race.{Race};
-ghost use Rattle.g1_race.specs.Members.{IsFreshRacer, IsFreshSweeper};
-ghost use Rattle.g1_handles.specs.Racing.{held, AreClosed, AreSeated, IsFresh};
+ghost use Rattle.g1_race.specs.Begin.{Start};
+ghost use Rattle.g1_race.specs.Members.{racer_start, sweeper_start, HaveBegun, IsFreshRacer, IsFreshSweeper};
+ghost use Rattle.g1_handles.specs.Racing.{held, AreClosed, AreCounts, AreSeated, IsFresh};
 
-use crate::code::Refusal;
 use crate::member::{Member, Racing, Sweeping};
 use crate::member_handle::MemberHandle;
 use core::mem::replace_with;
+use g1_layout::NoMemory;
 use g1_race::{Race, Racer, Sweeper};
 use raw_box::RawBox;
 use std::alloc::Global;
@@ -16,7 +17,8 @@ use std::sync::Arc;
 
 /// Whether a race can have this many racers and sweepers.
 pub(crate) fn are_counts(racers: usize, sweepers: usize) -> bool
-    ensures { IsTrue result → (1 ≤ racers) × (racers ≤ 8) × (1 ≤ sweepers) × (sweepers ≤ 4) }
+    ensures some { IsTrue result → AreCounts racers sweepers }
+    ensures none { AreCounts racers sweepers → IsTrue result }
 {
     1 <= racers && racers <= 8 && 1 <= sweepers && sweepers <= 4
 }
@@ -25,6 +27,7 @@ pub(crate) fn are_counts(racers: usize, sweepers: usize) -> bool
 pub(crate) fn are_closed(alloc: Global, handles: &mut [MemberHandle]) -> bool
     ensures same { held handles.new ≡ held handles.old }
     ensures closed { IsTrue result → AreClosed (held handles.old) }
+    ensures open { AreClosed (held handles.old) → IsTrue result }
 {
     for i in 0..handles.len() {
         if !replace_with(&mut handles[i], alloc, is_closed) {
@@ -37,6 +40,7 @@ pub(crate) fn are_closed(alloc: Global, handles: &mut [MemberHandle]) -> bool
 fn is_closed(handle: MemberHandle, alloc: Global) -> (MemberHandle, bool)
     ensures same { result.0.value ≡ handle.value }
     ensures closed { IsTrue result.1 → handle.value ≡ None }
+    ensures open { handle.value ≡ None → IsTrue result.1 }
 {
     match handle.into_raw_box() {
         None => (MemberHandle::closed(alloc), true),
@@ -52,10 +56,11 @@ pub(crate) fn seat(
     new_sweepers: Vec<Sweeper>,
     racers: &mut [MemberHandle],
     sweepers: &mut [MemberHandle],
-) -> Result<(), Refusal>
+) -> Result<(), NoMemory>
     requires racers { (vec_len new_racers ≡ length racers.old) × All (IsFreshRacer race.table.shared.table_id race.shape) new_racers.items }
     requires sweepers { (vec_len new_sweepers ≡ length sweepers.old) × All (IsFreshSweeper race.table.shared.table_id race.shape) new_sweepers.items }
-    ensures seated { OnOk result (AreSeated race (held racers.new) (held sweepers.new)) }
+    ensures seated { OnOk result ((begin : Start) → HaveBegun begin new_racers new_sweepers →
+        AreSeated race begin (held racers.new) (held sweepers.new)) }
     ensures refused { OnErr result ((held racers.new ≡ held racers.old) × (held sweepers.new ≡ held sweepers.old)) }
 {
     let race = Arc::new(alloc, race)?;
@@ -71,10 +76,11 @@ fn racing(
     alloc: Global,
     race: &Arc<Race, Global>,
     mut racers: Vec<Racer>,
-) -> Result<Vec<Box<Member>>, Refusal>
+) -> Result<Vec<Box<Member>>, NoMemory>
     requires { All (IsFreshRacer (arc_value race.now).table.shared.table_id (arc_value race.now).shape) racers.items }
     ensures count { IfOk result (λ members. vec_len members ≡ vec_len racers) }
-    ensures fresh { IfOk result (λ members. All (λ m. IsFresh (arc_value race.now) true (Some m.value)) members.items) }
+    ensures fresh { IfOk result (λ members. (begin : Start) → All (λ r. racer_start r ≡ begin) racers.items →
+        All (λ m. IsFresh (arc_value race.now) begin true (Some m.value)) members.items) }
 {
     let mut members = Vec::new(alloc);
     while let Some(racer) = racers.pop() {
@@ -97,10 +103,11 @@ fn sweeping(
     alloc: Global,
     race: &Arc<Race, Global>,
     mut sweepers: Vec<Sweeper>,
-) -> Result<Vec<Box<Member>>, Refusal>
+) -> Result<Vec<Box<Member>>, NoMemory>
     requires { All (IsFreshSweeper (arc_value race.now).table.shared.table_id (arc_value race.now).shape) sweepers.items }
     ensures count { IfOk result (λ members. vec_len members ≡ vec_len sweepers) }
-    ensures fresh { IfOk result (λ members. All (λ m. IsFresh (arc_value race.now) false (Some m.value)) members.items) }
+    ensures fresh { IfOk result (λ members. (begin : Start) → All (λ w. sweeper_start w ≡ begin) sweepers.items →
+        All (λ m. IsFresh (arc_value race.now) begin false (Some m.value)) members.items) }
 {
     let mut members = Vec::new(alloc);
     while let Some(sweeper) = sweepers.pop() {
@@ -114,7 +121,9 @@ fn sweeping(
 /// Gives each handle a member.
 fn hand_out(handles: &mut [MemberHandle], mut members: Vec<Box<Member>>)
     requires { vec_len members ≡ length handles.old }
-    ensures { (race : Race) (racer : Bool) → All (λ m. IsFresh race racer (Some m.value)) members.items → All (IsFresh race racer) (held handles.new) }
+    ensures { (race : Race) (begin : Start) (racer : Bool) →
+        All (λ m. IsFresh race begin racer (Some m.value)) members.items →
+        All (IsFresh race begin racer) (held handles.new) }
 {
     for i in 0..handles.len() {
         let Some(member) = members.pop() else {

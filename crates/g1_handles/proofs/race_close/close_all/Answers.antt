@@ -33,9 +33,6 @@ returns-clause-over c race rs ws =
     let vs : map sweeper_view c.in-Some-gather_sweepers.gone_sweepers.items ≡ map known_to (held c.args.sweepers.now) = c.in-Some-gather_sweepers.ensures.views in
     record {
       layout = c.close.ensures.layout ∙ ap race_layout same;
-      pairs = subst (λ (l : List View). (x : ℕ × ℕ) → Contains e.pairs x ↔ IsKnown (race_begun race) l x) vs
-          (subst (λ (r : Race). (x : ℕ × ℕ) → Contains e.pairs x ↔ IsKnown (race_begun r) (map sweeper_view c.in-Some-gather_sweepers.gone_sweepers.items) x) same c.close.ensures.pairs);
-      over = subst (λ (l : List View). IsOver (race_begun race) e.words (map known_to (held c.args.racers.now)) l) vs
-          (subst (λ (l : List View). IsOver (race_begun race) e.words l (map sweeper_view c.in-Some-gather_sweepers.gone_sweepers.items)) us
-          (subst (λ (r : Race). IsOver (race_begun r) e.words (map racer_view c.in-Some.gone_racers.items) (map sweeper_view c.in-Some-gather_sweepers.gone_sweepers.items)) same c.close.ensures.over));
+      pairs = subst (λ (a : Race × List View × List View). (x : ℕ × ℕ) → Contains e.pairs x ↔ IsKnown (race_begun a.0 a.1 a.2) a.2 x) (λ i. (same i, us i, vs i)) c.close.ensures.pairs;
+      over = subst (λ (a : Race × List View × List View). IsOver (race_begun a.0 a.1 a.2) e.words a.1 a.2) (λ i. (same i, us i, vs i)) c.close.ensures.over;
     }

@@ -4,5 +4,6 @@ use Rattle.g1_core.specs.Table.{opening}
 use Rattle.g1_handles.proofs.race_open.open_race.Goals as goal
 
 pub returns-in-Ok-seat-clause-opened : goal.returns-in-Ok-seat-clause-opened
-returns-in-Ok-seat-clause-opened c _ =
-    (c.in-Ok.race, c.in-Ok.ensures.began ∙ ap opening c.in-Some.ensures.1, c.in-Ok-seat.ensures.seated)
+returns-in-Ok-seat-clause-opened c =
+    let begun = c.in-Ok.ensures.began in
+    (c.in-Ok.race, begun.0, begun.2 ∙ ap opening c.in-Some.ensures.1, c.in-Ok-seat.ensures.seated begun.0 begun.1)

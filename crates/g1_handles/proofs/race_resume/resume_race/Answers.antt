@@ -1,9 +1,7 @@
 -- The race begins with the table of the handle's core.
-use Rattle.std.proofs.Common.{◌≡◌}
 use Rattle.std.specs.Prelude.{Option, Some, None}
 use Rattle.g1_core.specs.Machine.{Machine}
-use Rattle.g1_race.specs.Drain.{began}
-use Rattle.g1_race.specs.Members.{race_layout, race_begun}
+use Rattle.g1_race.specs.Members.{HaveBegunWith}
 use Rattle.g1_handles.specs.Codes.{OfOpen}
 use Rattle.g1_handles.specs.Racing.{held, IsBegunFor}
 use Rattle.g1_handles.proofs.race_resume.resume_race.Goals as goal
@@ -16,5 +14,5 @@ open_too P Q (Some core) p f = f core p
 pub returns-in-Ok-seat-clause-resumed : goal.returns-in-Ok-seat-clause-resumed
 returns-in-Ok-seat-clause-resumed c _ =
     let race = c.in-Ok.race in
-    open_too (λ core. began (race_layout race) (race_begun race) ≡ core.state.table) (λ core. IsBegunFor core.state.table (held c.seat.new.racers) (held c.seat.new.sweepers)) c.args.handle.now.value
-    c.in-Ok.ensures.0 (λ core begun. (race, begun, c.in-Ok-seat.ensures.seated))
+    open_too (λ core. HaveBegunWith core.state.table race c.in-Ok.new_racers c.in-Ok.new_sweepers) (λ core. IsBegunFor core.state.table (held c.seat.new.racers) (held c.seat.new.sweepers)) c.args.handle.now.value
+    c.in-Ok.ensures.0 (λ core begun. (race, begun.0, begun.2, c.in-Ok-seat.ensures.seated begun.0 begun.1))

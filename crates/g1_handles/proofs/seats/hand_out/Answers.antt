@@ -17,18 +17,18 @@ loop-i-preserved c =
     record {
       len = omega (arith, i.len, c.in-Some.ensures.cases, c.in-Some.ensures.len, length-set hs n c.replace_with.new.dest);
       sized = length-set hs n _ ∙ i.sized;
-      fresh = λ race racer all.
-          let P : Box Member Global → Type 0 = λ m. IsFresh race racer (Some m.value) in
-          let Q : MemberHandle → Type 0 = λ h. IsFresh race racer h.value in
-          let was = i.fresh race racer all in
+      fresh = λ race begin racer all.
+          let P : Box Member Global → Type 0 = λ m. IsFresh race begin racer (Some m.value) in
+          let Q : MemberHandle → Type 0 = λ h. IsFresh race begin racer h.value in
+          let was = i.fresh race begin racer all in
           let rest = All-pop P _ _ (Some c.in-Some.member) c.in-Some.ensures.items was.0 in
-          (rest.0, AllWithin-more_set hs n _ below Q was.1 (subst (IsFresh race racer) (sym c.replace_with.ensures) rest.1));
+          (rest.0, AllWithin-more_set hs n _ below Q was.1 (subst (IsFresh race begin racer) (sym c.replace_with.ensures) rest.1));
     }
 
 pub returns : goal.returns
-returns c race racer all =
+returns c race begin racer all =
     let i = c.loop-i.invariant in
     let hs = c.loop-i.handles in
-    let Q : MemberHandle → Type 0 = λ h. IsFresh race racer h.value in
-    All-map (IsFresh race racer) (λ (x : MemberHandle). x.value) hs
-    (All-from_all_within Q hs (AllWithin-upto Q hs 0 c.loop-i.i (length hs) (omega (arith, c.loop-i-test.false, i.sized)) (i.fresh race racer all).1))
+    let Q : MemberHandle → Type 0 = λ h. IsFresh race begin racer h.value in
+    All-map (IsFresh race begin racer) (λ (x : MemberHandle). x.value) hs
+    (All-from_all_within Q hs (AllWithin-upto Q hs 0 c.loop-i.i (length hs) (omega (arith, c.loop-i-test.false, i.sized)) (i.fresh race begin racer all).1))

@@ -1,0 +1,90 @@
+-- Why a call is refused: each refusal that it may answer, with what is so where it comes.
+use Rattle.std.specs.Prelude.{◌≡◌, ◌⊎◌, ◌<◌, ◌≤◌, ℕ, List, length, All, Option, None, IsSome}
+use Rattle.g1_layout.specs.Shape.{Shape, IsShape, card_count}
+use Rattle.g1_core.specs.Settings.{Settings, AreSettings}
+use Rattle.g1_core.specs.Machine.{Machine}
+use Rattle.g1_handles.specs.declared.code.Refusal.{Refusal}
+use Rattle.g1_handles.specs.declared.code.Refusal.TheVariants as refusal
+use Rattle.g1_handles.specs.declared.member_handle.MemberHandle.{MemberHandle}
+use Rattle.g1_handles.specs.Codes.{OfOpen}
+use Rattle.g1_handles.specs.Racing.{held, AreClosed, AreCounts}
+
+-- the handle is closed
+abbrev pub SaysNotOpen : Option Machine → Refusal → Type 0
+SaysNotOpen handle r = (r ≡ refusal.NotOpen) × (handle ≡ None)
+
+-- the heap has no region of this number
+abbrev pub SaysNoRegion : Option Machine → ℕ → Refusal → Type 0
+SaysNoRegion handle region r =
+    (r ≡ refusal.NoRegion) × OfOpen handle (λ m. m.state.table.layout.regions ≤ region)
+
+-- the heap lacks one of these cards
+abbrev pub SaysNoCard : Option Machine → List ℕ → Refusal → Type 0
+SaysNoCard handle cards r =
+    (r ≡ refusal.NoCard)
+    × OfOpen handle (λ m. All (λ card. card < card_count m.state.table.layout) cards → ⊥)
+
+-- an array of this length has no room for every card of the heap
+abbrev pub SaysNoRoom : Option Machine → ℕ → Refusal → Type 0
+SaysNoRoom handle room r =
+    (r ≡ refusal.NoRoom) × OfOpen handle (λ m. room < card_count m.state.table.layout)
+
+-- an array of this length has no room for a card of each that was given
+abbrev pub SaysFewer : ℕ → ℕ → Refusal → Type 0
+SaysFewer given room r = (r ≡ refusal.NoRoom) × (room < given)
+
+-- more were given than a log has cards
+abbrev pub SaysTooMany : ℕ → Refusal → Type 0
+SaysTooMany given r = (r ≡ refusal.TooManyCards) × (256 < given)
+
+-- a heap of these counts with these settings
+abbrev pub IsNewRefused : Shape → Settings → Refusal → Type 0
+IsNewRefused l s r =
+    ((r ≡ refusal.BadLayout) × (IsShape l → ⊥))
+    ⊎ ((r ≡ refusal.BadSettings) × (AreSettings s → ⊥))
+    ⊎ (r ≡ refusal.NoMemory)
+
+-- a handle that is to be opened on such a heap
+abbrev pub IsOpenRefused : Option Machine → Shape → Settings → Refusal → Type 0
+IsOpenRefused handle l s r =
+    ((r ≡ refusal.AlreadyOpen) × IsSome handle) ⊎ IsNewRefused l s r
+
+-- several stores, which take no memory, with an array for their cards
+abbrev pub AreStoresRefused : Option Machine → ℕ → ℕ → Refusal → Type 0
+AreStoresRefused handle stores room r =
+    SaysNotOpen handle r ⊎ SaysFewer stores room r ⊎ SaysTooMany stores r
+
+-- a refinement of these cards, with an array for those that are refined
+abbrev pub IsRefinementRefused : Option Machine → List ℕ → ℕ → Refusal → Type 0
+IsRefinementRefused handle cards room r =
+    SaysNotOpen handle r ⊎ SaysFewer (length cards) room r ⊎ SaysTooMany (length cards) r
+    ⊎ SaysNoCard handle cards r ⊎ (r ≡ refusal.NoMemory)
+
+-- a drain of the region, with an array for its cards and one for those that are refined
+abbrev pub IsDrainRefused : Option Machine → ℕ → ℕ → ℕ → Refusal → Type 0
+IsDrainRefused handle region room refined_room r =
+    SaysNotOpen handle r ⊎ SaysNoRegion handle region r
+    ⊎ SaysNoRoom handle room r ⊎ SaysNoRoom handle refined_room r ⊎ (r ≡ refusal.NoMemory)
+
+-- the question for the members of the region
+abbrev pub AreMembersRefused : Option Machine → ℕ → Refusal → Type 0
+AreMembersRefused handle region r =
+    SaysNotOpen handle r ⊎ SaysNoRegion handle region r ⊎ (r ≡ refusal.NoMemory)
+
+-- a clear of the region, which takes no memory, but for one that the core itself refuses
+abbrev pub IsClearRefused : Option Machine → ℕ → Refusal → Type 0
+IsClearRefused handle region r = SaysNotOpen handle r ⊎ SaysNoRegion handle region r
+
+-- a redirect from one region to another, with an array for the cards that are refined
+abbrev pub IsRedirectRefused : Option Machine → ℕ → ℕ → ℕ → Refusal → Type 0
+IsRedirectRefused handle from to room r =
+    SaysNotOpen handle r ⊎ SaysNoRegion handle from r ⊎ SaysNoRegion handle to r
+    ⊎ ((r ≡ refusal.SameRegion) × (from ≡ to)) ⊎ SaysNoRoom handle room r ⊎ (r ≡ refusal.NoMemory)
+
+-- a race over a heap of these counts, with a member for each of these handles
+abbrev pub IsRaceRefused : Shape → List MemberHandle → List MemberHandle → Refusal → Type 0
+IsRaceRefused l racers sweepers r =
+    ((r ≡ refusal.BadMembers) × (AreCounts (length racers) (length sweepers) → ⊥))
+    ⊎ ((r ≡ refusal.AlreadyOpen) × (AreClosed (held racers) → AreClosed (held sweepers) → ⊥))
+    ⊎ ((r ≡ refusal.BadLayout) × (IsShape l → ⊥))
+    ⊎ (r ≡ refusal.NoMemory)
