@@ -16,9 +16,9 @@ use g1_race::{Closed, Race, Racer, Sweeper};
 
 /// A core of a race in which cards 0 and 1 are refined, and card 2 is dirty.
 pub(crate) fn race_to_core<R: Eprint + AllocGlobal>(rt: &R) -> Result<(), Failure> {
-    let (closed, done) = closed_after(rt, &REFERENCES, 2)?;
-    let mut core = core_of(rt, closed, done)?;
-    are_drained(rt, &mut core, done)
+    let closed = closed_after(rt, &REFERENCES, 2)?;
+    let mut core = core_of(rt, closed, 2)?;
+    are_drained(rt, &mut core, 2)
 }
 
 /// The same is left of a race that begins with a core.
@@ -27,7 +27,7 @@ pub(crate) fn core_to_race<R: Eprint + AllocGlobal>(rt: &R) -> Result<(), Failur
     let steps = [Store(&REFERENCES), Refine(&[0, 1], &[0, 1], 0)];
     take(rt, &mut core, &steps)?;
     let (race, racers, sweepers) = resumed(rt, core)?;
-    let (closed, _) = raced(rt, race, racers, sweepers, &[], 0)?;
+    let closed = raced(rt, race, racers, sweepers, &[], 0)?;
     are_refined(rt, &closed, 2)?;
     let mut core = core_of(rt, closed, 2)?;
     are_drained(rt, &mut core, 2)

@@ -17,6 +17,7 @@ mod cycle;
 mod heap;
 mod history;
 mod hot;
+mod large;
 mod line;
 mod logs;
 mod machinery;
@@ -50,7 +51,8 @@ fn play<R: Wait + Print + Eprint + AllocGlobal>(rt: &R) -> Result<(), Failure> {
     callers::play(rt)?;
     shared::play(rt)?;
     told(rt, "a race", race::untouched(rt))?;
-    told(rt, "a refinement of a race", race::cards_refined(rt))?;
     told(rt, "a core of a race", cycle::race_to_core(rt))?;
-    told(rt, "a race that a core becomes", cycle::core_to_race(rt))
+    told(rt, "a race that a core becomes", cycle::core_to_race(rt))?;
+    told(rt, "a core of a large heap", large::new_core(rt))?;
+    told(rt, "a race of a large heap", large::untouched_race(rt))
 }

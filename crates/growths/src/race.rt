@@ -1,4 +1,4 @@
-//! The race: opening it and refinement take memory.
+//! The race: opening it takes memory, and refinement takes none.
 //!
 //! The heap has 4 regions of 2 cards of 4 slots: card `c` has the slots from `4 * c` on, region `r` those from `8 * r` on.
 ghost use Rattle.std.specs.Prelude.{◌≡◌, ◌<◌, [], IfOk, vec_len, vec_capacity};
@@ -27,7 +27,7 @@ fn new_race<R: Eprint + AllocGlobal>(rt: &R) -> Result<(Race, Vec<Racer>, Vec<Sw
 
 /// A race with no store has nulls and clean cards, and nothing recorded.
 pub(crate) fn untouched<R: Eprint + AllocGlobal>(rt: &R) -> Result<(), Failure> {
-    let (closed, _) = closed_after(rt, &[], 0)?;
+    let closed = closed_after(rt, &[], 0)?;
     for number in 0..32 {
         let place = closed.target(slot(&closed.layout(), number)?);
         check(rt, place.is_none(), "a slot of a new race refers")?;
@@ -42,25 +42,12 @@ pub(crate) fn untouched<R: Eprint + AllocGlobal>(rt: &R) -> Result<(), Failure> 
 /// Cards 0, 1 and 2 hold into regions 3, 2 and 3.
 pub(crate) static REFERENCES: [(u32, u32); 3] = [(0, 24), (4, 16), (8, 24)];
 
-/// A refused refinement changes no word and records nothing: the race is closed then, and another one goes through.
-pub(crate) fn cards_refined<R: Eprint + AllocGlobal>(rt: &R) -> Result<(), Failure> {
-    let (closed, done) = closed_after(rt, &REFERENCES, 3)?;
-    are_refined(rt, &closed, done)?;
-    if done == 3 {
-        return Ok(());
-    }
-    let (closed, done) = closed_after(rt, &REFERENCES, 3)?;
-    check(rt, done == 3, "a refinement was refused twice")?;
-    are_refined(rt, &closed, done)
-}
-
-/// A race that was closed after these stores and a refinement of the first cards, with how many were refined: fewer, where one
-/// was refused.
+/// A race that was closed after these stores and a refinement of the first cards.
 pub(crate) fn closed_after<R: Eprint + AllocGlobal>(
     rt: &R,
     references: &[(u32, u32)],
     cards: u32,
-) -> Result<(Closed, u32), Failure> {
+) -> Result<Closed, Failure> {
     let (race, racers, sweepers) = new_race(rt)?;
     raced(rt, race, racers, sweepers, references, cards)
 }
@@ -73,7 +60,7 @@ pub(crate) fn raced(
     mut sweepers: Vec<Sweeper>,
     references: &[(u32, u32)],
     cards: u32,
-) -> Result<(Closed, u32), Failure>
+) -> Result<Closed, Failure>
     requires members { (race_shape race).members ≡ 2 }
     requires racers { AreFreshRacers race 1 racers }
     requires sweepers { AreFreshSweepers race 1 sweepers }
@@ -83,8 +70,8 @@ pub(crate) fn raced(
     stored(rt, &race, &mut racer, references)?;
     let mut sweeper = sweepers.take_last();
     sweepers.clear();
-    let done = refined(rt, &race, &mut sweeper, cards)?;
-    Ok((closed(race, racers, racer, sweepers, sweeper), done))
+    refined(&race, &mut sweeper, cards)?;
+    Ok(closed(race, racers, racer, sweepers, sweeper))
 }
 
 // Closes the race, in the room of the racers and sweepers that it began with.
@@ -129,19 +116,18 @@ fn stored(
     Ok(())
 }
 
-// Refines the first cards in order, up to one that is refused. Answers how many were refined.
-fn refined(rt: &impl Eprint, race: &Race, sweeper: &mut Sweeper, cards: u32) -> Result<u32, Failure>
+// Refines the first cards in order.
+fn refined(race: &Race, sweeper: &mut Sweeper, cards: u32) -> Result<(), Failure>
     requires race { sweeper_race sweeper.old ≡ race_id race.now }
     ensures race { sweeper_race sweeper.new ≡ sweeper_race sweeper.old }
 {
     for number in 0..cards {
         let card = card(&race.layout(), number)?;
-        if sweeper.refine(race, card).is_err() {
-            refused(rt, "Sweeper::refine");
-            return Ok(number);
-        }
+        let Ok(()) = sweeper.refine(race, card) else {
+            unreachable!()
+        };
     }
-    Ok(cards)
+    Ok(())
 }
 
 /// Whether the slots refer where they were stored to, the first cards are clean and recorded, and the others dirty and not

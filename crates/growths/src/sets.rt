@@ -6,11 +6,12 @@ use crate::outcome::{Failure, check, refused, told};
 use g1_layout::{Card, Layout, NoMemory};
 use g1_sets::Sets;
 
-// How many regions of how many cards the heap of a list has, and how many cards the list.
+// How many regions of how many cards the heap of a list has, and how many cards the list. The bits for
+// the cards of the last heap, of more than 65,536 cards, are a growth of their own.
 static LISTS: [(&str, u32, u32, u32); 3] = [
     ("a list of few cards", 4, 4, 6),
     ("a list of many cards", 8, 128, 600),
-    ("a list of many cards of a large heap", 64, 128, 1_100),
+    ("a list of many cards of a large heap", 2, 40_000, 1_100),
 ];
 
 pub(crate) fn play<R: Print + Eprint + AllocGlobal>(rt: &R) -> Result<(), Failure> {
@@ -33,7 +34,7 @@ struct Numbered {
 impl Numbered {
     // Sets of no card, for `regions` regions of `cards` cards.
     fn new<R: Eprint + AllocGlobal>(rt: &R, regions: u32, cards: u32) -> Result<Numbered, Failure> {
-        let layout = Layout::new(regions, cards, 1).ok_or(Failure::Wrong)?;
+        let layout = Layout::large(regions, cards, 1).ok_or(Failure::Wrong)?;
         let sets = match Sets::new(rt.alloc(), layout) {
             Ok(sets) => sets,
             Err(NoMemory) => {
@@ -124,8 +125,8 @@ fn recorded_together<R: Eprint + AllocGlobal>(rt: &R) -> Result<(), Failure> {
     check(rt, sets.sets.total() == 40, "another set has a card")
 }
 
-// The first region's set has `members` cards, from its neighbour's first card on; they were recorded from the last to the first.
-// A set of few cards is sorted, and the cards of a large one are listed by flags for the cards of the heap.
+// The first region's set has `members` cards, from its neighbour's first card on; they were recorded from
+// the last to the first. A set of few cards is sorted, and the cards of any other are listed by bits.
 fn listed<R: Eprint + AllocGlobal>(
     rt: &R,
     regions: u32,

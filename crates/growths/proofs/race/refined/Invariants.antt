@@ -3,4 +3,4 @@ use Rattle.g1_race.specs.Members.{sweeper_race}
 use Rattle.growths.proofs.race.refined.Given as goal
 
 abbrev pub invariant-loop-number : goal.invariant-loop-number
-invariant-loop-number g l = sweeper_race l.sweeper ≡ sweeper_race l.fn.sweeper
+invariant-loop-number l = sweeper_race l.sweeper ≡ sweeper_race l.fn.sweeper
