@@ -244,8 +244,8 @@ uint32_t g1_redirect(struct g1 *handle, uint32_t from, uint32_t to, uint32_t *mo
  *     behind is not to be used;
  *   - stores to one slot are ordered by the runtime, around both its own store and the call: of two that race, the library may see the
  *     other one last than memory does, and then a drain can miss what memory holds. Stores to different slots need no order;
- *   - closes that are under way at once, in several threads, have members of different races. (One close may well be given members of
- *     several races, which it refuses. But it counts how many shares each race has, and a second close at the same races would be counted.)
+ *   - of two closes that are under way at once, in two threads, no race has members in both. (A close that is given members of
+ *     several races by itself is refused: it counts the owners of each race, and another close at one of them would disturb the counts.)
  */
 
 /* A racer or a sweeper, or nothing where the word is null. */

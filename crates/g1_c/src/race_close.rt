@@ -15,8 +15,9 @@ use std::alloc::Global;
 /// Ends a race, whose racers and sweepers are all handed in: their handles are closed, and what is left of it lies behind `over`,
 /// for [`g1_race_core`](crate::race_core::g1_race_core).
 ///
-/// Members of several races are refused before anything changes, by counts of each race's owners. No proof knows what these counts
-/// say, so the condition `one` stands in its place: members whose races have as many members as there are handles are of one race.
+/// Members of several races are refused before anything changes, by counts of each race's owners. No
+/// proof knows what these counts say, so the condition `one` stands in its place: handles whose roles
+/// and numbers fit are of one race. Nothing stands on it before the counts were taken.
 #[unsafe(no_mangle)]
 pub extern "C" fn g1_race_close(
     alloc: Global,
@@ -31,10 +32,12 @@ pub extern "C" fn g1_race_close(
         All (IsOf race) (held sweepers.old) → (e : Ended) → Leaves over.new.value e →
         IsClosedOf race (held racers.old) (held sweepers.old) e }
     ensures kept { result ≡ 0 → IsKept over.new.value }
-    ensures closed { result ≡ 0 → (over.old.value ≡ None) × AreClosed (held racers.new) × AreClosed (held sweepers.new) }
+    ensures closed { result ≡ 0 → (over.old.value ≡ None) × AreClosed (held racers.new) ×
+        AreClosed (held sweepers.new) }
     ensures why { 0 < result →
         IsRefusal result (IsCloseRefused (held racers.old) (held sweepers.old) over.old.value) }
-    ensures refused { 0 < result → (held racers.new ≡ held racers.old) × (held sweepers.new ≡ held sweepers.old) × (over.new.value ≡ over.old.value) }
+    ensures refused { 0 < result → (held racers.new ≡ held racers.old) ×
+        (held sweepers.new ≡ held sweepers.old) × (over.new.value ≡ over.old.value) }
 {
     match close_race(alloc, racers, sweepers, over) {
         Ok(()) => DONE,

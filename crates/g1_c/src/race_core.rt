@@ -22,11 +22,13 @@ pub extern "C" fn g1_race_core(
     hot: u32,
     ring: u32,
 ) -> u32
-    ensures core { result ≡ 0 → (e : Ended) × Leaves over.old.value e × (handle.new.value ≡ Some (core_of e (settings_of hot ring))) }
+    ensures core { result ≡ 0 → (e : Ended) × Leaves over.old.value e ×
+        (handle.new.value ≡ Some (core_of e (settings_of hot ring))) }
     ensures closed { result ≡ 0 → (handle.old.value ≡ None) × (over.new.value ≡ None) }
     ensures why { 0 < result →
         IsRefusal result (IsCoreRefused over.old.value handle.old.value (settings_of hot ring)) }
-    ensures refused { 0 < result → (handle.new.value ≡ handle.old.value) × IsStill over.old.value over.new.value }
+    ensures refused { 0 < result → (handle.new.value ≡ handle.old.value) ×
+        IsStill over.old.value over.new.value }
 {
     match open_core(alloc, over, handle, hot, ring) {
         Ok(()) => DONE,

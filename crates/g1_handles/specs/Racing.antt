@@ -176,7 +176,8 @@ IsClosedOf race racers sweepers e = IsEndOf race (map known_to racers) (map know
 
 -- what members that are gathered may leave of their race
 abbrev pub EndsAs : Gathered → Ended → Type 0
-EndsAs g e = IsEndOf (arc_value g.race) (map racer_view g.racers.items) (map sweeper_view g.sweepers.items) e
+EndsAs g e =
+    IsEndOf (arc_value g.race) (map racer_view g.racers.items) (map sweeper_view g.sweepers.items) e
 
 -- what lies behind the handle may leave this of its race
 abbrev pub Leaves : Option Remains → Ended → Type 0
@@ -208,7 +209,8 @@ IsStill (Some remains.Nothing) (Some remains.Nothing) = Unit {0}
 IsStill (Some remains.Nothing) (Some (remains.Members g)) = ⊥
 IsStill (Some remains.Nothing) (Some (remains.Over e)) = ⊥
 IsStill (Some (remains.Members g)) (Some remains.Nothing) = ⊥
-IsStill (Some (remains.Members g)) (Some (remains.Members h)) = (h.race ≡ g.race) × (h.racers ≡ g.racers) × (h.sweepers ≡ g.sweepers)
+IsStill (Some (remains.Members g)) (Some (remains.Members h)) =
+    (h.race ≡ g.race) × (h.racers ≡ g.racers) × (h.sweepers ≡ g.sweepers)
 IsStill (Some (remains.Members g)) (Some (remains.Over e)) = EndsAs g e
 IsStill (Some (remains.Over left)) (Some remains.Nothing) = ⊥
 IsStill (Some (remains.Over left)) (Some (remains.Members g)) = ⊥

@@ -1,8 +1,9 @@
 //! Whether members are all those of one race.
 //!
-//! A share of a race is a pointer, and pointers into two blocks are not to be compared. So owners are
-//! counted: one share more of the first member's race raises the count that another member sees where
-//! its race is the same, and no other. That is no proof: the clauses say only that nothing changes.
+//! A share of a race is a pointer, and the toolchain compares no pointers into two blocks. So owners
+//! are counted: one share more of the first member's race raises the count that another member sees
+//! where it is of the same race, and no other. Each member has a number besides, so that one that is
+//! given twice is seen. No proof knows of it: the clauses say only that nothing changes.
 ghost use Rattle.std.specs.Prelude.{◌≡◌, ◌<◌, Some, length, All, IfSome};
 ghost use Rattle.std.specs.Arc.{arc_value};
 ghost use Rattle.g1_race.specs.declared.race.Race.{Race};
@@ -39,7 +40,8 @@ pub(crate) fn share_of_all(
 /// A share of the race of a handle's member.
 fn share_of(handle: MemberHandle, alloc: Global) -> (MemberHandle, Option<Arc<Race, Global>>)
     ensures same { result.0.value ≡ handle.value }
-    ensures race { IfSome result.1 (λ share. OfMember handle.value (λ m. race_of m ≡ arc_value share)) }
+    ensures race { IfSome result.1 (λ share.
+        OfMember handle.value (λ m. race_of m ≡ arc_value share)) }
 {
     let Some(member) = handle.into_raw_box() else {
         return (MemberHandle::closed(alloc), None);
@@ -85,7 +87,7 @@ fn number_in(
     (MemberHandle::of(RawBox::of(member)), number)
 }
 
-/// Whether a member's race is that of a share, and only the share and as many as the race has members are of it.
+/// Whether a member's race is that of a share, and has no owners but the share and its members.
 fn is_same(race: &Arc<Race, Global>, share: &Arc<Race, Global>) -> bool {
     let owners = Arc::strong_count(race);
     let Ok(_one_more) = Arc::try_clone(share) else {

@@ -21,7 +21,8 @@ use raw_box::RawBox;
 use std::alloc::Global;
 use std::sync::Arc;
 
-/// Ends a race, whose racers and sweepers are all handed in, and leaves what is left of it behind `over`.
+/// Ends a race, whose racers and sweepers are all handed in, and leaves what is left of it behind
+/// `over`.
 ///
 /// Members of several races are refused, before anything stands on the condition.
 pub fn close_race(
@@ -37,10 +38,12 @@ pub fn close_race(
         All (IsOf race) (held sweepers.old) → (e : Ended) → Leaves over.new.value e →
         IsClosedOf race (held racers.old) (held sweepers.old) e) }
     ensures kept { OnOk result (IsKept over.new.value) }
-    ensures closed { OnOk result ((over.old.value ≡ None) × AreClosed (held racers.new) × AreClosed (held sweepers.new)) }
+    ensures closed { OnOk result ((over.old.value ≡ None) × AreClosed (held racers.new) ×
+        AreClosed (held sweepers.new)) }
     ensures why { IfErr result (λ refusal.
         IsCloseRefused (held racers.old) (held sweepers.old) over.old.value refusal) }
-    ensures refused { OnErr result ((held racers.new ≡ held racers.old) × (held sweepers.new ≡ held sweepers.old) × (over.new.value ≡ over.old.value)) }
+    ensures refused { OnErr result ((held racers.new ≡ held racers.old) ×
+        (held sweepers.new ≡ held sweepers.old) × (over.new.value ≡ over.old.value)) }
 {
     if !are_counts(racers.len(), sweepers.len()) {
         return Err(Refusal::BadMembers);
@@ -76,7 +79,8 @@ fn put_in(_over: OverHandle, remains: Box<Remains>) -> (OverHandle, ())
     (OverHandle::of(RawBox::of(remains)), ())
 }
 
-/// Closes the race of these handles, of which this is a share. Memory is taken before the first of them changes.
+/// Closes the race of these handles, of which this is a share. Memory is taken before the first of
+/// them changes.
 fn close_all(
     alloc: Global,
     share: Arc<Race, Global>,
@@ -85,13 +89,15 @@ fn close_all(
 ) -> Result<Box<Remains>, Refusal>
     requires many { AreAsMany (held racers.old) (held sweepers.old) }
     requires some { 0 < length racers.old }
-    requires one { All (IsOf (arc_value share)) (held racers.old) × All (IsOf (arc_value share)) (held sweepers.old) }
+    requires one { All (IsOf (arc_value share)) (held racers.old) ×
+        All (IsOf (arc_value share)) (held sweepers.old) }
     ensures over { IfOk result (λ remains. (e : Ended) → Leaves (Some remains.value) e →
         IsClosedOf (arc_value share) (held racers.old) (held sweepers.old) e) }
     ensures kept { IfOk result (λ remains. IsKept (Some remains.value)) }
     ensures closed { OnOk result (AreClosed (held racers.new) × AreClosed (held sweepers.new)) }
     ensures why { IfErr result (λ refusal. refusal ≡ Refusal.NoMemory) }
-    ensures refused { OnErr result ((held racers.new ≡ held racers.old) × (held sweepers.new ≡ held sweepers.old)) }
+    ensures refused { OnErr result ((held racers.new ≡ held racers.old) ×
+        (held sweepers.new ≡ held sweepers.old)) }
 {
     let Ok(mut remains) = Box::new(alloc, Remains::Nothing) else {
         return Err(Refusal::NoMemory);
@@ -128,7 +134,8 @@ pub(crate) fn ended(remains: Remains) -> Remains
 
 fn end(gathered: Gathered) -> Result<Closed, Gathered>
     ensures over { IfOk result (λ e. EndsAs gathered e) }
-    ensures back { IfErr result (λ back. (back.race ≡ gathered.race) × (back.racers ≡ gathered.racers) × (back.sweepers ≡ gathered.sweepers)) }
+    ensures back { IfErr result (λ back. (back.race ≡ gathered.race) ×
+        (back.racers ≡ gathered.racers) × (back.sweepers ≡ gathered.sweepers)) }
 {
     let Gathered {
         race,
@@ -147,11 +154,13 @@ fn end(gathered: Gathered) -> Result<Closed, Gathered>
 
 /// The racers of these handles, which are closed then.
 fn gather_racers(alloc: Global, handles: &mut [MemberHandle], mut racers: Vec<Racer>) -> Vec<Racer>
-    requires room { (racers.items ≡ []) × (vec_len racers ≡ 0) × (length handles.old ≤ vec_capacity racers) }
+    requires room { (racers.items ≡ []) × (vec_len racers ≡ 0) ×
+        (length handles.old ≤ vec_capacity racers) }
     requires role { All (HasRole Role.Racer) (held handles.old) }
     ensures count { vec_len result ≡ length handles.old }
     ensures closed { AreClosed (held handles.new) }
-    ensures race { (race : Race) → All (IsOf race) (held handles.old) → All (λ w. racer_race w ≡ race_id race) result.items }
+    ensures race { (race : Race) → All (IsOf race) (held handles.old) →
+        All (λ w. racer_race w ≡ race_id race) result.items }
     ensures views { map racer_view result.items ≡ map known_to (held handles.old) }
 {
     for i in 0..handles.len() {
@@ -172,11 +181,13 @@ fn gather_sweepers(
     handles: &mut [MemberHandle],
     mut sweepers: Vec<Sweeper>,
 ) -> Vec<Sweeper>
-    requires room { (sweepers.items ≡ []) × (vec_len sweepers ≡ 0) × (length handles.old ≤ vec_capacity sweepers) }
+    requires room { (sweepers.items ≡ []) × (vec_len sweepers ≡ 0) ×
+        (length handles.old ≤ vec_capacity sweepers) }
     requires role { All (HasRole Role.Sweeper) (held handles.old) }
     ensures count { vec_len result ≡ length handles.old }
     ensures closed { AreClosed (held handles.new) }
-    ensures race { (race : Race) → All (IsOf race) (held handles.old) → All (λ w. sweeper_race w ≡ race_id race) result.items }
+    ensures race { (race : Race) → All (IsOf race) (held handles.old) →
+        All (λ w. sweeper_race w ≡ race_id race) result.items }
     ensures views { map sweeper_view result.items ≡ map known_to (held handles.old) }
 {
     for i in 0..handles.len() {

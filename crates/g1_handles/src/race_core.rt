@@ -23,11 +23,13 @@ pub fn open_core(
     hot: u32,
     ring: u32,
 ) -> Result<(), Refusal>
-    ensures core { OnOk result ((e : Ended) × Leaves over.old.value e × (handle.new.value ≡ Some (core_of e (settings_of hot ring)))) }
+    ensures core { OnOk result ((e : Ended) × Leaves over.old.value e ×
+        (handle.new.value ≡ Some (core_of e (settings_of hot ring)))) }
     ensures closed { OnOk result ((handle.old.value ≡ None) × (over.new.value ≡ None)) }
     ensures why { IfErr result (λ refusal.
         IsCoreRefused over.old.value handle.old.value (settings_of hot ring) refusal) }
-    ensures refused { OnErr result ((handle.new.value ≡ handle.old.value) × IsStill over.old.value over.new.value) }
+    ensures refused { OnErr result ((handle.new.value ≡ handle.old.value) ×
+        IsStill over.old.value over.new.value) }
 {
     let core = replace_with(over, (alloc, hot, ring), core_in)?;
     replace_with(handle, core, open_in)?;
@@ -37,7 +39,8 @@ pub fn open_core(
 
 /// A core of what is left, which stays.
 fn core_in(over: OverHandle, words: (Global, u32, u32)) -> (OverHandle, Result<Box<Core>, Refusal>)
-    ensures core { IfOk result.1 (λ core. (e : Ended) × Leaves over.value e × (core.value ≡ core_of e (settings_of words.1 words.2))) }
+    ensures core { IfOk result.1 (λ core. (e : Ended) × Leaves over.value e ×
+        (core.value ≡ core_of e (settings_of words.1 words.2))) }
     ensures still { IsStill over.value result.0.value }
     ensures why { IfErr result.1 (λ refusal.
         IsCoreRefused over.value None (settings_of words.1 words.2) refusal) }
@@ -51,7 +54,8 @@ fn core_in(over: OverHandle, words: (Global, u32, u32)) -> (OverHandle, Result<B
 }
 
 fn core_of(alloc: Global, remains: &mut Remains, hot: u32, ring: u32) -> Result<Box<Core>, Refusal>
-    ensures core { IfOk result (λ core. (e : Ended) × Leaves (Some remains.old) e × (core.value ≡ core_of e (settings_of hot ring))) }
+    ensures core { IfOk result (λ core. (e : Ended) × Leaves (Some remains.old) e ×
+        (core.value ≡ core_of e (settings_of hot ring))) }
     ensures still { IsStill (Some remains.old) (Some remains.new) }
     ensures why { IfErr result (λ refusal.
         IsCoreRefused (Some remains.old) None (settings_of hot ring) refusal) }

@@ -22,11 +22,14 @@ pub fn resume_race(
     racers: &mut [MemberHandle],
     sweepers: &mut [MemberHandle],
 ) -> Result<(), Refusal>
-    ensures resumed { OnOk result (OfOpen handle.old.value (λ core. IsBegunFor core.state.table (held racers.new) (held sweepers.new))) }
-    ensures closed { OnOk result ((handle.new.value ≡ None) × AreClosed (held racers.old) × AreClosed (held sweepers.old)) }
+    ensures resumed { OnOk result (OfOpen handle.old.value (λ core.
+        IsBegunFor core.state.table (held racers.new) (held sweepers.new))) }
+    ensures closed { OnOk result ((handle.new.value ≡ None) × AreClosed (held racers.old) ×
+        AreClosed (held sweepers.old)) }
     ensures why { IfErr result (λ refusal.
         IsResumeRefused handle.old.value racers.old sweepers.old refusal) }
-    ensures refused { OnErr result (IsAsBefore handle.old.value handle.new.value × (held racers.new ≡ held racers.old) × (held sweepers.new ≡ held sweepers.old)) }
+    ensures refused { OnErr result (IsAsBefore handle.old.value handle.new.value ×
+        (held racers.new ≡ held racers.old) × (held sweepers.new ≡ held sweepers.old)) }
 {
     if !are_counts(racers.len(), sweepers.len()) {
         return Err(Refusal::BadMembers);
