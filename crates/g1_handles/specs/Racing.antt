@@ -6,7 +6,7 @@ use Rattle.g1_core.specs.Table.{Table}
 use Rattle.g1_core.specs.Machine.{Machine}
 use Rattle.g1_race.specs.declared.race.Race.{Race}
 use Rattle.g1_race.specs.declared.view.View.{View}
-use Rattle.g1_race.specs.Begin.{Start, Begun}
+use Rattle.g1_race.specs.Begin.{Start}
 use Rattle.g1_race.specs.Drain.{began}
 use Rattle.g1_race.specs.Over.{Ended}
 use Rattle.g1_race.specs.Resumed.{IsSame}
