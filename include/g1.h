@@ -51,8 +51,8 @@ enum g1_kind {
 };
 
 /*
- * What the other calls answer. A code from 8 on says that the call was refused and that nothing has changed. That is so for
- * g1_store and g1_is_pending too, whose other answers are not these codes.
+ * What the other calls answer. A code from 8 on says that the call was refused and that nothing has
+ * changed. That is so for g1_store and g1_is_pending too, whose other answers are not these codes.
  */
 enum g1_code {
     G1_DONE = 0,
@@ -244,8 +244,9 @@ uint32_t g1_redirect(struct g1 *handle, uint32_t from, uint32_t to, uint32_t *mo
  *     behind is not to be used;
  *   - stores to one slot are ordered by the runtime, around both its own store and the call: of two that race, the library may see the
  *     other one last than memory does, and then a drain can miss what memory holds. Stores to different slots need no order;
- *   - of two closes that are under way at once, in two threads, no race has members in both. (A close that is given members of
- *     several races by itself is refused: it counts the owners of each race, and another close at one of them would disturb the counts.)
+ *   - of two closes that are under way at once, in two threads, no race has members in both. (A close
+ *     that is given members of several races is refused: it counts the owners of each race, and another
+ *     close with members of the same races would disturb the counts.)
  */
 
 /* A racer or a sweeper, or nothing where the word is null. */
@@ -299,12 +300,14 @@ uint32_t g1_race_take_log(struct g1_member *member, uint32_t *cards, size_t card
 uint32_t g1_race_refine(struct g1_member *member, uint32_t card);
 
 /*
- * Ends a race: all its racers and sweepers are handed in, in any order, with none of them in use. Their handles are closed, and what is
- * left of the race lies behind `over`, which was closed. Logs that were not taken are dropped; their cards stay dirty.
+ * Ends a race: all its racers and sweepers are handed in, in any order, with none of them in use. Their
+ * handles are closed, and what is left of the race lies behind `over`, which was closed. Logs that were
+ * not taken are dropped; their cards stay dirty.
  *
- * G1_DONE. Nothing has changed where it is refused: G1_BAD_MEMBERS (more or fewer handles than some member's race was opened with),
- * G1_NOT_OPEN or G1_OTHER_ROLE for a member's handle, G1_OTHER_RACE (members of several races, one that is given twice, or a race
- * with a member that was closed alone), G1_ALREADY_OPEN for `over`, or G1_NO_MEMORY.
+ * G1_DONE. Refused, nothing has changed: G1_BAD_MEMBERS (not as many handles as a member's race was
+ * opened with), G1_NOT_OPEN or G1_OTHER_ROLE for a member's handle, G1_OTHER_RACE (members of several
+ * races, one that is given twice, or a race of which a member was closed alone), G1_ALREADY_OPEN for
+ * `over`, or G1_NO_MEMORY.
  */
 uint32_t g1_race_close(struct g1_member *racers, size_t racers_length, struct g1_member *sweepers, size_t sweepers_length,
                        struct g1_over *over);
@@ -315,7 +318,8 @@ uint32_t g1_race_close(struct g1_member *racers, size_t racers_length, struct g1
  * g1_open. It takes the memory of g1_open and of the pairs, and some more while it runs.
  *
  * G1_DONE. G1_NOT_OPEN for `over`, G1_ALREADY_OPEN for `handle`, G1_BAD_SETTINGS or G1_NO_MEMORY: nothing has changed, so a refused call can be
- * made again.
+ * made again. (G1_OTHER_RACE, also with nothing changed, can come only where two closes at once broke
+ * the rule above.)
  */
 uint32_t g1_race_core(struct g1_over *over, struct g1 *handle, uint32_t hot, uint32_t ring);
 

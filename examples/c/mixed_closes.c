@@ -1,11 +1,13 @@
-// Closes that are given members of several races, in every way: each is refused by its code, and changes nothing.
+// Closes that are given members of several races, in every way: each is refused by its code, and
+// changes nothing.
 #include "g1.h"
 
 #include <stdio.h>
 #include <string.h>
 
-// Three races of two racers and two sweepers, and a closed handle: each place of a close gets each of them.
-enum { RACES = 3, EACH = 2, MEMBERS = 2 * EACH, CLOSED = RACES * MEMBERS, CHOICES = CLOSED + 1, PLACES = 6 };
+// Three races of two racers and two sweepers, and a closed handle: each place of a close gets each
+// of these choices.
+enum { RACES = 3, EACH = 2, MEMBERS = 2 * EACH, CLOSED = RACES * MEMBERS, CHOICES = CLOSED + 1 };
 
 static unsigned passed, failed;
 
@@ -25,7 +27,7 @@ static void answers(uint32_t answer, uint32_t expected, const char *what) {
     check(answer == expected, what);
 }
 
-// Heaps of different sizes, so that a word of one is no word of another. Region 1 begins at slot 1, 8 and 4096.
+// Heaps of different sizes: region 1 begins at slot 1, 8 and 4096.
 static const struct g1_counts counts[RACES] = {{2, 1, 1}, {4, 2, 4}, {256, 256, 16}};
 
 // The racers of each race and then its sweepers, race by race; the last one stays closed.
@@ -73,19 +75,20 @@ static uint32_t expected(const int *chosen, int racers, int all) {
 
 // Whether the close of these choices is refused as it is to be, with the handles as they were.
 static int is_refused(const int *chosen, int racers, int all) {
-    struct g1_member given[PLACES] = {{0}}, before[PLACES];
+    struct g1_member given[MEMBERS] = {{0}}, before[MEMBERS];
     for (int i = 0; i < all; i++) {
         given[i] = members[chosen[i]];
     }
     memcpy(before, given, sizeof given);
-    uint32_t answer = g1_race_close(given, (size_t)racers, given + racers, (size_t)(all - racers), &over);
-    size_t size = (size_t)all * sizeof *given;
-    return answer == expected(chosen, racers, all) && memcmp(before, given, size) == 0 && over.race == NULL;
+    size_t some = (size_t)racers, few = (size_t)(all - racers);
+    uint32_t answer = g1_race_close(given, some, given + racers, few, &over);
+    int is_same = memcmp(before, given, sizeof given) == 0 && over.race == NULL;
+    return is_same && answer == expected(chosen, racers, all);
 }
 
-// Every choice of members for so many racers and sweepers, but for a race's own, which would close it.
+// Every choice of members for so many racers and sweepers, but for those that would close a race.
 static void mix(int racers, int sweepers) {
-    int chosen[PLACES] = {0}, all = racers + sweepers, at;
+    int chosen[MEMBERS] = {0}, all = racers + sweepers, at;
     unsigned refused = 0, wrong = 0, whole = 0;
     do {
         if (expected(chosen, racers, all) == G1_DONE) {
@@ -100,32 +103,34 @@ static void mix(int racers, int sweepers) {
         }
     } while (at < all);
     check(wrong == 0 && refused > 0, "mixed closes are refused");
-    check(whole == (racers == EACH && sweepers == EACH ? 12 : 0), "each race is whole in four orders");
+    check(whole == (racers == EACH && sweepers == EACH ? 12 : 0), "four orders of each race");
 }
 
 static void open_races(void) {
     for (int race = 0; race < RACES; race++) {
-        answers(g1_race_open(&counts[race], racers_of(race), EACH, sweepers_of(race), EACH), G1_DONE, "open");
-        answers(g1_race_store(racers_of(race), 0, counts[race].cards * counts[race].slots), G1_STORED_LOGGED, "a store");
-        answers(g1_race_refine(sweepers_of(race), 0), G1_DONE, "a refinement");
+        struct g1_member *racers = racers_of(race), *sweepers = sweepers_of(race);
+        const uint32_t region_1 = counts[race].cards * counts[race].slots;
+        answers(g1_race_open(&counts[race], racers, EACH, sweepers, EACH), G1_DONE, "open");
+        answers(g1_race_store(racers, 0, region_1), G1_STORED_LOGGED, "a store");
+        answers(g1_race_refine(sweepers, 0), G1_DONE, "a refinement");
     }
 }
 
 // Each race goes on, ends, in another order of its members, and is a core with what was stored.
 static void end_races(void) {
     for (int race = 0; race < RACES; race++) {
-        const uint32_t slots = counts[race].cards * counts[race].slots;
+        const uint32_t region_1 = counts[race].cards * counts[race].slots;
         struct g1_member racers[EACH] = {racers_of(race)[1], racers_of(race)[0]};
         struct g1_member sweepers[EACH] = {sweepers_of(race)[1], sweepers_of(race)[0]};
-        answers(g1_race_store(racers, slots, 0), G1_STORED_LOGGED, "a store behind refused closes");
+        answers(g1_race_store(racers, region_1, 0), G1_STORED_LOGGED, "a store behind closes");
         answers(g1_race_close(racers, EACH, sweepers, EACH, &over), G1_DONE, "the close of a race");
         check(racers[0].member == NULL && sweepers[1].member == NULL, "members are closed");
         struct g1 heap = {0};
         uint32_t target, card, count;
         answers(g1_race_core(&over, &heap, 4, 16), G1_DONE, "the core of a race");
         answers(g1_target(&heap, 0, &target), G1_DONE, "target");
-        check(target == slots, "what was stored before");
-        answers(g1_target(&heap, slots, &target), G1_DONE, "target");
+        check(target == region_1, "what was stored before");
+        answers(g1_target(&heap, region_1, &target), G1_DONE, "target");
         check(target == 0, "what was stored behind");
         answers(g1_members(&heap, 1, &card, 1, &count), G1_DONE, "members");
         check(count == 1 && card == 0, "what was refined is recorded");
@@ -135,17 +140,21 @@ static void end_races(void) {
     memset(members, 0, sizeof members);
 }
 
-// One race has lost a member: the others of it are refused, and also with a member of another race in its place.
+static uint32_t close_pair(struct g1_member *racer, struct g1_member *sweeper) {
+    return g1_race_close(racer, 1, sweeper, 1, &over);
+}
+
+// A race has lost a member: the others are refused, also with another race's member in its place.
 static void without_a_member(void) {
     struct g1_member one[2] = {{0}, {0}}, other[2] = {{0}, {0}};
     answers(g1_race_open(&counts[0], &one[0], 1, &one[1], 1), G1_DONE, "a race over a small heap");
-    answers(g1_race_open(&counts[2], &other[0], 1, &other[1], 1), G1_DONE, "a race over a large heap");
+    answers(g1_race_open(&counts[2], &other[0], 1, &other[1], 1), G1_DONE, "and a large one");
     answers(g1_member_close(&one[1]), G1_DONE, "the close of a sweeper");
-    answers(g1_race_close(&one[0], 1, &one[1], 1, &over), G1_NOT_OPEN, "a close without the sweeper");
-    answers(g1_race_close(&one[0], 1, &other[1], 1, &over), G1_OTHER_RACE, "a close with another race's sweeper");
-    answers(g1_race_close(&other[0], 1, &one[1], 1, &over), G1_NOT_OPEN, "a close with the closed sweeper");
+    answers(close_pair(&one[0], &one[1]), G1_NOT_OPEN, "no sweeper");
+    answers(close_pair(&one[0], &other[1]), G1_OTHER_RACE, "another race's sweeper");
+    answers(close_pair(&other[0], &one[1]), G1_NOT_OPEN, "a close with the closed sweeper");
     answers(g1_race_store(&one[0], 0, 1), G1_STORED_LOGGED, "the racer stores on");
-    answers(g1_race_close(&other[0], 1, &other[1], 1, &over), G1_DONE, "the close of the other race");
+    answers(close_pair(&other[0], &other[1]), G1_DONE, "the close of the other race");
     answers(g1_over_close(&over), G1_DONE, "the close of what is left");
     answers(g1_member_close(&one[0]), G1_DONE, "the close of the racer");
 
@@ -153,8 +162,8 @@ static void without_a_member(void) {
     answers(g1_race_open(&counts[1], racers, 2, sweepers, 2), G1_DONE, "a race of four members");
     answers(g1_member_close(&racers[1]), G1_DONE, "the close of a racer");
     struct g1_member twice[2] = {racers[0], racers[0]};
-    answers(g1_race_close(twice, 2, sweepers, 2, &over), G1_OTHER_RACE, "a close with one racer twice");
-    answers(g1_race_close(racers, 1, sweepers, 2, &over), G1_BAD_MEMBERS, "a close of those that are left");
+    answers(g1_race_close(twice, 2, sweepers, 2, &over), G1_OTHER_RACE, "one racer twice");
+    answers(g1_race_close(racers, 1, sweepers, 2, &over), G1_BAD_MEMBERS, "those that are left");
     answers(g1_member_close(&racers[0]), G1_DONE, "the close of a racer");
     answers(g1_member_close(&sweepers[0]), G1_DONE, "the close of a sweeper");
     answers(g1_member_close(&sweepers[1]), G1_DONE, "the close of a sweeper");
