@@ -51,8 +51,8 @@ enum g1_kind {
 };
 
 /*
- * What the other calls answer. A code from 8 on says that the call was refused and that nothing has changed, but for G1_LOST. That is so for
- * g1_store and g1_is_pending too, whose other answers are not these codes.
+ * What the other calls answer. A code from 8 on says that the call was refused and that nothing has
+ * changed. That is so for g1_store and g1_is_pending too, whose other answers are not these codes.
  */
 enum g1_code {
     G1_DONE = 0,
@@ -74,7 +74,7 @@ enum g1_code {
     G1_OTHER_ROLE = 21,      /* the handle is a sweeper's where a racer's is asked for, or a racer's where a sweeper's is */
     G1_LOG_FULL = 22,        /* the racer's log has G1_LOG cards: take it, and store again */
     G1_BAD_MEMBERS = 23,     /* not as many handles as the race has members, or as a race may have */
-    G1_LOST = 24             /* handles of several races, where that is found: they are closed, and what they were of is gone */
+    G1_OTHER_RACE = 24       /* the handles are not those of all members of one race, each given once */
 };
 
 /* How many cards g1_refine takes at most, and how many stores g1_store_all. */
@@ -244,7 +244,9 @@ uint32_t g1_redirect(struct g1 *handle, uint32_t from, uint32_t to, uint32_t *mo
  *     behind is not to be used;
  *   - stores to one slot are ordered by the runtime, around both its own store and the call: of two that race, the library may see the
  *     other one last than memory does, and then a drain can miss what memory holds. Stores to different slots need no order;
- *   - the handles that are given to one g1_race_close are of one race.
+ *   - of two closes that are under way at once, in two threads, no race has members in both. (A close
+ *     that is given members of several races is refused: it counts the owners of each race, and another
+ *     close with members of the same races would disturb the counts.)
  */
 
 /* A racer or a sweeper, or nothing where the word is null. */
@@ -298,12 +300,14 @@ uint32_t g1_race_take_log(struct g1_member *member, uint32_t *cards, size_t card
 uint32_t g1_race_refine(struct g1_member *member, uint32_t card);
 
 /*
- * Ends a race: all its racers and sweepers are handed in, with none of them in use. Their handles are closed, and what is left of the race
- * lies behind `over`, which was closed. Logs that were not taken are dropped; their cards stay dirty.
+ * Ends a race: all its racers and sweepers are handed in, in any order, with none of them in use. Their
+ * handles are closed, and what is left of the race lies behind `over`, which was closed. Logs that were
+ * not taken are dropped; their cards stay dirty.
  *
- * G1_DONE. G1_BAD_MEMBERS, G1_OTHER_ROLE, G1_NOT_OPEN for a member's handle, G1_ALREADY_OPEN for `over` or G1_NO_MEMORY: nothing has changed.
- * Handles of several races, which the caller rules out, are not always found: then the behaviour is undefined. Where they are found the
- * answer is G1_LOST: they are closed, and their races can't be ended any more.
+ * G1_DONE. Refused, nothing has changed: G1_BAD_MEMBERS (not as many handles as a member's race was
+ * opened with), G1_NOT_OPEN or G1_OTHER_ROLE for a member's handle, G1_OTHER_RACE (members of several
+ * races, one that is given twice, or a race of which a member was closed alone), G1_ALREADY_OPEN for
+ * `over`, or G1_NO_MEMORY.
  */
 uint32_t g1_race_close(struct g1_member *racers, size_t racers_length, struct g1_member *sweepers, size_t sweepers_length,
                        struct g1_over *over);
@@ -314,7 +318,8 @@ uint32_t g1_race_close(struct g1_member *racers, size_t racers_length, struct g1
  * g1_open. It takes the memory of g1_open and of the pairs, and some more while it runs.
  *
  * G1_DONE. G1_NOT_OPEN for `over`, G1_ALREADY_OPEN for `handle`, G1_BAD_SETTINGS or G1_NO_MEMORY: nothing has changed, so a refused call can be
- * made again.
+ * made again. (G1_OTHER_RACE, also with nothing changed, can come only where two closes at once broke
+ * the rule above.)
  */
 uint32_t g1_race_core(struct g1_over *over, struct g1 *handle, uint32_t hot, uint32_t ring);
 

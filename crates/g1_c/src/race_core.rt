@@ -1,10 +1,12 @@
 //! A race that is over becomes a core.
 ghost use Rattle.std.specs.Prelude.{◌≡◌, ◌<◌, None, Some, IsSome};
-ghost use Rattle.g1_race.specs.Over.{core_of};
-ghost use Rattle.g1_handles.specs.Codes.{settings_of};
-ghost use Rattle.g1_handles.specs.Racing.{OfOver};
+ghost use Rattle.g1_race.specs.Over.{Ended, core_of};
+ghost use Rattle.g1_handles.specs.Codes.{settings_of, IsRefusal};
+ghost use Rattle.g1_handles.specs.Racing.{IsStill, Leaves};
+ghost use Rattle.g1_handles.specs.Refusals.{IsCoreRefused};
 
 use core::mem::replace_with;
+use g1_handles::code::DONE;
 use g1_handles::handle::Handle;
 use g1_handles::over_handle::OverHandle;
 use g1_handles::race_core::{close_in, open_core};
@@ -20,11 +22,18 @@ pub extern "C" fn g1_race_core(
     hot: u32,
     ring: u32,
 ) -> u32
-    ensures core { result ≡ 0 → OfOver over.old.value (λ e. handle.new.value ≡ Some (core_of e (settings_of hot ring))) }
+    ensures core { result ≡ 0 → (e : Ended) × Leaves over.old.value e ×
+        (handle.new.value ≡ Some (core_of e (settings_of hot ring))) }
     ensures closed { result ≡ 0 → (handle.old.value ≡ None) × (over.new.value ≡ None) }
-    ensures refused { 0 < result → (handle.new.value ≡ handle.old.value) × (over.new.value ≡ over.old.value) }
+    ensures why { 0 < result →
+        IsRefusal result (IsCoreRefused over.old.value handle.old.value (settings_of hot ring)) }
+    ensures refused { 0 < result → (handle.new.value ≡ handle.old.value) ×
+        IsStill over.old.value over.new.value }
 {
-    open_core(alloc, over, handle, hot, ring)
+    match open_core(alloc, over, handle, hot, ring) {
+        Ok(()) => DONE,
+        Err(refusal) => refusal.word(),
+    }
 }
 
 /// Closes the handle of a race that is over, and gives back all memory that it held. The race is gone.

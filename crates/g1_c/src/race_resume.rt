@@ -1,8 +1,10 @@
 //! A core becomes a race.
 ghost use Rattle.std.specs.Prelude.{◌≡◌, ◌<◌, None};
-ghost use Rattle.g1_handles.specs.Codes.{OfOpen};
+ghost use Rattle.g1_handles.specs.Codes.{OfOpen, IsRefusal};
 ghost use Rattle.g1_handles.specs.Racing.{held, AreClosed, IsBegunFor, IsAsBefore};
+ghost use Rattle.g1_handles.specs.Refusals.{IsResumeRefused};
 
+use g1_handles::code::DONE;
 use g1_handles::handle::Handle;
 use g1_handles::member_handle::MemberHandle;
 use g1_handles::race_resume::resume_race;
@@ -20,7 +22,12 @@ pub extern "C" fn g1_race_resume(
 ) -> u32
     ensures resumed { result ≡ 0 → OfOpen handle.old.value (λ core. IsBegunFor core.state.table (held racers.new) (held sweepers.new)) }
     ensures closed { result ≡ 0 → (handle.new.value ≡ None) × AreClosed (held racers.old) × AreClosed (held sweepers.old) }
+    ensures why { 0 < result →
+        IsRefusal result (IsResumeRefused handle.old.value racers.old sweepers.old) }
     ensures refused { 0 < result → IsAsBefore handle.old.value handle.new.value × (held racers.new ≡ held racers.old) × (held sweepers.new ≡ held sweepers.old) }
 {
-    resume_race(alloc, handle, racers, sweepers)
+    match resume_race(alloc, handle, racers, sweepers) {
+        Ok(()) => DONE,
+        Err(refusal) => refusal.word(),
+    }
 }

@@ -1,12 +1,12 @@
 -- What the calls on the members of a race do.
-use Rattle.std.specs.Prelude.{◌↔◌, Contains, ◌≡◌, ◌≤◌, ℕ, List, [], ◌∷◌, ◌++◌, map, All, Option, Some, None, Bool, true, false, if◌then◌else◌}
+use Rattle.std.specs.Prelude.{◌↔◌, Contains, ◌≡◌, ◌+◌, ◌≤◌, ℕ, List, [], ◌∷◌, ◌++◌, map, length, All, Option, Some, None, Bool, true, false, if◌then◌else◌}
 use Rattle.std.specs.Arc.{arc_value}
 use Rattle.g1_layout.specs.declared.kind.Kind.{Kind}
 use Rattle.g1_core.specs.Table.{Table}
 use Rattle.g1_core.specs.Machine.{Machine}
 use Rattle.g1_race.specs.declared.race.Race.{Race}
 use Rattle.g1_race.specs.declared.view.View.{View}
-use Rattle.g1_race.specs.Begin.{Start, Begun}
+use Rattle.g1_race.specs.Begin.{Start}
 use Rattle.g1_race.specs.Drain.{began}
 use Rattle.g1_race.specs.Over.{Ended}
 use Rattle.g1_race.specs.Resumed.{IsSame}
@@ -15,35 +15,38 @@ use Rattle.g1_race.specs.Members.{race_layout, race_begun, race_shape, racer_sta
 use Rattle.g1_handles.specs.declared.member.Racing.{Racing}
 use Rattle.g1_handles.specs.declared.member.Sweeping.{Sweeping}
 use Rattle.g1_handles.specs.declared.member.Member.{Member}
-use Rattle.g1_handles.specs.declared.member.Member.TheVariants.{Racer, Sweeper}
+use Rattle.g1_handles.specs.declared.member.Member.TheVariants as member
+use Rattle.g1_handles.specs.declared.member.Role.{Role}
+use Rattle.g1_handles.specs.declared.member.Role.TheVariants as roles
+use Rattle.g1_handles.specs.declared.gathered.Gathered.{Gathered}
 use Rattle.g1_handles.specs.declared.member_handle.MemberHandle.{MemberHandle}
 use Rattle.g1_handles.specs.declared.over_handle.Remains.{Remains}
-use Rattle.g1_handles.specs.declared.over_handle.Remains.TheVariants.{Nothing, Over}
+use Rattle.g1_handles.specs.declared.over_handle.Remains.TheVariants as remains
 use Rattle.g1_handles.specs.Codes.{reference_of, kind_word}
 
 -- the handle is a racer's, and it is so of the racer
 abbrev pub OfRacer : Option Member → (Racing → Type 0) → Type 0
 OfRacer None P = ⊥
-OfRacer (Some (Racer a)) P = P a
-OfRacer (Some (Sweeper b)) P = ⊥
+OfRacer (Some (member.Racer a)) P = P a
+OfRacer (Some (member.Sweeper b)) P = ⊥
 
 -- the handle is a sweeper's, and it is so of the sweeper
 abbrev pub OfSweeper : Option Member → (Sweeping → Type 0) → Type 0
 OfSweeper None P = ⊥
-OfSweeper (Some (Racer a)) P = ⊥
-OfSweeper (Some (Sweeper b)) P = P b
+OfSweeper (Some (member.Racer a)) P = ⊥
+OfSweeper (Some (member.Sweeper b)) P = P b
 
 -- if the handle is a racer's, it is so of the racer
 abbrev pub IfRacer : Option Member → (Racing → Type 0) → Type 0
 IfRacer None P = Unit {0}
-IfRacer (Some (Racer a)) P = P a
-IfRacer (Some (Sweeper b)) P = Unit {0}
+IfRacer (Some (member.Racer a)) P = P a
+IfRacer (Some (member.Sweeper b)) P = Unit {0}
 
 -- if the handle is a sweeper's, it is so of the sweeper
 abbrev pub IfSweeper : Option Member → (Sweeping → Type 0) → Type 0
 IfSweeper None P = Unit {0}
-IfSweeper (Some (Racer a)) P = Unit {0}
-IfSweeper (Some (Sweeper b)) P = P b
+IfSweeper (Some (member.Racer a)) P = Unit {0}
+IfSweeper (Some (member.Sweeper b)) P = P b
 
 abbrev pub racer_race_of : Racing → Race
 racer_race_of a = arc_value a.race
@@ -116,40 +119,102 @@ abbrev pub IsBegunFor : Table → List (Option Member) → List (Option Member) 
 IsBegunFor table racers sweepers = (race : Race) × (begin : Start)
     × (began (race_layout race) (beginning begin) ≡ table) × AreSeated race begin racers sweepers
 
--- if the handle is a racer's, it is one of this race
-abbrev pub IfRacerOf : Race → Option Member → Type 0
-IfRacerOf race m = IfRacer m (λ a. racer_race_of a ≡ race)
+-- the handle is open, and it is so of its member
+abbrev pub OfMember : Option Member → (Member → Type 0) → Type 0
+OfMember None P = ⊥
+OfMember (Some m) P = P m
 
--- if the handle is a sweeper's, it is one of this race
-abbrev pub IfSweeperOf : Race → Option Member → Type 0
-IfSweeperOf race m = IfSweeper m (λ b. sweeper_race_of b ≡ race)
+abbrev pub role_of : Member → Role
+role_of (member.Racer a) = roles.Racer
+role_of (member.Sweeper b) = roles.Sweeper
 
--- the racers and the sweepers of these handles are of one race
+-- the race that a member is of
+abbrev pub race_of : Member → Race
+race_of (member.Racer a) = racer_race_of a
+race_of (member.Sweeper b) = sweeper_race_of b
+
+-- how many members its race has
+abbrev pub members_of : Member → ℕ
+members_of m = (race_shape (race_of m)).members
+
+-- the handle's member has this role
+abbrev pub HasRole : Role → Option Member → Type 0
+HasRole role m = OfMember m (λ x. role_of x ≡ role)
+
+-- the handle's member has this role, and its race has this many members
+abbrev pub IsAmong : Role → ℕ → Option Member → Type 0
+IsAmong role members m = OfMember m (λ x. (role_of x ≡ role) × (members_of x ≡ members))
+
+-- the handles are racers' and sweepers', each of a race with as many members as there are handles
+abbrev pub AreAsMany : List (Option Member) → List (Option Member) → Type 0
+AreAsMany racers sweepers = All (IsAmong roles.Racer (length racers + length sweepers)) racers
+    × All (IsAmong roles.Sweeper (length racers + length sweepers)) sweepers
+
+-- the handle's member is of this race
+abbrev pub IsOf : Race → Option Member → Type 0
+IsOf race m = OfMember m (λ x. race_of x ≡ race)
+
+-- the members of these handles are of one race
 abbrev pub AreOfOneRace : List (Option Member) → List (Option Member) → Type 0
-AreOfOneRace racers sweepers = (race : Race) × All (IfRacerOf race) racers × All (IfSweeperOf race) sweepers
+AreOfOneRace racers sweepers = (race : Race) × All (IsOf race) racers × All (IsOf race) sweepers
 
 -- what the member knows
 abbrev pub known_to : Option Member → View
 known_to None = nothing
-known_to (Some (Racer a)) = racer_view a.racer
-known_to (Some (Sweeper b)) = sweeper_view b.sweeper
+known_to (Some (member.Racer a)) = racer_view a.racer
+known_to (Some (member.Sweeper b)) = sweeper_view b.sweeper
 
--- what a race began with, as its members know it
-abbrev pub begun_of : Race → List (Option Member) → List (Option Member) → Begun
-begun_of race racers sweepers = race_begun race (map known_to racers) (map known_to sweepers)
-
--- what is left of a race that ended with these members
-pub record IsClosedOf (race : Race) (racers sweepers : List (Option Member)) (e : Ended) : Type 0 where
+-- what is left of a race that ended with racers and sweepers who know this
+pub record IsEndOf (race : Race) (racers sweepers : List View) (e : Ended) : Type 0 where
   pub layout : e.layout ≡ race_layout race
-  pub pairs : (x : ℕ × ℕ) →
-      Contains e.pairs x ↔ IsKnown (begun_of race racers sweepers) (map known_to sweepers) x
-  pub over : IsOver (begun_of race racers sweepers) e.words (map known_to racers) (map known_to sweepers)
+  pub pairs : (x : ℕ × ℕ) → Contains e.pairs x ↔ IsKnown (race_begun race racers sweepers) sweepers x
+  pub over : IsOver (race_begun race racers sweepers) e.words racers sweepers
 
--- a race is left, and it is so of it
-abbrev pub OfOver : Option Remains → (Ended → Type 0) → Type 0
-OfOver None P = ⊥
-OfOver (Some Nothing) P = ⊥
-OfOver (Some (Over e)) P = P e
+-- what is left of a race that ended with the members of these handles
+abbrev pub IsClosedOf : Race → List (Option Member) → List (Option Member) → Ended → Type 0
+IsClosedOf race racers sweepers e = IsEndOf race (map known_to racers) (map known_to sweepers) e
+
+-- what members that are gathered may leave of their race
+abbrev pub EndsAs : Gathered → Ended → Type 0
+EndsAs g e =
+    IsEndOf (arc_value g.race) (map racer_view g.racers.items) (map sweeper_view g.sweepers.items) e
+
+-- what lies behind the handle may leave this of its race
+abbrev pub Leaves : Option Remains → Ended → Type 0
+Leaves None e = ⊥
+Leaves (Some remains.Nothing) e = ⊥
+Leaves (Some (remains.Members g)) e = EndsAs g e
+Leaves (Some (remains.Over left)) e = left ≡ e
+
+-- a race, or its members, lie behind the handle
+abbrev pub IsKept : Option Remains → Type 0
+IsKept None = ⊥
+IsKept (Some remains.Nothing) = ⊥
+IsKept (Some (remains.Members g)) = Unit {0}
+IsKept (Some (remains.Over e)) = Unit {0}
+
+-- the members of a race lie behind the handle
+abbrev pub KeepsMembers : Option Remains → Type 0
+KeepsMembers None = ⊥
+KeepsMembers (Some remains.Nothing) = ⊥
+KeepsMembers (Some (remains.Members g)) = Unit {0}
+KeepsMembers (Some (remains.Over e)) = ⊥
+
+-- what lay behind the handle lies there still, or what its members left of their race
+abbrev pub IsStill : Option Remains → Option Remains → Type 0
+IsStill None None = Unit {0}
+IsStill None (Some new) = ⊥
+IsStill (Some old) None = ⊥
+IsStill (Some remains.Nothing) (Some remains.Nothing) = Unit {0}
+IsStill (Some remains.Nothing) (Some (remains.Members g)) = ⊥
+IsStill (Some remains.Nothing) (Some (remains.Over e)) = ⊥
+IsStill (Some (remains.Members g)) (Some remains.Nothing) = ⊥
+IsStill (Some (remains.Members g)) (Some (remains.Members h)) =
+    (h.race ≡ g.race) × (h.racers ≡ g.racers) × (h.sweepers ≡ g.sweepers)
+IsStill (Some (remains.Members g)) (Some (remains.Over e)) = EndsAs g e
+IsStill (Some (remains.Over left)) (Some remains.Nothing) = ⊥
+IsStill (Some (remains.Over left)) (Some (remains.Members g)) = ⊥
+IsStill (Some (remains.Over left)) (Some (remains.Over e)) = left ≡ e
 
 -- the handle holds the core that it held, but for its count of reads, or it is closed as it was
 abbrev pub IsAsBefore : Option Machine → Option Machine → Type 0

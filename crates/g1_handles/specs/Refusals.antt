@@ -1,13 +1,17 @@
 -- Why a call is refused: each refusal that it may answer, with what is so where it comes.
-use Rattle.std.specs.Prelude.{◌≡◌, ◌⊎◌, ◌<◌, ◌≤◌, ℕ, List, length, All, Option, None, IsSome}
+use Rattle.std.specs.Prelude.{◌≡◌, ◌⊎◌, ◌+◌, ◌<◌, ◌≤◌, ℕ, List, length, All, Any, Option, None, IsSome}
 use Rattle.g1_layout.specs.Shape.{Shape, IsShape, card_count}
 use Rattle.g1_core.specs.Settings.{Settings, AreSettings}
 use Rattle.g1_core.specs.Machine.{Machine}
 use Rattle.g1_handles.specs.declared.code.Refusal.{Refusal}
 use Rattle.g1_handles.specs.declared.code.Refusal.TheVariants as refusal
+use Rattle.g1_handles.specs.declared.member.Member.{Member}
+use Rattle.g1_handles.specs.declared.member.Role.{Role}
+use Rattle.g1_handles.specs.declared.member.Role.TheVariants as roles
 use Rattle.g1_handles.specs.declared.member_handle.MemberHandle.{MemberHandle}
+use Rattle.g1_handles.specs.declared.over_handle.Remains.{Remains}
 use Rattle.g1_handles.specs.Codes.{OfOpen}
-use Rattle.g1_handles.specs.Racing.{held, AreClosed, AreCounts}
+use Rattle.g1_handles.specs.Racing.{held, AreClosed, AreCounts, HasRole, IsAmong, IsKept, KeepsMembers}
 
 -- the handle is closed
 abbrev pub SaysNotOpen : Option Machine → Refusal → Type 0
@@ -81,10 +85,45 @@ IsRedirectRefused handle from to room r =
     SaysNotOpen handle r ⊎ SaysNoRegion handle from r ⊎ SaysNoRegion handle to r
     ⊎ ((r ≡ refusal.SameRegion) × (from ≡ to)) ⊎ SaysNoRoom handle room r ⊎ (r ≡ refusal.NoMemory)
 
+-- members of a race that are to be seated in these handles
+abbrev pub AreSeatsRefused : List MemberHandle → List MemberHandle → Refusal → Type 0
+AreSeatsRefused racers sweepers r =
+    ((r ≡ refusal.BadMembers) × (AreCounts (length racers) (length sweepers) → ⊥))
+    ⊎ ((r ≡ refusal.AlreadyOpen) × (AreClosed (held racers) → AreClosed (held sweepers) → ⊥))
+    ⊎ (r ≡ refusal.NoMemory)
+
 -- a race over a heap of these counts, with a member for each of these handles
 abbrev pub IsRaceRefused : Shape → List MemberHandle → List MemberHandle → Refusal → Type 0
 IsRaceRefused l racers sweepers r =
+    ((r ≡ refusal.BadLayout) × (IsShape l → ⊥)) ⊎ AreSeatsRefused racers sweepers r
+
+-- a race that begins with the core of a handle, with a member for each of the others
+abbrev pub IsResumeRefused : Option Machine → List MemberHandle → List MemberHandle → Refusal → Type 0
+IsResumeRefused handle racers sweepers r = SaysNotOpen handle r ⊎ AreSeatsRefused racers sweepers r
+
+-- a handle in a close, for a member of this role and of a race with this many members
+abbrev pub IsMemberRefused : Role → ℕ → Option Member → Refusal → Type 0
+IsMemberRefused role members m r =
+    ((r ≡ refusal.NotOpen) × (m ≡ None))
+    ⊎ ((r ≡ refusal.OtherRole) × (HasRole role m → ⊥))
+    ⊎ ((r ≡ refusal.BadMembers) × (IsAmong role members m → ⊥))
+
+-- a close of the race of these members, into this handle; that they are of one race and that nobody
+-- else has a share of it is found out by counts, of which no proof knows
+abbrev pub IsCloseRefused : List (Option Member) → List (Option Member) → Option Remains → Refusal → Type 0
+IsCloseRefused racers sweepers over r =
     ((r ≡ refusal.BadMembers) × (AreCounts (length racers) (length sweepers) → ⊥))
-    ⊎ ((r ≡ refusal.AlreadyOpen) × (AreClosed (held racers) → AreClosed (held sweepers) → ⊥))
-    ⊎ ((r ≡ refusal.BadLayout) × (IsShape l → ⊥))
+    ⊎ Any (λ m. IsMemberRefused roles.Racer (length racers + length sweepers) m r) racers
+    ⊎ Any (λ m. IsMemberRefused roles.Sweeper (length racers + length sweepers) m r) sweepers
+    ⊎ ((r ≡ refusal.AlreadyOpen) × IsSome over)
+    ⊎ (r ≡ refusal.OtherRace)
+    ⊎ (r ≡ refusal.NoMemory)
+
+-- a core of what lies behind one handle, with these settings, into the other
+abbrev pub IsCoreRefused : Option Remains → Option Machine → Settings → Refusal → Type 0
+IsCoreRefused over handle s r =
+    ((r ≡ refusal.NotOpen) × (IsKept over → ⊥))
+    ⊎ ((r ≡ refusal.OtherRace) × KeepsMembers over)
+    ⊎ ((r ≡ refusal.AlreadyOpen) × IsSome handle)
+    ⊎ ((r ≡ refusal.BadSettings) × (AreSettings s → ⊥))
     ⊎ (r ≡ refusal.NoMemory)

@@ -2,8 +2,7 @@
 ghost use Rattle.std.specs.Prelude.{◌≡◌, ◌<◌};
 ghost use Rattle.g1_handles.specs.Codes.{kind_word, refusal_word};
 
-use g1_layout::{Kind, NoMemory};
-use std::alloc::AllocFailed;
+use g1_layout::Kind;
 
 /// The call did what its name says.
 pub const DONE: u32 = 0;
@@ -52,8 +51,8 @@ pub enum Refusal {
     LogFull,
     /// The handles are not as many as the race has members, or as a race may have.
     BadMembers,
-    /// The handles were of several races: they are closed, and what they were of is gone.
-    Lost,
+    /// The handles are not those of all members of one race, each given once.
+    OtherRace,
 }
 
 impl Refusal {
@@ -79,20 +78,8 @@ impl Refusal {
             Refusal::OtherRole => 21,
             Refusal::LogFull => 22,
             Refusal::BadMembers => 23,
-            Refusal::Lost => 24,
+            Refusal::OtherRace => 24,
         }
-    }
-}
-
-impl<T: Drop> From<AllocFailed<T>> for Refusal {
-    fn from(_failed: AllocFailed<T>) -> Refusal {
-        Refusal::NoMemory
-    }
-}
-
-impl From<NoMemory> for Refusal {
-    fn from(_error: NoMemory) -> Refusal {
-        Refusal::NoMemory
     }
 }
 

@@ -12,6 +12,8 @@ use std::sync::Arc;
 pub struct Racing {
     pub(crate) race: Arc<Race, Global>,
     pub(crate) racer: Racer,
+    // Its number among the racers of its race.
+    pub(crate) number: usize,
     // A cache line that nobody uses: boxes of racers lie side by side, and a store writes the end of its racer.
     pub(crate) apart: [u64; 8],
     ghost same: { racer_race racer ≡ race_id (arc_value race) },
@@ -22,6 +24,8 @@ pub struct Racing {
 pub struct Sweeping {
     pub(crate) race: Arc<Race, Global>,
     pub(crate) sweeper: Sweeper,
+    // Its number among the sweepers of its race.
+    pub(crate) number: usize,
     ghost same: { sweeper_race sweeper ≡ race_id (arc_value race) },
 }
 
@@ -32,6 +36,15 @@ pub enum Member {
     Racer(Racing),
     /// It refines.
     Sweeper(Sweeping),
+}
+
+/// What a member does.
+#[derive(Clone, Copy, PartialEq, Eq)]
+pub enum Role {
+    /// It stores.
+    Racer,
+    /// It refines.
+    Sweeper,
 }
 
 fn sent<T: Send>(_value: &T) {}

@@ -4,6 +4,7 @@ ghost use Rattle.std.specs.Coded.{coded_option};
 ghost use Rattle.g1_handles.specs.declared.over_handle.Remains.{Remains};
 ghost use Rattle.g1_handles.specs.contracts.over_handle.Remains.{the_row};
 
+use crate::gathered::Gathered;
 use g1_race::Closed;
 use raw_box::RawBox;
 use std::alloc::Global;
@@ -15,6 +16,9 @@ use std::ptr::null_mut;
 pub enum Remains {
     /// Nothing: only while the race that is to lie here is closed.
     Nothing,
+    /// The members of a race of which somebody else has a share: a close looks for that before, so
+    /// it is not to come, but no proof knows it.
+    Members(Gathered),
     /// A race that is over.
     Over(Closed),
 }

@@ -1,104 +1,71 @@
 //! How a race ends.
-ghost use Rattle.std.specs.Prelude.{◌≡◌, ◌≢◌, ◌<◌, [], None, Some, IfSome, OnSome, IfOk, OnOk, IfErr, IsTrue, map, All};
+ghost use Rattle.std.specs.Prelude.{◌≡◌, ◌<◌, ◌≤◌, [], None, Some, OnOk, IfOk, OnErr, IfErr, IsTrue, map, length, All, vec_len, vec_capacity};
 ghost use Rattle.std.specs.Arc.{arc_value};
 ghost use Rattle.g1_race.specs.declared.race.Race.{Race};
+ghost use Rattle.g1_race.specs.Over.{Ended};
 ghost use Rattle.g1_race.specs.Members.{race_id, racer_race, sweeper_race, racer_view, sweeper_view};
-ghost use Rattle.g1_handles.specs.Racing.{held, AreClosed, AreOfOneRace, IfRacerOf, IfSweeperOf, IsClosedOf, OfOver, known_to};
+ghost use Rattle.g1_handles.specs.Racing.{held, AreClosed, AreAsMany, AreOfOneRace, HasRole, IsOf, IsClosedOf, EndsAs, IsKept, IsStill, Leaves, known_to};
+ghost use Rattle.g1_handles.specs.Refusals.{IsCloseRefused};
 
-use crate::code::{DONE, Refusal};
-use crate::member::{Member, Racing, Sweeping};
+use crate::code::Refusal;
+use crate::gathered::Gathered;
+use crate::look::look_at;
+use crate::member::{Member, Racing, Role, Sweeping};
 use crate::member_handle::MemberHandle;
+use crate::one_race::share_of_all;
 use crate::over_handle::{OverHandle, Remains};
 use crate::seats::are_counts;
 use core::mem::replace_with;
-use g1_race::{Race, Racer, Sweeper};
+use g1_race::{Closed, Race, Racer, Sweeper};
 use raw_box::RawBox;
 use std::alloc::Global;
 use std::sync::Arc;
 
-/// Ends a race, whose racers and sweepers are all handed in, and leaves what is left of it behind `over`.
+/// Ends a race, whose racers and sweepers are all handed in, and leaves what is left of it behind
+/// `over`.
+///
+/// Members of several races are refused, before anything stands on the condition.
 pub fn close_race(
     alloc: Global,
     racers: &mut [MemberHandle],
     sweepers: &mut [MemberHandle],
     over: &mut OverHandle,
-) -> u32
-    requires one { AreOfOneRace (held racers.old) (held sweepers.old) }
-    ensures over { result ≡ 0 → (race : Race) → All (IfRacerOf race) (held racers.old) → All (IfSweeperOf race) (held sweepers.old) → OfOver over.new.value (λ e. IsClosedOf race (held racers.old) (held sweepers.old) e) }
-    ensures closed { result ≡ 0 → (over.old.value ≡ None) × AreClosed (held racers.new) × AreClosed (held sweepers.new) }
-    ensures refused { 0 < result → result ≢ 24 → (held racers.new ≡ held racers.old) × (held sweepers.new ≡ held sweepers.old) × (over.new.value ≡ over.old.value) }
+) -> Result<(), Refusal>
+    requires one { AreAsMany (held racers.old) (held sweepers.old) →
+        AreOfOneRace (held racers.old) (held sweepers.old) }
+    ensures members { OnOk result (AreAsMany (held racers.old) (held sweepers.old)) }
+    ensures over { OnOk result ((race : Race) → All (IsOf race) (held racers.old) →
+        All (IsOf race) (held sweepers.old) → (e : Ended) → Leaves over.new.value e →
+        IsClosedOf race (held racers.old) (held sweepers.old) e) }
+    ensures kept { OnOk result (IsKept over.new.value) }
+    ensures closed { OnOk result ((over.old.value ≡ None) × AreClosed (held racers.new) ×
+        AreClosed (held sweepers.new)) }
+    ensures why { IfErr result (λ refusal.
+        IsCloseRefused (held racers.old) (held sweepers.old) over.old.value refusal) }
+    ensures refused { OnErr result ((held racers.new ≡ held racers.old) ×
+        (held sweepers.new ≡ held sweepers.old) × (over.new.value ≡ over.old.value)) }
 {
     if !are_counts(racers.len(), sweepers.len()) {
-        return Refusal::BadMembers.word();
+        return Err(Refusal::BadMembers);
     }
     let members = racers.len() + sweepers.len();
-    if let Err(word) = look_at(alloc, racers, Role::Racer, members) {
-        return word;
-    }
-    if let Err(word) = look_at(alloc, sweepers, Role::Sweeper, members) {
-        return word;
-    }
+    look_at(alloc, racers, Role::Racer, members)?;
+    look_at(alloc, sweepers, Role::Sweeper, members)?;
     if !replace_with(over, alloc, is_closed) {
-        return Refusal::AlreadyOpen.word();
+        return Err(Refusal::AlreadyOpen);
     }
-    match close_all(alloc, racers, sweepers) {
-        Err(word) => word,
-        Ok(remains) => {
-            replace_with(over, remains, put_in);
-            DONE
-        }
-    }
-}
-
-/// What a member does.
-#[derive(Clone, Copy, PartialEq, Eq)]
-enum Role {
-    Racer,
-    Sweeper,
-}
-
-/// Whether each handle is one of this role, of a race with this many members.
-fn look_at(
-    alloc: Global,
-    handles: &mut [MemberHandle],
-    role: Role,
-    members: usize,
-) -> Result<(), u32>
-    ensures same { held handles.new ≡ held handles.old }
-    ensures word { IfErr result (λ word. (0 < word) × (word ≢ 24)) }
-{
-    for i in 0..handles.len() {
-        let Some((found, count)) = replace_with(&mut handles[i], alloc, look) else {
-            return Err(Refusal::NotOpen.word());
-        };
-        if found != role {
-            return Err(Refusal::OtherRole.word());
-        }
-        if count != members {
-            return Err(Refusal::BadMembers.word());
-        }
-    }
+    let Some(share) = share_of_all(alloc, racers, sweepers) else {
+        return Err(Refusal::OtherRace);
+    };
+    let remains = close_all(alloc, share, racers, sweepers)?;
+    replace_with(over, remains, put_in);
     Ok(())
-}
-
-/// The role of a handle's member, and how many members its race has.
-fn look(handle: MemberHandle, alloc: Global) -> (MemberHandle, Option<(Role, usize)>)
-    ensures { result.0.value ≡ handle.value }
-{
-    let Some(member) = handle.into_raw_box() else {
-        return (MemberHandle::closed(alloc), None);
-    };
-    let member = member.into_box();
-    let found = match &*member {
-        Member::Racer(racing) => (Role::Racer, racing.race.members()),
-        Member::Sweeper(sweeping) => (Role::Sweeper, sweeping.race.members()),
-    };
-    (MemberHandle::of(RawBox::of(member)), Some(found))
 }
 
 fn is_closed(over: OverHandle, alloc: Global) -> (OverHandle, bool)
     ensures same { result.0.value ≡ over.value }
     ensures closed { IsTrue result.1 → over.value ≡ None }
+    ensures open { over.value ≡ None → IsTrue result.1 }
 {
     match over.into_raw_box() {
         None => (OverHandle::closed(alloc), true),
@@ -112,66 +79,100 @@ fn put_in(_over: OverHandle, remains: Box<Remains>) -> (OverHandle, ())
     (OverHandle::of(RawBox::of(remains)), ())
 }
 
-/// Closes the race of these handles. Memory is taken before the first of them changes.
+/// Closes the race of these handles, of which this is a share. Memory is taken before the first of
+/// them changes.
 fn close_all(
     alloc: Global,
+    share: Arc<Race, Global>,
     racers: &mut [MemberHandle],
     sweepers: &mut [MemberHandle],
-) -> Result<Box<Remains>, u32>
-    requires one { AreOfOneRace (held racers.old) (held sweepers.old) }
-    ensures over { (race : Race) → All (IfRacerOf race) (held racers.old) → All (IfSweeperOf race) (held sweepers.old) → IfOk result (λ remains. OfOver (Some remains.value) (λ e. IsClosedOf race (held racers.old) (held sweepers.old) e)) }
+) -> Result<Box<Remains>, Refusal>
+    requires many { AreAsMany (held racers.old) (held sweepers.old) }
+    requires some { 0 < length racers.old }
+    requires one { All (IsOf (arc_value share)) (held racers.old) ×
+        All (IsOf (arc_value share)) (held sweepers.old) }
+    ensures over { IfOk result (λ remains. (e : Ended) → Leaves (Some remains.value) e →
+        IsClosedOf (arc_value share) (held racers.old) (held sweepers.old) e) }
+    ensures kept { IfOk result (λ remains. IsKept (Some remains.value)) }
     ensures closed { OnOk result (AreClosed (held racers.new) × AreClosed (held sweepers.new)) }
-    ensures word { IfErr result (λ word. (0 < word) × (word ≢ 24 → (held racers.new ≡ held racers.old) × (held sweepers.new ≡ held sweepers.old))) }
+    ensures why { IfErr result (λ refusal. refusal ≡ Refusal.NoMemory) }
+    ensures refused { OnErr result ((held racers.new ≡ held racers.old) ×
+        (held sweepers.new ≡ held sweepers.old)) }
 {
     let Ok(mut remains) = Box::new(alloc, Remains::Nothing) else {
-        return Err(Refusal::NoMemory.word());
+        return Err(Refusal::NoMemory);
     };
     let Ok(racer_room) = Vec::with_capacity(alloc, racers.len()) else {
-        return Err(Refusal::NoMemory.word());
+        return Err(Refusal::NoMemory);
     };
     let Ok(sweeper_room) = Vec::with_capacity(alloc, sweepers.len()) else {
-        return Err(Refusal::NoMemory.word());
+        return Err(Refusal::NoMemory);
     };
-    let Some((gone_racers, share)) = gather_racers(alloc, racers, racer_room) else {
-        return Err(Refusal::Lost.word());
-    };
-    let Some(gone_sweepers) = gather_sweepers(alloc, sweepers, sweeper_room) else {
-        return Err(Refusal::Lost.word());
-    };
-    let Ok(race) = Arc::try_unwrap(share) else {
-        return Err(Refusal::Lost.word());
-    };
-    if gone_racers.len() + gone_sweepers.len() != race.members() {
-        return Err(Refusal::Lost.word());
-    }
-    *remains = Remains::Over(race.close(gone_racers, gone_sweepers));
+    let gone_racers = gather_racers(alloc, racers, racer_room);
+    let gone_sweepers = gather_sweepers(alloc, sweepers, sweeper_room);
+    *remains = ended(Remains::Members(Gathered {
+        race: share,
+        racers: gone_racers,
+        sweepers: gone_sweepers,
+    }));
     Ok(remains)
 }
 
-/// The racers of these handles, which are closed then, and the last one's share of the race.
-fn gather_racers(
-    alloc: Global,
-    handles: &mut [MemberHandle],
-    mut racers: Vec<Racer>,
-) -> Option<(Vec<Racer>, Arc<Race, Global>)>
-    requires { racers.items ≡ [] }
-    ensures closed { OnSome result (AreClosed (held handles.new)) }
-    ensures race { (race : Race) → All (IfRacerOf race) (held handles.old) → IfSome result (λ r. All (λ w. racer_race w ≡ race_id race) r.0.items × (arc_value r.1 ≡ race)) }
-    ensures views { IfSome result (λ r. map racer_view r.0.items ≡ map known_to (held handles.old)) }
+/// Ends the race of members that lie here, where nobody else has a share of it.
+pub(crate) fn ended(remains: Remains) -> Remains
+    ensures { IsStill (Some remains) (Some result) }
 {
-    let mut share = None;
-    for i in 0..handles.len() {
-        let Some(Member::Racer(racing)) = replace_with(&mut handles[i], alloc, take) else {
-            return None;
-        };
-        let Racing { race, racer, .. } = racing;
-        let Ok(()) = racers.push(racer) else {
-            return None;
-        };
-        share = Some(race);
+    match remains {
+        Remains::Members(gathered) => match end(gathered) {
+            Ok(closed) => Remains::Over(closed),
+            Err(back) => Remains::Members(back),
+        },
+        Remains::Nothing => Remains::Nothing,
+        Remains::Over(closed) => Remains::Over(closed),
     }
-    let share = share?;
-    Some((racers, share))
+}
+
+fn end(gathered: Gathered) -> Result<Closed, Gathered>
+    ensures over { IfOk result (λ e. EndsAs gathered e) }
+    ensures back { IfErr result (λ back. (back.race ≡ gathered.race) ×
+        (back.racers ≡ gathered.racers) × (back.sweepers ≡ gathered.sweepers)) }
+{
+    let Gathered {
+        race,
+        racers,
+        sweepers,
+    } = gathered;
+    match Arc::try_unwrap(race) {
+        Ok(race) => Ok(race.close(racers, sweepers)),
+        Err(race) => Err(Gathered {
+            race,
+            racers,
+            sweepers,
+        }),
+    }
+}
+
+/// The racers of these handles, which are closed then.
+fn gather_racers(alloc: Global, handles: &mut [MemberHandle], mut racers: Vec<Racer>) -> Vec<Racer>
+    requires room { (racers.items ≡ []) × (vec_len racers ≡ 0) ×
+        (length handles.old ≤ vec_capacity racers) }
+    requires role { All (HasRole Role.Racer) (held handles.old) }
+    ensures count { vec_len result ≡ length handles.old }
+    ensures closed { AreClosed (held handles.new) }
+    ensures race { (race : Race) → All (IsOf race) (held handles.old) →
+        All (λ w. racer_race w ≡ race_id race) result.items }
+    ensures views { map racer_view result.items ≡ map known_to (held handles.old) }
+{
+    for i in 0..handles.len() {
+        let racing = match replace_with(&mut handles[i], alloc, take) {
+            Some(Member::Racer(racing)) => racing,
+            Some(Member::Sweeper(_)) => unreachable!(),
+            None => unreachable!(),
+        };
+        let Racing { racer, .. } = racing;
+        racers.push_reserved(racer);
+    }
+    racers
 }
 
 /// The sweepers of these handles, which are closed then.
@@ -179,22 +180,26 @@ fn gather_sweepers(
     alloc: Global,
     handles: &mut [MemberHandle],
     mut sweepers: Vec<Sweeper>,
-) -> Option<Vec<Sweeper>>
-    requires { sweepers.items ≡ [] }
-    ensures closed { OnSome result (AreClosed (held handles.new)) }
-    ensures race { (race : Race) → All (IfSweeperOf race) (held handles.old) → IfSome result (λ ws. All (λ w. sweeper_race w ≡ race_id race) ws.items) }
-    ensures views { IfSome result (λ ws. map sweeper_view ws.items ≡ map known_to (held handles.old)) }
+) -> Vec<Sweeper>
+    requires room { (sweepers.items ≡ []) × (vec_len sweepers ≡ 0) ×
+        (length handles.old ≤ vec_capacity sweepers) }
+    requires role { All (HasRole Role.Sweeper) (held handles.old) }
+    ensures count { vec_len result ≡ length handles.old }
+    ensures closed { AreClosed (held handles.new) }
+    ensures race { (race : Race) → All (IsOf race) (held handles.old) →
+        All (λ w. sweeper_race w ≡ race_id race) result.items }
+    ensures views { map sweeper_view result.items ≡ map known_to (held handles.old) }
 {
     for i in 0..handles.len() {
-        let Some(Member::Sweeper(sweeping)) = replace_with(&mut handles[i], alloc, take) else {
-            return None;
+        let sweeping = match replace_with(&mut handles[i], alloc, take) {
+            Some(Member::Sweeper(sweeping)) => sweeping,
+            Some(Member::Racer(_)) => unreachable!(),
+            None => unreachable!(),
         };
-        let Sweeping { race: _, sweeper } = sweeping;
-        let Ok(()) = sweepers.push(sweeper) else {
-            return None;
-        };
+        let Sweeping { sweeper, .. } = sweeping;
+        sweepers.push_reserved(sweeper);
     }
-    Some(sweepers)
+    sweepers
 }
 
 /// Takes the member of a handle, which is closed then.

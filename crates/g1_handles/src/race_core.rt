@@ -1,13 +1,15 @@
 //! A race that is over becomes a core.
-ghost use Rattle.std.specs.Prelude.{◌≡◌, ◌<◌, None, Some, IsSome, IfOk};
-ghost use Rattle.g1_race.specs.Over.{core_of};
+ghost use Rattle.std.specs.Prelude.{◌≡◌, ◌<◌, None, Some, IsSome, IfOk, OnOk, OnErr, IfErr};
+ghost use Rattle.g1_race.specs.Over.{Ended, core_of};
 ghost use Rattle.g1_handles.specs.Codes.{settings_of};
-ghost use Rattle.g1_handles.specs.Racing.{OfOver};
+ghost use Rattle.g1_handles.specs.Racing.{IsStill, Leaves};
+ghost use Rattle.g1_handles.specs.Refusals.{IsCoreRefused};
 
 use crate::calls::{config, open_in};
 use crate::code::{DONE, Refusal};
 use crate::handle::Handle;
 use crate::over_handle::{OverHandle, Remains};
+use crate::race_close::ended;
 use core::mem::replace_with;
 use g1_core::Core;
 use raw_box::RawBox;
@@ -20,48 +22,67 @@ pub fn open_core(
     handle: &mut Handle,
     hot: u32,
     ring: u32,
-) -> u32
-    ensures core { result ≡ 0 → OfOver over.old.value (λ e. handle.new.value ≡ Some (core_of e (settings_of hot ring))) }
-    ensures closed { result ≡ 0 → (handle.old.value ≡ None) × (over.new.value ≡ None) }
-    ensures refused { 0 < result → (handle.new.value ≡ handle.old.value) × (over.new.value ≡ over.old.value) }
+) -> Result<(), Refusal>
+    ensures core { OnOk result ((e : Ended) × Leaves over.old.value e ×
+        (handle.new.value ≡ Some (core_of e (settings_of hot ring)))) }
+    ensures closed { OnOk result ((handle.old.value ≡ None) × (over.new.value ≡ None)) }
+    ensures why { IfErr result (λ refusal.
+        IsCoreRefused over.old.value handle.old.value (settings_of hot ring) refusal) }
+    ensures refused { OnErr result ((handle.new.value ≡ handle.old.value) ×
+        IsStill over.old.value over.new.value) }
 {
-    match replace_with(over, (alloc, hot, ring), core_in) {
-        Err(refusal) => refusal.word(),
-        Ok(core) => match replace_with(handle, core, open_in) {
-            Err(refusal) => refusal.word(),
-            Ok(()) => {
-                replace_with(over, alloc, close_in);
-                DONE
-            }
-        },
-    }
+    let core = replace_with(over, (alloc, hot, ring), core_in)?;
+    replace_with(handle, core, open_in)?;
+    replace_with(over, alloc, close_in);
+    Ok(())
 }
 
 /// A core of what is left, which stays.
 fn core_in(over: OverHandle, words: (Global, u32, u32)) -> (OverHandle, Result<Box<Core>, Refusal>)
-    ensures core { IfOk result.1 (λ core. OfOver over.value (λ e. core.value ≡ core_of e (settings_of words.1 words.2))) }
-    ensures same { result.0.value ≡ over.value }
+    ensures core { IfOk result.1 (λ core. (e : Ended) × Leaves over.value e ×
+        (core.value ≡ core_of e (settings_of words.1 words.2))) }
+    ensures still { IsStill over.value result.0.value }
+    ensures why { IfErr result.1 (λ refusal.
+        IsCoreRefused over.value None (settings_of words.1 words.2) refusal) }
 {
     let Some(remains) = over.into_raw_box() else {
         return (OverHandle::closed(words.0), Err(Refusal::NotOpen));
     };
-    let remains = remains.into_box();
-    let core = core_of(words.0, &remains, words.1, words.2);
+    let mut remains = remains.into_box();
+    let core = core_of(words.0, &mut remains, words.1, words.2);
     (OverHandle::of(RawBox::of(remains)), core)
 }
 
-fn core_of(alloc: Global, remains: &Remains, hot: u32, ring: u32) -> Result<Box<Core>, Refusal>
-    ensures { IfOk result (λ core. OfOver (Some remains.now) (λ e. core.value ≡ core_of e (settings_of hot ring))) }
+fn core_of(alloc: Global, remains: &mut Remains, hot: u32, ring: u32) -> Result<Box<Core>, Refusal>
+    ensures core { IfOk result (λ core. (e : Ended) × Leaves (Some remains.old) e ×
+        (core.value ≡ core_of e (settings_of hot ring))) }
+    ensures still { IsStill (Some remains.old) (Some remains.new) }
+    ensures why { IfErr result (λ refusal.
+        IsCoreRefused (Some remains.old) None (settings_of hot ring) refusal) }
 {
-    let Remains::Over(closed) = remains else {
-        return Err(Refusal::NotOpen);
-    };
     let Some(config) = config(hot, ring) else {
         return Err(Refusal::BadSettings);
     };
-    let core = closed.to_core(alloc, config)?;
-    let core = Box::new(alloc, core)?;
-    Ok(core)
+    replace_with(remains, (), ended_in);
+    match remains {
+        Remains::Nothing => Err(Refusal::NotOpen),
+        Remains::Members(_) => Err(Refusal::OtherRace),
+        Remains::Over(closed) => {
+            let Ok(core) = closed.to_core(alloc, config) else {
+                return Err(Refusal::NoMemory);
+            };
+            match Box::new(alloc, core) {
+                Ok(core) => Ok(core),
+                Err(_) => Err(Refusal::NoMemory),
+            }
+        }
+    }
+}
+
+fn ended_in(remains: Remains, _nothing: ()) -> (Remains, ())
+    ensures { IsStill (Some remains) (Some result.0) }
+{
+    (ended(remains), ())
 }
 
 /// Closes the handle of a race that is over, and drops what was left of it.

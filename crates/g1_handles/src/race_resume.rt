@@ -1,11 +1,12 @@
 //! A core becomes a race.
-ghost use Rattle.std.specs.Prelude.{◌≡◌, ◌<◌, ◌≤◌, None, IfOk};
+ghost use Rattle.std.specs.Prelude.{◌≡◌, ◌⊎◌, ◌≤◌, None, IfOk, IfErr, OnOk, OnErr};
 ghost use Rattle.g1_race.specs.Members.{AreFreshRacers, AreFreshSweepers, HaveBegunWith};
 ghost use Rattle.g1_handles.specs.Codes.{OfOpen};
 ghost use Rattle.g1_handles.specs.Racing.{held, AreClosed, IsBegunFor, IsAsBefore};
+ghost use Rattle.g1_handles.specs.Refusals.{IsResumeRefused, SaysNotOpen};
 
 use crate::calls::close_in;
-use crate::code::{DONE, Refusal};
+use crate::code::Refusal;
 use crate::handle::Handle;
 use crate::member_handle::MemberHandle;
 use crate::seats::{are_closed, are_counts, seat};
@@ -20,26 +21,34 @@ pub fn resume_race(
     handle: &mut Handle,
     racers: &mut [MemberHandle],
     sweepers: &mut [MemberHandle],
-) -> u32
-    ensures resumed { result ≡ 0 → OfOpen handle.old.value (λ core. IsBegunFor core.state.table (held racers.new) (held sweepers.new)) }
-    ensures closed { result ≡ 0 → (handle.new.value ≡ None) × AreClosed (held racers.old) × AreClosed (held sweepers.old) }
-    ensures refused { 0 < result → IsAsBefore handle.old.value handle.new.value × (held racers.new ≡ held racers.old) × (held sweepers.new ≡ held sweepers.old) }
+) -> Result<(), Refusal>
+    ensures resumed { OnOk result (OfOpen handle.old.value (λ core.
+        IsBegunFor core.state.table (held racers.new) (held sweepers.new))) }
+    ensures closed { OnOk result ((handle.new.value ≡ None) × AreClosed (held racers.old) ×
+        AreClosed (held sweepers.old)) }
+    ensures why { IfErr result (λ refusal.
+        IsResumeRefused handle.old.value racers.old sweepers.old refusal) }
+    ensures refused { OnErr result (IsAsBefore handle.old.value handle.new.value ×
+        (held racers.new ≡ held racers.old) × (held sweepers.new ≡ held sweepers.old)) }
 {
     if !are_counts(racers.len(), sweepers.len()) {
-        return Refusal::BadMembers.word();
+        return Err(Refusal::BadMembers);
     }
-    if !are_closed(alloc, racers) || !are_closed(alloc, sweepers) {
-        return Refusal::AlreadyOpen.word();
+    if !are_closed(alloc, racers) {
+        return Err(Refusal::AlreadyOpen);
+    }
+    if !are_closed(alloc, sweepers) {
+        return Err(Refusal::AlreadyOpen);
     }
     let counts = (alloc, racers.len() as u32, sweepers.len() as u32);
     match replace_with(handle, counts, begin_in) {
-        Err(refusal) => refusal.word(),
+        Err(refusal) => Err(refusal),
         Ok((race, new_racers, new_sweepers)) => {
             match seat(alloc, race, new_racers, new_sweepers, racers, sweepers) {
-                Err(_) => Refusal::NoMemory.word(),
+                Err(_) => Err(Refusal::NoMemory),
                 Ok(()) => {
                     replace_with(handle, alloc, close_in);
-                    DONE
+                    Ok(())
                 }
             }
         }
@@ -56,6 +65,8 @@ fn begin_in(
     ensures began { IfOk result.1 (λ r. OfOpen handle.value (λ core. HaveBegunWith core.state.table r.0 r.1 r.2)) }
     ensures racers { IfOk result.1 (λ r. AreFreshRacers r.0 words.1 r.1) }
     ensures sweepers { IfOk result.1 (λ r. AreFreshSweepers r.0 words.2 r.2) }
+    ensures why { IfErr result.1 (λ refusal.
+        SaysNotOpen handle.value refusal ⊎ (refusal ≡ Refusal.NoMemory)) }
     ensures same { IsAsBefore handle.value result.0.value }
 {
     let Some(core) = handle.into_raw_box() else {

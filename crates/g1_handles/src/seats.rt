@@ -85,11 +85,13 @@ fn racing(
     let mut members = Vec::new(alloc);
     while let Some(racer) = racers.pop() {
         let race = Arc::try_clone(race)?;
+        let number = racers.len();
         let member = Box::new(
             alloc,
             Member::Racer(Racing {
                 race,
                 racer,
+                number,
                 apart: [0; 8],
             }),
         )?;
@@ -112,7 +114,15 @@ fn sweeping(
     let mut members = Vec::new(alloc);
     while let Some(sweeper) = sweepers.pop() {
         let race = Arc::try_clone(race)?;
-        let member = Box::new(alloc, Member::Sweeper(Sweeping { race, sweeper }))?;
+        let number = sweepers.len();
+        let member = Box::new(
+            alloc,
+            Member::Sweeper(Sweeping {
+                race,
+                sweeper,
+                number,
+            }),
+        )?;
         members.push(member)?;
     }
     Ok(members)

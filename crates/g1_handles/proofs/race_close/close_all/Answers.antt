@@ -1,38 +1,23 @@
--- The race that is closed is the one that the handles are of.
-use Rattle.std.proofs.Common.{◌≡◌, ℕ, List, All, map, ap, ◌∙◌, sym, subst, arith}
-use Rattle.std.specs.Prelude.{Contains, ◌↔◌}
-use Rattle.g1_race.specs.declared.view.View.{View}
-use Rattle.g1_race.specs.declared.race.Race.{Race}
-use Rattle.g1_race.specs.declared.race.Racer.{Racer}
-use Rattle.g1_race.specs.declared.race.Sweeper.{Sweeper}
-use Rattle.g1_race.specs.Race.{IsKnown, IsOver}
-use Rattle.g1_race.specs.Members.{race_id, race_layout, race_begun, racer_race, sweeper_race, racer_view, sweeper_view}
-use Rattle.g1_handles.specs.Racing.{held, known_to}
+-- The members are as many as their race has.
+use Rattle.std.proofs.Common.{◌<◌, None, length, arith}
+use Rattle.std.proofs.lemmas.List.{length-map}
+use Rattle.std.specs.Arc.{arc_value}
+use Rattle.g1_handles.specs.declared.member.Role.TheVariants as roles
+use Rattle.g1_handles.specs.declared.member_handle.MemberHandle.{MemberHandle}
+use Rattle.g1_handles.specs.Racing.{held}
+use Rattle.g1_handles.proofs.Rows.{race_has}
 use Rattle.g1_handles.proofs.race_close.close_all.Goals as goal
 
-pub close-requires-clause-racers : goal.close-requires-clause-racers
-close-requires-clause-racers c =
-    let one = c.requires.one in
-    let all = c.in-Some.ensures.race one.0 one.1 in
-    let same : c.in-Ok-try_unwrap.race ≡ one.0 = c.in-Ok-try_unwrap.ensures.ok ∙ all.1 in (
-      omega (arith, c.if-len-members.false, c.len.ensures, c.len-2.ensures, c.members.ensures),
-      subst (λ (race : Race). All (λ (r : Racer). racer_race r ≡ race_id race) c.in-Some.gone_racers.items) (sym same) all.0,
-    )
+pub invariant_of-ended-clause-all : goal.invariant_of-ended-clause-all
+invariant_of-ended-clause-all c =
+    let racers = length-map c.args.racers.now (λ (x : MemberHandle). x.value) in
+    let sweepers = length-map c.args.sweepers.now (λ (x : MemberHandle). x.value) in
+    let some : 0 < length (held c.args.racers.now) = omega (arith, racers, c.requires.some) in
+    let has = race_has roles.Racer _ (arc_value c.args.share) _ (c.requires.many.0 0 None some) (c.requires.one.0 0 None some) in
+    omega (arith, has, racers, sweepers, c.gather_racers-gone_racers.ensures.count, c.gather_sweepers-gone_sweepers.ensures.count)
 
-pub close-requires-clause-sweepers : goal.close-requires-clause-sweepers
-close-requires-clause-sweepers c =
-    let one = c.requires.one in
-    let same : c.in-Ok-try_unwrap.race ≡ one.0 = c.in-Ok-try_unwrap.ensures.ok ∙ (c.in-Some.ensures.race one.0 one.1).1 in
-    subst (λ (race : Race). All (λ (w : Sweeper). sweeper_race w ≡ race_id race) c.in-Some-gather_sweepers.gone_sweepers.items) (sym same) (c.in-Some-gather_sweepers.ensures.race one.0 one.2)
+pub invariant_of-ended-clause-racing : goal.invariant_of-ended-clause-racing
+invariant_of-ended-clause-racing c = c.gather_racers-gone_racers.ensures.race (arc_value c.args.share) c.requires.one.0
 
-pub returns-clause-over : goal.returns-clause-over
-returns-clause-over c race rs ws =
-    let same : c.in-Ok-try_unwrap.race ≡ race = c.in-Ok-try_unwrap.ensures.ok ∙ (c.in-Some.ensures.race race rs).1 in
-    let e = c.close.result in
-    let us : map racer_view c.in-Some.gone_racers.items ≡ map known_to (held c.args.racers.now) = c.in-Some.ensures.views in
-    let vs : map sweeper_view c.in-Some-gather_sweepers.gone_sweepers.items ≡ map known_to (held c.args.sweepers.now) = c.in-Some-gather_sweepers.ensures.views in
-    record {
-      layout = c.close.ensures.layout ∙ ap race_layout same;
-      pairs = subst (λ (a : Race × List View × List View). (x : ℕ × ℕ) → Contains e.pairs x ↔ IsKnown (race_begun a.0 a.1 a.2) a.2 x) (λ i. (same i, us i, vs i)) c.close.ensures.pairs;
-      over = subst (λ (a : Race × List View × List View). IsOver (race_begun a.0 a.1 a.2) e.words a.1 a.2) (λ i. (same i, us i, vs i)) c.close.ensures.over;
-    }
+pub invariant_of-ended-clause-sweeping : goal.invariant_of-ended-clause-sweeping
+invariant_of-ended-clause-sweeping c = c.gather_sweepers-gone_sweepers.ensures.race (arc_value c.args.share) c.requires.one.1

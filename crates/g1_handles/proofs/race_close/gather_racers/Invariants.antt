@@ -1,18 +1,20 @@
 -- The first i handles are closed and have given what they had, and the others are as they were.
-use Rattle.std.proofs.Common.{◌≡◌, ◌≤◌, ℕ, All, IfSome, None, length, map, take, slice_index_or}
+use Rattle.std.proofs.Common.{◌≡◌, ◌≤◌, ℕ, All, None, length, map, take, slice_index_or, vec_len}
+use Rattle.std.specs.Prelude.{vec_capacity}
 use Rattle.std.specs.List.{AllWithin}
-use Rattle.std.specs.Arc.{arc_value}
 use Rattle.g1_race.specs.declared.race.Race.{Race}
 use Rattle.g1_race.specs.Members.{race_id, racer_race, racer_view}
 use Rattle.g1_handles.specs.declared.member_handle.MemberHandle.{MemberHandle}
-use Rattle.g1_handles.specs.Racing.{held, known_to, IfRacerOf}
+use Rattle.g1_handles.specs.Racing.{held, known_to, IsOf}
 use Rattle.g1_handles.proofs.race_close.gather_racers.Given as goal
 
 abbrev pub invariant-loop-i : goal.invariant-loop-i
 invariant-loop-i l = record {
   sized : length l.handles ≡ length l.fn.handles;
+  count : vec_len l.racers ≡ l.i;
+  room : length l.fn.handles ≤ vec_capacity l.racers;
   closed : AllWithin (λ h. h.value ≡ None) l.handles 0 l.i;
   rest : (k : ℕ) (d : MemberHandle) → l.i ≤ k → slice_index_or l.handles k d ≡ slice_index_or l.fn.handles k d;
-  race : (race : Race) → All (IfRacerOf race) (held l.fn.handles) → All (λ r. racer_race r ≡ race_id race) l.racers.items × IfSome l.share (λ s. arc_value s ≡ race);
+  race : (race : Race) → All (IsOf race) (held l.fn.handles) → All (λ r. racer_race r ≡ race_id race) l.racers.items;
   views : map racer_view l.racers.items ≡ map known_to (held (take l.i l.fn.handles));
 }

@@ -1,4 +1,4 @@
--- The next handle gives its member, and is closed.
+-- The next handle gives its member, which has the role that is asked for, and is closed.
 use Rattle.std.proofs.Common.{◌≡◌, ◌<◌, Some, None, All, length, sym, ap, ◌∙◌, subst, arith}
 use Rattle.std.proofs.lemmas.List.{length-set, get_or-set_other}
 use Rattle.std.proofs.lemmas.List.Elements.{All-push, All-map, AllWithin-more_set, All-from_all_within, AllWithin-upto}
@@ -7,8 +7,9 @@ use Rattle.g1_race.specs.declared.race.Sweeper.{Sweeper}
 use Rattle.g1_race.specs.Members.{race_id, sweeper_race, sweeper_view}
 use Rattle.g1_handles.specs.declared.member.Member.{Member}
 use Rattle.g1_handles.specs.declared.member_handle.MemberHandle.{MemberHandle}
-use Rattle.g1_handles.specs.Racing.{IfSweeperOf, known_to}
-use Rattle.g1_handles.proofs.Rows.{at_handle, view_next}
+use Rattle.g1_handles.specs.declared.member.Role.TheVariants as roles
+use Rattle.g1_handles.specs.Racing.{HasRole, IsOf, known_to}
+use Rattle.g1_handles.proofs.Rows.{at_handle, not_both, view_next}
 use Rattle.g1_handles.proofs.race_close.gather_sweepers.Goals as goal
 
 pub loop-i-preserved : goal.loop-i-preserved
@@ -26,12 +27,14 @@ loop-i-preserved c =
     let value = sym (ap (λ (x : MemberHandle). x.value) was) ∙ (sym c.replace_with.ensures.1 ∙ (c.in-Some-Sweeper.is ∙ ap Some c.in-Some-Sweeper.field-0-is)) in
     record {
       sized = length-set hs n _ ∙ i.sized;
+      count = omega (arith, i.count, c.push_reserved.ensures.len);
+      room = omega (arith, i.room, c.push_reserved.ensures.capacity);
       closed = AllWithin-more_set hs n _ here P i.closed c.replace_with.ensures.0;
       rest = λ k d le. get_or-set_other hs n k _ d (omega (arith, le)) ∙ i.rest k d (omega (arith, le));
       race = λ race all.
           let Q : Sweeper → Type 0 = λ w. sweeper_race w ≡ race_id race in
-          subst (All Q) (sym c.in-Ok.ensures.items) (All-push Q _ _ (i.race race all) (member.same ∙ ap race_id (subst (IfSweeperOf race) value (at_handle (IfSweeperOf race) old n h below all))));
-      views = view_next sweeper_view _ _ _ old n h below c.in-Ok.ensures.items i.views (sym (ap known_to value));
+          subst (All Q) (sym c.push_reserved.ensures.items) (All-push Q _ _ (i.race race all) (member.same ∙ ap race_id (subst (IsOf race) value (at_handle (IsOf race) old n h below all))));
+      views = view_next sweeper_view _ _ _ old n h below c.push_reserved.ensures.items i.views (sym (ap known_to value));
     }
 
 pub returns-clause-closed : goal.returns-clause-closed
@@ -41,3 +44,23 @@ returns-clause-closed c =
     let P : MemberHandle → Type 0 = λ x. x.value ≡ None in
     All-map (λ (m : Option Member). m ≡ None) (λ (x : MemberHandle). x.value) hs
     (All-from_all_within P hs (AllWithin-upto P hs 0 c.loop-i.i (length hs) (omega (arith, c.loop-i-test.false, i.sized)) i.closed))
+
+pub unreachable-requires : goal.unreachable-requires
+unreachable-requires c =
+    let old = c.args.handles.now in
+    let n = c.loop-i.i in
+    let h = c.index-handles-i.result in
+    let role = at_handle (HasRole roles.Sweeper) old n h (omega (arith, c.loop-i-test.true, c.loop-i.invariant.sized)) c.requires.role in
+    let was = c.loop-i.invariant.rest n h (omega arith) in
+    let value = sym (ap (λ (x : MemberHandle). x.value) was) ∙ (sym c.replace_with.ensures.1 ∙ (c.in-Some-Racer.is ∙ ap Some c.in-Some-Racer.field-0-is)) in
+    let e : roles.Racer ≡ roles.Sweeper = subst (HasRole roles.Sweeper) value role in
+    not_both e
+
+pub unreachable-requires-in-None : goal.unreachable-requires-in-None
+unreachable-requires-in-None c =
+    let old = c.args.handles.now in
+    let n = c.loop-i.i in
+    let h = c.index-handles-i.result in
+    let role = at_handle (HasRole roles.Sweeper) old n h (omega (arith, c.loop-i-test.true, c.loop-i.invariant.sized)) c.requires.role in
+    let was = c.loop-i.invariant.rest n h (omega arith) in
+    subst (HasRole roles.Sweeper) (sym (ap (λ (x : MemberHandle). x.value) was) ∙ (sym c.replace_with.ensures.1 ∙ c.in-None.is)) role

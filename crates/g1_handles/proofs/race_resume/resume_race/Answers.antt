@@ -12,7 +12,7 @@ open_too P Q None p f = p
 open_too P Q (Some core) p f = f core p
 
 pub returns-in-Ok-seat-clause-resumed : goal.returns-in-Ok-seat-clause-resumed
-returns-in-Ok-seat-clause-resumed c _ =
+returns-in-Ok-seat-clause-resumed c =
     let race = c.in-Ok.race in
     open_too (λ core. HaveBegunWith core.state.table race c.in-Ok.new_racers c.in-Ok.new_sweepers) (λ core. IsBegunFor core.state.table (held c.seat.new.racers) (held c.seat.new.sweepers)) c.args.handle.now.value
     c.in-Ok.ensures.0 (λ core begun. (race, begun.0, begun.2, c.in-Ok-seat.ensures.seated begun.0 begun.1))

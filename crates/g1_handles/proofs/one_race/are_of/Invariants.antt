@@ -1,7 +1,7 @@
 -- The handles hold what they held.
 use Rattle.std.proofs.Common.{◌≡◌, length}
 use Rattle.g1_handles.specs.Racing.{held}
-use Rattle.g1_handles.proofs.race_close.look_at.Given as goal
+use Rattle.g1_handles.proofs.one_race.are_of.Given as goal
 
 abbrev pub invariant-loop-i : goal.invariant-loop-i
 invariant-loop-i l = record {

@@ -1,0 +1,113 @@
+//! Whether members are all those of one race.
+//!
+//! A share of a race is a pointer, and the toolchain compares no pointers into two blocks. So owners
+//! are counted: one share more of the first member's race raises the count that another member sees
+//! where it is of the same race, and no other. Each member has a number besides, so that one that is
+//! given twice is seen. No proof knows of it: the clauses say only that nothing changes.
+ghost use Rattle.std.specs.Prelude.{◌≡◌, ◌<◌, Some, length, All, IfSome};
+ghost use Rattle.std.specs.Arc.{arc_value};
+ghost use Rattle.g1_race.specs.declared.race.Race.{Race};
+ghost use Rattle.g1_handles.specs.Racing.{held, race_of, IsOf, OfMember};
+
+use crate::member::Member;
+use crate::member_handle::MemberHandle;
+use core::mem::replace_with;
+use g1_race::Race;
+use raw_box::RawBox;
+use std::alloc::Global;
+use std::sync::Arc;
+
+/// A share of the race of these members, where they are all those of one race, each given once, and
+/// nobody else has a share of it.
+pub(crate) fn share_of_all(
+    alloc: Global,
+    racers: &mut [MemberHandle],
+    sweepers: &mut [MemberHandle],
+) -> Option<Arc<Race, Global>>
+    requires { 0 < length racers.old }
+    ensures same { (held racers.new ≡ held racers.old) × (held sweepers.new ≡ held sweepers.old) }
+    ensures race { (race : Race) → All (IsOf race) (held racers.old) →
+        IfSome result (λ share. arc_value share ≡ race) }
+{
+    let share = replace_with(&mut racers[0], alloc, share_of)?;
+    if are_of(alloc, &share, racers) && are_of(alloc, &share, sweepers) {
+        Some(share)
+    } else {
+        None
+    }
+}
+
+/// A share of the race of a handle's member.
+fn share_of(handle: MemberHandle, alloc: Global) -> (MemberHandle, Option<Arc<Race, Global>>)
+    ensures same { result.0.value ≡ handle.value }
+    ensures race { IfSome result.1 (λ share.
+        OfMember handle.value (λ m. race_of m ≡ arc_value share)) }
+{
+    let Some(member) = handle.into_raw_box() else {
+        return (MemberHandle::closed(alloc), None);
+    };
+    let member = member.into_box();
+    let share = Arc::try_clone(race_in(&member)).ok();
+    (MemberHandle::of(RawBox::of(member)), share)
+}
+
+/// Whether each of these members is of the race of a share, and none is given twice.
+fn are_of(alloc: Global, share: &Arc<Race, Global>, handles: &mut [MemberHandle]) -> bool
+    ensures { held handles.new ≡ held handles.old }
+{
+    let mut given = [false; 8];
+    for i in 0..handles.len() {
+        let Some(number) = replace_with(&mut handles[i], (alloc, share), number_in) else {
+            return false;
+        };
+        if number >= given.len() || given[number] {
+            return false;
+        }
+        given[number] = true;
+    }
+    true
+}
+
+/// The number of a handle's member among those of its role, where it is of the race of a share.
+fn number_in(
+    handle: MemberHandle,
+    words: (Global, &Arc<Race, Global>),
+) -> (MemberHandle, Option<usize>)
+    ensures { result.0.value ≡ handle.value }
+{
+    let Some(member) = handle.into_raw_box() else {
+        return (MemberHandle::closed(words.0), None);
+    };
+    let member = member.into_box();
+    let number = if is_same(race_in(&member), words.1) {
+        Some(number_of(&member))
+    } else {
+        None
+    };
+    (MemberHandle::of(RawBox::of(member)), number)
+}
+
+/// Whether a member's race is that of a share, and has no owners but the share and its members.
+fn is_same(race: &Arc<Race, Global>, share: &Arc<Race, Global>) -> bool {
+    let owners = Arc::strong_count(race);
+    let Ok(_one_more) = Arc::try_clone(share) else {
+        return false;
+    };
+    owners - 1 == race.members() && Arc::strong_count(race) - 1 == owners
+}
+
+fn race_in(member: &Member) -> &Arc<Race, Global>
+    ensures { arc_value result.now ≡ race_of member.now }
+{
+    match member {
+        Member::Racer(racing) => &racing.race,
+        Member::Sweeper(sweeping) => &sweeping.race,
+    }
+}
+
+fn number_of(member: &Member) -> usize {
+    match member {
+        Member::Racer(racing) => racing.number,
+        Member::Sweeper(sweeping) => sweeping.number,
+    }
+}
