@@ -41,3 +41,5 @@ pub mod PauseStores
 pub mod ClearWords
 pub mod Forgetting
 pub mod PauseRun
+pub mod Moving
+pub mod MovedTable

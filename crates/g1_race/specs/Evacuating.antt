@@ -31,7 +31,7 @@ IsWhole (Cards cards refined) = Unit {0}
 IsWhole (Short refined) = ⊥
 
 -- what a drain of the region answers: every card that holds into it, and only cards that do or that were recorded for it
-pub record IsExact (old : Table) (region : ℕ) (cards : List ℕ) : Type 0 where
+pub record IsExactAtPause (old : Table) (region : ℕ) (cards : List ℕ) : Type 0 where
   pub every : (card : ℕ) → Holds old card region → Contains cards card
   pub only : (card : ℕ) → Contains cards card → IsRecorded old card region ⊎ Holds old card region
 
@@ -58,7 +58,7 @@ pub record IsDrainedInto (old new : Table) (region count : ℕ) (before after : 
   pub cards : List ℕ
   pub done : List ℕ
   pub step : (caller : ℕ) → IsStep old (drained caller region cards done) new
-  pub exact : IsExact old region cards
+  pub exact : IsExactAtPause old region cards
   pub counted : count ≡ length cards
   pub written : AreWritten cards before after
 

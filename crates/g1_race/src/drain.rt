@@ -6,7 +6,7 @@ ghost use Rattle.g1_core.specs.Calls.{drain_cards, drain_entry};
 ghost use Rattle.g1_race.specs.Race.{IsPair, IsOfCrossing, pair_at};
 ghost use Rattle.g1_race.specs.Over.{halted};
 ghost use Rattle.g1_race.specs.Refining.{Notes, IsRefined, AreRefined};
-ghost use Rattle.g1_race.specs.Evacuating.{IsSameRace, AreAllRefined, IsDrainedInto, IsWhole, IsExact};
+ghost use Rattle.g1_race.specs.Evacuating.{IsSameRace, AreAllRefined, IsDrainedInto, IsWhole, IsExactAtPause};
 ghost use Rattle.g1_race.specs.Members.{IsPaused};
 
 use crate::bits::bit_of;
@@ -33,7 +33,7 @@ impl Paused {
         ensures race { IsSameRace self.old self.new }
         ensures whole { IfOk result IsWhole }
         ensures step { IfOk result (λ answer. (caller : ℕ) → IsStep (halted self.old) (drain_entry caller region answer) (halted self.new)) }
-        ensures exact { IfOk result (λ answer. IsExact (halted self.old) region (drain_cards answer)) }
+        ensures exact { IfOk result (λ answer. IsExactAtPause (halted self.old) region (drain_cards answer)) }
         ensures err { OnErr result (self.new ≡ self.old) }
     {
         let number = region.number() as usize;

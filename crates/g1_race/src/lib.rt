@@ -43,6 +43,7 @@ mod pause;
 mod paused;
 mod race;
 mod racer;
+mod redirect;
 mod resume;
 mod rule;
 mod stopped;

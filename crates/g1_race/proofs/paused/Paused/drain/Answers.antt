@@ -3,7 +3,7 @@ use Rattle.g1_core.specs.Run.{IsStep, drained}
 use Rattle.g1_race.specs.declared.view.Shape.{Shape}
 use Rattle.g1_race.specs.Telling.{is_marked, is_member, marked_cards, member_cards}
 use Rattle.g1_race.specs.Refining.{AreRefined}
-use Rattle.g1_race.specs.Evacuating.{IsExact}
+use Rattle.g1_race.specs.Evacuating.{IsExactAtPause}
 use Rattle.g1_race.specs.Over.{Halt, halted, ended, table_of}
 use Rattle.g1_race.proofs.Telling.{few}
 use Rattle.g1_race.proofs.NextCards.{cards_fit}
@@ -69,7 +69,7 @@ returns-clause-exact c =
     let refined = subst (λ (ws : List ℕ). AreRefined k ws new k.cards) same c.refine_cards.ensures.refined in
     let low : number < k.regions = omega (arith, c.requires, c.number-number.ensures, ap (λ (s : Shape). s.regions) race.laid, ap (λ (h : Halt). h.layout.regions) c.self.view_is) in
     let cards : c.of-cards.result ≡ member_cards k new number = c.of-cards.ensures ∙ c.list_members.ensures.cards in
-    subst (λ (h : Halt). IsExact (halted h) c.args.region c.of-cards.result) c.self.view_is
-    (subst (λ (cs : List ℕ). IsExact (table_of (ended l k old)) c.args.region cs) (sym cards)
+    subst (λ (h : Halt). IsExactAtPause (halted h) c.args.region c.of-cards.result) c.self.view_is
+    (subst (λ (cs : List ℕ). IsExactAtPause (table_of (ended l k old)) c.args.region cs) (sym cards)
     (exact_is (table_of (ended l k old)) (table_of (ended l k new)) c.args.region (member_cards k new number) (marked_cards k old)
     (all_refined k l race.laid old new begun c.refine_cards.ensures.seat.begun refined) (members_are k l race.laid new c.args.region number c.refine_cards.ensures.seat.begun c.number-number.ensures low)))
