@@ -43,3 +43,4 @@ pub mod Forgetting
 pub mod PauseRun
 pub mod Moving
 pub mod MovedTable
+pub mod Counting
