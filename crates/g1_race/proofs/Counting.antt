@@ -113,6 +113,6 @@ module _ (k : Shape) (l : layout.Shape) (laid : k ≡ shape_of l k.members) (wor
   -- card 0 lies in region 0, so that not all pairs are recorded
   pub few_recorded : layout.IsShape l → pair_count k words k.regions < 2 ^ 32
   few_recorded shape = subst (λ (n : ℕ). n < 2 ^ 32) (total k words k.regions) (few_outside l all shape are (λ i.
-        let m = in_list 0 0 i in
-        let r = set_recorded k l words laid h (0, 0) (listed_below (is_member k words 0) k.cards 0 m.1, m.0) (eqb-true _ 1 (listed_is (is_member k words 0) k.cards 0 m.1)) in
-        (pair_listed k l words laid h (0, 0) (in_pairs (pairs_up_to k words k.cards) (0, 0) r)).2 (omega arith)))
+      let m = in_list 0 0 i in
+      let r = set_recorded k l words laid h (0, 0) (listed_below (is_member k words 0) k.cards 0 m.1, m.0) (eqb-true _ 1 (listed_is (is_member k words 0) k.cards 0 m.1)) in
+      (pair_listed k l words laid h (0, 0) (in_pairs (pairs_up_to k words k.cards) (0, 0) r)).2 (omega arith)))

@@ -1,5 +1,5 @@
 -- What the calls of an evacuation pause do to the plain table.
-use Rattle.std.specs.Prelude.{◌≡◌, ◌⊎◌, ℕ, ◌+◌, ◌*◌, ◌<◌, ◌≤◌, ◌==◌, not, zero, suc, false, List, [], None, Contains, length, slice_index}
+use Rattle.std.specs.Prelude.{◌≡◌, ◌⊎◌, ℕ, ◌+◌, ◌*◌, ◌<◌, ◌≤◌, ◌==◌, not, zero, suc, false, List, [], None, Contains, length, replicate, slice_index}
 use Rattle.std.specs.FinSet as set
 use Rattle.g1_core.specs.declared.reply.Drained.{Drained}
 use Rattle.g1_core.specs.declared.reply.Drained.TheVariants.{Cards, Short}
@@ -16,6 +16,13 @@ pub record IsSameRace (old new : Halt) : Type 0 where
   pub layout : new.layout ≡ old.layout
   pub shape : new.shape ≡ old.shape
   pub logs : new.logs ≡ old.logs
+  pub sweepers : new.sweepers ≡ old.sweepers
+
+-- the same once all is refined: each racer's log is empty
+pub record IsRefinedRace (old new : Halt) : Type 0 where
+  pub layout : new.layout ≡ old.layout
+  pub shape : new.shape ≡ old.shape
+  pub logs : new.logs ≡ replicate (length old.logs) []
   pub sweepers : new.sweepers ≡ old.sweepers
 
 -- all that was pending is refined, which are these cards

@@ -10,9 +10,7 @@ ghost use Rattle.g1_race.specs.Clearing.{IsLeastPending};
 ghost use Rattle.g1_race.specs.Members.{IsPaused};
 
 use crate::bits::bit_of;
-use crate::next::{
-    card_at, count_marked, count_members, count_pairs, list_members, next_marked,
-};
+use crate::next::{card_at, count_marked, count_members, count_pairs, list_members, next_marked};
 use crate::paused::Paused;
 use crate::race::Race;
 use crate::rule::Place;

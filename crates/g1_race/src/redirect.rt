@@ -8,11 +8,11 @@ ghost use Rattle.g1_core.specs.Calls.{redirect_entry};
 ghost use Rattle.g1_race.specs.Race.{crosses, mark_word, region_at};
 ghost use Rattle.g1_race.specs.Over.{halted};
 ghost use Rattle.g1_race.specs.Moving.{AreMoved, AreMovedAway, HasMoved, IsRedirected, into_count};
-ghost use Rattle.g1_race.specs.Evacuating.{IsSameRace};
+ghost use Rattle.g1_race.specs.Evacuating.{IsRefinedRace};
 ghost use Rattle.g1_race.specs.Members.{IsPaused};
 
 use crate::clear::{empty_row, enters};
-use crate::drain::{refine_cards, set_bit};
+use crate::drain::{clear_logs, refine_cards, set_bit};
 use crate::next::{count_marked, list_marked, next_member};
 use crate::paused::Paused;
 use crate::race::Race;
@@ -44,7 +44,7 @@ impl Paused {
         requires from { from < self.old.layout.regions }
         requires to { to < self.old.layout.regions }
         requires apart { from ≢ to }
-        ensures race { IsSameRace self.old self.new }
+        ensures race { IfOk result (λ answer. IsRefinedRace self.old self.new) }
         ensures whole { IfOk result HasMoved }
         ensures step { IfOk result (λ answer. (caller : ℕ) →
             IsStep (halted self.old) (redirect_entry caller from to answer) (halted self.new)) }
@@ -56,6 +56,7 @@ impl Paused {
         refine_cards(&self.race, &mut self.seat);
         let (from, to) = (from.number() as usize, to.number() as usize);
         let slots = move_references(&self.race, &mut self.seat, from, to);
+        clear_logs(&mut self.race.logs);
         let refined = CardList::of(refined);
         Ok(Redirected::Moved { slots, refined })
     }
@@ -65,10 +66,11 @@ impl Paused {
         requires from { from < self.old.layout.regions }
         requires to { to < self.old.layout.regions }
         requires apart { from ≢ to }
-        ensures race { IsSameRace self.old self.new }
+        ensures race { IsRefinedRace self.old self.new }
         ensures redirected { IsRedirected (halted self.old) from to result (halted self.new) }
     {
         refine_cards(&self.race, &mut self.seat);
+        clear_logs(&mut self.race.logs);
         let (from, to) = (from.number() as usize, to.number() as usize);
         move_references(&self.race, &mut self.seat, from, to)
     }

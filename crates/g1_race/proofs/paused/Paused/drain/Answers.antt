@@ -1,4 +1,4 @@
-use Rattle.std.proofs.Common.{◌≡◌, ℕ, ◌<◌, List, length, sym, ap, ◌∙◌, subst, arith}
+use Rattle.std.proofs.Common.{◌≡◌, ℕ, ◌<◌, List, length, sym, ap, ◌∙◌, subst, arith, [], replicate}
 use Rattle.g1_core.specs.Run.{IsStep, drained}
 use Rattle.g1_race.specs.declared.view.Shape.{Shape}
 use Rattle.g1_race.specs.Telling.{is_marked, is_member, marked_cards, member_cards}
@@ -8,6 +8,7 @@ use Rattle.g1_race.specs.Over.{Halt, halted, ended, table_of}
 use Rattle.g1_race.proofs.Telling.{few}
 use Rattle.g1_race.proofs.NextCards.{cards_fit}
 use Rattle.g1_race.proofs.PauseTable.{all_refined, drain_step, exact_is, members_are, members_room}
+use Rattle.g1_race.proofs.Logs.{emptied}
 use Rattle.g1_race.proofs.paused.Paused.drain.Goals as goal
 
 pub overflow_add-members : goal.overflow_add-members
@@ -73,3 +74,13 @@ returns-clause-exact c =
     (subst (λ (cs : List ℕ). IsExactAtPause (table_of (ended l k old)) c.args.region cs) (sym cards)
     (exact_is (table_of (ended l k old)) (table_of (ended l k new)) c.args.region (member_cards k new number) (marked_cards k old)
     (all_refined k l race.laid old new begun c.refine_cards.ensures.seat.begun refined) (members_are k l race.laid new c.args.region number c.refine_cards.ensures.seat.begun c.number-number.ensures low)))
+
+pub returns-clause-race : goal.returns-clause-race
+returns-clause-race c =
+    let logs = emptied c.self.inside.race.logs.items c.clear_logs.new.logs.items c.clear_logs.ensures.logs in
+    record {
+      layout = ap (λ (h : Halt). h.layout) c.self.view_is;
+      shape = ap (λ (h : Halt). h.shape) c.self.view_is;
+      logs = logs ∙ ap (λ (h : Halt). replicate {A = List ℕ} (length h.logs) []) c.self.view_is;
+      sweepers = ap (λ (h : Halt). h.sweepers) c.self.view_is;
+    }

@@ -1,4 +1,4 @@
-use Rattle.std.proofs.Common.{◌≡◌, ◌≢◌, ℕ, ◌<◌, List, sym, ap, ◌∙◌, subst, arith}
+use Rattle.std.proofs.Common.{◌≡◌, ◌≢◌, ℕ, ◌<◌, List, sym, ap, ◌∙◌, subst, arith, [], length, replicate}
 use Rattle.g1_core.specs.declared.entry.Call.TheVariants.{Redirect}
 use Rattle.g1_core.specs.declared.entry.Reply.TheVariants as reply
 use Rattle.g1_core.specs.Table.{moved, moved_count}
@@ -9,6 +9,7 @@ use Rattle.g1_race.specs.Refining.{AreRefined}
 use Rattle.g1_race.specs.Over.{Halt, halted, ended, table_of}
 use Rattle.g1_race.proofs.PauseTable.{all_refined}
 use Rattle.g1_race.proofs.MovedTable.{count_is, moved_is, redirect_step}
+use Rattle.g1_race.proofs.Logs.{emptied}
 use Rattle.g1_race.proofs.paused.Paused.redirect.Goals as goal
 
 pub returns-clause-step : goal.returns-clause-step
@@ -35,3 +36,13 @@ returns-clause-step c = λ caller.
     subst (λ (h : Halt). IsStep (halted h) (record { caller = caller; call = Redirect c.args.from c.args.to; reply = reply.Moved c.move_references-slots.result; refined = c.of-refined.result }) (table_of (ended l k new))) c.self.view_is
     (subst (λ (cs : List ℕ). IsStep (table_of (ended l k old)) (record { caller = caller; call = Redirect c.args.from c.args.to; reply = reply.Moved c.move_references-slots.result; refined = cs }) (table_of (ended l k new))) (sym done)
     (redirect_step (table_of (ended l k old)) (table_of (ended l k mid)) (table_of (ended l k new)) caller c.args.from c.args.to c.move_references-slots.result (marked_cards k old) lf lt c.requires.apart all is count))
+
+pub returns-clause-race : goal.returns-clause-race
+returns-clause-race c =
+    let logs = emptied c.self.inside.race.logs.items c.clear_logs.new.logs.items c.clear_logs.ensures.logs in
+    record {
+      layout = ap (λ (h : Halt). h.layout) c.self.view_is;
+      shape = ap (λ (h : Halt). h.shape) c.self.view_is;
+      logs = logs ∙ ap (λ (h : Halt). replicate {A = List ℕ} (length h.logs) []) c.self.view_is;
+      sweepers = ap (λ (h : Halt). h.sweepers) c.self.view_is;
+    }
