@@ -1,18 +1,18 @@
 -- A redirect at a pause as a step of the plain table.
-use Rattle.std.proofs.Common.{◌≡◌, ◌≢◌, ◌⊎◌, ℕ, zero, suc, ◌+◌, ◌-◌, ◌*◌, ◌/◌, ◌%◌, ◌<◌, ◌≤◌, cond, eqb, map, take, Bool, true, false, List, [], length, get_or, Option, Some, None, Contains, refl, sym, ap, ◌∙◌, subst, inl, inr, ⊎_elim, arith, eq-eqb, ne_eqb}
+use Rattle.std.proofs.Common.{◌≡◌, ◌≢◌, ℕ, zero, suc, ◌+◌, ◌-◌, ◌*◌, ◌/◌, ◌%◌, ◌<◌, ◌≤◌, cond, eqb, map, take, Bool, true, false, List, length, get_or, Option, Some, None, refl, sym, ap, ◌∙◌, subst, inl, inr, ⊎_elim, arith, eq-eqb, ne_eqb}
 use Rattle.std.specs.Prelude.{not, ◌&&◌, ◌||◌, count_by}
 use mathlib.Core.Option.{some}
 use lib.ListN.{get_elem?}
 use Rattle.std.specs.List.{enumerate_from, filter_map, range_with_len}
 use Rattle.std.specs.FinSet as set
-use Rattle.std.proofs.lemmas.Bool.{and_from, and_parts, cases_Bool, cases_eq, eqb-false, eqb-true, not-true, or_cases, or_left, or_right, true≢false}
+use Rattle.std.proofs.lemmas.Bool.{and_from, and_parts, cases_Bool, eqb-false, eqb-true, not-true, or_cases, or_left, or_right, true≢false}
 use Rattle.std.proofs.lemmas.List.{get_or_default, get_or-map, length-map, length-take}
 use Rattle.std.proofs.lemmas.List.FromFn.{fill_by_all, get_or-enumerate_from, length-enumerate_from}
 use Rattle.std.proofs.lemmas.List.Sums.{count_by_more_no, count_by_more_yes}
 use Rattle.g1_layout.specs.Shape as layout
 use Rattle.g1_layout.specs.Shape.{slot_count, region_of, same_offset}
 use Rattle.g1_layout.specs.Sets.{pair_cmp}
-use Rattle.g1_core.specs.Table.{Table, IsPending, IsRecorded, enters, moved_target, moved_pair, moved, moved_count}
+use Rattle.g1_core.specs.Table.{Table, enters, moved_target, moved_pair, moved, moved_count}
 use Rattle.g1_core.specs.declared.entry.Call.TheVariants.{Redirect}
 use Rattle.g1_core.specs.declared.entry.Reply.TheVariants as reply
 use Rattle.g1_core.specs.Run.{IsStep}
@@ -22,8 +22,7 @@ use Rattle.g1_core.proofs.TableLemmas.{slot_of}
 use Rattle.g1_race.specs.declared.view.Shape.{Shape}
 use Rattle.g1_race.specs.Race.{IsBegun, IsPair, HasBit, card_of, crosses, front, mark_word, one_if, region_at, shape_of, start}
 use Rattle.g1_race.specs.Over.{ended, refs_of, table_of, target_of}
-use Rattle.g1_race.specs.Clearing.{IsEmptied}
-use Rattle.g1_race.specs.Moving.{AreMoved, AreMovedAway, Acquires, into_count, is_into, moved_word, word_after}
+use Rattle.g1_race.specs.Moving.{AreMovedAway, Acquires, into_count, is_into, moved_word, word_after}
 use Rattle.g1_race.proofs.Ends.{crosses_apart, recorded_set, refs_here, set_recorded, target_some}
 use Rattle.g1_race.proofs.PairBits.{card_below, crosses_some, in_row}
 use Rattle.g1_race.proofs.PauseTable.{pending_word, slots_are, table_is, word_pending}

@@ -1,15 +1,13 @@
 -- References that are moved from one region to another at a pause, as words.
-use Rattle.std.proofs.Common.{◌≡◌, ◌≢◌, ◌⊎◌, ℕ, zero, suc, ◌+◌, ◌-◌, ◌*◌, ◌/◌, ◌%◌, ◌<◌, ◌≤◌, cond, eqb, Bool, true, false, List, [], ◌∷◌, length, set, get_or, mod-lt, div-lt_iff_lt-mul, refl, sym, ap, ◌∙◌, subst, inl, inr, ⊎_elim, arith, eq-eqb, ne_eqb}
-use Rattle.std.specs.Prelude.{◌&&◌}
+use Rattle.std.proofs.Common.{◌≡◌, ◌≢◌, ℕ, zero, suc, ◌+◌, ◌-◌, ◌*◌, ◌/◌, ◌%◌, ◌<◌, ◌≤◌, eqb, true, false, List, length, set, get_or, mod-lt, div-lt_iff_lt-mul, refl, sym, ap, ◌∙◌, subst, inl, inr, ⊎_elim, arith, eq-eqb}
 use mathlib.Core.Option.{some, some-injective}
-use native.Mathlib.Decide.{ℕ_discrete}
 use lib.ListN.{get_elem?}
-use Rattle.std.proofs.lemmas.Bool.{and_from, and_parts, cases_Bool, cases_eq, cases_lt, eqb-true, true≢false, false_from_ne_true}
+use Rattle.std.proofs.lemmas.Bool.{and_from, and_parts, cases_Bool, cases_lt, eqb-true, true≢false, false_from_ne_true}
 use Rattle.std.proofs.Math.Nat.{mul-le-mul_left}
 use Rattle.std.proofs.lemmas.Nat.{div-mul-add}
 use Rattle.atomic_table.proofs.Lists.{set_else, set_here}
 use Rattle.g1_race.specs.declared.view.Shape.{Shape}
-use Rattle.g1_race.specs.Race.{In, IsBegun, IsCrossing, IsMarked, IsOfCrossing, IsShape, IsPair, HasBit, card_of, crosses, mark_word, one_if, region_at, start}
+use Rattle.g1_race.specs.Race.{In, IsBegun, IsShape, HasBit, card_of, crosses, mark_word, one_if, region_at, start}
 use Rattle.g1_race.specs.Refining.{Notes}
 use Rattle.g1_race.specs.Clearing.{Into}
 use Rattle.g1_race.specs.Telling.{is_member}
@@ -18,8 +16,8 @@ use Rattle.g1_race.specs.Moving.{AreMoved, Acquires, into_count, is_into, moved_
 use Rattle.g1_race.proofs.AtPause.{begun_placed}
 use Rattle.g1_race.proofs.CoverStores.{mark_apart}
 use Rattle.g1_race.proofs.Ends.{crosses_apart}
-use Rattle.g1_race.proofs.PairBits.{bit_as, card_below, same_bits}
-use Rattle.g1_race.proofs.Plain.{false_is, one_there, read_at, true_is}
+use Rattle.g1_race.proofs.PairBits.{bit_as, same_bits}
+use Rattle.g1_race.proofs.Plain.{false_is, read_at, true_is}
 use Rattle.g1_race.proofs.Places.{reads_as}
 use Rattle.g1_race.proofs.PauseStores.{slot_in}
 use Rattle.g1_race.proofs.StoreCalls.{other_region}

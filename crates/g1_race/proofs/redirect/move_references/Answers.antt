@@ -1,6 +1,6 @@
-use Rattle.std.proofs.Common.{◌≡◌, ◌≢◌, ◌⊎◌, ℕ, ◌+◌, ◌*◌, ◌<◌, ◌≤◌, List, sym, ap, ◌∙◌, subst, inl, inr, arith}
+use Rattle.std.proofs.Common.{◌≡◌, ℕ, ◌+◌, ◌*◌, ◌≤◌, List, sym, ap, ◌∙◌, subst, arith}
 use Rattle.g1_race.specs.Clearing.{Into}
-use Rattle.g1_race.specs.Moving.{AreMoved, AreMovedAway, into_count}
+use Rattle.g1_race.specs.Moving.{AreMoved, into_count}
 use Rattle.g1_race.proofs.AtPause.{paused_same}
 use Rattle.g1_race.proofs.Moving.{in_order, none_into, on_card, on_count, passed, passed_count}
 use Rattle.g1_race.proofs.redirect.move_references.Goals as goal

@@ -1,4 +1,4 @@
-use Rattle.std.proofs.Common.{◌≡◌, ◌≢◌, ◌⊎◌, ℕ, ◌/◌, List, [], ◌∷◌, refl, sym, subst, inl, inr, ⊎_elim}
+use Rattle.std.proofs.Common.{◌≡◌, ℕ, List, [], ◌∷◌, refl, sym, subst, inl, ⊎_elim}
 use Rattle.g1_race.specs.Race.{card_of, region_at}
 use Rattle.g1_race.specs.Moving.{AreMoved, moved_word}
 use Rattle.g1_race.proofs.PauseWords.{notes_same}

@@ -1,11 +1,7 @@
-use Rattle.std.proofs.Common.{◌≡◌, ◌≢◌, ℕ, ◌<◌, List, sym, ap, ◌∙◌, subst, arith, [], length, replicate}
-use Rattle.g1_core.specs.declared.entry.Call.TheVariants.{Redirect}
-use Rattle.g1_core.specs.declared.entry.Reply.TheVariants as reply
+use Rattle.std.proofs.Common.{ℕ, ◌<◌, List, sym, ap, ◌∙◌, subst, arith, [], length, replicate}
 use Rattle.g1_core.specs.Table.{moved, moved_count}
-use Rattle.g1_core.specs.Run.{IsStep}
 use Rattle.g1_race.specs.declared.view.Shape.{Shape}
 use Rattle.g1_race.specs.Telling.{marked_cards}
-use Rattle.g1_race.specs.Refining.{AreRefined}
 use Rattle.g1_race.specs.Moving.{IsRedirected}
 use Rattle.g1_race.specs.Over.{Halt, halted, ended, table_of}
 use Rattle.g1_race.proofs.PauseTable.{all_refined}
