@@ -44,3 +44,4 @@ pub mod PauseRun
 pub mod Moving
 pub mod MovedTable
 pub mod Counting
+pub mod Blocks
