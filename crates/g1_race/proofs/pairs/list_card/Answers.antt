@@ -1,13 +1,7 @@
-use Rattle.std.proofs.Common.{◌≡◌, ◌++◌, ◌/◌, ◌<◌, ◌≤◌, ◌^◌, ℕ, List, Contains, length, take, get_or, refl, sym, ap, ◌∙◌, subst, arith}
+use Rattle.std.proofs.Common.{◌++◌, ℕ, List, ap, ◌∙◌, arith}
 use Rattle.std.specs.Slots.{slots_items}
-use Rattle.std.proofs.lemmas.List.Elements.{Contains-get_or}
-use Rattle.g1_race.specs.declared.view.Shape.{Shape}
-use Rattle.g1_race.specs.Race.{pairs_of_card}
-use Rattle.g1_race.specs.Telling.{block_regions, has_block}
 use Rattle.g1_race.proofs.Blocks.{all_regions, block_below, with_regions}
-use Rattle.g1_race.proofs.NextCards.{cards_fit}
 use Rattle.g1_race.proofs.Places.{take_all}
-use Rattle.g1_race.proofs.Telling.{listed_below}
 use Rattle.g1_race.proofs.pairs.list_card.Goals as goal
 
 pub has_bit-requires-clause-pair : goal.has_bit-requires-clause-pair

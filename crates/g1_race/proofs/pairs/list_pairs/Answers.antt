@@ -1,4 +1,4 @@
-use Rattle.std.proofs.Common.{◌≡◌, ◌≢◌, ◌++◌, ◌+◌, ◌/◌, ◌%◌, ℕ, suc, List, sym, ap, ◌∙◌, arith}
+use Rattle.std.proofs.Common.{◌≡◌, ◌++◌, ◌+◌, ◌/◌, ℕ, suc, ap, ◌∙◌, arith}
 use Rattle.std.specs.Slots.{slots_items}
 use Rattle.g1_race.specs.declared.view.Shape.{Shape}
 use Rattle.g1_race.specs.Race.{pairs_of_card, pairs_up_to}

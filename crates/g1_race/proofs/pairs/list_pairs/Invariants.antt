@@ -1,4 +1,4 @@
-use Rattle.std.proofs.Common.{◌≡◌, ◌≢◌, ℕ, ◌/◌, ◌%◌}
+use Rattle.std.proofs.Common.{◌≡◌, ◌≢◌, ◌/◌, ◌%◌}
 use Rattle.std.specs.Slots.{slots_items}
 use Rattle.g1_race.specs.Race.{pairs_up_to}
 use Rattle.g1_race.specs.Telling.{block_regions}

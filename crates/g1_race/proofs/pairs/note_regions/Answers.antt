@@ -1,4 +1,4 @@
-use Rattle.std.proofs.Common.{◌≡◌, ◌≢◌, ◌++◌, ◌∷◌, [], ◌+◌, ◌*◌, ◌/◌, ℕ, suc, List, get_or, not, true, false, ne_eqb, eq-eqb, sym, ap, ◌∙◌, arith}
+use Rattle.std.proofs.Common.{◌≡◌, ◌++◌, ◌∷◌, [], ◌+◌, ◌/◌, ℕ, suc, get_or, not, true, false, ne_eqb, eq-eqb, sym, ap, ◌∙◌, arith}
 use Rattle.std.specs.Slots.{slots_items}
 use Rattle.arrayvec.specs.ArrayVec.{array_vec_len}
 use Rattle.g1_race.specs.Race.{bit_word}
