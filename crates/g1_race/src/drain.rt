@@ -34,7 +34,8 @@ impl Paused {
         ensures race { IfOk result (λ answer. IsRefinedRace self.old self.new) }
         ensures whole { IfOk result IsWhole }
         ensures step { IfOk result (λ answer. (caller : ℕ) → IsStep (halted self.old) (drain_entry caller region answer) (halted self.new)) }
-        ensures exact { IfOk result (λ answer. IsExactAtPause (halted self.old) region (drain_cards answer)) }
+        ensures exact { IfOk result (λ answer.
+            IsExactAtPause (halted self.old) region (drain_cards answer)) }
         ensures err { OnErr result (self.new ≡ self.old) }
     {
         let number = region.number() as usize;

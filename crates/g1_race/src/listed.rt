@@ -61,13 +61,14 @@ impl Paused {
         count_marked(&self.race, &mut self.seat) as u32
     }
 
-    /// How many cards are dirty and how many pairs are recorded. Reads a word for each card, one for
-    /// each region and 64 cards of the heap, and one more for each recorded pair: in a heap of 256
-    /// regions five times what `pending_count` reads, or more.
+    /// How many cards are dirty, and how many pairs are recorded. Reads a word for each card, one
+    /// for each region and 64 cards of the heap, and one more for each recorded pair: in a heap of
+    /// 256 regions five times what `pending_count` reads, or more.
     pub fn status(&mut self) -> Status
         ensures pending { result.pending ≡ set.len (halted self.old).pending }
         ensures recorded { result.recorded ≡ set.len (halted self.old).recorded }
-        ensures step { (caller : ℕ) → IsStep (halted self.old) (status_entry caller result) (halted self.new) }
+        ensures step { (caller : ℕ) →
+            IsStep (halted self.old) (status_entry caller result) (halted self.new) }
         ensures same { self.new ≡ self.old }
     {
         let _counts = self.race.layout.counts();

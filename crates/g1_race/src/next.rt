@@ -99,7 +99,8 @@ pub(crate) fn count_members(race: &Race, seat: &mut Place, region: usize) -> usi
 // How many pairs are recorded.
 pub(crate) fn count_pairs(race: &Race, seat: &mut Place) -> usize
     requires { IsPaused race.now.table.shared.table_id race.now.shape seat.old }
-    ensures count { result ≡ pair_count race.now.shape seat.old.me.0.began_words race.now.shape.regions }
+    ensures count { let words = seat.old.me.0.began_words in
+        result ≡ pair_count race.now.shape words race.now.shape.regions }
     ensures seat { (seat.new.table_id ≡ seat.old.table_id) × (seat.new.me ≡ seat.old.me) }
 {
     let mut count = 0;

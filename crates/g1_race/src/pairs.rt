@@ -27,8 +27,8 @@ pub(crate) fn has_bit(words: &Closed<(), Global>, shape: Shape, card: usize, reg
     (words.word(at) >> place) & 1 == 1
 }
 
-// The pairs whose bits are set, by card and then by region. Looks at each word of bits twice, and at
-// the single bits of those alone that are not 0.
+// The pairs whose bits are set, by card and then by region. Looks at each word of bits twice, and
+// at the single bits of those alone that are not 0.
 pub(crate) fn list_pairs(
     alloc: Global,
     words: &Closed<(), Global>,
