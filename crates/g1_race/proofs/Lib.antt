@@ -41,3 +41,7 @@ pub mod PauseStores
 pub mod ClearWords
 pub mod Forgetting
 pub mod PauseRun
+pub mod Moving
+pub mod MovedTable
+pub mod Counting
+pub mod Blocks

@@ -23,10 +23,10 @@ use Rattle.g1_race.specs.Telling.{cards_where, IsNext}
 use Rattle.g1_race.proofs.Gathering.{Gathered, gathered_none, gathered_in, gathered_out}
 
 module _ (test : ℕ → Bool) where
-  put_in : (n : ℕ) → test n ≡ true → cards_where test (suc n) ≡ cards_where test n ++ n ∷ []
+  pub put_in : (n : ℕ) → test n ≡ true → cards_where test (suc n) ≡ cards_where test n ++ n ∷ []
   put_in n e = ap (λ b. cards_where test n ++ cond b (n ∷ []) []) e
 
-  left_out : (n : ℕ) → test n ≡ false → cards_where test (suc n) ≡ cards_where test n
+  pub left_out : (n : ℕ) → test n ≡ false → cards_where test (suc n) ≡ cards_where test n
   left_out n e = ap (λ b. cards_where test n ++ cond b (n ∷ []) []) e ∙ append-nil (cards_where test n)
 
   suc_is : (n : ℕ) → n + 1 ≡ suc n

@@ -1,11 +1,13 @@
 //! The recorded pairs of a race that is over.
-ghost use Rattle.std.specs.Prelude.{◌≡◌, ◌==◌, ◌+◌, ◌*◌, ◌≤◌, IfOk, length, slice_index};
+ghost use Rattle.std.specs.Prelude.{◌≡◌, ◌≢◌, ◌==◌, ◌+◌, ◌*◌, ◌/◌, ◌%◌, ◌<◌, ◌≤◌, ◌++◌, IfOk, OnOk, length, slice_index};
 ghost use Rattle.std.specs.Int.{bit_at};
 ghost use Rattle.std.specs.Slots.{slots_items, slots_len, IsFull};
-ghost use Rattle.g1_race.specs.Race.{IsShape, IsPair, bit_word, bit_place, pairs_up_to, shape_of};
+ghost use Rattle.g1_race.specs.Race.{IsShape, IsPair, bit_word, bit_place, pairs_of_card, pairs_up_to, shape_of};
+ghost use Rattle.g1_race.specs.Telling.{block_regions};
 
 use crate::bits::bit_of;
 use crate::view::Shape;
+use arrayvec::ArrayVec;
 use atomic_table::Closed;
 use g1_layout::{Card, Layout, NoMemory, Region};
 use std::alloc::Global;
@@ -25,7 +27,8 @@ pub(crate) fn has_bit(words: &Closed<(), Global>, shape: Shape, card: usize, reg
     (words.word(at) >> place) & 1 == 1
 }
 
-// The pairs whose bits are set, by card and then by region.
+// The pairs whose bits are set, by card and then by region. Looks at each word of bits twice, and
+// at the single bits of those alone that are not 0.
 pub(crate) fn list_pairs(
     alloc: Global,
     words: &Closed<(), Global>,
@@ -40,21 +43,86 @@ pub(crate) fn list_pairs(
     ensures { IfOk result (λ pairs.
         pairs.items ≡ pairs_up_to shape (slots_items words.now.words) shape.cards) }
 {
+    let _counts = layout.counts();
     let mut pairs = Vec::with_capacity(alloc, count_bits(words, shape))?;
+    let mut regions = ArrayVec::new();
     for card in 0..shape.cards {
-        for region in 0..shape.regions {
-            if has_bit(words, shape, card, region) {
-                let (Some(card), Some(region)) = (
-                    layout.card(card as u32),
-                    layout.region(region as u32),
-                ) else {
-                    unreachable!()
-                };
-                pairs.push((card, region))?;
-            }
-        }
+        note_regions(words, shape, card, &mut regions);
+        list_card(words, layout, shape, card, regions.as_slice(), &mut pairs)?;
     }
     Ok(pairs)
+}
+
+// Sees that these are the regions that have some card of the card's block: of the 64 whose bits lie
+// in one word. They are those of the card before where that is of the same block.
+fn note_regions(
+    words: &Closed<(), Global>,
+    shape: Shape,
+    card: usize,
+    regions: &mut ArrayVec<usize, 256>,
+)
+    requires shape { IsShape shape }
+    requires card { card < shape.cards }
+    requires few { shape.regions ≤ 256 }
+    requires words { (slots_len words.now.words ≡ shape.slots + shape.cards + shape.bits)
+        × (length (slots_items words.now.words) ≡ shape.slots + shape.cards + shape.bits)
+        × IsFull words.now.words }
+    requires regions { card % 64 ≢ 0 → let words = slots_items words.now.words in
+        regions.old.items ≡ block_regions shape words (card / 64) shape.regions }
+    ensures { let words = slots_items words.now.words in
+        regions.new.items ≡ block_regions shape words (card / 64) shape.regions }
+{
+    if card % 64 != 0 {
+        return;
+    }
+    regions.clear();
+    for region in 0..shape.regions {
+        let (at, _) = bit_of(shape, card, region);
+        if words.word(at) != 0 {
+            regions.push(region);
+        }
+    }
+}
+
+// Adds the pairs of a card with these regions, which are all that it can have one with.
+fn list_card(
+    words: &Closed<(), Global>,
+    layout: Layout,
+    shape: Shape,
+    card: usize,
+    regions: &[usize],
+    pairs: &mut Vec<(Card, Region)>,
+) -> Result<(), NoMemory>
+    requires shape { IsShape shape }
+    requires laid { shape ≡ shape_of layout shape.members }
+    requires card { card < shape.cards }
+    requires words { (slots_len words.now.words ≡ shape.slots + shape.cards + shape.bits)
+        × (length (slots_items words.now.words) ≡ shape.slots + shape.cards + shape.bits)
+        × IsFull words.now.words }
+    requires regions { let words = slots_items words.now.words in
+        regions.now ≡ block_regions shape words (card / 64) shape.regions }
+    ensures { OnOk result (pairs.new.items ≡ pairs.old.items
+        ++ pairs_of_card shape (slots_items words.now.words) card shape.regions) }
+{
+    for region in regions {
+        if has_bit(words, shape, card, *region) {
+            pairs.push(pair_at(layout, shape, card, *region))?;
+        }
+    }
+    Ok(())
+}
+
+// The pair with these numbers.
+fn pair_at(layout: Layout, shape: Shape, card: usize, region: usize) -> (Card, Region)
+    requires shape { IsShape shape }
+    requires laid { shape ≡ shape_of layout shape.members }
+    requires pair { IsPair shape (card, region) }
+    ensures { result ≡ (card, region) }
+{
+    let (Some(card), Some(region)) = (layout.card(card as u32), layout.region(region as u32)) else {
+        unreachable!()
+    };
+    (card, region)
 }
 
 // How many bits are set: so much room is asked for at once.

@@ -23,6 +23,7 @@ mod logs;
 mod machinery;
 mod numbers;
 mod outcome;
+mod pause;
 mod plans;
 mod race;
 mod sets;
@@ -51,6 +52,8 @@ fn play<R: Wait + Print + Eprint + AllocGlobal>(rt: &R) -> Result<(), Failure> {
     callers::play(rt)?;
     shared::play(rt)?;
     told(rt, "a race", race::untouched(rt))?;
+    told(rt, "a drain at a pause", pause::drained(rt))?;
+    told(rt, "a redirect at a pause", pause::redirected(rt))?;
     told(rt, "a core of a race", cycle::race_to_core(rt))?;
     told(rt, "a race that a core becomes", cycle::core_to_race(rt))?;
     told(rt, "a core of a large heap", large::new_core(rt))?;

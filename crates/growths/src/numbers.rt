@@ -1,5 +1,5 @@
 //! Slots, cards and regions by their numbers, and lists of cards and references compared with numbers.
-ghost use Rattle.std.specs.Prelude.{◌<◌, IfOk};
+ghost use Rattle.std.specs.Prelude.{◌≡◌, ◌<◌, IfOk};
 ghost use Rattle.g1_layout.specs.Shape.{slot_count, card_count};
 
 use crate::outcome::Failure;
@@ -26,7 +26,8 @@ pub(crate) fn card(layout: &Layout, number: u32) -> Result<Card, Failure>
 }
 
 pub(crate) fn region(layout: &Layout, number: u32) -> Result<Region, Failure>
-    ensures { IfOk result (λ region. region < layout.now.regions) }
+    ensures within { IfOk result (λ region. region < layout.now.regions) }
+    ensures value { IfOk result (λ region. region ≡ number) }
 {
     layout.region(number).ok_or(Failure::Wrong)
 }

@@ -1,28 +1,20 @@
-use Rattle.std.proofs.Common.{Vec, Global, ◌∷◌, [], ℕ, sym, ap, ◌∙◌, arith}
+use Rattle.std.proofs.Common.{◌≡◌, ◌++◌, ◌+◌, ◌/◌, ℕ, suc, ap, ◌∙◌, arith}
 use Rattle.std.specs.Slots.{slots_items}
-use Rattle.std.proofs.lemmas.List.{append-nil}
-use Rattle.g1_race.proofs.Plain.{true_is, false_is}
-use Rattle.g1_race.proofs.Listing.{next_region, next_card}
+use Rattle.g1_race.specs.declared.view.Shape.{Shape}
+use Rattle.g1_race.specs.Race.{pairs_of_card, pairs_up_to}
+use Rattle.g1_race.specs.Telling.{block_regions}
 use Rattle.g1_race.proofs.pairs.list_pairs.Goals as goal
-use Rattle.g1_race.proofs.pairs.list_pairs.Goals.{then-has_bit+in-Some-Some+in_ok-push, else-has_bit}
 
-pub loop-region-preserved : goal.loop-region-preserved
-loop-region-preserved c =
-    let k = c.args.shape in
-    let words = slots_items c.args.words.now.words in
-    let x : ℕ × ℕ = (c.loop-card.card, c.loop-region.region) in
-    let old = c.loop-region.pairs.items in record {
-      below = omega (arith, c.loop-region-test.true);
-      pairs = elim c.if-has_bit.branch [
-        | then-has_bit+in-Some-Some+in_ok-push w ↦ next_region k words x.0 x.1 old c.if-has_bit.pairs.items ((w.in-Some-Some.card, w.in-Some-Some.region) ∷ []) c.loop-region.invariant.pairs (ap (λ (v : Vec (ℕ × ℕ) Global). v.items) w.pairs-is ∙ w.in_ok-push.ensures.items)
-            ((λ i. (w.in-Some-Some.ensures.1 i, w.in-Some-Some.ensures'.1 i) ∷ []) ∙ sym (true_is _ (x ∷ []) [] (sym c.has_bit.ensures ∙ w.if-has_bit.true)))
-        | else-has_bit w ↦ next_region k words x.0 x.1 old c.if-has_bit.pairs.items [] c.loop-region.invariant.pairs (ap (λ (v : Vec (ℕ × ℕ) Global). v.items) w.pairs-is ∙ sym (append-nil old))
-            (sym (false_is _ (x ∷ []) [] (sym c.has_bit.ensures ∙ w.if-has_bit.false)))
-      ];
-    }
+pub note_regions-requires-clause-few : goal.note_regions-requires-clause-few
+note_regions-requires-clause-few c = omega (arith, c.counts-counts.ensures.shape.regions_high, ap (λ (s : Shape). s.regions) c.requires.laid)
 
 pub loop-card-preserved : goal.loop-card-preserved
-loop-card-preserved c = record {
-  below = omega (arith, c.loop-card-test.true);
-  pairs = next_card c.args.shape (slots_items c.args.words.now.words) c.loop-card.card c.loop-region.region c.loop-region.pairs.items (omega (arith, c.loop-region.invariant.below, c.loop-region-test.false)) c.loop-region.invariant.pairs;
-}
+loop-card-preserved c =
+    let k = c.args.shape in
+    let words = slots_items c.args.words.now.words in
+    let n = c.loop-card.card in
+    let more : suc n ≡ n + 1 = omega arith in
+    record {
+      pairs = c.in_ok-list_card.ensures ∙ ((λ i. c.loop-card.invariant.pairs i ++ pairs_of_card k words n k.regions) ∙ ap (pairs_up_to k words) more);
+      regions = λ ne. c.note_regions.ensures ∙ ap (λ (b : ℕ). block_regions k words b k.regions) (let e : n / 64 ≡ (n + 1) / 64 = omega (arith, ne) in e);
+    }

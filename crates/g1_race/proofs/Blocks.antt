@@ -1,0 +1,43 @@
+-- The pairs of a card with the regions that have some card of its block.
+use Rattle.std.proofs.Common.{◌≡◌, ℕ, zero, suc, ◌/◌, ◌<◌, not, true, false, List, [], ◌∷◌, ◌++◌, Contains, length, get_or, refl, sym, ap, ◌∙◌, subst, inl, inr, arith}
+use Rattle.std.specs.Int.{bit_at}
+use Rattle.std.specs.List.{flat_map}
+use Rattle.std.proofs.lemmas.Bool.{cases_Bool, eqb-true, true≢false}
+use Rattle.std.proofs.lemmas.Grind.{flat_map-append}
+use Rattle.std.proofs.lemmas.List.{append-nil}
+use Rattle.std.proofs.lemmas.List.Elements.{Contains-get_or}
+use Rattle.std.proofs.lemmas.Nat.Bits.{bit_at-zero}
+use Rattle.g1_race.specs.declared.view.Shape.{Shape}
+use Rattle.g1_race.specs.Race.{bit_place, bit_word, pairs_of_card}
+use Rattle.g1_race.specs.Telling.{block_regions, has_block}
+use Rattle.g1_race.proofs.Listing.{one_pair, pair_clear}
+use Rattle.g1_race.proofs.Telling.{left_out, listed_below, put_in}
+
+module _ (k : Shape) (words : List ℕ) (card : ℕ) where
+  -- the pairs of the card with these regions
+  abbrev pub with_regions : List ℕ → List (ℕ × ℕ)
+  with_regions rs = flat_map (λ r. one_pair k words (card, r)) rs
+
+  pub with_one : (rs : List ℕ) (r : ℕ) → with_regions (rs ++ r ∷ []) ≡ with_regions rs ++ one_pair k words (card, r)
+  with_one rs r = flat_map-append (λ q. one_pair k words (card, q)) rs (r ∷ []) ∙ ap (λ (l : List (ℕ × ℕ)). with_regions rs ++ l) (append-nil (one_pair k words (card, r)))
+
+  -- a word of 0 has no bit
+  none_in : (r : ℕ) → has_block k words (card / 64) r ≡ false → one_pair k words (card, r) ≡ []
+  none_in r e = pair_clear k words (card, r) (λ b.
+      let zero_word : get_or words (bit_word k (card, r)) 0 ≡ 0 = eqb-true _ 0 (un_not _ e) in
+      let z : 0 ≡ 1 = sym (ap (λ (n : ℕ). bit_at n (bit_place k (card, r))) zero_word ∙ bit_at-zero (bit_place k (card, r))) ∙ b in
+      omega (arith, z))
+    where
+      un_not : (b : _) → not b ≡ false → b ≡ true
+      un_not true e = refl
+      un_not false e = absurd (true≢false e)
+
+  pub all_regions : (n : ℕ) → with_regions (block_regions k words (card / 64) n) ≡ pairs_of_card k words card n
+  all_regions zero = refl
+  all_regions (suc n) = elim (cases_Bool (has_block k words (card / 64) n)) [
+    | inl e ↦ ap with_regions (put_in (has_block k words (card / 64)) n e) ∙ (with_one (block_regions k words (card / 64) n) n ∙ ap (λ (l : List (ℕ × ℕ)). l ++ one_pair k words (card, n)) (all_regions n))
+    | inr e ↦ ap with_regions (left_out (has_block k words (card / 64)) n e) ∙ (all_regions n ∙ sym (ap (λ (l : List (ℕ × ℕ)). pairs_of_card k words card n ++ l) (none_in n e) ∙ append-nil (pairs_of_card k words card n)))
+  ]
+
+  pub block_below : (n : ℕ) (rs : List ℕ) (i : ℕ) → rs ≡ block_regions k words (card / 64) n → i < length rs → get_or rs i 0 < n
+  block_below n rs i e lt = listed_below (has_block k words (card / 64)) n (get_or rs i 0) (subst (λ (l : List ℕ). Contains l (get_or rs i 0)) e (Contains-get_or rs i 0 lt))
