@@ -4,7 +4,7 @@ use Rattle.std.specs.Prelude.{Option}
 use Rattle.std.proofs.lemmas.List.{map-append, length-map}
 use Rattle.std.proofs.Math.ListN.{get_or-map}
 use Rattle.std.proofs.Math.Seq.{take-suc}
-use Rattle.g1_race.specs.declared.view.View.{View}
+use Rattle.g1_race_words.specs.declared.view.View.{View}
 use Rattle.g1_handles.specs.declared.member.Member.{Member}
 use Rattle.g1_handles.specs.declared.member_handle.MemberHandle.{MemberHandle}
 use Rattle.g1_handles.specs.Racing.{held, known_to}

@@ -1,7 +1,7 @@
 -- The race that is closed is the one that the handles are of.
 use Rattle.std.proofs.Common.{◌≡◌, ℕ, List, All, map, ap, ◌∙◌, sym, subst, arith}
 use Rattle.std.specs.Prelude.{Contains, ◌↔◌}
-use Rattle.g1_race.specs.declared.view.View.{View}
+use Rattle.g1_race_words.specs.declared.view.View.{View}
 use Rattle.g1_race.specs.declared.race.Race.{Race}
 use Rattle.g1_race.specs.declared.race.Racer.{Racer}
 use Rattle.g1_race.specs.declared.race.Sweeper.{Sweeper}

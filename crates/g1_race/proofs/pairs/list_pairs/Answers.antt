@@ -1,8 +1,8 @@
 use Rattle.std.proofs.Common.{Vec, Global, ◌∷◌, [], ℕ, sym, ap, ◌∙◌, arith}
 use Rattle.std.specs.Slots.{slots_items}
 use Rattle.std.proofs.lemmas.List.{append-nil}
-use Rattle.g1_race.proofs.Plain.{true_is, false_is}
-use Rattle.g1_race.proofs.Listing.{next_region, next_card}
+use Rattle.g1_race_words.proofs.Plain.{true_is, false_is}
+use Rattle.g1_race_words.proofs.Listing.{next_region, next_card}
 use Rattle.g1_race.proofs.pairs.list_pairs.Goals as goal
 use Rattle.g1_race.proofs.pairs.list_pairs.Goals.{then-has_bit+in-Some-Some+in_ok-push, else-has_bit}
 

@@ -1,6 +1,6 @@
 use Rattle.std.proofs.Common.{◌≡◌, ◌≤◌, ◌++◌}
 use Rattle.std.specs.Slots.{slots_items}
-use Rattle.g1_race.specs.Race.{pairs_of_card, pairs_up_to}
+use Rattle.g1_race_words.specs.Rule.{pairs_of_card, pairs_up_to}
 use Rattle.g1_race.proofs.pairs.list_pairs.Given as goal
 
 abbrev pub invariant-loop-card : goal.invariant-loop-card
