@@ -23,3 +23,6 @@ pub mod PauseStores
 pub mod ClearWords
 pub mod Forgetting
 pub mod PauseRun
+pub mod Moving
+pub mod MovedTable
+pub mod Counting

@@ -30,7 +30,7 @@ use Rattle.g1_race.specs.Race.{shape_of}
 use Rattle.g1_race.specs.Over.{ended, target_of, refs_of, marks_of, table_of}
 use Rattle.g1_race.specs.Refining.{AreRefined, MembersAreExact}
 use Rattle.g1_race.specs.Telling.{is_marked, is_member, marked_cards, member_cards}
-use Rattle.g1_race.specs.Evacuating.{AreAllRefined, IsExact}
+use Rattle.g1_race.specs.Evacuating.{AreAllRefined, IsExactAtPause}
 use Rattle.g1_race.proofs.Telling.{at_most_both, gathered, is_listed, listed_is, listed_below, listed_distinct, set_len}
 use Rattle.g1_race.proofs.NextCards.{mark_is, marked_word}
 use Rattle.g1_race_words.proofs.AtBeginning.{never_both}
@@ -196,7 +196,7 @@ module _ (k : Shape) (l : layout.Shape) (laid : k ≡ shape_of l k.members) wher
     }
 
 -- what a drain answers
-pub exact_is : (old new : Table) (region : ℕ) (cards done : List ℕ) → AreAllRefined old done new → AreMembers new region cards → IsExact old region cards
+pub exact_is : (old new : Table) (region : ℕ) (cards done : List ℕ) → AreAllRefined old done new → AreMembers new region cards → IsExactAtPause old region cards
 exact_is old new region cards done a m = record {
   every = λ c h. members_exact new region cards (λ d p. absurd (true≢false (sym p ∙ (ap (λ (s : CardSet). fin.contains s d) a.clean ∙ fin.contains-empty nat_cmp d)))) a.covered m c
       (subst (λ (t : Table). Holds t c region) (sym a.table) (record { slot = h.slot; place = h.place; on_card = h.on_card; refers = h.refers; into = h.into; outside = h.outside }));

@@ -1,5 +1,5 @@
 -- What the calls of an evacuation pause do to the plain table.
-use Rattle.std.specs.Prelude.{◌≡◌, ◌⊎◌, ℕ, ◌+◌, ◌*◌, ◌<◌, ◌≤◌, ◌==◌, not, zero, suc, false, List, [], None, Contains, length, slice_index}
+use Rattle.std.specs.Prelude.{◌≡◌, ◌⊎◌, ℕ, ◌+◌, ◌*◌, ◌<◌, ◌≤◌, ◌==◌, not, zero, suc, false, List, [], None, Contains, length, replicate, slice_index}
 use Rattle.std.specs.FinSet as set
 use Rattle.g1_core.specs.declared.reply.Drained.{Drained}
 use Rattle.g1_core.specs.declared.reply.Drained.TheVariants.{Cards, Short}
@@ -18,6 +18,13 @@ pub record IsSameRace (old new : Halt) : Type 0 where
   pub logs : new.logs ≡ old.logs
   pub sweepers : new.sweepers ≡ old.sweepers
 
+-- the same once all is refined: each racer's log is empty
+pub record IsRefinedRace (old new : Halt) : Type 0 where
+  pub layout : new.layout ≡ old.layout
+  pub shape : new.shape ≡ old.shape
+  pub logs : new.logs ≡ replicate (length old.logs) []
+  pub sweepers : new.sweepers ≡ old.sweepers
+
 -- all that was pending is refined, which are these cards
 pub record AreAllRefined (old : Table) (cards : List ℕ) (new : Table) : Type 0 where
   pub refinable : AreRefinable old cards
@@ -31,7 +38,7 @@ IsWhole (Cards cards refined) = Unit {0}
 IsWhole (Short refined) = ⊥
 
 -- what a drain of the region answers: every card that holds into it, and only cards that do or that were recorded for it
-pub record IsExact (old : Table) (region : ℕ) (cards : List ℕ) : Type 0 where
+pub record IsExactAtPause (old : Table) (region : ℕ) (cards : List ℕ) : Type 0 where
   pub every : (card : ℕ) → Holds old card region → Contains cards card
   pub only : (card : ℕ) → Contains cards card → IsRecorded old card region ⊎ Holds old card region
 
@@ -58,7 +65,7 @@ pub record IsDrainedInto (old new : Table) (region count : ℕ) (before after : 
   pub cards : List ℕ
   pub done : List ℕ
   pub step : (caller : ℕ) → IsStep old (drained caller region cards done) new
-  pub exact : IsExact old region cards
+  pub exact : IsExactAtPause old region cards
   pub counted : count ≡ length cards
   pub written : AreWritten cards before after
 

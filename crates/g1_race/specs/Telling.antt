@@ -1,5 +1,5 @@
 -- Cards that are told apart by a test: the dirty ones, and those of a region's remembered set.
-use Rattle.std.specs.Prelude.{◌≡◌, ℕ, ◌<◌, ◌≤◌, ◌==◌, List, [], ◌∷◌, ◌++◌, zero, suc, Bool, true, false, Option, Some, None, if◌then◌else◌, slice_index}
+use Rattle.std.specs.Prelude.{◌≡◌, ℕ, ◌+◌, length, ◌<◌, ◌≤◌, ◌==◌, List, [], ◌∷◌, ◌++◌, zero, suc, Bool, true, false, Option, Some, None, if◌then◌else◌, slice_index}
 use Rattle.std.specs.Int.{bit_at}
 use Rattle.g1_race_words.specs.declared.view.Shape.{Shape}
 use Rattle.g1_race_words.specs.Rule.{bit_place, bit_word, mark_word}
@@ -23,6 +23,11 @@ marked_cards k words = cards_where (is_marked k words) k.cards
 
 abbrev pub member_cards : Shape → List ℕ → ℕ → List ℕ
 member_cards k words region = cards_where (is_member k words region) k.cards
+
+-- how many pairs are recorded for the first n regions
+abbrev pub pair_count : Shape → List ℕ → ℕ → ℕ
+pair_count k words zero = 0
+pair_count k words (suc r) = pair_count k words r + length (member_cards k words r)
 
 -- the least card from one on, below a limit, of which the test is true
 abbrev pub IsNext : (ℕ → Bool) → ℕ → ℕ → Option ℕ → Type 0

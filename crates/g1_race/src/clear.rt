@@ -86,7 +86,7 @@ fn entering_on(race: &Race, seat: &mut Place, card: usize, region: usize) -> Opt
 }
 
 // Whether a slot with this word lies outside the region and refers into it.
-fn enters(shape: Shape, slot: usize, word: u64, region: usize) -> bool
+pub(crate) fn enters(shape: Shape, slot: usize, word: u64, region: usize) -> bool
     requires shape { IsShape shape }
     ensures { IsTrue result ↔ ((crosses shape slot word ≡ true) × (region_at shape word ≡ region)) }
 {
@@ -101,7 +101,7 @@ fn enters(shape: Shape, slot: usize, word: u64, region: usize) -> bool
 }
 
 // Clears the bits of all pairs of the region.
-fn empty_row(race: &Race, seat: &mut Place, region: usize)
+pub(crate) fn empty_row(race: &Race, seat: &mut Place, region: usize)
     requires seat { IsPaused race.now.table.table_id race.now.shape seat.old }
     requires region { region < race.now.shape.regions }
     requires none { (p : ℕ) → Into race.now.shape seat.old.me.0.began_words region p → ⊥ }

@@ -1,5 +1,5 @@
 //! Refinement at a pause: which cards refer into a region.
-ghost use Rattle.std.specs.Prelude.{◌≡◌, ℕ, ◌+◌, ◌*◌, ◌<◌, ◌≤◌, [], ◌∷◌, IfOk, OnErr, List};
+ghost use Rattle.std.specs.Prelude.{◌≡◌, ℕ, ◌+◌, ◌*◌, ◌<◌, ◌≤◌, [], ◌∷◌, IfOk, OnErr, List, length, map, replicate, vec_len, vec_capacity};
 ghost use Rattle.g1_layout.specs.Shape.{slot_count};
 ghost use Rattle.g1_core.specs.Run.{IsStep};
 ghost use Rattle.g1_core.specs.Calls.{drain_cards, drain_entry};
@@ -7,7 +7,7 @@ ghost use Rattle.g1_race_words.specs.Rule.{IsPair, IsOfCrossing};
 ghost use Rattle.g1_race_words.specs.Steps.{pair_at};
 ghost use Rattle.g1_race.specs.Over.{halted};
 ghost use Rattle.g1_race.specs.Refining.{Notes, IsRefined, AreRefined};
-ghost use Rattle.g1_race.specs.Evacuating.{IsSameRace, AreAllRefined, IsDrainedInto, IsWhole, IsExact};
+ghost use Rattle.g1_race.specs.Evacuating.{IsRefinedRace, AreAllRefined, IsDrainedInto, IsWhole, IsExactAtPause};
 ghost use Rattle.g1_race_words.specs.Seats.{IsPaused};
 
 use crate::bits::bit_of;
@@ -17,6 +17,7 @@ use crate::next::{
 use crate::paused::Paused;
 use crate::race::Race;
 use crate::stopped::{put, see};
+use arrayvec::ArrayVec;
 use g1_core::{CardList, Drained};
 use g1_layout::{Card, NoMemory, Region};
 use g1_race_words::Place;
@@ -25,16 +26,16 @@ use std::alloc::Global;
 impl Paused {
     /// Refines every dirty card, and answers the remembered set of the region: ascending, each card
     /// once, every card that holds into the region, and beside these only cards whose pair was
-    /// recorded before. Nothing is dirty then.
+    /// recorded before. Nothing is dirty then, and the racers' logs are empty.
     ///
     /// The room for the answer is asked for first, and refinement takes none. `NoMemory` where it
     /// was refused: nothing has changed. A drain is never `Short`.
     pub fn drain(&mut self, alloc: Global, region: Region) -> Result<Drained, NoMemory>
         requires { region < self.old.layout.regions }
-        ensures race { IsSameRace self.old self.new }
+        ensures race { IfOk result (λ answer. IsRefinedRace self.old self.new) }
         ensures whole { IfOk result IsWhole }
         ensures step { IfOk result (λ answer. (caller : ℕ) → IsStep (halted self.old) (drain_entry caller region answer) (halted self.new)) }
-        ensures exact { IfOk result (λ answer. IsExact (halted self.old) region (drain_cards answer)) }
+        ensures exact { IfOk result (λ answer. IsExactAtPause (halted self.old) region (drain_cards answer)) }
         ensures err { OnErr result (self.new ≡ self.old) }
     {
         let number = region.number() as usize;
@@ -45,6 +46,7 @@ impl Paused {
         list_marked(&self.race, &mut self.seat, &mut refined);
         refine_cards(&self.race, &mut self.seat);
         list_members(&self.race, &mut self.seat, number, &mut cards);
+        clear_logs(&mut self.race.logs);
         let refined = CardList::of(refined);
         let cards = CardList::of(cards);
         Ok(Drained::Cards { cards, refined })
@@ -54,21 +56,34 @@ impl Paused {
     /// cards the answer has. Takes no memory.
     pub fn drain_into(&mut self, region: Region, cards: &mut [Card]) -> usize
         requires { region < self.old.layout.regions }
-        ensures race { IsSameRace self.old self.new }
+        ensures race { IsRefinedRace self.old self.new }
         ensures drained { IsDrainedInto (halted self.old) (halted self.new) region result cards.old cards.new }
     {
         let number = region.number() as usize;
         refine_cards(&self.race, &mut self.seat);
+        clear_logs(&mut self.race.logs);
         write_members(&self.race, &mut self.seat, number, cards)
     }
 
-    /// Refines every dirty card, in ascending order. The members of each region are exact then, so
-    /// one call serves a whole collection set. Takes no memory.
+    /// Refines every dirty card, in ascending order, and empties the racers' logs. The members of
+    /// each region are exact then, so one call serves a whole collection set. Takes no memory.
     pub fn refine_all(&mut self)
-        ensures race { IsSameRace self.old self.new }
+        ensures race { IsRefinedRace self.old self.new }
         ensures refined { (cards : List ℕ) × AreAllRefined (halted self.old) cards (halted self.new) }
     {
         refine_cards(&self.race, &mut self.seat);
+        clear_logs(&mut self.race.logs);
+    }
+}
+
+// Empties the racers' logs, whose cards are all refined.
+pub(crate) fn clear_logs(logs: &mut Vec<ArrayVec<Card, 256>>)
+    ensures logs { map (λ l. l.items) logs.new.items ≡ replicate (length logs.old.items) [] }
+    ensures len { vec_len logs.new ≡ vec_len logs.old }
+    ensures capacity { vec_capacity logs.new ≡ vec_capacity logs.old }
+{
+    for log in logs.iter_mut() {
+        log.clear();
     }
 }
 

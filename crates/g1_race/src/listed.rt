@@ -3,18 +3,18 @@ ghost use Rattle.std.specs.Prelude.{◌≡◌, ◌+◌, ◌<◌, ◌≤◌, ◌�
 ghost use Rattle.std.specs.FinSet as set;
 ghost use Rattle.g1_core.specs.Table.{IsRecorded, AreMembers};
 ghost use Rattle.g1_core.specs.Run.{IsStep};
-ghost use Rattle.g1_core.specs.Calls.{members_entry};
+ghost use Rattle.g1_core.specs.Calls.{members_entry, status_entry};
 ghost use Rattle.g1_race_words.specs.Rule.{HasBit, IsPair};
 ghost use Rattle.g1_race.specs.Over.{halted};
 ghost use Rattle.g1_race.specs.Clearing.{IsLeastPending};
 ghost use Rattle.g1_race_words.specs.Seats.{IsPaused};
 
 use crate::bits::bit_of;
-use crate::next::{card_at, count_marked, count_members, list_members, next_marked};
+use crate::next::{card_at, count_marked, count_members, count_pairs, list_members, next_marked};
 use crate::paused::Paused;
 use crate::race::Race;
 use crate::stopped::see;
-use g1_core::CardList;
+use g1_core::{CardList, Status};
 use g1_layout::{Card, NoMemory, Region};
 use g1_race_words::Place;
 use std::alloc::Global;
@@ -59,6 +59,21 @@ impl Paused {
         ensures same { self.new ≡ self.old }
     {
         count_marked(&self.race, &mut self.seat) as u32
+    }
+
+    /// How many cards are dirty and how many pairs are recorded. Reads a word for each card, one for
+    /// each region and 64 cards of the heap, and one more for each recorded pair: in a heap of 256
+    /// regions five times what `pending_count` reads, or more.
+    pub fn status(&mut self) -> Status
+        ensures pending { result.pending ≡ set.len (halted self.old).pending }
+        ensures recorded { result.recorded ≡ set.len (halted self.old).recorded }
+        ensures step { (caller : ℕ) → IsStep (halted self.old) (status_entry caller result) (halted self.new) }
+        ensures same { self.new ≡ self.old }
+    {
+        let _counts = self.race.layout.counts();
+        let pending = count_marked(&self.race, &mut self.seat) as u32;
+        let recorded = count_pairs(&self.race, &mut self.seat) as u32;
+        Status { pending, recorded }
     }
 
     /// The least dirty card. Reads a word for each card up to it.

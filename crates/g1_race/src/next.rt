@@ -1,6 +1,6 @@
 //! Where the next dirty card is, and the next card of a region's set.
 ghost use Rattle.std.specs.Prelude.{◌≡◌, ◌+◌, ◌*◌, ◌<◌, ◌≤◌, ℕ, [], length, vec_capacity};
-ghost use Rattle.g1_race.specs.Telling.{IsNext, is_marked, is_member, marked_cards, member_cards};
+ghost use Rattle.g1_race.specs.Telling.{IsNext, is_marked, is_member, marked_cards, member_cards, pair_count};
 ghost use Rattle.g1_race.specs.Evacuating.{AreWritten};
 ghost use Rattle.g1_race_words.specs.Seats.{IsPaused};
 
@@ -92,6 +92,19 @@ pub(crate) fn count_members(race: &Race, seat: &mut Place, region: usize) -> usi
     while let Some(card) = next_member(race, seat, from, region) {
         count += 1;
         from = card + 1;
+    }
+    count
+}
+
+// How many pairs are recorded.
+pub(crate) fn count_pairs(race: &Race, seat: &mut Place) -> usize
+    requires { IsPaused race.now.table.table_id race.now.shape seat.old }
+    ensures count { result ≡ pair_count race.now.shape seat.old.me.0.began_words race.now.shape.regions }
+    ensures seat { (seat.new.table_id ≡ seat.old.table_id) × (seat.new.me ≡ seat.old.me) }
+{
+    let mut count = 0;
+    for region in 0..race.shape.regions {
+        count += count_members(race, seat, region);
     }
     count
 }

@@ -17,9 +17,9 @@ use g1_race_words::{Place, RaceTable};
 use std::alloc::Global;
 
 impl Paused {
-    /// Lets the race go on: the racers get their logs back and have stored nothing, the sweepers
-    /// have swept nothing, and the race begins with the table as the pause left it. A racer has a
-    /// number of its own from here to the next pause.
+    /// Lets the race go on: the racers get their logs back, empty where all was refined, and have
+    /// stored nothing, the sweepers have swept nothing, and the race begins with the table as the
+    /// pause left it. A racer has a number of its own from here to the next pause.
     ///
     /// Takes no memory and cannot fail. Makes no step but one and those that split the seats.
     pub fn resume(self) -> (Race, Vec<Racer>, Vec<Sweeper>)

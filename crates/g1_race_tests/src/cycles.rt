@@ -19,7 +19,10 @@ fn race_on<R: Threads + Sync>(
 ) -> Result<Core, NoMemory> {
     match Race::resume(alloc, core, 4, 2) {
         Ok((race, racers, sweepers)) => {
-            match run_race(rt, race, racers, sweepers, plan).into_core(alloc, Config::default()) {
+            match run_race(rt, race, racers, sweepers, plan)
+                .close()
+                .into_core(alloc, Config::default())
+            {
                 Ok(core) => Ok(core),
                 Err((_, error)) => Err(error),
             }

@@ -4,7 +4,7 @@ ghost use Rattle.g1_layout.specs.Shape.{slot_count};
 ghost use Rattle.g1_race.specs.Members.{race_id, race_layout, race_shape, racer_race, sweeper_race};
 
 use g1_layout::{Layout, NoMemory, Slot};
-use g1_race::{Closed, Race, Racer, Sweeper};
+use g1_race::{Closed, Paused, Race, Racer, Sweeper};
 use std::alloc::Global;
 use std::test::Fail;
 use std::thread::{self, Threads};
@@ -117,14 +117,14 @@ fn all_refine<R: Threads + Sync>(
     sweepers
 }
 
-// All racers store, and all sweepers refine beside them.
+// All racers store, and all sweepers refine beside them, up to a pause.
 pub(crate) fn run_race<R: Threads + Sync>(
     rt: &R,
     race: Race,
     racers: Vec<Racer>,
     sweepers: Vec<Sweeper>,
     plan: Plan,
-) -> Closed
+) -> Paused
     requires count { vec_len racers + vec_len sweepers ≡ (race_shape race).members }
     requires racers { All (λ r. racer_race r ≡ race_id race) racers.items }
     requires sweepers { All (λ w. sweeper_race w ≡ race_id race) sweepers.items }
@@ -144,7 +144,7 @@ pub(crate) fn run_race<R: Threads + Sync>(
             ensures len { vec_len result ≡ vec_len sweepers }
         { all_refine(rt, shared, sweepers, plan) },
     );
-    race.close(racers, sweepers)
+    race.pause(racers, sweepers)
 }
 
 // A whole race over a heap of nulls.
@@ -161,7 +161,7 @@ fn raced<R: Threads + Sync>(
     ensures { IfOk result (λ closed. closed.layout ≡ layout) }
 {
     let (race, racers, sweepers) = Race::open(alloc, layout, racers, sweepers)?;
-    Ok(run_race(rt, race, racers, sweepers, plan))
+    Ok(run_race(rt, race, racers, sweepers, plan).close())
 }
 
 // Whether each card that holds into a region is dirty or has the pair.

@@ -2,8 +2,8 @@
 //! slots from `4 * c` on, region `r` those from `8 * r` on.
 use crate::small::Step::{First, FirstLog, Refine, Second, SecondLog};
 use crate::small::{Small, Step, are, number_of};
-use g1_core::{ClearReply, Drained};
-use g1_layout::Kind::{AlreadyDirty, Logged, Null};
+use g1_core::{ClearReply, Drained, Redirected};
+use g1_layout::Kind::{AlreadyDirty, Logged, Null, SameRegion};
 use g1_layout::Layout;
 use g1_race::Paused;
 use std::alloc::Global;
@@ -15,6 +15,14 @@ use std::test::Fail;
 enum Call<'a> {
     /// A drain of a region: the cards that it lists, and those that it refines.
     Drain(u32, &'a [u32], &'a [u32]),
+    /// The cards that a drain writes into a slice of 8 cards, all of which were card 7.
+    DrainInto(u32, &'a [u32]),
+    /// The references into a region move to another: how many, and the cards that are refined.
+    Redirect(u32, u32, u32, &'a [u32]),
+    /// The same, without a list.
+    RedirectInPlace(u32, u32, u32),
+    /// How many cards are dirty, and how many pairs are recorded.
+    Status(u32, u32),
     /// The cards that are recorded for a region.
     Members(u32, &'a [u32]),
     /// All dirty cards are refined.
@@ -66,10 +74,17 @@ fn make(rt: &impl Abort, alloc: Global, paused: &mut Paused, call: Call) -> Resu
             let cards = paused.members(alloc, region)?;
             assert!(rt; are(cards.as_slice(), wanted));
         }
-        Call::Refine => paused.refine_all(),
-        Call::Dirty(_) | Call::Target(_, _) | Call::Pending(_, _) | Call::Has(_, _, _) => {
-            look(rt, paused, call);
+        Call::DrainInto(number, wanted) => drain_into(rt, paused, number, wanted),
+        Call::Redirect(from, to, slots, refined) => {
+            redirect(rt, alloc, paused, from, to, slots, refined)?;
         }
+        Call::RedirectInPlace(from, to, slots) => redirect_in_place(rt, paused, from, to, slots),
+        Call::Refine => paused.refine_all(),
+        Call::Status(_, _)
+        | Call::Dirty(_)
+        | Call::Target(_, _)
+        | Call::Pending(_, _)
+        | Call::Has(_, _, _) => look(rt, paused, call),
         Call::Clear(number) => clear(rt, paused, number, ClearReply::Cleared),
         Call::ClearPending(number, cards) => {
             clear(rt, paused, number, ClearReply::Pending(cards));
@@ -99,6 +114,45 @@ fn drain(
     Ok(())
 }
 
+fn drain_into(rt: &impl Abort, paused: &mut Paused, number: u32, wanted: &[u32]) {
+    let layout = paused.layout();
+    let region = layout.region(number).expect(rt, "region");
+    let last = layout.card(7).expect(rt, "card");
+    let mut cards = [last; 8];
+    assert_eq!(rt; paused.drain_into(region, &mut cards), wanted.len());
+    for (index, card) in cards.iter().enumerate() {
+        let number = wanted.get(index).copied().unwrap_or(7);
+        assert_eq!(rt; card.number(), number);
+    }
+}
+
+fn redirect(
+    rt: &impl Abort,
+    alloc: Global,
+    paused: &mut Paused,
+    from: u32,
+    to: u32,
+    wanted: u32,
+    wanted_refined: &[u32],
+) -> Result<(), Fail> {
+    assert!(rt; from != to);
+    let from = paused.layout().region(from).expect(rt, "region");
+    let to = paused.layout().region(to).expect(rt, "region");
+    let Redirected::Moved { slots, refined } = paused.redirect(alloc, from, to)? else {
+        panic!(rt; "a redirect was short");
+    };
+    assert_eq!(rt; slots, wanted);
+    assert!(rt; are(refined.as_slice(), wanted_refined));
+    Ok(())
+}
+
+fn redirect_in_place(rt: &impl Abort, paused: &mut Paused, from: u32, to: u32, wanted: u32) {
+    assert!(rt; from != to);
+    let from = paused.layout().region(from).expect(rt, "region");
+    let to = paused.layout().region(to).expect(rt, "region");
+    assert_eq!(rt; paused.redirect_in_place(from, to), wanted);
+}
+
 fn clear(rt: &impl Abort, paused: &mut Paused, number: u32, wanted: ClearReply) {
     let region = paused.layout().region(number).expect(rt, "region");
     assert!(rt; paused.clear(region) == wanted);
@@ -108,6 +162,12 @@ fn clear(rt: &impl Abort, paused: &mut Paused, number: u32, wanted: ClearReply) 
 fn look(rt: &impl Abort, paused: &mut Paused, call: Call) {
     let layout = paused.layout();
     match call {
+        Call::Status(pending, recorded) => {
+            let status = paused.status();
+            assert_eq!(rt; status.pending, pending);
+            assert_eq!(rt; status.recorded, recorded);
+            assert_eq!(rt; paused.pending_count(), pending);
+        }
         Call::Dirty(wanted) => match (paused.next_dirty(), wanted) {
             (Some(card), Some(wanted)) => assert_eq!(rt; card.number(), wanted),
             (None, None) => {}
@@ -127,6 +187,9 @@ fn look(rt: &impl Abort, paused: &mut Paused, call: Call) {
             assert_eq!(rt; paused.has(card, region), wanted);
         }
         Call::Drain(_, _, _)
+        | Call::DrainInto(_, _)
+        | Call::Redirect(_, _, _, _)
+        | Call::RedirectInPlace(_, _, _)
         | Call::Members(_, _)
         | Call::Refine
         | Call::Clear(_)
@@ -140,6 +203,7 @@ fn a_heap_is_born_at_a_pause_and_a_race_of_no_step_changes_nothing(
     rt: HostRuntime,
 ) -> Result<(), Fail> {
     let empty = [
+        Call::Status(0, 0),
         Call::Dirty(None),
         Call::Target(31, None),
         Call::Pending(7, false),
@@ -167,7 +231,9 @@ fn a_drain_refines_all_and_a_second_one_finds_the_same(rt: HostRuntime) -> Resul
         Call::Pending(7, false),
         Call::Has(7, 1, true),
         Call::Members(1, &[7]),
+        Call::Status(3, 1),
         Call::Drain(1, &[0, 4, 7], &[0, 4, 5]),
+        Call::Status(0, 4),
         Call::Drain(1, &[0, 4, 7], &[]),
         Call::Drain(0, &[5], &[]),
         Call::Dirty(None),
@@ -242,6 +308,93 @@ fn a_log_comes_back_after_a_pause_without_a_drain(rt: HostRuntime) -> Result<(),
     ];
     let calls = [Call::Pending(0, false), Call::Drain(1, &[0, 1, 4], &[1, 4])];
     live_on(&rt, rt.alloc(), paused, &steps, &calls)?;
+    Ok(())
+}
+
+#[test]
+fn the_logs_are_empty_once_all_is_refined(rt: HostRuntime) -> Result<(), Fail> {
+    let ways = [
+        Call::Drain(1, &[0, 4], &[0, 4]),
+        Call::DrainInto(1, &[0, 4]),
+        Call::Refine,
+        Call::Redirect(1, 3, 2, &[0, 4]),
+        Call::RedirectInPlace(1, 3, 2),
+    ];
+    for way in ways {
+        let steps = [First(0, Some(8), Logged), Second(16, Some(9), Logged)];
+        let paused = live_on(&rt, rt.alloc(), open(rt.alloc())?, &steps, &[way])?;
+        let steps = [
+            FirstLog(&[]),
+            SecondLog(&[]),
+            First(0, Some(10), Logged),
+            FirstLog(&[0]),
+        ];
+        live_on(&rt, rt.alloc(), paused, &steps, &[Call::Pending(0, true)])?;
+    }
+    Ok(())
+}
+
+// Slots 0 and 1 of region 0 and slot 16 of region 2 refer into region 1 from outside, and slot 9
+// from inside. They move to region 2, where slot 16 lies.
+fn move_to_region_2(rt: &impl Abort, alloc: Global, redirect: Call) -> Result<(), Fail> {
+    let steps = [
+        First(0, Some(8), Logged),
+        First(1, Some(9), AlreadyDirty),
+        Second(9, Some(10), SameRegion),
+        First(12, Some(3), Logged),
+        Second(16, Some(15), Logged),
+    ];
+    let calls = [
+        Call::Status(3, 0),
+        redirect,
+        Call::Status(0, 2),
+        Call::Target(0, Some(16)),
+        Call::Target(1, Some(17)),
+        Call::Target(9, Some(10)),
+        Call::Target(12, Some(3)),
+        Call::Target(16, Some(23)),
+        Call::Members(0, &[3]),
+        Call::Members(1, &[]),
+        Call::Members(2, &[0]),
+        Call::Members(3, &[]),
+        Call::Clear(1),
+    ];
+    live_on(rt, alloc, open(alloc)?, &steps, &calls)?;
+    Ok(())
+}
+
+#[test]
+fn a_redirect_moves_references_and_records_their_cards(rt: HostRuntime) -> Result<(), Fail> {
+    move_to_region_2(&rt, rt.alloc(), Call::Redirect(1, 2, 3, &[0, 3, 4]))
+}
+
+#[test]
+fn a_redirect_in_place_does_the_same(rt: HostRuntime) -> Result<(), Fail> {
+    move_to_region_2(&rt, rt.alloc(), Call::RedirectInPlace(1, 2, 3))
+}
+
+#[test]
+fn a_redirect_of_recorded_references_refines_no_card(rt: HostRuntime) -> Result<(), Fail> {
+    let steps = [
+        First(31, Some(6), Logged),
+        Second(30, Some(24), SameRegion),
+        First(28, Some(7), AlreadyDirty),
+        Refine(7),
+    ];
+    let calls = [
+        Call::Status(0, 1),
+        Call::Redirect(0, 2, 2, &[]),
+        Call::Target(28, Some(23)),
+        Call::Target(30, Some(24)),
+        Call::Target(31, Some(22)),
+        Call::Has(7, 0, false),
+        Call::Has(7, 2, true),
+        Call::Redirect(0, 3, 0, &[]),
+        Call::RedirectInPlace(2, 3, 2),
+        Call::Target(31, Some(30)),
+        Call::Status(0, 0),
+    ];
+    live_on(&rt, rt.alloc(), open(rt.alloc())?, &steps, &calls)?;
     Ok(())
 }
 

@@ -17,6 +17,7 @@ pub fn clamped(number: u64) -> u32
     number.min(u64::from(u32::MAX)) as u32
 }
 
+/// The mutator of this number, of which there are `mutators`; else `NoMutator`.
 pub fn mutator(mutators: u32, number: u64) -> Result<u32, TraceFault>
     ensures read { result ≡ fit_below mutators NoMutator number }
     ensures valid { IfOk result (λ m. m < mutators) }
@@ -28,6 +29,7 @@ pub fn mutator(mutators: u32, number: u64) -> Result<u32, TraceFault>
     }
 }
 
+/// The slot of this number; `NoSlot` where the heap has none.
 pub fn slot(layout: Layout, number: u64) -> Result<Slot, TraceFault>
     requires { IsShape layout }
     ensures read { result ≡ fit_below (slot_count layout) NoSlot number }
@@ -73,6 +75,7 @@ fn number_or_null(word: &[u8], number: Result<u64, TraceFault>) -> Result<Option
     Ok(Some(number))
 }
 
+/// The place of this number, or null for none; `NoSlot` where the heap has no such slot.
 pub fn target(layout: Layout, number: Option<u64>) -> Result<Option<Slot>, TraceFault>
     requires { IsShape layout }
     ensures read { result ≡ fit_target layout number }

@@ -76,7 +76,7 @@ fn number(word: &[u8]) -> Result<u64, TraceFault>
     Ok(value)
 }
 
-// How many digits the bytes begin with, of the 10 that a number may have, and their value.
+/// How many digits the bytes begin with, of the 10 that a number may have, and their value.
 #[inline(always)]
 pub fn leading_digits(bytes: &[u8]) -> (usize, u64)
     ensures bound { result.0 ≤ length bytes.now }

@@ -1,13 +1,14 @@
-use Rattle.std.proofs.Common.{◌≡◌, ℕ, ◌<◌, List, length, sym, ap, ◌∙◌, subst, arith}
+use Rattle.std.proofs.Common.{◌≡◌, ℕ, ◌<◌, List, length, sym, ap, ◌∙◌, subst, arith, [], replicate}
 use Rattle.g1_core.specs.Run.{IsStep, drained}
 use Rattle.g1_race_words.specs.declared.view.Shape.{Shape}
 use Rattle.g1_race.specs.Telling.{is_marked, is_member, marked_cards, member_cards}
 use Rattle.g1_race.specs.Refining.{AreRefined}
-use Rattle.g1_race.specs.Evacuating.{IsExact}
+use Rattle.g1_race.specs.Evacuating.{IsExactAtPause}
 use Rattle.g1_race.specs.Over.{Halt, halted, ended, table_of}
 use Rattle.g1_race.proofs.Telling.{few}
 use Rattle.g1_race.proofs.NextCards.{cards_fit}
 use Rattle.g1_race.proofs.PauseTable.{all_refined, drain_step, exact_is, members_are, members_room}
+use Rattle.g1_race.proofs.Logs.{emptied}
 use Rattle.g1_race.proofs.paused.Paused.drain.Goals as goal
 
 pub overflow_add-members : goal.overflow_add-members
@@ -69,7 +70,17 @@ returns-clause-exact c =
     let refined = subst (λ (ws : List ℕ). AreRefined k ws new k.cards) same c.refine_cards.ensures.refined in
     let low : number < k.regions = omega (arith, c.requires, c.number-number.ensures, ap (λ (s : Shape). s.regions) race.laid, ap (λ (h : Halt). h.layout.regions) c.self.view_is) in
     let cards : c.of-cards.result ≡ member_cards k new number = c.of-cards.ensures ∙ c.list_members.ensures.cards in
-    subst (λ (h : Halt). IsExact (halted h) c.args.region c.of-cards.result) c.self.view_is
-    (subst (λ (cs : List ℕ). IsExact (table_of (ended l k old)) c.args.region cs) (sym cards)
+    subst (λ (h : Halt). IsExactAtPause (halted h) c.args.region c.of-cards.result) c.self.view_is
+    (subst (λ (cs : List ℕ). IsExactAtPause (table_of (ended l k old)) c.args.region cs) (sym cards)
     (exact_is (table_of (ended l k old)) (table_of (ended l k new)) c.args.region (member_cards k new number) (marked_cards k old)
     (all_refined k l race.laid old new begun c.refine_cards.ensures.seat.begun refined) (members_are k l race.laid new c.args.region number c.refine_cards.ensures.seat.begun c.number-number.ensures low)))
+
+pub returns-clause-race : goal.returns-clause-race
+returns-clause-race c =
+    let logs = emptied c.self.inside.race.logs.items c.clear_logs.new.logs.items c.clear_logs.ensures.logs in
+    record {
+      layout = ap (λ (h : Halt). h.layout) c.self.view_is;
+      shape = ap (λ (h : Halt). h.shape) c.self.view_is;
+      logs = logs ∙ ap (λ (h : Halt). replicate {A = List ℕ} (length h.logs) []) c.self.view_is;
+      sweepers = ap (λ (h : Halt). h.sweepers) c.self.view_is;
+    }

@@ -1,9 +1,10 @@
-use Rattle.std.proofs.Common.{ℕ, ◌<◌, List, sym, ap, subst, arith}
+use Rattle.std.proofs.Common.{ℕ, ◌<◌, List, sym, ap, subst, arith, [], length, replicate, ◌∙◌}
 use Rattle.g1_race_words.specs.declared.view.Shape.{Shape}
 use Rattle.g1_race.specs.Telling.{marked_cards, member_cards}
 use Rattle.g1_race.specs.Evacuating.{IsDrainedInto}
 use Rattle.g1_race.specs.Over.{Halt, halted, ended, table_of}
 use Rattle.g1_race.proofs.PauseTable.{all_refined, drain_step, exact_is, members_are}
+use Rattle.g1_race.proofs.Logs.{emptied}
 use Rattle.g1_race.proofs.paused.Paused.drain_into.Goals as goal
 
 pub returns-clause-drained : goal.returns-clause-drained
@@ -29,3 +30,13 @@ returns-clause-drained c =
     } in
     subst (λ (h : Halt). IsDrainedInto (halted h) (table_of (ended l k c.write_members.new.seat.me.0.began_words)) c.args.region c.write_members.result c.args.cards.now c.write_members.new.cards) c.self.view_is
     (subst (λ (ws : List ℕ). IsDrainedInto (table_of (ended l k old)) (table_of (ended l k ws)) c.args.region c.write_members.result c.args.cards.now c.write_members.new.cards) (sym (ap (λ m. m.0.began_words) c.write_members.ensures.seat.1)) r)
+
+pub returns-clause-race : goal.returns-clause-race
+returns-clause-race c =
+    let logs = emptied c.self.inside.race.logs.items c.clear_logs.new.logs.items c.clear_logs.ensures.logs in
+    record {
+      layout = ap (λ (h : Halt). h.layout) c.self.view_is;
+      shape = ap (λ (h : Halt). h.shape) c.self.view_is;
+      logs = logs ∙ ap (λ (h : Halt). replicate {A = List ℕ} (length h.logs) []) c.self.view_is;
+      sweepers = ap (λ (h : Halt). h.sweepers) c.self.view_is;
+    }

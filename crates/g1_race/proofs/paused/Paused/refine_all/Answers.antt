@@ -1,7 +1,8 @@
-use Rattle.std.proofs.Common.{subst}
+use Rattle.std.proofs.Common.{ℕ, List, [], length, replicate, ap, ◌∙◌, subst}
 use Rattle.g1_race.specs.Over.{Halt, halted, ended, table_of}
 use Rattle.g1_race.specs.Evacuating.{AreAllRefined}
 use Rattle.g1_race.specs.Telling.{marked_cards}
+use Rattle.g1_race.proofs.Logs.{emptied}
 use Rattle.g1_race.proofs.PauseTable.{all_refined}
 use Rattle.g1_race.proofs.paused.Paused.refine_all.Goals as goal
 
@@ -15,3 +16,13 @@ returns-clause-refined c =
       subst (λ (h : Halt). AreAllRefined (halted h) (marked_cards k old) (table_of (ended race.layout k new))) c.self.view_is
           (all_refined k race.layout race.laid old new c.self.invariant.0.begun c.refine_cards.ensures.seat.begun c.refine_cards.ensures.refined),
     )
+
+pub returns-clause-race : goal.returns-clause-race
+returns-clause-race c =
+    let logs = emptied c.self.inside.race.logs.items c.clear_logs.new.logs.items c.clear_logs.ensures.logs in
+    record {
+      layout = ap (λ (h : Halt). h.layout) c.self.view_is;
+      shape = ap (λ (h : Halt). h.shape) c.self.view_is;
+      logs = logs ∙ ap (λ (h : Halt). replicate {A = List ℕ} (length h.logs) []) c.self.view_is;
+      sweepers = ap (λ (h : Halt). h.sweepers) c.self.view_is;
+    }

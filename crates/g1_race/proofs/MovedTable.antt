@@ -1,0 +1,220 @@
+-- A redirect at a pause as a step of the plain table.
+use Rattle.std.proofs.Common.{◌≡◌, ◌≢◌, ℕ, zero, suc, ◌+◌, ◌-◌, ◌*◌, ◌/◌, ◌%◌, ◌<◌, ◌≤◌, cond, eqb, map, take, Bool, true, false, List, length, get_or, Option, Some, None, refl, sym, ap, ◌∙◌, subst, inl, inr, ⊎_elim, arith, eq-eqb, ne_eqb}
+use Rattle.std.specs.Prelude.{not, ◌&&◌, ◌||◌, count_by}
+use mathlib.Core.Option.{some}
+use lib.ListN.{get_elem?}
+use Rattle.std.specs.List.{enumerate_from, filter_map, range_with_len}
+use Rattle.std.specs.FinSet as set
+use Rattle.std.proofs.lemmas.Bool.{and_from, and_parts, cases_Bool, eqb-false, eqb-true, not-true, or_cases, or_left, or_right, true≢false}
+use Rattle.std.proofs.lemmas.List.{get_or_default, get_or-map, length-map, length-take}
+use Rattle.std.proofs.lemmas.List.FromFn.{fill_by_all, get_or-enumerate_from, length-enumerate_from}
+use Rattle.std.proofs.lemmas.List.Sums.{count_by_more_no, count_by_more_yes}
+use Rattle.g1_layout.specs.Shape as layout
+use Rattle.g1_layout.specs.Shape.{slot_count, region_of, same_offset}
+use Rattle.g1_layout.specs.Sets.{pair_cmp}
+use Rattle.g1_core.specs.Table.{Table, enters, moved_target, moved_pair, moved, moved_count}
+use Rattle.g1_core.specs.declared.entry.Call.TheVariants.{Redirect}
+use Rattle.g1_core.specs.declared.entry.Reply.TheVariants as reply
+use Rattle.g1_core.specs.Run.{IsStep}
+use Rattle.g1_race.specs.Evacuating.{AreAllRefined}
+use Rattle.g1_core.proofs.SetLemmas.{pair_total, pair_exact, listed, unlisted, Kept, from_kept, to_kept, same_bools}
+use Rattle.g1_core.proofs.TableLemmas.{slot_of}
+use Rattle.g1_race_words.specs.declared.view.Shape.{Shape}
+use Rattle.g1_race_words.specs.Rule.{IsBegun, IsPair, HasBit, card_of, crosses, front, mark_word, one_if, region_at, start}
+use Rattle.g1_race.specs.Race.{shape_of}
+use Rattle.g1_race.specs.Over.{ended, refs_of, table_of, target_of}
+use Rattle.g1_race.specs.Moving.{AreMovedAway, Acquires, into_count, is_into, moved_word, word_after}
+use Rattle.g1_race.proofs.Ends.{crosses_apart, recorded_set, refs_here, set_recorded, target_some}
+use Rattle.g1_race_words.proofs.PairBits.{card_below, crosses_some, in_row}
+use Rattle.g1_race.proofs.PauseTable.{pending_word, slots_are, table_is, word_pending}
+use Rattle.g1_race_words.proofs.Places.{at_take, at_untake, reads_as, take_all}
+use Rattle.g1_race_words.proofs.Plain.{false_is, read_at, true_is}
+use Rattle.g1_race.proofs.StoreCalls.{other_region}
+
+module _ (k : Shape) (l : layout.Shape) (laid : k ≡ shape_of l k.members) where
+  span_is : k.span ≡ l.cards * l.slots
+  span_is = ap (λ (s : Shape). s.span) laid
+
+  -- a slot refers into a region by its word just where it does by its target
+
+  enters_to : (region p n : ℕ) → is_into k region p n ≡ true → enters l region (p, target_of n) ≡ true
+  enters_to region p n h =
+      let b = and_parts (crosses k p n) (eqb (region_at k n) region) h in
+      let into : region_at k n ≡ region = eqb-true (region_at k n) region b.1 in
+      subst (λ (o : Option ℕ). enters l region (p, o) ≡ true) (sym (target_some n (crosses_some k p n b.0)))
+      (and_from (not (eqb (region_of l p) region)) (eqb (region_of l (n - 1)) region)
+      (ap not (ne_eqb (region_of l p) region (λ e. crosses_apart k p n b.0 (ap (λ (s : ℕ). p / s) span_is ∙ (e ∙ sym into)))))
+      (eq-eqb (region_of l (n - 1)) region (ap (λ (s : ℕ). (n - 1) / s) (sym span_is) ∙ into)))
+
+  enters_from : (region p n : ℕ) → enters l region (p, target_of n) ≡ true → is_into k region p n ≡ true
+  enters_from region p zero h = absurd (true≢false (sym h))
+  enters_from region p (suc m) h =
+      let n : ℕ = suc m in
+      let ne : suc m ≢ 0 = λ z. absurd (omega (arith, z)) in
+      let b = and_parts (not (eqb (region_of l p) region)) (eqb (region_of l (suc m - 1)) region) (subst (λ (o : Option ℕ). enters l region (p, o) ≡ true) (target_some (suc m) ne) h) in
+      let into : region_of l (suc m - 1) ≡ region = eqb-true (region_of l (suc m - 1)) region b.1 in
+      let away : region_of l p ≢ region = eqb-false (region_of l p) region (not-true (eqb (region_of l p) region) b.0) in
+      let there : region_at k (suc m) ≡ region = ap (λ (s : ℕ). (suc m - 1) / s) span_is ∙ into in
+      and_from (crosses k p (suc m)) (eqb (region_at k (suc m)) region)
+      (other_region k p (suc m - 1) (suc m) (let f : suc m ≡ suc m - 1 + 1 = omega arith in f) (λ e. away (ap (λ (s : ℕ). p / s) (sym span_is) ∙ (e ∙ there))))
+      (eq-eqb (region_at k (suc m)) region there)
+
+  enters_is : (region p n : ℕ) → is_into k region p n ≡ enters l region (p, target_of n)
+  enters_is region p n = same_bools (is_into k region p n) (enters l region (p, target_of n)) (enters_to region p n) (enters_from region p n)
+
+  stays_put : (from to p : ℕ) (o : Option ℕ) → enters l from (p, o) ≡ false → moved_target l from to (p, o) ≡ o
+  stays_put from to p None e = refl
+  stays_put from to p (Some place) e = ap (λ (b : Bool). cond b (Some (same_offset l place to)) (Some place)) e
+
+  after_target : (from to p n : ℕ) → target_of (word_after k from to p n) ≡ moved_target l from to (p, target_of n)
+  after_target from to p n = elim (cases_Bool (is_into k from p n)) [
+    | inl is ↦
+        let some_n = crosses_some k p n (and_parts (crosses k p n) (eqb (region_at k n) from) is).0 in
+        let target : target_of n ≡ Some (n - 1) = target_some n some_n in
+        let off : ℕ = (n - 1) % k.span in
+        let base : ℕ = to * k.span in
+        let less : base + off + 1 - 1 ≡ base + off = omega arith in
+        ap target_of (true_is (is_into k from p n) (moved_word k to n) n is)
+        ∙ (target_some (moved_word k to n) (λ z. absurd (let z' : base + off + 1 ≡ 0 = z in omega arith))
+        ∙ (ap Some (less ∙ ap (λ (s : ℕ). to * s + (n - 1) % s) span_is)
+        ∙ (sym (ap (λ (b : Bool). cond b (Some (same_offset l (n - 1) to)) (Some (n - 1))) (subst (λ (o : Option ℕ). enters l from (p, o) ≡ true) target (enters_to from p n is)))
+        ∙ ap (λ (o : Option ℕ). moved_target l from to (p, o)) (sym target))))
+    | inr is ↦ ap target_of (false_is (is_into k from p n) (moved_word k to n) n is) ∙ sym (stays_put from to p (target_of n) (sym (enters_is from p n) ∙ is))
+  ]
+
+  -- slots by place
+
+  here : (words : List ℕ) (p : ℕ) → IsBegun (start k words) → p < k.slots → get_elem? words p ≡ some (get_or words p 0)
+  here words p h lt = read_at words p (let s : length words ≡ k.slots + k.cards + k.bits = h.sized in omega (arith, s, lt))
+
+  ref_is : (words : List ℕ) (p n : ℕ) → p < k.slots → get_elem? words p ≡ some n → get_or (refs_of (ended l k words)) p None ≡ target_of n
+  ref_is words p n lt at = reads_as (refs_of (ended l k words)) p (target_of n) None (refs_here (ended l k words) p n (omega (arith, lt, slots_are k l laid)) (at_take words (k.slots + k.cards) p n (omega (arith, lt)) at))
+
+  refs_len : (words : List ℕ) → IsBegun (start k words) → length (refs_of (ended l k words)) ≡ slot_count l
+  refs_len words h =
+      let s : length words ≡ k.slots + k.cards + k.bits = h.sized in
+      let a : length (front k words) ≡ k.slots + k.cards = (let m = length-take (k.slots + k.cards) words in omega (arith, m, s)) in
+      let b : length (take (slot_count l) (front k words)) ≡ slot_count l = (let m = length-take (slot_count l) (front k words) in omega (arith, m, a, slots_are k l laid)) in
+      length-map (take (slot_count l) (front k words)) target_of ∙ b
+
+  front_at : (a b : List ℕ) (i n : ℕ) → front k a ≡ front k b → i < k.slots + k.cards → get_elem? b i ≡ some n → get_elem? a i ≡ some n
+  front_at a b i n same lt at = (at_untake a (k.slots + k.cards) i n (subst (λ (ws : List ℕ). get_elem? ws i ≡ some n) (sym same) (at_take b (k.slots + k.cards) i n lt at))).1
+
+  module _ (old new : List ℕ) (from to : ℕ) (b : IsBegun (start k old)) (h : IsBegun (start k new)) (away : AreMovedAway k old new from to) (within : to < k.regions) where
+    abbrev t : Table
+    t = table_of (ended l k old)
+
+    abbrev mid : List ℕ
+    mid = away.between
+
+    abbrev refs : List (Option ℕ)
+    refs = refs_of (ended l k old)
+
+    abbrev each : ℕ → Option ℕ
+    each p = moved_target l from to (p, get_or refs p None)
+
+    word_now : (p : ℕ) → p < k.slots → get_elem? new p ≡ some (word_after k from to p (get_or old p 0))
+    word_now p lt = front_at new mid p _ away.emptied.front (omega (arith, lt)) (away.moved.moved p (get_or old p 0) (omega arith) (omega (arith, lt)) lt (here old p b lt))
+
+    ref_old : (p : ℕ) → p < k.slots → get_or refs p None ≡ target_of (get_or old p 0)
+    ref_old p lt = ref_is old p (get_or old p 0) lt (here old p b lt)
+
+    new_refs : refs_of (ended l k new) ≡ map each (range_with_len 0 (slot_count l))
+    new_refs = fill_by_all each (refs_of (ended l k new)) (slot_count l) None (refs_len new h) (λ p lt.
+        let low : p < k.slots = omega (arith, lt, slots_are k l laid) in
+        ref_is new p (word_after k from to p (get_or old p 0)) low (word_now p low) ∙ (after_target from to p (get_or old p 0) ∙ ap (λ (o : Option ℕ). moved_target l from to (p, o)) (sym (ref_old p low))))
+
+    listed_at : (p : ℕ) → p < slot_count l → get_or (enumerate_from 0 refs) p (0, None) ≡ (p, get_or refs p None)
+    listed_at p lt = let first : 0 + p ≡ p = omega arith in get_or-enumerate_from 0 refs p (0, None) (omega (arith, lt, refs_len old b)) ∙ ap (λ (q : ℕ). (q, get_or refs p None)) first
+
+    moved_refs : map (moved_target l from to) (enumerate_from 0 refs) ≡ map each (range_with_len 0 (slot_count l))
+    moved_refs = fill_by_all each (map (moved_target l from to) (enumerate_from 0 refs)) (slot_count l) None (length-map (enumerate_from 0 refs) (moved_target l from to) ∙ (length-enumerate_from 0 refs ∙ refs_len old b)) (λ p lt.
+        get_or-map (moved_target l from to) (enumerate_from 0 refs) p (0, None) None (omega (arith, lt, length-enumerate_from 0 refs, refs_len old b)) ∙ ap (moved_target l from to) (listed_at p lt))
+
+    mark_now : (c n : ℕ) → c < k.cards → get_elem? old (mark_word k c) ≡ some n → get_elem? new (mark_word k c) ≡ some n
+    mark_now c n lt at = front_at new mid (mark_word k c) n away.emptied.front (omega (arith, lt)) (away.moved.marks c lt ∙ at)
+
+    mark_then : (c n : ℕ) → c < k.cards → get_elem? new (mark_word k c) ≡ some n → get_elem? old (mark_word k c) ≡ some n
+    mark_then c n lt at = sym (away.moved.marks c lt) ∙ front_at mid new (mark_word k c) n (sym away.emptied.front) (omega (arith, lt)) at
+
+    recorded_is : (x : ℕ × ℕ) → set.contains (moved from to t).recorded x ≡ ((set.contains t.recorded x || set.contains (set.from_list {R = pair_cmp} (filter_map (moved_pair l from to) (enumerate_from 0 refs))) x) && not (eqb x.1 from))
+    recorded_is x =
+        set.contains-retain _ (λ pair. not (eqb pair.1 from)) x (λ y e. ap (λ (q : ℕ × ℕ). not (eqb q.1 from)) (sym (pair_exact x y e)))
+        ∙ ap (λ (c : Bool). c && not (eqb x.1 from)) (set.contains-union pair_total t.recorded _ x)
+
+    card_is : (p : ℕ) → card_of k p ≡ layout.card_of l p
+    card_is p = ap (λ (s : Shape). p / s.size) laid
+
+    gained : (x : ℕ × ℕ) → Acquires k old from to x → set.contains (set.from_list {R = pair_cmp} (filter_map (moved_pair l from to) (enumerate_from 0 refs))) x ≡ true
+    gained x (p, n, lt, at, is, ne, e) =
+        let low : p < slot_count l = omega (arith, lt, slots_are k l laid) in
+        let ref : get_or refs p None ≡ target_of n = ref_is old p n lt at in
+        let enter : enters l from (p, get_or refs p None) ≡ true = subst (λ (o : Option ℕ). enters l from (p, o) ≡ true) (sym ref) (enters_to from p n is) in
+        let outside : eqb (region_of l p) to ≡ false = ne_eqb (region_of l p) to (λ f. ne (ap (λ (s : ℕ). p / s) span_is ∙ f)) in
+        let makes : moved_pair l from to (p, get_or refs p None) ≡ Some (layout.card_of l p, to) = ap (λ (c : Bool). cond {A = Option (ℕ × ℕ)} c (Some (layout.card_of l p, to)) None) (and_from (enters l from (p, get_or refs p None)) (not (eqb (region_of l p) to)) enter (ap not outside)) in
+        let at_list : get_or (enumerate_from 0 refs) p (p, get_or refs p None) ≡ (p, get_or refs p None) = (let first : 0 + p ≡ p = omega arith in get_or-enumerate_from 0 refs p (p, get_or refs p None) (omega (arith, low, refs_len old b)) ∙ (λ i. (first i, reads_again p low i))) in
+        subst (λ (y : ℕ × ℕ). set.contains (set.from_list {R = pair_cmp} (filter_map (moved_pair l from to) (enumerate_from 0 refs))) y ≡ true) (ap (λ (c : ℕ). (c, to)) (sym (card_is p)) ∙ e)
+        (unlisted pair_total pair_exact _ _ (to_kept (moved_pair l from to) (enumerate_from 0 refs) p (p, get_or refs p None) (layout.card_of l p, to) (omega (arith, low, length-enumerate_from 0 refs, refs_len old b)) at_list makes))
+      where
+        reads_again : (p : ℕ) → p < slot_count l → get_or refs p (get_or refs p None) ≡ get_or refs p None
+        reads_again p low = get_or_default refs p (get_or refs p None) None (omega (arith, low, refs_len old b))
+
+    pair_parts : (p : ℕ) (x : ℕ × ℕ) (c : Bool) → cond {A = Option (ℕ × ℕ)} c (Some (layout.card_of l p, to)) None ≡ Some x → (c ≡ true) × ((layout.card_of l p, to) ≡ x)
+    pair_parts p x true e = (refl, cc)
+    pair_parts p x false e = cc
+
+    kept_bit : (x : ℕ × ℕ) → Kept (moved_pair l from to) (enumerate_from 0 refs) x → HasBit k mid x × IsPair k x
+    kept_bit x (p, slot, below, at, makes) =
+        let low : p < slot_count l = omega (arith, below, length-enumerate_from 0 refs, refs_len old b) in
+        let lt : p < k.slots = omega (arith, low, slots_are k l laid) in
+        let is : moved_pair l from to (p, get_or refs p None) ≡ Some x = ap (moved_pair l from to) (slot_of refs p slot below at) ∙ makes in
+        let q = pair_parts p x (enters l from (p, get_or refs p None) && not (eqb (region_of l p) to)) is in
+        let c = and_parts (enters l from (p, get_or refs p None)) (not (eqb (region_of l p) to)) q.0 in
+        let into : is_into k from p (get_or old p 0) ≡ true = enters_from from p (get_or old p 0) (subst (λ (o : Option ℕ). enters l from (p, o) ≡ true) (ref_old p lt) c.0) in
+        let ne : p / k.span ≢ to = λ e. eqb-false (region_of l p) to (not-true (eqb (region_of l p) to) c.1) (ap (λ (s : ℕ). p / s) (sym span_is) ∙ e) in
+        let bit : HasBit k mid (card_of k p, to) = away.moved.has p (get_or old p 0) (omega arith) (omega (arith, lt)) lt (here old p b lt) into ne in
+        let same : (card_of k p, to) ≡ x = ap (λ (d : ℕ). (d, to)) (card_is p) ∙ q.1 in
+        (subst (HasBit k mid) same bit, subst (IsPair k) same (card_below k p b.shaped lt, within))
+
+    pub moved_is : table_of (ended l k new) ≡ moved from to (table_of (ended l k old))
+    moved_is = table_is k l laid new (moved from to t) h refl (new_refs ∙ sym moved_refs)
+        (λ c p. let w = pending_word k l laid new c p in word_pending k l laid old c w.0 (mark_then c 1 w.0 w.1))
+        (λ c p. let w = pending_word k l laid old c p in word_pending k l laid new c w.0 (mark_now c 1 w.0 w.1))
+        (λ x pair bit.
+        let out : x.1 ≢ from = λ e. away.emptied.clear x pair e (in_row k x b.shaped pair) bit in
+        recorded_is x ∙ and_from _ _ (⊎_elim
+        (λ (u : HasBit k old x). or_left _ _ (set_recorded k l old laid b x pair u))
+        (λ (u : Acquires k old from to x). or_right _ _ (gained x u))
+        (away.moved.only x pair (away.emptied.only x pair bit))) (ap not (ne_eqb x.1 from out)))
+        (λ x c.
+        let p = and_parts _ _ (sym (recorded_is x) ∙ c) in
+        let out : x.1 ≢ from = eqb-false x.1 from (not-true (eqb x.1 from) p.1) in
+        elim (or_cases _ _ p.0) [
+          | inl was ↦ let s = recorded_set k l old laid b x was in (s.0, away.emptied.kept x s.0 out (away.moved.kept x s.1))
+          | inr gain ↦ let s = kept_bit x (from_kept (moved_pair l from to) (enumerate_from 0 refs) x (listed pair_total pair_exact _ _ gain)) in (s.1, away.emptied.kept x s.1 out s.0)
+        ])
+
+    counted : (i : ℕ) → i ≤ slot_count l → count_by (enters l from) (take i (enumerate_from 0 refs)) ≡ into_count k old from 0 i
+    counted zero le = refl
+    counted (suc i) le =
+        let low : i < slot_count l = omega arith in
+        let lt : i < k.slots = omega (arith, low, slots_are k l laid) in
+        let inside : i < length (enumerate_from 0 refs) = omega (arith, low, length-enumerate_from 0 refs, refs_len old b) in
+        let is : is_into k from i (get_or old i 0) ≡ enters l from (get_or (enumerate_from 0 refs) i (0, None)) = enters_is from i (get_or old i 0) ∙ (ap (λ (o : Option ℕ). enters l from (i, o)) (sym (ref_old i lt)) ∙ ap (enters l from) (sym (listed_at i low))) in
+        let first : 0 + i ≡ i = omega arith in
+        let last : into_count k old from 0 (suc i) ≡ into_count k old from 0 i + one_if (is_into k from i (get_or old i 0)) = (λ j. into_count k old from 0 i + one_if (is_into k from (first j) (get_or old (first j) 0))) in
+        let more : suc i ≡ i + 1 = omega arith in
+        let rest = counted i (omega (arith, le)) in
+        ap (λ (n : ℕ). count_by (enters l from) (take n (enumerate_from 0 refs))) more ∙ elim (cases_Bool (is_into k from i (get_or old i 0))) [
+          | inl yes_it ↦ count_by_more_yes (enters l from) (enumerate_from 0 refs) i (0, None) inside (sym is ∙ yes_it) ∙ (ap (λ (n : ℕ). n + 1) rest ∙ sym (last ∙ ap (λ (c : Bool). into_count k old from 0 i + one_if c) yes_it))
+          | inr no_it ↦ count_by_more_no (enters l from) (enumerate_from 0 refs) i (0, None) inside (sym is ∙ no_it) ∙ (rest ∙ sym (last ∙ (ap (λ (c : Bool). into_count k old from 0 i + one_if c) no_it ∙ (let x : ℕ = into_count k old from 0 i in let e : x + 0 ≡ x = omega arith in e))))
+        ]
+
+    pub count_is : into_count k old from 0 k.slots ≡ moved_count from (table_of (ended l k old))
+    count_is = ap (into_count k old from 0) (slots_are k l laid) ∙ (sym (counted (slot_count l) (omega arith)) ∙ ap (count_by (enters l from)) (take_all (enumerate_from 0 refs) (slot_count l) (omega (arith, length-enumerate_from 0 refs, refs_len old b))))
+
+pub redirect_step : (old clean new : Table) (caller from to slots : ℕ) (done : List ℕ) → from < old.layout.regions → to < old.layout.regions → (from ≡ to → ⊥) → AreAllRefined old done clean → new ≡ moved from to clean → slots ≡ moved_count from clean → IsStep old (record { caller = caller; call = Redirect from to; reply = reply.Moved slots; refined = done }) new
+redirect_step old clean new caller from to slots done low high apart all is count = record {
+  allowed = record { numbers = (low, high, apart); refines = all.refinable; answers = (sym (ap (λ (x : Table). x.pending) all.table) ∙ all.clean, count ∙ ap (moved_count from) all.table) };
+  after = is ∙ ap (moved from to) all.table;
+}

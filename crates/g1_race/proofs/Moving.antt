@@ -1,0 +1,226 @@
+-- References that are moved from one region to another at a pause, as words.
+use Rattle.std.proofs.Common.{◌≡◌, ◌≢◌, ℕ, zero, suc, ◌+◌, ◌-◌, ◌*◌, ◌/◌, ◌%◌, ◌<◌, ◌≤◌, eqb, true, false, List, length, set, get_or, mod-lt, div-lt_iff_lt-mul, refl, sym, ap, ◌∙◌, subst, inl, inr, ⊎_elim, arith, eq-eqb}
+use mathlib.Core.Option.{some, some-injective}
+use lib.ListN.{get_elem?}
+use Rattle.std.proofs.lemmas.Bool.{and_from, and_parts, cases_Bool, cases_lt, eqb-true, true≢false, false_from_ne_true}
+use Rattle.std.proofs.Math.Nat.{mul-le-mul_left}
+use Rattle.std.proofs.lemmas.Nat.{div-mul-add}
+use Rattle.atomic_table.proofs.Lists.{set_else, set_here}
+use Rattle.g1_race_words.specs.declared.view.Shape.{Shape}
+use Rattle.g1_race_words.specs.Rule.{In, IsBegun, IsShape, HasBit, card_of, crosses, mark_word, one_if, region_at, start}
+use Rattle.g1_race.specs.Refining.{Notes}
+use Rattle.g1_race.specs.Clearing.{Into}
+use Rattle.g1_race.specs.Telling.{is_member}
+use Rattle.g1_race.proofs.ClearWords.{into_bit}
+use Rattle.g1_race.specs.Moving.{AreMoved, Acquires, into_count, is_into, moved_word, word_after}
+use Rattle.g1_race.proofs.AtPause.{begun_placed}
+use Rattle.g1_race_words.proofs.CoverStores.{mark_apart}
+use Rattle.g1_race.proofs.Ends.{crosses_apart}
+use Rattle.g1_race_words.proofs.PairBits.{bit_as, same_bits}
+use Rattle.g1_race_words.proofs.Plain.{false_is, read_at, true_is}
+use Rattle.g1_race_words.proofs.Places.{reads_as}
+use Rattle.g1_race.proofs.PauseStores.{slot_in}
+use Rattle.g1_race.proofs.StoreCalls.{other_region}
+
+-- the word of a moved reference
+
+pub moved_region : (k : Shape) (to n : ℕ) → 0 < k.span → region_at k (moved_word k to n) ≡ to
+moved_region k to n pos =
+    let a : ℕ = to * k.span in let r : ℕ = (n - 1) % k.span in
+    ap (λ (m : ℕ). m / k.span) (let e : a + r + 1 - 1 ≡ a + r = omega arith in e) ∙ div-mul-add to k.span r (mod-lt (n - 1) pos)
+
+pub moved_fits : (k : Shape) (to n : ℕ) → IsShape k → to < k.regions → moved_word k to n ≤ k.slots
+moved_fits k to n shaped lt = let a : ℕ = to * k.span in let r : ℕ = (n - 1) % k.span in let h : a + r < k.slots = slot_in k to r shaped lt (mod-lt (n - 1) shaped.2) in let goal : a + r + 1 ≤ k.slots = omega arith in goal
+
+pub moved_crosses : (k : Shape) (to p n : ℕ) → 0 < k.span → p / k.span ≢ to → crosses k p (moved_word k to n) ≡ true
+moved_crosses k to p n pos ne = other_region k p (to * k.span + (n - 1) % k.span) (moved_word k to n) refl (λ e. ne (e ∙ div-mul-add to k.span ((n - 1) % k.span) (mod-lt (n - 1) pos)))
+
+-- no moved reference refers into the region that it left
+pub not_into : (k : Shape) (from to p n : ℕ) → 0 < k.span → (from ≡ to → ⊥) → is_into k from p (word_after k from to p n) ≡ true → ⊥
+not_into k from to p n pos apart h = elim (cases_Bool (is_into k from p n)) [
+  | inl yes_it ↦
+      let word : word_after k from to p n ≡ moved_word k to n = true_is (is_into k from p n) (moved_word k to n) n yes_it in
+      let into = (and_parts _ _ (subst (λ (m : ℕ). is_into k from p m ≡ true) word h)).1 in
+      apart (sym (eqb-true (region_at k (moved_word k to n)) from into) ∙ moved_region k to n pos)
+  | inr no_it ↦
+      let word : word_after k from to p n ≡ n = false_is (is_into k from p n) (moved_word k to n) n no_it in
+      true≢false (sym (subst (λ (m : ℕ). is_into k from p m ≡ true) word h) ∙ no_it)
+]
+
+-- one slot
+
+module _ (k : Shape) (old mid : List ℕ) (from to p n : ℕ) (b : IsBegun (start k old)) (h : IsBegun (start k mid)) (xs : List (ℕ × ℕ)) (notes : Notes k old mid xs) (lt : p < k.slots) (low : to < k.regions) (at : get_elem? old p ≡ some n) (into : is_into k from p n ≡ true)
+    (has : p / k.span ≢ to → In xs (card_of k p, to)) (gain : (x : ℕ × ℕ) → In xs x → (p / k.span ≢ to) × ((card_of k p, to) ≡ x)) where
+  abbrev word : ℕ
+  word = moved_word k to n
+
+  abbrev new : List ℕ
+  new = set mid p word
+
+  bits : (x : ℕ × ℕ) → HasBit k mid x → HasBit k new x
+  bits x = bit_as k mid new x (same_bits k mid p word (omega (arith, lt)))
+
+  bits_back : (x : ℕ × ℕ) → HasBit k new x → HasBit k mid x
+  bits_back x = bit_as k new mid x (λ y. sym (same_bits k mid p word (omega (arith, lt)) y))
+
+  pub begun_moved : IsBegun (start k (set mid p (moved_word k to n)))
+  begun_moved = begun_placed k mid p word lt (moved_fits k to n b.shaped low) (λ cr. inl (subst (λ (r : ℕ). HasBit k mid (card_of k p, r)) (sym (moved_region k to n b.shaped.2)) (notes.has (card_of k p, to) (has (λ e. crosses_apart k p word cr (e ∙ sym (moved_region k to n b.shaped.2))))))) h
+
+  same : (q : ℕ) → (p < k.slots) → q ≢ p → q < k.slots + k.cards → get_elem? new q ≡ get_elem? old q
+  same q here ne below = set_else mid p q word ne ∙ notes.front q below
+
+  pub moved_one : AreMoved k old (set mid p (moved_word k to n)) from to p 1
+  moved_one = record {
+    moved = λ q m le below inside there.
+        let e : q ≡ p = omega (arith, le, below) in
+        let one : m ≡ n = some-injective m n (sym there ∙ (ap (λ (j : ℕ). get_elem? old j) e ∙ at)) in
+        ap (λ (j : ℕ). get_elem? new j) e ∙ (set_here mid p word (let s : length mid ≡ k.slots + k.cards + k.bits = h.sized in omega (arith, s, lt)) ∙ ap (λ (w : ℕ). some w)
+        (sym (ap (λ (j : ℕ). word_after k from to j m) e ∙ (ap (λ (j : ℕ). word_after k from to p j) one ∙ true_is (is_into k from p n) word n into))));
+    outside = λ q inside apart. same q lt (λ e. ⊎_elim (λ (a : q < p). absurd (omega (arith, a, e))) (λ (a : p + 1 ≤ q). absurd (omega (arith, a, e))) apart) (omega (arith, inside));
+    marks = λ c below. same (mark_word k c) lt (λ e. mark_apart k p c lt e) (omega (arith, below));
+    kept = λ x was. bits x (notes.kept x was);
+    only = λ x pair is. ⊎_elim (λ (u : HasBit k old x). inl u) (λ (i : In xs x). let g = gain x i in inr (p, n, lt, at, into, g.0, g.1)) (notes.only x pair (bits_back x is));
+    has = λ q m le below inside there is ne.
+        let e : p ≡ q = omega (arith, le, below) in
+        subst (λ (j : ℕ). HasBit k new (card_of k j, to)) e (bits (card_of k p, to) (notes.has (card_of k p, to) (has (λ f. ne (ap (λ (j : ℕ). j / k.span) (sym e) ∙ f)))));
+  }
+
+-- several slots
+
+pub moved_none : (k : Shape) (words : List ℕ) (from to first count : ℕ) → ((p n : ℕ) → first ≤ p → p < first + count → p < k.slots → get_elem? words p ≡ some n → is_into k from p n ≡ false) → AreMoved k words words from to first count
+moved_none k words from to first count none = record {
+  moved = λ p n le lt inside at. at ∙ ap (λ (w : ℕ). some w) (sym (false_is (is_into k from p n) (moved_word k to n) n (none p n le lt inside at)));
+  outside = λ p inside apart. refl;
+  marks = λ c below. refl;
+  kept = λ x b. b;
+  only = λ x pair b. inl b;
+  has = λ p n le lt inside at is ne. absurd (true≢false (sym is ∙ none p n le lt inside at));
+}
+
+pub moved_then : (k : Shape) (old mid new : List ℕ) (from to first a b : ℕ) → (from ≡ to → ⊥) → IsBegun (start k old) → AreMoved k old mid from to first a → AreMoved k mid new from to (first + a) b → AreMoved k old new from to first (a + b)
+moved_then k old mid new from to first a b apart begun h g = record {
+  moved = λ p n le lt inside at. elim (cases_lt p (first + a)) [
+    | inl low ↦ g.outside p inside (inl low) ∙ h.moved p n le low inside at
+    | inr high ↦ g.moved p n high (omega (arith, lt)) inside (h.outside p inside (inr high) ∙ at)
+  ];
+  outside = λ p inside out. g.outside p inside (⊎_elim (λ (x : p < first). inl (omega (arith, x))) (λ (x : first + (a + b) ≤ p). inr (omega (arith, x))) out)
+      ∙ h.outside p inside (⊎_elim (λ (x : p < first). inl x) (λ (x : first + (a + b) ≤ p). inr (omega (arith, x))) out);
+  marks = λ c below. g.marks c below ∙ h.marks c below;
+  kept = λ x was. g.kept x (h.kept x was);
+  only = λ x pair is. ⊎_elim (λ (u : HasBit k mid x). h.only x pair u) (λ (u : Acquires k mid from to x). inr (gains_back u)) (g.only x pair is);
+  has = λ p n le lt inside at is ne. elim (cases_lt p (first + a)) [
+    | inl low ↦ g.kept (card_of k p, to) (h.has p n le low inside at is ne)
+    | inr high ↦ g.has p n high (omega (arith, lt)) inside (h.outside p inside (inr high) ∙ at) is ne
+  ];
+}
+  where
+    here : (p : ℕ) → p < k.slots → get_elem? old p ≡ some (get_or old p 0)
+    here p inside = read_at old p (let s : length old ≡ k.slots + k.cards + k.bits = begun.sized in omega (arith, s, inside))
+
+    gains_back : {x : ℕ × ℕ} → Acquires k mid from to x → Acquires k old from to x
+    gains_back {x} u = (u.0, u.1, u.2, was u.0 u.1 u.2 u.3 u.4, u.4, u.5, u.6)
+      where
+        was : (p n : ℕ) → p < k.slots → get_elem? mid p ≡ some n → is_into k from p n ≡ true → get_elem? old p ≡ some n
+        was p n inside at is = elim (cases_lt p first) [
+          | inl low ↦ sym (h.outside p inside (inl low)) ∙ at
+          | inr le ↦ elim (cases_lt p (first + a)) [
+            | inl low ↦ absurd (not_into k from to p (get_or old p 0) begun.shaped.2 apart (subst (λ (m : ℕ). is_into k from p m ≡ true) (some-injective n (word_after k from to p (get_or old p 0)) (sym at ∙ h.moved p (get_or old p 0) le low inside (here p inside))) is))
+            | inr high ↦ sym (h.outside p inside (inr high)) ∙ at
+          ]
+        ]
+
+-- how many there are
+
+pub count_same : (k : Shape) (a b : List ℕ) (region first n : ℕ) → first + n ≤ k.slots → ((p : ℕ) → first ≤ p → p < first + n → get_or a p 0 ≡ get_or b p 0) → into_count k a region first n ≡ into_count k b region first n
+count_same k a b region first zero le h = refl
+count_same k a b region first (suc n) le h = λ i. count_same k a b region first n (omega arith) (λ p x y. h p x (omega (arith, y))) i + one_if (is_into k region (first + n) (h (first + n) (omega arith) (omega arith) i))
+
+pub count_more : (k : Shape) (words : List ℕ) (region first a b : ℕ) → into_count k words region first (a + b) ≡ into_count k words region first a + into_count k words region (first + a) b
+count_more k words region first a zero = ap (into_count k words region first) (let e : a + 0 ≡ a = omega arith in e) ∙ (let e : into_count k words region first a ≡ into_count k words region first a + 0 = omega arith in e)
+count_more k words region first a (suc b) =
+    let e : a + suc b ≡ suc (a + b) = omega arith in
+    let f : first + (a + b) ≡ first + a + b = omega arith in
+    let rest = count_more k words region first a b in
+    ap (into_count k words region first) e ∙ ((λ i. rest i + one_if (is_into k region (f i) (get_or words (f i) 0)))
+    ∙ (let x : ℕ = into_count k words region first a in let y : ℕ = into_count k words region (first + a) b in let z : ℕ = one_if (is_into k region (first + a + b) (get_or words (first + a + b) 0)) in let goal : x + y + z ≡ x + (y + z) = omega arith in goal))
+
+pub count_one : (k : Shape) (words : List ℕ) (region first n : ℕ) → into_count k words region first (n + 1) ≡ into_count k words region first n + one_if (is_into k region (first + n) (get_or words (first + n) 0))
+count_one k words region first n = ap (into_count k words region first) (let e : n + 1 ≡ suc n = omega arith in e)
+
+pub count_none : (k : Shape) (words : List ℕ) (region first n : ℕ) → ((p : ℕ) → first ≤ p → p < first + n → is_into k region p (get_or words p 0) ≡ false) → into_count k words region first n ≡ 0
+count_none k words region first zero none = refl
+count_none k words region first (suc n) none = λ i. count_none k words region first n (λ p x y. none p x (omega (arith, y))) i + one_if (none (first + n) (omega arith) (omega arith) i)
+
+-- a slot that refers into the region, in two forms
+
+pub into_is : (k : Shape) (words : List ℕ) (region p n : ℕ) → p < k.slots → get_elem? words p ≡ some n → is_into k region p n ≡ true → Into k words region p
+into_is k words region p n lt at is = let b = and_parts (crosses k p n) (eqb (region_at k n) region) is in (n, lt, at, b.0, eqb-true (region_at k n) region b.1)
+
+pub is_into_of : (k : Shape) (region p n : ℕ) → crosses k p n ≡ true → region_at k n ≡ region → is_into k region p n ≡ true
+is_into_of k region p n cr e = and_from (crosses k p n) (eqb (region_at k n) region) cr (eq-eqb (region_at k n) region e)
+
+-- card by card
+
+module _ (k : Shape) (old mid : List ℕ) (from to low high : ℕ) (begun : IsBegun (start k old)) (apart : from ≡ to → ⊥) (le : low ≤ high) (within : high ≤ k.cards)
+    (clean : (c : ℕ) → c < k.cards → get_elem? old (mark_word k c) ≡ some 1 → ⊥) (h : AreMoved k old mid from to 0 (low * k.size)) (none : (c : ℕ) → low ≤ c → c < high → is_member k mid from c ≡ false) where
+  abbrev a : ℕ
+  a = low * k.size
+
+  abbrev b : ℕ
+  b = high * k.size
+
+  pub in_order : low * k.size ≤ high * k.size
+  in_order = let x : ℕ = k.size * low in let y : ℕ = k.size * high in let m : x ≤ y = mul-le-mul_left k.size le in let n : ℕ = a in let o : ℕ = b in let e : n ≡ x = omega arith in let f : o ≡ y = omega arith in omega arith
+
+  all_slots : high * k.size ≤ k.slots
+  all_slots = let x : ℕ = k.size * high in let y : ℕ = k.size * k.cards in let m : x ≤ y = mul-le-mul_left k.size within in let o : ℕ = b in let f : o ≡ x = omega arith in let c : ℕ = k.cards * k.size in let g : c ≡ y = omega arith in let s : k.slots ≡ c = begun.shaped.0 in omega arith
+
+  none_old : (p n : ℕ) → low * k.size ≤ p → p < high * k.size → p < k.slots → get_elem? old p ≡ some n → is_into k from p n ≡ false
+  none_old p n from_low below lt at = false_from_ne_true _ (λ is.
+      let bit : HasBit k mid (card_of k p, from) = h.kept (card_of k p, from) (into_bit k old from p begun clean (into_is k old from p n lt at is)) in
+      true≢false (sym (eq-eqb _ 1 bit) ∙ none (card_of k p)
+      (elim (cases_lt (card_of k p) low) [ inl under ↦ absurd (let x : p < low * k.size = (div-lt_iff_lt-mul begun.shaped.1).0 under in let m : ℕ = low * k.size in let x' : p < m = x in let y : m ≤ p = from_low in omega arith) | inr over ↦ over ])
+      ((div-lt_iff_lt-mul begun.shaped.1).1 below)))
+
+  here : (p : ℕ) → p < k.slots → get_elem? old p ≡ some (get_or old p 0)
+  here p lt = read_at old p (let s : length old ≡ k.slots + k.cards + k.bits = begun.sized in omega (arith, s, lt))
+
+  pub passed : AreMoved k old mid from to 0 (high * k.size)
+  passed = subst (λ (n : ℕ). AreMoved k old mid from to 0 n) (let x : ℕ = a in let y : ℕ = b in let o : x ≤ y = in_order in let e : x + (y - x) ≡ y = omega arith in e)
+      (moved_then k old mid mid from to 0 (low * k.size) (high * k.size - low * k.size) apart begun h
+      (moved_none k mid from to (0 + low * k.size) (high * k.size - low * k.size) (λ p n from_low below lt at.
+      let x : ℕ = low * k.size in let y : ℕ = high * k.size in let o : x ≤ y = in_order in let l : 0 + x ≤ p = from_low in let u : p < 0 + x + (y - x) = below in
+      let l' : x ≤ p = omega arith in let u' : p < y = omega arith in
+      none_old p n l' u' lt (sym (h.outside p lt (inr l)) ∙ at))))
+
+  pub passed_count : into_count k old from 0 (high * k.size) ≡ into_count k old from 0 (low * k.size)
+  passed_count =
+      let x : ℕ = low * k.size in let y : ℕ = high * k.size in let o : x ≤ y = in_order in
+      let e : y ≡ x + (y - x) = omega arith in
+      let zero_more : into_count k old from (0 + x) (y - x) ≡ 0 = count_none k old from (0 + x) (y - x) (λ p from_low below.
+      let l : x ≤ p = omega (arith, from_low) in let u : p < y = omega (arith, below, o) in let lt : p < k.slots = (let s : y ≤ k.slots = all_slots in omega (arith, s, u)) in
+      none_old p (get_or old p 0) l u lt (here p lt)) in
+      ap (into_count k old from 0) e ∙ (count_more k old from 0 x (y - x) ∙ (let i : ℕ = into_count k old from 0 x in let j : ℕ = into_count k old from (0 + x) (y - x) in let z : j ≡ 0 = zero_more in let goal : i + j ≡ i = omega arith in goal))
+
+  -- and then the slots of the card
+  pub on_card : (new : List ℕ) → AreMoved k mid new from to (high * k.size) k.size → AreMoved k old new from to 0 ((high + 1) * k.size)
+  on_card new g = subst (λ (n : ℕ). AreMoved k old new from to 0 n) (let y : ℕ = high * k.size in let e : y + k.size ≡ (high + 1) * k.size = omega arith in e)
+      (moved_then k old mid new from to 0 (high * k.size) k.size apart begun passed (subst (λ (n : ℕ). AreMoved k mid new from to n k.size) (let y : ℕ = high * k.size in let e : y ≡ 0 + y = omega arith in e) g))
+
+  pub on_count : high < k.cards → into_count k old from 0 ((high + 1) * k.size) ≡ into_count k old from 0 (low * k.size) + into_count k mid from (high * k.size) k.size
+  on_count lt =
+      let y : ℕ = high * k.size in
+      let e : (high + 1) * k.size ≡ y + k.size = omega arith in
+      let f : 0 + y ≡ y = omega arith in
+      let fits : y + k.size ≤ k.slots = (let x : ℕ = k.size * (high + 1) in let c : ℕ = k.size * k.cards in let m : x ≤ c = mul-le-mul_left k.size (let q : high + 1 ≤ k.cards = omega (arith, lt) in q) in let d : ℕ = k.cards * k.size in let g : d ≡ c = omega arith in let s : k.slots ≡ d = begun.shaped.0 in let j : x ≡ y + k.size = omega arith in omega arith) in
+      ap (into_count k old from 0) e ∙ (count_more k old from 0 y k.size ∙ (λ i. passed_count i + (ap (λ (n : ℕ). into_count k old from n k.size) f
+      ∙ count_same k old mid from y k.size fits (λ p from_low below. let in_heap : p < k.slots = omega (arith, below, fits) in sym (reads_as mid p (get_or old p 0) 0 (passed.outside p in_heap (inr (let l : y ≤ p = from_low in let goal : 0 + y ≤ p = omega arith in goal)) ∙ here p in_heap)))) i))
+
+-- after all of them none is left
+
+pub none_into : (k : Shape) (old mid : List ℕ) (from to p : ℕ) → IsBegun (start k old) → (from ≡ to → ⊥) → AreMoved k old mid from to 0 k.slots → Into k mid from p → ⊥
+none_into k old mid from to p begun apart h x =
+    let lt : p < k.slots = x.1 in
+    let was : get_elem? old p ≡ some (get_or old p 0) = read_at old p (let s : length old ≡ k.slots + k.cards + k.bits = begun.sized in omega (arith, s, lt)) in
+    let now : x.0 ≡ word_after k from to p (get_or old p 0) = some-injective x.0 (word_after k from to p (get_or old p 0)) (sym x.2 ∙ h.moved p (get_or old p 0) (omega arith) (omega (arith, lt)) lt was) in
+    not_into k from to p (get_or old p 0) begun.shaped.2 apart (subst (λ (m : ℕ). is_into k from p m ≡ true) now (is_into_of k from p x.0 x.3 x.4))

@@ -1,0 +1,42 @@
+use Rattle.std.proofs.Common.{ℕ, ◌<◌, List, sym, ap, ◌∙◌, subst, arith, [], length, replicate}
+use Rattle.g1_core.specs.Table.{moved, moved_count}
+use Rattle.g1_race_words.specs.declared.view.Shape.{Shape}
+use Rattle.g1_race.specs.Telling.{marked_cards}
+use Rattle.g1_race.specs.Moving.{IsRedirected}
+use Rattle.g1_race.specs.Over.{Halt, halted, ended, table_of}
+use Rattle.g1_race.proofs.PauseTable.{all_refined}
+use Rattle.g1_race.proofs.MovedTable.{count_is, moved_is, redirect_step}
+use Rattle.g1_race.proofs.Logs.{emptied}
+use Rattle.g1_race.proofs.paused.Paused.redirect_in_place.Goals as goal
+
+pub returns-clause-redirected : goal.returns-clause-redirected
+returns-clause-redirected c =
+    let race = c.self.inside.race in
+    let k = race.shape in
+    let l = race.layout in
+    let old = c.self.inside.seat.me.0.began_words in
+    let begun = c.self.invariant.0.begun in
+    let mid = c.refine_cards.new.seat.me.0.began_words in
+    let new = c.move_references.new.seat.me.0.began_words in
+    let high : c.number-2.result < k.regions = omega (arith, c.requires.to, c.number-2.ensures, ap (λ (s : Shape). s.regions) race.laid, ap (λ (h : Halt). h.layout.regions) c.self.view_is) in
+    let lf : c.args.from < l.regions = subst (λ (h : Halt). c.args.from < h.layout.regions) (sym c.self.view_is) c.requires.from in
+    let lt : c.args.to < l.regions = subst (λ (h : Halt). c.args.to < h.layout.regions) (sym c.self.view_is) c.requires.to in
+    let is = moved_is k l race.laid mid new c.number.result c.number-2.result c.refine_cards.ensures.seat.begun c.move_references.ensures.seat.begun c.move_references.ensures.moved high
+    ∙ (λ i. moved (c.number.ensures i) (c.number-2.ensures i) (table_of (ended l k mid))) in
+    let count = c.move_references.ensures.count ∙ (count_is k l race.laid mid new c.number.result c.number-2.result c.refine_cards.ensures.seat.begun c.move_references.ensures.seat.begun c.move_references.ensures.moved high
+    ∙ ap (λ (r : ℕ). moved_count r (table_of (ended l k mid))) c.number.ensures) in
+    let all = all_refined k l race.laid old mid begun c.refine_cards.ensures.seat.begun c.refine_cards.ensures.refined in
+    subst (λ (h : Halt). IsRedirected (halted h) c.args.from c.args.to c.move_references.result (table_of (ended l k new))) c.self.view_is (record {
+      done = marked_cards k old;
+      step = λ caller. redirect_step (table_of (ended l k old)) (table_of (ended l k mid)) (table_of (ended l k new)) caller c.args.from c.args.to c.move_references.result (marked_cards k old) lf lt c.requires.apart all is count;
+    })
+
+pub returns-clause-race : goal.returns-clause-race
+returns-clause-race c =
+    let logs = emptied c.self.inside.race.logs.items c.clear_logs.new.logs.items c.clear_logs.ensures.logs in
+    record {
+      layout = ap (λ (h : Halt). h.layout) c.self.view_is;
+      shape = ap (λ (h : Halt). h.shape) c.self.view_is;
+      logs = logs ∙ ap (λ (h : Halt). replicate {A = List ℕ} (length h.logs) []) c.self.view_is;
+      sweepers = ap (λ (h : Halt). h.sweepers) c.self.view_is;
+    }

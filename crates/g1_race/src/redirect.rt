@@ -1,0 +1,149 @@
+//! The redirect at a pause: the references into a region are moved to another region, and its
+//! remembered set is emptied.
+ghost use Rattle.std.specs.Prelude.{◌≡◌, ◌≢◌, ℕ, ◌*◌, ◌<◌, ◌≤◌, IfOk, OnErr, true};
+ghost use mathlib.Core.Option.{some};
+ghost use lib.ListN.{get_elem?};
+ghost use Rattle.g1_core.specs.Run.{IsStep};
+ghost use Rattle.g1_core.specs.Calls.{redirect_entry};
+ghost use Rattle.g1_race_words.specs.Rule.{crosses, mark_word, region_at};
+ghost use Rattle.g1_race.specs.Over.{halted};
+ghost use Rattle.g1_race.specs.Moving.{AreMoved, AreMovedAway, HasMoved, IsRedirected, into_count};
+ghost use Rattle.g1_race.specs.Evacuating.{IsRefinedRace};
+ghost use Rattle.g1_race_words.specs.Seats.{IsPaused};
+
+use crate::clear::{empty_row, enters};
+use crate::drain::{clear_logs, refine_cards, set_bit};
+use crate::next::{count_marked, list_marked, next_member};
+use crate::paused::Paused;
+use crate::race::Race;
+use crate::stopped::{put, see};
+use g1_core::{CardList, Redirected};
+use g1_layout::{NoMemory, Region};
+use g1_race_words::Place;
+use std::alloc::Global;
+
+impl Paused {
+    /// Moves the references into a region to the same offsets of another region, and empties its
+    /// remembered set.
+    ///
+    /// Every dirty card is refined first, as in a drain. Then each slot outside `from` that refers
+    /// into `from` refers to the same offset in `to`, and its card is recorded for `to` where it
+    /// lies outside `to`. Slots inside `from` stay. `Moved` says how many slots changed, and has
+    /// the cards that were refined, ascending.
+    ///
+    /// Once all is refined it reads a word for each 64 cards of the heap and the slots of each card
+    /// of the set of `from`. The room for the list of refined cards is asked for first, and nothing
+    /// else takes memory. `NoMemory` where it was refused: nothing has changed. A redirect is never
+    /// `Short`.
+    pub fn redirect(
+        &mut self,
+        alloc: Global,
+        from: Region,
+        to: Region,
+    ) -> Result<Redirected, NoMemory>
+        requires from { from < self.old.layout.regions }
+        requires to { to < self.old.layout.regions }
+        requires apart { from ≢ to }
+        ensures race { IfOk result (λ answer. IsRefinedRace self.old self.new) }
+        ensures whole { IfOk result HasMoved }
+        ensures step { IfOk result (λ answer. (caller : ℕ) →
+            IsStep (halted self.old) (redirect_entry caller from to answer) (halted self.new)) }
+        ensures err { OnErr result (self.new ≡ self.old) }
+    {
+        let pending = count_marked(&self.race, &mut self.seat);
+        let mut refined = Vec::with_capacity(alloc, pending)?;
+        list_marked(&self.race, &mut self.seat, &mut refined);
+        refine_cards(&self.race, &mut self.seat);
+        let (from, to) = (from.number() as usize, to.number() as usize);
+        let slots = move_references(&self.race, &mut self.seat, from, to);
+        clear_logs(&mut self.race.logs);
+        let refined = CardList::of(refined);
+        Ok(Redirected::Moved { slots, refined })
+    }
+
+    /// A redirect that lists no card, and returns how many slots it changed. Takes no memory.
+    pub fn redirect_in_place(&mut self, from: Region, to: Region) -> u32
+        requires from { from < self.old.layout.regions }
+        requires to { to < self.old.layout.regions }
+        requires apart { from ≢ to }
+        ensures race { IsRefinedRace self.old self.new }
+        ensures redirected { IsRedirected (halted self.old) from to result (halted self.new) }
+    {
+        refine_cards(&self.race, &mut self.seat);
+        clear_logs(&mut self.race.logs);
+        let (from, to) = (from.number() as usize, to.number() as usize);
+        move_references(&self.race, &mut self.seat, from, to)
+    }
+}
+
+// Moves the references into the region, empties its row of bits, and says how many slots have
+// changed. No card is dirty.
+fn move_references(race: &Race, seat: &mut Place, from: usize, to: usize) -> u32
+    requires seat { IsPaused race.now.table.table_id race.now.shape seat.old }
+    requires from { from < race.now.shape.regions }
+    requires to { to < race.now.shape.regions }
+    requires apart { from ≢ to }
+    requires clean { (c : ℕ) → c < race.now.shape.cards →
+        get_elem? seat.old.me.0.began_words (mark_word race.now.shape c) ≡ some 1 → ⊥ }
+    ensures seat { IsPaused race.now.table.table_id race.now.shape seat.new }
+    ensures moved { AreMovedAway race.now.shape seat.old.me.0.began_words
+        seat.new.me.0.began_words from to }
+    ensures count { let words = seat.old.me.0.began_words in
+        result ≡ into_count race.now.shape words from 0 race.now.shape.slots }
+{
+    let mut count = 0;
+    let mut next = 0;
+    while let Some(card) = next_member(race, seat, next, from) {
+        count += move_on(race, seat, card, from, to);
+        next = card + 1;
+    }
+    empty_row(race, seat, from);
+    count as u32
+}
+
+// Moves the references into the region of a card's slots, and says how many have changed.
+fn move_on(race: &Race, seat: &mut Place, card: usize, from: usize, to: usize) -> usize
+    requires seat { IsPaused race.now.table.table_id race.now.shape seat.old }
+    requires card { card < race.now.shape.cards }
+    requires to { to < race.now.shape.regions }
+    requires apart { from ≢ to }
+    ensures seat { IsPaused race.now.table.table_id race.now.shape seat.new }
+    ensures moved { AreMoved race.now.shape seat.old.me.0.began_words seat.new.me.0.began_words
+        from to (card * race.now.shape.size) race.now.shape.size }
+    ensures count { result ≡ into_count race.now.shape seat.old.me.0.began_words from
+        (card * race.now.shape.size) race.now.shape.size }
+    ensures few { result ≤ race.now.shape.size }
+{
+    let shape = race.shape;
+    let mut count = 0;
+    for i in 0..shape.size {
+        let slot = card * shape.size + i;
+        let word = see(race, seat, slot);
+        if enters(shape, slot, word, from) {
+            move_slot(race, seat, slot, word, to);
+            count += 1;
+        }
+    }
+    count
+}
+
+// Moves the reference of a slot, which has this word, to the region.
+fn move_slot(race: &Race, seat: &mut Place, slot: usize, word: u64, to: usize)
+    requires seat { IsPaused race.now.table.table_id race.now.shape seat.old }
+    requires slot { slot < race.now.shape.slots }
+    requires to { to < race.now.shape.regions }
+    requires word { get_elem? seat.old.me.0.began_words slot ≡ some word }
+    requires across { crosses race.now.shape slot word ≡ true }
+    ensures seat { IsPaused race.now.table.table_id race.now.shape seat.new }
+    ensures moved { AreMoved race.now.shape seat.old.me.0.began_words seat.new.me.0.began_words
+        (region_at race.now.shape word) to slot 1 }
+{
+    let shape = race.shape;
+    let moved = (to * shape.span + (word as usize - 1) % shape.span + 1) as u64;
+    if slot / shape.span == to {
+        put(race, seat, slot, moved);
+        return;
+    }
+    set_bit(race, seat, slot / shape.size, to);
+    put(race, seat, slot, moved);
+}
