@@ -5,12 +5,14 @@ use Rattle.g1_layout.specs.declared.kind.Kind.{Kind}
 use Rattle.g1_core.specs.Table.{Table}
 use Rattle.g1_core.specs.Machine.{Machine}
 use Rattle.g1_race.specs.declared.race.Race.{Race}
-use Rattle.g1_race.specs.declared.view.View.{View}
-use Rattle.g1_race.specs.Begin.{Start}
+use Rattle.g1_race_words.specs.declared.view.View.{View}
+use Rattle.g1_race_words.specs.Begin.{Start}
 use Rattle.g1_race.specs.Drain.{began}
 use Rattle.g1_race.specs.Over.{Ended}
 use Rattle.g1_race.specs.Resumed.{IsSame}
-use Rattle.g1_race.specs.Race.{beginning, card_of, word_of, stored, nothing, IsKnown, IsOver}
+use Rattle.g1_race_words.specs.Rule.{beginning, card_of}
+use Rattle.g1_race.specs.Race.{word_of, stored, IsKnown, IsOver}
+use Rattle.g1_race_words.specs.Steps.{nothing}
 use Rattle.g1_race.specs.Members.{race_layout, race_begun, race_shape, racer_start, racer_view, sweeper_start, sweeper_view, IsKind, is_logged, IsFreshRacer, IsFreshSweeper}
 use Rattle.g1_handles.specs.declared.member.Racing.{Racing}
 use Rattle.g1_handles.specs.declared.member.Sweeping.{Sweeping}
@@ -89,12 +91,12 @@ AreClosed members = All (λ m. m ≡ None) members
 -- the handle is a racer's of this race, and the racer has stored nothing since the race began so
 abbrev pub IsFreshRacing : Race → Start → Option Member → Type 0
 IsFreshRacing race begin m = OfRacer m (λ a. (racer_race_of a ≡ race)
-    × IsFreshRacer race.table.shared.table_id race.shape a.racer × (racer_start a.racer ≡ begin))
+    × IsFreshRacer race.table.table_id race.shape a.racer × (racer_start a.racer ≡ begin))
 
 -- the handle is a sweeper's of this race, and the sweeper has swept nothing since the race began so
 abbrev pub IsFreshSweeping : Race → Start → Option Member → Type 0
 IsFreshSweeping race begin m = OfSweeper m (λ b. (sweeper_race_of b ≡ race)
-    × IsFreshSweeper race.table.shared.table_id race.shape b.sweeper × (sweeper_start b.sweeper ≡ begin))
+    × IsFreshSweeper race.table.table_id race.shape b.sweeper × (sweeper_start b.sweeper ≡ begin))
 
 -- a race may have this many racers and sweepers
 pub record AreCounts (racers sweepers : ℕ) : Type 0 where

@@ -1,37 +1,25 @@
 -- The seat of a pause.
-use Rattle.std.proofs.Common.{◌≡◌, ◌≢◌, ◌⊎◌, ℕ, ◌<◌, ◌≤◌, List, [], set, length, length-set, true, refl, sym, ap, ◌∙◌, subst, inl, inr, ⊎_elim, arith}
+use Rattle.std.proofs.Common.{◌≡◌, ◌≢◌, ◌⊎◌, ℕ, ◌<◌, ◌≤◌, List, [], set, length, length-set, true, sym, ap, ◌∙◌, subst, inl, inr, ⊎_elim, arith}
 use mathlib.Core.Option.{some}
 use native.Mathlib.Decide.{ℕ_discrete}
 use lib.ListN.{get_elem?}
 use Rattle.atomic_table.proofs.Lists.{at_set, set_else, set_here}
 use Rattle.atomic_table.specs.Table.{Me}
 use Rattle.atomic_table.specs.declared.shared.Seat.{Seat}
-use Rattle.g1_race.specs.declared.view.Shape.{Shape}
-use Rattle.g1_race.specs.declared.view.View.{View}
+use Rattle.g1_race_words.specs.declared.view.Shape.{Shape}
+use Rattle.g1_race_words.specs.declared.view.View.{View}
 use Rattle.g1_race.specs.declared.race.Race.{Race}
-use Rattle.g1_race.specs.Race.{Going, IsBlank, IsBegun, IsMarked, HasBit, mark_word, card_of, region_at, crosses, start, iced}
-use Rattle.g1_race.specs.Members.{IsPaused}
+use Rattle.g1_race_words.specs.Rule.{IsBegun, IsMarked, HasBit, mark_word, card_of, region_at, crosses, start}
+use Rattle.g1_race_words.specs.Steps.{iced}
+use Rattle.g1_race_words.specs.Seats.{IsPaused}
 use Rattle.atomic_table.specs.Seated.{TableId}
-use Rattle.g1_race.proofs.PairBits.{SameBits, same_bits, bit_as}
-use Rattle.g1_race.proofs.Going.{known_words}
-use Rattle.g1_race.proofs.Allowed.{Knows}
-use Rattle.g1_race.proofs.CoverStores.{mark_apart}
-use Rattle.g1_race.proofs.Unchanged.{bounded_same, bounded_wrote, same_slots_at_mark}
+use Rattle.g1_race_words.proofs.PairBits.{SameBits, same_bits, bit_as}
+use Rattle.g1_race_words.proofs.CoverStores.{mark_apart}
+use Rattle.g1_race_words.proofs.Unchanged.{bounded_same, bounded_wrote, same_slots_at_mark}
 
-pub knows : (race : Race) (s : Seat (Unit {0}) View) → IsPaused race.table.shared.table_id race.shape s → Knows race.table.shared.key s.me.0
-knows race s i =
-    let k = race.shape in
-    let key = race.table.shared.key in
-    let view : s.me.0 ≡ iced (start k s.me.0.began_words) k.members = ap (λ (m : Me (Unit {0}) View). m.0) i.view in
-    let m : key.members ≡ k.members = ap (λ (x : Shape). x.members) race.key_is in record {
-      all = ap (λ (v : View). v.weight) view ∙ sym m;
-      pos = omega (arith, m, race.some);
-      spare = ap (λ (v : View). v.spare) view ∙ sym m;
-      blank = subst IsBlank (sym view) ((refl, refl, refl), refl, refl, refl, refl);
-      shape = ap (λ (v : View). v.shape) view ∙ sym race.key_is;
-      frozen = ap (λ (v : View). v.frozen) view;
-      begun = subst IsBegun (λ j. start (sym race.key_is j) s.me.0.began_words) i.begun;
-    }
+-- the table's shape is the race's
+pub paused_at : (race : Race) (s : Seat (Unit {0}) View) → IsPaused race.table.table_id race.shape s → IsPaused race.table.table_id race.table.shape s
+paused_at race s = subst (λ (k : Shape). IsPaused race.table.table_id k s) (sym race.key_is)
 
 -- what a race can begin with stays so where a card is dirtied, and where a slot is written whose card is dirty if it must be
 
@@ -93,10 +81,3 @@ paused_same z k s q table me i = let words = ap (λ (m : Me (Unit {0}) View). m.
   view = me ∙ (i.view ∙ (λ j. (iced (start k (sym words j)) k.members, [])));
   begun = subst (λ (l : List ℕ). IsBegun (start k l)) (sym words) i.begun;
 }
-
--- the words that a table gives up at its end are those that the seat of the pause knew
-pub closed_words : (race : Race) (s : Seat (Unit {0}) View) (words out : List ℕ) (views : List View) → IsPaused race.table.shared.table_id race.shape s
-    → Going race.table.shared.key words views → get_elem? views s.id ≡ some s.me.0 → words ≡ out → out ≡ s.me.0.began_words
-closed_words race s words out views i holds at same =
-    let k = knows race s i in
-    sym same ∙ known_words race.table.shared.key words views s.id s.me.0 k.all k.pos holds at k.frozen

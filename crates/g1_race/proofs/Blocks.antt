@@ -7,10 +7,10 @@ use Rattle.std.proofs.lemmas.Grind.{flat_map-append}
 use Rattle.std.proofs.lemmas.List.{append-nil}
 use Rattle.std.proofs.lemmas.List.Elements.{Contains-get_or}
 use Rattle.std.proofs.lemmas.Nat.Bits.{bit_at-zero}
-use Rattle.g1_race.specs.declared.view.Shape.{Shape}
-use Rattle.g1_race.specs.Race.{bit_place, bit_word, pairs_of_card}
+use Rattle.g1_race_words.specs.declared.view.Shape.{Shape}
+use Rattle.g1_race_words.specs.Rule.{bit_place, bit_word, pairs_of_card}
 use Rattle.g1_race.specs.Telling.{block_regions, has_block}
-use Rattle.g1_race.proofs.Listing.{one_pair, pair_clear}
+use Rattle.g1_race_words.proofs.Listing.{one_pair, pair_clear}
 use Rattle.g1_race.proofs.Telling.{left_out, listed_below, put_in}
 
 module _ (k : Shape) (words : List ℕ) (card : ℕ) where

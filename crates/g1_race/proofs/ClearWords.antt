@@ -14,17 +14,18 @@ use Rattle.g1_layout.specs.Shape.{slot_count}
 use Rattle.g1_core.specs.Table.{Enters}
 use Rattle.g1_core.specs.Run.{IsFirstInto}
 use Rattle.g1_core.proofs.SetLemmas.{pair_exact, same_pairs}
-use Rattle.g1_race.specs.declared.view.Shape.{Shape}
-use Rattle.g1_race.specs.Race.{IsBegun, IsMarked, IsShape, IsPair, HasBit, bit_word, bit_place, card_of, crosses, front, mark_word, pairs_up_to, region_at, shape_of, start}
+use Rattle.g1_race_words.specs.declared.view.Shape.{Shape}
+use Rattle.g1_race_words.specs.Rule.{IsBegun, IsMarked, IsShape, IsPair, HasBit, bit_word, bit_place, card_of, crosses, front, mark_word, pairs_up_to, region_at, start}
+use Rattle.g1_race.specs.Race.{shape_of}
 use Rattle.g1_race.specs.Over.{ended, refs_of, table_of}
 use Rattle.g1_core.specs.declared.entry.Call.TheVariants.{Clear}
 use Rattle.g1_core.specs.declared.entry.Reply.TheVariants as reply
 use Rattle.g1_core.specs.declared.reply.ClearReply.TheVariants.{Cleared}
 use Rattle.g1_core.specs.Run.{settled}
 use Rattle.g1_race.specs.Clearing.{Into, IsLeastInto, IsLeastOn, IsEmptied}
-use Rattle.g1_race.proofs.AtBeginning.{no_bit}
-use Rattle.g1_race.proofs.Places.{at_take, at_untake}
-use Rattle.g1_race.proofs.PairBits.{card_below, crosses_some, crossing_pair, in_row}
+use Rattle.g1_race_words.proofs.AtBeginning.{no_bit}
+use Rattle.g1_race_words.proofs.Places.{at_take, at_untake}
+use Rattle.g1_race_words.proofs.PairBits.{card_below, crosses_some, crossing_pair, in_row}
 use Rattle.g1_race.proofs.StoreCalls.{other_region}
 use Rattle.g1_race.proofs.Ends.{crosses_apart, recorded_set, set_recorded, word_back, word_refers}
 

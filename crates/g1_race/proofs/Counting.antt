@@ -14,8 +14,9 @@ use Rattle.g1_sets.proofs.BoundLemmas.{few_outside}
 use Rattle.g1_sets.proofs.PairLemmas.{in_set, to_set}
 use Rattle.g1_sets.proofs.TotalLemmas.{total_is}
 use Rattle.g1_core.proofs.SetLemmas.{All_by_member, same_pairs, in_pairs}
-use Rattle.g1_race.specs.declared.view.Shape.{Shape}
-use Rattle.g1_race.specs.Race.{IsBegun, IsShape, pairs_up_to, start, shape_of}
+use Rattle.g1_race_words.specs.declared.view.Shape.{Shape}
+use Rattle.g1_race_words.specs.Rule.{IsBegun, IsShape, pairs_up_to, start}
+use Rattle.g1_race.specs.Race.{shape_of}
 use Rattle.g1_race.specs.Over.{ended, table_of}
 use Rattle.g1_race.specs.Telling.{is_member, member_cards, pair_count}
 use Rattle.g1_race.proofs.Ends.{pair_listed, recorded_set, set_recorded}

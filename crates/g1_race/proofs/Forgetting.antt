@@ -14,14 +14,15 @@ use Rattle.g1_layout.specs.Shape as layout
 use Rattle.g1_layout.specs.Shape.{slot_count, region_of}
 use Rattle.g1_core.specs.Table.{Crosses}
 use Rattle.g1_core.proofs.SetLemmas.{pair_exact, same_pairs}
-use Rattle.g1_race.specs.declared.view.Shape.{Shape}
-use Rattle.g1_race.specs.Race.{IsBegun, IsShape, IsMarked, IsPair, HasBit, bit_place, bit_word, card_of, crosses, front, mark_word, pairs_up_to, region_at, shape_of, start}
+use Rattle.g1_race_words.specs.declared.view.Shape.{Shape}
+use Rattle.g1_race_words.specs.Rule.{IsBegun, IsShape, IsMarked, IsPair, HasBit, bit_place, bit_word, card_of, crosses, front, mark_word, pairs_up_to, region_at, start}
+use Rattle.g1_race.specs.Race.{shape_of}
 use Rattle.g1_race.specs.Over.{ended, refs_of, table_of}
 use Rattle.g1_race.specs.Clearing.{AreUnset}
 use Rattle.g1_race.specs.Evacuating.{forgotten}
 use Rattle.g1_race.specs.Telling.{is_member}
-use Rattle.g1_race.proofs.Places.{at_take, at_untake, reads_as}
-use Rattle.g1_race.proofs.PairBits.{bit_apart, crosses_some, card_below, crossing_pair, word_below}
+use Rattle.g1_race_words.proofs.Places.{at_take, at_untake, reads_as}
+use Rattle.g1_race_words.proofs.PairBits.{bit_apart, crosses_some, card_below, crossing_pair, word_below}
 use Rattle.g1_race.proofs.Ends.{crosses_apart, recorded_set, region_of_quotient, set_recorded, word_refers}
 
 module _ (k : Shape) (words : List ℕ) (x : ℕ × ℕ) where

@@ -5,14 +5,15 @@ use Rattle.std.proofs.lemmas.List.{length-replicate}
 use Rattle.atomic_table.specs.Seated.{TableId}
 use Rattle.g1_layout.specs.Shape as layout
 use Rattle.g1_core.specs.Table.{Table}
-use Rattle.g1_race.specs.declared.view.Shape.{Shape}
+use Rattle.g1_race_words.specs.declared.view.Shape.{Shape}
 use Rattle.g1_race.specs.declared.race.Race.{Race}
 use Rattle.g1_race.specs.declared.race.Racer.{Racer}
 use Rattle.g1_race.specs.declared.race.Sweeper.{Sweeper}
-use Rattle.g1_race.specs.Begin.{Start}
+use Rattle.g1_race_words.specs.Begin.{Start}
 use Rattle.g1_race.specs.Drain.{began}
 use Rattle.g1_race.specs.Over.{Halt, halted, start_at}
-use Rattle.g1_race.specs.Race.{beginning, blank, start, start_of}
+use Rattle.g1_race_words.specs.Rule.{beginning, start, start_of}
+use Rattle.g1_race_words.specs.Steps.{blank}
 use Rattle.g1_race.specs.Members.{race_begun, racer_view, sweeper_view, racer_log, racer_number, racer_start, sweeper_start, AreFreshRacers, AreFreshSweepers, HaveBegun, HaveBegunWith, IsNewRacer, IsNewSweeper, IsFreshRacer, IsFreshSweeper}
 
 empty_log : (rs : List Racer) (n : ℕ) → map racer_log rs ≡ replicate n [] → All (λ r. racer_log r ≡ []) rs
@@ -50,10 +51,10 @@ begun_as race begin (r ∷ rs) [] racing sweeping shape some = λ i. beginning (
 begun_as race begin [] [] racing sweeping shape some = absurd (omega (arith, some))
 
 -- the members of a race that has resumed
-module _ (race : Race) (h : Halt) (racers : Vec Racer Global) (sweepers : Vec Sweeper Global) (new : (vec_len racers ≡ length h.logs) × All (IsNewRacer race.table.shared.table_id (start_at h)) racers.items)
-    (other : (vec_len sweepers ≡ h.sweepers) × All (IsNewSweeper race.table.shared.table_id (start_at h)) sweepers.items) where
+module _ (race : Race) (h : Halt) (racers : Vec Racer Global) (sweepers : Vec Sweeper Global) (new : (vec_len racers ≡ length h.logs) × All (IsNewRacer race.table.table_id (start_at h)) racers.items)
+    (other : (vec_len sweepers ≡ h.sweepers) × All (IsNewSweeper race.table.table_id (start_at h)) sweepers.items) where
   pub have_begun : (begin : Start) → start_at h ≡ begin → HaveBegun begin racers sweepers
-  have_begun begin e = subst (λ (b : Start). HaveBegun b racers sweepers) e (racers_begun race.table.shared.table_id (start_at h) racers.items new.1, sweepers_begun race.table.shared.table_id (start_at h) sweepers.items other.1)
+  have_begun begin e = subst (λ (b : Start). HaveBegun b racers sweepers) e (racers_begun race.table.table_id (start_at h) racers.items new.1, sweepers_begun race.table.table_id (start_at h) sweepers.items other.1)
 
   pub begun_with : (t : Table) → race.layout ≡ h.layout → halted h ≡ t → HaveBegunWith t race racers sweepers
   begun_with t laid is = (start_at h, have_begun (start_at h) (λ i. start_at h), ap (λ (l : layout.Shape). began l (beginning (start_at h))) laid ∙ is)
@@ -61,11 +62,11 @@ module _ (race : Race) (h : Halt) (racers : Vec Racer Global) (sweepers : Vec Sw
   pub are_fresh : (n : ℕ) → race.shape ≡ h.shape → map racer_log racers.items ≡ h.logs → h.logs ≡ replicate n [] → AreFreshRacers race n racers
   are_fresh n shape logs empty = (
     new.0 ∙ (ap (λ (l : List (List ℕ)). length l) empty ∙ length-replicate n []),
-    subst (λ (k : Shape). All (IsFreshRacer race.table.shared.table_id k) racers.items) (sym shape) (racers_fresh race.table.shared.table_id (start_at h) racers.items n (logs ∙ empty) new.1),
+    subst (λ (k : Shape). All (IsFreshRacer race.table.table_id k) racers.items) (sym shape) (racers_fresh race.table.table_id (start_at h) racers.items n (logs ∙ empty) new.1),
   )
 
   pub are_fresh_too : (n : ℕ) → race.shape ≡ h.shape → h.sweepers ≡ n → AreFreshSweepers race n sweepers
   are_fresh_too n shape count = (
     other.0 ∙ count,
-    subst (λ (k : Shape). All (IsFreshSweeper race.table.shared.table_id k) sweepers.items) (sym shape) (sweepers_fresh race.table.shared.table_id (start_at h) sweepers.items other.1),
+    subst (λ (k : Shape). All (IsFreshSweeper race.table.table_id k) sweepers.items) (sym shape) (sweepers_fresh race.table.table_id (start_at h) sweepers.items other.1),
   )

@@ -19,15 +19,16 @@ use Rattle.g1_core.specs.Run.{IsStep}
 use Rattle.g1_race.specs.Evacuating.{AreAllRefined}
 use Rattle.g1_core.proofs.SetLemmas.{pair_total, pair_exact, listed, unlisted, Kept, from_kept, to_kept, same_bools}
 use Rattle.g1_core.proofs.TableLemmas.{slot_of}
-use Rattle.g1_race.specs.declared.view.Shape.{Shape}
-use Rattle.g1_race.specs.Race.{IsBegun, IsPair, HasBit, card_of, crosses, front, mark_word, one_if, region_at, shape_of, start}
+use Rattle.g1_race_words.specs.declared.view.Shape.{Shape}
+use Rattle.g1_race_words.specs.Rule.{IsBegun, IsPair, HasBit, card_of, crosses, front, mark_word, one_if, region_at, start}
+use Rattle.g1_race.specs.Race.{shape_of}
 use Rattle.g1_race.specs.Over.{ended, refs_of, table_of, target_of}
 use Rattle.g1_race.specs.Moving.{AreMovedAway, Acquires, into_count, is_into, moved_word, word_after}
 use Rattle.g1_race.proofs.Ends.{crosses_apart, recorded_set, refs_here, set_recorded, target_some}
-use Rattle.g1_race.proofs.PairBits.{card_below, crosses_some, in_row}
+use Rattle.g1_race_words.proofs.PairBits.{card_below, crosses_some, in_row}
 use Rattle.g1_race.proofs.PauseTable.{pending_word, slots_are, table_is, word_pending}
-use Rattle.g1_race.proofs.Places.{at_take, at_untake, reads_as, take_all}
-use Rattle.g1_race.proofs.Plain.{false_is, read_at, true_is}
+use Rattle.g1_race_words.proofs.Places.{at_take, at_untake, reads_as, take_all}
+use Rattle.g1_race_words.proofs.Plain.{false_is, read_at, true_is}
 use Rattle.g1_race.proofs.StoreCalls.{other_region}
 
 module _ (k : Shape) (l : layout.Shape) (laid : k ≡ shape_of l k.members) where

@@ -6,19 +6,19 @@ use Rattle.std.proofs.lemmas.Bool.{and_from, and_parts, cases_Bool, cases_lt, eq
 use Rattle.std.proofs.Math.Nat.{mul-le-mul_left}
 use Rattle.std.proofs.lemmas.Nat.{div-mul-add}
 use Rattle.atomic_table.proofs.Lists.{set_else, set_here}
-use Rattle.g1_race.specs.declared.view.Shape.{Shape}
-use Rattle.g1_race.specs.Race.{In, IsBegun, IsShape, HasBit, card_of, crosses, mark_word, one_if, region_at, start}
+use Rattle.g1_race_words.specs.declared.view.Shape.{Shape}
+use Rattle.g1_race_words.specs.Rule.{In, IsBegun, IsShape, HasBit, card_of, crosses, mark_word, one_if, region_at, start}
 use Rattle.g1_race.specs.Refining.{Notes}
 use Rattle.g1_race.specs.Clearing.{Into}
 use Rattle.g1_race.specs.Telling.{is_member}
 use Rattle.g1_race.proofs.ClearWords.{into_bit}
 use Rattle.g1_race.specs.Moving.{AreMoved, Acquires, into_count, is_into, moved_word, word_after}
 use Rattle.g1_race.proofs.AtPause.{begun_placed}
-use Rattle.g1_race.proofs.CoverStores.{mark_apart}
+use Rattle.g1_race_words.proofs.CoverStores.{mark_apart}
 use Rattle.g1_race.proofs.Ends.{crosses_apart}
-use Rattle.g1_race.proofs.PairBits.{bit_as, same_bits}
-use Rattle.g1_race.proofs.Plain.{false_is, read_at, true_is}
-use Rattle.g1_race.proofs.Places.{reads_as}
+use Rattle.g1_race_words.proofs.PairBits.{bit_as, same_bits}
+use Rattle.g1_race_words.proofs.Plain.{false_is, read_at, true_is}
+use Rattle.g1_race_words.proofs.Places.{reads_as}
 use Rattle.g1_race.proofs.PauseStores.{slot_in}
 use Rattle.g1_race.proofs.StoreCalls.{other_region}
 

@@ -7,10 +7,10 @@ use Rattle.std.proofs.Math.Nat.{div-div-eq-div-mul, div-le_self, mul-le-mul_left
 use Rattle.std.proofs.lemmas.Bool.{cases_lt, true≢false}
 use Rattle.std.proofs.lemmas.Nat.{pow-add}
 use Rattle.std.proofs.lemmas.Nat.Bits.{bit_at_above, bit_at-zero, bit_at-trailing_zeros}
-use Rattle.g1_race.specs.declared.view.Shape.{Shape}
-use Rattle.g1_race.specs.Race.{IsBegun, IsShape, bit_place, bit_word, mark_word, start}
+use Rattle.g1_race_words.specs.declared.view.Shape.{Shape}
+use Rattle.g1_race_words.specs.Rule.{IsBegun, IsShape, bit_place, bit_word, mark_word, start}
 use Rattle.g1_race.specs.Telling.{is_marked, is_member}
-use Rattle.g1_race.proofs.Places.{reads_as}
+use Rattle.g1_race_words.proofs.Places.{reads_as}
 
 -- a card whose mark was read
 pub mark_is : (k : Shape) (words : List ℕ) (card n : ℕ) → get_elem? words (mark_word k card) ≡ some n → n ≡ 1 → is_marked k words card ≡ true

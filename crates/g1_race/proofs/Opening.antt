@@ -12,11 +12,12 @@ use Rattle.g1_core.specs.Machine.{pending_of}
 use Rattle.g1_core.proofs.OpeningLemmas.{none_pending}
 use Rattle.g1_core.specs.Adoption.{marks_for}
 use Rattle.g1_race.specs.Over.{target_of, ended, table_of}
-use Rattle.g1_race.specs.declared.view.Shape.{Shape}
-use Rattle.g1_race.specs.Race.{HasBit, beginning, bit_word, front, null_of, pairs_of_card, pairs_up_to, shape_of}
+use Rattle.g1_race_words.specs.declared.view.Shape.{Shape}
+use Rattle.g1_race_words.specs.Rule.{HasBit, beginning, bit_word, front, null_of, pairs_of_card, pairs_up_to}
+use Rattle.g1_race.specs.Race.{shape_of}
 use Rattle.g1_race.specs.Members.{null_begun}
-use Rattle.g1_race.proofs.Listing.{pair_clear}
-use Rattle.g1_race.proofs.AtBeginning.{zeros, no_bit, zeros_read}
+use Rattle.g1_race_words.proofs.Listing.{pair_clear}
+use Rattle.g1_race_words.proofs.AtBeginning.{zeros, no_bit, zeros_read}
 
 pub both_ok : {A E : Type 0} {P Q R : A → Type 0} (x : Result A E) → IfOk x P → IfOk x Q → ((a : A) → P a → Q a → R a) → IfOk x R
 both_ok (Ok a) p q f = f a p q

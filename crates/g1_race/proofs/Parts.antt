@@ -11,7 +11,7 @@ use Rattle.g1_core.specs.Adoption.{table_with, IsPairOf}
 use Rattle.g1_race.specs.Race.{shape_of}
 use Rattle.g1_race.specs.Over.{Ended, ended, target_of, refs_of, marks_of, IsEnded}
 use Rattle.g1_race.proofs.Ends.{target_back, begun_covered, pair_listed}
-use Rattle.g1_race.proofs.Places.{at_read, at_untake, at_unmap}
+use Rattle.g1_race_words.proofs.Places.{at_read, at_untake, at_unmap}
 
 pub length_marks : (e : Ended) → length e.words ≡ slot_count e.layout + card_count e.layout → length (marks_of e) ≡ card_count e.layout
 length_marks e sized = length-map (drop (slot_count e.layout) e.words) (λ n. eqb n 1) ∙ (length-drop (slot_count e.layout) e.words ∙ (let f = sized in omega arith))

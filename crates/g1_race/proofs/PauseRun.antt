@@ -15,14 +15,15 @@ use Rattle.g1_core.proofs.MovedLemmas.{moved_known}
 use Rattle.g1_core.proofs.RunLemmas.{forgotten, HasSlots, layout_after, written_layout}
 use Rattle.g1_core.proofs.SetLemmas.{in_pairs, to_pairs}
 use Rattle.g1_core.proofs.TableLemmas.{recorded_cases, Holds_from_held}
-use Rattle.g1_race.specs.declared.view.Shape.{Shape}
-use Rattle.g1_race.specs.declared.view.View.{View}
-use Rattle.g1_race.specs.Begin.{Begun}
-use Rattle.g1_race.specs.Race.{AmongStores, BeganInto, In, IsKnown, IsOver, IsShape, shape_of}
+use Rattle.g1_race_words.specs.declared.view.Shape.{Shape}
+use Rattle.g1_race_words.specs.declared.view.View.{View}
+use Rattle.g1_race_words.specs.Begin.{Begun}
+use Rattle.g1_race_words.specs.Rule.{BeganInto, In, IsShape}
+use Rattle.g1_race.specs.Race.{AmongStores, IsKnown, IsOver, shape_of}
 use Rattle.g1_race.specs.Over.{Ended, table_of}
 use Rattle.g1_race.specs.Drain.{DrainAtPause, HadInto, HeldDuring, table_at}
 use Rattle.g1_race.proofs.Draining.{HoldsInto, began_holds, in_shape, known_once, stored_now}
-use Rattle.g1_race.proofs.Places.{in_contains}
+use Rattle.g1_race_words.proofs.Places.{in_contains}
 
 -- one call
 

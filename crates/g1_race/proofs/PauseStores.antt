@@ -22,15 +22,16 @@ use Rattle.g1_core.specs.Calls.{store_entry}
 use Rattle.g1_core.proofs.RefinedLemmas.{refined_none}
 use Rattle.g1_core.proofs.StoreLemmas.{none_refinable}
 use Rattle.std.specs.Prelude.{IfSome}
-use Rattle.g1_race.specs.declared.view.Shape.{Shape}
-use Rattle.g1_race.specs.Race.{IsBegun, IsShape, HasBit, card_of, crosses, mark_word, shape_of, start, word_of}
+use Rattle.g1_race_words.specs.declared.view.Shape.{Shape}
+use Rattle.g1_race_words.specs.Rule.{IsBegun, IsShape, HasBit, card_of, crosses, mark_word, start}
+use Rattle.g1_race.specs.Race.{shape_of, word_of}
 use Rattle.g1_race.specs.Over.{ended, refs_of, table_of, target_of}
 use Rattle.g1_race.specs.Evacuating.{plain_reply}
-use Rattle.g1_race.proofs.CoverStores.{mark_apart}
+use Rattle.g1_race_words.proofs.CoverStores.{mark_apart}
 use Rattle.std.proofs.lemmas.Nat.{mul-add-lt}
-use Rattle.g1_race.proofs.Places.{at_take, reads_as}
+use Rattle.g1_race_words.proofs.Places.{at_take, reads_as}
 use Rattle.g1_race.proofs.Ends.{refs_here, crosses_apart, recorded_set, set_recorded, target_some}
-use Rattle.g1_race.proofs.PairBits.{bit_as, card_below, same_bits}
+use Rattle.g1_race_words.proofs.PairBits.{bit_as, card_below, same_bits}
 use Rattle.g1_race.proofs.PauseTable.{pending_word, refs_same, slots_are, table_is, word_pending}
 use Rattle.g1_race.proofs.StoreCalls.{other_region}
 

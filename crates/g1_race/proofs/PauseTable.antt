@@ -24,16 +24,17 @@ use Rattle.g1_core.proofs.AdoptionLemmas.{pending_flag}
 use Rattle.g1_core.proofs.MarkLemmas.{none_of}
 use Rattle.g1_core.proofs.SetLemmas.{All_by_member, same_cards, same_pairs, in_list as from_cards, in_set as in_cards}
 use Rattle.g1_core.proofs.TableLemmas.{refined_pending, still_recorded, newly_recorded, recorded_cases, held_from_Holds, Holds_from_held}
-use Rattle.g1_race.specs.declared.view.Shape.{Shape}
-use Rattle.g1_race.specs.Race.{BeganInto, IsBegun, IsPair, HasBit, IsShape, mark_word, front, start, shape_of}
+use Rattle.g1_race_words.specs.declared.view.Shape.{Shape}
+use Rattle.g1_race_words.specs.Rule.{BeganInto, IsBegun, IsPair, HasBit, IsShape, mark_word, front, start}
+use Rattle.g1_race.specs.Race.{shape_of}
 use Rattle.g1_race.specs.Over.{ended, target_of, refs_of, marks_of, table_of}
 use Rattle.g1_race.specs.Refining.{AreRefined, MembersAreExact}
 use Rattle.g1_race.specs.Telling.{is_marked, is_member, marked_cards, member_cards}
 use Rattle.g1_race.specs.Evacuating.{AreAllRefined, IsExactAtPause}
 use Rattle.g1_race.proofs.Telling.{at_most_both, gathered, is_listed, listed_is, listed_below, listed_distinct, set_len}
 use Rattle.g1_race.proofs.NextCards.{mark_is, marked_word}
-use Rattle.g1_race.proofs.AtBeginning.{never_both}
-use Rattle.g1_race.proofs.Places.{at_take, at_untake, at_unmap}
+use Rattle.g1_race_words.proofs.AtBeginning.{never_both}
+use Rattle.g1_race_words.proofs.Places.{at_take, at_untake, at_unmap}
 use Rattle.g1_race.proofs.Ends.{begun_covered, marked_pending, marks_here, recorded_set, set_recorded, region_of_quotient}
 use Rattle.g1_race.proofs.Draining.{began_holds}
 

@@ -7,14 +7,15 @@ use Rattle.std.proofs.lemmas.Bool.{cases_lt}
 use Rattle.std.specs.Int.{bit_at}
 use Rattle.std.proofs.lemmas.Nat.{div-mul-add}
 use Rattle.atomic_table.proofs.Lists.{set_else, set_here}
-use Rattle.g1_race.specs.declared.view.Shape.{Shape}
-use Rattle.g1_race.specs.Race.{In, IsBegun, IsMarked, IsPair, IsOfCrossing, HasBit, BeganInto, bit_word, bit_place, mark_word, card_of, region_at, crosses, pair_at, start}
+use Rattle.g1_race_words.specs.declared.view.Shape.{Shape}
+use Rattle.g1_race_words.specs.Rule.{In, IsBegun, IsMarked, IsPair, IsOfCrossing, HasBit, BeganInto, bit_word, bit_place, mark_word, card_of, region_at, crosses, start}
+use Rattle.g1_race_words.specs.Steps.{pair_at}
 use Rattle.g1_race.specs.Refining.{Notes, IsRefined, AreRefined, card_pairs}
-use Rattle.g1_race.proofs.Plain.{in_left, in_right, in_either, read_at, true_is}
-use Rattle.g1_race.proofs.Places.{reads_as}
-use Rattle.g1_race.proofs.PairBits.{SameBits, same_bits, bit_as, word_below, with_pair, bit_here, bits_stay, bits_back, card_below}
+use Rattle.g1_race_words.proofs.Plain.{in_left, in_right, in_either, read_at, true_is}
+use Rattle.g1_race_words.proofs.Places.{reads_as}
+use Rattle.g1_race_words.proofs.PairBits.{SameBits, same_bits, bit_as, word_below, with_pair, bit_here, bits_stay, bits_back, card_below}
 use Rattle.g1_race.proofs.SweepCalls.{slot_below}
-use Rattle.g1_race.proofs.Unchanged.{bounded_same, same_slots_at_mark}
+use Rattle.g1_race_words.proofs.Unchanged.{bounded_same, same_slots_at_mark}
 
 -- one bit is set
 

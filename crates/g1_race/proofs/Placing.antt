@@ -16,19 +16,20 @@ use Rattle.g1_core.specs.Machine.{State, IsSound, pending_of}
 use Rattle.g1_core.specs.Adoption.{marks_for, IsPairOf}
 use Rattle.g1_core.proofs.SetLemmas.{same_cards, same_pairs, in_pairs, to_pairs}
 use Rattle.g1_core.proofs.AdoptionLemmas.{pending_flag}
-use Rattle.g1_race.specs.declared.view.Shape.{Shape}
-use Rattle.g1_race.specs.Race.{In, IsShape, IsBegun, IsMarked, IsPair, IsOfCrossing, HasBit, card_of, crosses, mark_word, region_at, start, one_if, shape_of, word_of}
+use Rattle.g1_race_words.specs.declared.view.Shape.{Shape}
+use Rattle.g1_race_words.specs.Rule.{In, IsShape, IsBegun, IsMarked, IsPair, IsOfCrossing, HasBit, card_of, crosses, mark_word, region_at, start, one_if}
+use Rattle.g1_race.specs.Race.{shape_of, word_of}
 use Rattle.g1_race.specs.Over.{Ended, ended, target_of, refs_of, marks_of, table_of}
 use Rattle.g1_race.specs.Refining.{Notes}
 use Rattle.g1_race.specs.Resumed.{KeepsBits, AreMarked, ArePlaced, AreCovered}
-use Rattle.g1_race.proofs.AtBeginning.{zeros, zero_at, no_bit, zeros_read}
-use Rattle.g1_race.proofs.Plain.{within}
-use Rattle.g1_race.proofs.PairBits.{SameBits, same_bits, bit_as, card_below, crosses_some}
-use Rattle.g1_race.proofs.CoverStores.{mark_apart}
-use Rattle.g1_race.proofs.Unchanged.{bounded_wrote}
+use Rattle.g1_race_words.proofs.AtBeginning.{zeros, zero_at, no_bit, zeros_read}
+use Rattle.g1_race_words.proofs.Plain.{within}
+use Rattle.g1_race_words.proofs.PairBits.{SameBits, same_bits, bit_as, card_below, crosses_some}
+use Rattle.g1_race_words.proofs.CoverStores.{mark_apart}
+use Rattle.g1_race_words.proofs.Unchanged.{bounded_wrote}
 use Rattle.g1_race.proofs.StoreCalls.{word_fits, other_region}
-use Rattle.g1_race.proofs.Places.{at_take, in_contains, contains_in, reads_as}
-use Rattle.g1_race.proofs.Listing.{listed_set, set_listed}
+use Rattle.g1_race_words.proofs.Places.{at_take, in_contains, contains_in, reads_as}
+use Rattle.g1_race_words.proofs.Listing.{listed_set, set_listed}
 use Rattle.g1_race.proofs.Parts.{length_marks}
 use Rattle.g1_race.proofs.Ends.{refs_here, marks_here, target_some, crosses_apart, marked_pending, region_of_quotient}
 

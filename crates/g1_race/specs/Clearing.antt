@@ -3,8 +3,8 @@ use Rattle.std.specs.Prelude.{◌≡◌, ◌≢◌, ℕ, ◌/◌, ◌<◌, ◌�
 use mathlib.Core.Option.{some}
 use lib.ListN.{get_elem?}
 use Rattle.g1_core.specs.Table.{Table, IsPending}
-use Rattle.g1_race.specs.declared.view.Shape.{Shape}
-use Rattle.g1_race.specs.Race.{IsPair, HasBit, card_of, crosses, front, region_at}
+use Rattle.g1_race_words.specs.declared.view.Shape.{Shape}
+use Rattle.g1_race_words.specs.Rule.{IsPair, HasBit, card_of, crosses, front, region_at}
 
 -- slot p lies outside the region and refers into it
 abbrev pub Into : Shape → List ℕ → ℕ → ℕ → Type 0

@@ -8,8 +8,8 @@ use Rattle.g1_core.specs.Table.{Table}
 use Rattle.g1_core.specs.Run.{IsStep}
 use Rattle.g1_core.specs.declared.entry.Call.TheVariants.{Redirect}
 use Rattle.g1_core.specs.declared.entry.Reply.TheVariants as reply
-use Rattle.g1_race.specs.declared.view.Shape.{Shape}
-use Rattle.g1_race.specs.Race.{IsBegun, IsPair, HasBit, card_of, crosses, mark_word, one_if, region_at, start}
+use Rattle.g1_race_words.specs.declared.view.Shape.{Shape}
+use Rattle.g1_race_words.specs.Rule.{IsBegun, IsPair, HasBit, card_of, crosses, mark_word, one_if, region_at, start}
 use Rattle.g1_race.specs.Clearing.{IsEmptied}
 
 -- slot p, with word n, lies outside the region and refers into it

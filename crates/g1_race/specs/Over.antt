@@ -6,9 +6,10 @@ use Rattle.g1_core.specs.Table.{Table}
 use Rattle.g1_core.specs.Settings.{Settings}
 use Rattle.g1_core.specs.Machine.{Machine}
 use Rattle.g1_core.specs.Adoption.{table_with, adopted_machine}
-use Rattle.g1_race.specs.declared.view.Shape.{Shape}
-use Rattle.g1_race.specs.Begin.{Start}
-use Rattle.g1_race.specs.Race.{IsBegun, front, pairs_up_to, start, shape_of}
+use Rattle.g1_race_words.specs.declared.view.Shape.{Shape}
+use Rattle.g1_race_words.specs.Begin.{Start}
+use Rattle.g1_race_words.specs.Rule.{IsBegun, front, pairs_up_to, start}
+use Rattle.g1_race.specs.Race.{shape_of}
 
 -- the words of the slots and of the marks, and the recorded pairs
 pub record Ended : Type 0 where

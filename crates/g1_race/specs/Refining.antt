@@ -3,8 +3,9 @@ use Rattle.std.specs.Prelude.{◌≡◌, ◌≢◌, ◌⊎◌, ℕ, ◌+◌, ◌
 use mathlib.Core.Option.{some}
 use lib.ListN.{get_elem?}
 use Rattle.g1_core.specs.Table.{Table, Holds, IsPending, IsCovered, AreMembers}
-use Rattle.g1_race.specs.declared.view.Shape.{Shape}
-use Rattle.g1_race.specs.Race.{In, IsPair, HasBit, BeganInto, mark_word, pair_at}
+use Rattle.g1_race_words.specs.declared.view.Shape.{Shape}
+use Rattle.g1_race_words.specs.Rule.{In, IsPair, HasBit, BeganInto, mark_word}
+use Rattle.g1_race_words.specs.Steps.{pair_at}
 
 -- the pairs of the first i slots of card c
 abbrev pub card_pairs : Shape → List ℕ → ℕ → ℕ → List (ℕ × ℕ)

@@ -1,8 +1,8 @@
 -- Cards that are told apart by a test: the dirty ones, and those of a region's remembered set.
 use Rattle.std.specs.Prelude.{◌≡◌, ℕ, ◌+◌, ◌*◌, not, length, ◌<◌, ◌≤◌, ◌==◌, List, [], ◌∷◌, ◌++◌, zero, suc, Bool, true, false, Option, Some, None, if◌then◌else◌, slice_index}
 use Rattle.std.specs.Int.{bit_at}
-use Rattle.g1_race.specs.declared.view.Shape.{Shape}
-use Rattle.g1_race.specs.Race.{bit_place, bit_word, mark_word}
+use Rattle.g1_race_words.specs.declared.view.Shape.{Shape}
+use Rattle.g1_race_words.specs.Rule.{bit_place, bit_word, mark_word}
 
 -- those of the first n cards of which the test is true, ascending
 abbrev pub cards_where : (ℕ → Bool) → ℕ → List ℕ

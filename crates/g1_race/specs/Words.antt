@@ -2,10 +2,10 @@
 use Rattle.std.specs.Prelude.{◌≡◌, ◌⊎◌, ℕ, ◌<◌, ◌≤◌, List, true, Some}
 use mathlib.Core.Option.{some}
 use lib.ListN.{get_elem?}
-use Rattle.g1_race.specs.declared.view.Shape.{Shape}
-use Rattle.g1_race.specs.declared.view.View.{View}
-use Rattle.g1_race.specs.Begin.{Begun}
-use Rattle.g1_race.specs.Race.{In, Held, held_of, card_of, region_at, crosses, IsMarked, IsPair, HasBit, StoredInto, BeganInto, Raced}
+use Rattle.g1_race_words.specs.declared.view.Shape.{Shape}
+use Rattle.g1_race_words.specs.declared.view.View.{View}
+use Rattle.g1_race_words.specs.Begin.{Begun}
+use Rattle.g1_race_words.specs.Rule.{In, Held, held_of, card_of, region_at, crosses, IsMarked, IsPair, HasBit, StoredInto, BeganInto, Raced}
 
 -- the seat owes the card of slot p, still has the slot to read, or holds the pair of the slot and
 -- its word n

@@ -4,20 +4,21 @@ ghost use Rattle.std.specs.FinSet as set;
 ghost use mathlib.Core.Option.{some};
 ghost use lib.ListN.{get_elem?};
 ghost use Rattle.g1_core.specs.Adoption.{IsPairOf};
-ghost use Rattle.g1_race.specs.Race.{In, IsPair, IsOfCrossing, mark_word, null_of, shape_of};
+ghost use Rattle.g1_race_words.specs.Rule.{In, IsPair, IsOfCrossing, mark_word, null_of};
+ghost use Rattle.g1_race.specs.Race.{shape_of};
 ghost use Rattle.g1_race.specs.Over.{halted, start_at};
 ghost use Rattle.g1_race.specs.Refining.{Notes};
 ghost use Rattle.g1_race.specs.Resumed.{AreCovered, AreMarked, ArePlaced, IsSame};
-ghost use Rattle.g1_race.specs.Members.{IsPaused};
+ghost use Rattle.g1_race_words.specs.Seats.{IsPaused};
 
 use crate::drain::set_bit;
 use crate::paused::Paused;
 use crate::race::Race;
 use crate::racer::word_of;
-use crate::rule::Place;
 use crate::stopped::put;
 use g1_core::Core;
 use g1_layout::{Card, NoMemory, Region};
+use g1_race_words::Place;
 use std::alloc::Global;
 
 impl Paused {
@@ -69,10 +70,10 @@ impl Paused {
 
 // Sets the bits of these pairs.
 fn place_pairs(race: &Race, seat: &mut Place, pairs: &[(Card, Region)])
-    requires seat { IsPaused race.now.table.shared.table_id race.now.shape seat.old }
+    requires seat { IsPaused race.now.table.table_id race.now.shape seat.old }
     requires pairs { (x : ℕ × ℕ) → In pairs.now x →
         IsPair race.now.shape x × IsOfCrossing race.now.shape x }
-    ensures seat { IsPaused race.now.table.shared.table_id race.now.shape seat.new }
+    ensures seat { IsPaused race.now.table.table_id race.now.shape seat.new }
     ensures notes { Notes race.now.shape seat.old.me.0.began_words seat.new.me.0.began_words
         pairs.now }
 {
@@ -88,11 +89,11 @@ fn place_pairs(race: &Race, seat: &mut Place, pairs: &[(Card, Region)])
 
 // Dirties the cards that are pending in the core.
 fn place_marks(race: &Race, seat: &mut Place, core: &Core)
-    requires seat { IsPaused race.now.table.shared.table_id race.now.shape seat.old }
+    requires seat { IsPaused race.now.table.table_id race.now.shape seat.old }
     requires layout { race.now.layout ≡ core.now.state.table.layout }
     requires clean { (c : ℕ) → c < race.now.shape.cards →
         get_elem? seat.old.me.0.began_words (mark_word race.now.shape c) ≡ some 0 }
-    ensures seat { IsPaused race.now.table.shared.table_id race.now.shape seat.new }
+    ensures seat { IsPaused race.now.table.table_id race.now.shape seat.new }
     ensures marks { AreMarked race.now.shape core.now.state.table seat.old.me.0.began_words
         seat.new.me.0.began_words race.now.shape.cards }
 {
@@ -108,12 +109,12 @@ fn place_marks(race: &Race, seat: &mut Place, core: &Core)
 
 // Writes the core's references.
 fn place_slots(race: &Race, seat: &mut Place, core: &mut Core)
-    requires seat { IsPaused race.now.table.shared.table_id race.now.shape seat.old }
+    requires seat { IsPaused race.now.table.table_id race.now.shape seat.old }
     requires layout { race.now.layout ≡ core.old.state.table.layout }
     requires null { (p : ℕ) → p < race.now.shape.slots →
         get_elem? seat.old.me.0.began_words p ≡ some 0 }
     requires covered { AreCovered race.now.shape core.old.state.table seat.old.me.0.began_words }
-    ensures seat { IsPaused race.now.table.shared.table_id race.now.shape seat.new }
+    ensures seat { IsPaused race.now.table.table_id race.now.shape seat.new }
     ensures slots { ArePlaced race.now.shape core.old.state.table seat.old.me.0.began_words
         seat.new.me.0.began_words race.now.shape.slots }
     ensures same { IsSame core.old core.new }

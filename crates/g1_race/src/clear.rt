@@ -4,21 +4,20 @@ ghost use mathlib.Core.Option.{some};
 ghost use lib.ListN.{get_elem?};
 ghost use Rattle.g1_core.specs.Run.{IsStep};
 ghost use Rattle.g1_core.specs.Calls.{clear_entry};
-ghost use Rattle.g1_race.specs.Race.{IsShape, crosses, mark_word, region_at};
+ghost use Rattle.g1_race_words.specs.Rule.{IsShape, crosses, mark_word, region_at};
 ghost use Rattle.g1_race.specs.Over.{halted};
 ghost use Rattle.g1_race.specs.Clearing.{Into, IsLeastInto, IsLeastOn, IsEmptied};
 ghost use Rattle.g1_race.specs.Evacuating.{IsSameRace};
-ghost use Rattle.g1_race.specs.Members.{IsPaused};
+ghost use Rattle.g1_race_words.specs.Seats.{IsPaused};
 
 use crate::bits::bit_of;
 use crate::next::{count_marked, next_member};
 use crate::paused::Paused;
 use crate::race::Race;
-use crate::rule::Place;
 use crate::stopped::{put, see};
-use crate::view::Shape;
 use g1_core::ClearReply;
 use g1_layout::Region;
+use g1_race_words::{Place, Shape};
 
 impl Paused {
     /// Empties the remembered set of a region, once nothing is dirty and no reference enters the
@@ -52,7 +51,7 @@ impl Paused {
 // The least slot outside the region that refers into it: on a card of the region's set, since no
 // card is dirty.
 fn entering(race: &Race, seat: &mut Place, region: usize) -> Option<usize>
-    requires seat { IsPaused race.now.table.shared.table_id race.now.shape seat.old }
+    requires seat { IsPaused race.now.table.table_id race.now.shape seat.old }
     requires region { region < race.now.shape.regions }
     requires clean { (c : ℕ) → c < race.now.shape.cards → get_elem? seat.old.me.0.began_words (mark_word race.now.shape c) ≡ some 1 → ⊥ }
     ensures least { IsLeastInto race.now.shape seat.old.me.0.began_words region result }
@@ -70,7 +69,7 @@ fn entering(race: &Race, seat: &mut Place, region: usize) -> Option<usize>
 
 // The least slot of the card that lies outside the region and refers into it.
 fn entering_on(race: &Race, seat: &mut Place, card: usize, region: usize) -> Option<usize>
-    requires seat { IsPaused race.now.table.shared.table_id race.now.shape seat.old }
+    requires seat { IsPaused race.now.table.table_id race.now.shape seat.old }
     requires card { card < race.now.shape.cards }
     ensures least { IsLeastOn race.now.shape seat.old.me.0.began_words card region result }
     ensures seat { (seat.new.table_id ≡ seat.old.table_id) × (seat.new.me ≡ seat.old.me) }
@@ -103,10 +102,10 @@ pub(crate) fn enters(shape: Shape, slot: usize, word: u64, region: usize) -> boo
 
 // Clears the bits of all pairs of the region.
 pub(crate) fn empty_row(race: &Race, seat: &mut Place, region: usize)
-    requires seat { IsPaused race.now.table.shared.table_id race.now.shape seat.old }
+    requires seat { IsPaused race.now.table.table_id race.now.shape seat.old }
     requires region { region < race.now.shape.regions }
     requires none { (p : ℕ) → Into race.now.shape seat.old.me.0.began_words region p → ⊥ }
-    ensures seat { IsPaused race.now.table.shared.table_id race.now.shape seat.new }
+    ensures seat { IsPaused race.now.table.table_id race.now.shape seat.new }
     ensures emptied { IsEmptied race.now.shape seat.old.me.0.began_words seat.new.me.0.began_words region race.now.shape.row }
 {
     let shape = race.shape;

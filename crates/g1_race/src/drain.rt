@@ -3,11 +3,12 @@ ghost use Rattle.std.specs.Prelude.{◌≡◌, ℕ, ◌+◌, ◌*◌, ◌<◌, �
 ghost use Rattle.g1_layout.specs.Shape.{slot_count};
 ghost use Rattle.g1_core.specs.Run.{IsStep};
 ghost use Rattle.g1_core.specs.Calls.{drain_cards, drain_entry};
-ghost use Rattle.g1_race.specs.Race.{IsPair, IsOfCrossing, pair_at};
+ghost use Rattle.g1_race_words.specs.Rule.{IsPair, IsOfCrossing};
+ghost use Rattle.g1_race_words.specs.Steps.{pair_at};
 ghost use Rattle.g1_race.specs.Over.{halted};
 ghost use Rattle.g1_race.specs.Refining.{Notes, IsRefined, AreRefined};
 ghost use Rattle.g1_race.specs.Evacuating.{IsRefinedRace, AreAllRefined, IsDrainedInto, IsWhole, IsExactAtPause};
-ghost use Rattle.g1_race.specs.Members.{IsPaused};
+ghost use Rattle.g1_race_words.specs.Seats.{IsPaused};
 
 use crate::bits::bit_of;
 use crate::next::{
@@ -15,11 +16,11 @@ use crate::next::{
 };
 use crate::paused::Paused;
 use crate::race::Race;
-use crate::rule::Place;
 use crate::stopped::{put, see};
 use arrayvec::ArrayVec;
 use g1_core::{CardList, Drained};
 use g1_layout::{Card, NoMemory, Region};
+use g1_race_words::Place;
 use std::alloc::Global;
 
 impl Paused {
@@ -89,8 +90,8 @@ pub(crate) fn clear_logs(logs: &mut Vec<ArrayVec<Card, 256>>)
 
 // Refines the dirty cards.
 pub(crate) fn refine_cards(race: &Race, seat: &mut Place)
-    requires seat { IsPaused race.now.table.shared.table_id race.now.shape seat.old }
-    ensures seat { IsPaused race.now.table.shared.table_id race.now.shape seat.new }
+    requires seat { IsPaused race.now.table.table_id race.now.shape seat.old }
+    ensures seat { IsPaused race.now.table.table_id race.now.shape seat.new }
     ensures refined { AreRefined race.now.shape seat.old.me.0.began_words seat.new.me.0.began_words race.now.shape.cards }
 {
     let mut from = 0;
@@ -102,9 +103,9 @@ pub(crate) fn refine_cards(race: &Race, seat: &mut Place)
 
 // Records the pairs of the card's references, and cleans it.
 fn refine_card(race: &Race, seat: &mut Place, card: usize)
-    requires seat { IsPaused race.now.table.shared.table_id race.now.shape seat.old }
+    requires seat { IsPaused race.now.table.table_id race.now.shape seat.old }
     requires card { card < race.now.shape.cards }
-    ensures seat { IsPaused race.now.table.shared.table_id race.now.shape seat.new }
+    ensures seat { IsPaused race.now.table.table_id race.now.shape seat.new }
     ensures refined { IsRefined race.now.shape seat.old.me.0.began_words seat.new.me.0.began_words card }
 {
     let shape = race.shape;
@@ -120,8 +121,8 @@ fn refine_card(race: &Race, seat: &mut Place, card: usize)
 fn note_slot(race: &Race, seat: &mut Place, slot: u32, word: u32)
     requires slot { slot < slot_count race.now.layout }
     requires word { word ≤ slot_count race.now.layout }
-    requires seat { IsPaused race.now.table.shared.table_id race.now.shape seat.old }
-    ensures seat { IsPaused race.now.table.shared.table_id race.now.shape seat.new }
+    requires seat { IsPaused race.now.table.table_id race.now.shape seat.old }
+    ensures seat { IsPaused race.now.table.table_id race.now.shape seat.new }
     ensures notes { Notes race.now.shape seat.old.me.0.began_words seat.new.me.0.began_words (pair_at race.now.shape slot word) }
 {
     if word == 0 {
@@ -145,10 +146,10 @@ fn note_slot(race: &Race, seat: &mut Place, slot: u32, word: u32)
 
 // Sees that the bit of the pair is set.
 pub(crate) fn set_bit(race: &Race, seat: &mut Place, card: usize, region: usize)
-    requires seat { IsPaused race.now.table.shared.table_id race.now.shape seat.old }
+    requires seat { IsPaused race.now.table.table_id race.now.shape seat.old }
     requires pair { IsPair race.now.shape (card, region) }
     requires proper { IsOfCrossing race.now.shape (card, region) }
-    ensures seat { IsPaused race.now.table.shared.table_id race.now.shape seat.new }
+    ensures seat { IsPaused race.now.table.table_id race.now.shape seat.new }
     ensures notes { Notes race.now.shape seat.old.me.0.began_words seat.new.me.0.began_words ((card, region) ∷ []) }
 {
     let (at, place) = bit_of(race.shape, card, region);

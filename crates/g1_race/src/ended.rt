@@ -8,8 +8,8 @@ ghost use Rattle.g1_layout.specs.Shape.{slot_count, card_count};
 ghost use Rattle.g1_race.specs.Over.{refs_of, marks_of, table_of};
 
 use crate::pairs::has_bit;
-use crate::view::Shape;
 use g1_layout::{Card, Layout, Region, Slot};
+use g1_race_words::Shape;
 use std::alloc::Global;
 use std::marker::Model;
 

@@ -4,19 +4,19 @@ ghost use mathlib.Core.Option.{some};
 ghost use lib.ListN.{get_elem?};
 ghost use Rattle.g1_layout.specs.Shape.{region_of};
 ghost use Rattle.g1_core.specs.Table.{Crosses};
-ghost use Rattle.g1_race.specs.Race.{IsPair, card_of, crosses, region_at};
+ghost use Rattle.g1_race_words.specs.Rule.{IsPair, card_of, crosses, region_at};
 ghost use Rattle.g1_race.specs.Over.{halted};
 ghost use Rattle.g1_race.specs.Clearing.{AreUnset};
 ghost use Rattle.g1_race.specs.Evacuating.{IsSameRace, forgotten};
-ghost use Rattle.g1_race.specs.Members.{IsPaused};
+ghost use Rattle.g1_race_words.specs.Seats.{IsPaused};
 
 use crate::bits::bit_of;
 use crate::next::next_member;
 use crate::paused::Paused;
 use crate::race::Race;
-use crate::rule::Place;
 use crate::stopped::{put, see};
 use g1_layout::Region;
+use g1_race_words::Place;
 
 impl Paused {
     /// Removes the region's cards from the remembered sets of all regions. No slot of the region
@@ -36,10 +36,10 @@ impl Paused {
 
 // Clears the bits of the cards from one on, up to another, in the row of each region.
 fn forget_cards(race: &Race, seat: &mut Place, first: usize, end: usize)
-    requires seat { IsPaused race.now.table.shared.table_id race.now.shape seat.old }
+    requires seat { IsPaused race.now.table.table_id race.now.shape seat.old }
     requires within { (first ≤ end) × (end ≤ race.now.shape.cards) }
     requires closed { (p n : ℕ) → p < race.now.shape.slots → get_elem? seat.old.me.0.began_words p ≡ some n → crosses race.now.shape p n ≡ true → first ≤ card_of race.now.shape p → card_of race.now.shape p < end → ⊥ }
-    ensures seat { IsPaused race.now.table.shared.table_id race.now.shape seat.new }
+    ensures seat { IsPaused race.now.table.table_id race.now.shape seat.new }
     ensures unset { AreUnset race.now.shape seat.old.me.0.began_words seat.new.me.0.began_words (λ x. (first ≤ x.0) × (x.0 < end)) }
 {
     for region in 0..race.shape.regions {
@@ -49,11 +49,11 @@ fn forget_cards(race: &Race, seat: &mut Place, first: usize, end: usize)
 
 // Clears the bits of these cards in the row of a region.
 fn forget_row(race: &Race, seat: &mut Place, first: usize, end: usize, region: usize)
-    requires seat { IsPaused race.now.table.shared.table_id race.now.shape seat.old }
+    requires seat { IsPaused race.now.table.table_id race.now.shape seat.old }
     requires within { (first ≤ end) × (end ≤ race.now.shape.cards) }
     requires region { region < race.now.shape.regions }
     requires closed { (p n : ℕ) → p < race.now.shape.slots → get_elem? seat.old.me.0.began_words p ≡ some n → crosses race.now.shape p n ≡ true → first ≤ card_of race.now.shape p → card_of race.now.shape p < end → ⊥ }
-    ensures seat { IsPaused race.now.table.shared.table_id race.now.shape seat.new }
+    ensures seat { IsPaused race.now.table.table_id race.now.shape seat.new }
     ensures unset { AreUnset race.now.shape seat.old.me.0.began_words seat.new.me.0.began_words (λ x. (x.1 ≡ region) × (first ≤ x.0) × (x.0 < end)) }
 {
     let mut from = first;
@@ -68,10 +68,10 @@ fn forget_row(race: &Race, seat: &mut Place, first: usize, end: usize, region: u
 
 // Clears the bit of a pair.
 fn clear_bit(race: &Race, seat: &mut Place, card: usize, region: usize)
-    requires seat { IsPaused race.now.table.shared.table_id race.now.shape seat.old }
+    requires seat { IsPaused race.now.table.table_id race.now.shape seat.old }
     requires pair { IsPair race.now.shape (card, region) }
     requires closed { (p n : ℕ) → p < race.now.shape.slots → get_elem? seat.old.me.0.began_words p ≡ some n → crosses race.now.shape p n ≡ true → card ≡ card_of race.now.shape p → region ≡ region_at race.now.shape n → ⊥ }
-    ensures seat { IsPaused race.now.table.shared.table_id race.now.shape seat.new }
+    ensures seat { IsPaused race.now.table.table_id race.now.shape seat.new }
     ensures unset { AreUnset race.now.shape seat.old.me.0.began_words seat.new.me.0.began_words (λ x. x ≡ (card, region)) }
 {
     let (at, place) = bit_of(race.shape, card, region);

@@ -21,8 +21,9 @@
 //! A race that ends ([`Race::close`], [`Paused::close`]) leaves a [`Closed`], which a core can be
 //! made of.
 //!
-//! The rule that every step keeps stands in `specs/Race.antt`. [`laws`] says what follows from it:
-//! among other things that a whole drain right after a race misses no card.
+//! The words, the rule that every step on them keeps and the steps themselves stand in
+//! `g1_race_words`. [`laws`] says what follows from the rule: among other things that a whole drain
+//! right after a race misses no card.
 #![tactic(auto)]
 
 mod begin;
@@ -45,14 +46,11 @@ mod race;
 mod racer;
 mod redirect;
 mod resume;
-mod rule;
 mod stopped;
 mod sweeper;
-mod view;
 mod wipe;
 
 pub use ended::Closed;
+pub use g1_race_words::{Shape, View};
 pub use paused::Paused;
 pub use race::{Race, Racer, Sweeper};
-pub use rule::{Place, RaceRule, RaceTable};
-pub use view::{Shape, View};

@@ -1,16 +1,16 @@
 //! How a heap begins: at a pause.
 ghost use Rattle.std.specs.Prelude.{◌≡◌, ◌+◌, ◌≤◌, [], IfOk, replicate, map, vec_len, vec_capacity};
 ghost use Rattle.g1_core.specs.Table.{opening};
-ghost use Rattle.g1_race.specs.Race.{IsShape, null_of, shape_of};
+ghost use Rattle.g1_race_words.specs.Rule.{IsShape, null_of};
+ghost use Rattle.g1_race.specs.Race.{shape_of};
 ghost use Rattle.g1_race.specs.Over.{halted, start_at};
 ghost use Rattle.g1_race.specs.Members.{race_layout, race_shape, AreFreshRacers, AreFreshSweepers, HaveBegun, HaveBegunWith};
 
 use crate::paused::Paused;
 use crate::race::{Race, Racer, Sweeper};
-use crate::view::Shape;
 use arrayvec::ArrayVec;
-use atomic_table::Table;
 use g1_layout::{Card, Layout, NoMemory};
+use g1_race_words::{RaceTable, Shape};
 use std::alloc::Global;
 
 impl Paused {
@@ -36,12 +36,11 @@ impl Paused {
         ensures sweepers { IfOk result (λ p. p.sweepers ≡ sweepers) }
     {
         let shape = shape_of(layout, racers as usize + sweepers as usize);
-        let zeros = vec![in alloc; 0u64; shape.slots + shape.cards + shape.bits]?;
+        let (table, seat) = RaceTable::open(alloc, shape)?;
         let logs = empty_logs(alloc, racers as usize, shape.members)?;
         let racers = Vec::with_capacity(alloc, racers as usize)?;
         let count = sweepers as usize;
         let sweepers = Vec::with_capacity(alloc, count)?;
-        let (table, seat) = Table::of_words(alloc, &zeros, &shape)?;
         let race = Race {
             table,
             layout,

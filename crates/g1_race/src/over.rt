@@ -16,10 +16,11 @@ impl Race {
     ///
     /// Each slot refers to what some racer stored to it last, or to what it referred to when the
     /// race began and nobody has stored to it. A dirty card was claimed by some racer or began
-    /// dirty; a card that is clean and either of these was cleaned by some sweeper. A pair that a
-    /// sweeper recorded is of a reference that was stored or was there from the beginning, and its
-    /// card lies outside its region. A slot that refers into another region has its card dirty or
-    /// its pair recorded.
+    /// dirty; a card that is clean and either of these was cleaned by some sweeper. A card's
+    /// claims, and one more where it began dirty, are as many as its cleanings, and one more where
+    /// it is dirty. A pair that a sweeper recorded is of a reference that was stored or was there
+    /// from the beginning, and its card lies outside its region. A slot that refers into another
+    /// region has its card dirty or its pair recorded.
     ///
     /// It is a pause ([`Race::pause`]) and then [`Paused::close`]. Takes no memory. Logs that were
     /// not taken are dropped; the marks stay.
@@ -63,7 +64,7 @@ impl Paused {
             logs: _,
         } = race;
         Closed {
-            words: table.close_with(seat),
+            words: table.close(seat),
             layout,
             shape,
         }

@@ -2,14 +2,15 @@
 ghost use Rattle.std.specs.Prelude.{◌≡◌, ◌≢◌, ◌==◌, ◌+◌, ◌*◌, ◌/◌, ◌%◌, ◌<◌, ◌≤◌, ◌++◌, IfOk, OnOk, length, slice_index};
 ghost use Rattle.std.specs.Int.{bit_at};
 ghost use Rattle.std.specs.Slots.{slots_items, slots_len, IsFull};
-ghost use Rattle.g1_race.specs.Race.{IsShape, IsPair, bit_word, bit_place, pairs_of_card, pairs_up_to, shape_of};
+ghost use Rattle.g1_race_words.specs.Rule.{IsShape, IsPair, bit_word, bit_place, pairs_of_card, pairs_up_to};
+ghost use Rattle.g1_race.specs.Race.{shape_of};
 ghost use Rattle.g1_race.specs.Telling.{block_regions};
 
 use crate::bits::bit_of;
-use crate::view::Shape;
 use arrayvec::ArrayVec;
 use atomic_table::Closed;
 use g1_layout::{Card, Layout, NoMemory, Region};
+use g1_race_words::Shape;
 use std::alloc::Global;
 
 // Whether the pair's bit is set.

@@ -8,9 +8,9 @@ ghost use Rattle.g1_race.specs.Members.{race_id, race_layout, race_shape, race_b
 
 use crate::paused::Paused;
 use crate::race::{Race, Racer, Sweeper};
-use crate::rule::{Comes, Freezes, Gathers, Place, RaceTable};
 use arrayvec::ArrayVec;
 use g1_layout::Card;
+use g1_race_words::{Place, RaceTable};
 
 impl Race {
     /// Pauses the race in place: all its racers and sweepers are handed in, which is a condition,
@@ -18,11 +18,12 @@ impl Race {
     ///
     /// Each slot refers to what some racer stored to it last, or to what it referred to when the
     /// race began and nobody has stored to it. A dirty card was claimed by some racer or began
-    /// dirty; a card that is clean and either of these was cleaned by some sweeper. A pair that a
-    /// sweeper recorded is of a reference that was stored or was there from the beginning, and its
-    /// card lies outside its region. A slot that refers into another region has its card dirty or
-    /// its pair recorded. The race began at its last resume, with what its racers and sweepers
-    /// know.
+    /// dirty; a card that is clean and either of these was cleaned by some sweeper. A card's
+    /// claims, and one more where it began dirty, are as many as its cleanings, and one more where
+    /// it is dirty. A pair that a sweeper recorded is of a reference that was stored or was there
+    /// from the beginning, and its card lies outside its region. A slot that refers into another
+    /// region has its card dirty or its pair recorded. The race began at its last resume, with what
+    /// its racers and sweepers know.
     ///
     /// Takes no memory, copies no word, and makes no step but those that join the seats and one.
     /// The logs are kept for the racers.
@@ -52,11 +53,11 @@ impl Race {
             mut logs,
         } = self;
         let count = sweepers.len();
-        let (_, mut seat) = table.shared.load_new_seat::<Comes>(0);
+        let mut seat = table.enter();
         logs.clear();
         join_racers(&table, &mut seat, &mut logs, &mut racers);
         join_sweepers(&table, &mut seat, &mut sweepers);
-        table.shared.load::<Freezes>(&mut seat, 0);
+        table.freeze(&mut seat);
         let race = Race {
             table,
             layout,
@@ -80,20 +81,19 @@ fn join_racers(
     logs: &mut Vec<ArrayVec<Card, 256>>,
     racers: &mut Vec<Racer>,
 )
-    requires seat { registrar.old.table_id ≡ table.now.shared.table_id }
-    requires words { 0 < table.now.shared.table_id.words }
-    requires racers { All (RacerOf table.now.shared.table_id table.now.shared.key) racers.old.items }
+    requires seat { registrar.old.table_id ≡ table.now.table_id }
+    requires racers { All (RacerOf table.now.table_id table.now.shape) racers.old.items }
     requires room { vec_len logs.old + vec_len racers.old ≤ vec_capacity logs.old }
     ensures logs { map (λ l. l.items) logs.new.items ≡ map (λ l. l.items) logs.old.items ++ reverse (map racer_log racers.old.items) }
     ensures len { vec_len logs.new ≡ vec_len logs.old + vec_len racers.old }
     ensures capacity { vec_capacity logs.old ≤ vec_capacity logs.new }
-    ensures seat { (registrar.new.table_id ≡ registrar.old.table_id) × (registrar.new.id ≡ registrar.old.id) }
+    ensures seat { registrar.new.table_id ≡ registrar.old.table_id }
     ensures view { registrar.new.me ≡ (collected (map racer_view racers.old.items) registrar.old.me.0, registrar.old.me.1) }
     ensures empty { (racers.new.items ≡ []) × (vec_capacity racers.new ≡ vec_capacity racers.old) }
 {
     while let Some(racer) = racers.pop() {
         let Racer { seat, log } = racer;
-        table.shared.join_seat::<Gathers>(registrar, seat);
+        table.join(registrar, seat);
         let Ok(()) = logs.push(log) else {
             unreachable!()
         };
@@ -102,15 +102,14 @@ fn join_racers(
 
 // Joins the sweepers' seats to the registrar's.
 fn join_sweepers(table: &RaceTable, registrar: &mut Place, sweepers: &mut Vec<Sweeper>)
-    requires seat { registrar.old.table_id ≡ table.now.shared.table_id }
-    requires words { 0 < table.now.shared.table_id.words }
-    requires sweepers { All (SweeperOf table.now.shared.table_id table.now.shared.key) sweepers.old.items }
-    ensures seat { (registrar.new.table_id ≡ registrar.old.table_id) × (registrar.new.id ≡ registrar.old.id) }
+    requires seat { registrar.old.table_id ≡ table.now.table_id }
+    requires sweepers { All (SweeperOf table.now.table_id table.now.shape) sweepers.old.items }
+    ensures seat { registrar.new.table_id ≡ registrar.old.table_id }
     ensures view { registrar.new.me ≡ (collected (map sweeper_view sweepers.old.items) registrar.old.me.0, registrar.old.me.1) }
     ensures empty { (sweepers.new.items ≡ []) × (vec_capacity sweepers.new ≡ vec_capacity sweepers.old) }
 {
     while let Some(sweeper) = sweepers.pop() {
         let Sweeper { seat } = sweeper;
-        table.shared.join_seat::<Gathers>(registrar, seat);
+        table.join(registrar, seat);
     }
 }

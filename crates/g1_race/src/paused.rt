@@ -2,7 +2,7 @@
 ghost use Rattle.std.specs.Prelude.{◌≡◌, ◌+◌, ◌<◌};
 
 use crate::race::{Race, Racer, Sweeper};
-use crate::rule::Place;
+use g1_race_words::Place;
 use std::marker::Model;
 
 /// A race at a pause, with no thread at it.
@@ -24,11 +24,11 @@ pub struct Paused {
 impl Model for Paused {
     ghost use Rattle.std.specs.Prelude.{◌≡◌, ◌+◌, ◌≤◌, [], map, reverse, vec_len, vec_capacity};
     ghost use Rattle.g1_race.specs.Over.{Halt};
-    ghost use Rattle.g1_race.specs.Members.{IsPaused};
+    ghost use Rattle.g1_race_words.specs.Seats.{IsPaused};
 
     ghost Value = { Halt };
 
     ghost view = { λ a. record { layout = a.race.layout; shape = a.race.shape; words = a.seat.me.0.began_words; logs = reverse (map (λ l. l.items) a.race.logs.items); sweepers = a.count } };
 
-    ghost invariant = { λ a. IsPaused a.race.table.shared.table_id a.race.shape a.seat × (vec_len a.race.logs + a.count ≡ a.race.shape.members) × (vec_len a.racers ≡ 0) × (vec_len a.sweepers ≡ 0) × (vec_len a.race.logs ≤ vec_capacity a.racers) × (a.count ≤ vec_capacity a.sweepers) };
+    ghost invariant = { λ a. IsPaused a.race.table.table_id a.race.shape a.seat × (vec_len a.race.logs + a.count ≡ a.race.shape.members) × (vec_len a.racers ≡ 0) × (vec_len a.sweepers ≡ 0) × (vec_len a.race.logs ≤ vec_capacity a.racers) × (a.count ≤ vec_capacity a.sweepers) };
 }

@@ -3,12 +3,12 @@
 //! A racer or a sweeper has a seat at the table of words: a token of no bytes at run time, which
 //! carries what its thread knows in the proofs alone ([`View`](crate::View)).
 ghost use Rattle.std.specs.Prelude.{◌≡◌, ◌+◌, ◌<◌, ◌≤◌, [], vec_capacity};
-ghost use Rattle.g1_race.specs.Race.{IsShape, shape_of, IsRacing, IsSweeping};
+ghost use Rattle.g1_race_words.specs.Rule.{IsShape};
+ghost use Rattle.g1_race.specs.Race.{shape_of, IsRacing, IsSweeping};
 
-use crate::rule::{Place, RaceTable};
-use crate::view::Shape;
 use arrayvec::ArrayVec;
 use g1_layout::{Card, Layout};
+use g1_race_words::{Place, RaceTable, Shape};
 
 /// A race over the slots and cards of one heap. Racers and sweepers in any number of threads share
 /// it by `&`.
@@ -24,9 +24,7 @@ pub struct Race {
     // Room for the log of each racer, for a pause.
     pub(crate) logs: Vec<ArrayVec<Card, 256>>,
     ghost laid: { shape ≡ shape_of layout shape.members },
-    ghost key_is: { table.shared.key ≡ shape },
-    ghost words_are: { table.shared.table_id.words ≡ shape.slots + shape.cards + shape.bits },
-    ghost no_slots: { table.shared.table_id.slots ≡ 0 },
+    ghost key_is: { table.shape ≡ shape },
     ghost shaped: { IsShape shape },
     ghost some: { 0 < shape.members },
     ghost room: { shape.members ≤ vec_capacity logs },
@@ -41,7 +39,6 @@ pub struct Race {
 pub struct Racer {
     pub(crate) seat: Place,
     pub(crate) log: ArrayVec<Card, 256>,
-    ghost hands: { seat.me.1 ≡ [] },
     ghost racing: { IsRacing seat.me.0 },
 }
 
@@ -52,6 +49,5 @@ pub struct Racer {
 #[derive(Drop)]
 pub struct Sweeper {
     pub(crate) seat: Place,
-    ghost hands: { seat.me.1 ≡ [] },
     ghost sweeping: { IsSweeping seat.me.0 },
 }

@@ -5,21 +5,21 @@ ghost use mathlib.Core.Option.{some};
 ghost use lib.ListN.{get_elem?};
 ghost use Rattle.g1_core.specs.Run.{IsStep};
 ghost use Rattle.g1_core.specs.Calls.{redirect_entry};
-ghost use Rattle.g1_race.specs.Race.{crosses, mark_word, region_at};
+ghost use Rattle.g1_race_words.specs.Rule.{crosses, mark_word, region_at};
 ghost use Rattle.g1_race.specs.Over.{halted};
 ghost use Rattle.g1_race.specs.Moving.{AreMoved, AreMovedAway, HasMoved, IsRedirected, into_count};
 ghost use Rattle.g1_race.specs.Evacuating.{IsRefinedRace};
-ghost use Rattle.g1_race.specs.Members.{IsPaused};
+ghost use Rattle.g1_race_words.specs.Seats.{IsPaused};
 
 use crate::clear::{empty_row, enters};
 use crate::drain::{clear_logs, refine_cards, set_bit};
 use crate::next::{count_marked, list_marked, next_member};
 use crate::paused::Paused;
 use crate::race::Race;
-use crate::rule::Place;
 use crate::stopped::{put, see};
 use g1_core::{CardList, Redirected};
 use g1_layout::{NoMemory, Region};
+use g1_race_words::Place;
 use std::alloc::Global;
 
 impl Paused {
@@ -79,13 +79,13 @@ impl Paused {
 // Moves the references into the region, empties its row of bits, and says how many slots have
 // changed. No card is dirty.
 fn move_references(race: &Race, seat: &mut Place, from: usize, to: usize) -> u32
-    requires seat { IsPaused race.now.table.shared.table_id race.now.shape seat.old }
+    requires seat { IsPaused race.now.table.table_id race.now.shape seat.old }
     requires from { from < race.now.shape.regions }
     requires to { to < race.now.shape.regions }
     requires apart { from ≢ to }
     requires clean { (c : ℕ) → c < race.now.shape.cards →
         get_elem? seat.old.me.0.began_words (mark_word race.now.shape c) ≡ some 1 → ⊥ }
-    ensures seat { IsPaused race.now.table.shared.table_id race.now.shape seat.new }
+    ensures seat { IsPaused race.now.table.table_id race.now.shape seat.new }
     ensures moved { AreMovedAway race.now.shape seat.old.me.0.began_words
         seat.new.me.0.began_words from to }
     ensures count { let words = seat.old.me.0.began_words in
@@ -103,11 +103,11 @@ fn move_references(race: &Race, seat: &mut Place, from: usize, to: usize) -> u32
 
 // Moves the references into the region of a card's slots, and says how many have changed.
 fn move_on(race: &Race, seat: &mut Place, card: usize, from: usize, to: usize) -> usize
-    requires seat { IsPaused race.now.table.shared.table_id race.now.shape seat.old }
+    requires seat { IsPaused race.now.table.table_id race.now.shape seat.old }
     requires card { card < race.now.shape.cards }
     requires to { to < race.now.shape.regions }
     requires apart { from ≢ to }
-    ensures seat { IsPaused race.now.table.shared.table_id race.now.shape seat.new }
+    ensures seat { IsPaused race.now.table.table_id race.now.shape seat.new }
     ensures moved { AreMoved race.now.shape seat.old.me.0.began_words seat.new.me.0.began_words
         from to (card * race.now.shape.size) race.now.shape.size }
     ensures count { result ≡ into_count race.now.shape seat.old.me.0.began_words from
@@ -129,12 +129,12 @@ fn move_on(race: &Race, seat: &mut Place, card: usize, from: usize, to: usize) -
 
 // Moves the reference of a slot, which has this word, to the region.
 fn move_slot(race: &Race, seat: &mut Place, slot: usize, word: u64, to: usize)
-    requires seat { IsPaused race.now.table.shared.table_id race.now.shape seat.old }
+    requires seat { IsPaused race.now.table.table_id race.now.shape seat.old }
     requires slot { slot < race.now.shape.slots }
     requires to { to < race.now.shape.regions }
     requires word { get_elem? seat.old.me.0.began_words slot ≡ some word }
     requires across { crosses race.now.shape slot word ≡ true }
-    ensures seat { IsPaused race.now.table.shared.table_id race.now.shape seat.new }
+    ensures seat { IsPaused race.now.table.table_id race.now.shape seat.new }
     ensures moved { AreMoved race.now.shape seat.old.me.0.began_words seat.new.me.0.began_words
         (region_at race.now.shape word) to slot 1 }
 {

@@ -1,6 +1,8 @@
 //! How a race goes on after a pause, or from a core.
 ghost use Rattle.std.specs.Prelude.{◌≡◌, ◌+◌, ◌-◌, ◌<◌, ◌≤◌, [], All, IfOk, IfErr, length, map, reverse, vec_len, vec_capacity};
-ghost use Rattle.g1_race.specs.Race.{beginning, start_of, chair, shape_of};
+ghost use Rattle.g1_race_words.specs.Rule.{beginning, start_of};
+ghost use Rattle.g1_race_words.specs.Steps.{chair};
+ghost use Rattle.g1_race.specs.Race.{shape_of};
 ghost use Rattle.g1_race.specs.Over.{halted, start_at};
 ghost use Rattle.g1_race.specs.Drain.{began};
 ghost use Rattle.g1_race.specs.Resumed.{IsSame};
@@ -8,10 +10,10 @@ ghost use Rattle.g1_race.specs.Members.{race_id, race_layout, race_shape, racer_
 
 use crate::paused::Paused;
 use crate::race::{Race, Racer, Sweeper};
-use crate::rule::{NewRacer, NewSweeper, Place, RaceTable, Thaws};
 use arrayvec::ArrayVec;
 use g1_core::Core;
 use g1_layout::{Card, NoMemory};
+use g1_race_words::{Place, RaceTable};
 use std::alloc::Global;
 
 impl Paused {
@@ -44,7 +46,7 @@ impl Paused {
             shape,
             mut logs,
         } = race;
-        table.shared.load::<Thaws>(&mut seat, 0);
+        table.thaw(&mut seat);
         seat_racers(&table, &mut seat, &mut logs, &mut racers);
         seat_sweepers(&table, &mut seat, &mut sweepers, count);
         let race = Race {
@@ -121,21 +123,20 @@ fn seat_racers(
     logs: &mut Vec<ArrayVec<Card, 256>>,
     racers: &mut Vec<Racer>,
 )
-    requires seat { registrar.old.table_id ≡ table.now.shared.table_id }
-    requires words { 0 < table.now.shared.table_id.words }
+    requires seat { registrar.old.table_id ≡ table.now.table_id }
     requires view { registrar.old.me ≡ (chair (start_of registrar.old.me.0) registrar.old.me.0.weight, []) }
-    requires shape { registrar.old.me.0.shape ≡ table.now.shared.key }
+    requires shape { registrar.old.me.0.shape ≡ table.now.shape }
     requires weight { vec_len logs.old ≤ registrar.old.me.0.weight }
     requires empty { vec_len racers.old ≡ 0 }
     requires room { vec_len logs.old ≤ vec_capacity racers.old }
     ensures seat { registrar.new.table_id ≡ registrar.old.table_id }
     ensures view { registrar.new.me ≡ (chair (start_of registrar.old.me.0) (registrar.old.me.0.weight - vec_len logs.old), []) }
-    ensures racers { (vec_len racers.new ≡ vec_len logs.old) × All (IsNewRacer table.now.shared.table_id (start_of registrar.old.me.0)) racers.new.items }
+    ensures racers { (vec_len racers.new ≡ vec_len logs.old) × All (IsNewRacer table.now.table_id (start_of registrar.old.me.0)) racers.new.items }
     ensures logs { map racer_log racers.new.items ≡ reverse (map (λ l. l.items) logs.old.items) }
     ensures capacity { vec_capacity logs.new ≡ vec_capacity logs.old }
 {
     while let Some(log) = logs.pop() {
-        let seat = table.shared.split_seat::<NewRacer>(registrar);
+        let seat = table.split_racer(registrar);
         let Ok(()) = racers.push(Racer { seat, log }) else {
             unreachable!()
         };
@@ -149,18 +150,17 @@ fn seat_sweepers(
     sweepers: &mut Vec<Sweeper>,
     count: usize,
 )
-    requires seat { registrar.old.table_id ≡ table.now.shared.table_id }
-    requires words { 0 < table.now.shared.table_id.words }
+    requires seat { registrar.old.table_id ≡ table.now.table_id }
     requires view { registrar.old.me ≡ (chair (start_of registrar.old.me.0) registrar.old.me.0.weight, []) }
-    requires shape { registrar.old.me.0.shape ≡ table.now.shared.key }
+    requires shape { registrar.old.me.0.shape ≡ table.now.shape }
     requires weight { count ≤ registrar.old.me.0.weight }
     requires empty { vec_len sweepers.old ≡ 0 }
     requires room { count ≤ vec_capacity sweepers.old }
     ensures seat { registrar.new.table_id ≡ registrar.old.table_id }
-    ensures sweepers { (vec_len sweepers.new ≡ count) × All (IsNewSweeper table.now.shared.table_id (start_of registrar.old.me.0)) sweepers.new.items }
+    ensures sweepers { (vec_len sweepers.new ≡ count) × All (IsNewSweeper table.now.table_id (start_of registrar.old.me.0)) sweepers.new.items }
 {
     for _i in 0..count {
-        let seat = table.shared.split_seat::<NewSweeper>(registrar);
+        let seat = table.split_sweeper(registrar);
         let Ok(()) = sweepers.push(Sweeper { seat }) else {
             unreachable!()
         };

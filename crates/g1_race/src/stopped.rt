@@ -7,16 +7,17 @@ ghost use Rattle.g1_layout.specs.Shape.{slot_count, card_count};
 ghost use Rattle.g1_core.specs.Table.{target_of};
 ghost use Rattle.g1_core.specs.Run.{IsStep, kind_of, stored};
 ghost use Rattle.g1_core.specs.Calls.{target_entry, pending_entry, store_entry};
-ghost use Rattle.g1_race.specs.Race.{IsBegun, start, crosses, shape_of, word_of};
+ghost use Rattle.g1_race_words.specs.Rule.{IsBegun, start, crosses};
+ghost use Rattle.g1_race.specs.Race.{shape_of, word_of};
 ghost use Rattle.g1_race.specs.Over.{halted};
 ghost use Rattle.g1_race.specs.Evacuating.{IsSameRace, plain_reply};
-ghost use Rattle.g1_race.specs.Members.{IsPaused};
+ghost use Rattle.g1_race_words.specs.Seats.{IsPaused};
 
 use crate::paused::Paused;
 use crate::race::Race;
 use crate::racer::word_of;
-use crate::rule::{Place, Sees, Sets};
 use g1_layout::{Card, Kind, Layout, Slot};
+use g1_race_words::Place;
 
 impl Paused {
     /// What the slot refers to, or None for null. Reads one word.
@@ -80,23 +81,23 @@ impl Paused {
 
 // Reads a word, which is what the seat knows it to be.
 pub(crate) fn see(race: &Race, seat: &mut Place, word: usize) -> u64
-    requires seat { IsPaused race.now.table.shared.table_id race.now.shape seat.old }
+    requires seat { IsPaused race.now.table.table_id race.now.shape seat.old }
     requires word { word < race.now.shape.slots + race.now.shape.cards + race.now.shape.bits }
     ensures word { get_elem? seat.old.me.0.began_words word ≡ some result }
     ensures seat { (seat.new.table_id ≡ seat.old.table_id) × (seat.new.me ≡ seat.old.me) }
 {
-    race.table.shared.load::<Sees>(seat, word)
+    race.table.see(seat, word)
 }
 
 // Writes a word, where the words keep what each beginning has.
 pub(crate) fn put(race: &Race, seat: &mut Place, word: usize, new: u64)
-    requires seat { IsPaused race.now.table.shared.table_id race.now.shape seat.old }
+    requires seat { IsPaused race.now.table.table_id race.now.shape seat.old }
     requires word { word < race.now.shape.slots + race.now.shape.cards + race.now.shape.bits }
     requires begun { IsBegun (start race.now.shape (slice_set seat.old.me.0.began_words word new)) }
-    ensures seat { IsPaused race.now.table.shared.table_id race.now.shape seat.new }
+    ensures seat { IsPaused race.now.table.table_id race.now.shape seat.new }
     ensures words { seat.new.me.0.began_words ≡ slice_set seat.old.me.0.began_words word new }
 {
-    race.table.shared.store::<Sets>(seat, word, new);
+    race.table.put(seat, word, new);
 }
 
 // Whether a reference of the slot to the target crosses regions.

@@ -1,14 +1,15 @@
 //! Refinement that races with stores.
 ghost use Rattle.std.specs.Prelude.{◌≡◌, ℕ, ◌+◌, ◌-◌, ◌*◌, ◌<◌, ◌≤◌, [], ◌∷◌, OnOk, OnErr};
 ghost use Rattle.std.specs.Result.{IsOk};
-ghost use Rattle.g1_race.specs.Race.{IsPair, recorded, start_of};
+ghost use Rattle.g1_race_words.specs.Rule.{IsPair, start_of};
+ghost use Rattle.g1_race_words.specs.Steps.{recorded};
 ghost use Rattle.g1_layout.specs.Shape.{slot_count, card_count};
 ghost use Rattle.g1_race.specs.Members.{race_id, race_layout, sweeper_race, sweeper_start, sweeper_view, Sweeps, Recording, Holding};
 
 use crate::bits::bit_of;
 use crate::race::{Race, Sweeper};
-use crate::rule::{Cleans, Place, Reads, Records, Seeks};
 use g1_layout::{Card, NoMemory};
+use g1_race_words::Place;
 
 impl Sweeper {
     /// Refines a card: swaps its mark to clean, and then reads each of its slots in order and
@@ -35,18 +36,18 @@ impl Sweeper {
 
 // Cleans a card, and then reads its slots.
 fn sweep(race: &Race, seat: &mut Place, card: usize)
-    requires seat { Sweeps race.now.table.shared.table_id race.now.shape seat.old }
+    requires seat { Sweeps race.now.table.table_id race.now.shape seat.old }
     requires card { card < race.now.shape.cards }
-    ensures seat { Sweeps race.now.table.shared.table_id race.now.shape seat.new }
+    ensures seat { Sweeps race.now.table.table_id race.now.shape seat.new }
     ensures start { start_of seat.new.me.0 ≡ start_of seat.old.me.0 }
     ensures swept { seat.new.me.0.swept ≡ card ∷ seat.old.me.0.swept }
 {
     let shape = race.shape;
-    let words = &race.table.shared;
-    words.swap::<Cleans>(seat, shape.slots + card, 0);
+    let words = &race.table;
+    words.clean(seat, shape.slots + card);
     for i in 0..shape.size {
         let slot = card * shape.size + i;
-        let word = words.load::<Reads>(seat, slot);
+        let word = words.read(seat, slot);
         note_slot(race, seat, slot as u32, word as u32);
     }
 }
@@ -55,7 +56,7 @@ fn sweep(race: &Race, seat: &mut Place, card: usize)
 fn note_slot(race: &Race, seat: &mut Place, slot: u32, word: u32)
     requires slot { slot < slot_count race.now.layout }
     requires word { word ≤ slot_count race.now.layout }
-    requires seat { Recording race.now.table.shared.table_id race.now.shape slot word seat.old }
+    requires seat { Recording race.now.table.table_id race.now.shape slot word seat.old }
     ensures table { seat.new.table_id ≡ seat.old.table_id }
     ensures seat { seat.new.me ≡ (recorded seat.old.me.0, seat.old.me.1) }
 {
@@ -81,15 +82,15 @@ fn note_slot(race: &Race, seat: &mut Place, slot: u32, word: u32)
 // Sees that the bit of the pair is set.
 fn record_pair(race: &Race, seat: &mut Place, card: usize, region: usize)
     requires pair { IsPair race.now.shape (card, region) }
-    requires seat { Holding race.now.table.shared.table_id race.now.shape (card, region) seat.old }
+    requires seat { Holding race.now.table.table_id race.now.shape (card, region) seat.old }
     ensures table { seat.new.table_id ≡ seat.old.table_id }
     ensures seat { seat.new.me ≡ (recorded seat.old.me.0, seat.old.me.1) }
 {
-    let words = &race.table.shared;
+    let words = &race.table;
     let (at, place) = bit_of(race.shape, card, region);
-    let found = words.load::<Seeks>(seat, at);
+    let found = words.seek(seat, at);
     if (found >> place) & 1 == 1 {
         return;
     }
-    words.fetch_or::<Records>(seat, at, 1 << place);
+    words.record(seat, at, place);
 }

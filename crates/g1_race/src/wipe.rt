@@ -6,13 +6,13 @@ ghost use Rattle.g1_layout.specs.Shape.{region_of};
 ghost use Rattle.g1_core.specs.Table.{target_of};
 ghost use Rattle.g1_race.specs.Over.{halted, ended, table_of};
 ghost use Rattle.g1_race.specs.Evacuating.{IsSameRace, wiped};
-ghost use Rattle.g1_race.specs.Members.{IsPaused};
+ghost use Rattle.g1_race_words.specs.Seats.{IsPaused};
 
 use crate::paused::Paused;
 use crate::race::Race;
-use crate::rule::Place;
 use crate::stopped::put;
 use g1_layout::Region;
+use g1_race_words::Place;
 
 impl Paused {
     /// Stores null into each slot of the region, ascending. Takes no memory.
@@ -28,9 +28,9 @@ impl Paused {
 
 // Stores null into each slot of the region.
 fn wipe_slots(race: &Race, seat: &mut Place, region: usize)
-    requires seat { IsPaused race.now.table.shared.table_id race.now.shape seat.old }
+    requires seat { IsPaused race.now.table.table_id race.now.shape seat.old }
     requires region { region < race.now.shape.regions }
-    ensures seat { IsPaused race.now.table.shared.table_id race.now.shape seat.new }
+    ensures seat { IsPaused race.now.table.table_id race.now.shape seat.new }
     ensures table { table_of (ended race.now.layout race.now.shape seat.new.me.0.began_words) ≡ wiped region (table_of (ended race.now.layout race.now.shape seat.old.me.0.began_words)) }
     ensures null { (i : ℕ) → i < race.now.shape.span → get_elem? seat.new.me.0.began_words (region * race.now.shape.span + i) ≡ some 0 }
 {

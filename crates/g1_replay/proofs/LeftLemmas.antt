@@ -8,17 +8,18 @@ use Rattle.g1_layout.specs.Shape.{slot_count, card_count}
 use Rattle.g1_core.specs.Table.{Holds, IsCovered, IsRecorded}
 use Rattle.g1_core.specs.Adoption.{IsPairOf}
 use Rattle.g1_core.proofs.SetLemmas.{in_pairs}
-use Rattle.g1_race.specs.declared.view.View.{View}
-use Rattle.g1_race.specs.Begin.{Begun}
-use Rattle.g1_race.specs.Race.{History, Among, AmongStores, BeganInto, In, IsKnown, IsOver, histories_of, last_to, shape_of, word_of}
+use Rattle.g1_race_words.specs.declared.view.View.{View}
+use Rattle.g1_race_words.specs.Begin.{Begun}
+use Rattle.g1_race_words.specs.Rule.{History, BeganInto, In, histories_of, last_to}
+use Rattle.g1_race.specs.Race.{Among, AmongStores, IsKnown, IsOver, shape_of, word_of}
 use Rattle.g1_race.specs.Members.{null_begun}
 use Rattle.g1_race.specs.Over.{Ended, refs_of, table_of, target_of}
-use Rattle.g1_race.proofs.AtBeginning.{at_zeros}
+use Rattle.g1_race_words.proofs.AtBeginning.{at_zeros}
 use Rattle.g1_race.proofs.Draining.{in_shape, known_once, stored_now}
 use Rattle.g1_race.proofs.Ends.{refs_here, target_some}
-use Rattle.g1_race.proofs.PairBits.{crosses_some}
-use Rattle.g1_race.proofs.Places.{in_contains, reads_as}
-use Rattle.g1_race.proofs.Plain.{read_at}
+use Rattle.g1_race_words.proofs.PairBits.{crosses_some}
+use Rattle.g1_race_words.proofs.Places.{in_contains, reads_as}
+use Rattle.g1_race_words.proofs.Plain.{read_at}
 use Rattle.g1_trace.specs.declared.command.Command.{Command}
 use Rattle.g1_trace.specs.declared.command.Command.TheVariants.{Store}
 use Rattle.g1_replay.specs.Race.{AreLeftBy, StoresInto, last_by}

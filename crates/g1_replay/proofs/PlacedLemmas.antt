@@ -8,7 +8,7 @@ use Rattle.std.proofs.lemmas.List.Sums.{sum_by-cons, sum_by_push}
 use Rattle.g1_log.specs.declared.line.Line.{Line}
 use Rattle.g1_log.specs.Ends.{sender_rights, taker_rights, IsSenderOf, IsTakerOf}
 use Rattle.g1_race.specs.declared.race.Race.{Race}
-use Rattle.g1_race.specs.Race.{null_of}
+use Rattle.g1_race_words.specs.Rule.{null_of}
 use Rattle.g1_race.specs.Members.{race_id, racer_race, racer_start, sweeper_race, sweeper_start}
 use Rattle.g1_replay.specs.declared.race_desk.Member.{Member}
 use Rattle.g1_replay.specs.declared.race_desk.Member.TheVariants.{Racing, Sweeping}

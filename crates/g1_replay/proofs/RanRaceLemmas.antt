@@ -10,8 +10,9 @@ use Rattle.std.proofs.lemmas.List.Sums.{sum_by-cons}
 use Rattle.g1_layout.specs.Shape.{Shape, slot_count}
 use Rattle.g1_log.specs.declared.line.Line.{Line}
 use Rattle.g1_race.specs.declared.race.Race.{Race}
-use Rattle.g1_race.specs.declared.view.View.{View}
-use Rattle.g1_race.specs.Race.{History, Among, In, histories_of}
+use Rattle.g1_race_words.specs.declared.view.View.{View}
+use Rattle.g1_race_words.specs.Rule.{History, In, histories_of}
+use Rattle.g1_race.specs.Race.{Among}
 use Rattle.g1_race.specs.Members.{racer_view}
 use Rattle.g1_steps.specs.declared.job.Job.{Job}
 use Rattle.g1_steps.specs.declared.desk.Script.{Script}

@@ -3,8 +3,9 @@ use Rattle.std.proofs.Common.{◌≡◌, ℕ, List, [], ◌∷◌, ◌++◌, Boo
 use Rattle.std.specs.Prelude.{◌==◌, ◌&&◌, if◌then◌else◌}
 use Rattle.std.specs.Option.{option_or}
 use Rattle.std.specs.List.{cons_option, filter_map}
-use Rattle.g1_race.specs.Race.{In, last_to, word_of}
-use Rattle.g1_race.proofs.Plain.{in_either}
+use Rattle.g1_race_words.specs.Rule.{In, last_to}
+use Rattle.g1_race.specs.Race.{word_of}
+use Rattle.g1_race_words.proofs.Plain.{in_either}
 use Rattle.g1_steps.specs.Ask.{Ask, AskStore, AskFlush, AskWork, asks_of}
 use Rattle.g1_steps.specs.declared.desk.Step.TheVariants as step
 use Rattle.g1_trace.specs.declared.command.Command.{Command}

@@ -3,7 +3,7 @@ use Rattle.std.proofs.Common.{◌≡◌, ◌<◌, ◌+◌, ℕ, List, ◌∷◌,
 use Rattle.std.specs.Prelude.{Result, Ok, Err, OnOk}
 use Rattle.std.proofs.lemmas.List.{take_more}
 use Rattle.std.proofs.lemmas.List.Elements.{All-push}
-use Rattle.g1_race.proofs.Places.{contains_in, in_contains}
+use Rattle.g1_race_words.proofs.Places.{contains_in, in_contains}
 
 -- a card that was swept stands among the cards that were, and the others still do
 pub swept_here : (old new : List ℕ) (card : ℕ) → new ≡ card ∷ old → Contains new card

@@ -5,9 +5,11 @@ use Rattle.atomic_table.specs.Seated.{TableId}
 use Rattle.g1_log.specs.declared.line.Line.{Line}
 use Rattle.g1_log.specs.Ends.{line_home, sender_home, taker_home, sender_rights, taker_rights}
 use Rattle.g1_race.specs.declared.race.Race.{Race}
-use Rattle.g1_race.specs.declared.view.Shape.{Shape}
-use Rattle.g1_race.specs.Begin.{Start}
-use Rattle.g1_race.specs.Race.{History, gained, null_of, word_of}
+use Rattle.g1_race_words.specs.declared.view.Shape.{Shape}
+use Rattle.g1_race_words.specs.Begin.{Start}
+use Rattle.g1_race_words.specs.Rule.{History, null_of}
+use Rattle.g1_race_words.specs.Steps.{gained}
+use Rattle.g1_race.specs.Race.{word_of}
 use Rattle.g1_race.specs.Members.{race_id, race_shape, racer_race, racer_start, racer_view, sweeper_race, sweeper_start}
 use Rattle.g1_steps.specs.Ask.{Ask, AskStore, AskFlush, AskWork}
 use Rattle.g1_replay.specs.declared.race_desk.Member.{Member}

@@ -1,7 +1,9 @@
 -- What members did, one list of calls after another.
 use Rattle.std.specs.Prelude.{◌≡◌, List, [], ◌∷◌, ◌++◌}
 use Rattle.std.proofs.Common.{refl, ap, sym, ◌∙◌}
-use Rattle.g1_race.specs.Race.{History, gained, word_of}
+use Rattle.g1_race_words.specs.Rule.{History}
+use Rattle.g1_race_words.specs.Steps.{gained}
+use Rattle.g1_race.specs.Race.{word_of}
 use Rattle.g1_steps.specs.Ask.{Ask, AskStore, AskFlush, AskWork}
 use Rattle.g1_replay.specs.declared.race_desk.Member.{Member}
 use Rattle.g1_replay.specs.Members.{MemberDid, histories_after, member_histories}

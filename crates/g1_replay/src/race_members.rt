@@ -2,7 +2,7 @@
 ghost use Rattle.std.specs.Prelude.{◌≡◌, ◌+◌, ◌≤◌, ◌++◌, [], ◌∷◌, All, IfOk, OnOk, sum_by, vec_len};
 ghost use Rattle.std.specs.List.{filter_map};
 ghost use Rattle.g1_log.specs.Ends.{sender_rights, taker_rights, IsSenderOf, IsTakerOf};
-ghost use Rattle.g1_race.specs.Race.{null_of};
+ghost use Rattle.g1_race_words.specs.Rule.{null_of};
 ghost use Rattle.g1_race.specs.Members.{race_shape, racer_start, sweeper_start, AreFreshRacers, AreFreshSweepers, HaveBegun};
 ghost use Rattle.g1_replay.specs.Members.{member_rights};
 ghost use Rattle.g1_replay.specs.RaceJobs.{racer_in, sender_in, sweeper_in, taker_in, AllFrom, IsNewMember};

@@ -2,7 +2,7 @@
 use Rattle.std.proofs.Common.{◌≡◌, ◌+◌, Bool, Some, length, All, vec_len}
 use Rattle.std.specs.List.{AllWithin}
 use Rattle.g1_race.specs.declared.race.Race.{Race}
-use Rattle.g1_race.specs.Begin.{Start}
+use Rattle.g1_race_words.specs.Begin.{Start}
 use Rattle.g1_handles.specs.Racing.{IsFresh}
 use Rattle.g1_handles.proofs.seats.hand_out.Given as goal
 

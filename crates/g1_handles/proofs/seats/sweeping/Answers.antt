@@ -13,7 +13,7 @@ pub loop-sweeper-preserved : goal.loop-sweeper-preserved
 loop-sweeper-preserved c =
     let i = c.loop-sweeper.invariant in
     let race = arc_value c.args.race.now in
-    let fresh = All-pop (IsFreshSweeper race.table.shared.table_id race.shape) _ _ (Some c.in-Some.sweeper) c.in-Some.ensures.items i.rest in
+    let fresh = All-pop (IsFreshSweeper race.table.table_id race.shape) _ _ (Some c.in-Some.sweeper) c.in-Some.ensures.items i.rest in
     record {
       count = omega (arith, i.count, c.in-Some.ensures.cases, c.in-Some.ensures.len, c.in_ok-push.ensures.len);
       rest = fresh.0;

@@ -1,9 +1,9 @@
 use Rattle.std.proofs.Common.{◌+◌, ◌≤◌, ℕ, List, sym, ap, ◌∙◌, subst, arith}
 use Rattle.std.specs.FinSet as set_of
 use Rattle.atomic_table.specs.declared.shared.Seat.{Seat}
-use Rattle.g1_race.specs.declared.view.View.{View}
+use Rattle.g1_race_words.specs.declared.view.View.{View}
 use Rattle.g1_race.specs.Resumed.{AreMarked}
-use Rattle.g1_race.specs.Members.{IsPaused}
+use Rattle.g1_race_words.specs.Seats.{IsPaused}
 use Rattle.g1_race.proofs.AtPause.{begun_marked}
 use Rattle.g1_race.proofs.Placing.{marked_none, marked_next, marked_past, marked_less}
 use Rattle.g1_race.proofs.begin.place_marks.Goals.{then-is_pending, else-is_pending}
@@ -18,7 +18,7 @@ put-requires-clause-begun c = begun_marked c.args.race.now.shape c.loop-number.s
 pub loop-number-preserved : goal.loop-number-preserved
 loop-number-preserved c =
     let k = c.args.race.now.shape in
-    let z = c.args.race.now.table.shared.table_id in
+    let z = c.args.race.now.table.table_id in
     let t = c.args.core.now.state.table in
     let i = c.loop-number.invariant in
     let old = c.args.seat.now.me.0.began_words in

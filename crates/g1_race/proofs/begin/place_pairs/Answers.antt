@@ -1,9 +1,9 @@
 use Rattle.std.proofs.Common.{◌≡◌, ◌<◌, ℕ, [], ◌∷◌, List, length, get_or, take, refl, sym, ap, ◌∙◌, subst, arith}
 use mathlib.Core.Option.{some}
 use lib.ListN.{get_elem?}
-use Rattle.g1_race.specs.Race.{In, IsOfCrossing}
+use Rattle.g1_race_words.specs.Rule.{In, IsOfCrossing}
 use Rattle.g1_race.specs.Refining.{Notes}
-use Rattle.g1_race.proofs.Places.{at_read, contains_in, take_next, take_all}
+use Rattle.g1_race_words.proofs.Places.{at_read, contains_in, take_next, take_all}
 use Rattle.g1_race.proofs.PauseWords.{notes_same, notes_then}
 use Rattle.g1_race.proofs.begin.place_pairs.Goals as goal
 

@@ -1,13 +1,13 @@
 use Rattle.std.proofs.Common.{◌≡◌, ◌+◌, ◌≤◌, ℕ, List, refl, sym, ap, ◌∙◌, subst, arith}
 use Rattle.atomic_table.specs.declared.shared.Seat.{Seat}
-use Rattle.g1_race.specs.declared.view.View.{View}
+use Rattle.g1_race_words.specs.declared.view.View.{View}
 use Rattle.g1_layout.specs.Shape.{slot_count}
 use Rattle.g1_core.specs.Machine.{State, Machine, IsSound}
 use Rattle.g1_core.specs.Table.{target_of}
-use Rattle.g1_race.specs.declared.view.Shape.{Shape}
+use Rattle.g1_race_words.specs.declared.view.Shape.{Shape}
 use Rattle.g1_race.specs.Race.{word_of}
 use Rattle.g1_race.specs.Resumed.{ArePlaced, IsSame}
-use Rattle.g1_race.specs.Members.{IsPaused}
+use Rattle.g1_race_words.specs.Seats.{IsPaused}
 use Rattle.g1_race.proofs.Placing.{placed_none, placed_next, placed_past, placed_less, begun_written, covered_on, word_bound}
 use Rattle.g1_race.proofs.begin.place_slots.Goals.{then-word-ne0, else-word-ne0}
 use Rattle.g1_race.proofs.begin.place_slots.Goals as goal
@@ -34,7 +34,7 @@ put-requires-clause-begun c =
 pub loop-number-preserved : goal.loop-number-preserved
 loop-number-preserved c =
     let k = c.args.race.now.shape in
-    let z = c.args.race.now.table.shared.table_id in
+    let z = c.args.race.now.table.table_id in
     let t = c.args.core.now.state.table in
     let i = c.loop-number.invariant in
     let old = c.args.seat.now.me.0.began_words in

@@ -1,9 +1,9 @@
 use Rattle.std.proofs.Common.{◌≡◌, ℕ, List, Some, None, sym, ap, ◌∙◌, subst, inl, inr, arith, eq-eqb}
 use Rattle.std.proofs.lemmas.Bool.{cases_lt, true≢false}
-use Rattle.g1_race.specs.Race.{card_of}
+use Rattle.g1_race_words.specs.Rule.{card_of}
 use Rattle.g1_race.specs.Clearing.{IsLeastOn}
 use Rattle.g1_race.specs.Telling.{IsNext, is_member}
-use Rattle.g1_race.proofs.PairBits.{card_below}
+use Rattle.g1_race_words.proofs.PairBits.{card_below}
 use Rattle.g1_race.proofs.ClearWords.{into_bit, least_found}
 use Rattle.g1_race.proofs.clear.entering.Goals as goal
 

@@ -1,5 +1,5 @@
 use Rattle.std.proofs.Common.{◌≡◌, ◌≤◌, ◌-◌, ◌<◌, ℕ}
-use Rattle.g1_race.specs.Race.{card_of}
+use Rattle.g1_race_words.specs.Rule.{card_of}
 use Rattle.g1_race.specs.Clearing.{Into}
 use Rattle.g1_race.proofs.clear.entering.Given as goal
 

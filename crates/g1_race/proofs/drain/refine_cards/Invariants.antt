@@ -1,11 +1,11 @@
 use Rattle.std.proofs.Common.{◌≤◌, ◌-◌}
 use Rattle.g1_race.specs.Refining.{AreRefined}
-use Rattle.g1_race.specs.Members.{IsPaused}
+use Rattle.g1_race_words.specs.Seats.{IsPaused}
 use Rattle.g1_race.proofs.drain.refine_cards.Given as goal
 
 abbrev pub invariant-loop-card : goal.invariant-loop-card
 invariant-loop-card l = record {
-  seat : IsPaused l.race.table.shared.table_id l.race.shape l.seat;
+  seat : IsPaused l.race.table.table_id l.race.shape l.seat;
   within : l.from ≤ l.race.shape.cards;
   refined : AreRefined l.race.shape l.fn.seat.me.0.began_words l.seat.me.0.began_words l.from;
 }

@@ -1,6 +1,6 @@
 use Rattle.std.proofs.Common.{◌≡◌, ℕ, ◌*◌, ◌%◌, ◌^◌, List, bit_and, w64, slice_set, sym, ap, ◌∙◌, subst}
 use Rattle.std.specs.Int.{bit_not}
-use Rattle.g1_race.specs.Race.{IsBegun, start}
+use Rattle.g1_race_words.specs.Rule.{IsBegun, start}
 use Rattle.g1_race.specs.Clearing.{AreUnset}
 use Rattle.g1_race.proofs.Forgetting.{begun_unset, unset_is, without_found}
 use Rattle.g1_race.proofs.forget.clear_bit.Goals as goal

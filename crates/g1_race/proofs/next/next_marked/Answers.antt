@@ -2,7 +2,7 @@ use Rattle.std.proofs.Common.{◌≡◌, ℕ, List, false, ap, ◌∙◌, subst,
 use mathlib.Core.Option.{some}
 use lib.ListN.{get_elem?}
 use Rattle.std.proofs.lemmas.Bool.{cases_lt}
-use Rattle.g1_race.specs.Race.{mark_word}
+use Rattle.g1_race_words.specs.Rule.{mark_word}
 use Rattle.g1_race.specs.Telling.{is_marked}
 use Rattle.g1_race.proofs.NextCards.{mark_is, mark_is_not}
 use Rattle.g1_race.proofs.next.next_marked.Goals as goal

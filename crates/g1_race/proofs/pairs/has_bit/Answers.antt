@@ -2,8 +2,8 @@ use Rattle.std.proofs.Common.{◌≡◌, ℕ, nat_eq, get_or, sym, ap, ◌∙◌
 use Rattle.std.specs.Int.{bit_at}
 use Rattle.std.specs.Slots.{slots_items}
 use Rattle.std.proofs.lemmas.Nat.Bits.{shr_and_one}
-use Rattle.g1_race.specs.Race.{bit_word}
-use Rattle.g1_race.proofs.Plain.{read_is}
+use Rattle.g1_race_words.specs.Rule.{bit_word}
+use Rattle.g1_race_words.proofs.Plain.{read_is}
 use Rattle.g1_race.proofs.pairs.has_bit.Goals as goal
 
 pub returns : goal.returns

@@ -1,6 +1,6 @@
 use Rattle.std.proofs.Common.{◌≡◌, ◌≢◌, ◌/◌, ◌%◌}
 use Rattle.std.specs.Slots.{slots_items}
-use Rattle.g1_race.specs.Race.{pairs_up_to}
+use Rattle.g1_race_words.specs.Rule.{pairs_up_to}
 use Rattle.g1_race.specs.Telling.{block_regions}
 use Rattle.g1_race.proofs.pairs.list_pairs.Given as goal
 

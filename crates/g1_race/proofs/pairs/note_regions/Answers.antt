@@ -1,9 +1,9 @@
 use Rattle.std.proofs.Common.{◌≡◌, ◌++◌, ◌∷◌, [], ◌+◌, ◌/◌, ℕ, suc, get_or, not, true, false, ne_eqb, eq-eqb, sym, ap, ◌∙◌, arith}
 use Rattle.std.specs.Slots.{slots_items}
 use Rattle.arrayvec.specs.ArrayVec.{array_vec_len}
-use Rattle.g1_race.specs.Race.{bit_word}
+use Rattle.g1_race_words.specs.Rule.{bit_word}
 use Rattle.g1_race.specs.Telling.{block_regions, has_block}
-use Rattle.g1_race.proofs.Plain.{read_is}
+use Rattle.g1_race_words.proofs.Plain.{read_is}
 use Rattle.g1_race.proofs.Telling.{left_out, put_in}
 use Rattle.g1_race.proofs.pairs.note_regions.Goals.{then-word-ne0, else-word-ne0}
 use Rattle.g1_race.proofs.pairs.note_regions.Goals as goal

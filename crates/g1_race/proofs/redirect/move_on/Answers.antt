@@ -3,12 +3,12 @@ use mathlib.Core.Option.{some, some-injective}
 use lib.ListN.{get_elem?}
 use Rattle.std.proofs.lemmas.Bool.{and_parts, eqb-true, false_from_ne_true}
 use Rattle.atomic_table.specs.declared.shared.Seat.{Seat}
-use Rattle.g1_race.specs.declared.view.View.{View}
-use Rattle.g1_race.specs.Race.{crosses, one_if, region_at}
-use Rattle.g1_race.specs.Members.{IsPaused}
+use Rattle.g1_race_words.specs.declared.view.View.{View}
+use Rattle.g1_race_words.specs.Rule.{crosses, one_if, region_at}
+use Rattle.g1_race_words.specs.Seats.{IsPaused}
 use Rattle.g1_race.specs.Moving.{AreMoved, into_count, is_into}
 use Rattle.g1_race.proofs.AtPause.{paused_same}
-use Rattle.g1_race.proofs.Places.{reads_as}
+use Rattle.g1_race_words.proofs.Places.{reads_as}
 use Rattle.g1_race.proofs.SweepCalls.{slot_below}
 use Rattle.g1_race.proofs.Moving.{count_one, is_into_of, moved_none, moved_then}
 use Rattle.g1_race.proofs.redirect.move_on.Goals.{then-enters, else-enters}
@@ -18,7 +18,7 @@ pub loop-i-preserved : goal.loop-i-preserved
 loop-i-preserved c =
     let race = c.args.race.now in
     let k = race.shape in
-    let z = race.table.shared.table_id in
+    let z = race.table.table_id in
     let i = c.loop-i.invariant in
     let old = c.args.seat.now.me.0.began_words in
     let mid = c.loop-i.seat.me.0.began_words in

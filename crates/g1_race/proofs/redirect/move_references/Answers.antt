@@ -55,7 +55,7 @@ returns-clause-moved c =
     let all : AreMoved k old mid from to 0 k.slots = subst (λ (n : ℕ). AreMoved k old mid from to 0 n) (sym race.shaped.0) (passed k old mid from to c.loop-card.next k.cards c.requires.seat.begun c.requires.apart i.within (omega arith) c.requires.clean i.moved c.in_default.ensures.next) in
     record {
       between = c.next_member.new.seat.me.0.began_words;
-      begun = (paused_same race.table.shared.table_id k c.loop-card.seat c.next_member.new.seat c.next_member.ensures.seat.0 c.next_member.ensures.seat.1 i.seat).begun;
+      begun = (paused_same race.table.table_id k c.loop-card.seat c.next_member.new.seat c.next_member.ensures.seat.0 c.next_member.ensures.seat.1 i.seat).begun;
       moved = subst (λ (ws : List ℕ). AreMoved k old ws from to 0 k.slots) (sym same) all;
       emptied = c.empty_row.ensures.emptied;
     }

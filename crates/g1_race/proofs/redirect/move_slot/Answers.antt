@@ -1,5 +1,5 @@
 use Rattle.std.proofs.Common.{◌≡◌, ℕ, List, [], ◌∷◌, refl, sym, subst, inl, ⊎_elim}
-use Rattle.g1_race.specs.Race.{card_of, region_at}
+use Rattle.g1_race_words.specs.Rule.{card_of, region_at}
 use Rattle.g1_race.specs.Moving.{AreMoved, moved_word}
 use Rattle.g1_race.proofs.PauseWords.{notes_same}
 use Rattle.g1_race.proofs.Moving.{begun_moved, is_into_of, moved_crosses, moved_fits, moved_one, moved_region}

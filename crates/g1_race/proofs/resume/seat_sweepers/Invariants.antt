@@ -1,5 +1,6 @@
 use Rattle.std.proofs.Common.{◌≡◌, ◌-◌, ◌≤◌, [], All, vec_len, vec_capacity}
-use Rattle.g1_race.specs.Race.{start_of, chair}
+use Rattle.g1_race_words.specs.Rule.{start_of}
+use Rattle.g1_race_words.specs.Steps.{chair}
 use Rattle.g1_race.specs.Members.{IsNewSweeper}
 use Rattle.g1_race.proofs.resume.seat_sweepers.Given as goal
 
@@ -9,5 +10,5 @@ invariant-loop-i l = record {
   view : l.registrar.me ≡ (chair (start_of l.fn.registrar.me.0) (l.fn.registrar.me.0.weight - l._i), []);
   len : vec_len l.sweepers ≡ l._i;
   room : l.count ≤ vec_capacity l.sweepers;
-  all : All (IsNewSweeper l.table.shared.table_id (start_of l.fn.registrar.me.0)) l.sweepers.items;
+  all : All (IsNewSweeper l.table.table_id (start_of l.fn.registrar.me.0)) l.sweepers.items;
 }

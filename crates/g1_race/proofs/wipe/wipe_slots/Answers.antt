@@ -3,7 +3,7 @@ use lib.ListN.{get_elem?}
 use Rattle.std.proofs.lemmas.Bool.{cases_eq}
 use Rattle.atomic_table.proofs.Lists.{set_else, set_here}
 use Rattle.g1_layout.specs.declared.kind.Kind.TheVariants.{Null}
-use Rattle.g1_race.specs.declared.view.Shape.{Shape}
+use Rattle.g1_race_words.specs.declared.view.Shape.{Shape}
 use Rattle.g1_race.specs.Over.{ended, table_of}
 use Rattle.g1_race.specs.Evacuating.{nulled}
 use Rattle.g1_race.proofs.AtPause.{begun_placed}

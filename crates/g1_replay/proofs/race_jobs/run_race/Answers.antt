@@ -7,9 +7,10 @@ use Rattle.g1_log.specs.declared.ends.Taker.{Taker}
 use Rattle.g1_log.specs.Ends.{sender_rights, taker_rights, IsSenderOf, IsTakerOf}
 use Rattle.g1_race.specs.declared.race.Racer.{Racer}
 use Rattle.g1_race.specs.declared.race.Sweeper.{Sweeper}
-use Rattle.g1_race.specs.Begin.{Begun}
-use Rattle.g1_race.specs.declared.view.Shape.{Shape}
-use Rattle.g1_race.specs.Race.{IsKnown, IsOver, beginning, null_of, shape_of}
+use Rattle.g1_race_words.specs.Begin.{Begun}
+use Rattle.g1_race_words.specs.declared.view.Shape.{Shape}
+use Rattle.g1_race_words.specs.Rule.{beginning, null_of}
+use Rattle.g1_race.specs.Race.{IsKnown, IsOver, shape_of}
 use Rattle.g1_race.proofs.Fresh.{begun_as}
 use Rattle.g1_race.proofs.Opening.{begins_null}
 use Rattle.g1_race.specs.Members.{null_begun, race_begun, race_id, racer_race, racer_start, racer_view, sweeper_race, sweeper_start, sweeper_view}

@@ -2,7 +2,7 @@ use Rattle.std.proofs.Common.{◌≡◌, ℕ, get_or, eqb, List, sym, ap, ◌∙
 use Rattle.std.proofs.lemmas.Bool.{eqb-true}
 use Rattle.std.specs.Int.{bit_at}
 use Rattle.std.specs.Slots.{slots_items}
-use Rattle.g1_race.specs.Race.{bit_word, bit_place, IsPair}
+use Rattle.g1_race_words.specs.Rule.{bit_word, bit_place, IsPair}
 use Rattle.g1_core.specs.Table.{IsRecorded}
 use Rattle.g1_race.specs.Over.{Ended, table_of}
 use Rattle.g1_race.proofs.Ends.{recorded_set, set_recorded}

@@ -3,11 +3,11 @@ use mathlib.Core.Option.{some}
 use lib.ListN.{get_elem?}
 use Rattle.std.specs.Option.{SomeIff}
 use Rattle.g1_layout.specs.Shape.{slot_count}
-use Rattle.g1_race.specs.declared.view.Shape.{Shape}
+use Rattle.g1_race_words.specs.declared.view.Shape.{Shape}
 use Rattle.g1_layout.specs.Shape as layout
 use Rattle.g1_race.specs.Race.{shape_of}
 use Rattle.g1_race.specs.Over.{Ended, ended, target_of}
-use Rattle.g1_race.proofs.Places.{at_take}
+use Rattle.g1_race_words.proofs.Places.{at_take}
 use Rattle.g1_race.proofs.Ends.{refs_here, target_some}
 use Rattle.g1_race.proofs.ended.Closed.target_at.Goals as goal
 

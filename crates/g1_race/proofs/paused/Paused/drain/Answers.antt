@@ -1,6 +1,6 @@
 use Rattle.std.proofs.Common.{◌≡◌, ℕ, ◌<◌, List, length, sym, ap, ◌∙◌, subst, arith, [], replicate}
 use Rattle.g1_core.specs.Run.{IsStep, drained}
-use Rattle.g1_race.specs.declared.view.Shape.{Shape}
+use Rattle.g1_race_words.specs.declared.view.Shape.{Shape}
 use Rattle.g1_race.specs.Telling.{is_marked, is_member, marked_cards, member_cards}
 use Rattle.g1_race.specs.Refining.{AreRefined}
 use Rattle.g1_race.specs.Evacuating.{IsExactAtPause}

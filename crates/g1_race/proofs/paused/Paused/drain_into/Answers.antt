@@ -1,5 +1,5 @@
 use Rattle.std.proofs.Common.{ℕ, ◌<◌, List, sym, ap, subst, arith, [], length, replicate, ◌∙◌}
-use Rattle.g1_race.specs.declared.view.Shape.{Shape}
+use Rattle.g1_race_words.specs.declared.view.Shape.{Shape}
 use Rattle.g1_race.specs.Telling.{marked_cards, member_cards}
 use Rattle.g1_race.specs.Evacuating.{IsDrainedInto}
 use Rattle.g1_race.specs.Over.{Halt, halted, ended, table_of}

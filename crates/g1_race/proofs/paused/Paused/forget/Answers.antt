@@ -1,8 +1,8 @@
 use Rattle.std.proofs.Common.{◌≡◌, ◌≢◌, ℕ, ◌+◌, ◌*◌, ◌/◌, ◌<◌, ◌≤◌, sym, ap, ◌∙◌, subst, arith}
 use Rattle.g1_layout.specs.Shape.{region_of}
 use Rattle.g1_core.specs.Table.{Crosses}
-use Rattle.g1_race.specs.declared.view.Shape.{Shape}
-use Rattle.g1_race.specs.Race.{card_of}
+use Rattle.g1_race_words.specs.declared.view.Shape.{Shape}
+use Rattle.g1_race_words.specs.Rule.{card_of}
 use Rattle.g1_race.specs.Clearing.{AreUnset}
 use Rattle.g1_race.specs.Evacuating.{forgotten}
 use Rattle.g1_race.specs.Over.{Halt, halted}

@@ -2,13 +2,13 @@ use Rattle.std.proofs.Common.{List, ◌≡◌, ◌+◌, ℕ, false, eqb, sym, ap
 use mathlib.Core.Option.{some}
 use lib.ListN.{get_elem?}
 use Rattle.g1_layout.specs.Shape.{slot_count, card_count}
-use Rattle.g1_race.specs.declared.view.Shape.{Shape}
+use Rattle.g1_race_words.specs.declared.view.Shape.{Shape}
 use Rattle.g1_core.specs.Table.{Table}
 use Rattle.g1_core.specs.Run.{IsStep}
 use Rattle.g1_core.specs.Calls.{pending_entry}
 use Rattle.g1_core.proofs.QueryLemmas.{pending_step}
 use Rattle.g1_race.specs.Over.{Halt, ended, ended_of, halted, table_of, marks_of}
-use Rattle.g1_race.proofs.Places.{at_take, reads_as}
+use Rattle.g1_race_words.proofs.Places.{at_take, reads_as}
 use Rattle.g1_race.proofs.Ends.{marks_here}
 use Rattle.g1_core.proofs.SetLemmas.{same_bools}
 use Rattle.g1_core.proofs.AdoptionLemmas.{flag_pending, pending_flag}

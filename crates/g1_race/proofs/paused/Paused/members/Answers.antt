@@ -3,7 +3,7 @@ use Rattle.g1_core.specs.Table.{Table, AreMembers}
 use Rattle.g1_core.specs.Run.{IsStep}
 use Rattle.g1_core.specs.Calls.{members_entry}
 use Rattle.g1_core.proofs.QueryLemmas.{members_step}
-use Rattle.g1_race.specs.declared.view.Shape.{Shape}
+use Rattle.g1_race_words.specs.declared.view.Shape.{Shape}
 use Rattle.g1_race.specs.Telling.{member_cards}
 use Rattle.g1_race.specs.Over.{Halt, halted, ended, table_of}
 use Rattle.g1_race.proofs.PauseTable.{members_are}

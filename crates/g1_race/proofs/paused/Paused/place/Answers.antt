@@ -1,10 +1,10 @@
 use Rattle.std.proofs.Common.{◌≡◌, ◌+◌, All, sym, ap, ◌∙◌, subst}
 use Rattle.g1_layout.specs.Shape as layout
 use Rattle.g1_core.specs.Adoption.{IsPairOf}
-use Rattle.g1_race.specs.Begin.{Start}
+use Rattle.g1_race_words.specs.Begin.{Start}
 use Rattle.g1_race.specs.Over.{Halt, start_at}
-use Rattle.g1_race.specs.Race.{null_of}
-use Rattle.g1_race.proofs.AtBeginning.{zeros}
+use Rattle.g1_race_words.specs.Rule.{null_of}
+use Rattle.g1_race_words.proofs.AtBeginning.{zeros}
 use Rattle.g1_race.proofs.Placing.{clean_marks, listed_cross, null_slots, slots_covered, table_copied}
 use Rattle.g1_race.proofs.paused.Paused.place.Goals as goal
 

@@ -3,7 +3,7 @@ use Rattle.g1_core.specs.declared.entry.Call.TheVariants.{Redirect}
 use Rattle.g1_core.specs.declared.entry.Reply.TheVariants as reply
 use Rattle.g1_core.specs.Table.{moved, moved_count}
 use Rattle.g1_core.specs.Run.{IsStep}
-use Rattle.g1_race.specs.declared.view.Shape.{Shape}
+use Rattle.g1_race_words.specs.declared.view.Shape.{Shape}
 use Rattle.g1_race.specs.Telling.{marked_cards}
 use Rattle.g1_race.specs.Refining.{AreRefined}
 use Rattle.g1_race.specs.Over.{Halt, halted, ended, table_of}

@@ -1,6 +1,6 @@
 use Rattle.std.proofs.Common.{ℕ, ◌<◌, List, sym, ap, ◌∙◌, subst, arith, [], length, replicate}
 use Rattle.g1_core.specs.Table.{moved, moved_count}
-use Rattle.g1_race.specs.declared.view.Shape.{Shape}
+use Rattle.g1_race_words.specs.declared.view.Shape.{Shape}
 use Rattle.g1_race.specs.Telling.{marked_cards}
 use Rattle.g1_race.specs.Moving.{IsRedirected}
 use Rattle.g1_race.specs.Over.{Halt, halted, ended, table_of}

@@ -4,11 +4,12 @@ use lib.ListN.{get_elem?}
 use Rattle.atomic_table.proofs.Lists.{set_here}
 use Rattle.g1_layout.specs.declared.kind.Kind.TheVariants.{SameRegion, Null, AlreadyDirty, Logged}
 use Rattle.g1_layout.specs.Shape.{slot_count}
-use Rattle.g1_race.specs.declared.view.Shape.{Shape}
-use Rattle.g1_race.specs.Race.{IsBegun, card_of, mark_word, crosses, start, word_of}
+use Rattle.g1_race_words.specs.declared.view.Shape.{Shape}
+use Rattle.g1_race_words.specs.Rule.{IsBegun, card_of, mark_word, crosses, start}
+use Rattle.g1_race.specs.Race.{word_of}
 use Rattle.g1_race.specs.Over.{Halt, ended, halted, table_of}
 use Rattle.g1_race.proofs.StoreCalls.{word_fits}
-use Rattle.g1_race.proofs.PairBits.{card_below}
+use Rattle.g1_race_words.proofs.PairBits.{card_below}
 use Rattle.g1_race.proofs.AtPause.{begun_marked, begun_placed}
 use Rattle.g1_race.proofs.PauseStores.{kind_clean, kind_dirty, kind_null, kind_same, logged_store, quiet_store, store_step}
 use Rattle.g1_race.proofs.paused.Paused.store.Goals as goal

@@ -4,7 +4,7 @@ use lib.ListN.{get_elem?}
 use Rattle.std.specs.Option.{SomeIff}
 use Rattle.g1_layout.specs.Shape as layout
 use Rattle.g1_layout.specs.Shape.{slot_count}
-use Rattle.g1_race.specs.declared.view.Shape.{Shape}
+use Rattle.g1_race_words.specs.declared.view.Shape.{Shape}
 use Rattle.g1_race.specs.Race.{shape_of}
 use Rattle.g1_core.specs.Table.{Table}
 use Rattle.g1_core.specs.Run.{IsStep}
@@ -12,7 +12,7 @@ use Rattle.g1_core.specs.Calls.{target_entry}
 use Rattle.g1_core.proofs.QueryLemmas.{target_step}
 use Rattle.g1_race.specs.Over.{Halt, ended, ended_of, halted, table_of, target_of, refs_of}
 use Rattle.g1_race.proofs.Ends.{refs_here, target_some}
-use Rattle.g1_race.proofs.Places.{at_take, reads_as}
+use Rattle.g1_race_words.proofs.Places.{at_take, reads_as}
 use Rattle.g1_race.proofs.paused.Paused.target.Goals as goal
 
 -- the answer for a word that is not 0

@@ -1,0 +1,186 @@
+-- Each kind of step is allowed, as a call on the table asks for it.
+use Rattle.std.proofs.Common.{inl, inr, ◌≡◌, ℕ, ◌-◌, ◌+◌, ◌*◌, ◌%◌, ◌^◌, ◌<◌, ◌≤◌, bit_or, List, [], ◌∷◌, set, get_or, true, false, Some, None, refl, sym, ap, ◌∙◌, subst, arith}
+use mathlib.Core.Option.{some}
+use lib.ListN.{get_elem?}
+use Rattle.atomic_table.specs.Table.{State, Me, keeps, Allows, Splits, Joins, Enters}
+use Rattle.atomic_table.proofs.Lists.{set_again}
+use Rattle.g1_race_words.specs.declared.view.Shape.{Shape}
+use Rattle.g1_race_words.specs.declared.view.View.{View}
+use Rattle.g1_race_words.specs.Begin.{Start}
+use Rattle.g1_race_words.specs.Rule.{History, mark_word, bit_word, bit_place, In, IsShape, IsPair, AtRest, IsBlank, IsBegun, Going, start}
+use Rattle.g1_race_words.specs.Steps.{iced, thawed, put, blank, wrote, looked, dirtied, cleaned, read, sought, recorded, lighter, new_racer, new_sweeper, both, nothing}
+use Rattle.g1_race_words.proofs.PairBits.{with_pair}
+use Rattle.g1_race_words.proofs.Plain.{set_read, read_at}
+use Rattle.g1_race_words.proofs.Tallies.{number_given, number_dropped}
+use Rattle.g1_race_words.specs.Seats.{Freezes, Sits}
+use Rattle.g1_race_words.proofs.Writing.{raced_wrote}
+use Rattle.g1_race_words.proofs.Marking.{raced_looked, raced_dirtied, raced_cleaned}
+use Rattle.g1_race_words.proofs.Reading.{raced_read}
+use Rattle.g1_race_words.proofs.Recording.{raced_sought, raced_recorded}
+use Rattle.g1_race_words.proofs.Splitting.{raced_split, raced_join, raced_enter}
+use Rattle.g1_race_words.proofs.Going.{begun, going_step, going_split, going_join, going_enter, going_anew, begun_here, known_words, raced_mine, shape_mine, mine}
+
+pub card_back : (k : Shape) (v : View) (c : ℕ) → v.shape ≡ k → mark_word k c - v.shape.slots ≡ c
+card_back k v c e = let f : v.shape.slots ≡ k.slots = ap (λ (s : Shape). s.slots) e in omega arith
+
+-- a seat at a pause: all the weight, nothing owed, and all the words known
+pub record Knows (k : Shape) (v : View) : Type 0 where
+  pub all : v.weight ≡ k.members
+  pub pos : 0 < k.members
+  pub spare : v.spare ≡ k.members
+  pub blank : IsBlank v
+  pub shape : v.shape ≡ k
+  pub frozen : v.frozen ≡ true
+  pub begun : IsBegun (start k v.began_words)
+
+module _ {S : Type 0} where
+  abbrev Rule : Shape → State S View → Type 0
+  Rule k s = Going k s.words s.views
+
+  pub allows_write : (k : Shape) (slots id p n : ℕ) (me : Me S View) (mine : History) → Sits k me.0 → me.0.owed ≡ None → me.0.histories ≡ mine ∷ [] → p < k.slots → n ≤ k.slots
+      → Allows (Rule k) slots id me p (λ _. n) (λ _ after. after ≡ (wrote me.0 p n, me.1))
+  allows_write k slots id p n me mine sits free one lt bound s h len at fits =
+      (wrote me.0 p n, keeps, tt, going_step k s.words s.views h (set s.words p n) id me.0 (wrote me.0 p n) at (omega (arith, sits.weight)) sits.going refl refl refl refl (raced_wrote (begun k s.words s.views h) s.words s.views id me.0 p n mine sits free one lt bound at h.raced), refl)
+
+  pub allows_look : (k : Shape) (slots id c : ℕ) (me : Me S View) → Sits k me.0 → me.0.owed ≡ Some c → c < k.cards
+      → Allows (Rule k) slots id me (mark_word k c) (λ n. n) (λ n after. after ≡ (looked me.0 n, me.1))
+  allows_look k slots id c me sits owes lt s h len at fits =
+      let n = get_or s.words (mark_word k c) 0 in (
+        looked me.0 n,
+        keeps,
+        tt,
+        subst (λ (ws : List ℕ). Going k ws (set s.views id (looked me.0 n))) (sym (set_read s.words (mark_word k c)))
+            (going_step k s.words s.views h s.words id me.0 (looked me.0 n) at (omega (arith, sits.weight)) sits.going refl refl refl refl (raced_looked (begun k s.words s.views h) s.words s.views id me.0 c sits owes lt at h.raced)),
+        refl,
+      )
+
+  pub allows_dirty : (k : Shape) (slots id c : ℕ) (me : Me S View) → Sits k me.0 → me.0.owed ≡ Some c → c < k.cards
+      → Allows (Rule k) slots id me (mark_word k c) (λ _. 1) (λ n after. after ≡ (dirtied me.0 (mark_word k c - me.0.shape.slots) n, me.1))
+  allows_dirty k slots id c me sits owes lt s h len at fits =
+      let n = get_or s.words (mark_word k c) 0 in
+      let e = card_back k me.0 c sits.shape in (
+        dirtied me.0 (mark_word k c - me.0.shape.slots) n,
+        keeps,
+        tt,
+        subst (λ (d : ℕ). Going k (set s.words (mark_word k c) 1) (set s.views id (dirtied me.0 d n))) (sym e)
+            (going_step k s.words s.views h (set s.words (mark_word k c) 1) id me.0 (dirtied me.0 c n) at (omega (arith, sits.weight)) sits.going refl refl refl refl (raced_dirtied (begun k s.words s.views h) s.words s.views id me.0 c sits owes lt at h.raced)),
+        refl,
+      )
+
+  pub allows_clean : (k : Shape) (slots id c : ℕ) (me : Me S View) → Sits k me.0 → 0 < k.size → me.0.next ≡ me.0.end → c < k.cards
+      → Allows (Rule k) slots id me (mark_word k c) (λ _. 0) (λ n after. after ≡ (cleaned me.0 (mark_word k c - me.0.shape.slots) n, me.1))
+  allows_clean k slots id c me sits pos done lt s h len at fits =
+      let n = get_or s.words (mark_word k c) 0 in
+      let e = card_back k me.0 c sits.shape in (
+        cleaned me.0 (mark_word k c - me.0.shape.slots) n,
+        keeps,
+        tt,
+        subst (λ (d : ℕ). Going k (set s.words (mark_word k c) 0) (set s.views id (cleaned me.0 d n))) (sym e)
+            (going_step k s.words s.views h (set s.words (mark_word k c) 0) id me.0 (cleaned me.0 c n) at (omega (arith, sits.weight)) sits.going refl refl refl refl (raced_cleaned (begun k s.words s.views h) s.words s.views id me.0 c sits pos done lt at h.raced)),
+        refl,
+      )
+
+  pub allows_read : (k : Shape) (slots id p : ℕ) (me : Me S View) → Sits k me.0 → me.0.held ≡ [] → me.0.next ≡ p → p < k.slots
+      → Allows (Rule k) slots id me p (λ n. n) (λ n after. (after ≡ (read me.0 p n, me.1)) × (n ≤ me.0.shape.slots))
+  allows_read k slots id p me sits free next lt s h len at fits =
+      let n = get_or s.words p 0 in (
+        read me.0 p n,
+        keeps,
+        tt,
+        subst (λ (ws : List ℕ). Going k ws (set s.views id (read me.0 p n))) (sym (set_read s.words p))
+            (going_step k s.words s.views h s.words id me.0 (read me.0 p n) at (omega (arith, sits.weight)) sits.going refl refl refl refl (raced_read (begun k s.words s.views h) s.words s.views id me.0 p sits free next lt at h.raced)),
+        (refl, subst (λ (x : Shape). n ≤ x.slots) (sym sits.shape) (h.raced.bounded p n lt (read_at s.words p (omega (arith, h.raced.sized))))),
+      )
+
+  pub allows_seek : (k : Shape) (slots id : ℕ) (x : ℕ × ℕ) (me : Me S View) → IsShape k → Sits k me.0 → me.0.held ≡ x ∷ []
+      → Allows (Rule k) slots id me (bit_word k x) (λ n. n) (λ n after. after ≡ (sought me.0 n, me.1))
+  allows_seek k slots id x me shaped sits one s h len at fits =
+      let n = get_or s.words (bit_word k x) 0 in (
+        sought me.0 n,
+        keeps,
+        tt,
+        subst (λ (ws : List ℕ). Going k ws (set s.views id (sought me.0 n))) (sym (set_read s.words (bit_word k x)))
+            (going_step k s.words s.views h s.words id me.0 (sought me.0 n) at (omega (arith, sits.weight)) sits.going refl refl refl refl (raced_sought (begun k s.words s.views h) s.words s.views id me.0 x shaped sits one at h.raced)),
+        refl,
+      )
+
+  pub allows_record : (k : Shape) (slots id : ℕ) (x : ℕ × ℕ) (me : Me S View) → IsShape k → Sits k me.0 → me.0.held ≡ x ∷ [] → IsPair k x
+      → Allows (Rule k) slots id me (bit_word k x) (λ n. bit_or n (1 * 2 ^ bit_place k x % 2 ^ 64)) (λ _ after. after ≡ (recorded me.0, me.1))
+  allows_record k slots id x me shaped sits one pair s h len at fits =
+      (recorded me.0, keeps, tt, going_step k s.words s.views h (with_pair k s.words x) id me.0 (recorded me.0) at (omega (arith, sits.weight)) sits.going refl refl refl refl (raced_recorded (begun k s.words s.views h) s.words s.views id me.0 x shaped sits one pair at h.raced), refl)
+
+  pub splits_racer : (k : Shape) (id : ℕ) (v : View) → IsBlank v → 0 < v.weight → 0 < v.spare → v.frozen ≡ false → Splits (Rule k) id v (lighter v) (new_racer v)
+  splits_racer k id v still heavy given moving s h at = going_split k s.words s.views h id v (new_racer v) at heavy refl (sym moving) (omega arith)
+      (raced_split (begun k s.words s.views h) s.words s.views id v (new_racer v) still heavy refl (number_given v given) fresh refl refl refl refl at h.raced)
+    where
+      fresh : (g : History) → In ((v.spare - 1, []) ∷ []) g → g.1 ≡ []
+      fresh g (inl e) = ap (λ (x : History). x.1) (sym e)
+      fresh g (inr i) = absurd i
+
+  pub splits_sweeper : (k : Shape) (id : ℕ) (v : View) → IsBlank v → 0 < v.weight → v.frozen ≡ false → Splits (Rule k) id v (lighter v) (new_sweeper v)
+  splits_sweeper k id v still heavy moving s h at = going_split k s.words s.views h id v (new_sweeper v) at heavy refl (sym moving) (omega arith)
+      (raced_split (begun k s.words s.views h) s.words s.views id v (new_sweeper v) still heavy refl (number_dropped v) (λ g i. absurd i) refl refl refl refl at h.raced)
+
+  pub joins_member : (k : Shape) (id : ℕ) (v : View) (other : ℕ) (u : View) → u.weight ≡ 1 → AtRest u → Joins (Rule k) id v other u (both v u) nothing
+  joins_member k id v other u one rest s h at apart there = going_join k s.words s.views h id v other u at apart there (omega (arith, one))
+      (raced_join (begun k s.words s.views h) s.words s.views id v other u nothing one rest ((refl, refl, refl), refl, refl, refl, refl) refl refl at apart there h.raced)
+
+  pub enters_blank : (k : Shape) (slots i : ℕ) (b : Start) → Enters (Rule k) slots i (λ n w. ◌≡◌ {A = Me S View} (w, []) (blank b 0 [], []))
+  enters_blank k slots i b s h len fits = (blank b 0 [], going_enter k s.words s.views h (blank b 0 []) refl refl (raced_enter (begun k s.words s.views h) s.words s.views (blank b 0 []) ((refl, refl, refl), refl, refl, refl, refl) refl refl h.raced), refl)
+
+  -- at a pause
+
+  pub allows_thaw : (k : Shape) (slots id p : ℕ) (me : Me S View) → Knows k me.0 → Allows (Rule k) slots id me p (λ n. n) (λ n after. after ≡ (thawed me.0, me.1))
+  allows_thaw k slots id p me c s h len at fits =
+      let words = known_words k s.words s.views id me.0 c.all c.pos h at c.frozen in (
+        thawed me.0,
+        keeps,
+        tt,
+        subst (λ (ws : List ℕ). Going k ws (set s.views id (thawed me.0))) (sym (set_read s.words p ∙ words))
+            (going_anew k s.words s.views id me.0 c.all c.pos h at me.0.began_words (thawed me.0) c.begun c.blank c.all c.spare (ap (λ (x : Shape). start x me.0.began_words) c.shape)),
+        refl,
+      )
+
+  pub allows_see : (k : Shape) (slots id p : ℕ) (me : Me S View) → Knows k me.0 → p < k.slots + k.cards + k.bits → Allows (Rule k) slots id me p (λ n. n) (λ n after. (after ≡ me) × (get_elem? me.0.began_words p ≡ some n))
+  allows_see k slots id p me c lt s h len at fits =
+      let words = known_words k s.words s.views id me.0 c.all c.pos h at c.frozen in (
+        me.0,
+        keeps,
+        tt,
+        subst (λ (ws : List ℕ). Going k ws (set s.views id me.0)) (sym (set_read s.words p)) (subst (λ (vs : List View). Going k s.words vs) (sym (set_again s.views id me.0 at)) h),
+        (refl, subst (λ (l : List ℕ). get_elem? l p ≡ some (get_or s.words p 0)) words (read_at s.words p (omega (arith, h.raced.sized, lt)))),
+      )
+
+  pub allows_set : (k : Shape) (slots id p n : ℕ) (me : Me S View) → Knows k me.0 → IsBegun (start k (set me.0.began_words p n)) → Allows (Rule k) slots id me p (λ _. n) (λ _ after. after ≡ (put me.0 p n, me.1))
+  allows_set k slots id p n me c b s h len at fits =
+      let words = known_words k s.words s.views id me.0 c.all c.pos h at c.frozen in (
+        put me.0 p n,
+        keeps,
+        tt,
+        subst (λ (ws : List ℕ). Going k (set ws p n) (set s.views id (put me.0 p n))) (sym words)
+            (going_anew k s.words s.views id me.0 c.all c.pos h at (set me.0.began_words p n) (put me.0 p n) b c.blank c.all c.spare (ap (λ (x : Shape). start x (set me.0.began_words p n)) c.shape)),
+        refl,
+      )
+
+-- the words are learned
+pub allows_freeze : (k : Shape) (slots id p : ℕ) (me : Me (Unit {0}) View) → IsShape k → me.0.weight ≡ k.members → 0 < k.members → AtRest me.0
+    → Allows (Rule k) slots id me p (λ n. n) (λ n after. Freezes me after)
+allows_freeze k slots id p me shaped all pos rest s h len at fits =
+    let shape = shape_mine k s.words s.views id me.0 all pos h at in
+    let here = begun_here k s.words s.views id me.0 all pos h at shaped rest in
+    let w = iced (start me.0.shape s.words) me.0.weight in (
+      w,
+      keeps,
+      tt,
+      subst (λ (ws : List ℕ). Going k ws (set s.views id w)) (sym (set_read s.words p))
+          (going_anew k s.words s.views id me.0 all pos h at s.words w here ((refl, refl, refl), refl, refl, refl, refl) all all (ap (λ (x : Shape). start x s.words) shape)),
+      record {
+        words = s.words;
+        views = s.views;
+        id = id;
+        view = refl;
+        begun = subst (λ (x : Shape). IsBegun (start x s.words)) (sym shape) here;
+        raced = raced_mine k s.words s.views id me.0 all pos h at;
+        mine = at;
+      },
+    )

@@ -1,0 +1,100 @@
+-- What a race begins with keeps its rule.
+use Rattle.std.proofs.Common.{◌≡◌, ℕ, zero, suc, ◌+◌, ◌<◌, ◌≤◌, true, List, [], ◌∷◌, length, get_or, take, refl, sym, ap, ◌∙◌, subst, inl, inr, ⊎_elim, arith, replicate}
+use Rattle.std.specs.Int.{bit_at}
+use Rattle.std.proofs.lemmas.Nat.Bits.{bit_at-zero}
+use mathlib.Core.Option.{some, some-ne-none, some-injective}
+use lib.ListN.{get_elem?}
+use Rattle.g1_race_words.specs.declared.view.Shape.{Shape}
+use Rattle.g1_race_words.specs.declared.view.View.{View}
+use Rattle.g1_race_words.specs.Rule.{MadeDirty, IsBegun, IsShape, HasBit, bit_word, bit_place, card_of, mark_word, region_at, In, Held, claims_of, pairs_of, IsMarked, IsBlank, Raced, Going, front, pairs_up_to, null_of, start, beginning, start_of}
+use Rattle.g1_race_words.specs.Steps.{iced}
+use Rattle.g1_race_words.proofs.PairBits.{crossing_pair}
+use Rattle.g1_race_words.proofs.Places.{at_take, at_untake}
+use Rattle.g1_race_words.proofs.Listing.{in_set, set_in}
+use Rattle.g1_race_words.proofs.Reading.{null_stays}
+
+abbrev pub zeros : ℕ → List ℕ
+zeros n = replicate n 0
+
+pub at_zeros : (n i x : ℕ) → get_elem? (zeros n) i ≡ some x → x ≡ 0
+at_zeros zero i x e = absurd (some-ne-none x (sym e))
+at_zeros (suc n) zero x e = sym (some-injective 0 x e)
+at_zeros (suc n) (suc i) x e = at_zeros n i x e
+
+pub zero_at : (n i : ℕ) → i < n → get_elem? (zeros n) i ≡ some 0
+zero_at zero i h = absurd (omega arith)
+zero_at (suc n) zero h = refl
+zero_at (suc n) (suc i) h = zero_at n i (omega arith)
+
+pub length_zeros : (n : ℕ) → length (zeros n) ≡ n
+length_zeros zero = refl
+length_zeros (suc n) = ap suc (length_zeros n)
+
+only : (v w : View) (seat : ℕ) → get_elem? (v ∷ []) seat ≡ some w → v ≡ w
+only v w zero e = some-injective v w e
+only v w (suc i) e = absurd (some-ne-none w (sym e))
+
+pub never_both : (l : List ℕ) (i : ℕ) → get_elem? l i ≡ some 0 → get_elem? l i ≡ some 1 → ⊥
+never_both l i z o = absurd (let e : 0 ≡ 1 = some-injective 0 1 (sym z ∙ o) in omega arith)
+
+-- a word among the first ones is the word
+pub same_word : (words : List ℕ) (count i m n : ℕ) → get_elem? (take count words) i ≡ some m → get_elem? words i ≡ some n → m ≡ n
+same_word words count i m n was is = some-injective m n (sym (at_untake words count i m was).1 ∙ is)
+
+pub raced_beginning : (k : Shape) (words : List ℕ) → IsBegun (start k words) → Raced (beginning (start k words)) words (iced (start k words) k.members ∷ [])
+raced_beginning k words h = let v = iced (start k words) k.members in record {
+  sized = h.sized;
+  bounded = h.bounded;
+  covered = λ p n lt at cr. ⊎_elim (λ (i : HasBit k words (card_of k p, region_at k n)). inl (set_in k words _ (crossing_pair k p n h.shaped lt (h.bounded p n lt at) cr) i)) (λ (m : IsMarked k words p). inr (inl m)) (h.covered p n lt at cr);
+  weighed = (omega arith, λ seat u at none. subst IsBlank (only v u seat at) (((refl, refl, refl)), refl, refl, refl, refl));
+  numbered = λ m. omega arith;
+  stored = λ p n lt at. inr (at_take words (k.slots + k.cards) p n (omega arith) at, λ g b. absurd (subst (λ (u : View). In u.histories g) (sym (only v b.1 b.0 b.2)) b.3));
+  recorded = λ x b. absurd (subst (λ (u : View). In u.pairs x) (sym (only v b.1 b.0 b.2)) b.3);
+  kept = record {
+    has = λ x n. ⊎_elim (λ (i : In (pairs_up_to k words k.cards) x). inl (in_set k words x i).1) (λ (b : Held pairs_of (v ∷ []) x). absurd (subst (λ (u : View). In u.pairs x) (sym (only v b.1 b.0 b.2)) b.3)) n;
+    only = λ x pair b. inl (set_in k words x pair b);
+    read = λ x b. absurd (subst (λ (u : View). In u.held x) (sym (only v b.1 b.0 b.2)) b.3);
+  };
+  claimed = λ c lt. ⊎_elim
+      (λ (m : get_elem? words (mark_word k c) ≡ some 1). inl (m, inr (at_take words (k.slots + k.cards) (mark_word k c) 1 (omega arith) m)))
+      (λ (z : get_elem? words (mark_word k c) ≡ some 0). inr (
+        z,
+        inr (λ (y : MadeDirty k (front k words) (v ∷ []) c). ⊎_elim
+            (λ (b : Held claims_of (v ∷ []) c). absurd (subst (λ (u : View). In u.claims c) (sym (only v b.1 b.0 b.2)) b.3))
+            (λ (m : get_elem? (front k words) (mark_word k c) ≡ some 1). never_both words (mark_word k c) z (at_untake words (k.slots + k.cards) (mark_word k c) 1 m).1) y),
+      ))
+      (h.marks c lt);
+  counted = λ c m n lt was is. let e = same_word words (k.slots + k.cards) (mark_word k c) m n was is in omega (arith, e);
+}
+
+-- words that begin with all null and all clean, and no bit set
+
+pub no_bit : (k : Shape) (words : List ℕ) (x : ℕ × ℕ) → get_or words (bit_word k x) 0 ≡ 0 → HasBit k words x → ⊥
+no_bit k words x e b = absurd (let z : bit_at (get_or words (bit_word k x) 0) (bit_place k x) ≡ 0 = ap (λ (n : ℕ). bit_at n (bit_place k x)) e ∙ bit_at-zero (bit_place k x) in omega (arith, z, b))
+
+pub zeros_read : (n i : ℕ) → get_or (zeros n) i 0 ≡ 0
+zeros_read zero i = refl
+zeros_read (suc n) zero = refl
+zeros_read (suc n) (suc i) = zeros_read n i
+
+pub null_begun : (k : Shape) → IsShape k → IsBegun (null_of k)
+null_begun k shaped = let all = k.slots + k.cards + k.bits in record {
+  shaped = shaped;
+  sized = length_zeros all;
+  bounded = λ p n lt at. let e = at_zeros all p n at in omega arith;
+  marks = λ c lt. inr (zero_at all (mark_word k c) (omega arith));
+  covered = λ p n lt at cr. absurd (null_stays k p n (at_zeros all p n at) cr);
+  proper = λ x pair b. absurd (no_bit k (zeros all) x (zeros_read all (bit_word k x)) b);
+}
+
+-- a heap begins at a pause
+pub going_first : (k : Shape) → IsShape k → Going k (zeros (k.slots + k.cards + k.bits)) (iced (null_of k) k.members ∷ [])
+going_first k shaped = let all = k.slots + k.cards + k.bits in record {
+  first = zeros all;
+  frozen = true;
+  raced = raced_beginning k (zeros all) (null_begun k shaped);
+  proper = λ x i. let s = in_set k (zeros all) x i in (null_begun k shaped).proper x s.0 s.1;
+  agreed = λ seat v at heavy. subst (λ (u : View). (start_of u ≡ null_of k) × (u.frozen ≡ true)) (only (iced (null_of k) k.members) v seat at) (refl, refl);
+  spared = λ seat v at. subst (λ (u : View). u.spare ≤ u.weight) (only (iced (null_of k) k.members) v seat at) (omega arith);
+  still = λ e. refl;
+}

@@ -1,0 +1,63 @@
+-- Bits and pairs stay in step.
+use Rattle.std.proofs.Common.{◌≡◌, ◌⊎◌, ℕ, List, [], set, sym, ◌∙◌, subst, inl, inr, ⊎_elim}
+use mathlib.Core.Option.{some}
+use native.Mathlib.Decide.{ℕ_discrete}
+use lib.ListN.{get_elem?}
+use Rattle.atomic_table.proofs.Lists.{set_else}
+use Rattle.g1_race_words.specs.declared.view.Shape.{Shape}
+use Rattle.g1_race_words.specs.declared.view.View.{View}
+use Rattle.g1_race_words.specs.Rule.{In, Held, pairs_of, held_of, IsNoted, HasBit, Kept}
+use Rattle.g1_race_words.specs.Steps.{pair_at, read}
+use Rattle.g1_race_words.proofs.Plain.{in_left, in_right, in_either, put_here, one_there, SameHeld, held_on, held_back, held_same}
+use Rattle.g1_race_words.proofs.PairBits.{SameBits, bit_as}
+
+pub noted_on : (known : List (ℕ × ℕ)) (views after : List View) → ((x : ℕ × ℕ) → Held pairs_of views x → Held pairs_of after x) → (x : ℕ × ℕ) → IsNoted known views x → IsNoted known after x
+noted_on known views after on x (inl i) = inl i
+noted_on known views after on x (inr a) = inr (on x a)
+
+-- no bit changes, and no seat's pairs
+pub kept_same : (k : Shape) (known : List (ℕ × ℕ)) (words new : List ℕ) (views after : List View) → SameBits k words new → SameHeld pairs_of views after → SameHeld held_of views after → Kept k known words views → Kept k known new after
+kept_same k known words new views after bits pairs held h = record {
+  has = λ x n. ⊎_elim (λ (b : HasBit k words x). inl (bit_as k words new x bits b)) (λ (a : Held held_of views x). inr ((held x).0 a)) (h.has x (noted_on known after views (λ y. (pairs y).1) x n));
+  only = λ x p b. noted_on known views after (λ y. (pairs y).0) x (h.only x p (bit_as k new words x (λ y. sym (bits y)) b));
+  read = λ x a. (pairs x).0 (h.read x ((held x).1 a));
+}
+
+pub kept_stays : (k : Shape) (known : List (ℕ × ℕ)) (words new : List ℕ) (views : List View) (id : ℕ) (v w : View) → get_elem? views id ≡ some v → v.pairs ≡ w.pairs → v.held ≡ w.held → SameBits k words new → Kept k known words views → Kept k known new (set views id w)
+kept_stays k known words new views id v w at pairs held bits = kept_same k known words new views (set views id w) bits (held_same pairs_of views id v w at pairs) (held_same held_of views id v w at held)
+
+-- a sweeper that holds nothing reads a slot, and holds its pair then
+pub kept_read : (k : Shape) (known : List (ℕ × ℕ)) (words : List ℕ) (views : List View) (id : ℕ) (v : View) (p n : ℕ) → v.held ≡ [] → get_elem? views id ≡ some v → Kept k known words views → Kept k known words (set views id (read v p n))
+kept_read k known words views id v p n free at h = record {
+  has = has;
+  only = λ x pair b. noted_on known views after more x (h.only x pair b);
+  read = λ x a. ⊎_elim (λ (b : Held held_of views x). more x (h.read x b)) (λ (i : In (pair_at v.shape p n) x). (id, w, put_here views id v w at, in_right v.pairs (pair_at v.shape p n) x i)) (held_back held_of views id v w at x a);
+}
+  where
+    w : View
+    w = read v p n
+
+    after : List View
+    after = set views id w
+
+    more : (x : ℕ × ℕ) → Held pairs_of views x → Held pairs_of after x
+    more = held_on pairs_of views id v w at (λ y i. in_left v.pairs (pair_at v.shape p n) y i)
+
+    old : (x : ℕ × ℕ) → IsNoted known views x → HasBit k words x ⊎ Held held_of after x
+    old x n = ⊎_elim (λ (b : HasBit k words x). inl b) (λ (a : Held held_of views x). inr (held_on held_of views id v w at (λ y i. absurd (subst (λ (l : List (ℕ × ℕ)). In l y) free i)) x a)) (h.has x n)
+
+    has : (x : ℕ × ℕ) → IsNoted known after x → HasBit k words x ⊎ Held held_of after x
+    has x (inl i) = old x (inl i)
+    has x (inr a) = ⊎_elim
+        (λ (b : Held pairs_of views x). old x (inr b))
+        (λ (i : In w.pairs x). ⊎_elim (λ (j : In v.pairs x). old x (inr (id, v, at, j))) (λ (j : In (pair_at v.shape p n) x). inr (id, w, put_here views id v w at, j)) (in_either v.pairs (pair_at v.shape p n) x i))
+        (held_back pairs_of views id v w at x a)
+
+-- what a seat held it still holds, or it has been done with
+pub held_or : (Q : Type 0) (views : List View) (id : ℕ) (v w : View) (x : ℕ × ℕ) → get_elem? views id ≡ some v → (In v.held x → Q ⊎ In w.held x) → Held held_of views x → Q ⊎ Held held_of (set views id w) x
+held_or Q views id v w x at f h = pick (ℕ_discrete h.0 id)
+  where
+    pick : Dec (h.0 ≡ id) → Q ⊎ Held held_of (set views id w) x
+    pick (yes e) = ⊎_elim (λ (q : Q). inl q) (λ (i : In w.held x). inr (id, w, put_here views id v w at, i))
+        (f (subst (λ (u : View). In u.held x) (one_there views id h.1 v (subst (λ (i : ℕ). get_elem? views i ≡ some h.1) e h.2) at) h.3))
+    pick (no ne) = inr (h.0, h.1, set_else views id h.0 w ne ∙ h.2, h.3)

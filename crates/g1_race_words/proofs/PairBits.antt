@@ -1,0 +1,91 @@
+-- The bits of the pairs among the words.
+use Rattle.std.proofs.Common.{◌≡◌, ◌≢◌, ◌⊎◌, ℕ, ◌+◌, ◌-◌, ◌*◌, ◌/◌, ◌%◌, ◌^◌, ◌<◌, ◌≤◌, List, length, set, get_or, bit_or, w64, not, eqb, true, false, eq-eqb, sym, ap, ◌∙◌, subst, inl, inr, arith, div-lt_iff_lt-mul}
+use Rattle.std.specs.Int.{bit_at}
+use Rattle.std.proofs.lemmas.Bool.{cases_eq}
+use Rattle.std.proofs.lemmas.List.{get_or-set_same, get_or-set_other}
+use Rattle.std.proofs.lemmas.Nat.{div-mul-add, mod-mul-add, mul-add-lt}
+use Rattle.std.proofs.lemmas.Nat.Bits.{bit_at_set_same, bit_at_set_other}
+use Rattle.g1_race_words.specs.declared.view.Shape.{Shape}
+use Rattle.g1_race_words.specs.Rule.{card_of, region_at, crosses, IsShape, IsPair, HasBit, bit_word, bit_place}
+use Rattle.g1_race_words.proofs.Plain.{true_is}
+
+pub card_below : (k : Shape) (p : ℕ) → IsShape k → p < k.slots → card_of k p < k.cards
+card_below k p shaped lt = (div-lt_iff_lt-mul shaped.1).1 (subst (λ (n : ℕ). p < n) shaped.0 lt)
+
+pub crosses_some : (k : Shape) (p n : ℕ) → crosses k p n ≡ true → n ≢ 0
+crosses_some k p n cr z = absurd (let f : false ≡ true = sym (true_is (eqb n 0) false (not (eqb (p / k.span) (region_at k n))) (eq-eqb n 0 z)) ∙ cr in cc (f))
+
+-- the pair of a reference that crosses regions
+pub crossing_pair : (k : Shape) (p n : ℕ) → IsShape k → p < k.slots → n ≤ k.slots → crosses k p n ≡ true → IsPair k (card_of k p, region_at k n)
+crossing_pair k p n shaped lt le cr = (card_below k p shaped lt, (div-lt_iff_lt-mul shaped.2).1 (let some_n = crosses_some k p n cr in let x : ℕ = k.regions * k.span in let e : k.slots ≡ x = shaped.6 in let goal : n - 1 < x = omega arith in goal))
+
+-- the bits of all pairs have room, and no two pairs have one bit
+
+pub in_row : (k : Shape) (x : ℕ × ℕ) → IsShape k → IsPair k x → x.0 / 64 < k.row
+in_row k x shaped pair = let c : ℕ = x.0 in let lt : c < k.cards = pair.0 in let e : k.cards ≤ k.row * 64 = shaped.7 in let goal : c / 64 < k.row = omega arith in goal
+
+pub word_below : (k : Shape) (x : ℕ × ℕ) → IsShape k → IsPair k x → bit_word k x < k.slots + k.cards + k.bits
+word_below k x shaped pair = let n : ℕ = x.0 / 64 in let r : ℕ = x.1 * k.row in let all : ℕ = k.row * k.regions in let same : ℕ = k.regions * k.row in
+    let a : r + n < all = mul-add-lt x.1 k.row n k.regions pair.1 (in_row k x shaped pair) in let b : k.bits ≡ same = shaped.8 in let e : all ≡ same = omega arith in let goal : k.slots + k.cards + (r + n) < k.slots + k.cards + k.bits = omega arith in goal
+
+pub bit_apart : (k : Shape) (x y : ℕ × ℕ) → IsShape k → IsPair k x → IsPair k y → bit_word k x ≡ bit_word k y → bit_place k x ≡ bit_place k y → x ≡ y
+bit_apart k x y shaped px py e f =
+    let low : x.1 * k.row + x.0 / 64 ≡ y.1 * k.row + y.0 / 64 = (let n : ℕ = x.1 * k.row + x.0 / 64 in let m : ℕ = y.1 * k.row + y.0 / 64 in let g : k.slots + k.cards + n ≡ k.slots + k.cards + m = e in let goal : n ≡ m = omega arith in goal) in
+    let regions : x.1 ≡ y.1 = sym (div-mul-add x.1 k.row (x.0 / 64) (in_row k x shaped px)) ∙ (ap (λ (n : ℕ). n / k.row) low ∙ div-mul-add y.1 k.row (y.0 / 64) (in_row k y shaped py)) in
+    let high : x.0 / 64 ≡ y.0 / 64 = sym (mod-mul-add x.1 k.row (x.0 / 64) (in_row k x shaped px)) ∙ (ap (λ (n : ℕ). n % k.row) low ∙ mod-mul-add y.1 k.row (y.0 / 64) (in_row k y shaped py)) in
+    let cards : x.0 ≡ y.0 = (let n : ℕ = x.0 in let m : ℕ = y.0 in let e' : n / 64 ≡ m / 64 = high in let f' : n % 64 ≡ m % 64 = f in let goal : n ≡ m = omega arith in goal) in
+    λ i. (cards i, regions i)
+
+-- words of slots and marks change no bit
+abbrev pub SameBits : Shape → List ℕ → List ℕ → Type 0
+SameBits k words new = (x : ℕ × ℕ) → get_or new (bit_word k x) 0 ≡ get_or words (bit_word k x) 0
+
+pub same_bits : (k : Shape) (words : List ℕ) (i n : ℕ) → i < k.slots + k.cards → SameBits k words (set words i n)
+same_bits k words i n lt x = get_or-set_other words i (bit_word k x) n 0 (λ e. let m : ℕ = x.1 * k.row + x.0 / 64 in let f : k.slots + k.cards + m ≡ i = e in omega arith)
+
+pub bit_as : (k : Shape) (words new : List ℕ) (x : ℕ × ℕ) → SameBits k words new → HasBit k words x → HasBit k new x
+bit_as k words new x same h = ap (λ (n : ℕ). bit_at n (bit_place k x)) (same x) ∙ h
+
+-- one pair's bit is set
+
+module _ (k : Shape) (words : List ℕ) (x : ℕ × ℕ) where
+  abbrev pub with_bit : ℕ
+  with_bit = bit_or (get_or words (bit_word k x) 0) (1 * 2 ^ bit_place k x % 2 ^ 64)
+
+  abbrev pub with_pair : List ℕ
+  with_pair = set words (bit_word k x) with_bit
+
+  module _ (short : bit_word k x < length words) where
+    there : (y : ℕ × ℕ) → bit_word k y ≡ bit_word k x → get_or with_pair (bit_word k y) 0 ≡ with_bit
+    there y e = ap (λ (i : ℕ). get_or with_pair i 0) e ∙ get_or-set_same words (bit_word k x) with_bit 0 short
+
+    low : bit_place k x < 64
+    low = let n : ℕ = x.0 in let goal : n % 64 < 64 = omega arith in goal
+
+    -- another bit is as it was
+    other_word : (y : ℕ × ℕ) → bit_word k y ≢ bit_word k x → bit_at (get_or with_pair (bit_word k y) 0) (bit_place k y) ≡ bit_at (get_or words (bit_word k y) 0) (bit_place k y)
+    other_word y apart = ap (λ (n : ℕ). bit_at n (bit_place k y)) (get_or-set_other words (bit_word k x) (bit_word k y) with_bit 0 apart)
+
+    other_place : (y : ℕ × ℕ) → bit_word k y ≡ bit_word k x → bit_place k y ≢ bit_place k x → bit_at (get_or with_pair (bit_word k y) 0) (bit_place k y) ≡ bit_at (get_or words (bit_word k y) 0) (bit_place k y)
+    other_place y e apart = ap (λ (n : ℕ). bit_at n (bit_place k y)) (there y e) ∙ (bit_at_set_other w64 (get_or words (bit_word k x) 0) (bit_place k x) low (bit_place k y) apart ∙ ap (λ (i : ℕ). bit_at (get_or words i 0) (bit_place k y)) (sym e))
+
+    same_place : (y : ℕ × ℕ) → bit_word k y ≡ bit_word k x → bit_place k y ≡ bit_place k x → HasBit k with_pair y
+    same_place y e f = ap (λ (n : ℕ). bit_at n (bit_place k y)) (there y e) ∙ (ap (bit_at with_bit) f ∙ bit_at_set_same w64 (get_or words (bit_word k x) 0) (bit_place k x) low)
+
+    pub bit_here : HasBit k with_pair x
+    bit_here = same_place x (λ i. bit_word k x) (λ i. bit_place k x)
+
+    pub bits_stay : (y : ℕ × ℕ) → HasBit k words y → HasBit k with_pair y
+    bits_stay y h = elim (cases_eq (bit_word k y) (bit_word k x)) [
+      | inl e ↦ elim (cases_eq (bit_place k y) (bit_place k x)) [ inl f ↦ same_place y e f | inr ne ↦ other_place y e ne ∙ h ]
+      | inr ne ↦ other_word y ne ∙ h
+    ]
+
+    pub bits_back : (y : ℕ × ℕ) → IsShape k → IsPair k x → IsPair k y → HasBit k with_pair y → HasBit k words y ⊎ (x ≡ y)
+    bits_back y shaped px py h = elim (cases_eq (bit_word k y) (bit_word k x)) [
+      | inl e ↦ elim (cases_eq (bit_place k y) (bit_place k x)) [
+        | inl f ↦ inr (bit_apart k x y shaped px py (sym e) (sym f))
+        | inr ne ↦ inl (sym (other_place y e ne) ∙ h)
+      ]
+      | inr ne ↦ inl (sym (other_word y ne) ∙ h)
+    ]

@@ -1,0 +1,127 @@
+-- A sweeper looks for the bit of the pair that it holds, and sets it.
+use Rattle.std.proofs.Common.{◌≡◌, ◌⊎◌, ℕ, ◌+◌, ◌*◌, ◌/◌, ◌<◌, cond, eqb, Bool, true, false, List, [], ◌∷◌, length, set, get_or, refl, sym, ◌∙◌, subst, inl, inr, ⊎_elim, arith, length-set, ne_eqb}
+use mathlib.Core.Option.{some}
+use native.Mathlib.Decide.{ℕ_discrete}
+use lib.ListN.{get_elem?}
+use Rattle.std.specs.Int.{bit_at}
+use Rattle.atomic_table.proofs.Lists.{set_else}
+use Rattle.g1_race_words.specs.declared.view.Shape.{Shape}
+use Rattle.g1_race_words.specs.declared.view.View.{View}
+use Rattle.g1_race_words.specs.Begin.{Begun}
+use Rattle.g1_race_words.specs.Rule.{card_of, mark_word, In, Held, claims_of, cleanings_of, pairs_of, held_of, IsShape, IsPair, HasBit, Kept, Raced, bit_word, bit_place}
+use Rattle.g1_race_words.specs.Steps.{unset, sought, recorded}
+use Rattle.g1_race_words.proofs.Plain.{held_back, held_same, false_is}
+use Rattle.g1_race_words.proofs.PairBits.{card_below, word_below, with_pair, bit_here, bits_stay, bits_back}
+use Rattle.g1_race_words.proofs.Cover.{covered_moves, others_pass}
+use Rattle.g1_race_words.proofs.Keeping.{noted_on, held_or}
+use Rattle.g1_race_words.proofs.Unchanged.{weighed_step, numbers_stay, bounded_same, stores_stay, pairs_stay, claim_same, counted_stays}
+use Rattle.g1_race_words.specs.Seats.{Sits}
+
+-- the words of slots and marks stay, and what a seat holds changes
+
+abbrev pub SameFront : Shape → List ℕ → List ℕ → Type 0
+SameFront k words new = (i : ℕ) → i < k.slots + k.cards → get_elem? new i ≡ get_elem? words i
+
+raced_held : (begun : Begun) (words new : List ℕ) (views : List View) (id : ℕ) (v : View) (l : List (ℕ × ℕ)) → IsShape begun.shape → Sits begun.shape v → length new ≡ length words → SameFront begun.shape words new → get_elem? views id ≡ some v
+    → Kept begun.shape begun.pairs new (set views id (record v { held = l })) → Raced begun words views → Raced begun new (set views id (record v { held = l }))
+raced_held begun words new views id v l shaped sits len front at kept h = record {
+  sized = len ∙ h.sized;
+  bounded = bounded_same k words new slots h.bounded;
+  covered = covered_moves k begun.pairs words new views (set views id w) h.covered
+      (λ p n lt there cr. inr (slots p n lt there, (λ m. inl (front (mark_word k (card_of k p)) (let c = card_below k p shaped lt in omega arith) ∙ m)), others_pass k new views id v w p n at (λ a. inr a)));
+  weighed = weighed_step k views id v w at sits.weight sits.weight h.weighed;
+  numbered = numbers_stay k views id v w at refl refl h.numbered;
+  stored = stores_stay k begun.words words new views id v w at refl slots h.stored;
+  recorded = pairs_stay k begun.words views id v w at refl refl h.recorded;
+  kept = kept;
+  claimed = λ c lt. claim_same k begun.words words new views (set views id w) c (front (mark_word k c) (omega arith))
+      (held_same claims_of views id v w at refl c).0 (held_same claims_of views id v w at refl c).1 (held_same cleanings_of views id v w at refl c).0 (h.claimed c lt);
+  counted = λ c m n lt was is. counted_stays k begun.words words words views id v w at refl refl (λ d. refl) h.counted c m n lt was (sym (front (mark_word k c) (omega (arith, lt))) ∙ is);
+}
+  where
+    k : Shape
+    k = begun.shape
+
+    w : View
+    w = record v { held = l }
+
+    slots : (p n : ℕ) → p < k.slots → get_elem? new p ≡ some n → get_elem? words p ≡ some n
+    slots p n lt there = sym (front p (omega arith)) ∙ there
+
+-- the one pair that is held
+only_held : (l : List (ℕ × ℕ)) (x y : ℕ × ℕ) → l ≡ x ∷ [] → In l y → x ≡ y
+only_held l x y one i = one_of (subst (λ (m : List (ℕ × ℕ)). In m y) one i)
+  where
+    one_of : In (x ∷ []) y → x ≡ y
+    one_of (inl e) = e
+    one_of (inr n) = absurd n
+
+-- the bit is looked for
+
+unset_one : (k : Shape) (n : ℕ) (x : ℕ × ℕ) (l : List (ℕ × ℕ)) → l ≡ x ∷ [] → (bit_at n (bit_place k x) ≡ 1) ⊎ In (unset k n l) x
+unset_one k n x l one = pick (ℕ_discrete (bit_at n (bit_place k x)) 1)
+  where
+    pick : Dec (bit_at n (bit_place k x) ≡ 1) → (bit_at n (bit_place k x) ≡ 1) ⊎ In (unset k n l) x
+    pick (yes e) = inl e
+    pick (no ne) = inr (subst (λ (m : List (ℕ × ℕ)). In (unset k n m) x) (sym one) (subst (λ (m : List (ℕ × ℕ)). In m x) (sym (false_is (eqb (bit_at n (bit_place k x)) 1) [] (x ∷ []) (ne_eqb (bit_at n (bit_place k x)) 1 ne))) (inl refl)))
+
+unset_back : (k : Shape) (n : ℕ) (l : List (ℕ × ℕ)) (y : ℕ × ℕ) → In (unset k n l) y → In l y
+unset_back k n [] y i = i
+unset_back k n (x ∷ xs) y i = pick (eqb (bit_at n (bit_place k x)) 1) i (λ j. unset_back k n xs y j)
+  where
+    pick : (b : Bool) → In (cond b (unset k n xs) (x ∷ unset k n xs)) y → (In (unset k n xs) y → In xs y) → In (x ∷ xs) y
+    pick true j more = inr (more j)
+    pick false (inl e) more = inl e
+    pick false (inr j) more = inr (more j)
+
+pub raced_sought : (begun : Begun) (words : List ℕ) (views : List View) (id : ℕ) (v : View) (x : ℕ × ℕ) → IsShape begun.shape → Sits begun.shape v → v.held ≡ x ∷ []
+    → get_elem? views id ≡ some v → Raced begun words views → Raced begun words (set views id (sought v (get_or words (bit_word begun.shape x) 0)))
+raced_sought begun words views id v x shaped sits one at h = raced_held begun words words views id v w.held shaped sits refl (λ i lt. refl) at
+    (record {
+      has = λ y n. ⊎_elim (λ (b : HasBit k words y). inl b) (λ (a : Held held_of views y). held_or (HasBit k words y) views id v w y at (found y) a) (h.kept.has y (noted_on begun.pairs (set views id w) views (λ z. (same z).1) y n));
+      only = λ y pair b. noted_on begun.pairs views (set views id w) (λ z. (same z).0) y (h.kept.only y pair b);
+      read = λ y a. (same y).0 (⊎_elim (λ (b : Held held_of views y). h.kept.read y b) (λ (i : In w.held y). h.kept.read y (id, v, at, unset_back v.shape (get_or words (bit_word k x) 0) v.held y i)) (held_back held_of views id v w at y a));
+    }) h
+  where
+    k : Shape
+    k = begun.shape
+
+    w : View
+    w = sought v (get_or words (bit_word k x) 0)
+
+    same : (z : ℕ × ℕ) → (Held pairs_of views z → Held pairs_of (set views id w) z) × (Held pairs_of (set views id w) z → Held pairs_of views z)
+    same = held_same pairs_of views id v w at refl
+
+    found : (y : ℕ × ℕ) → In v.held y → HasBit k words y ⊎ In w.held y
+    found y i = subst (λ (z : ℕ × ℕ). HasBit k words z ⊎ In w.held z) (only_held v.held x y one i)
+        (subst (λ (s : Shape). HasBit k words x ⊎ In (unset s (get_or words (bit_word k x) 0) v.held) x) (sym sits.shape) (unset_one k (get_or words (bit_word k x) 0) x v.held one))
+
+-- the bit is set
+
+pub raced_recorded : (begun : Begun) (words : List ℕ) (views : List View) (id : ℕ) (v : View) (x : ℕ × ℕ) → IsShape begun.shape → Sits begun.shape v → v.held ≡ x ∷ [] → IsPair begun.shape x
+    → get_elem? views id ≡ some v → Raced begun words views → Raced begun (with_pair begun.shape words x) (set views id (recorded v))
+raced_recorded begun words views id v x shaped sits one pair at h = raced_held begun words new views id v [] shaped sits (length-set words (bit_word k x) _)
+    (λ i lt. set_else words (bit_word k x) i _ (λ e. let m : ℕ = x.1 * k.row + x.0 / 64 in let f : i ≡ k.slots + k.cards + m = e in absurd (omega arith))) at
+    (record {
+      has = λ y n. ⊎_elim (λ (b : HasBit k words y). inl (bits_stay k words x short y b)) (λ (a : Held held_of views y). held_or (HasBit k new y) views id v w y at (λ i. inl (subst (HasBit k new) (only_held v.held x y one i) (bit_here k words x short))) a)
+          (h.kept.has y (noted_on begun.pairs (set views id w) views (λ z. (same z).1) y n));
+      only = λ y p b. ⊎_elim (λ (c : HasBit k words y). noted_on begun.pairs views (set views id w) (λ z. (same z).0) y (h.kept.only y p c))
+          (λ (e : x ≡ y). inr ((same y).0 (h.kept.read y (id, v, at, subst (λ (l : List (ℕ × ℕ)). In l y) (sym one) (inl e)))))
+          (bits_back k words x short y shaped pair p b);
+      read = λ y a. (same y).0 (⊎_elim (λ (b : Held held_of views y). h.kept.read y b) (λ (i : In w.held y). absurd i) (held_back held_of views id v w at y a));
+    }) h
+  where
+    k : Shape
+    k = begun.shape
+
+    w : View
+    w = recorded v
+
+    new : List ℕ
+    new = with_pair k words x
+
+    short : bit_word k x < length words
+    short = subst (λ (n : ℕ). bit_word k x < n) (sym h.sized) (word_below k x shaped pair)
+
+    same : (z : ℕ × ℕ) → (Held pairs_of views z → Held pairs_of (set views id w) z) × (Held pairs_of (set views id w) z → Held pairs_of views z)
+    same = held_same pairs_of views id v w at refl

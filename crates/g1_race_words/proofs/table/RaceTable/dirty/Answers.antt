@@ -1,0 +1,13 @@
+use Rattle.std.proofs.Common.{◌≡◌}
+use Rattle.g1_race_words.specs.Seats.{OwesMark, Sits}
+use Rattle.g1_race_words.proofs.Calls.{inside, dirty_owed}
+use Rattle.g1_race_words.proofs.table.RaceTable.dirty.Goals as goal
+
+pub swap-requires : goal.swap-requires
+swap-requires c =
+    let t = c.self.inside.table.shared in
+    let i = c.self.invariant in
+    let r = c.requires in
+    let m = c.args.mark in
+    let asked = inside (λ w s. (s.table_id ≡ w.table_id) × Sits w.shape s.me.0 × OwesMark w.shape s.me.0 m) _ _ _ _ c.self.view_is c.seat.view_is (r.table, r.racer, r.mark) in
+    dirty_owed t.table_id t.key i.0 i.2 c.seat.inside.seat asked.0 m asked.1 asked.2

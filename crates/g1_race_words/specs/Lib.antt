@@ -1,0 +1,4 @@
+pub mod Begin
+pub mod Rule
+pub mod Steps
+pub mod Seats

@@ -1,0 +1,95 @@
+//! The steps of a pause, by the one seat that has the weight of all members.
+ghost use Rattle.std.specs.Prelude.{◌≡◌, ◌+◌, ◌<◌, slice_set};
+ghost use mathlib.Core.Option.{some};
+ghost use lib.ListN.{get_elem?};
+ghost use Rattle.g1_race_words.specs.Rule.{AtRest, IsBegun, start};
+ghost use Rattle.g1_race_words.specs.Steps.{thawed};
+ghost use Rattle.g1_race_words.specs.Seats.{Freezes, IsPaused};
+
+use crate::table::{Place, RaceTable};
+use crate::view::View;
+use atomic_table::Play;
+
+pub(crate) struct Learns;
+
+impl Play<(), View> for Learns {
+    ghost use Rattle.g1_race_words.specs.Seats.{Freezes};
+
+    ghost then = { λ step before found after. Freezes before after };
+}
+
+pub(crate) struct Thaws;
+
+impl Play<(), View> for Thaws {
+    ghost use Rattle.std.specs.Prelude.{◌≡◌};
+    ghost use Rattle.g1_race_words.specs.Steps.{thawed};
+
+    ghost then = { λ step before found after. after ≡ (thawed before.0, before.1) };
+}
+
+pub(crate) struct Sees;
+
+impl Play<(), View> for Sees {
+    ghost use Rattle.std.specs.Prelude.{◌≡◌};
+    ghost use mathlib.Core.Option.{some};
+    ghost use lib.ListN.{get_elem?};
+
+    ghost then = { λ step before found after.
+        (after ≡ before) × (get_elem? before.0.began_words step.word ≡ some found) };
+}
+
+pub(crate) struct Sets;
+
+impl Play<(), View> for Sets {
+    ghost use Rattle.std.specs.Prelude.{◌≡◌};
+    ghost use Rattle.g1_race_words.specs.Steps.{put};
+
+    ghost then = { λ step before found after.
+        after ≡ (put before.0 step.word step.first, before.1) };
+}
+
+impl RaceTable {
+    /// The seat that all the others joined learns all the words, and what they are to the beginning
+    /// of the race. No word changes.
+    pub fn freeze(&self, seat: &mut Place)
+        requires table { seat.old.table_id ≡ self.now.table_id }
+        requires all { seat.old.me.0.weight ≡ self.now.shape.members }
+        requires rest { AtRest seat.old.me.0 }
+        ensures table { seat.new.table_id ≡ seat.old.table_id }
+        ensures told { Freezes seat.old.me seat.new.me }
+    {
+        self.table.shared.load::<Learns>(&mut seat.seat, 0);
+    }
+
+    /// Lets the words change again. No word changes.
+    pub fn thaw(&self, seat: &mut Place)
+        requires seat { IsPaused self.now.table_id self.now.shape seat.old }
+        ensures table { seat.new.table_id ≡ seat.old.table_id }
+        ensures view { seat.new.me ≡ (thawed seat.old.me.0, seat.old.me.1) }
+    {
+        self.table.shared.load::<Thaws>(&mut seat.seat, 0);
+    }
+
+    /// Reads a word at a pause, which is what the seat knows it to be.
+    pub fn see(&self, seat: &mut Place, word: usize) -> u64
+        requires seat { IsPaused self.now.table_id self.now.shape seat.old }
+        requires word { word < self.now.shape.slots + self.now.shape.cards + self.now.shape.bits }
+        ensures word { get_elem? seat.old.me.0.began_words word ≡ some result }
+        ensures seat { (seat.new.table_id ≡ seat.old.table_id) × (seat.new.me ≡ seat.old.me) }
+    {
+        self.table.shared.load::<Sees>(&mut seat.seat, word)
+    }
+
+    /// Writes a word at a pause, and nothing else, where the words are still what a race can begin
+    /// with.
+    pub fn put(&self, seat: &mut Place, word: usize, new: u64)
+        requires seat { IsPaused self.now.table_id self.now.shape seat.old }
+        requires word { word < self.now.shape.slots + self.now.shape.cards + self.now.shape.bits }
+        requires begun { IsBegun
+            (start self.now.shape (slice_set seat.old.me.0.began_words word new)) }
+        ensures seat { IsPaused self.now.table_id self.now.shape seat.new }
+        ensures words { seat.new.me.0.began_words ≡ slice_set seat.old.me.0.began_words word new }
+    {
+        self.table.shared.store::<Sets>(&mut seat.seat, word, new);
+    }
+}

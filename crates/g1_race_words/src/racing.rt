@@ -1,0 +1,82 @@
+//! The steps of a racer.
+ghost use Rattle.std.specs.Prelude.{◌≡◌, ◌-◌, ◌<◌, ◌≤◌, [], ◌∷◌, None};
+ghost use Rattle.g1_race_words.specs.Rule.{History};
+ghost use Rattle.g1_race_words.specs.Steps.{wrote, looked, dirtied};
+ghost use Rattle.g1_race_words.specs.Seats.{Sits, OwesMark};
+
+use crate::table::{Place, RaceTable};
+use crate::view::View;
+use atomic_table::Play;
+
+pub(crate) struct Writes;
+
+impl Play<(), View> for Writes {
+    ghost use Rattle.std.specs.Prelude.{◌≡◌};
+    ghost use Rattle.g1_race_words.specs.Steps.{wrote};
+
+    ghost then = { λ step before found after.
+        after ≡ (wrote before.0 step.word step.first, before.1) };
+}
+
+pub(crate) struct Looks;
+
+impl Play<(), View> for Looks {
+    ghost use Rattle.std.specs.Prelude.{◌≡◌};
+    ghost use Rattle.g1_race_words.specs.Steps.{looked};
+
+    ghost then = { λ step before found after. after ≡ (looked before.0 found, before.1) };
+}
+
+pub(crate) struct Dirties;
+
+impl Play<(), View> for Dirties {
+    ghost use Rattle.std.specs.Prelude.{◌≡◌, ◌-◌};
+    ghost use Rattle.g1_race_words.specs.Steps.{dirtied};
+
+    ghost then = { λ step before found after.
+        after ≡ (dirtied before.0 (step.word - before.0.shape.slots) found, before.1) };
+}
+
+impl RaceTable {
+    /// A racer that owes nothing writes the slot. Where the reference crosses regions, it owes the
+    /// slot's card from then on.
+    pub fn write(&self, seat: &mut Place, slot: usize, word: u64)
+        requires table { seat.old.table_id ≡ self.now.table_id }
+        requires racer { Sits self.now.shape seat.old.me.0
+            × ((h : History) × (seat.old.me.0.histories ≡ h ∷ [])) }
+        requires free { seat.old.me.0.owed ≡ None }
+        requires slot { slot < self.now.shape.slots }
+        requires word { word ≤ self.now.shape.slots }
+        ensures table { seat.new.table_id ≡ seat.old.table_id }
+        ensures view { seat.new.me ≡ (wrote seat.old.me.0 slot word, seat.old.me.1) }
+    {
+        self.table
+            .shared
+            .store::<Writes>(&mut seat.seat, slot, word);
+    }
+
+    /// A racer looks at the mark of the card that it owes, which it owes no more where the mark is
+    /// dirty. Returns the mark.
+    pub fn look(&self, seat: &mut Place, mark: usize) -> u64
+        requires table { seat.old.table_id ≡ self.now.table_id }
+        requires racer { Sits self.now.shape seat.old.me.0 }
+        requires mark { OwesMark self.now.shape seat.old.me.0 mark }
+        ensures table { seat.new.table_id ≡ seat.old.table_id }
+        ensures view { seat.new.me ≡ (looked seat.old.me.0 result, seat.old.me.1) }
+    {
+        self.table.shared.load::<Looks>(&mut seat.seat, mark)
+    }
+
+    /// A racer swaps the mark of the card that it owes to dirty, and owes it no more. Returns the
+    /// mark as it was: where it was clean, the racer has claimed the card.
+    pub fn dirty(&self, seat: &mut Place, mark: usize) -> u64
+        requires table { seat.old.table_id ≡ self.now.table_id }
+        requires racer { Sits self.now.shape seat.old.me.0 }
+        requires mark { OwesMark self.now.shape seat.old.me.0 mark }
+        ensures table { seat.new.table_id ≡ seat.old.table_id }
+        ensures view { seat.new.me
+            ≡ (dirtied seat.old.me.0 (mark - seat.old.me.0.shape.slots) result, seat.old.me.1) }
+    {
+        self.table.shared.swap::<Dirties>(&mut seat.seat, mark, 1)
+    }
+}

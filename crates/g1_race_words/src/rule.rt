@@ -1,0 +1,15 @@
+//! The rule of the race.
+use crate::view::{Shape, View};
+use atomic_table::TableRule;
+
+/// The rule that the words and the views keep (`Going` of `specs/Rule.antt`).
+pub struct RaceRule;
+
+impl TableRule<(), View, Shape> for RaceRule {
+    ghost use Rattle.g1_race_words.specs.Rule.{Going, null_of};
+    ghost use Rattle.g1_race_words.specs.Steps.{iced};
+
+    ghost holds = { λ k s. Going k s.words s.views };
+
+    ghost first = { λ k. iced (null_of k) k.members };
+}

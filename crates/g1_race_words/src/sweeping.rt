@@ -1,0 +1,105 @@
+//! The steps of a sweeper.
+ghost use Rattle.std.specs.Prelude.{◌≡◌, ℕ, ◌-◌, ◌<◌, ◌≤◌, []};
+ghost use Rattle.g1_race_words.specs.Rule.{bit_place};
+ghost use Rattle.g1_race_words.specs.Steps.{cleaned, read, sought, recorded};
+ghost use Rattle.g1_race_words.specs.Seats.{Sits, IsMark, HoldsBit};
+
+use crate::table::{Place, RaceTable};
+use crate::view::View;
+use atomic_table::Play;
+
+pub(crate) struct Cleans;
+
+impl Play<(), View> for Cleans {
+    ghost use Rattle.std.specs.Prelude.{◌≡◌, ◌-◌};
+    ghost use Rattle.g1_race_words.specs.Steps.{cleaned};
+
+    ghost then = { λ step before found after.
+        after ≡ (cleaned before.0 (step.word - before.0.shape.slots) found, before.1) };
+}
+
+pub(crate) struct Reads;
+
+impl Play<(), View> for Reads {
+    ghost use Rattle.std.specs.Prelude.{◌≡◌, ◌≤◌};
+    ghost use Rattle.g1_race_words.specs.Steps.{read};
+
+    ghost then = { λ step before found after.
+        (after ≡ (read before.0 step.word found, before.1)) × (found ≤ before.0.shape.slots) };
+}
+
+pub(crate) struct Seeks;
+
+impl Play<(), View> for Seeks {
+    ghost use Rattle.std.specs.Prelude.{◌≡◌};
+    ghost use Rattle.g1_race_words.specs.Steps.{sought};
+
+    ghost then = { λ step before found after. after ≡ (sought before.0 found, before.1) };
+}
+
+pub(crate) struct Records;
+
+impl Play<(), View> for Records {
+    ghost use Rattle.std.specs.Prelude.{◌≡◌};
+    ghost use Rattle.g1_race_words.specs.Steps.{recorded};
+
+    ghost then = { λ step before found after. after ≡ (recorded before.0, before.1) };
+}
+
+impl RaceTable {
+    /// A sweeper that has nothing left to read swaps a mark to clean, and then has each slot of the
+    /// card to read. Returns the mark as it was.
+    pub fn clean(&self, seat: &mut Place, mark: usize) -> u64
+        requires table { seat.old.table_id ≡ self.now.table_id }
+        requires sweeper { Sits self.now.shape seat.old.me.0 }
+        requires done { seat.old.me.0.next ≡ seat.old.me.0.end }
+        requires mark { IsMark self.now.shape mark }
+        ensures table { seat.new.table_id ≡ seat.old.table_id }
+        ensures view { seat.new.me
+            ≡ (cleaned seat.old.me.0 (mark - seat.old.me.0.shape.slots) result, seat.old.me.1) }
+    {
+        self.table.shared.swap::<Cleans>(&mut seat.seat, mark, 0)
+    }
+
+    /// A sweeper that holds no pair reads the next slot. It holds the slot's pair from then on,
+    /// where the reference crosses regions. Returns the slot's word.
+    pub fn read(&self, seat: &mut Place, slot: usize) -> u64
+        requires table { seat.old.table_id ≡ self.now.table_id }
+        requires sweeper { Sits self.now.shape seat.old.me.0 }
+        requires free { seat.old.me.0.held ≡ [] }
+        requires next { seat.old.me.0.next ≡ slot }
+        requires slot { slot < self.now.shape.slots }
+        ensures table { seat.new.table_id ≡ seat.old.table_id }
+        ensures view { seat.new.me ≡ (read seat.old.me.0 slot result, seat.old.me.1) }
+        ensures word { result ≤ self.now.shape.slots }
+    {
+        self.table.shared.load::<Reads>(&mut seat.seat, slot)
+    }
+
+    /// A sweeper looks at the word with the bit of the pair that it holds, which it holds no more
+    /// where the bit is set. Returns the word. It touches no slot and no mark.
+    pub fn seek(&self, seat: &mut Place, word: usize) -> u64
+        requires table { seat.old.table_id ≡ self.now.table_id }
+        requires sweeper { Sits self.now.shape seat.old.me.0 }
+        requires pair { (x : ℕ × ℕ) × HoldsBit self.now.shape seat.old.me.0 x word }
+        ensures table { seat.new.table_id ≡ seat.old.table_id }
+        ensures view { seat.new.me ≡ (sought seat.old.me.0 result, seat.old.me.1) }
+    {
+        self.table.shared.load::<Seeks>(&mut seat.seat, word)
+    }
+
+    /// A sweeper sets the bit of the pair that it holds, and holds it no more. It touches no slot
+    /// and no mark.
+    pub fn record(&self, seat: &mut Place, word: usize, place: u32)
+        requires table { seat.old.table_id ≡ self.now.table_id }
+        requires sweeper { Sits self.now.shape seat.old.me.0 }
+        requires pair { (x : ℕ × ℕ) × HoldsBit self.now.shape seat.old.me.0 x word
+            × (place ≡ bit_place self.now.shape x) }
+        ensures table { seat.new.table_id ≡ seat.old.table_id }
+        ensures view { seat.new.me ≡ (recorded seat.old.me.0, seat.old.me.1) }
+    {
+        self.table
+            .shared
+            .fetch_or::<Records>(&mut seat.seat, word, 1 << place);
+    }
+}

@@ -1,0 +1,87 @@
+//! The table of words and a seat at it: how they begin, and how they end.
+ghost use Rattle.std.specs.Prelude.{◌≡◌, ◌+◌, ◌<◌, [], IfOk};
+ghost use Rattle.std.specs.Slots.{slots_items, slots_len, IsFull};
+ghost use Rattle.g1_race_words.specs.Rule.{IsShape, null_of};
+ghost use Rattle.g1_race_words.specs.Steps.{iced};
+ghost use Rattle.g1_race_words.specs.Seats.{IsPaused};
+
+use crate::rule::RaceRule;
+use crate::view::{Shape, View};
+use atomic_table::{Closed, Seat, Table};
+use std::alloc::{AllocError, Global};
+use std::marker::Model;
+
+/// The words of a race: one for each slot, one for each card's mark, and a row of bits for each
+/// region. Threads share it by `&`.
+///
+/// Its model is which table it is, and the shape of its heap.
+#[derive(Drop)]
+pub struct RaceTable {
+    pub(crate) table: Table<(), View, Shape, RaceRule, Global>,
+}
+
+impl Model for RaceTable {
+    ghost use Rattle.std.specs.Prelude.{◌≡◌, ◌+◌, ◌<◌};
+    ghost use Rattle.g1_race_words.specs.Rule.{IsShape};
+    ghost use Rattle.g1_race_words.specs.Seats.{Words};
+
+    ghost Value = { Words };
+
+    ghost view = { λ a. record { table_id = a.table.shared.table_id; shape = a.table.shared.key } };
+
+    ghost invariant = { λ a. (a.table.shared.table_id.words
+        ≡ a.table.shared.key.slots + a.table.shared.key.cards + a.table.shared.key.bits)
+        × (a.table.shared.table_id.slots ≡ 0)
+        × IsShape a.table.shared.key × (0 < a.table.shared.key.members) };
+}
+
+/// A seat at the words of a race. It has no bytes.
+///
+/// Its model is the table that it is at, and what its thread knows.
+#[derive(Drop)]
+pub struct Place {
+    pub(crate) seat: Seat<(), View>,
+}
+
+impl Model for Place {
+    ghost use Rattle.atomic_table.specs.declared.shared.Seat.{Seat};
+    ghost use Rattle.std.specs.Prelude.{◌≡◌, []};
+    ghost use Rattle.g1_race_words.specs.declared.view.View.{View};
+
+    ghost Value = { Seat (Unit {0}) View };
+
+    ghost view = { λ a. a.seat };
+
+    ghost invariant = { λ a. a.seat.me.1 ≡ [] };
+}
+
+impl RaceTable {
+    /// The words of a heap at a pause, all 0, and the one seat at them.
+    ///
+    /// Takes 8 bytes for each word, twice while it begins. On an error nothing is left of it.
+    pub fn open(alloc: Global, shape: Shape) -> Result<(RaceTable, Place), AllocError>
+        requires shape { IsShape shape }
+        requires members { 0 < shape.members }
+        ensures shape { IfOk result (λ r. r.0.shape ≡ shape) }
+        ensures seat { IfOk result (λ r. IsPaused r.0.table_id shape r.1) }
+        ensures words { IfOk result (λ r. r.1.me ≡ (iced (null_of shape) shape.members, [])) }
+    {
+        let zeros = vec![in alloc; 0u64; shape.slots + shape.cards + shape.bits]?;
+        let (table, seat) = Table::of_words(alloc, &zeros, &shape)?;
+        Ok((RaceTable { table }, Place { seat }))
+    }
+
+    /// Ends the race at a pause: the words stay, as the seat knew them.
+    pub fn close(self, seat: Place) -> Closed<(), Global>
+        requires seat { IsPaused self.table_id self.shape seat }
+        ensures words { slots_items result.words ≡ seat.me.0.began_words }
+        ensures full { IsFull result.words }
+        ensures len { slots_len result.words
+            ≡ self.shape.slots + self.shape.cards + self.shape.bits }
+        ensures none { slots_len result.slots ≡ 0 }
+    {
+        let RaceTable { table } = self;
+        let Place { seat } = seat;
+        table.close_with(seat)
+    }
+}
