@@ -1,6 +1,6 @@
 //! A pause of the mutators of a lent book.
 ghost use Rattle.std.specs.Prelude.{All};
-ghost use Rattle.g1_log.specs.Ends.{IsSenderOf};
+ghost use Rattle.g1_log.specs.Ends.{IsSenderOf, IsTakerOf};
 
 use super::*;
 use g1_core::Fill::{Full, No};
@@ -42,6 +42,18 @@ fn store_by<R: Abort + Wait>(
     Ok(())
 }
 
+/// Stops the mutators, and checks that their logs and the line are empty.
+fn stop_all<R: Abort + Wait>(rt: &R, line: &Line, taker: &mut Taker, mutators: &mut [Mutator])
+    requires { IsTakerOf line.now taker.old }
+    ensures { IsTakerOf line.now taker.new }
+{
+    stand_still(rt, line, taker, mutators);
+    assert_eq!(rt; line.len(rt), 0);
+    for mutator in mutators.iter() {
+        assert!(rt; mutator.log.is_empty());
+    }
+}
+
 /// A pause empties the logs of all mutators and the line, without an entry, and a drain then finds each card by its mark.
 #[test]
 fn a_pause_empties_logs_and_line(rt: HostRuntime) -> Result<(), Fail> {
@@ -58,13 +70,9 @@ fn a_pause_empties_logs_and_line(rt: HostRuntime) -> Result<(), Fail> {
     store_by(&rt, &mut book, &line, &mut second, 1, 20, No)?;
     assert_eq!(rt; line.len(&rt), 2);
     let mut all = [first, second];
-    stand_still(&rt, &line, &mut taker, &mut all);
-    assert_eq!(rt; line.len(&rt), 0);
-    for mutator in &all {
-        assert!(rt; mutator.log.is_empty());
-    }
+    stop_all(&rt, &line, &mut taker, &mut all);
     assert_eq!(rt; book.entries().len(), 6);
     assert_set(&rt, &mut book, 3, &[0, 1, 2, 3, 4, 5])?;
-    stand_still(&rt, &line, &mut taker, &mut all[..0]);
+    stop_all(&rt, &line, &mut taker, &mut all[..0]);
     Ok(())
 }
