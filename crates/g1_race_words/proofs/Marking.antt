@@ -123,9 +123,9 @@ counted_dirtied k began words views id v c below short at marks h d first now lt
     pick (yes e) =
         let one : 1 ≡ now = some-injective 1 now (sym (set_here words (mark_word k c) 1 short) ∙ subst (λ (x : ℕ). get_elem? (set words (mark_word k c) 1) (mark_word k x) ≡ some now) e is) in
         let t = h d first n lt was (subst (λ (x : ℕ). get_elem? words (mark_word k x) ≡ some n) (sym e) (read_at words (mark_word k c) short)) in ⊎_elim
-            (λ (x : n ≡ 1). let g : claims_at d w ≡ claims_at d v = times_unlisted d c n 0 v.claims (λ z. absurd (omega (arith, x, z))) in omega (arith, a, b, g, t, one, x))
-            (λ (x : n ≡ 0). let g : claims_at d w ≡ 1 + claims_at d v = times_here d c n 0 v.claims e x in omega (arith, a, b, g, t, one, x))
-            (mark_is k began words views c below marks)
+        (λ (x : n ≡ 1). let g : claims_at d w ≡ claims_at d v = times_unlisted d c n 0 v.claims (λ z. absurd (omega (arith, x, z))) in omega (arith, a, b, g, t, one, x))
+        (λ (x : n ≡ 0). let g : claims_at d w ≡ 1 + claims_at d v = times_here d c n 0 v.claims e x in omega (arith, a, b, g, t, one, x))
+        (mark_is k began words views c below marks)
     pick (no ne) =
         let t = h d first now lt was (sym (set_else words (mark_word k c) (mark_word k d) 1 (λ x. ne (omega arith))) ∙ is) in
         let g : claims_at d w ≡ claims_at d v = times_other d c (eqb n 0) v.claims ne in omega (arith, a, b, g, t)
@@ -204,9 +204,9 @@ counted_cleaned k began words views id v c below short at marks h d first now lt
     pick (yes e) =
         let none : 0 ≡ now = some-injective 0 now (sym (set_here words (mark_word k c) 0 short) ∙ subst (λ (x : ℕ). get_elem? (set words (mark_word k c) 0) (mark_word k x) ≡ some now) e is) in
         let t = h d first n lt was (subst (λ (x : ℕ). get_elem? words (mark_word k x) ≡ some n) (sym e) (read_at words (mark_word k c) short)) in ⊎_elim
-            (λ (x : n ≡ 1). let g : cleanings_at d w ≡ 1 + cleanings_at d v = times_here d c n 1 v.cleanings e x in omega (arith, a, b, g, t, none, x))
-            (λ (x : n ≡ 0). let g : cleanings_at d w ≡ cleanings_at d v = times_unlisted d c n 1 v.cleanings (λ z. absurd (omega (arith, x, z))) in omega (arith, a, b, g, t, none, x))
-            (mark_is k began words views c below marks)
+        (λ (x : n ≡ 1). let g : cleanings_at d w ≡ 1 + cleanings_at d v = times_here d c n 1 v.cleanings e x in omega (arith, a, b, g, t, none, x))
+        (λ (x : n ≡ 0). let g : cleanings_at d w ≡ cleanings_at d v = times_unlisted d c n 1 v.cleanings (λ z. absurd (omega (arith, x, z))) in omega (arith, a, b, g, t, none, x))
+        (mark_is k began words views c below marks)
     pick (no ne) =
         let t = h d first now lt was (sym (set_else words (mark_word k c) (mark_word k d) 0 (λ x. ne (omega arith))) ∙ is) in
         let g : cleanings_at d w ≡ cleanings_at d v = times_other d c (eqb n 1) v.cleanings ne in omega (arith, a, b, g, t)

@@ -83,11 +83,7 @@ fn are_as_stored(rt: &impl Eprint, paused: &mut Paused) -> Result<(), Failure> {
 }
 
 // Whether these slots refer to these places.
-fn refer(
-    rt: &impl Eprint,
-    paused: &mut Paused,
-    references: &[(u32, u32)],
-) -> Result<(), Failure> {
+fn refer(rt: &impl Eprint, paused: &mut Paused, references: &[(u32, u32)]) -> Result<(), Failure> {
     for (from, to) in references {
         let from = slot(&paused.layout(), *from)?;
         let place = number_of(paused.target(from));
