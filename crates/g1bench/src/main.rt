@@ -7,24 +7,30 @@
 //! With five words it makes rounds of stores by one thread or several, and also prints how many nanoseconds the threads spent in
 //! the loops of stores, added up. `measure-threads` prints the tables.
 //!
+//! With the word `paused` and four numbers it makes rounds of a race and a pause in place, and prints what each call took.
+//! `measure-pauses` prints the table.
+//!
 //! - [`plan`]: the six words.
 //! - [`workload`]: the heap whose calls are measured.
 //! - [`timed`]: the five words.
 //! - [`list`]: the stores of a round.
 //! - [`meter`]: the sums over the threads.
 //! - [`alone`], [`locked`], [`raced`]: where the stores are made.
+//! - [`paused`]: the pauses of a race.
 #![tactic(auto)]
 
 mod alone;
 mod list;
 mod locked;
 mod meter;
+mod paused;
 mod plan;
 mod raced;
 mod timed;
 mod workload;
 
 use g1_layout::NoMemory;
+use paused::{print_pauses, read_pauses};
 use plan::{Call, Plan, read_plan};
 use std::env;
 use std::process::ExitCode;
@@ -33,6 +39,7 @@ use workload::Workload;
 
 const USAGE: &str = "usage: g1bench CALL TIMES REGIONS CARDS SLOTS REFERENCES
        g1bench BARRIER TARGET THREADS ROUNDS STORES
+       g1bench paused REGIONS CARDS SLOTS DIRTY
 ";
 
 fn main(rt: HostRuntime) -> ExitCode {
@@ -45,6 +52,9 @@ fn main(rt: HostRuntime) -> ExitCode {
     }
     if let Some(timed) = read_timed(words.as_slice()) {
         return print_time(&rt, rt.alloc(), timed);
+    }
+    if let Some(pauses) = read_pauses(words.as_slice()) {
+        return print_pauses(&rt, rt.alloc(), pauses);
     }
     let _ = rt.eprint(USAGE);
     ExitCode::from(1)
