@@ -39,7 +39,7 @@ pub(crate) fn enter(
     });
 }
 
-/// The same cards, in room that was made for them; what they do not need of it is given back.
+/// The same cards, in room that was made for them. What they do not need of it is given back.
 pub(crate) fn copied(mut room: Vec<Card>, cards: &CardList) -> CardList
     requires empty { vec_len room ≡ 0 }
     requires room { length cards.now ≤ vec_capacity room }
