@@ -1,7 +1,8 @@
 //! The machinery of a heap, with the log of its one mutator and the buffers that it completed.
 //!
-//! Slots and regions are plain numbers here, and each method makes the library's numbers from `core.layout()` right before
-//! it calls: so the conditions of the call are met whatever was called before.
+//! Slots and regions are plain numbers here. Each method makes the library's numbers from
+//! `core.layout()` right before it calls, so the conditions of the call are met whatever was called
+//! before.
 
 use anyhow::{Context, Result, bail};
 use g1_core::{CardList, ClearReply, Config, Core, Drained, Redirected};

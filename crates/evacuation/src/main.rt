@@ -1,5 +1,6 @@
-//! The remembered sets of a tiny collector with one mutator: its stores, hand-overs and refinements, and then a pause that empties
-//! region 1 of a heap of 4 regions of 2 cards of 4 slots.
+//! The remembered sets of a tiny collector with one mutator: its stores, hand-overs and
+//! refinements, and then an evacuation pause that empties region 1. The heap has 4 regions of 2
+//! cards of 4 slots.
 #![tactic(auto)]
 
 mod collector;

@@ -1,7 +1,7 @@
-//! Mutators and refiners in threads at a book that they share.
+//! Mutators and refinement threads at a book that they share.
 //!
-//! What they share stands under a lock, of which no clause can speak. So `run` is generic in `M`, whose terms are those of
-//! the book, and `S`, and its caller passes `Brand` for both.
+//! The book is under a lock, and no clause can speak of what is under a lock. So `run` is generic
+//! in `M`, whose terms are those of the book, and `S`, and its caller passes `Brand` for both.
 ghost use Rattle.std.specs.Prelude.{◌≡◌, ◌<◌, ◌≤◌, [], true, All, IfOk, nat_lt, vec_len};
 ghost use Rattle.g1_layout.specs.Shape.{slot_count};
 ghost use Rattle.g1_steps.specs.Ask.{ScriptFits, StepFits};
