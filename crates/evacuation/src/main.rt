@@ -10,7 +10,8 @@ use collector::Collector;
 use g1_core::Config;
 use g1_layout::Layout;
 
-// Region 0 has the slots from 0 on, region 1 those from 8, region 2 those from 16 and region 3 those from 24.
+// Region 0 has the slots from 0 on, region 1 those from 8, region 2 those from 16 and region 3
+// those from 24.
 static BEFORE: [(u32, Option<u32>); 7] = [
     (0, Some(8)),
     (4, Some(9)),

@@ -111,8 +111,8 @@ fn callers_of<'a, R, M: Frame, S: Ledger>(
     Ok(callers)
 }
 
-/// Shares a book of three mutators among them and two refiners, runs each in a thread of its own, and gives the book back once
-/// all have ended.
+/// Shares a book of three mutators among them and two refinement threads, runs each in a thread of
+/// its own, and returns the book once all have ended.
 pub fn run<R: Threads + Wait + Sync, M: Frame + Send + Sync, S: Ledger + Send + Sync>(
     rt: &R,
     alloc: Global,
