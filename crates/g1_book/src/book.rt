@@ -10,10 +10,10 @@ use std::marker::Model;
 ///
 /// Its entries are a permitted run of the plain table that ends in the core's table. Each call
 /// either appends one entry, with its caller and exactly the reply that it returns, or is refused
-/// and changes nothing. `BookFull` is returned exactly if the history has as many entries as it may
-/// have. It comes before `NoMemory`: no memory is asked for then. Otherwise room for the entry, and
-/// for its copies of the reply's lists, is made before the core changes. Growing the history is
-/// amortised over its entries.
+/// and changes nothing. A call returns `BookFull` exactly if the history has as many entries as it
+/// may have. That comes before `NoMemory`: no memory is asked for then. Otherwise room for the
+/// entry, and for its copies of the reply's lists, is made before the core changes. Growing the
+/// history is amortised over its entries.
 #[derive(Drop)]
 pub struct Book {
     pub(crate) alloc: Global,
@@ -45,8 +45,8 @@ impl Book {
     /// nothing is recorded (docs/PROFILE.md, The history).
     ///
     /// `mutators`, from 1 to 8, says how many of the callers may store. `history`, from 1 to
-    /// 1,000,000, says how many entries there may be. `NoMemory` is returned if a growth for the
-    /// core was refused. Room for entries is made as they come.
+    /// 1,000,000, says how many entries there may be. Returns `NoMemory` if a growth for the core
+    /// was refused. Room for entries is made as they come.
     pub fn open(
         alloc: Global,
         layout: Layout,

@@ -23,10 +23,10 @@ impl Book {
     /// now holds a reference into it, and only cards outside it that held one since its set was
     /// last cleared. A short drain is entered too.
     ///
-    /// `BookFull` is returned exactly if the history is full, `NoMemory` if room for the entry or
-    /// for a list was refused. Either changes nothing. The entry's lists take 4 bytes for each card
-    /// that was returned or refined. Room for as many as may come is made first, and what is not
-    /// needed is given back.
+    /// Returns `BookFull` exactly if the history is full, `NoMemory` if room for the entry or for a
+    /// list was refused. Either changes nothing. The entry's lists take 4 bytes for each card that
+    /// was returned or refined. Room for as many as may come is made first, and what is not needed
+    /// is given back.
     pub fn drain(&mut self, caller: u32, region: Region) -> Result<Drained, Refusal>
         requires { region < (layout_in self.old).regions }
         ensures entered { IfOk result (λ answer. IsEntered self.old (drain_entry caller region answer) self.new) }
@@ -59,7 +59,7 @@ impl Book {
     /// reads as it was. At most the slots of the cards in the set are read, and none while a card
     /// is pending.
     ///
-    /// `BookFull` is returned exactly if the history is full, `NoMemory` if room for the entry was
+    /// Returns `BookFull` exactly if the history is full, `NoMemory` if room for the entry was
     /// refused. Either changes nothing. The entry holds no list.
     pub fn clear(&mut self, caller: u32, region: Region) -> Result<ClearReply, Refusal>
         requires { region < (layout_in self.old).regions }

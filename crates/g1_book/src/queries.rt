@@ -17,7 +17,7 @@ impl Book {
     /// Returns the place that a slot refers to, or `None` if it is null, and enters the call. One
     /// slot is read.
     ///
-    /// `BookFull` is returned exactly if the history is full, `NoMemory` if room for the entry was
+    /// Returns `BookFull` exactly if the history is full, `NoMemory` if room for the entry was
     /// refused. Either changes nothing. Constant time except for the growth of the history. The
     /// entry holds no list.
     pub fn target(&mut self, caller: u32, slot: Slot) -> Result<Option<Slot>, Refusal>
@@ -39,7 +39,7 @@ impl Book {
     /// Returns whether a card is pending, that is, dirty or held in the hot card ring, and enters
     /// the call.
     ///
-    /// `BookFull` is returned exactly if the history is full, `NoMemory` if room for the entry was
+    /// Returns `BookFull` exactly if the history is full, `NoMemory` if room for the entry was
     /// refused. Either changes nothing. Constant time except for the growth of the history. The
     /// entry holds no list.
     pub fn is_pending(&mut self, caller: u32, card: Card) -> Result<bool, Refusal>
@@ -61,8 +61,8 @@ impl Book {
     /// Returns the cards of a region's remembered set as it is recorded, ascending, each once, and
     /// enters the call.
     ///
-    /// `BookFull` is returned exactly if the history is full, `NoMemory` if room for the entry or
-    /// for a list was refused. Either changes nothing. The entry's list takes 4 bytes a card. The
+    /// Returns `BookFull` exactly if the history is full, `NoMemory` if room for the entry or for a
+    /// list was refused. Either changes nothing. The entry's list takes 4 bytes a card. The
     /// question changes nothing in the core, so this list is made after it, with exactly the room
     /// that it needs.
     pub fn members(&mut self, caller: u32, region: Region) -> Result<CardList, Refusal>
@@ -91,7 +91,7 @@ impl Book {
     /// Returns how many cards are pending and how many pairs of a card and a region are recorded,
     /// and enters the call.
     ///
-    /// `BookFull` is returned exactly if the history is full, `NoMemory` if room for the entry was
+    /// Returns `BookFull` exactly if the history is full, `NoMemory` if room for the entry was
     /// refused. Either changes nothing. The time grows with the number of regions. The entry holds
     /// no list.
     pub fn status(&mut self, caller: u32) -> Result<Status, Refusal>

@@ -16,10 +16,10 @@ impl Book {
     /// Makes each slot outside `from` that refers into it refer to the same offset of `to`, as the
     /// core does, and enters the call (docs/PROFILE.md, Redirect).
     ///
-    /// A short redirect only refined the cards that it lists. It is entered too. `BookFull` is
-    /// returned exactly if the history is full, `NoMemory` if room for the entry or for a list was
-    /// refused. Either changes nothing. The entry's list takes 4 bytes for each refined card. Room
-    /// for all pending cards is made first, and what is not needed is given back.
+    /// A short redirect only refined the cards that it lists. It is entered too. Returns `BookFull`
+    /// exactly if the history is full, `NoMemory` if room for the entry or for a list was refused.
+    /// Either changes nothing. The entry's list takes 4 bytes for each refined card. Room for all
+    /// pending cards is made first, and what is not needed is given back.
     pub fn redirect(&mut self, caller: u32, from: Region, to: Region) -> Result<Redirected, Refusal>
         requires from { from < (layout_in self.old).regions }
         requires to { to < (layout_in self.old).regions }

@@ -17,8 +17,8 @@ impl Book {
     /// turns, oldest first. `None` refines nothing, and is entered too (docs/PROFILE.md,
     /// Refinement).
     ///
-    /// A short reply is entered. `BookFull` is returned exactly if the history is full, `NoMemory`
-    /// if room for the entry, for its list or for the reply's list was refused. Either changes
+    /// A short reply is entered. Returns `BookFull` exactly if the history is full, `NoMemory` if
+    /// room for the entry, for its list or for the reply's list was refused. Either changes
     /// nothing. The entry's list takes 4 bytes for each refined card.
     pub fn refine(&mut self, caller: u32, buffer: Option<&Buffer>) -> Result<RefineReply, Refusal>
         ensures entered { IfOk result (λ reply. IsEntered self.old (refine_entry caller reply) self.new) }

@@ -23,7 +23,7 @@ impl Book {
     /// buffer that the log hands out is returned beside the reply. Its cards stay pending as long
     /// as nothing refines them.
     ///
-    /// `BookFull` is returned exactly if the history is full, `NoMemory` if room for the entry was
+    /// Returns `BookFull` exactly if the history is full, `NoMemory` if room for the entry was
     /// refused. Either leaves book and log as they were. Constant time except for the growth of the
     /// history. The entry holds no list.
     pub fn store(

@@ -88,7 +88,7 @@ fn callers_of<'a, T, M: Frame, S: Ledger>(
 /// book, with why the first of the jobs that were refused was, in the order of the callers. The
 /// book's stores are those of the scripts, of each up to its refusal.
 ///
-/// `NoMemory` is returned if a growth for callers, jobs or scripts was refused, and `NoThread` if a
+/// Returns `NoMemory` if a growth for callers, jobs or scripts was refused, and `NoThread` if a
 /// thread could not be started. The book is then given up.
 pub(crate) fn run_jobs<T: Threads + Wait + Sync, M: Frame + Send + Sync, S: Ledger + Send + Sync>(
     rt: &T,

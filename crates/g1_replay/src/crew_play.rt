@@ -82,13 +82,13 @@ fn play_crew<T: Threads + Wait + Sync, R: BufRead, W: Write>(
 /// of each region returns (docs/TRACES.md).
 ///
 /// It writes how many stores a permitted run of the plain table has, then the lines of the drains
-/// that end this run, of each region in order, and then the line of the end, if it has one. `Whole`
-/// is returned only if the trace has no fault and all regions were drained, and `Refused` only if
-/// the trace has a fault: then nothing was run, and only the fault's line was written. With
-/// `Stopped`, either the threads were refused a call, memory or a thread, and that line is all that
-/// was written, or a drain was refused, and its line follows those of the drains before it.
-/// `book full` is written only if the run has as many entries as `options` allows. With
-/// `ReadFailed` nothing was run. With `WriteFailed` a beginning of such a text was written.
+/// that end this run, of each region in order, and then the line of the end, if it has one. Returns
+/// `Whole` only if the trace has no fault and all regions were drained, and `Refused` only if the
+/// trace has a fault: then nothing was run, and only the fault's line was written. With `Stopped`,
+/// either the threads were refused a call, memory or a thread, and that line is all that was
+/// written, or a drain was refused, and its line follows those of the drains before it. `book full`
+/// is written only if the run has as many entries as `options` allows. With `ReadFailed` nothing
+/// was run. With `WriteFailed` a beginning of such a text was written.
 ///
 /// Which cards are refined between two stores is free. So two runs may write different text for a
 /// trace that stores to a slot twice.

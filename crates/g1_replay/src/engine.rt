@@ -121,8 +121,8 @@ fn end_unless(written: Result<(), WriteFailed>, end: End) -> End
 /// line (docs/TRACES.md).
 ///
 /// It writes the text of a permitted run of the plain table that belongs to the commands that were
-/// read, a line for each command, and then the line of the end, if it has one. `Whole` is returned
-/// only if the trace has no fault, and `Refused` only if it has one, whose line was written. With
+/// read, a line for each command, and then the line of the end, if it has one. Returns `Whole` only
+/// if the trace has no fault, and `Refused` only if it has one, whose line was written. With
 /// `Stopped` and `ReadFailed` the commands are those before the end. `book full` is written only if
 /// the run has as many entries as `options` allows. With `WriteFailed` a beginning of such a text
 /// was written. A fault is the end wherever its line was read whole: a failed read or refused

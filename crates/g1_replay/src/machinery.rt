@@ -27,7 +27,7 @@ pub(crate) struct Machinery {
 impl Machinery {
     /// An empty heap, history and queue of completed buffers.
     ///
-    /// `NoMemory` is returned if a growth for heap, queue or mutators was refused.
+    /// Returns `NoMemory` if a growth for heap, queue or mutators was refused.
     #[tactic(auto, using(crate::proofs::TakenLemmas::are_senders))]
     pub(crate) fn open(
         alloc: Global,

@@ -102,9 +102,9 @@ fn returned_by<'a, T>(alloc: Global, jobs: Vec<Job<RaceDesk<'a, T>>>) -> Result<
 /// Runs a race: one job for each mutator, whose script is its stores in the order of the trace and
 /// one flush, and one for each refinement thread. Returns the closed race.
 ///
-/// `NoMemory` is returned if a growth for race, queue, jobs or scripts was refused, or a job was,
-/// and `NoThread` if a thread could not be started. The race is then given up. All threads have
-/// been joined.
+/// Returns `NoMemory` if a growth for race, queue, jobs or scripts was refused, or a job was, and
+/// `NoThread` if a thread could not be started. The race is then given up. All threads have been
+/// joined.
 pub(crate) fn run_race<T: Threads + Wait + Sync>(
     rt: &T,
     alloc: Global,

@@ -60,7 +60,7 @@ fn add_sweeping(
 
 /// The members of a race that has not begun, the racers first.
 ///
-/// `NoMemory` is returned if a growth of the list was refused.
+/// Returns `NoMemory` if a growth of the list was refused.
 pub(crate) fn members_of(
     alloc: Global,
     race: &Race,
@@ -110,7 +110,7 @@ impl Returned {
 
     /// Puts a member and its end of the queue into their lists.
     ///
-    /// `NoMemory` is returned if a growth of a list was refused: the member is given up.
+    /// Returns `NoMemory` if a growth of a list was refused: the member is given up.
     pub(crate) fn place(&mut self, member: Member) -> Result<(), NoMemory>
         ensures racers { OnOk result (self.new.racers.items ≡ self.old.racers.items ++ filter_map racer_in (member ∷ [])) }
         ensures senders { OnOk result (self.new.senders.items ≡ self.old.senders.items ++ filter_map sender_in (member ∷ [])) }

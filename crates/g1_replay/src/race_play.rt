@@ -74,8 +74,8 @@ fn play_race<T: Threads + Wait + Sync, R: BufRead, W: Write>(
 /// region, ascending: every card that holds one of these references into the region, and only cards
 /// to which the trace stores a reference into it.
 ///
-/// `Whole` is returned only if the trace has no fault and all regions were drained, and `Refused`
-/// only if the trace has a fault: then nothing was run, and only the fault's line was written. With
+/// Returns `Whole` only if the trace has no fault and all regions were drained, and `Refused` only
+/// if the trace has a fault: then nothing was run, and only the fault's line was written. With
 /// `Stopped`, either memory or a thread was refused, and that line is all that was written, or a
 /// drain was refused, and its line follows those of the drains before it. With `ReadFailed` nothing
 /// was run. With `WriteFailed` a beginning of such a text was written.

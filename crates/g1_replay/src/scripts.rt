@@ -53,7 +53,7 @@ fn steps_of(alloc: Global, commands: &[Command], mutator: u32) -> Result<Vec<Ste
 /// What the caller of this number does: the calls of its mutator in the order of the trace, or
 /// rounds of refinement.
 ///
-/// `NoMemory` is returned if a growth of the calls was refused.
+/// Returns `NoMemory` if a growth of the calls was refused.
 pub(crate) fn script_for(
     alloc: Global,
     commands: &[Command],

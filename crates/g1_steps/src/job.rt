@@ -18,7 +18,7 @@ use std::thread::{Promise, PromisedHandle, Scope, Threads};
 pub struct Job<D> {
     /// Where its calls are made.
     pub desk: D,
-    /// What it is to do.
+    /// What the worker does.
     pub script: Script,
     /// `None` before the run; then what the worker returned.
     pub outcome: Option<Outcome>,

@@ -15,8 +15,8 @@ use std::alloc::Global;
 /// its takers (docs/PROFILE.md, The steps of a caller).
 ///
 /// There are 1 to 8 mutators and 1 to 12 takers. The queue holds as many buffers as the settings'
-/// limit. Mutator `k` has an empty log of the settings' size and sender `k`. `NoMemory` is returned
-/// if a growth was refused. No other step takes memory for queue or logs.
+/// limit. Mutator `k` has an empty log of the settings' size and sender `k`. Returns `NoMemory` if
+/// a growth was refused. No other step takes memory for queue or logs.
 pub fn open_line(
     alloc: Global,
     config: Config,

@@ -26,8 +26,7 @@ const SHORT_BYTES: usize = 104;
 
 /// Writes a space and the number for each card, in the given order.
 ///
-/// `WriteFailed` is returned if a write fails or takes no byte. A beginning of the text stays
-/// written.
+/// Returns `WriteFailed` if a write fails or takes no byte. A beginning of the text stays written.
 pub fn put_list<W: Write>(output: &mut W, cards: &[Card]) -> Result<(), WriteFailed>
     ensures { Puts (W.contents output.old) (W.contents output.new) result (list_text cards.now) }
 {

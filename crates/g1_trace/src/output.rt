@@ -16,8 +16,7 @@ pub struct WriteFailed;
 
 /// Writes all bytes, in as many writes as it takes.
 ///
-/// `WriteFailed` is returned if a write fails or takes no byte. A beginning of the bytes stays
-/// written.
+/// Returns `WriteFailed` if a write fails or takes no byte. A beginning of the bytes stays written.
 #[inline(always)]
 pub fn put<W: Write>(output: &mut W, bytes: &[u8]) -> Result<(), WriteFailed>
     ensures { Puts (W.contents output.old) (W.contents output.new) result bytes.now }

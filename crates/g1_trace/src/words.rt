@@ -40,8 +40,7 @@ fn word_len(bytes: &[u8]) -> usize
 /// Returns the first word of a line, a run of bytes other than space, and what comes behind it
 /// (docs/TRACES.md, Lines and words).
 ///
-/// `None` is returned if there is no word. It makes one pass over the word and the spaces before
-/// it.
+/// Returns `None` if there is no word. It makes one pass over the word and the spaces before it.
 pub fn split_word(line: &[u8]) -> Option<(&[u8], &[u8])>
     ensures some { IfSome result (λ s. words_from [] line.now ≡ s.0.now ∷ words_from [] s.1.now) }
     ensures none { IsNone result → words_from [] line.now ≡ [] }
@@ -108,7 +107,7 @@ fn is_end(bytes: &[u8], place: usize) -> bool
 
 /// Returns the first word of a line with the number that it is, and what comes behind it.
 ///
-/// `None` is returned if there is no word. It makes one pass over a word of digits and the spaces
+/// Returns `None` if there is no word. It makes one pass over a word of digits and the spaces
 /// before it.
 #[inline(always)]
 pub fn split_number(line: &[u8]) -> Option<((&[u8], Result<u64, TraceFault>), &[u8])>

@@ -26,7 +26,7 @@ impl<M: Frame, S: Ledger> Shared<M, S> {
     ///
     /// A log that was filled goes into the queue of completed buffers once the lock is left. If the
     /// queue hands the buffer back, the caller refines it by one more call. A filtered store costs
-    /// the lock and its entry. `Err` is returned if the store itself was refused, which leaves the
+    /// the lock and its entry. Returns `Err` if the store itself was refused, which leaves the
     /// caller as it was.
     pub fn store<R: Wait>(
         &self,

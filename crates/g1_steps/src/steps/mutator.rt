@@ -51,9 +51,9 @@ impl Mutator {
     /// `fill` is `No`, and the reply is that of the one call.
     ///
     /// The store is made whatever becomes of the buffer. A help that is refused makes the reply
-    /// short, and the cards stay pending. `Err` is returned if the store itself was refused; calls,
-    /// log and sender are then as they were. A store that fills no log is one call, and doesn't
-    /// touch the queue.
+    /// short, and the cards stay pending. Returns `Err` if the store itself was refused; calls, log
+    /// and sender are then as they were. A store that fills no log is one call, and doesn't touch
+    /// the queue.
     pub fn store<C: Calls, R: Wait>(
         &mut self,
         rt: &R,
