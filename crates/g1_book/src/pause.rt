@@ -56,8 +56,8 @@ impl Book {
     /// from outside, and enters the outcome (docs/PROFILE.md, Clear).
     ///
     /// `Pending` and `StillReferenced` are replies with an entry. They leave all but the count of
-    /// reads as it was. At most the slots of the cards in the set are read, and none while a card
-    /// is pending.
+    /// reads as it was. A clear reads no more slots than the cards in the set have, and none while
+    /// a card is pending.
     ///
     /// Returns `BookFull` exactly if the history is full, `NoMemory` if room for the entry was
     /// refused. Either changes nothing. The entry holds no list.
