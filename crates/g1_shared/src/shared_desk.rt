@@ -19,7 +19,8 @@ use std::sync::ledger::Ledger;
 
 /// A shared book and one of its callers, with the runtime by which the caller waits for the lock.
 ///
-/// Its calls are those of [`Shared`]. Of the calls that were made, what is known is what the caller's counts tell.
+/// Its calls are those of [`Shared`]. Of the calls that were made, only what the caller's counts
+/// say is known.
 #[derive(Drop)]
 pub struct SharedDesk<'a, R, M: Frame, S: Ledger> {
     rt: &'a R,
@@ -29,7 +30,7 @@ pub struct SharedDesk<'a, R, M: Frame, S: Ledger> {
 }
 
 impl<'a, R, M: Frame, S: Ledger> SharedDesk<'a, R, M, S> {
-    /// A desk of this caller at the book that it is a caller of.
+    /// Returns a desk of this caller at the book that made it.
     pub fn new(rt: &'a R, shared: &'a Shared<M, S>, caller: Caller<M, S>) -> SharedDesk<'a, R, M, S>
         requires { IsCallerOf shared.now caller }
         ensures caller { result.caller ≡ caller }
@@ -38,7 +39,7 @@ impl<'a, R, M: Frame, S: Ledger> SharedDesk<'a, R, M, S> {
         SharedDesk { rt, shared, caller }
     }
 
-    /// The caller, once the work is done.
+    /// Returns the caller, once the work is done.
     pub fn into_caller(self) -> Caller<M, S>
         ensures caller { result ≡ self.entry.caller }
         ensures of { IsCallerOf self.entry.shared.now result }

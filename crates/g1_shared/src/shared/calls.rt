@@ -12,11 +12,12 @@ use g1_layout::{Card, Region, Slot};
 use std::sync::Wait;
 use std::sync::ledger::Ledger;
 
-/// Each call waits for the lock, makes the call of [`Counted`](crate::Counted) for the caller, and hands its answer on. It is
-/// one entry more of that caller, or refused, which leaves the caller as it was. A clause can say no more of what stood
-/// under the lock; who holds the guard (`lock`) makes the same calls with their whole contracts.
+/// Each call waits for the lock, makes the call of [`Counted`](crate::Counted) for the caller, and
+/// returns its reply. It is one entry more of that caller, or refused, which leaves the caller as
+/// it was. A clause can say no more of what was under the lock. The guard (`lock`) makes the same
+/// calls with their whole contracts.
 impl<M: Frame, S: Ledger> Shared<M, S> {
-    /// As the book's question for what a slot refers to, by this caller under the lock.
+    /// Returns what a slot refers to, by a call under the lock (`Counted::target`).
     pub fn target<R: Wait>(
         &self,
         rt: &R,
@@ -30,7 +31,7 @@ impl<M: Frame, S: Ledger> Shared<M, S> {
         self.counted.lock(rt).target(caller, slot)
     }
 
-    /// As the book's question whether a card is pending, by this caller under the lock.
+    /// Returns whether a card is pending, by a call under the lock (`Counted::is_pending`).
     pub fn is_pending<R: Wait>(
         &self,
         rt: &R,
@@ -44,7 +45,8 @@ impl<M: Frame, S: Ledger> Shared<M, S> {
         self.counted.lock(rt).is_pending(caller, card)
     }
 
-    /// As the book's question for a remembered set, by this caller under the lock.
+    /// Returns the recorded remembered set of a region, by a call under the lock
+    /// (`Counted::members`).
     pub fn members<R: Wait>(
         &self,
         rt: &R,
@@ -58,7 +60,7 @@ impl<M: Frame, S: Ledger> Shared<M, S> {
         self.counted.lock(rt).members(caller, region)
     }
 
-    /// As the book's question for how much is pending and recorded, by this caller under the lock.
+    /// Returns how much is pending and recorded, by a call under the lock (`Counted::status`).
     pub fn status<R: Wait>(&self, rt: &R, caller: &mut Caller<M, S>) -> Result<Status, Refusal>
         ensures ok { OnOk result (caller.new ≡ called_once caller.old) }
         ensures err { OnErr result (caller.new ≡ caller.old) }
@@ -66,7 +68,8 @@ impl<M: Frame, S: Ledger> Shared<M, S> {
         self.counted.lock(rt).status(caller)
     }
 
-    /// As the book's drain, by this caller under the lock.
+    /// Drains a region by a call under the lock (`Counted::drain`). No clause says what it lists;
+    /// the guard's drain has that clause.
     pub fn drain<R: Wait>(
         &self,
         rt: &R,
@@ -80,7 +83,7 @@ impl<M: Frame, S: Ledger> Shared<M, S> {
         self.counted.lock(rt).drain(caller, region)
     }
 
-    /// As the book's clear, by this caller under the lock.
+    /// Clears the remembered set of a region, by a call under the lock (`Counted::clear`).
     pub fn clear<R: Wait>(
         &self,
         rt: &R,
@@ -94,7 +97,7 @@ impl<M: Frame, S: Ledger> Shared<M, S> {
         self.counted.lock(rt).clear(caller, region)
     }
 
-    /// As the book's redirect, by this caller under the lock.
+    /// Redirects a region's references, by a call under the lock (`Counted::redirect`).
     pub fn redirect<R: Wait>(
         &self,
         rt: &R,
