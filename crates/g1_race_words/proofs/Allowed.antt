@@ -1,9 +1,6 @@
 -- Each kind of step is allowed, as a call on the table asks for it.
-use Rattle.std.proofs.Common.{inl, inr, ◌≡◌, ℕ, ◌-◌, ◌+◌, ◌*◌, ◌%◌, ◌^◌, ◌<◌, ◌≤◌, bit_or, List, [], ◌∷◌, set, get_or, true, false, Some, None, refl, sym, ap, ◌∙◌, subst, arith}
-use mathlib.Core.Option.{some}
-use lib.ListN.{get_elem?}
+use Rattle.std.proofs.Common.{inl, inr, ◌≡◌, ℕ, ◌-◌, ◌*◌, ◌%◌, ◌^◌, ◌<◌, ◌≤◌, bit_or, List, [], ◌∷◌, set, get_or, true, false, Some, None, refl, sym, ap, ◌∙◌, subst, arith}
 use Rattle.atomic_table.specs.Table.{State, Me, keeps, Allows, Splits, Joins, Enters}
-use Rattle.atomic_table.proofs.Lists.{set_again}
 use Rattle.g1_race_words.specs.declared.view.Shape.{Shape}
 use Rattle.g1_race_words.specs.declared.view.View.{View}
 use Rattle.g1_race_words.specs.Begin.{Start}
@@ -141,16 +138,6 @@ module _ {S : Type 0} where
         refl,
       )
 
-  pub allows_see : (k : Shape) (slots id p : ℕ) (me : Me S View) → Knows k me.0 → p < k.slots + k.cards + k.bits → Allows (Rule k) slots id me p (λ n. n) (λ n after. (after ≡ me) × (get_elem? me.0.began_words p ≡ some n))
-  allows_see k slots id p me c lt s h len at fits =
-      let words = known_words k s.words s.views id me.0 c.all c.pos h at c.frozen in (
-        me.0,
-        keeps,
-        tt,
-        subst (λ (ws : List ℕ). Going k ws (set s.views id me.0)) (sym (set_read s.words p)) (subst (λ (vs : List View). Going k s.words vs) (sym (set_again s.views id me.0 at)) h),
-        (refl, subst (λ (l : List ℕ). get_elem? l p ≡ some (get_or s.words p 0)) words (read_at s.words p (omega (arith, h.raced.sized, lt)))),
-      )
-
   pub allows_set : (k : Shape) (slots id p n : ℕ) (me : Me S View) → Knows k me.0 → IsBegun (start k (set me.0.began_words p n)) → Allows (Rule k) slots id me p (λ _. n) (λ _ after. after ≡ (put me.0 p n, me.1))
   allows_set k slots id p n me c b s h len at fits =
       let words = known_words k s.words s.views id me.0 c.all c.pos h at c.frozen in (
@@ -182,5 +169,6 @@ allows_freeze k slots id p me shaped all pos rest s h len at fits =
         begun = subst (λ (x : Shape). IsBegun (start x s.words)) (sym shape) here;
         raced = raced_mine k s.words s.views id me.0 all pos h at;
         mine = at;
+        still = known_words k s.words s.views id me.0 all pos h at;
       },
     )

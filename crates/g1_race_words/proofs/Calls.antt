@@ -1,7 +1,5 @@
 -- What the calls of a step ask, of the table and the seat inside.
 use Rattle.std.proofs.Common.{◌≡◌, ℕ, ◌+◌, ◌-◌, ◌*◌, ◌%◌, ◌^◌, ◌<◌, ◌≤◌, bit_or, [], ◌∷◌, set, None, refl, sym, ap, subst, arith}
-use mathlib.Core.Option.{some}
-use lib.ListN.{get_elem?}
 use Rattle.atomic_table.specs.Table.{State, Me, Allows, Splits, Joins}
 use Rattle.atomic_table.specs.Seated.{TableId}
 use Rattle.atomic_table.specs.declared.shared.Seat.{Seat}
@@ -11,7 +9,7 @@ use Rattle.g1_race_words.specs.Rule.{AtRest, Going, History, IsBegun, IsBlank, I
 use Rattle.g1_race_words.specs.Steps.{both, chair, cleaned, dirtied, iced, lighter, looked, new_racer, new_sweeper, nothing, put, read, recorded, sought, thawed, wrote}
 use Rattle.g1_race_words.specs.Seats.{Freezes, HoldsBit, IsChair, IsMark, IsPaused, OwesMark, Sits, Words}
 use Rattle.g1_race_words.proofs.PairBits.{word_below}
-use Rattle.g1_race_words.proofs.Allowed.{Knows, allows_clean, allows_dirty, allows_freeze, allows_look, allows_read, allows_record, allows_see, allows_seek, allows_set, allows_thaw, allows_write, joins_member, splits_racer, splits_sweeper}
+use Rattle.g1_race_words.proofs.Allowed.{Knows, allows_clean, allows_dirty, allows_freeze, allows_look, allows_read, allows_record, allows_seek, allows_set, allows_thaw, allows_write, joins_member, splits_racer, splits_sweeper}
 
 -- what is so of the models is so of what is inside
 pub inside : (P : Words → Seat (Unit {0}) View → Type 0) (t w : Words) (s q : Seat (Unit {0}) View) → t ≡ w → s ≡ q → P w q → P t s
@@ -100,9 +98,6 @@ module _ (z : TableId) (k : Shape) (fits : z.words ≡ k.slots + k.cards + k.bit
 
       pub thaw_owed : Owed 0 (λ n. n) (λ n after. after ≡ (thawed s.me.0, s.me.1))
       thaw_owed = (table, some_word, allows_thaw k z.slots s.id 0 s.me knows)
-
-      pub see_owed : (p : ℕ) → p < k.slots + k.cards + k.bits → Owed p (λ n. n) (λ n after. (after ≡ s.me) × (get_elem? s.me.0.began_words p ≡ some n))
-      see_owed p lt = (table, omega (arith, fits, lt), allows_see k z.slots s.id p s.me knows lt)
 
       pub put_owed : (p n : ℕ) → p < k.slots + k.cards + k.bits → IsBegun (start k (set s.me.0.began_words p n)) → Owed p (λ _. n) (λ _ after. after ≡ (put s.me.0 p n, s.me.1))
       put_owed p n lt begun = (table, omega (arith, fits, lt), allows_set k z.slots s.id p n s.me knows begun)

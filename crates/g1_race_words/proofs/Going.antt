@@ -44,6 +44,10 @@ module _ (k : Shape) (words : List ℕ) (views : List View) (h : Going k words v
   abbrev Few : View → Type 0
   Few v = v.spare ≤ v.weight
 
+  -- a frozen seat that has weight knows the words
+  pub known : (id : ℕ) (v : View) → get_elem? views id ≡ some v → 0 < v.weight → v.frozen ≡ true → words ≡ v.began_words
+  known id v at heavy e = let mine = h.agreed id v at heavy in h.still (sym mine.1 ∙ e) ∙ sym (ap (λ (b : Start). b.words) mine.0)
+
   -- a member's step
   pub going_step : (new : List ℕ) (id : ℕ) (v w : View) → get_elem? views id ≡ some v → 0 < v.weight → v.frozen ≡ false → w.weight ≡ v.weight → start_of w ≡ start_of v → w.frozen ≡ v.frozen → w.spare ≡ v.spare → Raced begun new (set views id w) → Going k new (set views id w)
   going_step new id v w at heavy moving weight same flag spare raced = record {
@@ -131,7 +135,7 @@ module _ (k : Shape) (words : List ℕ) (views : List View) (id : ℕ) (v : View
   light seat u there ne = weigh_all views id seat v u at there ne (h.raced.weighed.0 ∙ sym all)
 
   pub known_words : v.frozen ≡ true → words ≡ v.began_words
-  known_words e = h.still (sym mine.1 ∙ e) ∙ sym (ap (λ (b : Start). b.words) mine.0)
+  known_words = known k words views h id v at (omega (arith, all, pos))
 
   -- nothing is held where the seat's new view holds nothing
   none_held : {A : Type 0} (f : View → List A) → ((u : View) → IsBlank u → f u ≡ []) → (w : View) → IsBlank w → (x : A) → Held f (set views id w) x → ⊥

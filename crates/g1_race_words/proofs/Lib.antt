@@ -17,3 +17,4 @@ pub mod AtBeginning
 pub mod Going
 pub mod Allowed
 pub mod Calls
+pub mod Readers

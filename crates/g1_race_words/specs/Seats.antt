@@ -1,5 +1,5 @@
 -- What a seat at the words of a race must be for a step, and what the step at a pause tells it.
-use Rattle.std.specs.Prelude.{◌≡◌, ℕ, ◌<◌, List, [], ◌∷◌, Some, false}
+use Rattle.std.specs.Prelude.{◌≡◌, ℕ, ◌<◌, List, [], ◌∷◌, Some, true, false}
 use mathlib.Core.Option.{some}
 use lib.ListN.{get_elem?}
 use Rattle.atomic_table.specs.Table.{Me}
@@ -44,7 +44,8 @@ pub record IsPaused (z : TableId) (k : Shape) (s : Seat (Unit {0}) View) : Type 
   pub view : s.me ≡ (iced (start k s.me.0.began_words) k.members, [])
   pub begun : IsBegun (start k s.me.0.began_words)
 
--- a seat with all the weight learns the words, and what they are to the beginning of the race
+-- a seat with all the weight learns the words, and what they are to the beginning of the race; where
+-- it was frozen, they are those that it knew
 pub record Freezes (before after : Me (Unit {0}) View) : Type 0 where
   pub words : List ℕ
   pub views : List View
@@ -53,3 +54,4 @@ pub record Freezes (before after : Me (Unit {0}) View) : Type 0 where
   pub begun : IsBegun (start before.0.shape words)
   pub raced : Raced (beginning (start_of before.0)) words views
   pub mine : get_elem? views id ≡ some before.0
+  pub still : before.0.frozen ≡ true → words ≡ before.0.began_words

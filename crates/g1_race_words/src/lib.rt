@@ -17,6 +17,8 @@
 //! - The seats are split and joined, with no word read for it or written.
 //! - At a pause the one seat that has the weight of all members learns the words, reads and writes
 //!   them, and lets them change again.
+//! - It may give shares of what it knows to readers ([`RaceTable::split_reader`]), each of which
+//!   reads words ([`RaceTable::see`]). They join it again before a word changes.
 //!
 //! So of steps on a slot's word or a mark there are just the first five kinds while mutators run.
 //! Each is one atomic instruction, waits for nobody and takes no memory.
@@ -26,6 +28,7 @@ mod pausing;
 mod racing;
 mod rule;
 mod seats;
+mod sharing;
 mod sweeping;
 mod table;
 mod view;
