@@ -27,3 +27,4 @@ pub mod Moving
 pub mod MovedTable
 pub mod Counting
 pub mod Blocks
+pub mod AtReading

@@ -7,7 +7,7 @@ ghost use Rattle.g1_core.specs.Calls.{members_entry, status_entry};
 ghost use Rattle.g1_race_words.specs.Rule.{HasBit, IsPair};
 ghost use Rattle.g1_race.specs.Over.{halted};
 ghost use Rattle.g1_race.specs.Clearing.{IsLeastPending};
-ghost use Rattle.g1_race_words.specs.Seats.{IsPaused};
+ghost use Rattle.g1_race_words.specs.Readers.{IsReading};
 
 use crate::bits::bit_of;
 use crate::next::{card_at, count_marked, count_members, count_pairs, list_members, next_marked};
@@ -91,7 +91,7 @@ impl Paused {
 
 // Whether the pair's bit is set.
 fn is_set(race: &Race, seat: &mut Place, card: usize, region: usize) -> bool
-    requires seat { IsPaused race.now.table.table_id race.now.shape seat.old }
+    requires seat { IsReading race.now.table.table_id race.now.shape seat.old }
     requires pair { IsPair race.now.shape (card, region) }
     ensures set { IsTrue result ↔ HasBit race.now.shape seat.old.me.0.began_words (card, region) }
     ensures seat { (seat.new.table_id ≡ seat.old.table_id) × (seat.new.me ≡ seat.old.me) }

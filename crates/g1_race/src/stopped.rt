@@ -12,6 +12,7 @@ ghost use Rattle.g1_race.specs.Race.{shape_of, word_of};
 ghost use Rattle.g1_race.specs.Over.{halted};
 ghost use Rattle.g1_race.specs.Evacuating.{IsSameRace, plain_reply};
 ghost use Rattle.g1_race_words.specs.Seats.{IsPaused};
+ghost use Rattle.g1_race_words.specs.Readers.{IsReading};
 
 use crate::paused::Paused;
 use crate::race::Race;
@@ -81,7 +82,7 @@ impl Paused {
 
 // Reads a word, which is what the seat knows it to be.
 pub(crate) fn see(race: &Race, seat: &mut Place, word: usize) -> u64
-    requires seat { IsPaused race.now.table.table_id race.now.shape seat.old }
+    requires seat { IsReading race.now.table.table_id race.now.shape seat.old }
     requires word { word < race.now.shape.slots + race.now.shape.cards + race.now.shape.bits }
     ensures word { get_elem? seat.old.me.0.began_words word ≡ some result }
     ensures seat { (seat.new.table_id ≡ seat.old.table_id) × (seat.new.me ≡ seat.old.me) }

@@ -8,9 +8,6 @@ use Rattle.g1_race.proofs.drain.refine_cards.Goals as goal
 pub loop-card-init : goal.loop-card-init
 loop-card-init c = record { seat = c.requires.seat; within = omega arith; refined = refined_none _ _ }
 
-pub next_marked-requires : goal.next_marked-requires
-next_marked-requires c = c.loop-card.invariant.seat
-
 pub refine_card-requires-clause-seat : goal.refine_card-requires-clause-seat
 refine_card-requires-clause-seat c = paused_same _ _ c.loop-card.seat c.next_marked.new.seat c.next_marked.ensures.seat.0 c.next_marked.ensures.seat.1 c.loop-card.invariant.seat
 
