@@ -9,8 +9,8 @@ use Rattle.atomic_table.proofs.Lists.{set_again}
 use Rattle.g1_race_words.specs.declared.view.Shape.{Shape}
 use Rattle.g1_race_words.specs.declared.view.View.{View}
 use Rattle.g1_race_words.specs.Rule.{Going, IsBlank, IsShape}
-use Rattle.g1_race_words.specs.Steps.{iced, lighter}
-use Rattle.g1_race_words.specs.Readers.{IsReading, IsShared, new_reader}
+use Rattle.g1_race_words.specs.Steps.{lighter}
+use Rattle.g1_race_words.specs.Readers.{IsLent, IsReading, new_reader}
 use Rattle.g1_race_words.proofs.Plain.{read_at, set_read}
 use Rattle.g1_race_words.proofs.Tallies.{number_dropped}
 use Rattle.g1_race_words.proofs.Splitting.{raced_split}
@@ -37,13 +37,8 @@ allows_see k slots id p me heavy frozen lt s h len at fits =
 -- what the calls ask
 
 module _ (z : TableId) (k : Shape) (fits : z.words ≡ k.slots + k.cards + k.bits) (s : Seat (Unit {0}) View) (table : s.table_id ≡ z) where
-  pub split_reader_owed : IsShape k → IsShared s.me.0 → (s.table_id ≡ z) × (0 < z.words) × Splits (Rule k) s.id s.me.0 (lighter s.me.0) (new_reader s.me.0)
-  split_reader_owed shaped (begin, w, is, heavy) = (
-    table,
-    omega (arith, fits, shaped.5),
-    subst (λ (v : View). Splits (Rule k) s.id v (lighter v) (new_reader v)) (sym is)
-        (splits_reader k s.id (iced begin w) ((refl, refl, refl), refl, refl, refl, refl) heavy refl),
-  )
+  pub split_reader_owed : IsShape k → IsLent z k s → 0 < s.me.0.weight → (s.table_id ≡ z) × (0 < z.words) × Splits (Rule k) s.id s.me.0 (lighter s.me.0) (new_reader s.me.0)
+  split_reader_owed shaped lent heavy = (table, omega (arith, fits, shaped.5), splits_reader k s.id s.me.0 lent.blank heavy lent.frozen)
 
   pub see_owed : (p : ℕ) → IsReading z k s → p < k.slots + k.cards + k.bits
       → (s.table_id ≡ z) × (p < z.words) × Allows (Rule k) z.slots s.id s.me p (λ n. n) (λ n after. (after ≡ s.me) × (get_elem? s.me.0.began_words p ≡ some n))

@@ -3,7 +3,7 @@ ghost use Rattle.std.specs.Prelude.{◌≡◌, ◌+◌, ◌<◌, []};
 ghost use mathlib.Core.Option.{some};
 ghost use lib.ListN.{get_elem?};
 ghost use Rattle.g1_race_words.specs.Steps.{lighter};
-ghost use Rattle.g1_race_words.specs.Readers.{IsReading, IsShared, new_reader};
+ghost use Rattle.g1_race_words.specs.Readers.{IsLent, IsReading, new_reader};
 
 use crate::table::{Place, RaceTable};
 use crate::view::View;
@@ -35,8 +35,8 @@ impl RaceTable {
     /// A reader gets its share of the seat of a pause. No word can change until all readers have
     /// joined that seat again.
     pub fn split_reader(&self, chair: &mut Place) -> Place
-        requires table { chair.old.table_id ≡ self.now.table_id }
-        requires chair { IsShared chair.old.me.0 }
+        requires chair { IsLent self.now.table_id self.now.shape chair.old }
+        requires weight { 0 < chair.old.me.0.weight }
         ensures table { chair.new.table_id ≡ chair.old.table_id }
         ensures left { chair.new.me ≡ (lighter chair.old.me.0, chair.old.me.1) }
         ensures reader { (result.table_id ≡ chair.old.table_id)
