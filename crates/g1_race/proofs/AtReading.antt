@@ -1,19 +1,17 @@
--- A seat that knows the words of a race at a pause.
-use Rattle.std.proofs.Common.{◌≡◌, ◌<◌, sym, ap, subst}
-use Rattle.atomic_table.specs.Table.{Me}
+-- What a reader knows of the table.
+use Rattle.std.proofs.Common.{◌≡◌, ℕ, List, ap}
 use Rattle.atomic_table.specs.Seated.{TableId}
-use Rattle.atomic_table.specs.declared.shared.Seat.{Seat}
+use Rattle.g1_layout.specs.Shape as layout
 use Rattle.g1_race_words.specs.declared.view.Shape.{Shape}
-use Rattle.g1_race_words.specs.declared.view.View.{View}
-use Rattle.g1_race_words.specs.Seats.{IsPaused}
-use Rattle.g1_race_words.specs.Readers.{IsReading}
+use Rattle.g1_race_words.specs.Begin.{Start}
+use Rattle.g1_race_words.specs.Rule.{start, start_of}
+use Rattle.g1_race.specs.declared.reading.Reader.{Reader}
+use Rattle.g1_race.specs.Over.{ended, table_of}
+use Rattle.g1_race.specs.Readers.{Knows}
 
--- the one seat of a pause reads
-pub paused_reads : (z : TableId) (k : Shape) (s : Seat (Unit {0}) View) → 0 < k.members → IsPaused z k s → IsReading z k s
-paused_reads z k s some i = let view = ap (λ (m : Me (Unit {0}) View). m.0) i.view in record {
-  table = i.table;
-  shape = ap (λ (v : View). v.shape) view;
-  weight = subst (λ n. 0 < n) (sym (ap (λ (v : View). v.weight) view)) some;
-  frozen = ap (λ (v : View). v.frozen) view;
-  begun = i.begun;
-}
+module _ (z : TableId) (k : Shape) (words : List ℕ) (r : Reader) (knows : Knows z (start k words) r) where
+  starts : start_of r.seat.me.0 ≡ start k words
+  starts = ap (λ (x : TableId × Start). x.1) knows
+
+  pub same_table : (l : layout.Shape) → table_of (ended l k r.seat.me.0.began_words) ≡ table_of (ended l k words)
+  same_table l = ap (λ (b : Start). table_of (ended l k b.words)) starts

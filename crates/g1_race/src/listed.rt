@@ -6,6 +6,7 @@ ghost use Rattle.g1_core.specs.Run.{IsStep};
 ghost use Rattle.g1_core.specs.Calls.{members_entry, status_entry};
 ghost use Rattle.g1_race_words.specs.Rule.{HasBit, IsPair};
 ghost use Rattle.g1_race.specs.Over.{halted};
+ghost use Rattle.g1_race.specs.Reading.{IsNextPending, table_known};
 ghost use Rattle.g1_race.specs.Clearing.{IsLeastPending};
 ghost use Rattle.g1_race_words.specs.Readers.{IsReading};
 
@@ -25,14 +26,7 @@ impl Paused {
         ensures has { IsTrue result ↔ IsRecorded (halted self.old) card region }
         ensures same { self.new ≡ self.old }
     {
-        let (card, region) = (card.number() as usize, region.number() as usize);
-        if card >= self.race.shape.cards {
-            return false;
-        }
-        if region >= self.race.shape.regions {
-            return false;
-        }
-        is_set(&self.race, &mut self.seat, card, region)
+        is_recorded(&self.race, &mut self.seat, card, region)
     }
 
     /// The cards of a region's remembered set as it is recorded, ascending, each once. Cards that
@@ -46,11 +40,7 @@ impl Paused {
         ensures step { IfOk result (λ cards. (caller : ℕ) → IsStep (halted self.old) (members_entry caller region cards) (halted self.new)) }
         ensures same { self.new ≡ self.old }
     {
-        let number = region.number() as usize;
-        let count = count_members(&self.race, &mut self.seat, number);
-        let mut cards = Vec::with_capacity(alloc, count)?;
-        list_members(&self.race, &mut self.seat, number, &mut cards);
-        Ok(CardList::of(cards))
+        members_of(&self.race, &mut self.seat, alloc, region)
     }
 
     /// How many cards are dirty. Reads a word for each card.
@@ -82,11 +72,56 @@ impl Paused {
         ensures dirty { IsLeastPending (halted self.old) result }
         ensures same { self.new ≡ self.old }
     {
-        let Some(card) = next_marked(&self.race, &mut self.seat, 0) else {
-            return None;
-        };
-        Some(card_at(&self.race, card))
+        next_dirty_from(&self.race, &mut self.seat, 0)
     }
+}
+
+// The least dirty card from one on.
+pub(crate) fn next_dirty_from(race: &Race, seat: &mut Place, from: usize) -> Option<Card>
+    requires seat { IsReading race.now.table.table_id race.now.shape seat.old }
+    ensures dirty { IsNextPending (table_known race.now seat.old) from result }
+    ensures seat { (seat.new.table_id ≡ seat.old.table_id) × (seat.new.me ≡ seat.old.me) }
+{
+    let Some(card) = next_marked(race, seat, from) else {
+        return None;
+    };
+    Some(card_at(race, card))
+}
+
+// Whether the pair is recorded.
+pub(crate) fn is_recorded(race: &Race, seat: &mut Place, card: Card, region: Region) -> bool
+    requires seat { IsReading race.now.table.table_id race.now.shape seat.old }
+    ensures recorded { IsTrue result ↔ IsRecorded (table_known race.now seat.old) card region }
+    ensures seat { (seat.new.table_id ≡ seat.old.table_id) × (seat.new.me ≡ seat.old.me) }
+{
+    let (card, region) = (card.number() as usize, region.number() as usize);
+    if card >= race.shape.cards {
+        return false;
+    }
+    if region >= race.shape.regions {
+        return false;
+    }
+    is_set(race, seat, card, region)
+}
+
+// The cards of the region's set.
+pub(crate) fn members_of(
+    race: &Race,
+    seat: &mut Place,
+    alloc: Global,
+    region: Region,
+) -> Result<CardList, NoMemory>
+    requires seat { IsReading race.now.table.table_id race.now.shape seat.old }
+    requires region { region < race.now.layout.regions }
+    ensures members { IfOk result (λ cards.
+        AreMembers (table_known race.now seat.old) region cards) }
+    ensures seat { (seat.new.table_id ≡ seat.old.table_id) × (seat.new.me ≡ seat.old.me) }
+{
+    let number = region.number() as usize;
+    let count = count_members(race, seat, number);
+    let mut cards = Vec::with_capacity(alloc, count)?;
+    list_members(race, seat, number, &mut cards);
+    Ok(CardList::of(cards))
 }
 
 // Whether the pair's bit is set.

@@ -10,6 +10,7 @@ ghost use Rattle.g1_core.specs.Calls.{target_entry, pending_entry, store_entry};
 ghost use Rattle.g1_race_words.specs.Rule.{IsBegun, start, crosses};
 ghost use Rattle.g1_race.specs.Race.{shape_of, word_of};
 ghost use Rattle.g1_race.specs.Over.{halted};
+ghost use Rattle.g1_race.specs.Reading.{table_known};
 ghost use Rattle.g1_race.specs.Evacuating.{IsSameRace, plain_reply};
 ghost use Rattle.g1_race_words.specs.Seats.{IsPaused};
 ghost use Rattle.g1_race_words.specs.Readers.{IsReading};
@@ -29,12 +30,7 @@ impl Paused {
         ensures step { (caller : ℕ) → IsStep (halted self.old) (target_entry caller slot result) (halted self.new) }
         ensures same { self.new ≡ self.old }
     {
-        let place = slot.number() as usize;
-        let word = see(&self.race, &mut self.seat, place);
-        if word == 0 {
-            return None;
-        }
-        self.race.layout.slot(word as u32 - 1)
+        target_of(&self.race, &mut self.seat, slot)
     }
 
     /// Whether the card is pending: dirty, by a store or from the beginning. Reads one word.
@@ -44,8 +40,7 @@ impl Paused {
         ensures step { (caller : ℕ) → IsStep (halted self.old) (pending_entry caller card result) (halted self.new) }
         ensures same { self.new ≡ self.old }
     {
-        let place = self.race.shape.slots + card.number() as usize;
-        see(&self.race, &mut self.seat, place) == 1
+        is_dirty(&self.race, &mut self.seat, card)
     }
 
     /// Stores a reference (or null) into the slot, as the collector itself does, and dirties the
@@ -78,6 +73,31 @@ impl Paused {
         put(&self.race, &mut self.seat, place, word);
         Kind::Logged
     }
+}
+
+// What the slot refers to.
+pub(crate) fn target_of(race: &Race, seat: &mut Place, slot: Slot) -> Option<Slot>
+    requires seat { IsReading race.now.table.table_id race.now.shape seat.old }
+    requires slot { slot < slot_count race.now.layout }
+    ensures target { result ≡ target_of (table_known race.now seat.old) slot }
+    ensures within { IfSome result (λ place. place < slot_count race.now.layout) }
+    ensures seat { (seat.new.table_id ≡ seat.old.table_id) × (seat.new.me ≡ seat.old.me) }
+{
+    let word = see(race, seat, slot.number() as usize);
+    if word == 0 {
+        return None;
+    }
+    race.layout.slot(word as u32 - 1)
+}
+
+// Whether the card is dirty.
+pub(crate) fn is_dirty(race: &Race, seat: &mut Place, card: Card) -> bool
+    requires seat { IsReading race.now.table.table_id race.now.shape seat.old }
+    requires card { card < card_count race.now.layout }
+    ensures dirty { result ≡ set.contains (table_known race.now seat.old).pending card }
+    ensures seat { (seat.new.table_id ≡ seat.old.table_id) × (seat.new.me ≡ seat.old.me) }
+{
+    see(race, seat, race.shape.slots + card.number() as usize) == 1
 }
 
 // Reads a word, which is what the seat knows it to be.
