@@ -14,9 +14,9 @@
 //! [`Paused::resume`] gives the race, its racers and its sweepers; each of them then belongs to one
 //! thread at a time, and they share the race by `&`. [`Race::pause`] takes all of them back, in
 //! place: [`Paused`] answers what each slot refers to, which cards are dirty and which pairs are
-//! recorded, refines, drains, redirects and clears. No call takes memory between the birth of a
-//! heap and its end, but for the lists that are answered. [`Race::open`], [`Race::resume`] and
-//! [`Race::close`] are these calls in one.
+//! recorded, refines, drains, redirects and clears. [`Paused::read_by`] lets several threads ask at
+//! once. No call takes memory between the birth of a heap and its end, but for the lists that are
+//! answered. [`Race::open`], [`Race::resume`] and [`Race::close`] are these calls in one.
 //!
 //! A race that ends ([`Race::close`], [`Paused::close`]) leaves a [`Closed`], which a core can be
 //! made of.
