@@ -27,4 +27,3 @@ pub mod Moving
 pub mod MovedTable
 pub mod Counting
 pub mod Blocks
-pub mod AtReading

@@ -2,9 +2,12 @@
 ghost use Rattle.std.specs.Prelude.{◌≡◌, ◌+◌, ◌≤◌, All, vec_len, vec_capacity};
 ghost use Rattle.g1_race_words.specs.Rule.{start_of};
 ghost use Rattle.g1_race_words.specs.Readers.{IsLent};
-ghost use Rattle.g1_race.specs.Readers.{IsReaderOf, Knows};
+ghost use Rattle.g1_race.specs.Members.{race_id, race_layout};
+ghost use Rattle.g1_race.specs.Over.{halted};
+ghost use Rattle.g1_race.specs.Reading.{IsReaderOf, Known, known, table_read};
 
 use crate::paused::Paused;
+use crate::race::Race;
 use crate::reading::{Reader, Reading};
 use g1_race_words::{Place, RaceTable};
 
@@ -47,6 +50,17 @@ impl Paused {
 }
 
 impl Reading {
+    /// The race, which the readers ask with: threads share it by `&`. What a reader of this pause
+    /// knows of it is the table of the pause.
+    pub fn race(&self) -> &Race
+        ensures race { race_id result.now ≡ (self.now.table_id, self.now.pause.shape) }
+        ensures layout { race_layout result.now ≡ self.now.pause.layout }
+        ensures table { (reader : Known) → IsReaderOf self.now reader →
+            table_read result.now reader ≡ halted self.now.pause }
+    {
+        &self.race
+    }
+
     /// Lets the pause go on, as it was: all readers are handed in, which is a condition. The list
     /// is empty then, and keeps its room for the next time.
     ///
@@ -88,7 +102,7 @@ fn seat_readers(table: &RaceTable, chair: &mut Place, readers: &mut Vec<Reader>,
     ensures weight { chair.new.me.0.weight + count ≡ chair.old.me.0.weight }
     ensures count { vec_len readers.new ≡ count }
     ensures readers { let begin = start_of chair.old.me.0 in
-        All (Knows table.now.table_id begin) readers.new.items }
+        All (λ r. r ≡ known table.now.table_id begin) readers.new.items }
 {
     for _i in 0..count {
         let seat = table.split_reader(chair);
@@ -102,7 +116,7 @@ fn seat_readers(table: &RaceTable, chair: &mut Place, readers: &mut Vec<Reader>,
 fn join_readers(table: &RaceTable, chair: &mut Place, readers: &mut Vec<Reader>)
     requires seat { IsLent table.now.table_id table.now.shape chair.old }
     requires readers { let begin = start_of chair.old.me.0 in
-        All (Knows table.now.table_id begin) readers.old.items }
+        All (λ r. r ≡ known table.now.table_id begin) readers.old.items }
     ensures seat { IsLent table.now.table_id table.now.shape chair.new }
     ensures start { start_of chair.new.me.0 ≡ start_of chair.old.me.0 }
     ensures weight { chair.new.me.0.weight ≡ chair.old.me.0.weight + vec_len readers.old }

@@ -1,11 +1,10 @@
 //! A race at a pause that several threads read, and what each of them reads with.
-ghost use Rattle.g1_race_words.specs.Readers.{IsReader};
 
 use crate::race::{Race, Racer, Sweeper};
 use g1_race_words::Place;
 use std::marker::Model;
 
-/// A race at a pause, while readers ask what it knows. Threads share it by `&`.
+/// A race at a pause, while readers ask what it knows.
 ///
 /// Its model is the pause, which table it is at, and how many readers have to be handed in before
 /// the pause goes on. Nothing changes meanwhile.
@@ -47,9 +46,21 @@ impl Model for Reading {
 /// What a thread of the collector reads with at a pause: its right to read the words. It has no
 /// bytes.
 ///
-/// It belongs to one thread at a time, and any number of readers ask at once.
+/// It belongs to one thread at a time, and any number of readers ask at once. Its model is which
+/// table it is at, and all the words there.
 #[derive(Drop)]
 pub struct Reader {
     pub(crate) seat: Place,
-    ghost reading: { IsReader seat.me.0 },
+}
+
+impl Model for Reader {
+    ghost use Rattle.g1_race_words.specs.Rule.{IsBegun, start_of};
+    ghost use Rattle.g1_race_words.specs.Readers.{IsReader};
+    ghost use Rattle.g1_race.specs.Reading.{Known};
+
+    ghost Value = { Known };
+
+    ghost view = { λ a. record { table_id = a.seat.table_id; start = start_of a.seat.me.0 } };
+
+    ghost invariant = { λ a. IsReader a.seat.me.0 × IsBegun (start_of a.seat.me.0) };
 }

@@ -1,12 +1,13 @@
 //! Several threads read one pause.
-ghost use Rattle.std.specs.Prelude.{◌≡◌, All, vec_len, vec_capacity};
-ghost use Rattle.g1_race.specs.Readers.{IsReaderOf};
+ghost use Rattle.std.specs.Prelude.{◌≡◌, All};
+ghost use Rattle.g1_race.specs.Members.{race_id};
+ghost use Rattle.g1_race.specs.Reading.{reader_race};
 
 use crate::in_place::race_on;
 use crate::in_threads::Plan;
 use g1_core::Drained;
 use g1_layout::{Card, Layout, NoMemory, Region, Slot};
-use g1_race::{Paused, Reader, Reading};
+use g1_race::{Paused, Race, Reader};
 use std::alloc::Global;
 use std::process::Abort;
 use std::test::Fail;
@@ -86,51 +87,58 @@ fn pairs_of(
 }
 
 // A reader asks of each card whose number leaves k what was told of it.
-fn scan(rt: &impl Abort, reading: &Reading, reader: &mut Reader, told: &[Told], k: u32)
-    requires { IsReaderOf reading.now reader.old }
-    ensures { IsReaderOf reading.now reader.new }
+fn scan(rt: &impl Abort, race: &Race, reader: &mut Reader, told: &[Told], k: u32)
+    requires { reader_race reader.old ≡ race_id race.now }
+    ensures { reader.new ≡ reader.old }
 {
     for card in told {
         if card.card.number() % READERS == k {
-            ask(rt, reading, reader, card);
+            ask(rt, race, reader, card);
         }
     }
 }
 
 // A reader asks what was told of one card.
-fn ask(rt: &impl Abort, reading: &Reading, reader: &mut Reader, told: &Told)
-    requires { IsReaderOf reading.now reader.old }
-    ensures { IsReaderOf reading.now reader.new }
+fn ask(rt: &impl Abort, race: &Race, reader: &mut Reader, told: &Told)
+    requires { reader_race reader.old ≡ race_id race.now }
+    ensures { reader.new ≡ reader.old }
 {
     let number = told.card.number();
-    let card = reading.layout().card(number).expect(rt, "card");
-    assert!(rt; reader.is_pending(reading, card) == told.pending);
-    assert!(rt; (reader.next_dirty(reading, card) == Some(card)) == told.pending);
-    for (slot, target) in &told.targets {
-        let slot = reading.layout().slot(slot.number()).expect(rt, "slot");
-        assert!(rt; reader.target(reading, slot) == *target);
+    let card = race.layout().card(number).expect(rt, "card");
+    assert!(rt; reader.is_pending(race, card) == told.pending);
+    assert!(rt; (reader.next_dirty(race, card) == Some(card)) == told.pending);
+    for pair in &told.pairs {
+        assert!(rt; reader.has(race, card, pair.0) == pair.1);
     }
-    for (region, has) in &told.pairs {
-        assert!(rt; reader.has(reading, card, *region) == *has);
+    for slot in &told.targets {
+        ask_of(rt, race, reader, slot);
     }
+}
+
+// A reader asks what was told of one slot.
+fn ask_of(rt: &impl Abort, race: &Race, reader: &mut Reader, told: &(Slot, Option<Slot>))
+    requires { reader_race reader.old ≡ race_id race.now }
+    ensures { reader.new ≡ reader.old }
+{
+    let slot = race.layout().slot(told.0.number()).expect(rt, "slot");
+    assert!(rt; reader.target(race, slot) == told.1);
 }
 
 // Each reader scans in a thread of its own.
 fn all_scan<R: Threads + Abort + Sync>(
     rt: &R,
-    reading: &Reading,
+    race: &Race,
     readers: &mut Vec<Reader>,
     told: &[Told],
 )
-    requires { All (IsReaderOf reading.now) readers.old.items }
-    ensures all { All (IsReaderOf reading.now) readers.new.items }
-    ensures len { vec_len readers.new ≡ vec_len readers.old }
+    requires { All (λ r. reader_race r ≡ race_id race.now) readers.old.items }
+    ensures { readers.new.items ≡ readers.old.items }
 {
     thread::for_each_mut(
         rt,
         readers.as_mut_slice(),
         4,
-        &|k, reader| scan(rt, reading, reader, told, (k % 4) as u32),
+        &|k, reader| scan(rt, race, reader, told, (k % 4) as u32),
     );
 }
 
@@ -149,7 +157,7 @@ fn four_readers(rt: HostRuntime) -> Result<(), Fail> {
     assert!(rt; paused.reader_limit() == 6);
     let mut readers = Vec::with_capacity(rt.alloc(), 4)?;
     let reading = paused.read_by(&mut readers, 4);
-    all_scan(&rt, &reading, &mut readers, told.as_slice());
+    all_scan(&rt, reading.race(), &mut readers, told.as_slice());
     let mut paused = reading.pause(&mut readers);
     let slot = paused.layout().slot(0).expect(&rt, "slot");
     let place = paused.layout().slot(100).expect(&rt, "place");

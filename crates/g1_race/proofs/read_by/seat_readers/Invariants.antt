@@ -1,7 +1,7 @@
 use Rattle.std.proofs.Common.{◌≡◌, ◌+◌, ◌≤◌, All, vec_len, vec_capacity}
 use Rattle.g1_race_words.specs.Rule.{start_of}
 use Rattle.g1_race_words.specs.Readers.{IsLent}
-use Rattle.g1_race.specs.Readers.{Knows}
+use Rattle.g1_race.specs.Reading.{known}
 use Rattle.g1_race.proofs.read_by.seat_readers.Given as goal
 
 abbrev pub invariant-loop-i : goal.invariant-loop-i
@@ -11,5 +11,5 @@ invariant-loop-i l = record {
   weight : l.chair.me.0.weight + l._i ≡ l.fn.chair.me.0.weight;
   len : vec_len l.readers ≡ l._i;
   room : l.count ≤ vec_capacity l.readers;
-  all : All (Knows l.table.table_id (start_of l.fn.chair.me.0)) l.readers.items;
+  all : All (λ r. r ≡ known l.table.table_id (start_of l.fn.chair.me.0)) l.readers.items;
 }
