@@ -1,5 +1,5 @@
 -- Each kind of step is allowed, as a call on the table asks for it.
-use Rattle.std.proofs.Common.{inl, inr, ◌≡◌, ℕ, ◌-◌, ◌+◌, ◌*◌, ◌%◌, ◌^◌, ◌<◌, ◌≤◌, bit_or, List, [], ◌∷◌, set, get_or, true, false, Some, None, refl, sym, ap, ◌∙◌, subst, arith}
+use Rattle.std.proofs.Common.{inl, inr, ◌≡◌, ℕ, ◌-◌, ◌*◌, ◌%◌, ◌^◌, ◌<◌, ◌≤◌, bit_or, List, [], ◌∷◌, set, get_or, true, false, Some, None, refl, sym, ap, ◌∙◌, subst, arith}
 use mathlib.Core.Option.{some}
 use lib.ListN.{get_elem?}
 use Rattle.atomic_table.specs.Table.{State, Me, keeps, Allows, Splits, Joins, Enters}
@@ -7,8 +7,8 @@ use Rattle.atomic_table.proofs.Lists.{set_again}
 use Rattle.g1_race_words.specs.declared.view.Shape.{Shape}
 use Rattle.g1_race_words.specs.declared.view.View.{View}
 use Rattle.g1_race_words.specs.Begin.{Start}
-use Rattle.g1_race_words.specs.Rule.{History, mark_word, bit_word, bit_place, In, IsShape, IsPair, AtRest, IsBlank, IsBegun, Going, start}
-use Rattle.g1_race_words.specs.Steps.{iced, thawed, put, blank, wrote, looked, dirtied, cleaned, read, sought, recorded, lighter, new_racer, new_sweeper, both, nothing}
+use Rattle.g1_race_words.specs.Rule.{History, mark_word, bit_word, bit_place, flag, word_count, In, IsShape, IsPair, AtRest, IsBlank, IsBegun, Going, start}
+use Rattle.g1_race_words.specs.Steps.{iced, thawed, put, blank, wrote, looked, owed_card, spotted, raised, dirtied, cleaned, read, sought, recorded, lighter, new_racer, new_sweeper, both, nothing}
 use Rattle.g1_race_words.proofs.PairBits.{with_pair}
 use Rattle.g1_race_words.proofs.Plain.{set_read, read_at}
 use Rattle.g1_race_words.proofs.Tallies.{number_given, number_dropped}
@@ -17,6 +17,7 @@ use Rattle.g1_race_words.proofs.Writing.{raced_wrote}
 use Rattle.g1_race_words.proofs.Marking.{raced_looked, raced_dirtied, raced_cleaned}
 use Rattle.g1_race_words.proofs.Reading.{raced_read}
 use Rattle.g1_race_words.proofs.Recording.{raced_sought, raced_recorded}
+use Rattle.g1_race_words.proofs.Raising.{raced_spotted, raced_raised}
 use Rattle.g1_race_words.proofs.Splitting.{raced_split, raced_join, raced_enter}
 use Rattle.g1_race_words.proofs.Going.{begun, going_step, going_split, going_join, going_enter, going_anew, begun_here, known_words, raced_mine, shape_mine, mine}
 
@@ -54,16 +55,33 @@ module _ {S : Type 0} where
         refl,
       )
 
-  pub allows_dirty : (k : Shape) (slots id c : ℕ) (me : Me S View) → Sits k me.0 → me.0.owed ≡ Some c → c < k.cards
+  pub allows_spot : (k : Shape) (slots id c : ℕ) (me : Me S View) → IsShape k → Sits k me.0 → me.0.owed ≡ Some c
+      → Allows (Rule k) slots id me (bit_word k (flag k c)) (λ n. n) (λ n after. after ≡ (spotted me.0 n, me.1))
+  allows_spot k slots id c me shaped sits owes s h len at fits =
+      let n = get_or s.words (bit_word k (flag k c)) 0 in (
+        spotted me.0 n,
+        keeps,
+        tt,
+        subst (λ (ws : List ℕ). Going k ws (set s.views id (spotted me.0 n))) (sym (set_read s.words (bit_word k (flag k c))))
+            (going_step k s.words s.views h s.words id me.0 (spotted me.0 n) at (omega (arith, sits.weight)) sits.going refl refl refl refl (raced_spotted (begun k s.words s.views h) s.words s.views id me.0 c shaped sits owes at h.raced)),
+        refl,
+      )
+
+  pub allows_raise : (k : Shape) (slots id c : ℕ) (me : Me S View) → IsShape k → Sits k me.0 → me.0.owed ≡ Some c → c < k.cards
+      → Allows (Rule k) slots id me (bit_word k (flag k c)) (λ n. bit_or n (1 * 2 ^ bit_place k (flag k c) % 2 ^ 64)) (λ _ after. after ≡ (raised me.0, me.1))
+  allows_raise k slots id c me shaped sits owes lt s h len at fits =
+      (raised me.0, keeps, tt, going_step k s.words s.views h (with_pair k s.words (flag k c)) id me.0 (raised me.0) at (omega (arith, sits.weight)) sits.going refl refl refl refl (raced_raised (begun k s.words s.views h) s.words s.views id me.0 c shaped sits owes lt at h.raced), refl)
+
+  pub allows_dirty : (k : Shape) (slots id c : ℕ) (me : Me S View) → Sits k me.0 → me.0.owed ≡ Some c → me.0.flagged ≡ owed_card me.0.owed → c < k.cards
       → Allows (Rule k) slots id me (mark_word k c) (λ _. 1) (λ n after. after ≡ (dirtied me.0 (mark_word k c - me.0.shape.slots) n, me.1))
-  allows_dirty k slots id c me sits owes lt s h len at fits =
+  allows_dirty k slots id c me sits owes flagged lt s h len at fits =
       let n = get_or s.words (mark_word k c) 0 in
       let e = card_back k me.0 c sits.shape in (
         dirtied me.0 (mark_word k c - me.0.shape.slots) n,
         keeps,
         tt,
         subst (λ (d : ℕ). Going k (set s.words (mark_word k c) 1) (set s.views id (dirtied me.0 d n))) (sym e)
-            (going_step k s.words s.views h (set s.words (mark_word k c) 1) id me.0 (dirtied me.0 c n) at (omega (arith, sits.weight)) sits.going refl refl refl refl (raced_dirtied (begun k s.words s.views h) s.words s.views id me.0 c sits owes lt at h.raced)),
+            (going_step k s.words s.views h (set s.words (mark_word k c) 1) id me.0 (dirtied me.0 c n) at (omega (arith, sits.weight)) sits.going refl refl refl refl (raced_dirtied (begun k s.words s.views h) s.words s.views id me.0 c sits owes flagged lt at h.raced)),
         refl,
       )
 
@@ -111,7 +129,7 @@ module _ {S : Type 0} where
 
   pub splits_racer : (k : Shape) (id : ℕ) (v : View) → IsBlank v → 0 < v.weight → 0 < v.spare → v.frozen ≡ false → Splits (Rule k) id v (lighter v) (new_racer v)
   splits_racer k id v still heavy given moving s h at = going_split k s.words s.views h id v (new_racer v) at heavy refl (sym moving) (omega arith)
-      (raced_split (begun k s.words s.views h) s.words s.views id v (new_racer v) still heavy refl (number_given v given) fresh refl refl refl refl at h.raced)
+      (raced_split (begun k s.words s.views h) s.words s.views id v (new_racer v) still heavy refl (number_given v given) fresh refl refl refl refl refl at h.raced)
     where
       fresh : (g : History) → In ((v.spare - 1, []) ∷ []) g → g.1 ≡ []
       fresh g (inl e) = ap (λ (x : History). x.1) (sym e)
@@ -119,14 +137,14 @@ module _ {S : Type 0} where
 
   pub splits_sweeper : (k : Shape) (id : ℕ) (v : View) → IsBlank v → 0 < v.weight → v.frozen ≡ false → Splits (Rule k) id v (lighter v) (new_sweeper v)
   splits_sweeper k id v still heavy moving s h at = going_split k s.words s.views h id v (new_sweeper v) at heavy refl (sym moving) (omega arith)
-      (raced_split (begun k s.words s.views h) s.words s.views id v (new_sweeper v) still heavy refl (number_dropped v) (λ g i. absurd i) refl refl refl refl at h.raced)
+      (raced_split (begun k s.words s.views h) s.words s.views id v (new_sweeper v) still heavy refl (number_dropped v) (λ g i. absurd i) refl refl refl refl refl at h.raced)
 
   pub joins_member : (k : Shape) (id : ℕ) (v : View) (other : ℕ) (u : View) → u.weight ≡ 1 → AtRest u → Joins (Rule k) id v other u (both v u) nothing
   joins_member k id v other u one rest s h at apart there = going_join k s.words s.views h id v other u at apart there (omega (arith, one))
-      (raced_join (begun k s.words s.views h) s.words s.views id v other u nothing one rest ((refl, refl, refl), refl, refl, refl, refl) refl refl at apart there h.raced)
+      (raced_join (begun k s.words s.views h) s.words s.views id v other u nothing one rest ((refl, refl, refl, refl), refl, refl, refl, refl) refl refl at apart there h.raced)
 
   pub enters_blank : (k : Shape) (slots i : ℕ) (b : Start) → Enters (Rule k) slots i (λ n w. ◌≡◌ {A = Me S View} (w, []) (blank b 0 [], []))
-  enters_blank k slots i b s h len fits = (blank b 0 [], going_enter k s.words s.views h (blank b 0 []) refl refl (raced_enter (begun k s.words s.views h) s.words s.views (blank b 0 []) ((refl, refl, refl), refl, refl, refl, refl) refl refl h.raced), refl)
+  enters_blank k slots i b s h len fits = (blank b 0 [], going_enter k s.words s.views h (blank b 0 []) refl refl (raced_enter (begun k s.words s.views h) s.words s.views (blank b 0 []) ((refl, refl, refl, refl), refl, refl, refl, refl) refl refl h.raced), refl)
 
   -- at a pause
 
@@ -141,7 +159,7 @@ module _ {S : Type 0} where
         refl,
       )
 
-  pub allows_see : (k : Shape) (slots id p : ℕ) (me : Me S View) → Knows k me.0 → p < k.slots + k.cards + k.bits → Allows (Rule k) slots id me p (λ n. n) (λ n after. (after ≡ me) × (get_elem? me.0.began_words p ≡ some n))
+  pub allows_see : (k : Shape) (slots id p : ℕ) (me : Me S View) → Knows k me.0 → p < word_count k → Allows (Rule k) slots id me p (λ n. n) (λ n after. (after ≡ me) × (get_elem? me.0.began_words p ≡ some n))
   allows_see k slots id p me c lt s h len at fits =
       let words = known_words k s.words s.views id me.0 c.all c.pos h at c.frozen in (
         me.0,
@@ -173,7 +191,7 @@ allows_freeze k slots id p me shaped all pos rest s h len at fits =
       keeps,
       tt,
       subst (λ (ws : List ℕ). Going k ws (set s.views id w)) (sym (set_read s.words p))
-          (going_anew k s.words s.views id me.0 all pos h at s.words w here ((refl, refl, refl), refl, refl, refl, refl) all all (ap (λ (x : Shape). start x s.words) shape)),
+          (going_anew k s.words s.views id me.0 all pos h at s.words w here ((refl, refl, refl, refl), refl, refl, refl, refl) all all (ap (λ (x : Shape). start x s.words) shape)),
       record {
         words = s.words;
         views = s.views;

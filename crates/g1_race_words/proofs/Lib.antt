@@ -7,7 +7,9 @@ pub mod CoverStores
 pub mod CoverSweeps
 pub mod Unchanged
 pub mod Keeping
+pub mod Flags
 pub mod Recording
+pub mod Raising
 pub mod Writing
 pub mod Marking
 pub mod Reading
