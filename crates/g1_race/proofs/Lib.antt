@@ -14,6 +14,7 @@ pub mod Parts
 pub mod Placing
 pub mod Telling
 pub mod NextCards
+pub mod FlagWords
 pub mod Opening
 pub mod Numbers
 pub mod Words

@@ -1,6 +1,7 @@
 -- The cards' flags among the words.
 use Rattle.std.proofs.Common.{◌≡◌, ℕ, ◌+◌, ◌*◌, ◌/◌, ◌<◌, ◌≤◌, zero, suc, List, set, sym, subst, arith}
-use Rattle.std.proofs.Math.Nat.{le-mul_of_pos_right, mul-pos}
+use Rattle.std.proofs.Math.Nat.{le-mul_of_pos_right, mul-pos, mul-suc}
+use Rattle.std.proofs.lemmas.Nat.{mul-add-lt}
 use mathlib.Core.Option.{some}
 use lib.ListN.{get_elem?}
 use Rattle.atomic_table.proofs.Lists.{set_else}
@@ -17,6 +18,17 @@ flag_word k c shaped = let n : ℕ = k.regions * k.row in let e : k.bits ≡ n =
 
 pub flag_below : (k : Shape) (c : ℕ) → IsShape k → c < k.cards → bit_word k (flag k c) < word_count k
 flag_below k c shaped lt = let e = flag_word k c shaped in let low = card_in_row k c shaped lt in omega (arith, e, low)
+
+-- a word of a region's row, or of the row of flags
+pub word_in_row : (k : Shape) (region i : ℕ) → IsShape k → region ≤ k.regions → i < k.row → k.slots + k.cards + (region * k.row + i) < word_count k
+word_in_row k region i shaped le lt =
+    let r : ℕ = region * k.row in let all : ℕ = k.row * suc k.regions in let pairs : ℕ = k.row * k.regions in let same : ℕ = k.regions * k.row in
+    let a : r + i < all = mul-add-lt region k.row i (suc k.regions) (omega (arith, le)) lt in
+    let b : all ≡ pairs + k.row = mul-suc k.row k.regions in let e : k.bits ≡ same = shaped.8 in let f : pairs ≡ same = omega arith in
+    let goal : k.slots + k.cards + (r + i) < k.slots + k.cards + k.bits + k.row = omega arith in goal
+
+pub bit_below : (k : Shape) (x : ℕ × ℕ) → IsShape k → x.0 < k.cards → x.1 ≤ k.regions → bit_word k x < word_count k
+bit_below k x shaped low row = word_in_row k x.1 (x.0 / 64) shaped row (card_in_row k x.0 shaped low)
 
 -- a row is no longer than the bits of all pairs
 pub row_small : (k : Shape) → IsShape k → k.row ≤ k.bits
