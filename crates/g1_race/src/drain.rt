@@ -29,8 +29,9 @@ impl Paused {
     /// once, every card that holds into the region, and beside these only cards whose pair was
     /// recorded before. Nothing is dirty then, and the racers' logs are empty.
     ///
-    /// The room for the answer is asked for first, and refinement takes none. `NoMemory` where it
-    /// was refused: nothing has changed. A drain is never `Short`.
+    /// Reads a word for each 64 cards of the heap a few times over, what each dirty card needs, and
+    /// the set. The room for the answer is asked for first, and refinement takes none. `NoMemory`
+    /// where it was refused: nothing has changed. A drain is never `Short`.
     pub fn drain(&mut self, alloc: Global, region: Region) -> Result<Drained, NoMemory>
         requires { region < self.old.layout.regions }
         ensures race { IfOk result (λ answer. IsRefinedRace self.old self.new) }
