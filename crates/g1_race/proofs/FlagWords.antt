@@ -1,17 +1,19 @@
 -- The cards' flags at a pause.
 use Rattle.std.proofs.Common.{◌≡◌, ℕ, zero, suc, ◌+◌, ◌<◌, ◌≤◌, ◌++◌, List, [], ◌∷◌, false, Some, None, sym, ap, ◌∙◌, subst, inl, inr, ⊎_elim, arith, eq-eqb}
 use native.Mathlib.Decide.{ℕ_discrete}
+use lib.ListN.{get_elem?}
 use Rattle.std.specs.Int.{bit_at}
 use Rattle.std.specs.List.{slice_index}
 use Rattle.std.proofs.lemmas.Bool.{cases_Bool, cases_lt, true≢false}
 use Rattle.g1_layout.specs.Shape as layout
 use Rattle.g1_race_words.specs.declared.view.Shape.{Shape}
-use Rattle.g1_race_words.specs.Rule.{HasBit, In, IsBegun, IsPair, bit_place, bit_word, flag, pairs_of_card, pairs_up_to, start}
+use Rattle.g1_race_words.specs.Rule.{HasBit, In, IsBegun, IsPair, bit_place, bit_word, flag, front, mark_word, pairs_of_card, pairs_up_to, start}
 use Rattle.g1_race.specs.Over.{ended}
-use Rattle.g1_race.specs.Refining.{Notes}
+use Rattle.g1_race.specs.Clearing.{IsEmptied}
+use Rattle.g1_race.specs.Refining.{AreRefined, Notes}
 use Rattle.g1_race.specs.Telling.{IsNext, is_marked, is_member}
 use Rattle.g1_race_words.proofs.Listing.{one_pair, pair_clear, pair_set}
-use Rattle.g1_race_words.proofs.Places.{take_same}
+use Rattle.g1_race_words.proofs.Places.{take_at, take_same}
 use Rattle.g1_race.proofs.NextCards.{marked_word}
 
 -- a card whose flag is clear is clean
@@ -78,3 +80,17 @@ flag_ended k l old new c notes =
     let words = take_same new old (k.slots + k.cards) notes.front in
     let pairs = pairs_same k old new (λ x pair b. notes.kept x b) (flag_only k old new c notes) in
     λ i. record { layout = l; words = words i; pairs = pairs i }
+
+-- a word of the front, where the front has not changed
+pub front_at : (k : Shape) (old new : List ℕ) (i : ℕ) → front k new ≡ front k old → i < k.slots + k.cards → get_elem? new i ≡ get_elem? old i
+front_at k old new i same lt = sym (take_at new (k.slots + k.cards) i lt) ∙ (ap (λ (l : List ℕ). get_elem? l i) same ∙ take_at old (k.slots + k.cards) i lt)
+
+-- the flags are cleared then
+pub refined_emptied : (k : Shape) (old mid new : List ℕ) (n : ℕ) → AreRefined k old mid n → IsEmptied k mid new k.regions k.row → AreRefined k old new n
+refined_emptied k old mid new n h g = record {
+  slots = λ p lt. front_at k mid new p g.front (omega (arith, lt)) ∙ h.slots p lt;
+  clean = λ c up below. front_at k mid new (mark_word k c) g.front (omega (arith, below)) ∙ h.clean c up below;
+  marks = λ c up below. front_at k mid new (mark_word k c) g.front (omega (arith, below)) ∙ h.marks c up below;
+  kept = λ x pair b. g.kept x pair (λ e. absurd (let lt : x.1 < k.regions = pair.1 in omega (arith, lt, e))) (h.kept x pair b);
+  only = λ x pair b. h.only x pair (g.only x pair b);
+}

@@ -21,6 +21,7 @@ pub mod Words
 pub mod Draining
 pub mod PauseTable
 pub mod PauseStores
+pub mod FlagStores
 pub mod ClearWords
 pub mod Forgetting
 pub mod PauseRun

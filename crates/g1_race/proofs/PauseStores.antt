@@ -33,8 +33,6 @@ use Rattle.g1_race_words.proofs.Places.{at_take, reads_as}
 use Rattle.g1_race.proofs.Ends.{refs_here, crosses_apart, recorded_set, set_recorded, target_some}
 use Rattle.g1_race_words.proofs.PairBits.{bit_as, card_below, same_bits}
 use Rattle.g1_race.proofs.PauseTable.{pending_word, refs_same, slots_are, table_is, word_pending}
-use Rattle.g1_race.specs.Refining.{IsDirtied}
-use Rattle.g1_race.proofs.FlagWords.{flag_ended}
 use Rattle.g1_race.proofs.StoreCalls.{other_region}
 
 pub word_back : (t : Option ℕ) → target_of (word_of t) ≡ t
@@ -208,18 +206,3 @@ module _ (k : Shape) (l : layout.Shape) (laid : k ≡ shape_of l k.members) (p :
     sym kind_is ∙ ap (λ (x : Table). kind_of x p target) was,
     ap (λ (ws : List ℕ). table_of (ended l k ws)) is ∙ (logged_table words h (subst (λ (ws : List ℕ). IsBegun (start k ws)) is h') kind_is ∙ ap (λ (x : Table). stored x p target) was),
   )
-
-  -- where the card was dirtied by a call
-
-  pub dirtied_here : (seen new : List ℕ) (card : ℕ) → card ≡ card_of k p → IsDirtied k seen new card → get_elem? new (mark_word k (card_of k p)) ≡ some 1
-  dirtied_here seen new card is d =
-      let low = card_below k p d.begun.shaped lt in
-      ap (λ (ws : List ℕ). get_elem? ws (mark_word k (card_of k p))) (d.marked ∙ ap (λ (c : ℕ). set d.mid (mark_word k c) 1) is) ∙ set_here d.mid (mark_word k (card_of k p)) 1 (omega (arith, d.begun.sized, low))
-
-  pub dirtied_store : (t : Table) (words seen new after : List ℕ) (card : ℕ) → seen ≡ words → card ≡ card_of k p → IsDirtied k seen new card → table_of (ended l k words) ≡ t → crosses k p (word_of target) ≡ true → (get_elem? words (mark_word k (card_of k p)) ≡ some 1 → ⊥)
-      → after ≡ set new p (word_of target) → IsBegun (start k after) → (Logged ≡ kind_of t p target) × (table_of (ended l k after) ≡ stored t p target)
-  dirtied_store t words seen new after card same is d was cr clean e h' =
-      let low = card_below k p d.begun.shaped lt in
-      let mark : get_elem? words (mark_word k (card_of k p)) ≡ get_elem? d.mid (mark_word k (card_of k p)) = ap (λ (ws : List ℕ). get_elem? ws (mark_word k (card_of k p))) (sym same) ∙ sym (d.flagged.front (mark_word k (card_of k p)) (omega (arith, low))) in
-      logged_store t d.mid after (ap table_of (flag_ended k l seen d.mid card d.flagged) ∙ (ap (λ (ws : List ℕ). table_of (ended l k ws)) same ∙ was))
-      (e ∙ ap (λ (ws : List ℕ). set ws p (word_of target)) (d.marked ∙ ap (λ (c : ℕ). set d.mid (mark_word k c) 1) is)) d.begun h' (kind_clean d.mid cr (λ at. clean (mark ∙ at)))

@@ -8,12 +8,11 @@ use Rattle.std.specs.Int.{bit_at}
 use Rattle.std.proofs.lemmas.Nat.{div-mul-add}
 use Rattle.atomic_table.proofs.Lists.{set_else, set_here}
 use Rattle.g1_race_words.specs.declared.view.Shape.{Shape}
-use Rattle.g1_race_words.specs.Rule.{In, IsBegun, IsMarked, IsOfCrossing, HasBit, BeganInto, bit_word, bit_place, flag, front, mark_word, word_count, card_of, region_at, crosses, start}
+use Rattle.g1_race_words.specs.Rule.{In, IsBegun, IsMarked, IsOfCrossing, HasBit, BeganInto, bit_word, bit_place, flag, mark_word, word_count, card_of, region_at, crosses, start}
 use Rattle.g1_race_words.specs.Steps.{pair_at}
 use Rattle.g1_race.specs.Refining.{Notes, IsRefined, AreRefined, card_pairs}
-use Rattle.g1_race.specs.Clearing.{IsEmptied}
 use Rattle.g1_race_words.proofs.Plain.{in_left, in_right, in_either, read_at, true_is}
-use Rattle.g1_race_words.proofs.Places.{reads_as, take_at}
+use Rattle.g1_race_words.proofs.Places.{reads_as}
 use Rattle.g1_race_words.proofs.PairBits.{SameBits, same_bits, bit_as, with_pair, bit_here, bits_stay, bits_back, card_below}
 use Rattle.g1_race_words.proofs.Flags.{are_flagged, bit_below, front_stays}
 use Rattle.g1_race_words.proofs.AtBeginning.{never_both}
@@ -197,17 +196,3 @@ refined_next k old mid new n there dirty h g = record {
     pick : (c : ℕ) → c < n + 1 → c < k.cards → Dec (c ≡ n) → get_elem? new (mark_word k c) ≡ some 0
     pick c lt below (yes e) = ap (λ (d : ℕ). get_elem? new (mark_word k d)) e ∙ g.clean
     pick c lt below (no ne) = g.marks c below ne ∙ h.clean c (omega (arith, lt, ne)) below
-
--- a word of the front, where the front has not changed
-pub front_at : (k : Shape) (old new : List ℕ) (i : ℕ) → front k new ≡ front k old → i < k.slots + k.cards → get_elem? new i ≡ get_elem? old i
-front_at k old new i same lt = sym (take_at new (k.slots + k.cards) i lt) ∙ (ap (λ (l : List ℕ). get_elem? l i) same ∙ take_at old (k.slots + k.cards) i lt)
-
--- the flags are cleared then
-pub refined_emptied : (k : Shape) (old mid new : List ℕ) (n : ℕ) → AreRefined k old mid n → IsEmptied k mid new k.regions k.row → AreRefined k old new n
-refined_emptied k old mid new n h g = record {
-  slots = λ p lt. front_at k mid new p g.front (omega (arith, lt)) ∙ h.slots p lt;
-  clean = λ c up below. front_at k mid new (mark_word k c) g.front (omega (arith, below)) ∙ h.clean c up below;
-  marks = λ c up below. front_at k mid new (mark_word k c) g.front (omega (arith, below)) ∙ h.marks c up below;
-  kept = λ x pair b. g.kept x pair (λ e. absurd (let lt : x.1 < k.regions = pair.1 in omega (arith, lt, e))) (h.kept x pair b);
-  only = λ x pair b. h.only x pair (g.only x pair b);
-}

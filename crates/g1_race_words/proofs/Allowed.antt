@@ -7,8 +7,8 @@ use Rattle.atomic_table.proofs.Lists.{set_again}
 use Rattle.g1_race_words.specs.declared.view.Shape.{Shape}
 use Rattle.g1_race_words.specs.declared.view.View.{View}
 use Rattle.g1_race_words.specs.Begin.{Start}
-use Rattle.g1_race_words.specs.Rule.{History, mark_word, bit_word, bit_place, flag, word_count, In, IsShape, IsPair, AtRest, IsBlank, IsBegun, Going, start}
-use Rattle.g1_race_words.specs.Steps.{iced, thawed, put, blank, wrote, looked, owed_card, spotted, raised, dirtied, cleaned, read, sought, recorded, lighter, new_racer, new_sweeper, both, nothing}
+use Rattle.g1_race_words.specs.Rule.{History, mark_word, bit_word, bit_place, word_count, In, IsShape, IsPair, AtRest, IsBlank, IsBegun, Going, start}
+use Rattle.g1_race_words.specs.Steps.{iced, thawed, put, blank, wrote, looked, owed_card, dirtied, cleaned, read, sought, recorded, lighter, new_racer, new_sweeper, both, nothing}
 use Rattle.g1_race_words.proofs.PairBits.{with_pair}
 use Rattle.g1_race_words.proofs.Plain.{set_read, read_at}
 use Rattle.g1_race_words.proofs.Tallies.{number_given, number_dropped}
@@ -17,7 +17,6 @@ use Rattle.g1_race_words.proofs.Writing.{raced_wrote}
 use Rattle.g1_race_words.proofs.Marking.{raced_looked, raced_dirtied, raced_cleaned}
 use Rattle.g1_race_words.proofs.Reading.{raced_read}
 use Rattle.g1_race_words.proofs.Recording.{raced_sought, raced_recorded}
-use Rattle.g1_race_words.proofs.Raising.{raced_spotted, raced_raised}
 use Rattle.g1_race_words.proofs.Splitting.{raced_split, raced_join, raced_enter}
 use Rattle.g1_race_words.proofs.Going.{begun, going_step, going_split, going_join, going_enter, going_anew, begun_here, known_words, raced_mine, shape_mine, mine}
 
@@ -54,23 +53,6 @@ module _ {S : Type 0} where
             (going_step k s.words s.views h s.words id me.0 (looked me.0 n) at (omega (arith, sits.weight)) sits.going refl refl refl refl (raced_looked (begun k s.words s.views h) s.words s.views id me.0 c sits owes lt at h.raced)),
         refl,
       )
-
-  pub allows_spot : (k : Shape) (slots id c : ℕ) (me : Me S View) → IsShape k → Sits k me.0 → me.0.owed ≡ Some c
-      → Allows (Rule k) slots id me (bit_word k (flag k c)) (λ n. n) (λ n after. after ≡ (spotted me.0 n, me.1))
-  allows_spot k slots id c me shaped sits owes s h len at fits =
-      let n = get_or s.words (bit_word k (flag k c)) 0 in (
-        spotted me.0 n,
-        keeps,
-        tt,
-        subst (λ (ws : List ℕ). Going k ws (set s.views id (spotted me.0 n))) (sym (set_read s.words (bit_word k (flag k c))))
-            (going_step k s.words s.views h s.words id me.0 (spotted me.0 n) at (omega (arith, sits.weight)) sits.going refl refl refl refl (raced_spotted (begun k s.words s.views h) s.words s.views id me.0 c shaped sits owes at h.raced)),
-        refl,
-      )
-
-  pub allows_raise : (k : Shape) (slots id c : ℕ) (me : Me S View) → IsShape k → Sits k me.0 → me.0.owed ≡ Some c → c < k.cards
-      → Allows (Rule k) slots id me (bit_word k (flag k c)) (λ n. bit_or n (1 * 2 ^ bit_place k (flag k c) % 2 ^ 64)) (λ _ after. after ≡ (raised me.0, me.1))
-  allows_raise k slots id c me shaped sits owes lt s h len at fits =
-      (raised me.0, keeps, tt, going_step k s.words s.views h (with_pair k s.words (flag k c)) id me.0 (raised me.0) at (omega (arith, sits.weight)) sits.going refl refl refl refl (raced_raised (begun k s.words s.views h) s.words s.views id me.0 c shaped sits owes lt at h.raced), refl)
 
   pub allows_dirty : (k : Shape) (slots id c : ℕ) (me : Me S View) → Sits k me.0 → me.0.owed ≡ Some c → me.0.flagged ≡ owed_card me.0.owed → c < k.cards
       → Allows (Rule k) slots id me (mark_word k c) (λ _. 1) (λ n after. after ≡ (dirtied me.0 (mark_word k c - me.0.shape.slots) n, me.1))

@@ -12,7 +12,8 @@ use Rattle.g1_race_words.specs.Steps.{both, chair, cleaned, dirtied, iced, light
 use Rattle.g1_race_words.specs.Seats.{Freezes, HoldsBit, IsChair, IsMark, IsPaused, OwesFlag, OwesMark, Sits, Words}
 use Rattle.g1_race_words.proofs.PairBits.{word_below}
 use Rattle.g1_race_words.proofs.Flags.{flag_below}
-use Rattle.g1_race_words.proofs.Allowed.{Knows, allows_clean, allows_dirty, allows_freeze, allows_look, allows_raise, allows_read, allows_record, allows_see, allows_seek, allows_set, allows_spot, allows_thaw, allows_write, joins_member, splits_racer, splits_sweeper}
+use Rattle.g1_race_words.proofs.Flagging.{allows_raise, allows_spot}
+use Rattle.g1_race_words.proofs.Allowed.{Knows, allows_clean, allows_dirty, allows_freeze, allows_look, allows_read, allows_record, allows_see, allows_seek, allows_set, allows_thaw, allows_write, joins_member, splits_racer, splits_sweeper}
 
 -- what is so of the models is so of what is inside
 pub inside : (P : Words → Seat (Unit {0}) View → Type 0) (t w : Words) (s q : Seat (Unit {0}) View) → t ≡ w → s ≡ q → P w q → P t s

@@ -1,10 +1,11 @@
 -- The cards' flags among the words.
-use Rattle.std.proofs.Common.{◌≡◌, ℕ, ◌+◌, ◌*◌, ◌/◌, ◌<◌, ◌≤◌, zero, suc, List, set, sym, subst, arith}
+use Rattle.std.proofs.Common.{◌≡◌, ◌∙◌, ℕ, ◌+◌, ◌*◌, ◌/◌, ◌<◌, ◌≤◌, zero, suc, List, length, set, sym, subst, arith}
 use Rattle.std.proofs.Math.Nat.{le-mul_of_pos_right, mul-pos, mul-suc}
 use Rattle.std.proofs.lemmas.Nat.{mul-add-lt}
-use mathlib.Core.Option.{some}
+use mathlib.Core.Option.{some, some-injective}
+use native.Mathlib.Decide.{ℕ_discrete}
 use lib.ListN.{get_elem?}
-use Rattle.atomic_table.proofs.Lists.{set_else}
+use Rattle.atomic_table.proofs.Lists.{set_else, set_here}
 use Rattle.g1_race_words.specs.declared.view.Shape.{Shape}
 use Rattle.g1_race_words.specs.declared.view.View.{View}
 use Rattle.g1_race_words.specs.Rule.{AreFlagged, Flagged, Held, IsFlagged, IsShape, bit_word, flag, flagged_of, mark_word, word_count}
@@ -55,6 +56,14 @@ front_stays k words x i lt = set_else words (bit_word k x) i _ (λ e. let m : �
 
 abbrev pub NoneDirtied : Shape → List ℕ → List ℕ → Type 0
 NoneDirtied k words new = (c : ℕ) → c < k.cards → get_elem? new (mark_word k c) ≡ some 1 → get_elem? words (mark_word k c) ≡ some 1
+
+-- a mark is cleaned
+pub none_dirtied : (k : Shape) (words : List ℕ) (c : ℕ) → mark_word k c < length words → NoneDirtied k words (set words (mark_word k c) 0)
+none_dirtied k words c short d below m = pick (ℕ_discrete d c)
+  where
+    pick : Dec (d ≡ c) → get_elem? words (mark_word k d) ≡ some 1
+    pick (yes e) = absurd (let z : 0 ≡ 1 = some-injective 0 1 (sym (set_here words (mark_word k c) 0 short) ∙ subst (λ (x : ℕ). get_elem? (set words (mark_word k c) 0) (mark_word k x) ≡ some 1) e m) in omega arith)
+    pick (no ne) = sym (set_else words (mark_word k c) (mark_word k d) 0 (λ x. ne (omega arith))) ∙ m
 
 abbrev pub FlagsStay : Shape → List ℕ → List ℕ → Type 0
 FlagsStay k words new = (c : ℕ) → IsFlagged k words c → IsFlagged k new c

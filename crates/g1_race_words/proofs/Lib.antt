@@ -18,4 +18,5 @@ pub mod Listing
 pub mod AtBeginning
 pub mod Going
 pub mod Allowed
+pub mod Flagging
 pub mod Calls

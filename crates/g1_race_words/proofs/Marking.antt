@@ -13,7 +13,7 @@ use Rattle.g1_race_words.proofs.Plain.{put_here, read_at, read_is, total_set, Sa
 use Rattle.g1_race_words.proofs.CoverStores.{covered_looked, covered_dirtied}
 use Rattle.g1_race_words.proofs.CoverSweeps.{covered_cleaned}
 use Rattle.g1_race_words.proofs.PairBits.{same_bits, bit_as}
-use Rattle.g1_race_words.proofs.Flags.{flags_stay}
+use Rattle.g1_race_words.proofs.Flags.{flags_stay, none_dirtied}
 use Rattle.g1_race_words.proofs.Raising.{flagged_dirtied}
 use Rattle.g1_race_words.proofs.Keeping.{kept_stays}
 use Rattle.g1_race_words.proofs.Tallies.{one_is, zero_is}
@@ -215,14 +215,6 @@ counted_cleaned k began words views id v c below short at marks h d first now lt
         let t = h d first now lt was (sym (set_else words (mark_word k c) (mark_word k d) 0 (λ x. ne (omega arith))) ∙ is) in
         let g : cleanings_at d w ≡ cleanings_at d v = times_other d c (eqb n 1) v.cleanings ne in omega (arith, a, b, g, t)
 
--- no mark becomes dirty
-none_dirtied : (k : Shape) (words : List ℕ) (c d : ℕ) → c < k.cards → mark_word k c < length words → get_elem? (set words (mark_word k c) 0) (mark_word k d) ≡ some 1 → get_elem? words (mark_word k d) ≡ some 1
-none_dirtied k words c d lt short m = pick (ℕ_discrete d c)
-  where
-    pick : Dec (d ≡ c) → get_elem? words (mark_word k d) ≡ some 1
-    pick (yes e) = absurd (let z : 0 ≡ 1 = some-injective 0 1 (sym (set_here words (mark_word k c) 0 short) ∙ subst (λ (x : ℕ). get_elem? (set words (mark_word k c) 0) (mark_word k x) ≡ some 1) e m) in omega arith)
-    pick (no ne) = sym (set_else words (mark_word k c) (mark_word k d) 0 (λ x. ne (omega arith))) ∙ m
-
 pub raced_cleaned : (begun : Begun) (words : List ℕ) (views : List View) (id : ℕ) (v : View) (c : ℕ) → Sits begun.shape v → 0 < begun.shape.size → v.next ≡ v.end → c < begun.shape.cards
     → get_elem? views id ≡ some v → Raced begun words views → Raced begun (set words (mark_word begun.shape c) 0) (set views id (cleaned v c (get_or words (mark_word begun.shape c) 0)))
 raced_cleaned begun words views id v c sits pos done lt at h = let n = get_or words (mark_word begun.shape c) 0 in let w = cleaned v c n in let new = set words (mark_word begun.shape c) 0 in let short : mark_word begun.shape c < length words = omega (arith, h.sized) in record {
@@ -236,6 +228,6 @@ raced_cleaned begun words views id v c sits pos done lt at h = let n = get_or wo
   kept = kept_stays begun.shape begun.pairs words new views id v w at refl refl (same_bits begun.shape words (mark_word begun.shape c) 0 (omega arith)) h.kept;
   claimed = claimed_cleaned begun.shape begun.words words views id v c short at h.claimed;
   counted = counted_cleaned begun.shape begun.words words views id v c lt short at h.claimed h.counted;
-  flagged = flags_stay begun.shape words new views id v w at refl (λ d below m. none_dirtied begun.shape words c d lt short m)
+  flagged = flags_stay begun.shape words new views id v w at refl (none_dirtied begun.shape words c short)
       (λ d. bit_as begun.shape words new (flag begun.shape d) (same_bits begun.shape words (mark_word begun.shape c) 0 (omega (arith, lt)))) h.flagged;
 }

@@ -8,7 +8,8 @@ use Rattle.g1_race_words.proofs.AtBeginning.{never_both}
 use Rattle.g1_race.proofs.ClearWords.{none_behind}
 use Rattle.g1_race.proofs.AtPause.{paused_same}
 use Rattle.g1_race.proofs.NextCards.{marked_word, unmarked_word}
-use Rattle.g1_race.proofs.PauseWords.{refined_emptied, refined_none, refined_next, refined_past}
+use Rattle.g1_race.proofs.PauseWords.{refined_none, refined_next, refined_past}
+use Rattle.g1_race.proofs.FlagWords.{refined_emptied}
 use Rattle.g1_race.proofs.drain.refine_cards.Goals as goal
 
 pub loop-card-init : goal.loop-card-init

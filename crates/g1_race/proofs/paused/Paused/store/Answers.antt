@@ -10,7 +10,8 @@ use Rattle.g1_race.specs.Over.{Halt, ended, halted, table_of}
 use Rattle.g1_race.proofs.StoreCalls.{word_fits}
 use Rattle.g1_race_words.proofs.PairBits.{card_below}
 use Rattle.g1_race.proofs.AtPause.{begun_placed}
-use Rattle.g1_race.proofs.PauseStores.{dirtied_here, dirtied_store, kind_dirty, kind_null, kind_same, quiet_store, store_step}
+use Rattle.g1_race.proofs.FlagStores.{dirtied_here, dirtied_store}
+use Rattle.g1_race.proofs.PauseStores.{kind_dirty, kind_null, kind_same, quiet_store, store_step}
 use Rattle.g1_race.proofs.paused.Paused.store.Goals as goal
 
 pub put-requires-clause-begun : goal.put-requires-clause-begun
