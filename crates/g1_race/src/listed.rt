@@ -43,7 +43,8 @@ impl Paused {
         members_of(&self.race, &mut self.seat, alloc, region)
     }
 
-    /// How many cards are dirty. Reads a word for each card.
+    /// How many cards are dirty. Reads a word for each 64 cards of the heap, and two more for each
+    /// card that was dirtied since all was last refined at a pause.
     pub fn pending_count(&mut self) -> u32
         ensures count { result ≡ set.len (halted self.old).pending }
         ensures same { self.new ≡ self.old }
@@ -51,9 +52,8 @@ impl Paused {
         count_marked(&self.race, &mut self.seat) as u32
     }
 
-    /// How many cards are dirty, and how many pairs are recorded. Reads a word for each card, one
-    /// for each region and 64 cards of the heap, and one more for each recorded pair: in a heap of
-    /// 256 regions five times what `pending_count` reads, or more.
+    /// How many cards are dirty, and how many pairs are recorded. Reads what `pending_count` reads,
+    /// a word for each region and 64 cards of the heap, and one more for each recorded pair.
     pub fn status(&mut self) -> Status
         ensures pending { result.pending ≡ set.len (halted self.old).pending }
         ensures recorded { result.recorded ≡ set.len (halted self.old).recorded }
@@ -67,7 +67,8 @@ impl Paused {
         Status { pending, recorded }
     }
 
-    /// The least dirty card. Reads a word for each card up to it.
+    /// The least dirty card. Reads a word for each 64 cards up to it, and two more for each of these
+    /// cards that was dirtied since all was last refined at a pause.
     pub fn next_dirty(&mut self) -> Option<Card>
         ensures dirty { IsLeastPending (halted self.old) result }
         ensures same { self.new ≡ self.old }

@@ -10,21 +10,24 @@ use crate::stopped::see;
 use g1_layout::Card;
 use g1_race_words::Place;
 
-// The least dirty card from one on.
+// The least dirty card from one on. It looks at the marks of those cards alone whose flag is set.
 pub(crate) fn next_marked(race: &Race, seat: &mut Place, from: usize) -> Option<usize>
     requires { IsReading race.now.table.table_id race.now.shape seat.old }
     ensures next { IsNext (is_marked race.now.shape seat.old.me.0.began_words) race.now.shape.cards from result }
     ensures seat { (seat.new.table_id ≡ seat.old.table_id) × (seat.new.me ≡ seat.old.me) }
 {
-    for card in from..race.shape.cards {
+    let mut next = from;
+    while let Some(card) = next_member(race, seat, next, race.shape.regions) {
         if see(race, seat, race.shape.slots + card) == 1 {
             return Some(card);
         }
+        next = card + 1;
     }
     None
 }
 
-// The least card from one on that is of the region's set.
+// The least card from one on that is of the region's set, or in the row of flags the least whose
+// flag is set.
 pub(crate) fn next_member(
     race: &Race,
     seat: &mut Place,
@@ -32,7 +35,7 @@ pub(crate) fn next_member(
     region: usize,
 ) -> Option<usize>
     requires seat { IsReading race.now.table.table_id race.now.shape seat.old }
-    requires region { region < race.now.shape.regions }
+    requires region { region ≤ race.now.shape.regions }
     ensures next { IsNext (is_member race.now.shape seat.old.me.0.began_words region) race.now.shape.cards from result }
     ensures seat { (seat.new.table_id ≡ seat.old.table_id) × (seat.new.me ≡ seat.old.me) }
 {

@@ -1,5 +1,5 @@
 //! What is read and stored at a pause.
-ghost use Rattle.std.specs.Prelude.{◌≡◌, ℕ, ◌+◌, ◌<◌, ◌≤◌, ◌^◌, IfSome, slice_set};
+ghost use Rattle.std.specs.Prelude.{◌≡◌, ℕ, ◌<◌, IfSome, slice_set};
 ghost use Rattle.std.specs.FinSet as set;
 ghost use mathlib.Core.Option.{some};
 ghost use lib.ListN.{get_elem?};
@@ -7,14 +7,16 @@ ghost use Rattle.g1_layout.specs.Shape.{slot_count, card_count};
 ghost use Rattle.g1_core.specs.Table.{target_of};
 ghost use Rattle.g1_core.specs.Run.{IsStep, kind_of, stored};
 ghost use Rattle.g1_core.specs.Calls.{target_entry, pending_entry, store_entry};
-ghost use Rattle.g1_race_words.specs.Rule.{IsBegun, start, crosses};
+ghost use Rattle.g1_race_words.specs.Rule.{IsBegun, start, crosses, word_count};
 ghost use Rattle.g1_race.specs.Race.{shape_of, word_of};
 ghost use Rattle.g1_race.specs.Over.{halted};
 ghost use Rattle.g1_race.specs.Reading.{table_known};
 ghost use Rattle.g1_race.specs.Evacuating.{IsSameRace, plain_reply};
+ghost use Rattle.g1_race.specs.Refining.{IsDirtied};
 ghost use Rattle.g1_race_words.specs.Seats.{IsPaused};
 ghost use Rattle.g1_race_words.specs.Readers.{IsReading};
 
+use crate::drain::set_bit;
 use crate::paused::Paused;
 use crate::race::Race;
 use crate::racer::word_of;
@@ -64,12 +66,13 @@ impl Paused {
             }
             return Kind::SameRegion;
         }
-        let mark = self.race.shape.slots + self.race.layout.card_of(slot).number() as usize;
+        let card = self.race.layout.card_of(slot).number() as usize;
+        let mark = self.race.shape.slots + card;
         if see(&self.race, &mut self.seat, mark) == 1 {
             put(&self.race, &mut self.seat, place, word);
             return Kind::AlreadyDirty;
         }
-        put(&self.race, &mut self.seat, mark, 1);
+        dirty(&self.race, &mut self.seat, card);
         put(&self.race, &mut self.seat, place, word);
         Kind::Logged
     }
@@ -103,7 +106,7 @@ pub(crate) fn is_dirty(race: &Race, seat: &mut Place, card: Card) -> bool
 // Reads a word, which is what the seat knows it to be.
 pub(crate) fn see(race: &Race, seat: &mut Place, word: usize) -> u64
     requires seat { IsReading race.now.table.table_id race.now.shape seat.old }
-    requires word { word < race.now.shape.slots + race.now.shape.cards + race.now.shape.bits }
+    requires word { word < word_count race.now.shape }
     ensures word { get_elem? seat.old.me.0.began_words word ≡ some result }
     ensures seat { (seat.new.table_id ≡ seat.old.table_id) × (seat.new.me ≡ seat.old.me) }
 {
@@ -113,12 +116,24 @@ pub(crate) fn see(race: &Race, seat: &mut Place, word: usize) -> u64
 // Writes a word, where the words keep what each beginning has.
 pub(crate) fn put(race: &Race, seat: &mut Place, word: usize, new: u64)
     requires seat { IsPaused race.now.table.table_id race.now.shape seat.old }
-    requires word { word < race.now.shape.slots + race.now.shape.cards + race.now.shape.bits }
+    requires word { word < word_count race.now.shape }
     requires begun { IsBegun (start race.now.shape (slice_set seat.old.me.0.began_words word new)) }
     ensures seat { IsPaused race.now.table.table_id race.now.shape seat.new }
     ensures words { seat.new.me.0.began_words ≡ slice_set seat.old.me.0.began_words word new }
 {
     race.table.put(seat, word, new);
+}
+
+// Dirties a card, whose flag is set before.
+pub(crate) fn dirty(race: &Race, seat: &mut Place, card: usize)
+    requires seat { IsPaused race.now.table.table_id race.now.shape seat.old }
+    requires card { card < race.now.shape.cards }
+    ensures seat { IsPaused race.now.table.table_id race.now.shape seat.new }
+    ensures dirtied { IsDirtied race.now.shape seat.old.me.0.began_words
+        seat.new.me.0.began_words card }
+{
+    set_bit(race, seat, card, race.shape.regions);
+    put(race, seat, race.shape.slots + card, 1);
 }
 
 // Whether a reference of the slot to the target crosses regions.

@@ -8,7 +8,7 @@ use Rattle.atomic_table.specs.declared.shared.Seat.{Seat}
 use Rattle.g1_race_words.specs.declared.view.Shape.{Shape}
 use Rattle.g1_race_words.specs.declared.view.View.{View}
 use Rattle.g1_race_words.specs.Begin.{Start}
-use Rattle.g1_race_words.specs.Rule.{IsBegun, IsPair, Raced, beginning, bit_word, mark_word, start, start_of}
+use Rattle.g1_race_words.specs.Rule.{IsBegun, IsPair, Raced, beginning, bit_word, flag, mark_word, start, start_of}
 use Rattle.g1_race_words.specs.Steps.{chair, iced}
 
 -- the words of a race: which table they are, and the shape of its heap
@@ -25,6 +25,10 @@ pub record Sits (k : Shape) (v : View) : Type 0 where
 -- the word is the mark of the card that the seat owes
 abbrev pub OwesMark : Shape → View → ℕ → Type 0
 OwesMark k v word = (card : ℕ) × (v.owed ≡ Some card) × (card < k.cards) × (word ≡ mark_word k card)
+
+-- the word has the flag of the card that the seat owes
+abbrev pub OwesFlag : Shape → View → ℕ → ℕ → Type 0
+OwesFlag k v card word = (v.owed ≡ Some card) × (card < k.cards) × (word ≡ bit_word k (flag k card))
 
 -- the word is the mark of some card
 abbrev pub IsMark : Shape → ℕ → Type 0

@@ -14,6 +14,8 @@
 //!   ([`RaceTable::read`]).
 //! - A sweeper looks for the bit of a pair ([`RaceTable::seek`]) and sets it
 //!   ([`RaceTable::record`]).
+//! - A racer looks for the flag of the card that it owes ([`RaceTable::spot`]) and sets it
+//!   ([`RaceTable::raise`]), before it swaps the mark: so each dirty card has its flag set.
 //! - The seats are split and joined, with no word read for it or written.
 //! - At a pause the one seat that has the weight of all members learns the words, reads and writes
 //!   them, and lets them change again.

@@ -1,6 +1,6 @@
 //! The steps of a pause, by the one seat that has the weight of all members.
-ghost use Rattle.std.specs.Prelude.{◌≡◌, ◌+◌, ◌<◌, slice_set};
-ghost use Rattle.g1_race_words.specs.Rule.{AtRest, IsBegun, start};
+ghost use Rattle.std.specs.Prelude.{◌≡◌, ◌<◌, slice_set};
+ghost use Rattle.g1_race_words.specs.Rule.{AtRest, IsBegun, start, word_count};
 ghost use Rattle.g1_race_words.specs.Steps.{thawed};
 ghost use Rattle.g1_race_words.specs.Seats.{Freezes, IsPaused};
 
@@ -61,7 +61,7 @@ impl RaceTable {
     /// with.
     pub fn put(&self, seat: &mut Place, word: usize, new: u64)
         requires seat { IsPaused self.now.table_id self.now.shape seat.old }
-        requires word { word < self.now.shape.slots + self.now.shape.cards + self.now.shape.bits }
+        requires word { word < word_count self.now.shape }
         requires begun { IsBegun
             (start self.now.shape (slice_set seat.old.me.0.began_words word new)) }
         ensures seat { IsPaused self.now.table_id self.now.shape seat.new }

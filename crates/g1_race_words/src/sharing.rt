@@ -1,7 +1,8 @@
 //! The readers of a pause: seats that share what its one seat knows.
-ghost use Rattle.std.specs.Prelude.{◌≡◌, ◌+◌, ◌<◌, []};
+ghost use Rattle.std.specs.Prelude.{◌≡◌, ◌<◌, []};
 ghost use mathlib.Core.Option.{some};
 ghost use lib.ListN.{get_elem?};
+ghost use Rattle.g1_race_words.specs.Rule.{word_count};
 ghost use Rattle.g1_race_words.specs.Steps.{lighter};
 ghost use Rattle.g1_race_words.specs.Readers.{IsLent, IsReading, new_reader};
 
@@ -50,7 +51,7 @@ impl RaceTable {
     /// Reads a word at a pause, which is what the seat knows it to be.
     pub fn see(&self, seat: &mut Place, word: usize) -> u64
         requires seat { IsReading self.now.table_id self.now.shape seat.old }
-        requires word { word < self.now.shape.slots + self.now.shape.cards + self.now.shape.bits }
+        requires word { word < word_count self.now.shape }
         ensures word { get_elem? seat.old.me.0.began_words word ≡ some result }
         ensures seat { (seat.new.table_id ≡ seat.old.table_id) × (seat.new.me ≡ seat.old.me) }
     {

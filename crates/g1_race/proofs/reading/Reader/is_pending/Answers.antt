@@ -1,4 +1,3 @@
-use Rattle.g1_core.specs.Table.{target_of}
 use Rattle.g1_core.proofs.QueryLemmas.{pending_step}
 use Rattle.g1_race.specs.Reading.{Known, table_read}
 use Rattle.std.specs.FinSet as set

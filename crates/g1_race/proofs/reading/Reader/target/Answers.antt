@@ -1,7 +1,6 @@
 use Rattle.g1_core.specs.Table.{target_of}
 use Rattle.g1_core.proofs.QueryLemmas.{target_step}
 use Rattle.g1_race.specs.Reading.{Known, table_read}
-use Rattle.std.specs.FinSet as set
 use Rattle.std.proofs.Common.{◌∙◌, ap}
 use Rattle.g1_race.proofs.reading.Reader.target.Goals as goal
 
