@@ -30,6 +30,7 @@ impl Paused {
         ensures pause { result.pause ≡ self }
         ensures count { (result.readers ≡ count) × (vec_len readers.new ≡ count) }
         ensures readers { All (IsReaderOf result) readers.new.items }
+        ensures room { vec_capacity readers.old ≤ vec_capacity readers.new }
     {
         let Paused {
             race,
@@ -103,6 +104,7 @@ fn seat_readers(table: &RaceTable, chair: &mut Place, readers: &mut Vec<Reader>,
     ensures count { vec_len readers.new ≡ count }
     ensures readers { let begin = start_of chair.old.me.0 in
         All (λ r. r ≡ known table.now.table_id begin) readers.new.items }
+    ensures room { vec_capacity readers.old ≤ vec_capacity readers.new }
 {
     for _i in 0..count {
         let seat = table.split_reader(chair);

@@ -66,17 +66,19 @@ impl Reader {
     ) -> Result<CardList, NoMemory>
         requires reader { reader_race self.old ≡ race_id race.now }
         requires region { region < (race_layout race.now).regions }
-        ensures members { IfOk result (λ cards. AreMembers (table_read race.now self.old) region cards) }
-        ensures step { IfOk result (λ cards. (caller : ℕ) → let table = table_read race.now self.old in
+        ensures members { IfOk result (λ cards.
+            AreMembers (table_read race.now self.old) region cards) }
+        ensures step { let table = table_read race.now self.old in
+            IfOk result (λ cards. (caller : ℕ) →
             IsStep table (members_entry caller region cards) table) }
         ensures same { self.new ≡ self.old }
     {
         members_of(race, &mut self.seat, alloc, region)
     }
-    /// The least dirty card from one on. Reads a word for each card up to it. The reader must be of
-    /// this pause.
-    ///
-    /// So several readers can look for the dirty cards of a stretch of the heap each.
+
+    /// The least dirty card from one on: each of several readers can look for those of a stretch of
+    /// the heap. Reads a word for each 64 cards up to it, and two more for each of these cards that
+    /// was dirtied since all was last refined at a pause. The reader must be of this race.
     pub fn next_dirty(&mut self, race: &Race, from: Card) -> Option<Card>
         requires reader { reader_race self.old ≡ race_id race.now }
         ensures dirty { IsNextPending (table_read race.now self.old) from result }

@@ -11,5 +11,6 @@ invariant-loop-i l = record {
   weight : l.chair.me.0.weight + l._i ≡ l.fn.chair.me.0.weight;
   len : vec_len l.readers ≡ l._i;
   room : l.count ≤ vec_capacity l.readers;
+  grows : vec_capacity l.fn.readers ≤ vec_capacity l.readers;
   all : All (λ r. r ≡ known l.table.table_id (start_of l.fn.chair.me.0)) l.readers.items;
 }
