@@ -9,11 +9,12 @@ use Rattle.atomic_table.specs.declared.shared.Seat.{Seat}
 use Rattle.g1_race_words.specs.declared.view.Shape.{Shape}
 use Rattle.g1_race_words.specs.declared.view.View.{View}
 use Rattle.g1_race.specs.declared.race.Race.{Race}
-use Rattle.g1_race_words.specs.Rule.{IsBegun, IsMarked, HasBit, mark_word, card_of, region_at, crosses, start}
+use Rattle.g1_race_words.specs.Rule.{IsBegun, IsFlagged, IsMarked, HasBit, flag, mark_word, card_of, region_at, crosses, start}
 use Rattle.g1_race_words.specs.Steps.{iced}
 use Rattle.g1_race_words.specs.Seats.{IsPaused}
 use Rattle.atomic_table.specs.Seated.{TableId}
 use Rattle.g1_race_words.proofs.PairBits.{SameBits, same_bits, bit_as}
+use Rattle.g1_race_words.proofs.Flags.{are_flagged}
 use Rattle.g1_race_words.proofs.CoverStores.{mark_apart}
 use Rattle.g1_race_words.proofs.Unchanged.{bounded_same, bounded_wrote, same_slots_at_mark}
 
@@ -30,8 +31,8 @@ marked_stays k words p c lt m = pick (ℕ_discrete (mark_word k (card_of k p)) (
     pick (yes e) = ap (λ (i : ℕ). get_elem? (set words (mark_word k c) 1) i) e ∙ set_here words (mark_word k c) 1 lt
     pick (no ne) = set_else words (mark_word k c) (mark_word k (card_of k p)) 1 ne ∙ m
 
-pub begun_marked : (k : Shape) (words : List ℕ) (c : ℕ) → c < k.cards → IsBegun (start k words) → IsBegun (start k (set words (mark_word k c) 1))
-begun_marked k words c lt h = record {
+pub begun_marked : (k : Shape) (words : List ℕ) (c : ℕ) → c < k.cards → IsFlagged k words c → IsBegun (start k words) → IsBegun (start k (set words (mark_word k c) 1))
+begun_marked k words c lt flagged h = record {
   shaped = h.shaped;
   sized = length-set words (mark_word k c) 1 ∙ h.sized;
   bounded = bounded_same k words (set words (mark_word k c) 1) (same_slots_at_mark k words c 1) h.bounded;
@@ -41,8 +42,13 @@ begun_marked k words c lt h = record {
       (λ (m : IsMarked k words p). inr (marked_stays k words p c there_is m))
       (h.covered p n below (same_slots_at_mark k words c 1 p n below there) cr);
   proper = λ x pair b. h.proper x pair (bit_as k (set words (mark_word k c) 1) words x (λ y. sym (bits y)) b);
+  flagged = λ d below m. bit_as k words (set words (mark_word k c) 1) (flag k d) bits (flag_is d below m (ℕ_discrete (mark_word k d) (mark_word k c)));
 }
   where
+    flag_is : (d : ℕ) → d < k.cards → get_elem? (set words (mark_word k c) 1) (mark_word k d) ≡ some 1 → Dec (mark_word k d ≡ mark_word k c) → IsFlagged k words d
+    flag_is d below m (yes e) = subst (IsFlagged k words) (let f : c ≡ d = omega (arith, e) in f) flagged
+    flag_is d below m (no ne) = h.flagged d below (sym (set_else words (mark_word k c) (mark_word k d) 1 ne) ∙ m)
+
     there_is : mark_word k c < length words
     there_is = omega (arith, h.sized, lt)
 
@@ -67,6 +73,7 @@ begun_placed k words p n lt fits marked h = record {
       (λ (t : (q ≢ p) × (get_elem? words q ≡ some m)). ⊎_elim (λ (i : HasBit k words (card_of k q, region_at k m)). inl (bit_as k words (set words p n) _ bits i)) (λ (x : IsMarked k words q). inr (same (card_of k q) ∙ x)) (h.covered q m below t.1 cr))
       (at_set words p q n m there);
   proper = λ x pair b. h.proper x pair (bit_as k (set words p n) words x (λ y. sym (bits y)) b);
+  flagged = are_flagged k words (set words p n) (λ d below m. sym (same d) ∙ m) (λ d. bit_as k words (set words p n) (flag k d) bits) h.flagged;
 }
   where
     same : (d : ℕ) → get_elem? (set words p n) (mark_word k d) ≡ get_elem? words (mark_word k d)

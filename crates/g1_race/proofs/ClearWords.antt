@@ -5,7 +5,7 @@ use native.Mathlib.Decide.{ℕ_discrete}
 use lib.ListN.{get_elem?}
 use Rattle.std.proofs.lemmas.Bool.{cases_eq, cases_lt, not-true}
 use Rattle.std.proofs.lemmas.List.{take-set-le, get_or-set_same, get_or-set_other}
-use Rattle.std.proofs.lemmas.Nat.{div-mul-add, mul-add-lt}
+use Rattle.std.proofs.lemmas.Nat.{div-mul-add}
 use Rattle.std.specs.Int.{bit_at}
 use Rattle.std.specs.FinSet as fin
 use Rattle.atomic_table.proofs.Lists.{set_else}
@@ -15,7 +15,7 @@ use Rattle.g1_core.specs.Table.{Enters}
 use Rattle.g1_core.specs.Run.{IsFirstInto}
 use Rattle.g1_core.proofs.SetLemmas.{pair_exact, same_pairs}
 use Rattle.g1_race_words.specs.declared.view.Shape.{Shape}
-use Rattle.g1_race_words.specs.Rule.{IsBegun, IsMarked, IsShape, IsPair, HasBit, bit_word, bit_place, card_of, crosses, front, mark_word, pairs_up_to, region_at, start}
+use Rattle.g1_race_words.specs.Rule.{IsBegun, IsMarked, IsShape, IsPair, HasBit, bit_word, bit_place, card_of, crosses, flag, front, mark_word, word_count, pairs_up_to, region_at, start}
 use Rattle.g1_race.specs.Race.{shape_of}
 use Rattle.g1_race.specs.Over.{ended, refs_of, table_of}
 use Rattle.g1_core.specs.declared.entry.Call.TheVariants.{Clear}
@@ -24,8 +24,9 @@ use Rattle.g1_core.specs.declared.reply.ClearReply.TheVariants.{Cleared}
 use Rattle.g1_core.specs.Run.{settled}
 use Rattle.g1_race.specs.Clearing.{Into, IsLeastInto, IsLeastOn, IsEmptied}
 use Rattle.g1_race_words.proofs.AtBeginning.{no_bit}
-use Rattle.g1_race_words.proofs.Places.{at_take, at_untake}
-use Rattle.g1_race_words.proofs.PairBits.{card_below, crosses_some, crossing_pair, in_row}
+use Rattle.g1_race_words.proofs.Places.{at_take, at_untake, reads_as}
+use Rattle.g1_race_words.proofs.PairBits.{card_below, card_in_row, crosses_some, crossing_pair, in_row}
+use Rattle.g1_race_words.proofs.Flags.{word_in_row}
 use Rattle.g1_race.proofs.StoreCalls.{other_region}
 use Rattle.g1_race.proofs.Ends.{crosses_apart, recorded_set, set_recorded, word_back, word_refers}
 
@@ -63,16 +64,15 @@ by_card k q card e = ap (λ (c : ℕ). c * k.size + q % k.size) (sym e) ∙ div-
 abbrev pub row_word : Shape → ℕ → ℕ → ℕ
 row_word k region i = k.slots + k.cards + (region * k.row + i)
 
-row_apart : (k : Shape) (x : ℕ × ℕ) (region i : ℕ) → IsShape k → IsPair k x → x.1 ≢ region → i < k.row → bit_word k x ≢ row_word k region i
-row_apart k x region i shaped pair ne lt e = ne (
+row_apart : (k : Shape) (x : ℕ × ℕ) (region i : ℕ) → IsShape k → x.0 < k.cards → x.1 ≢ region → i < k.row → bit_word k x ≢ row_word k region i
+row_apart k x region i shaped card ne lt e = ne (
     let low : x.1 * k.row + x.0 / 64 ≡ region * k.row + i = (let n : ℕ = x.1 * k.row + x.0 / 64 in let m : ℕ = region * k.row + i in let g : k.slots + k.cards + n ≡ k.slots + k.cards + m = e in let goal : n ≡ m = omega arith in goal) in
-    sym (div-mul-add x.1 k.row (x.0 / 64) (in_row k x shaped pair)) ∙ (ap (λ (n : ℕ). n / k.row) low ∙ div-mul-add region k.row i lt))
+    sym (div-mul-add x.1 k.row (x.0 / 64) (card_in_row k x.0 shaped card)) ∙ (ap (λ (n : ℕ). n / k.row) low ∙ div-mul-add region k.row i lt))
 
-pub row_below : (k : Shape) (region i : ℕ) → IsShape k → region < k.regions → i < k.row → row_word k region i < k.slots + k.cards + k.bits
-row_below k region i shaped lt below = let r : ℕ = region * k.row in let all : ℕ = k.row * k.regions in let same : ℕ = k.regions * k.row in
-    let a : r + i < all = mul-add-lt region k.row i k.regions lt below in let b : k.bits ≡ same = shaped.8 in let e : all ≡ same = omega arith in let goal : k.slots + k.cards + (r + i) < k.slots + k.cards + k.bits = omega arith in goal
+pub row_below : (k : Shape) (region i : ℕ) → IsShape k → region ≤ k.regions → i < k.row → row_word k region i < word_count k
+row_below k region i shaped le below = word_in_row k region i shaped le below
 
-module _ (k : Shape) (words : List ℕ) (region i : ℕ) (h : IsBegun (start k words)) (lt : region < k.regions) (below : i < k.row) where
+module _ (k : Shape) (words : List ℕ) (region i : ℕ) (h : IsBegun (start k words)) (lt : region ≤ k.regions) (below : i < k.row) where
   abbrev less : List ℕ
   less = set words (row_word k region i) 0
 
@@ -97,23 +97,25 @@ module _ (k : Shape) (words : List ℕ) (region i : ℕ) (h : IsBegun (start k w
     | inr ne ↦ ap (λ (n : ℕ). bit_at n (bit_place k x)) (sym (same_word x ne)) ∙ b
   ]
 
-  pub begun_emptied : ((p : ℕ) → Into k words region p → ⊥) → IsBegun (start k less)
-  begun_emptied none = record {
+  pub begun_emptied : ((p : ℕ) → Into k words region p → ⊥) → (region ≡ k.regions → (c : ℕ) → c < k.cards → get_elem? words (mark_word k c) ≡ some 1 → ⊥) → IsBegun (start k less)
+  begun_emptied none clean = record {
     shaped = h.shaped;
     sized = length-set words (row_word k region i) 0 ∙ h.sized;
     bounded = λ p n low at. h.bounded p n low (sym (far p (omega (arith, low))) ∙ at);
     marks = λ c low. ⊎_elim (λ (m : get_elem? words (mark_word k c) ≡ some 1). inl (far (mark_word k c) (omega (arith, low)) ∙ m)) (λ (z : get_elem? words (mark_word k c) ≡ some 0). inr (far (mark_word k c) (omega (arith, low)) ∙ z)) (h.marks c low);
     covered = λ p n low at cr. let there = sym (far p (omega (arith, low))) ∙ at in ⊎_elim
-        (λ (b : HasBit k words (card_of k p, region_at k n)). inl (bit_on _ (row_apart k (card_of k p, region_at k n) region i h.shaped (crossing_pair k p n h.shaped low (h.bounded p n low there) cr) (λ e. none p (n, low, there, cr, e)) below) b))
+        (λ (b : HasBit k words (card_of k p, region_at k n)). inl (bit_on _ (row_apart k (card_of k p, region_at k n) region i h.shaped (crossing_pair k p n h.shaped low (h.bounded p n low there) cr).0 (λ e. none p (n, low, there, cr, e)) below) b))
         (λ (m : IsMarked k words p). inr (far (mark_word k (card_of k p)) (let c = card_below k p h.shaped low in omega (arith, c)) ∙ m))
         (h.covered p n low there cr);
     proper = λ x pair b. h.proper x pair (bit_back x b);
+    flagged = λ c low m. let was = sym (far (mark_word k c) (omega (arith, low))) ∙ m in
+        bit_on (flag k c) (row_apart k (flag k c) region i h.shaped low (λ e. clean (sym e) c low was) below) (h.flagged c low was);
   }
 
   pub emptied_next : (old : List ℕ) → IsEmptied k old words region i → IsEmptied k old less region (i + 1)
   emptied_next old g = record {
     front = take-set-le (k.slots + k.cards) words (row_word k region i) 0 (let r : ℕ = region * k.row in let goal : k.slots + k.cards ≤ k.slots + k.cards + (r + i) = omega arith in goal) ∙ g.front;
-    kept = λ x pair ne b. bit_on x (row_apart k x region i h.shaped pair ne below) (g.kept x pair ne b);
+    kept = λ x pair ne b. bit_on x (row_apart k x region i h.shaped pair.0 ne below) (g.kept x pair ne b);
     only = λ x pair b. g.only x pair (bit_back x b);
     clear = λ x pair e up b. pick x pair e up b (ℕ_discrete (x.0 / 64) i);
   }
@@ -121,6 +123,18 @@ module _ (k : Shape) (words : List ℕ) (region i : ℕ) (h : IsBegun (start k w
       pick : (x : ℕ × ℕ) → IsPair k x → x.1 ≡ region → x.0 / 64 < i + 1 → HasBit k less x → Dec (x.0 / 64 ≡ i) → ⊥
       pick x pair e up b (yes f) = gone x (λ j. k.slots + k.cards + (e j * k.row + f j)) b
       pick x pair e up b (no ne) = g.clear x pair e (let n : ℕ = x.0 / 64 in let a : n < i + 1 = up in let c : n ≢ i = ne in let goal : n < i = omega (arith, a, c) in goal) (bit_back x b)
+
+-- a word of the row that is 0 already
+pub emptied_past : (k : Shape) (old words : List ℕ) (region i found : ℕ) → get_elem? words (row_word k region i) ≡ some found → found ≡ 0 → IsEmptied k old words region i → IsEmptied k old words region (i + 1)
+emptied_past k old words region i found at none g = record { front = g.front; kept = g.kept; only = g.only; clear = λ x pair e up b. pick x pair e up b (ℕ_discrete (x.0 / 64) i) }
+  where
+    pick : (x : ℕ × ℕ) → IsPair k x → x.1 ≡ region → x.0 / 64 < i + 1 → HasBit k words x → Dec (x.0 / 64 ≡ i) → ⊥
+    pick x pair e up b (yes f) = no_bit k words x (ap (λ (j : ℕ). get_or words j 0) (λ j. k.slots + k.cards + (e j * k.row + f j)) ∙ (reads_as words (row_word k region i) found 0 at ∙ none)) b
+    pick x pair e up b (no ne) = g.clear x pair e (let n : ℕ = x.0 / 64 in let a : n < i + 1 = up in let c : n ≢ i = ne in let goal : n < i = omega (arith, a, c) in goal) b
+
+-- no slot refers into the region of the row of flags
+pub none_behind : (k : Shape) (words : List ℕ) (p : ℕ) → IsBegun (start k words) → Into k words k.regions p → ⊥
+none_behind k words p h i = absurd (let pair = crossing_pair k p i.0 h.shaped i.1 (h.bounded p i.0 i.1 i.2) i.3 in omega (arith, pair.1, i.4))
 
 pub emptied_none : (k : Shape) (old : List ℕ) (region : ℕ) → IsEmptied k old old region 0
 emptied_none k old region = record { front = refl; kept = λ x pair ne b. b; only = λ x pair b. b; clear = λ x pair e lt b. absurd (let n : ℕ = x.0 / 64 in let a : n < 0 = lt in omega (arith, a)) }

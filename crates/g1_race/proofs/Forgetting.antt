@@ -15,14 +15,15 @@ use Rattle.g1_layout.specs.Shape.{slot_count, region_of}
 use Rattle.g1_core.specs.Table.{Crosses}
 use Rattle.g1_core.proofs.SetLemmas.{pair_exact, same_pairs}
 use Rattle.g1_race_words.specs.declared.view.Shape.{Shape}
-use Rattle.g1_race_words.specs.Rule.{IsBegun, IsShape, IsMarked, IsPair, HasBit, bit_place, bit_word, card_of, crosses, front, mark_word, pairs_up_to, region_at, start}
+use Rattle.g1_race_words.specs.Rule.{IsBegun, IsShape, IsMarked, IsPair, HasBit, bit_place, bit_word, card_of, crosses, flag, front, mark_word, pairs_up_to, region_at, start}
 use Rattle.g1_race.specs.Race.{shape_of}
 use Rattle.g1_race.specs.Over.{ended, refs_of, table_of}
 use Rattle.g1_race.specs.Clearing.{AreUnset}
 use Rattle.g1_race.specs.Evacuating.{forgotten}
 use Rattle.g1_race.specs.Telling.{is_member}
 use Rattle.g1_race_words.proofs.Places.{at_take, at_untake, reads_as}
-use Rattle.g1_race_words.proofs.PairBits.{bit_apart, crosses_some, card_below, crossing_pair, word_below}
+use Rattle.g1_race_words.proofs.PairBits.{bit_apart, crosses_some, card_below, crossing_pair}
+use Rattle.g1_race_words.proofs.Flags.{bit_below}
 use Rattle.g1_race.proofs.Ends.{crosses_apart, recorded_set, region_of_quotient, set_recorded, word_refers}
 
 module _ (k : Shape) (words : List ℕ) (x : ℕ × ℕ) where
@@ -37,7 +38,7 @@ module _ (k : Shape) (words : List ℕ) (x : ℕ × ℕ) where
 
   module _ (h : IsBegun (start k words)) (pair : IsPair k x) where
     short : bit_word k x < length words
-    short = subst (λ (n : ℕ). bit_word k x < n) (sym h.sized) (word_below k x h.shaped pair)
+    short = subst (λ (n : ℕ). bit_word k x < n) (sym h.sized) (bit_below k x h.shaped pair.0 (omega (arith, pair.1)))
 
     there : (y : ℕ × ℕ) → bit_word k y ≡ bit_word k x → get_or without (bit_word k y) 0 ≡ without_bit
     there y e = ap (λ (i : ℕ). get_or without i 0) e ∙ get_or-set_same words (bit_word k x) without_bit 0 short
@@ -54,9 +55,9 @@ module _ (k : Shape) (words : List ℕ) (x : ℕ × ℕ) where
     same_place : (y : ℕ × ℕ) → bit_word k y ≡ bit_word k x → bit_place k y ≡ bit_place k x → HasBit k without y → ⊥
     same_place y e f b = absurd (let z : bit_at (get_or without (bit_word k y) 0) (bit_place k y) ≡ 0 = ap (λ (n : ℕ). bit_at n (bit_place k y)) (there y e) ∙ (ap (bit_at without_bit) f ∙ bit_at_clear_same w64 (get_or words (bit_word k x) 0) (bit_place k x) (low x)) in let o : bit_at (get_or without (bit_word k y) 0) (bit_place k y) ≡ 1 = b in omega (arith, z, o))
 
-    stays : (y : ℕ × ℕ) → IsPair k y → (x ≡ y → ⊥) → HasBit k words y → HasBit k without y
+    stays : (y : ℕ × ℕ) → y.0 < k.cards → (x ≡ y → ⊥) → HasBit k words y → HasBit k without y
     stays y py ne b = elim (cases_eq (bit_word k y) (bit_word k x)) [
-      | inl e ↦ elim (cases_eq (bit_place k y) (bit_place k x)) [ inl f ↦ absurd (ne (bit_apart k x y h.shaped pair py (sym e) (sym f))) | inr apart ↦ other_place y e apart ∙ b ]
+      | inl e ↦ elim (cases_eq (bit_place k y) (bit_place k x)) [ inl f ↦ absurd (ne (bit_apart k x y h.shaped pair.0 py (sym e) (sym f))) | inr apart ↦ other_place y e apart ∙ b ]
       | inr apart ↦ other_word y apart ∙ b
     ]
 
@@ -73,16 +74,17 @@ module _ (k : Shape) (words : List ℕ) (x : ℕ × ℕ) where
       bounded = λ p n lt at. h.bounded p n lt (sym (far p (omega (arith, lt))) ∙ at);
       marks = λ c lt. ⊎_elim (λ (m : get_elem? words (mark_word k c) ≡ some 1). inl (far (mark_word k c) (omega (arith, lt)) ∙ m)) (λ (z : get_elem? words (mark_word k c) ≡ some 0). inr (far (mark_word k c) (omega (arith, lt)) ∙ z)) (h.marks c lt);
       covered = λ p n lt at cr. let was = sym (far p (omega (arith, lt))) ∙ at in ⊎_elim
-          (λ (b : HasBit k words (card_of k p, region_at k n)). inl (stays (card_of k p, region_at k n) (crossing_pair k p n h.shaped lt (h.bounded p n lt was) cr) (closed p n lt was cr) b))
+          (λ (b : HasBit k words (card_of k p, region_at k n)). inl (stays (card_of k p, region_at k n) (crossing_pair k p n h.shaped lt (h.bounded p n lt was) cr).0 (closed p n lt was cr) b))
           (λ (m : IsMarked k words p). inr (far (mark_word k (card_of k p)) (let c = card_below k p h.shaped lt in omega (arith, c)) ∙ m))
           (h.covered p n lt was cr);
       proper = λ y py b. h.proper y py (back y b);
+      flagged = λ c lt m. stays (flag k c) lt (λ e. absurd (let r : x.1 ≡ k.regions = ap (λ (y : ℕ × ℕ). y.1) e in let low : x.1 < k.regions = pair.1 in omega (arith, r, low))) (h.flagged c lt (sym (far (mark_word k c) (omega (arith, lt))) ∙ m));
     }
 
     pub unset_is : AreUnset k words without (λ y. y ≡ x)
     unset_is = record {
       front = take-set-le (k.slots + k.cards) words (bit_word k x) without_bit (let m : ℕ = x.1 * k.row + x.0 / 64 in let goal : k.slots + k.cards ≤ k.slots + k.cards + m = omega arith in goal);
-      kept = λ y py never b. stays y py (λ e. never (sym e)) b;
+      kept = λ y py never b. stays y py.0 (λ e. never (sym e)) b;
       only = λ y py b. back y b;
       clear = λ y py e b. same_place y (ap (bit_word k) e) (ap (bit_place k) e) b;
     }

@@ -14,12 +14,14 @@ pub mod Parts
 pub mod Placing
 pub mod Telling
 pub mod NextCards
+pub mod FlagWords
 pub mod Opening
 pub mod Numbers
 pub mod Words
 pub mod Draining
 pub mod PauseTable
 pub mod PauseStores
+pub mod FlagStores
 pub mod ClearWords
 pub mod Forgetting
 pub mod PauseRun

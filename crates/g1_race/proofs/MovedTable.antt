@@ -20,7 +20,7 @@ use Rattle.g1_race.specs.Evacuating.{AreAllRefined}
 use Rattle.g1_core.proofs.SetLemmas.{pair_total, pair_exact, listed, unlisted, Kept, from_kept, to_kept, same_bools}
 use Rattle.g1_core.proofs.TableLemmas.{slot_of}
 use Rattle.g1_race_words.specs.declared.view.Shape.{Shape}
-use Rattle.g1_race_words.specs.Rule.{IsBegun, IsPair, HasBit, card_of, crosses, front, mark_word, one_if, region_at, start}
+use Rattle.g1_race_words.specs.Rule.{IsBegun, IsPair, HasBit, card_of, crosses, front, mark_word, one_if, region_at, start, word_count}
 use Rattle.g1_race.specs.Race.{shape_of}
 use Rattle.g1_race.specs.Over.{ended, refs_of, table_of, target_of}
 use Rattle.g1_race.specs.Moving.{AreMovedAway, Acquires, into_count, is_into, moved_word, word_after}
@@ -85,14 +85,14 @@ module _ (k : Shape) (l : layout.Shape) (laid : k ≡ shape_of l k.members) wher
   -- slots by place
 
   here : (words : List ℕ) (p : ℕ) → IsBegun (start k words) → p < k.slots → get_elem? words p ≡ some (get_or words p 0)
-  here words p h lt = read_at words p (let s : length words ≡ k.slots + k.cards + k.bits = h.sized in omega (arith, s, lt))
+  here words p h lt = read_at words p (let s : length words ≡ word_count k = h.sized in omega (arith, s, lt))
 
   ref_is : (words : List ℕ) (p n : ℕ) → p < k.slots → get_elem? words p ≡ some n → get_or (refs_of (ended l k words)) p None ≡ target_of n
   ref_is words p n lt at = reads_as (refs_of (ended l k words)) p (target_of n) None (refs_here (ended l k words) p n (omega (arith, lt, slots_are k l laid)) (at_take words (k.slots + k.cards) p n (omega (arith, lt)) at))
 
   refs_len : (words : List ℕ) → IsBegun (start k words) → length (refs_of (ended l k words)) ≡ slot_count l
   refs_len words h =
-      let s : length words ≡ k.slots + k.cards + k.bits = h.sized in
+      let s : length words ≡ word_count k = h.sized in
       let a : length (front k words) ≡ k.slots + k.cards = (let m = length-take (k.slots + k.cards) words in omega (arith, m, s)) in
       let b : length (take (slot_count l) (front k words)) ≡ slot_count l = (let m = length-take (slot_count l) (front k words) in omega (arith, m, a, slots_are k l laid)) in
       length-map (take (slot_count l) (front k words)) target_of ∙ b

@@ -7,7 +7,7 @@ use Rattle.std.proofs.Math.Nat.{mul-le-mul_left}
 use Rattle.std.proofs.lemmas.Nat.{div-mul-add}
 use Rattle.atomic_table.proofs.Lists.{set_else, set_here}
 use Rattle.g1_race_words.specs.declared.view.Shape.{Shape}
-use Rattle.g1_race_words.specs.Rule.{In, IsBegun, IsShape, HasBit, card_of, crosses, mark_word, one_if, region_at, start}
+use Rattle.g1_race_words.specs.Rule.{In, IsBegun, IsShape, HasBit, card_of, crosses, mark_word, one_if, region_at, start, word_count}
 use Rattle.g1_race.specs.Refining.{Notes}
 use Rattle.g1_race.specs.Clearing.{Into}
 use Rattle.g1_race.specs.Telling.{is_member}
@@ -74,7 +74,7 @@ module _ (k : Shape) (old mid : List ℕ) (from to p n : ℕ) (b : IsBegun (star
     moved = λ q m le below inside there.
         let e : q ≡ p = omega (arith, le, below) in
         let one : m ≡ n = some-injective m n (sym there ∙ (ap (λ (j : ℕ). get_elem? old j) e ∙ at)) in
-        ap (λ (j : ℕ). get_elem? new j) e ∙ (set_here mid p word (let s : length mid ≡ k.slots + k.cards + k.bits = h.sized in omega (arith, s, lt)) ∙ ap (λ (w : ℕ). some w)
+        ap (λ (j : ℕ). get_elem? new j) e ∙ (set_here mid p word (let s : length mid ≡ word_count k = h.sized in omega (arith, s, lt)) ∙ ap (λ (w : ℕ). some w)
         (sym (ap (λ (j : ℕ). word_after k from to j m) e ∙ (ap (λ (j : ℕ). word_after k from to p j) one ∙ true_is (is_into k from p n) word n into))));
     outside = λ q inside apart. same q lt (λ e. ⊎_elim (λ (a : q < p). absurd (omega (arith, a, e))) (λ (a : p + 1 ≤ q). absurd (omega (arith, a, e))) apart) (omega (arith, inside));
     marks = λ c below. same (mark_word k c) lt (λ e. mark_apart k p c lt e) (omega (arith, below));
@@ -115,7 +115,7 @@ moved_then k old mid new from to first a b apart begun h g = record {
 }
   where
     here : (p : ℕ) → p < k.slots → get_elem? old p ≡ some (get_or old p 0)
-    here p inside = read_at old p (let s : length old ≡ k.slots + k.cards + k.bits = begun.sized in omega (arith, s, inside))
+    here p inside = read_at old p (let s : length old ≡ word_count k = begun.sized in omega (arith, s, inside))
 
     gains_back : {x : ℕ × ℕ} → Acquires k mid from to x → Acquires k old from to x
     gains_back {x} u = (u.0, u.1, u.2, was u.0 u.1 u.2 u.3 u.4, u.4, u.5, u.6)
@@ -183,7 +183,7 @@ module _ (k : Shape) (old mid : List ℕ) (from to low high : ℕ) (begun : IsBe
       ((div-lt_iff_lt-mul begun.shaped.1).1 below)))
 
   here : (p : ℕ) → p < k.slots → get_elem? old p ≡ some (get_or old p 0)
-  here p lt = read_at old p (let s : length old ≡ k.slots + k.cards + k.bits = begun.sized in omega (arith, s, lt))
+  here p lt = read_at old p (let s : length old ≡ word_count k = begun.sized in omega (arith, s, lt))
 
   pub passed : AreMoved k old mid from to 0 (high * k.size)
   passed = subst (λ (n : ℕ). AreMoved k old mid from to 0 n) (let x : ℕ = a in let y : ℕ = b in let o : x ≤ y = in_order in let e : x + (y - x) ≡ y = omega arith in e)
@@ -221,6 +221,6 @@ module _ (k : Shape) (old mid : List ℕ) (from to low high : ℕ) (begun : IsBe
 pub none_into : (k : Shape) (old mid : List ℕ) (from to p : ℕ) → IsBegun (start k old) → (from ≡ to → ⊥) → AreMoved k old mid from to 0 k.slots → Into k mid from p → ⊥
 none_into k old mid from to p begun apart h x =
     let lt : p < k.slots = x.1 in
-    let was : get_elem? old p ≡ some (get_or old p 0) = read_at old p (let s : length old ≡ k.slots + k.cards + k.bits = begun.sized in omega (arith, s, lt)) in
+    let was : get_elem? old p ≡ some (get_or old p 0) = read_at old p (let s : length old ≡ word_count k = begun.sized in omega (arith, s, lt)) in
     let now : x.0 ≡ word_after k from to p (get_or old p 0) = some-injective x.0 (word_after k from to p (get_or old p 0)) (sym x.2 ∙ h.moved p (get_or old p 0) (omega arith) (omega (arith, lt)) lt was) in
     not_into k from to p (get_or old p 0) begun.shaped.2 apart (subst (λ (m : ℕ). is_into k from p m ≡ true) now (is_into_of k from p x.0 x.3 x.4))

@@ -13,7 +13,7 @@ use Rattle.g1_core.proofs.OpeningLemmas.{none_pending}
 use Rattle.g1_core.specs.Adoption.{marks_for}
 use Rattle.g1_race.specs.Over.{target_of, ended, table_of}
 use Rattle.g1_race_words.specs.declared.view.Shape.{Shape}
-use Rattle.g1_race_words.specs.Rule.{HasBit, beginning, bit_word, front, null_of, pairs_of_card, pairs_up_to}
+use Rattle.g1_race_words.specs.Rule.{HasBit, beginning, bit_word, front, null_of, pairs_of_card, pairs_up_to, word_count}
 use Rattle.g1_race.specs.Race.{shape_of}
 use Rattle.g1_race.specs.Members.{null_begun}
 use Rattle.g1_race_words.proofs.Listing.{pair_clear}
@@ -59,17 +59,17 @@ table_at l =
     let cards = card_count l in
     λ i. record { layout = l; refs = null_refs slots (slots + cards) (omega arith) i; pending = (ap pending_of (clean_marks slots cards (slots + cards) refl) ∙ none_pending cards) i; recorded = set.empty }
 
-pub opening_table : (l : layout.Shape) (k : Shape) (m : ℕ) → k ≡ shape_of l m → table_of (ended l k (zeros (k.slots + k.cards + k.bits))) ≡ opening l
+pub opening_table : (l : layout.Shape) (k : Shape) (m : ℕ) → k ≡ shape_of l m → table_of (ended l k (zeros (word_count k))) ≡ opening l
 opening_table l k m laid =
     let count : k.slots + k.cards ≡ slot_count l + card_count l = ap (λ (s : Shape). s.slots + s.cards) laid in
-    let words : front k (zeros (k.slots + k.cards + k.bits)) ≡ zeros (slot_count l + card_count l) = front_zeros (k.slots + k.cards) (k.slots + k.cards + k.bits) (omega arith) ∙ ap zeros count in
-    (λ i. table_of (record { layout = l; words = words i; pairs = no_pairs k (k.slots + k.cards + k.bits) k.cards i })) ∙ table_at l
+    let words : front k (zeros (word_count k)) ≡ zeros (slot_count l + card_count l) = front_zeros (k.slots + k.cards) (word_count k) (omega arith) ∙ ap zeros count in
+    (λ i. table_of (record { layout = l; words = words i; pairs = no_pairs k (word_count k) k.cards i })) ∙ table_at l
 
 -- what a race over nulls begins with
 pub begins_null : (l : layout.Shape) (m : ℕ) → beginning (null_of (shape_of l m)) ≡ null_begun l m
 begins_null l m =
     let k = shape_of l m in
-    λ i. record { shape = k; words = front_zeros (k.slots + k.cards) (k.slots + k.cards + k.bits) (omega arith) i; pairs = no_pairs k (k.slots + k.cards + k.bits) k.cards i }
+    λ i. record { shape = k; words = front_zeros (k.slots + k.cards) (word_count k) (omega arith) i; pairs = no_pairs k (word_count k) k.cards i }
 
 -- empty logs, the last first
 replicate_snoc : {A : Type 0} (n : ℕ) (x : A) → replicate n x ++ x ∷ [] ≡ x ∷ replicate n x

@@ -188,7 +188,7 @@ module _ (k : Shape) (l : layout.Shape) (laid : k ≡ shape_of l k.members) wher
           (in_cards (marked_cards k old) x.0 (is_listed (is_marked k old) k.cards x.0 pair.0 (mark_is k old x.0 1 u.0 refl))))
           (r.only x pair bit))
           (λ x c. elim (recorded_cases (marked_cards k old) (table_of (ended l k old)) x.0 x.1 c) [
-            | inl was ↦ let s = recorded_set k l old laid b x was in (s.0, r.kept x s.1)
+            | inl was ↦ let s = recorded_set k l old laid b x was in (s.0, r.kept x s.0 s.1)
             | inr held ↦ now_set x.0 x.1 (Holds_from_held (table_of (ended l k old)) x.0 x.1 held)
           ]);
       clean = same_cards _ _ (λ c p. absurd (never_pending c p)) (λ c p. absurd (true≢false (sym p ∙ fin.contains-empty nat_cmp c)));

@@ -1,5 +1,5 @@
 -- What refinement at a pause does to the words.
-use Rattle.std.proofs.Common.{◌≡◌, ◌≢◌, ◌⊎◌, ℕ, zero, suc, ◌+◌, ◌*◌, ◌/◌, ◌%◌, ◌^◌, ◌<◌, ◌≤◌, cond, Bool, true, false, List, [], ◌∷◌, ◌++◌, length, set, get_or, bit_or, length-set, div-add-mod', mod-lt, refl, sym, ap, ◌∙◌, subst, inl, inr, ⊎_elim, arith}
+use Rattle.std.proofs.Common.{◌≡◌, ◌≢◌, ◌⊎◌, ℕ, zero, suc, ◌+◌, ◌*◌, ◌%◌, ◌^◌, ◌<◌, ◌≤◌, cond, Bool, true, false, List, [], ◌∷◌, ◌++◌, length, set, get_or, bit_or, length-set, div-add-mod', mod-lt, refl, sym, ap, ◌∙◌, subst, inl, inr, ⊎_elim, arith}
 use mathlib.Core.Option.{some}
 use native.Mathlib.Decide.{ℕ_discrete}
 use lib.ListN.{get_elem?}
@@ -8,25 +8,24 @@ use Rattle.std.specs.Int.{bit_at}
 use Rattle.std.proofs.lemmas.Nat.{div-mul-add}
 use Rattle.atomic_table.proofs.Lists.{set_else, set_here}
 use Rattle.g1_race_words.specs.declared.view.Shape.{Shape}
-use Rattle.g1_race_words.specs.Rule.{In, IsBegun, IsMarked, IsPair, IsOfCrossing, HasBit, BeganInto, bit_word, bit_place, mark_word, card_of, region_at, crosses, start}
+use Rattle.g1_race_words.specs.Rule.{In, IsBegun, IsMarked, IsOfCrossing, HasBit, BeganInto, bit_word, bit_place, flag, mark_word, word_count, card_of, region_at, crosses, start}
 use Rattle.g1_race_words.specs.Steps.{pair_at}
 use Rattle.g1_race.specs.Refining.{Notes, IsRefined, AreRefined, card_pairs}
 use Rattle.g1_race_words.proofs.Plain.{in_left, in_right, in_either, read_at, true_is}
 use Rattle.g1_race_words.proofs.Places.{reads_as}
-use Rattle.g1_race_words.proofs.PairBits.{SameBits, same_bits, bit_as, word_below, with_pair, bit_here, bits_stay, bits_back, card_below}
+use Rattle.g1_race_words.proofs.PairBits.{SameBits, same_bits, bit_as, with_pair, bit_here, bits_stay, bits_back, card_below}
+use Rattle.g1_race_words.proofs.Flags.{are_flagged, bit_below, front_stays}
+use Rattle.g1_race_words.proofs.AtBeginning.{never_both}
 use Rattle.g1_race.proofs.SweepCalls.{slot_below}
 use Rattle.g1_race_words.proofs.Unchanged.{bounded_same, same_slots_at_mark}
 
--- one bit is set
+-- one bit is set, of a pair or a card's flag
 
-front_stays : (k : Shape) (words : List ℕ) (x : ℕ × ℕ) (i : ℕ) → i < k.slots + k.cards → get_elem? (with_pair k words x) i ≡ get_elem? words i
-front_stays k words x i lt = set_else words (bit_word k x) i _ (λ e. let m : ℕ = x.1 * k.row + x.0 / 64 in let f : i ≡ k.slots + k.cards + m = e in absurd (omega arith))
-
-module _ (k : Shape) (words : List ℕ) (x : ℕ × ℕ) (h : IsBegun (start k words)) (pair : IsPair k x) where
+module _ (k : Shape) (words : List ℕ) (x : ℕ × ℕ) (h : IsBegun (start k words)) (card : x.0 < k.cards) (row : x.1 ≤ k.regions) where
   short : bit_word k x < length words
-  short = subst (λ (n : ℕ). bit_word k x < n) (sym h.sized) (word_below k x h.shaped pair)
+  short = subst (λ (n : ℕ). bit_word k x < n) (sym h.sized) (bit_below k x h.shaped card row)
 
-  pub begun_bit : IsOfCrossing k x → IsBegun (start k (with_pair k words x))
+  pub begun_bit : (x.1 < k.regions → IsOfCrossing k x) → IsBegun (start k (with_pair k words x))
   begun_bit of = record {
     shaped = h.shaped;
     sized = length-set words (bit_word k x) _ ∙ h.sized;
@@ -36,7 +35,8 @@ module _ (k : Shape) (words : List ℕ) (x : ℕ × ℕ) (h : IsBegun (start k w
         (λ (b : HasBit k words (card_of k p, region_at k n)). inl (bits_stay k words x short _ b))
         (λ (m : IsMarked k words p). inr (front_stays k words x (mark_word k (card_of k p)) (let c = card_below k p h.shaped lt in omega (arith, c)) ∙ m))
         (h.covered p n lt (sym (front_stays k words x p (omega (arith, lt))) ∙ at) cr);
-    proper = λ y py b. ⊎_elim (λ (c : HasBit k words y). h.proper y py c) (λ (e : x ≡ y). subst (IsOfCrossing k) e of) (bits_back k words x short y h.shaped pair py b);
+    proper = λ y py b. ⊎_elim (λ (c : HasBit k words y). h.proper y py c) (λ (e : x ≡ y). subst (IsOfCrossing k) e (of (subst (λ (z : ℕ × ℕ). z.1 < k.regions) (sym e) py.1))) (bits_back k words x short y h.shaped card py.0 b);
+    flagged = are_flagged k words (with_pair k words x) (λ c lt m. sym (front_stays k words x (mark_word k c) (omega (arith, lt))) ∙ m) (λ c. bits_stay k words x short (flag k c)) h.flagged;
   }
 
   pub notes_bit : Notes k words (with_pair k words x) (x ∷ [])
@@ -44,7 +44,7 @@ module _ (k : Shape) (words : List ℕ) (x : ℕ × ℕ) (h : IsBegun (start k w
     front = front_stays k words x;
     kept = λ y b. bits_stay k words x short y b;
     has = λ y i. ⊎_elim (λ (e : x ≡ y). subst (HasBit k (with_pair k words x)) e (bit_here k words x short)) (λ (n : ⊥). absurd n) i;
-    only = λ y py b. ⊎_elim (λ (c : HasBit k words y). inl c) (λ (e : x ≡ y). inr (inl e)) (bits_back k words x short y h.shaped pair py b);
+    only = λ y py b. ⊎_elim (λ (c : HasBit k words y). inl c) (λ (e : x ≡ y). inr (inl e)) (bits_back k words x short y h.shaped card py.0 b);
   }
 
 -- the word as the call writes it
@@ -108,7 +108,7 @@ found_there k words c h lt (suc i) le x there = ⊎_elim
     let p : ℕ = c * k.size + i in
     let n = get_or words p 0 in
     let below : p < k.slots = slot_below k c i h.shaped lt (omega (arith, le)) in
-    let at : get_elem? words p ≡ some n = read_at words p (let e : length words ≡ k.slots + k.cards + k.bits = h.sized in omega (arith, e, below)) in
+    let at : get_elem? words p ≡ some n = read_at words p (let e : length words ≡ word_count k = h.sized in omega (arith, e, below)) in
     let is = one_pair (crosses k p n) (card_of k p, region_at k n) x b in
     let on : card_of k p ≡ c = div-mul-add c k.size i (omega (arith, le)) in
     (sym (ap (λ (y : ℕ × ℕ). y.0) is.1) ∙ on, (p, n, at, (below, h.bounded p n below at, is.0), is.1)))
@@ -140,8 +140,13 @@ module _ (k : Shape) (old mid : List ℕ) (c : ℕ) (was : IsBegun (start k old)
         (λ (m : IsMarked k mid p). choose p n below there cr m (ℕ_discrete (card_of k p) c))
         (h.covered p n below there cr);
     proper = λ x pair b. h.proper x pair (bit_as k clean mid x (λ y. sym (bits y)) b);
+    flagged = are_flagged k mid clean (λ d below m. was_marked d m (ℕ_discrete d c)) (λ d. bit_as k mid clean (flag k d) bits) h.flagged;
   }
     where
+      was_marked : (d : ℕ) → get_elem? clean (mark_word k d) ≡ some 1 → Dec (d ≡ c) → get_elem? mid (mark_word k d) ≡ some 1
+      was_marked d m (yes e) = absurd (never_both clean (mark_word k c) (set_here mid (mark_word k c) 0 there_is) (ap (λ (i : ℕ). get_elem? clean (mark_word k i)) (sym e) ∙ m))
+      was_marked d m (no ne) = sym (other d ne) ∙ m
+
       pick : (d : ℕ) → d < k.cards → Dec (d ≡ c) → (get_elem? clean (mark_word k d) ≡ some 1) ⊎ (get_elem? clean (mark_word k d) ≡ some 0)
       pick d below (yes e) = inr (ap (λ (i : ℕ). get_elem? clean (mark_word k i)) e ∙ set_here mid (mark_word k c) 0 there_is)
       pick d below (no ne) = ⊎_elim (λ (m : get_elem? mid (mark_word k d) ≡ some 1). inl (other d ne ∙ m)) (λ (z : get_elem? mid (mark_word k d) ≡ some 0). inr (other d ne ∙ z)) (h.marks d below)
@@ -162,7 +167,7 @@ module _ (k : Shape) (old mid : List ℕ) (c : ℕ) (was : IsBegun (start k old)
 -- one card after another
 
 pub refined_none : (k : Shape) (old : List ℕ) → AreRefined k old old 0
-refined_none k old = record { slots = λ p lt. refl; clean = λ c lt below. absurd (omega (arith, lt)); marks = λ c le below. refl; kept = λ x b. b; only = λ x pair b. inl b }
+refined_none k old = record { slots = λ p lt. refl; clean = λ c lt below. absurd (omega (arith, lt)); marks = λ c le below. refl; kept = λ x pair b. b; only = λ x pair b. inl b }
 
 began_back : (k : Shape) (old mid : List ℕ) (x : ℕ × ℕ) → ((p : ℕ) → p < k.slots → get_elem? mid p ≡ get_elem? old p) → BeganInto k mid x → BeganInto k old x
 began_back k old mid x same b = (b.0, b.1, sym (same b.0 b.3.0) ∙ b.2, b.3, b.4)
@@ -181,7 +186,7 @@ refined_next k old mid new n there dirty h g = record {
   slots = λ p lt. g.slots p lt ∙ h.slots p lt;
   clean = λ c lt below. pick c lt below (ℕ_discrete c n);
   marks = λ c up below. g.marks c below (λ e. absurd (omega (arith, up, e))) ∙ h.marks c (omega (arith, up)) below;
-  kept = λ x b. g.kept x (h.kept x b);
+  kept = λ x pair b. g.kept x (h.kept x pair b);
   only = λ x pair b. ⊎_elim
       (λ (u : HasBit k mid x). h.only x pair u)
       (λ (i : (x.0 ≡ n) × BeganInto k mid x). inr (subst (λ (c : ℕ). get_elem? old (mark_word k c) ≡ some 1) (sym i.0) (sym (h.marks n (omega arith) there) ∙ dirty), began_back k old mid x h.slots i.1))

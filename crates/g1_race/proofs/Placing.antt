@@ -17,7 +17,7 @@ use Rattle.g1_core.specs.Adoption.{marks_for, IsPairOf}
 use Rattle.g1_core.proofs.SetLemmas.{same_cards, same_pairs, in_pairs, to_pairs}
 use Rattle.g1_core.proofs.AdoptionLemmas.{pending_flag}
 use Rattle.g1_race_words.specs.declared.view.Shape.{Shape}
-use Rattle.g1_race_words.specs.Rule.{In, IsShape, IsBegun, IsMarked, IsPair, IsOfCrossing, HasBit, card_of, crosses, mark_word, region_at, start, one_if}
+use Rattle.g1_race_words.specs.Rule.{In, IsShape, IsBegun, IsMarked, IsPair, IsOfCrossing, HasBit, card_of, crosses, flag, mark_word, region_at, start, one_if, word_count}
 use Rattle.g1_race.specs.Race.{shape_of, word_of}
 use Rattle.g1_race.specs.Over.{Ended, ended, target_of, refs_of, marks_of, table_of}
 use Rattle.g1_race.specs.Refining.{Notes}
@@ -25,6 +25,8 @@ use Rattle.g1_race.specs.Resumed.{KeepsBits, AreMarked, ArePlaced, AreCovered}
 use Rattle.g1_race_words.proofs.AtBeginning.{zeros, zero_at, no_bit, zeros_read}
 use Rattle.g1_race_words.proofs.Plain.{within}
 use Rattle.g1_race_words.proofs.PairBits.{SameBits, same_bits, bit_as, card_below, crosses_some}
+use Rattle.g1_race_words.proofs.Flags.{are_flagged}
+use Rattle.g1_race.proofs.FlagWords.{flag_only}
 use Rattle.g1_race_words.proofs.CoverStores.{mark_apart}
 use Rattle.g1_race_words.proofs.Unchanged.{bounded_wrote}
 use Rattle.g1_race.proofs.StoreCalls.{word_fits, other_region}
@@ -34,18 +36,27 @@ use Rattle.g1_race.proofs.Parts.{length_marks}
 use Rattle.g1_race.proofs.Ends.{refs_here, marks_here, target_some, crosses_apart, marked_pending, region_of_quotient}
 
 keeps_same : (k : Shape) (old new : List ℕ) → SameBits k old new → KeepsBits k old new
-keeps_same k old new same = record { on = λ x b. bit_as k old new x same b; back = λ x b. bit_as k new old x (λ y. sym (same y)) b }
+keeps_same k old new same = record { on = λ x b. bit_as k old new x same b; back = λ x pair b. bit_as k new old x (λ y. sym (same y)) b }
 
 keeps_then : (k : Shape) (a b c : List ℕ) → KeepsBits k a b → KeepsBits k b c → KeepsBits k a c
-keeps_then k a b c h g = record { on = λ x t. g.on x (h.on x t); back = λ x t. h.back x (g.back x t) }
+keeps_then k a b c h g = record { on = λ x t. g.on x (h.on x t); back = λ x pair t. h.back x pair (g.back x pair t) }
 
 keeps_here : (k : Shape) (a : List ℕ) → KeepsBits k a a
-keeps_here k a = record { on = λ x t. t; back = λ x t. t }
+keeps_here k a = record { on = λ x t. t; back = λ x pair t. t }
 
 -- marks
 
 pub marked_none : (k : Shape) (t : Table) (old : List ℕ) → AreMarked k t old old 0
 marked_none k t old = record { slots = λ p lt. refl; marks = λ c lt below. absurd (omega (arith, lt)); later = λ c le lt. refl; bits = keeps_here k old }
+
+-- the flag of a card is set
+pub marked_flag : (k : Shape) (t : Table) (old mid new : List ℕ) (n c : ℕ) → Notes k mid new (flag k c ∷ []) → AreMarked k t old mid n → AreMarked k t old new n
+marked_flag k t old mid new n c notes h = record {
+  slots = λ p lt. notes.front p (omega (arith, lt)) ∙ h.slots p lt;
+  marks = λ d up below. notes.front (mark_word k d) (omega (arith, below)) ∙ h.marks d up below;
+  later = λ d le below. notes.front (mark_word k d) (omega (arith, below)) ∙ h.later d le below;
+  bits = record { on = λ x b. notes.kept x (h.bits.on x b); back = λ x pair b. h.bits.back x pair (flag_only k mid new c notes x pair b) };
+}
 
 -- a card that is pending
 pub marked_next : (k : Shape) (t : Table) (old mid : List ℕ) (n : ℕ) → n < k.cards → k.slots + k.cards ≤ length mid → set_of.contains t.pending n ≡ true → AreMarked k t old mid n → AreMarked k t old (set mid (mark_word k n) 1) (n + 1)
@@ -112,6 +123,7 @@ begun_written k words p n lt fits covers h = record {
       (λ (t : (q ≢ p) × (get_elem? words q ≡ some m)). on q m (h.covered q m below t.1 cr))
       (at_set words p q n m there);
   proper = λ x pair b. h.proper x pair (bit_as k (set words p n) words x (λ y. sym (bits y)) b);
+  flagged = are_flagged k words (set words p n) (λ d below m. sym (same d) ∙ m) (λ d. bit_as k words (set words p n) (flag k d) bits) h.flagged;
 }
   where
     same : (d : ℕ) → get_elem? (set words p n) (mark_word k d) ≡ get_elem? words (mark_word k d)
@@ -219,7 +231,7 @@ core_covered s l k words lay laid parts shaped =
 
 -- words that have all of a core's table
 pub record IsCopy (k : Shape) (t : Table) (words : List ℕ) : Type 0 where
-  pub sized : length words ≡ k.slots + k.cards + k.bits
+  pub sized : length words ≡ word_count k
   pub slots : (p : ℕ) → p < k.slots → get_elem? words p ≡ some (word_of (table.target_of t p))
   pub marks : (c : ℕ) → c < k.cards → get_elem? words (mark_word k c) ≡ some (one_if (set_of.contains t.pending c))
   pub on : (x : ℕ × ℕ) → set_of.contains t.recorded x ≡ true → HasBit k words x
@@ -282,9 +294,9 @@ copied s l k words lay laid parts copy =
 
 -- the three steps, from a heap of nulls
 module _ (s : State) (l : layout.Shape) (k : Shape) (old a b : List ℕ) (pairs : List (ℕ × ℕ)) (lay : l ≡ s.table.layout) (laid : k ≡ shape_of l k.members) (parts : IsSound s) (shaped : IsShape k)
-    (null : old ≡ zeros (k.slots + k.cards + k.bits)) (recorded : set_of.from_list pairs ≡ s.table.recorded) (notes : Notes k old a pairs) where
+    (null : old ≡ zeros (word_count k)) (recorded : set_of.from_list pairs ≡ s.table.recorded) (notes : Notes k old a pairs) where
   zero_is : (i : ℕ) → i < k.slots + k.cards → get_elem? a i ≡ some 0
-  zero_is i lt = notes.front i lt ∙ (ap (λ (ws : List ℕ). get_elem? ws i) null ∙ zero_at (k.slots + k.cards + k.bits) i (omega (arith, lt)))
+  zero_is i lt = notes.front i lt ∙ (ap (λ (ws : List ℕ). get_elem? ws i) null ∙ zero_at (word_count k) i (omega (arith, lt)))
 
   pub clean_marks : (c : ℕ) → c < k.cards → get_elem? a (mark_word k c) ≡ some 0
   clean_marks c lt = zero_is (mark_word k c) (omega (arith, lt))
@@ -294,7 +306,7 @@ module _ (s : State) (l : layout.Shape) (k : Shape) (old a b : List ℕ) (pairs 
 
   bit_back : (x : ℕ × ℕ) → IsPair k x → HasBit k a x → set_of.contains s.table.recorded x ≡ true
   bit_back x pair h = ⊎_elim
-      (λ (o : HasBit k old x). absurd (no_bit k (zeros (k.slots + k.cards + k.bits)) x (zeros_read (k.slots + k.cards + k.bits) _) (subst (λ (ws : List ℕ). HasBit k ws x) null o)))
+      (λ (o : HasBit k old x). absurd (no_bit k (zeros (word_count k)) x (zeros_read (word_count k) _) (subst (λ (ws : List ℕ). HasBit k ws x) null o)))
       (λ (i : In pairs x). subst (λ r. set_of.contains r x ≡ true) recorded (to_pairs pairs x (in_contains pairs x i)))
       (notes.only x pair h)
 
@@ -308,11 +320,11 @@ module _ (s : State) (l : layout.Shape) (k : Shape) (old a b : List ℕ) (pairs 
     pub slots_covered : AreCovered k s.table b
     slots_covered = core_covered s l k b lay laid parts shaped marks_are (λ x e. marked.bits.on x (bit_on x e))
 
-    pub table_copied : (new : List ℕ) → length new ≡ k.slots + k.cards + k.bits → ArePlaced k s.table b new k.slots → table_of (ended l k new) ≡ s.table
+    pub table_copied : (new : List ℕ) → length new ≡ word_count k → ArePlaced k s.table b new k.slots → table_of (ended l k new) ≡ s.table
     table_copied new sized placed = copied s l k new lay laid parts (record {
       sized = sized;
       slots = λ p lt. placed.slots p lt lt;
       marks = λ c lt. placed.marks c lt ∙ marks_are c lt;
       on = λ x e. placed.bits.on x (marked.bits.on x (bit_on x e));
-      back = λ x pair e. bit_back x pair (marked.bits.back x (placed.bits.back x e));
+      back = λ x pair e. bit_back x pair (marked.bits.back x pair (placed.bits.back x pair e));
     })

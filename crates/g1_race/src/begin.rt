@@ -15,7 +15,7 @@ use crate::drain::set_bit;
 use crate::paused::Paused;
 use crate::race::Race;
 use crate::racer::word_of;
-use crate::stopped::put;
+use crate::stopped::{dirty, put};
 use g1_core::Core;
 use g1_layout::{Card, NoMemory, Region};
 use g1_race_words::Place;
@@ -102,7 +102,7 @@ fn place_marks(race: &Race, seat: &mut Place, core: &Core)
             unreachable!()
         };
         if core.is_pending(card) {
-            put(race, seat, race.shape.slots + number, 1);
+            dirty(race, seat, number);
         }
     }
 }

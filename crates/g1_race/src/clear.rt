@@ -100,17 +100,21 @@ pub(crate) fn enters(shape: Shape, slot: usize, word: u64, region: usize) -> boo
     slot / shape.span != into
 }
 
-// Clears the bits of all pairs of the region.
+// Clears the bits of all pairs of the region, or in the row of flags all flags.
 pub(crate) fn empty_row(race: &Race, seat: &mut Place, region: usize)
     requires seat { IsPaused race.now.table.table_id race.now.shape seat.old }
-    requires region { region < race.now.shape.regions }
+    requires region { region ≤ race.now.shape.regions }
     requires none { (p : ℕ) → Into race.now.shape seat.old.me.0.began_words region p → ⊥ }
+    requires clean { region ≡ race.now.shape.regions → (c : ℕ) → c < race.now.shape.cards →
+        get_elem? seat.old.me.0.began_words (mark_word race.now.shape c) ≡ some 1 → ⊥ }
     ensures seat { IsPaused race.now.table.table_id race.now.shape seat.new }
     ensures emptied { IsEmptied race.now.shape seat.old.me.0.began_words seat.new.me.0.began_words region race.now.shape.row }
 {
     let shape = race.shape;
     let (first, _) = bit_of(shape, 0, region);
     for i in 0..shape.row {
-        put(race, seat, first + i, 0);
+        if see(race, seat, first + i) != 0 {
+            put(race, seat, first + i, 0);
+        }
     }
 }

@@ -3,7 +3,7 @@ ghost use Rattle.std.specs.Prelude.{◌≡◌, ℕ, ◌+◌, ◌*◌, ◌<◌, �
 ghost use Rattle.g1_layout.specs.Shape.{slot_count};
 ghost use Rattle.g1_core.specs.Run.{IsStep};
 ghost use Rattle.g1_core.specs.Calls.{drain_cards, drain_entry};
-ghost use Rattle.g1_race_words.specs.Rule.{IsPair, IsOfCrossing};
+ghost use Rattle.g1_race_words.specs.Rule.{IsOfCrossing};
 ghost use Rattle.g1_race_words.specs.Steps.{pair_at};
 ghost use Rattle.g1_race.specs.Over.{halted};
 ghost use Rattle.g1_race.specs.Refining.{Notes, IsRefined, AreRefined};
@@ -11,6 +11,7 @@ ghost use Rattle.g1_race.specs.Evacuating.{IsRefinedRace, AreAllRefined, IsDrain
 ghost use Rattle.g1_race_words.specs.Seats.{IsPaused};
 
 use crate::bits::bit_of;
+use crate::clear::empty_row;
 use crate::next::{
     count_marked, count_members, list_marked, list_members, next_marked, write_members,
 };
@@ -28,8 +29,9 @@ impl Paused {
     /// once, every card that holds into the region, and beside these only cards whose pair was
     /// recorded before. Nothing is dirty then, and the racers' logs are empty.
     ///
-    /// The room for the answer is asked for first, and refinement takes none. `NoMemory` where it
-    /// was refused: nothing has changed. A drain is never `Short`.
+    /// Reads a word for each 64 cards of the heap a few times over, what each dirty card needs, and
+    /// the set. The room for the answer is asked for first, and refinement takes none. `NoMemory`
+    /// where it was refused: nothing has changed. A drain is never `Short`.
     pub fn drain(&mut self, alloc: Global, region: Region) -> Result<Drained, NoMemory>
         requires { region < self.old.layout.regions }
         ensures race { IfOk result (λ answer. IsRefinedRace self.old self.new) }
@@ -88,7 +90,7 @@ pub(crate) fn clear_logs(logs: &mut Vec<ArrayVec<Card, 256>>)
     }
 }
 
-// Refines the dirty cards.
+// Refines the dirty cards. No flag is set then.
 pub(crate) fn refine_cards(race: &Race, seat: &mut Place)
     requires seat { IsPaused race.now.table.table_id race.now.shape seat.old }
     ensures seat { IsPaused race.now.table.table_id race.now.shape seat.new }
@@ -99,6 +101,7 @@ pub(crate) fn refine_cards(race: &Race, seat: &mut Place)
         refine_card(race, seat, card);
         from = card + 1;
     }
+    empty_row(race, seat, race.shape.regions);
 }
 
 // Records the pairs of the card's references, and cleans it.
@@ -144,11 +147,13 @@ fn note_slot(race: &Race, seat: &mut Place, slot: u32, word: u32)
     );
 }
 
-// Sees that the bit of the pair is set.
+// Sees that the bit of the pair is set, or in the row of flags the card's flag.
 pub(crate) fn set_bit(race: &Race, seat: &mut Place, card: usize, region: usize)
     requires seat { IsPaused race.now.table.table_id race.now.shape seat.old }
-    requires pair { IsPair race.now.shape (card, region) }
-    requires proper { IsOfCrossing race.now.shape (card, region) }
+    requires card { card < race.now.shape.cards }
+    requires row { region ≤ race.now.shape.regions }
+    requires proper { region < race.now.shape.regions →
+        IsOfCrossing race.now.shape (card, region) }
     ensures seat { IsPaused race.now.table.table_id race.now.shape seat.new }
     ensures notes { Notes race.now.shape seat.old.me.0.began_words seat.new.me.0.began_words ((card, region) ∷ []) }
 {

@@ -25,7 +25,8 @@ pub struct Closed {
 }
 
 impl Model for Closed {
-    ghost use Rattle.std.specs.Prelude.{◌≡◌, ◌+◌};
+    ghost use Rattle.std.specs.Prelude.{◌≡◌};
+    ghost use Rattle.g1_race_words.specs.Rule.{word_count};
     ghost use Rattle.std.specs.Slots.{slots_items, slots_len, IsFull};
     ghost use Rattle.g1_race.specs.Over.{Ended, IsEnded, ended};
 
@@ -34,7 +35,7 @@ impl Model for Closed {
     ghost view = { λ a. ended a.layout a.shape (slots_items a.words.words) };
 
     ghost invariant = { λ a. IsEnded a.shape a.layout (slots_items a.words.words)
-        × (slots_len a.words.words ≡ a.shape.slots + a.shape.cards + a.shape.bits)
+        × (slots_len a.words.words ≡ word_count a.shape)
         × (slots_len a.words.slots ≡ 0) × IsFull a.words.words };
 }
 

@@ -6,8 +6,9 @@ ghost use Rattle.g1_core.specs.Run.{IsStep};
 ghost use Rattle.g1_core.specs.Calls.{members_entry, status_entry};
 ghost use Rattle.g1_race_words.specs.Rule.{HasBit, IsPair};
 ghost use Rattle.g1_race.specs.Over.{halted};
+ghost use Rattle.g1_race.specs.Reading.{IsNextPending, table_known};
 ghost use Rattle.g1_race.specs.Clearing.{IsLeastPending};
-ghost use Rattle.g1_race_words.specs.Seats.{IsPaused};
+ghost use Rattle.g1_race_words.specs.Readers.{IsReading};
 
 use crate::bits::bit_of;
 use crate::next::{card_at, count_marked, count_members, count_pairs, list_members, next_marked};
@@ -25,14 +26,7 @@ impl Paused {
         ensures has { IsTrue result ↔ IsRecorded (halted self.old) card region }
         ensures same { self.new ≡ self.old }
     {
-        let (card, region) = (card.number() as usize, region.number() as usize);
-        if card >= self.race.shape.cards {
-            return false;
-        }
-        if region >= self.race.shape.regions {
-            return false;
-        }
-        is_set(&self.race, &mut self.seat, card, region)
+        is_recorded(&self.race, &mut self.seat, card, region)
     }
 
     /// The cards of a region's remembered set as it is recorded, ascending, each once. Cards that
@@ -46,14 +40,11 @@ impl Paused {
         ensures step { IfOk result (λ cards. (caller : ℕ) → IsStep (halted self.old) (members_entry caller region cards) (halted self.new)) }
         ensures same { self.new ≡ self.old }
     {
-        let number = region.number() as usize;
-        let count = count_members(&self.race, &mut self.seat, number);
-        let mut cards = Vec::with_capacity(alloc, count)?;
-        list_members(&self.race, &mut self.seat, number, &mut cards);
-        Ok(CardList::of(cards))
+        members_of(&self.race, &mut self.seat, alloc, region)
     }
 
-    /// How many cards are dirty. Reads a word for each card.
+    /// How many cards are dirty. Reads a word for each 64 cards of the heap, and two more for each
+    /// card that was dirtied since all was last refined at a pause.
     pub fn pending_count(&mut self) -> u32
         ensures count { result ≡ set.len (halted self.old).pending }
         ensures same { self.new ≡ self.old }
@@ -61,9 +52,8 @@ impl Paused {
         count_marked(&self.race, &mut self.seat) as u32
     }
 
-    /// How many cards are dirty, and how many pairs are recorded. Reads a word for each card, one
-    /// for each region and 64 cards of the heap, and one more for each recorded pair: in a heap of
-    /// 256 regions five times what `pending_count` reads, or more.
+    /// How many cards are dirty, and how many pairs are recorded. Reads what `pending_count` reads,
+    /// a word for each region and 64 cards of the heap, and one more for each recorded pair.
     pub fn status(&mut self) -> Status
         ensures pending { result.pending ≡ set.len (halted self.old).pending }
         ensures recorded { result.recorded ≡ set.len (halted self.old).recorded }
@@ -77,21 +67,67 @@ impl Paused {
         Status { pending, recorded }
     }
 
-    /// The least dirty card. Reads a word for each card up to it.
+    /// The least dirty card. Reads a word for each 64 cards up to it, and two more for each of these
+    /// cards that was dirtied since all was last refined at a pause.
     pub fn next_dirty(&mut self) -> Option<Card>
         ensures dirty { IsLeastPending (halted self.old) result }
         ensures same { self.new ≡ self.old }
     {
-        let Some(card) = next_marked(&self.race, &mut self.seat, 0) else {
-            return None;
-        };
-        Some(card_at(&self.race, card))
+        next_dirty_from(&self.race, &mut self.seat, 0)
     }
+}
+
+// The least dirty card from one on.
+pub(crate) fn next_dirty_from(race: &Race, seat: &mut Place, from: usize) -> Option<Card>
+    requires seat { IsReading race.now.table.table_id race.now.shape seat.old }
+    ensures dirty { IsNextPending (table_known race.now seat.old) from result }
+    ensures seat { (seat.new.table_id ≡ seat.old.table_id) × (seat.new.me ≡ seat.old.me) }
+{
+    let Some(card) = next_marked(race, seat, from) else {
+        return None;
+    };
+    Some(card_at(race, card))
+}
+
+// Whether the pair is recorded.
+pub(crate) fn is_recorded(race: &Race, seat: &mut Place, card: Card, region: Region) -> bool
+    requires seat { IsReading race.now.table.table_id race.now.shape seat.old }
+    ensures recorded { IsTrue result ↔ IsRecorded (table_known race.now seat.old) card region }
+    ensures seat { (seat.new.table_id ≡ seat.old.table_id) × (seat.new.me ≡ seat.old.me) }
+{
+    let (card, region) = (card.number() as usize, region.number() as usize);
+    if card >= race.shape.cards {
+        return false;
+    }
+    if region >= race.shape.regions {
+        return false;
+    }
+    is_set(race, seat, card, region)
+}
+
+// The cards of the region's set.
+pub(crate) fn members_of(
+    race: &Race,
+    seat: &mut Place,
+    alloc: Global,
+    region: Region,
+) -> Result<CardList, NoMemory>
+    requires seat { IsReading race.now.table.table_id race.now.shape seat.old }
+    requires region { region < race.now.layout.regions }
+    ensures members { IfOk result (λ cards.
+        AreMembers (table_known race.now seat.old) region cards) }
+    ensures seat { (seat.new.table_id ≡ seat.old.table_id) × (seat.new.me ≡ seat.old.me) }
+{
+    let number = region.number() as usize;
+    let count = count_members(race, seat, number);
+    let mut cards = Vec::with_capacity(alloc, count)?;
+    list_members(race, seat, number, &mut cards);
+    Ok(CardList::of(cards))
 }
 
 // Whether the pair's bit is set.
 fn is_set(race: &Race, seat: &mut Place, card: usize, region: usize) -> bool
-    requires seat { IsPaused race.now.table.table_id race.now.shape seat.old }
+    requires seat { IsReading race.now.table.table_id race.now.shape seat.old }
     requires pair { IsPair race.now.shape (card, region) }
     ensures set { IsTrue result ↔ HasBit race.now.shape seat.old.me.0.began_words (card, region) }
     ensures seat { (seat.new.table_id ≡ seat.old.table_id) × (seat.new.me ≡ seat.old.me) }

@@ -2,7 +2,7 @@
 ghost use Rattle.std.specs.Prelude.{◌≡◌, ◌+◌, ◌*◌, ◌<◌, ◌≤◌, ℕ, [], length, vec_capacity};
 ghost use Rattle.g1_race.specs.Telling.{IsNext, is_marked, is_member, marked_cards, member_cards, pair_count};
 ghost use Rattle.g1_race.specs.Evacuating.{AreWritten};
-ghost use Rattle.g1_race_words.specs.Seats.{IsPaused};
+ghost use Rattle.g1_race_words.specs.Readers.{IsReading};
 
 use crate::bits::bit_of;
 use crate::race::Race;
@@ -10,29 +10,32 @@ use crate::stopped::see;
 use g1_layout::Card;
 use g1_race_words::Place;
 
-// The least dirty card from one on.
+// The least dirty card from one on. It looks at the marks of those cards alone whose flag is set.
 pub(crate) fn next_marked(race: &Race, seat: &mut Place, from: usize) -> Option<usize>
-    requires { IsPaused race.now.table.table_id race.now.shape seat.old }
+    requires { IsReading race.now.table.table_id race.now.shape seat.old }
     ensures next { IsNext (is_marked race.now.shape seat.old.me.0.began_words) race.now.shape.cards from result }
     ensures seat { (seat.new.table_id ≡ seat.old.table_id) × (seat.new.me ≡ seat.old.me) }
 {
-    for card in from..race.shape.cards {
+    let mut next = from;
+    while let Some(card) = next_member(race, seat, next, race.shape.regions) {
         if see(race, seat, race.shape.slots + card) == 1 {
             return Some(card);
         }
+        next = card + 1;
     }
     None
 }
 
-// The least card from one on that is of the region's set.
+// The least card from one on that is of the region's set, or in the row of flags the least whose
+// flag is set.
 pub(crate) fn next_member(
     race: &Race,
     seat: &mut Place,
     from: usize,
     region: usize,
 ) -> Option<usize>
-    requires seat { IsPaused race.now.table.table_id race.now.shape seat.old }
-    requires region { region < race.now.shape.regions }
+    requires seat { IsReading race.now.table.table_id race.now.shape seat.old }
+    requires region { region ≤ race.now.shape.regions }
     ensures next { IsNext (is_member race.now.shape seat.old.me.0.began_words region) race.now.shape.cards from result }
     ensures seat { (seat.new.table_id ≡ seat.old.table_id) × (seat.new.me ≡ seat.old.me) }
 {
@@ -52,7 +55,7 @@ pub(crate) fn next_member(
 
 // How many cards are dirty.
 pub(crate) fn count_marked(race: &Race, seat: &mut Place) -> usize
-    requires { IsPaused race.now.table.table_id race.now.shape seat.old }
+    requires { IsReading race.now.table.table_id race.now.shape seat.old }
     ensures count { result ≡ length (marked_cards race.now.shape seat.old.me.0.began_words) }
     ensures seat { (seat.new.table_id ≡ seat.old.table_id) × (seat.new.me ≡ seat.old.me) }
 {
@@ -67,7 +70,7 @@ pub(crate) fn count_marked(race: &Race, seat: &mut Place) -> usize
 
 // Lists the dirty cards.
 pub(crate) fn list_marked(race: &Race, seat: &mut Place, cards: &mut Vec<Card>)
-    requires seat { IsPaused race.now.table.table_id race.now.shape seat.old }
+    requires seat { IsReading race.now.table.table_id race.now.shape seat.old }
     requires empty { cards.old.items ≡ [] }
     requires room { length (marked_cards race.now.shape seat.old.me.0.began_words) ≤ vec_capacity cards.old }
     ensures cards { cards.new.items ≡ marked_cards race.now.shape seat.old.me.0.began_words }
@@ -82,7 +85,7 @@ pub(crate) fn list_marked(race: &Race, seat: &mut Place, cards: &mut Vec<Card>)
 
 // How many cards the region's set has.
 pub(crate) fn count_members(race: &Race, seat: &mut Place, region: usize) -> usize
-    requires seat { IsPaused race.now.table.table_id race.now.shape seat.old }
+    requires seat { IsReading race.now.table.table_id race.now.shape seat.old }
     requires region { region < race.now.shape.regions }
     ensures count { result ≡ length (member_cards race.now.shape seat.old.me.0.began_words region) }
     ensures seat { (seat.new.table_id ≡ seat.old.table_id) × (seat.new.me ≡ seat.old.me) }
@@ -98,7 +101,7 @@ pub(crate) fn count_members(race: &Race, seat: &mut Place, region: usize) -> usi
 
 // How many pairs are recorded.
 pub(crate) fn count_pairs(race: &Race, seat: &mut Place) -> usize
-    requires { IsPaused race.now.table.table_id race.now.shape seat.old }
+    requires { IsReading race.now.table.table_id race.now.shape seat.old }
     ensures count { let words = seat.old.me.0.began_words in
         result ≡ pair_count race.now.shape words race.now.shape.regions }
     ensures seat { (seat.new.table_id ≡ seat.old.table_id) × (seat.new.me ≡ seat.old.me) }
@@ -112,7 +115,7 @@ pub(crate) fn count_pairs(race: &Race, seat: &mut Place) -> usize
 
 // Lists the cards of the region's set.
 pub(crate) fn list_members(race: &Race, seat: &mut Place, region: usize, cards: &mut Vec<Card>)
-    requires seat { IsPaused race.now.table.table_id race.now.shape seat.old }
+    requires seat { IsReading race.now.table.table_id race.now.shape seat.old }
     requires region { region < race.now.shape.regions }
     requires empty { cards.old.items ≡ [] }
     requires room { length (member_cards race.now.shape seat.old.me.0.began_words region) ≤ vec_capacity cards.old }
@@ -134,7 +137,7 @@ pub(crate) fn write_members(
     region: usize,
     cards: &mut [Card],
 ) -> usize
-    requires seat { IsPaused race.now.table.table_id race.now.shape seat.old }
+    requires seat { IsReading race.now.table.table_id race.now.shape seat.old }
     requires region { region < race.now.shape.regions }
     ensures count { result ≡ length (member_cards race.now.shape seat.old.me.0.began_words region) }
     ensures cards { AreWritten (member_cards race.now.shape seat.old.me.0.began_words region) cards.old cards.new }

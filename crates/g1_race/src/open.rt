@@ -17,9 +17,9 @@ impl Paused {
     /// A heap whose slots are all null and whose cards are all clean, at a pause, for 1 to 64
     /// racers and 1 to 64 sweepers. A runtime opens as many as it may ever have threads.
     ///
-    /// Takes 8 bytes for each slot and each card and a bit for each pair of a card and a region,
-    /// twice while it begins, and about two kilobytes for each racer and one for each sweeper. On
-    /// `NoMemory` nothing is left of it.
+    /// Takes 8 bytes for each slot and each card, a bit for each pair of a card and a region, and a
+    /// bit for each card, all of this twice while it begins, and about two kilobytes for each racer
+    /// and one for each sweeper. On `NoMemory` nothing is left of it.
     pub fn open(
         alloc: Global,
         layout: Layout,
@@ -61,9 +61,8 @@ impl Race {
     /// Opens a race over a heap whose slots are all null and whose cards are all clean, with 1 to 8
     /// racers and 1 to 4 sweepers. It is a birth at a pause ([`Paused::open`]) and a resume.
     ///
-    /// No racer has stored and no sweeper has refined; each racer has a number of its own. Takes 8
-    /// bytes for each slot and each card and a bit for each pair of a card and a region, twice
-    /// while it begins. On `NoMemory` nothing is left of it.
+    /// No racer has stored and no sweeper has refined; each racer has a number of its own. Takes the
+    /// memory of [`Paused::open`]. On `NoMemory` nothing is left of it.
     pub fn open(
         alloc: Global,
         layout: Layout,

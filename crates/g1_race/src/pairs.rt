@@ -2,7 +2,7 @@
 ghost use Rattle.std.specs.Prelude.{◌≡◌, ◌≢◌, ◌==◌, ◌+◌, ◌*◌, ◌/◌, ◌%◌, ◌<◌, ◌≤◌, ◌++◌, IfOk, OnOk, length, slice_index};
 ghost use Rattle.std.specs.Int.{bit_at};
 ghost use Rattle.std.specs.Slots.{slots_items, slots_len, IsFull};
-ghost use Rattle.g1_race_words.specs.Rule.{IsShape, IsPair, bit_word, bit_place, pairs_of_card, pairs_up_to};
+ghost use Rattle.g1_race_words.specs.Rule.{IsShape, IsPair, bit_word, bit_place, pairs_of_card, pairs_up_to, word_count};
 ghost use Rattle.g1_race.specs.Race.{shape_of};
 ghost use Rattle.g1_race.specs.Telling.{block_regions};
 
@@ -17,8 +17,8 @@ use std::alloc::Global;
 pub(crate) fn has_bit(words: &Closed<(), Global>, shape: Shape, card: usize, region: usize) -> bool
     requires shape { IsShape shape }
     requires pair { IsPair shape (card, region) }
-    requires words { (slots_len words.now.words ≡ shape.slots + shape.cards + shape.bits)
-        × (length (slots_items words.now.words) ≡ shape.slots + shape.cards + shape.bits)
+    requires words { (slots_len words.now.words ≡ word_count shape)
+        × (length (slots_items words.now.words) ≡ word_count shape)
         × IsFull words.now.words }
     ensures { let words = slots_items words.now.words in
         let word = slice_index words (bit_word shape (card, region)) in
@@ -38,8 +38,8 @@ pub(crate) fn list_pairs(
 ) -> Result<Vec<(Card, Region)>, NoMemory>
     requires shape { IsShape shape }
     requires laid { shape ≡ shape_of layout shape.members }
-    requires words { (slots_len words.now.words ≡ shape.slots + shape.cards + shape.bits)
-        × (length (slots_items words.now.words) ≡ shape.slots + shape.cards + shape.bits)
+    requires words { (slots_len words.now.words ≡ word_count shape)
+        × (length (slots_items words.now.words) ≡ word_count shape)
         × IsFull words.now.words }
     ensures { IfOk result (λ pairs.
         pairs.items ≡ pairs_up_to shape (slots_items words.now.words) shape.cards) }
@@ -65,8 +65,8 @@ fn note_regions(
     requires shape { IsShape shape }
     requires card { card < shape.cards }
     requires few { shape.regions ≤ 256 }
-    requires words { (slots_len words.now.words ≡ shape.slots + shape.cards + shape.bits)
-        × (length (slots_items words.now.words) ≡ shape.slots + shape.cards + shape.bits)
+    requires words { (slots_len words.now.words ≡ word_count shape)
+        × (length (slots_items words.now.words) ≡ word_count shape)
         × IsFull words.now.words }
     requires regions { card % 64 ≢ 0 → let words = slots_items words.now.words in
         regions.old.items ≡ block_regions shape words (card / 64) shape.regions }
@@ -97,8 +97,8 @@ fn list_card(
     requires shape { IsShape shape }
     requires laid { shape ≡ shape_of layout shape.members }
     requires card { card < shape.cards }
-    requires words { (slots_len words.now.words ≡ shape.slots + shape.cards + shape.bits)
-        × (length (slots_items words.now.words) ≡ shape.slots + shape.cards + shape.bits)
+    requires words { (slots_len words.now.words ≡ word_count shape)
+        × (length (slots_items words.now.words) ≡ word_count shape)
         × IsFull words.now.words }
     requires regions { let words = slots_items words.now.words in
         regions.now ≡ block_regions shape words (card / 64) shape.regions }
@@ -129,8 +129,8 @@ fn pair_at(layout: Layout, shape: Shape, card: usize, region: usize) -> (Card, R
 // How many bits are set: so much room is asked for at once.
 fn count_bits(words: &Closed<(), Global>, shape: Shape) -> usize
     requires shape { IsShape shape }
-    requires words { (slots_len words.now.words ≡ shape.slots + shape.cards + shape.bits)
-        × (length (slots_items words.now.words) ≡ shape.slots + shape.cards + shape.bits)
+    requires words { (slots_len words.now.words ≡ word_count shape)
+        × (length (slots_items words.now.words) ≡ word_count shape)
         × IsFull words.now.words }
 {
     let mut count = 0;

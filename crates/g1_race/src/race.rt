@@ -13,8 +13,8 @@ use g1_race_words::{Place, RaceTable, Shape};
 /// A race over the slots and cards of one heap. Racers and sweepers in any number of threads share
 /// it by `&`.
 ///
-/// It has 8 bytes for each slot and 8 for each card, and a bit for each pair of a card and a
-/// region. It takes no memory once it is open.
+/// It has 8 bytes for each slot and 8 for each card, a bit for each pair of a card and a region, and
+/// a bit for each card. It takes no memory once it is open.
 #[derive(Drop)]
 pub struct Race {
     pub(crate) table: RaceTable,

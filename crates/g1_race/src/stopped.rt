@@ -1,5 +1,5 @@
 //! What is read and stored at a pause.
-ghost use Rattle.std.specs.Prelude.{◌≡◌, ℕ, ◌+◌, ◌<◌, ◌≤◌, ◌^◌, IfSome, slice_set};
+ghost use Rattle.std.specs.Prelude.{◌≡◌, ℕ, ◌<◌, IfSome, slice_set};
 ghost use Rattle.std.specs.FinSet as set;
 ghost use mathlib.Core.Option.{some};
 ghost use lib.ListN.{get_elem?};
@@ -7,12 +7,16 @@ ghost use Rattle.g1_layout.specs.Shape.{slot_count, card_count};
 ghost use Rattle.g1_core.specs.Table.{target_of};
 ghost use Rattle.g1_core.specs.Run.{IsStep, kind_of, stored};
 ghost use Rattle.g1_core.specs.Calls.{target_entry, pending_entry, store_entry};
-ghost use Rattle.g1_race_words.specs.Rule.{IsBegun, start, crosses};
+ghost use Rattle.g1_race_words.specs.Rule.{IsBegun, start, crosses, word_count};
 ghost use Rattle.g1_race.specs.Race.{shape_of, word_of};
 ghost use Rattle.g1_race.specs.Over.{halted};
+ghost use Rattle.g1_race.specs.Reading.{table_known};
 ghost use Rattle.g1_race.specs.Evacuating.{IsSameRace, plain_reply};
+ghost use Rattle.g1_race.specs.Refining.{IsDirtied};
 ghost use Rattle.g1_race_words.specs.Seats.{IsPaused};
+ghost use Rattle.g1_race_words.specs.Readers.{IsReading};
 
+use crate::drain::set_bit;
 use crate::paused::Paused;
 use crate::race::Race;
 use crate::racer::word_of;
@@ -28,12 +32,7 @@ impl Paused {
         ensures step { (caller : ℕ) → IsStep (halted self.old) (target_entry caller slot result) (halted self.new) }
         ensures same { self.new ≡ self.old }
     {
-        let place = slot.number() as usize;
-        let word = see(&self.race, &mut self.seat, place);
-        if word == 0 {
-            return None;
-        }
-        self.race.layout.slot(word as u32 - 1)
+        target_of(&self.race, &mut self.seat, slot)
     }
 
     /// Whether the card is pending: dirty, by a store or from the beginning. Reads one word.
@@ -43,8 +42,7 @@ impl Paused {
         ensures step { (caller : ℕ) → IsStep (halted self.old) (pending_entry caller card result) (halted self.new) }
         ensures same { self.new ≡ self.old }
     {
-        let place = self.race.shape.slots + card.number() as usize;
-        see(&self.race, &mut self.seat, place) == 1
+        is_dirty(&self.race, &mut self.seat, card)
     }
 
     /// Stores a reference (or null) into the slot, as the collector itself does, and dirties the
@@ -68,21 +66,47 @@ impl Paused {
             }
             return Kind::SameRegion;
         }
-        let mark = self.race.shape.slots + self.race.layout.card_of(slot).number() as usize;
+        let card = self.race.layout.card_of(slot).number() as usize;
+        let mark = self.race.shape.slots + card;
         if see(&self.race, &mut self.seat, mark) == 1 {
             put(&self.race, &mut self.seat, place, word);
             return Kind::AlreadyDirty;
         }
-        put(&self.race, &mut self.seat, mark, 1);
+        dirty(&self.race, &mut self.seat, card);
         put(&self.race, &mut self.seat, place, word);
         Kind::Logged
     }
 }
 
+// What the slot refers to.
+pub(crate) fn target_of(race: &Race, seat: &mut Place, slot: Slot) -> Option<Slot>
+    requires seat { IsReading race.now.table.table_id race.now.shape seat.old }
+    requires slot { slot < slot_count race.now.layout }
+    ensures target { result ≡ target_of (table_known race.now seat.old) slot }
+    ensures within { IfSome result (λ place. place < slot_count race.now.layout) }
+    ensures seat { (seat.new.table_id ≡ seat.old.table_id) × (seat.new.me ≡ seat.old.me) }
+{
+    let word = see(race, seat, slot.number() as usize);
+    if word == 0 {
+        return None;
+    }
+    race.layout.slot(word as u32 - 1)
+}
+
+// Whether the card is dirty.
+pub(crate) fn is_dirty(race: &Race, seat: &mut Place, card: Card) -> bool
+    requires seat { IsReading race.now.table.table_id race.now.shape seat.old }
+    requires card { card < card_count race.now.layout }
+    ensures dirty { result ≡ set.contains (table_known race.now seat.old).pending card }
+    ensures seat { (seat.new.table_id ≡ seat.old.table_id) × (seat.new.me ≡ seat.old.me) }
+{
+    see(race, seat, race.shape.slots + card.number() as usize) == 1
+}
+
 // Reads a word, which is what the seat knows it to be.
 pub(crate) fn see(race: &Race, seat: &mut Place, word: usize) -> u64
-    requires seat { IsPaused race.now.table.table_id race.now.shape seat.old }
-    requires word { word < race.now.shape.slots + race.now.shape.cards + race.now.shape.bits }
+    requires seat { IsReading race.now.table.table_id race.now.shape seat.old }
+    requires word { word < word_count race.now.shape }
     ensures word { get_elem? seat.old.me.0.began_words word ≡ some result }
     ensures seat { (seat.new.table_id ≡ seat.old.table_id) × (seat.new.me ≡ seat.old.me) }
 {
@@ -92,12 +116,24 @@ pub(crate) fn see(race: &Race, seat: &mut Place, word: usize) -> u64
 // Writes a word, where the words keep what each beginning has.
 pub(crate) fn put(race: &Race, seat: &mut Place, word: usize, new: u64)
     requires seat { IsPaused race.now.table.table_id race.now.shape seat.old }
-    requires word { word < race.now.shape.slots + race.now.shape.cards + race.now.shape.bits }
+    requires word { word < word_count race.now.shape }
     requires begun { IsBegun (start race.now.shape (slice_set seat.old.me.0.began_words word new)) }
     ensures seat { IsPaused race.now.table.table_id race.now.shape seat.new }
     ensures words { seat.new.me.0.began_words ≡ slice_set seat.old.me.0.began_words word new }
 {
     race.table.put(seat, word, new);
+}
+
+// Dirties a card, whose flag is set before.
+pub(crate) fn dirty(race: &Race, seat: &mut Place, card: usize)
+    requires seat { IsPaused race.now.table.table_id race.now.shape seat.old }
+    requires card { card < race.now.shape.cards }
+    ensures seat { IsPaused race.now.table.table_id race.now.shape seat.new }
+    ensures dirtied { IsDirtied race.now.shape seat.old.me.0.began_words
+        seat.new.me.0.began_words card }
+{
+    set_bit(race, seat, card, race.shape.regions);
+    put(race, seat, race.shape.slots + card, 1);
 }
 
 // Whether a reference of the slot to the target crosses regions.

@@ -11,7 +11,7 @@ use std::test::Fail;
 use std::thread::Threads;
 
 // Races on up to the next pause.
-fn race_on<R: Threads + Sync>(rt: &R, paused: Paused, plan: Plan) -> Paused {
+pub(crate) fn race_on<R: Threads + Sync>(rt: &R, paused: Paused, plan: Plan) -> Paused {
     let (race, racers, sweepers) = paused.resume();
     run_race(rt, race, racers, sweepers, plan)
 }

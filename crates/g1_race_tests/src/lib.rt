@@ -15,4 +15,6 @@ mod in_threads;
 #[cfg(test)]
 mod paused;
 #[cfg(test)]
+mod readers;
+#[cfg(test)]
 mod small;

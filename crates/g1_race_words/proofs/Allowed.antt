@@ -1,14 +1,11 @@
 -- Each kind of step is allowed, as a call on the table asks for it.
-use Rattle.std.proofs.Common.{inl, inr, ◌≡◌, ℕ, ◌-◌, ◌+◌, ◌*◌, ◌%◌, ◌^◌, ◌<◌, ◌≤◌, bit_or, List, [], ◌∷◌, set, get_or, true, false, Some, None, refl, sym, ap, ◌∙◌, subst, arith}
-use mathlib.Core.Option.{some}
-use lib.ListN.{get_elem?}
+use Rattle.std.proofs.Common.{inl, inr, ◌≡◌, ℕ, ◌-◌, ◌*◌, ◌%◌, ◌^◌, ◌<◌, ◌≤◌, bit_or, List, [], ◌∷◌, set, get_or, true, false, Some, None, refl, sym, ap, ◌∙◌, subst, arith}
 use Rattle.atomic_table.specs.Table.{State, Me, keeps, Allows, Splits, Joins, Enters}
-use Rattle.atomic_table.proofs.Lists.{set_again}
 use Rattle.g1_race_words.specs.declared.view.Shape.{Shape}
 use Rattle.g1_race_words.specs.declared.view.View.{View}
 use Rattle.g1_race_words.specs.Begin.{Start}
 use Rattle.g1_race_words.specs.Rule.{History, mark_word, bit_word, bit_place, In, IsShape, IsPair, AtRest, IsBlank, IsBegun, Going, start}
-use Rattle.g1_race_words.specs.Steps.{iced, thawed, put, blank, wrote, looked, dirtied, cleaned, read, sought, recorded, lighter, new_racer, new_sweeper, both, nothing}
+use Rattle.g1_race_words.specs.Steps.{iced, thawed, put, blank, wrote, looked, owed_card, dirtied, cleaned, read, sought, recorded, lighter, new_racer, new_sweeper, both, nothing}
 use Rattle.g1_race_words.proofs.PairBits.{with_pair}
 use Rattle.g1_race_words.proofs.Plain.{set_read, read_at}
 use Rattle.g1_race_words.proofs.Tallies.{number_given, number_dropped}
@@ -54,16 +51,16 @@ module _ {S : Type 0} where
         refl,
       )
 
-  pub allows_dirty : (k : Shape) (slots id c : ℕ) (me : Me S View) → Sits k me.0 → me.0.owed ≡ Some c → c < k.cards
+  pub allows_dirty : (k : Shape) (slots id c : ℕ) (me : Me S View) → Sits k me.0 → me.0.owed ≡ Some c → me.0.flagged ≡ owed_card me.0.owed → c < k.cards
       → Allows (Rule k) slots id me (mark_word k c) (λ _. 1) (λ n after. after ≡ (dirtied me.0 (mark_word k c - me.0.shape.slots) n, me.1))
-  allows_dirty k slots id c me sits owes lt s h len at fits =
+  allows_dirty k slots id c me sits owes flagged lt s h len at fits =
       let n = get_or s.words (mark_word k c) 0 in
       let e = card_back k me.0 c sits.shape in (
         dirtied me.0 (mark_word k c - me.0.shape.slots) n,
         keeps,
         tt,
         subst (λ (d : ℕ). Going k (set s.words (mark_word k c) 1) (set s.views id (dirtied me.0 d n))) (sym e)
-            (going_step k s.words s.views h (set s.words (mark_word k c) 1) id me.0 (dirtied me.0 c n) at (omega (arith, sits.weight)) sits.going refl refl refl refl (raced_dirtied (begun k s.words s.views h) s.words s.views id me.0 c sits owes lt at h.raced)),
+            (going_step k s.words s.views h (set s.words (mark_word k c) 1) id me.0 (dirtied me.0 c n) at (omega (arith, sits.weight)) sits.going refl refl refl refl (raced_dirtied (begun k s.words s.views h) s.words s.views id me.0 c sits owes flagged lt at h.raced)),
         refl,
       )
 
@@ -111,7 +108,7 @@ module _ {S : Type 0} where
 
   pub splits_racer : (k : Shape) (id : ℕ) (v : View) → IsBlank v → 0 < v.weight → 0 < v.spare → v.frozen ≡ false → Splits (Rule k) id v (lighter v) (new_racer v)
   splits_racer k id v still heavy given moving s h at = going_split k s.words s.views h id v (new_racer v) at heavy refl (sym moving) (omega arith)
-      (raced_split (begun k s.words s.views h) s.words s.views id v (new_racer v) still heavy refl (number_given v given) fresh refl refl refl refl at h.raced)
+      (raced_split (begun k s.words s.views h) s.words s.views id v (new_racer v) still heavy refl (number_given v given) fresh refl refl refl refl refl at h.raced)
     where
       fresh : (g : History) → In ((v.spare - 1, []) ∷ []) g → g.1 ≡ []
       fresh g (inl e) = ap (λ (x : History). x.1) (sym e)
@@ -119,14 +116,14 @@ module _ {S : Type 0} where
 
   pub splits_sweeper : (k : Shape) (id : ℕ) (v : View) → IsBlank v → 0 < v.weight → v.frozen ≡ false → Splits (Rule k) id v (lighter v) (new_sweeper v)
   splits_sweeper k id v still heavy moving s h at = going_split k s.words s.views h id v (new_sweeper v) at heavy refl (sym moving) (omega arith)
-      (raced_split (begun k s.words s.views h) s.words s.views id v (new_sweeper v) still heavy refl (number_dropped v) (λ g i. absurd i) refl refl refl refl at h.raced)
+      (raced_split (begun k s.words s.views h) s.words s.views id v (new_sweeper v) still heavy refl (number_dropped v) (λ g i. absurd i) refl refl refl refl refl at h.raced)
 
   pub joins_member : (k : Shape) (id : ℕ) (v : View) (other : ℕ) (u : View) → u.weight ≡ 1 → AtRest u → Joins (Rule k) id v other u (both v u) nothing
   joins_member k id v other u one rest s h at apart there = going_join k s.words s.views h id v other u at apart there (omega (arith, one))
-      (raced_join (begun k s.words s.views h) s.words s.views id v other u nothing one rest ((refl, refl, refl), refl, refl, refl, refl) refl refl at apart there h.raced)
+      (raced_join (begun k s.words s.views h) s.words s.views id v other u nothing one rest ((refl, refl, refl, refl), refl, refl, refl, refl) refl refl at apart there h.raced)
 
   pub enters_blank : (k : Shape) (slots i : ℕ) (b : Start) → Enters (Rule k) slots i (λ n w. ◌≡◌ {A = Me S View} (w, []) (blank b 0 [], []))
-  enters_blank k slots i b s h len fits = (blank b 0 [], going_enter k s.words s.views h (blank b 0 []) refl refl (raced_enter (begun k s.words s.views h) s.words s.views (blank b 0 []) ((refl, refl, refl), refl, refl, refl, refl) refl refl h.raced), refl)
+  enters_blank k slots i b s h len fits = (blank b 0 [], going_enter k s.words s.views h (blank b 0 []) refl refl (raced_enter (begun k s.words s.views h) s.words s.views (blank b 0 []) ((refl, refl, refl, refl), refl, refl, refl, refl) refl refl h.raced), refl)
 
   -- at a pause
 
@@ -139,16 +136,6 @@ module _ {S : Type 0} where
         subst (λ (ws : List ℕ). Going k ws (set s.views id (thawed me.0))) (sym (set_read s.words p ∙ words))
             (going_anew k s.words s.views id me.0 c.all c.pos h at me.0.began_words (thawed me.0) c.begun c.blank c.all c.spare (ap (λ (x : Shape). start x me.0.began_words) c.shape)),
         refl,
-      )
-
-  pub allows_see : (k : Shape) (slots id p : ℕ) (me : Me S View) → Knows k me.0 → p < k.slots + k.cards + k.bits → Allows (Rule k) slots id me p (λ n. n) (λ n after. (after ≡ me) × (get_elem? me.0.began_words p ≡ some n))
-  allows_see k slots id p me c lt s h len at fits =
-      let words = known_words k s.words s.views id me.0 c.all c.pos h at c.frozen in (
-        me.0,
-        keeps,
-        tt,
-        subst (λ (ws : List ℕ). Going k ws (set s.views id me.0)) (sym (set_read s.words p)) (subst (λ (vs : List View). Going k s.words vs) (sym (set_again s.views id me.0 at)) h),
-        (refl, subst (λ (l : List ℕ). get_elem? l p ≡ some (get_or s.words p 0)) words (read_at s.words p (omega (arith, h.raced.sized, lt)))),
       )
 
   pub allows_set : (k : Shape) (slots id p n : ℕ) (me : Me S View) → Knows k me.0 → IsBegun (start k (set me.0.began_words p n)) → Allows (Rule k) slots id me p (λ _. n) (λ _ after. after ≡ (put me.0 p n, me.1))
@@ -173,7 +160,7 @@ allows_freeze k slots id p me shaped all pos rest s h len at fits =
       keeps,
       tt,
       subst (λ (ws : List ℕ). Going k ws (set s.views id w)) (sym (set_read s.words p))
-          (going_anew k s.words s.views id me.0 all pos h at s.words w here ((refl, refl, refl), refl, refl, refl, refl) all all (ap (λ (x : Shape). start x s.words) shape)),
+          (going_anew k s.words s.views id me.0 all pos h at s.words w here ((refl, refl, refl, refl), refl, refl, refl, refl) all all (ap (λ (x : Shape). start x s.words) shape)),
       record {
         words = s.words;
         views = s.views;
@@ -182,5 +169,6 @@ allows_freeze k slots id p me shaped all pos rest s h len at fits =
         begun = subst (λ (x : Shape). IsBegun (start x s.words)) (sym shape) here;
         raced = raced_mine k s.words s.views id me.0 all pos h at;
         mine = at;
+        still = known_words k s.words s.views id me.0 all pos h at;
       },
     )

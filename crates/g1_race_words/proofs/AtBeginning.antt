@@ -6,7 +6,7 @@ use mathlib.Core.Option.{some, some-ne-none, some-injective}
 use lib.ListN.{get_elem?}
 use Rattle.g1_race_words.specs.declared.view.Shape.{Shape}
 use Rattle.g1_race_words.specs.declared.view.View.{View}
-use Rattle.g1_race_words.specs.Rule.{MadeDirty, IsBegun, IsShape, HasBit, bit_word, bit_place, card_of, mark_word, region_at, In, Held, claims_of, pairs_of, IsMarked, IsBlank, Raced, Going, front, pairs_up_to, null_of, start, beginning, start_of}
+use Rattle.g1_race_words.specs.Rule.{MadeDirty, IsBegun, IsShape, HasBit, bit_word, bit_place, card_of, mark_word, region_at, In, Held, claims_of, pairs_of, IsMarked, IsBlank, Raced, Going, front, pairs_up_to, null_of, start, beginning, start_of, word_count}
 use Rattle.g1_race_words.specs.Steps.{iced}
 use Rattle.g1_race_words.proofs.PairBits.{crossing_pair}
 use Rattle.g1_race_words.proofs.Places.{at_take, at_untake}
@@ -46,7 +46,7 @@ raced_beginning k words h = let v = iced (start k words) k.members in record {
   sized = h.sized;
   bounded = h.bounded;
   covered = λ p n lt at cr. ⊎_elim (λ (i : HasBit k words (card_of k p, region_at k n)). inl (set_in k words _ (crossing_pair k p n h.shaped lt (h.bounded p n lt at) cr) i)) (λ (m : IsMarked k words p). inr (inl m)) (h.covered p n lt at cr);
-  weighed = (omega arith, λ seat u at none. subst IsBlank (only v u seat at) (((refl, refl, refl)), refl, refl, refl, refl));
+  weighed = (omega arith, λ seat u at none. subst IsBlank (only v u seat at) ((refl, refl, refl, refl), refl, refl, refl, refl));
   numbered = λ m. omega arith;
   stored = λ p n lt at. inr (at_take words (k.slots + k.cards) p n (omega arith) at, λ g b. absurd (subst (λ (u : View). In u.histories g) (sym (only v b.1 b.0 b.2)) b.3));
   recorded = λ x b. absurd (subst (λ (u : View). In u.pairs x) (sym (only v b.1 b.0 b.2)) b.3);
@@ -65,6 +65,10 @@ raced_beginning k words h = let v = iced (start k words) k.members in record {
       ))
       (h.marks c lt);
   counted = λ c m n lt was is. let e = same_word words (k.slots + k.cards) (mark_word k c) m n was is in omega (arith, e);
+  flagged = record {
+    marked = h.flagged;
+    known = λ c b. absurd (subst (λ (u : View). In u.flagged c) (sym (only v b.1 b.0 b.2)) b.3);
+  };
 }
 
 -- words that begin with all null and all clean, and no bit set
@@ -78,18 +82,19 @@ zeros_read (suc n) zero = refl
 zeros_read (suc n) (suc i) = zeros_read n i
 
 pub null_begun : (k : Shape) → IsShape k → IsBegun (null_of k)
-null_begun k shaped = let all = k.slots + k.cards + k.bits in record {
+null_begun k shaped = let all = word_count k in record {
   shaped = shaped;
   sized = length_zeros all;
   bounded = λ p n lt at. let e = at_zeros all p n at in omega arith;
   marks = λ c lt. inr (zero_at all (mark_word k c) (omega arith));
   covered = λ p n lt at cr. absurd (null_stays k p n (at_zeros all p n at) cr);
   proper = λ x pair b. absurd (no_bit k (zeros all) x (zeros_read all (bit_word k x)) b);
+  flagged = λ c lt m. absurd (let e = at_zeros all (mark_word k c) 1 m in omega (arith, e));
 }
 
 -- a heap begins at a pause
-pub going_first : (k : Shape) → IsShape k → Going k (zeros (k.slots + k.cards + k.bits)) (iced (null_of k) k.members ∷ [])
-going_first k shaped = let all = k.slots + k.cards + k.bits in record {
+pub going_first : (k : Shape) → IsShape k → Going k (zeros (word_count k)) (iced (null_of k) k.members ∷ [])
+going_first k shaped = let all = word_count k in record {
   first = zeros all;
   frozen = true;
   raced = raced_beginning k (zeros all) (null_begun k shaped);

@@ -1,17 +1,17 @@
 -- What the calls of a step ask, of the table and the seat inside.
-use Rattle.std.proofs.Common.{◌≡◌, ℕ, ◌+◌, ◌-◌, ◌*◌, ◌%◌, ◌^◌, ◌<◌, ◌≤◌, bit_or, [], ◌∷◌, set, None, refl, sym, ap, subst, arith}
-use mathlib.Core.Option.{some}
-use lib.ListN.{get_elem?}
+use Rattle.std.proofs.Common.{◌≡◌, ℕ, ◌-◌, ◌*◌, ◌%◌, ◌^◌, ◌<◌, ◌≤◌, bit_or, [], ◌∷◌, set, None, refl, sym, ap, subst, arith}
 use Rattle.atomic_table.specs.Table.{State, Me, Allows, Splits, Joins}
 use Rattle.atomic_table.specs.Seated.{TableId}
 use Rattle.atomic_table.specs.declared.shared.Seat.{Seat}
 use Rattle.g1_race_words.specs.declared.view.Shape.{Shape}
 use Rattle.g1_race_words.specs.declared.view.View.{View}
-use Rattle.g1_race_words.specs.Rule.{AtRest, Going, History, IsBegun, IsBlank, IsShape, bit_place, start}
-use Rattle.g1_race_words.specs.Steps.{both, chair, cleaned, dirtied, iced, lighter, looked, new_racer, new_sweeper, nothing, put, read, recorded, sought, thawed, wrote}
-use Rattle.g1_race_words.specs.Seats.{Freezes, HoldsBit, IsChair, IsMark, IsPaused, OwesMark, Sits, Words}
+use Rattle.g1_race_words.specs.Rule.{AtRest, Going, History, IsBegun, IsBlank, IsShape, bit_place, flag, start, word_count}
+use Rattle.g1_race_words.specs.Steps.{both, chair, cleaned, dirtied, iced, lighter, looked, new_racer, new_sweeper, nothing, owed_card, put, raised, read, recorded, sought, spotted, thawed, wrote}
+use Rattle.g1_race_words.specs.Seats.{Freezes, HoldsBit, IsChair, IsMark, IsPaused, OwesFlag, OwesMark, Sits, Words}
 use Rattle.g1_race_words.proofs.PairBits.{word_below}
-use Rattle.g1_race_words.proofs.Allowed.{Knows, allows_clean, allows_dirty, allows_freeze, allows_look, allows_read, allows_record, allows_see, allows_seek, allows_set, allows_thaw, allows_write, joins_member, splits_racer, splits_sweeper}
+use Rattle.g1_race_words.proofs.Flags.{flag_below}
+use Rattle.g1_race_words.proofs.Flagging.{allows_raise, allows_spot}
+use Rattle.g1_race_words.proofs.Allowed.{Knows, allows_clean, allows_dirty, allows_freeze, allows_look, allows_read, allows_record, allows_seek, allows_set, allows_thaw, allows_write, joins_member, splits_racer, splits_sweeper}
 
 -- what is so of the models is so of what is inside
 pub inside : (P : Words → Seat (Unit {0}) View → Type 0) (t w : Words) (s q : Seat (Unit {0}) View) → t ≡ w → s ≡ q → P w q → P t s
@@ -20,7 +20,7 @@ inside P t w s q is at = subst (λ (x : Words × Seat (Unit {0}) View). P x.0 x.
 abbrev Rule : Shape → State (Unit {0}) View → Type 0
 Rule k s = Going k s.words s.views
 
-module _ (z : TableId) (k : Shape) (fits : z.words ≡ k.slots + k.cards + k.bits) (shaped : IsShape k) (s : Seat (Unit {0}) View) (table : s.table_id ≡ z) where
+module _ (z : TableId) (k : Shape) (fits : z.words ≡ word_count k) (shaped : IsShape k) (s : Seat (Unit {0}) View) (table : s.table_id ≡ z) where
   abbrev Owed : ℕ → (ℕ → ℕ) → (ℕ → Me (Unit {0}) View → Type 0) → Type 0
   Owed word f then = (s.table_id ≡ z) × (word < z.words) × Allows (Rule k) z.slots s.id s.me word f then
 
@@ -32,9 +32,18 @@ module _ (z : TableId) (k : Shape) (fits : z.words ≡ k.slots + k.cards + k.bit
   look_owed word sits (c, owes, lt, is) = subst (λ (w : ℕ). Owed w (λ n. n) (λ n after. after ≡ (looked s.me.0 n, s.me.1))) (sym is)
       (table, omega (arith, fits, lt), allows_look k z.slots s.id c s.me sits owes lt)
 
-  pub dirty_owed : (word : ℕ) → Sits k s.me.0 → OwesMark k s.me.0 word → Owed word (λ _. 1) (λ n after. after ≡ (dirtied s.me.0 (word - s.me.0.shape.slots) n, s.me.1))
-  dirty_owed word sits (c, owes, lt, is) = subst (λ (w : ℕ). Owed w (λ _. 1) (λ n after. after ≡ (dirtied s.me.0 (w - s.me.0.shape.slots) n, s.me.1))) (sym is)
-      (table, omega (arith, fits, lt), allows_dirty k z.slots s.id c s.me sits owes lt)
+  pub spot_owed : (word : ℕ) → Sits k s.me.0 → (c : ℕ) → OwesFlag k s.me.0 c word → Owed word (λ n. n) (λ n after. after ≡ (spotted s.me.0 n, s.me.1))
+  spot_owed word sits c (owes, lt, is) = subst (λ (w : ℕ). Owed w (λ n. n) (λ n after. after ≡ (spotted s.me.0 n, s.me.1))) (sym is)
+      (table, omega (arith, fits, flag_below k c shaped lt), allows_spot k z.slots s.id c s.me shaped sits owes)
+
+  pub raise_owed : (word place : ℕ) → Sits k s.me.0 → (c : ℕ) → OwesFlag k s.me.0 c word → place ≡ bit_place k (flag k c)
+      → Owed word (λ n. bit_or n (1 * 2 ^ place % 2 ^ 64)) (λ _ after. after ≡ (raised s.me.0, s.me.1))
+  raise_owed word place sits c (owes, lt, is) at = subst (λ (w : ℕ × ℕ). Owed w.0 (λ n. bit_or n (1 * 2 ^ w.1 % 2 ^ 64)) (λ _ after. after ≡ (raised s.me.0, s.me.1))) (λ i. (sym is i, sym at i))
+      (table, omega (arith, fits, flag_below k c shaped lt), allows_raise k z.slots s.id c s.me shaped sits owes lt)
+
+  pub dirty_owed : (word : ℕ) → Sits k s.me.0 → OwesMark k s.me.0 word → s.me.0.flagged ≡ owed_card s.me.0.owed → Owed word (λ _. 1) (λ n after. after ≡ (dirtied s.me.0 (word - s.me.0.shape.slots) n, s.me.1))
+  dirty_owed word sits (c, owes, lt, is) flagged = subst (λ (w : ℕ). Owed w (λ _. 1) (λ n after. after ≡ (dirtied s.me.0 (w - s.me.0.shape.slots) n, s.me.1))) (sym is)
+      (table, omega (arith, fits, lt), allows_dirty k z.slots s.id c s.me sits owes flagged lt)
 
   pub clean_owed : (word : ℕ) → Sits k s.me.0 → s.me.0.next ≡ s.me.0.end → IsMark k word → Owed word (λ _. 0) (λ n after. after ≡ (cleaned s.me.0 (word - s.me.0.shape.slots) n, s.me.1))
   clean_owed word sits done (c, lt, is) = subst (λ (w : ℕ). Owed w (λ _. 0) (λ n after. after ≡ (cleaned s.me.0 (w - s.me.0.shape.slots) n, s.me.1))) (sym is)
@@ -66,7 +75,7 @@ module _ (z : TableId) (k : Shape) (fits : z.words ≡ k.slots + k.cards + k.bit
     table,
     some_word,
     subst (λ (v : View). Splits (Rule k) s.id v (lighter v) (new_racer v)) (sym is)
-        (splits_racer k s.id (chair begin w) ((refl, refl, refl), refl, refl, refl, refl) heavy heavy refl),
+        (splits_racer k s.id (chair begin w) ((refl, refl, refl, refl), refl, refl, refl, refl) heavy heavy refl),
   )
 
   pub split_sweeper_owed : IsChair s.me.0 → Cut new_sweeper
@@ -74,7 +83,7 @@ module _ (z : TableId) (k : Shape) (fits : z.words ≡ k.slots + k.cards + k.bit
     table,
     some_word,
     subst (λ (v : View). Splits (Rule k) s.id v (lighter v) (new_sweeper v)) (sym is)
-        (splits_sweeper k s.id (chair begin w) ((refl, refl, refl), refl, refl, refl, refl) heavy refl),
+        (splits_sweeper k s.id (chair begin w) ((refl, refl, refl, refl), refl, refl, refl, refl) heavy refl),
   )
 
   pub join_owed : (other : ℕ) (u : View) → u.weight ≡ 1 → AtRest u → (0 < z.words) × Joins (Rule k) s.id s.me.0 other u (both s.me.0 u) nothing
@@ -92,7 +101,7 @@ module _ (z : TableId) (k : Shape) (fits : z.words ≡ k.slots + k.cards + k.bit
         all = ap (λ (v : View). v.weight) view;
         pos = pos;
         spare = ap (λ (v : View). v.spare) view;
-        blank = subst IsBlank (sym view) ((refl, refl, refl), refl, refl, refl, refl);
+        blank = subst IsBlank (sym view) ((refl, refl, refl, refl), refl, refl, refl, refl);
         shape = ap (λ (v : View). v.shape) view;
         frozen = ap (λ (v : View). v.frozen) view;
         begun = paused.begun;
@@ -101,8 +110,5 @@ module _ (z : TableId) (k : Shape) (fits : z.words ≡ k.slots + k.cards + k.bit
       pub thaw_owed : Owed 0 (λ n. n) (λ n after. after ≡ (thawed s.me.0, s.me.1))
       thaw_owed = (table, some_word, allows_thaw k z.slots s.id 0 s.me knows)
 
-      pub see_owed : (p : ℕ) → p < k.slots + k.cards + k.bits → Owed p (λ n. n) (λ n after. (after ≡ s.me) × (get_elem? s.me.0.began_words p ≡ some n))
-      see_owed p lt = (table, omega (arith, fits, lt), allows_see k z.slots s.id p s.me knows lt)
-
-      pub put_owed : (p n : ℕ) → p < k.slots + k.cards + k.bits → IsBegun (start k (set s.me.0.began_words p n)) → Owed p (λ _. n) (λ _ after. after ≡ (put s.me.0 p n, s.me.1))
+      pub put_owed : (p n : ℕ) → p < word_count k → IsBegun (start k (set s.me.0.began_words p n)) → Owed p (λ _. n) (λ _ after. after ≡ (put s.me.0 p n, s.me.1))
       put_owed p n lt begun = (table, omega (arith, fits, lt), allows_set k z.slots s.id p n s.me knows begun)

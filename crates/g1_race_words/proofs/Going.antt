@@ -7,7 +7,7 @@ use Rattle.atomic_table.proofs.Lists.{at_set, at_snoc, set_else}
 use Rattle.g1_race_words.specs.declared.view.Shape.{Shape}
 use Rattle.g1_race_words.specs.declared.view.View.{View}
 use Rattle.g1_race_words.specs.Begin.{Start, Begun}
-use Rattle.g1_race_words.specs.Rule.{In, Held, histories_of, claims_of, cleanings_of, pairs_of, held_of, card_of, region_at, mark_word, Answers, IsMarked, IsShape, HasBit, IsNoted, StoredInto, BeganInto, Someone, AtRest, IsBlank, MadeDirty, times, claims_at, cleanings_at, total, one_if, tally, numbers, front, pairs_up_to, Raced, IsBegun, Going, start, beginning, start_of}
+use Rattle.g1_race_words.specs.Rule.{In, Held, histories_of, claims_of, cleanings_of, pairs_of, held_of, flagged_of, card_of, region_at, mark_word, Answers, IsMarked, IsShape, HasBit, IsNoted, StoredInto, BeganInto, Someone, AtRest, IsBlank, MadeDirty, times, claims_at, cleanings_at, total, one_if, tally, numbers, front, pairs_up_to, Raced, IsBegun, Going, start, beginning, start_of}
 use Rattle.g1_race_words.specs.Steps.{lighter, both, nothing}
 use Rattle.g1_race_words.proofs.Plain.{one_there, weigh_set, weigh_all}
 use Rattle.g1_race_words.proofs.PairBits.{crossing_pair}
@@ -43,6 +43,10 @@ module _ (k : Shape) (words : List ℕ) (views : List View) (h : Going k words v
 
   abbrev Few : View → Type 0
   Few v = v.spare ≤ v.weight
+
+  -- a frozen seat that has weight knows the words
+  pub known : (id : ℕ) (v : View) → get_elem? views id ≡ some v → 0 < v.weight → v.frozen ≡ true → words ≡ v.began_words
+  known id v at heavy e = let mine = h.agreed id v at heavy in h.still (sym mine.1 ∙ e) ∙ sym (ap (λ (b : Start). b.words) mine.0)
 
   -- a member's step
   pub going_step : (new : List ℕ) (id : ℕ) (v w : View) → get_elem? views id ≡ some v → 0 < v.weight → v.frozen ≡ false → w.weight ≡ v.weight → start_of w ≡ start_of v → w.frozen ≡ v.frozen → w.spare ≡ v.spare → Raced begun new (set views id w) → Going k new (set views id w)
@@ -131,7 +135,7 @@ module _ (k : Shape) (words : List ℕ) (views : List View) (id : ℕ) (v : View
   light seat u there ne = weigh_all views id seat v u at there ne (h.raced.weighed.0 ∙ sym all)
 
   pub known_words : v.frozen ≡ true → words ≡ v.began_words
-  known_words e = h.still (sym mine.1 ∙ e) ∙ sym (ap (λ (b : Start). b.words) mine.0)
+  known_words = known k words views h id v at (omega (arith, all, pos))
 
   -- nothing is held where the seat's new view holds nothing
   none_held : {A : Type 0} (f : View → List A) → ((u : View) → IsBlank u → f u ≡ []) → (w : View) → IsBlank w → (x : A) → Held f (set views id w) x → ⊥
@@ -181,6 +185,7 @@ module _ (k : Shape) (words : List ℕ) (views : List View) (id : ℕ) (v : View
         let e : claims_at c w ≡ 0 = ap (times c) still.2 in
         let f : cleanings_at c w ≡ 0 = ap (times c) still.3 in
         let g = same_word new (k.slots + k.cards) (mark_word k c) m n was is in omega (arith, x, y, e, f, g);
+    flagged = record { marked = b.flagged; known = λ c x. absurd (none_held flagged_of (λ u s. s.0.3) w still c x) };
   }
 
   pub going_anew : (new : List ℕ) (w : View) → IsBegun (start k new) → IsBlank w → w.weight ≡ k.members → w.spare ≡ k.members → start_of w ≡ start k new → Going k new (set views id w)
@@ -215,6 +220,7 @@ module _ (k : Shape) (words : List ℕ) (views : List View) (id : ℕ) (v : View
         (λ (i : BeganInto k (front k h.first) x). (i.0, i.1, i.3, i.4))
         (h.raced.recorded x a))
         (h.raced.kept.only x pair b);
+    flagged = h.raced.flagged.marked;
   }
     where
       mine_answers : (p n : ℕ) → Answers k v p n → In v.pairs (card_of k p, region_at k n)

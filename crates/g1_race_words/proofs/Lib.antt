@@ -7,7 +7,9 @@ pub mod CoverStores
 pub mod CoverSweeps
 pub mod Unchanged
 pub mod Keeping
+pub mod Flags
 pub mod Recording
+pub mod Raising
 pub mod Writing
 pub mod Marking
 pub mod Reading
@@ -16,4 +18,6 @@ pub mod Listing
 pub mod AtBeginning
 pub mod Going
 pub mod Allowed
+pub mod Flagging
 pub mod Calls
+pub mod Readers

@@ -7,12 +7,14 @@ use Rattle.atomic_table.proofs.Lists.{set_here, set_else}
 use Rattle.g1_race_words.specs.declared.view.Shape.{Shape}
 use Rattle.g1_race_words.specs.declared.view.View.{View}
 use Rattle.g1_race_words.specs.Begin.{Begun}
-use Rattle.g1_race_words.specs.Rule.{MadeDirty, mark_word, In, Held, claims_of, cleanings_of, claims_at, cleanings_at, one_if, times, total, Claimed, Counted, Raced}
-use Rattle.g1_race_words.specs.Steps.{looked, dirtied, cleaned}
+use Rattle.g1_race_words.specs.Rule.{MadeDirty, mark_word, flag, In, Held, claims_of, cleanings_of, claims_at, cleanings_at, one_if, times, total, Claimed, Counted, Raced}
+use Rattle.g1_race_words.specs.Steps.{looked, owed_card, dirtied, cleaned}
 use Rattle.g1_race_words.proofs.Plain.{put_here, read_at, read_is, total_set, SameHeld, held_on, held_back, held_same}
 use Rattle.g1_race_words.proofs.CoverStores.{covered_looked, covered_dirtied}
 use Rattle.g1_race_words.proofs.CoverSweeps.{covered_cleaned}
-use Rattle.g1_race_words.proofs.PairBits.{same_bits}
+use Rattle.g1_race_words.proofs.PairBits.{same_bits, bit_as}
+use Rattle.g1_race_words.proofs.Flags.{flags_stay, none_dirtied}
+use Rattle.g1_race_words.proofs.Raising.{flagged_dirtied}
 use Rattle.g1_race_words.proofs.Keeping.{kept_stays}
 use Rattle.g1_race_words.proofs.Tallies.{one_is, zero_is}
 use Rattle.g1_race_words.proofs.Unchanged.{weighed_step, numbers_stay, same_slots_at_mark, same_slots, bounded_same, Claim, made_on, claim_same, claimed_same, counted_stays, stores_stay, pairs_stay}
@@ -33,6 +35,7 @@ raced_looked begun words views id v c sits owes lt at h = let w = looked v (get_
   kept = kept_stays begun.shape begun.pairs words words views id v w at refl refl (λ x. refl) h.kept;
   claimed = claimed_same begun.shape begun.words words words views (set views id w) (λ c. refl) (held_same claims_of views id v w at refl) (held_same cleanings_of views id v w at refl) h.claimed;
   counted = counted_stays begun.shape begun.words words words views id v w at refl refl (λ c. refl) h.counted;
+  flagged = flags_stay begun.shape words words views id v w at refl (λ d below m. m) (λ d b. b) h.flagged;
 }
 
 -- a racer dirties the mark of the card that it owes
@@ -130,9 +133,9 @@ counted_dirtied k began words views id v c below short at marks h d first now lt
         let t = h d first now lt was (sym (set_else words (mark_word k c) (mark_word k d) 1 (λ x. ne (omega arith))) ∙ is) in
         let g : claims_at d w ≡ claims_at d v = times_other d c (eqb n 0) v.claims ne in omega (arith, a, b, g, t)
 
-pub raced_dirtied : (begun : Begun) (words : List ℕ) (views : List View) (id : ℕ) (v : View) (c : ℕ) → Sits begun.shape v → v.owed ≡ Some c → c < begun.shape.cards
+pub raced_dirtied : (begun : Begun) (words : List ℕ) (views : List View) (id : ℕ) (v : View) (c : ℕ) → Sits begun.shape v → v.owed ≡ Some c → v.flagged ≡ owed_card v.owed → c < begun.shape.cards
     → get_elem? views id ≡ some v → Raced begun words views → Raced begun (set words (mark_word begun.shape c) 1) (set views id (dirtied v c (get_or words (mark_word begun.shape c) 0)))
-raced_dirtied begun words views id v c sits owes lt at h = let n = get_or words (mark_word begun.shape c) 0 in let w = dirtied v c n in let new = set words (mark_word begun.shape c) 1 in let short : mark_word begun.shape c < length words = omega (arith, h.sized) in record {
+raced_dirtied begun words views id v c sits owes is lt at h = let n = get_or words (mark_word begun.shape c) 0 in let w = dirtied v c n in let new = set words (mark_word begun.shape c) 1 in let short : mark_word begun.shape c < length words = omega (arith, h.sized) in record {
   sized = length-set words (mark_word begun.shape c) 1 ∙ h.sized;
   bounded = bounded_same begun.shape words new (same_slots_at_mark begun.shape words c 1) h.bounded;
   covered = covered_dirtied begun.shape begun.pairs words views id v c n owes short at h.covered;
@@ -143,6 +146,7 @@ raced_dirtied begun words views id v c sits owes lt at h = let n = get_or words 
   kept = kept_stays begun.shape begun.pairs words new views id v w at refl refl (same_bits begun.shape words (mark_word begun.shape c) 1 (omega arith)) h.kept;
   claimed = claimed_dirtied begun.shape begun.words words views id v c short at h.claimed;
   counted = counted_dirtied begun.shape begun.words words views id v c lt short at h.claimed h.counted;
+  flagged = flagged_dirtied begun.shape words views id v c (get_or words (mark_word begun.shape c) 0) owes is lt at h.flagged;
 }
 
 -- a sweeper cleans a card
@@ -224,4 +228,6 @@ raced_cleaned begun words views id v c sits pos done lt at h = let n = get_or wo
   kept = kept_stays begun.shape begun.pairs words new views id v w at refl refl (same_bits begun.shape words (mark_word begun.shape c) 0 (omega arith)) h.kept;
   claimed = claimed_cleaned begun.shape begun.words words views id v c short at h.claimed;
   counted = counted_cleaned begun.shape begun.words words views id v c lt short at h.claimed h.counted;
+  flagged = flags_stay begun.shape words new views id v w at refl (none_dirtied begun.shape words c short)
+      (λ d. bit_as begun.shape words new (flag begun.shape d) (same_bits begun.shape words (mark_word begun.shape c) 0 (omega (arith, lt)))) h.flagged;
 }

@@ -21,18 +21,21 @@ crossing_pair k p n shaped lt le cr = (card_below k p shaped lt, (div-lt_iff_lt-
 
 -- the bits of all pairs have room, and no two pairs have one bit
 
+pub card_in_row : (k : Shape) (c : ℕ) → IsShape k → c < k.cards → c / 64 < k.row
+card_in_row k c shaped lt = let e : k.cards ≤ k.row * 64 = shaped.7 in omega arith
+
 pub in_row : (k : Shape) (x : ℕ × ℕ) → IsShape k → IsPair k x → x.0 / 64 < k.row
-in_row k x shaped pair = let c : ℕ = x.0 in let lt : c < k.cards = pair.0 in let e : k.cards ≤ k.row * 64 = shaped.7 in let goal : c / 64 < k.row = omega arith in goal
+in_row k x shaped pair = card_in_row k x.0 shaped pair.0
 
 pub word_below : (k : Shape) (x : ℕ × ℕ) → IsShape k → IsPair k x → bit_word k x < k.slots + k.cards + k.bits
 word_below k x shaped pair = let n : ℕ = x.0 / 64 in let r : ℕ = x.1 * k.row in let all : ℕ = k.row * k.regions in let same : ℕ = k.regions * k.row in
     let a : r + n < all = mul-add-lt x.1 k.row n k.regions pair.1 (in_row k x shaped pair) in let b : k.bits ≡ same = shaped.8 in let e : all ≡ same = omega arith in let goal : k.slots + k.cards + (r + n) < k.slots + k.cards + k.bits = omega arith in goal
 
-pub bit_apart : (k : Shape) (x y : ℕ × ℕ) → IsShape k → IsPair k x → IsPair k y → bit_word k x ≡ bit_word k y → bit_place k x ≡ bit_place k y → x ≡ y
+pub bit_apart : (k : Shape) (x y : ℕ × ℕ) → IsShape k → x.0 < k.cards → y.0 < k.cards → bit_word k x ≡ bit_word k y → bit_place k x ≡ bit_place k y → x ≡ y
 bit_apart k x y shaped px py e f =
     let low : x.1 * k.row + x.0 / 64 ≡ y.1 * k.row + y.0 / 64 = (let n : ℕ = x.1 * k.row + x.0 / 64 in let m : ℕ = y.1 * k.row + y.0 / 64 in let g : k.slots + k.cards + n ≡ k.slots + k.cards + m = e in let goal : n ≡ m = omega arith in goal) in
-    let regions : x.1 ≡ y.1 = sym (div-mul-add x.1 k.row (x.0 / 64) (in_row k x shaped px)) ∙ (ap (λ (n : ℕ). n / k.row) low ∙ div-mul-add y.1 k.row (y.0 / 64) (in_row k y shaped py)) in
-    let high : x.0 / 64 ≡ y.0 / 64 = sym (mod-mul-add x.1 k.row (x.0 / 64) (in_row k x shaped px)) ∙ (ap (λ (n : ℕ). n % k.row) low ∙ mod-mul-add y.1 k.row (y.0 / 64) (in_row k y shaped py)) in
+    let regions : x.1 ≡ y.1 = sym (div-mul-add x.1 k.row (x.0 / 64) (card_in_row k x.0 shaped px)) ∙ (ap (λ (n : ℕ). n / k.row) low ∙ div-mul-add y.1 k.row (y.0 / 64) (card_in_row k y.0 shaped py)) in
+    let high : x.0 / 64 ≡ y.0 / 64 = sym (mod-mul-add x.1 k.row (x.0 / 64) (card_in_row k x.0 shaped px)) ∙ (ap (λ (n : ℕ). n % k.row) low ∙ mod-mul-add y.1 k.row (y.0 / 64) (card_in_row k y.0 shaped py)) in
     let cards : x.0 ≡ y.0 = (let n : ℕ = x.0 in let m : ℕ = y.0 in let e' : n / 64 ≡ m / 64 = high in let f' : n % 64 ≡ m % 64 = f in let goal : n ≡ m = omega arith in goal) in
     λ i. (cards i, regions i)
 
@@ -81,7 +84,7 @@ module _ (k : Shape) (words : List ℕ) (x : ℕ × ℕ) where
       | inr ne ↦ other_word y ne ∙ h
     ]
 
-    pub bits_back : (y : ℕ × ℕ) → IsShape k → IsPair k x → IsPair k y → HasBit k with_pair y → HasBit k words y ⊎ (x ≡ y)
+    pub bits_back : (y : ℕ × ℕ) → IsShape k → x.0 < k.cards → y.0 < k.cards → HasBit k with_pair y → HasBit k words y ⊎ (x ≡ y)
     bits_back y shaped px py h = elim (cases_eq (bit_word k y) (bit_word k x)) [
       | inl e ↦ elim (cases_eq (bit_place k y) (bit_place k x)) [
         | inl f ↦ inr (bit_apart k x y shaped px py (sym e) (sym f))

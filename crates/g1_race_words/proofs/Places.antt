@@ -17,6 +17,19 @@ module _ {A : Type 0} where
   at_untake (x ∷ xs) (suc n) zero a e = (omega arith, e)
   at_untake (x ∷ xs) (suc n) (suc i) a e = let h = at_untake xs n i a e in let lt : i < n = h.0 in (omega arith, h.1)
 
+  pub take_at : (l : List A) (n i : ℕ) → i < n → get_elem? (take n l) i ≡ get_elem? l i
+  take_at l zero i lt = absurd (omega arith)
+  take_at [] (suc n) i lt = refl
+  take_at (x ∷ xs) (suc n) zero lt = refl
+  take_at (x ∷ xs) (suc n) (suc i) lt = take_at xs n i (omega arith)
+
+  pub take_same : (l m : List A) (n : ℕ) → ((i : ℕ) → i < n → get_elem? l i ≡ get_elem? m i) → take n l ≡ take n m
+  take_same l m zero h = refl
+  take_same [] [] (suc n) h = refl
+  take_same [] (y ∷ ys) (suc n) h = absurd (some-ne-none y (sym (h 0 (omega arith))))
+  take_same (x ∷ xs) [] (suc n) h = absurd (some-ne-none x (h 0 (omega arith)))
+  take_same (x ∷ xs) (y ∷ ys) (suc n) h = let a = some-injective x y (h 0 (omega arith)) in let b = take_same xs ys n (λ i lt. h (suc i) (omega arith)) in λ i. a i ∷ b i
+
   pub at_drop : (l : List A) (n i j : ℕ) (a : A) → j ≡ n + i → get_elem? l j ≡ some a → get_elem? (drop n l) i ≡ some a
   at_drop [] n i j a is e = absurd (some-ne-none a (sym e))
   at_drop (x ∷ xs) zero i j a is e = subst (λ (k : ℕ). get_elem? (x ∷ xs) k ≡ some a) (let f : j ≡ i = omega arith in f) e

@@ -11,6 +11,7 @@ use Rattle.g1_race_words.specs.Steps.{pair_at, read}
 use Rattle.g1_race_words.proofs.Plain.{in_either, read_at, true_is, false_is, held_back, held_same}
 use Rattle.g1_race_words.proofs.CoverSweeps.{covered_read}
 use Rattle.g1_race_words.proofs.Keeping.{kept_read}
+use Rattle.g1_race_words.proofs.Flags.{flags_stay}
 use Rattle.g1_race_words.proofs.Unchanged.{weighed_step, numbers_stay, same_slots, still_into, claimed_same, counted_stays, stores_stay}
 use Rattle.g1_race_words.specs.Seats.{Sits}
 
@@ -65,4 +66,5 @@ raced_read begun words views id v p sits free next lt at h = let w = read v p (g
   kept = kept_read begun.shape begun.pairs words views id v p (get_or words p 0) free at h.kept;
   claimed = claimed_same begun.shape begun.words words words views (set views id w) (λ c. refl) (held_same claims_of views id v w at refl) (held_same cleanings_of views id v w at refl) h.claimed;
   counted = counted_stays begun.shape begun.words words words views id v w at refl refl (λ c. refl) h.counted;
+  flagged = flags_stay begun.shape words words views id v w at refl (λ c below m. m) (λ c b. b) h.flagged;
 }

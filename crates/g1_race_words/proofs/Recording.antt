@@ -1,30 +1,28 @@
 -- A sweeper looks for the bit of the pair that it holds, and sets it.
-use Rattle.std.proofs.Common.{◌≡◌, ◌⊎◌, ℕ, ◌+◌, ◌*◌, ◌/◌, ◌<◌, cond, eqb, Bool, true, false, List, [], ◌∷◌, length, set, get_or, refl, sym, ◌∙◌, subst, inl, inr, ⊎_elim, arith, length-set, ne_eqb}
+use Rattle.std.proofs.Common.{◌≡◌, ◌⊎◌, ℕ, ◌<◌, cond, eqb, Bool, true, false, List, [], ◌∷◌, length, set, get_or, refl, sym, ◌∙◌, subst, inl, inr, ⊎_elim, arith, length-set, ne_eqb}
 use mathlib.Core.Option.{some}
 use native.Mathlib.Decide.{ℕ_discrete}
 use lib.ListN.{get_elem?}
 use Rattle.std.specs.Int.{bit_at}
-use Rattle.atomic_table.proofs.Lists.{set_else}
 use Rattle.g1_race_words.specs.declared.view.Shape.{Shape}
 use Rattle.g1_race_words.specs.declared.view.View.{View}
 use Rattle.g1_race_words.specs.Begin.{Begun}
-use Rattle.g1_race_words.specs.Rule.{card_of, mark_word, In, Held, claims_of, cleanings_of, pairs_of, held_of, IsShape, IsPair, HasBit, Kept, Raced, bit_word, bit_place}
+use Rattle.g1_race_words.specs.Rule.{card_of, mark_word, flag, In, Held, claims_of, cleanings_of, pairs_of, held_of, IsShape, IsPair, HasBit, Kept, Flagged, Raced, bit_word, bit_place, word_count}
 use Rattle.g1_race_words.specs.Steps.{unset, sought, recorded}
 use Rattle.g1_race_words.proofs.Plain.{held_back, held_same, false_is}
 use Rattle.g1_race_words.proofs.PairBits.{card_below, word_below, with_pair, bit_here, bits_stay, bits_back}
 use Rattle.g1_race_words.proofs.Cover.{covered_moves, others_pass}
 use Rattle.g1_race_words.proofs.Keeping.{noted_on, held_or}
+use Rattle.g1_race_words.proofs.Flags.{SameFront, flags_stay, front_stays}
 use Rattle.g1_race_words.proofs.Unchanged.{weighed_step, numbers_stay, bounded_same, stores_stay, pairs_stay, claim_same, counted_stays}
 use Rattle.g1_race_words.specs.Seats.{Sits}
 
--- the words of slots and marks stay, and what a seat holds changes
+-- the words of slots and marks stay, and what a seat holds changes, of pairs and of flags
 
-abbrev pub SameFront : Shape → List ℕ → List ℕ → Type 0
-SameFront k words new = (i : ℕ) → i < k.slots + k.cards → get_elem? new i ≡ get_elem? words i
-
-raced_held : (begun : Begun) (words new : List ℕ) (views : List View) (id : ℕ) (v : View) (l : List (ℕ × ℕ)) → IsShape begun.shape → Sits begun.shape v → length new ≡ length words → SameFront begun.shape words new → get_elem? views id ≡ some v
-    → Kept begun.shape begun.pairs new (set views id (record v { held = l })) → Raced begun words views → Raced begun new (set views id (record v { held = l }))
-raced_held begun words new views id v l shaped sits len front at kept h = record {
+pub raced_held : (begun : Begun) (words new : List ℕ) (views : List View) (id : ℕ) (v : View) (l : List (ℕ × ℕ)) (m : List ℕ) → IsShape begun.shape → Sits begun.shape v → length new ≡ length words → SameFront begun.shape words new → get_elem? views id ≡ some v
+    → Kept begun.shape begun.pairs new (set views id (record v { held = l; flagged = m })) → Flagged begun.shape new (set views id (record v { held = l; flagged = m }))
+    → Raced begun words views → Raced begun new (set views id (record v { held = l; flagged = m }))
+raced_held begun words new views id v l m shaped sits len front at kept flags h = record {
   sized = len ∙ h.sized;
   bounded = bounded_same k words new slots h.bounded;
   covered = covered_moves k begun.pairs words new views (set views id w) h.covered
@@ -37,13 +35,14 @@ raced_held begun words new views id v l shaped sits len front at kept h = record
   claimed = λ c lt. claim_same k begun.words words new views (set views id w) c (front (mark_word k c) (omega arith))
       (held_same claims_of views id v w at refl c).0 (held_same claims_of views id v w at refl c).1 (held_same cleanings_of views id v w at refl c).0 (h.claimed c lt);
   counted = λ c m n lt was is. counted_stays k begun.words words words views id v w at refl refl (λ d. refl) h.counted c m n lt was (sym (front (mark_word k c) (omega (arith, lt))) ∙ is);
+  flagged = flags;
 }
   where
     k : Shape
     k = begun.shape
 
     w : View
-    w = record v { held = l }
+    w = record v { held = l; flagged = m }
 
     slots : (p n : ℕ) → p < k.slots → get_elem? new p ≡ some n → get_elem? words p ≡ some n
     slots p n lt there = sym (front p (omega arith)) ∙ there
@@ -76,12 +75,13 @@ unset_back k n (x ∷ xs) y i = pick (eqb (bit_at n (bit_place k x)) 1) i (λ j.
 
 pub raced_sought : (begun : Begun) (words : List ℕ) (views : List View) (id : ℕ) (v : View) (x : ℕ × ℕ) → IsShape begun.shape → Sits begun.shape v → v.held ≡ x ∷ []
     → get_elem? views id ≡ some v → Raced begun words views → Raced begun words (set views id (sought v (get_or words (bit_word begun.shape x) 0)))
-raced_sought begun words views id v x shaped sits one at h = raced_held begun words words views id v w.held shaped sits refl (λ i lt. refl) at
+raced_sought begun words views id v x shaped sits one at h = raced_held begun words words views id v w.held v.flagged shaped sits refl (λ i lt. refl) at
     (record {
       has = λ y n. ⊎_elim (λ (b : HasBit k words y). inl b) (λ (a : Held held_of views y). held_or (HasBit k words y) views id v w y at (found y) a) (h.kept.has y (noted_on begun.pairs (set views id w) views (λ z. (same z).1) y n));
       only = λ y pair b. noted_on begun.pairs views (set views id w) (λ z. (same z).0) y (h.kept.only y pair b);
       read = λ y a. (same y).0 (⊎_elim (λ (b : Held held_of views y). h.kept.read y b) (λ (i : In w.held y). h.kept.read y (id, v, at, unset_back v.shape (get_or words (bit_word k x) 0) v.held y i)) (held_back held_of views id v w at y a));
-    }) h
+    })
+    (flags_stay k words words views id v w at refl (λ c lt m. m) (λ c b. b) h.flagged) h
   where
     k : Shape
     k = begun.shape
@@ -100,16 +100,17 @@ raced_sought begun words views id v x shaped sits one at h = raced_held begun wo
 
 pub raced_recorded : (begun : Begun) (words : List ℕ) (views : List View) (id : ℕ) (v : View) (x : ℕ × ℕ) → IsShape begun.shape → Sits begun.shape v → v.held ≡ x ∷ [] → IsPair begun.shape x
     → get_elem? views id ≡ some v → Raced begun words views → Raced begun (with_pair begun.shape words x) (set views id (recorded v))
-raced_recorded begun words views id v x shaped sits one pair at h = raced_held begun words new views id v [] shaped sits (length-set words (bit_word k x) _)
-    (λ i lt. set_else words (bit_word k x) i _ (λ e. let m : ℕ = x.1 * k.row + x.0 / 64 in let f : i ≡ k.slots + k.cards + m = e in absurd (omega arith))) at
+raced_recorded begun words views id v x shaped sits one pair at h = raced_held begun words new views id v [] v.flagged shaped sits (length-set words (bit_word k x) _)
+    front at
     (record {
       has = λ y n. ⊎_elim (λ (b : HasBit k words y). inl (bits_stay k words x short y b)) (λ (a : Held held_of views y). held_or (HasBit k new y) views id v w y at (λ i. inl (subst (HasBit k new) (only_held v.held x y one i) (bit_here k words x short))) a)
           (h.kept.has y (noted_on begun.pairs (set views id w) views (λ z. (same z).1) y n));
       only = λ y p b. ⊎_elim (λ (c : HasBit k words y). noted_on begun.pairs views (set views id w) (λ z. (same z).0) y (h.kept.only y p c))
           (λ (e : x ≡ y). inr ((same y).0 (h.kept.read y (id, v, at, subst (λ (l : List (ℕ × ℕ)). In l y) (sym one) (inl e)))))
-          (bits_back k words x short y shaped pair p b);
+          (bits_back k words x short y shaped pair.0 p.0 b);
       read = λ y a. (same y).0 (⊎_elim (λ (b : Held held_of views y). h.kept.read y b) (λ (i : In w.held y). absurd i) (held_back held_of views id v w at y a));
-    }) h
+    })
+    (flags_stay k words new views id v w at refl (λ c lt m. sym (front (mark_word k c) (omega (arith, lt))) ∙ m) (λ c. bits_stay k words x short (flag k c)) h.flagged) h
   where
     k : Shape
     k = begun.shape
@@ -121,7 +122,10 @@ raced_recorded begun words views id v x shaped sits one pair at h = raced_held b
     new = with_pair k words x
 
     short : bit_word k x < length words
-    short = subst (λ (n : ℕ). bit_word k x < n) (sym h.sized) (word_below k x shaped pair)
+    short = let e : length words ≡ word_count k = h.sized in omega (arith, e, word_below k x shaped pair)
+
+    front : SameFront k words new
+    front = front_stays k words x
 
     same : (z : ℕ × ℕ) → (Held pairs_of views z → Held pairs_of (set views id w) z) × (Held pairs_of (set views id w) z → Held pairs_of views z)
     same = held_same pairs_of views id v w at refl

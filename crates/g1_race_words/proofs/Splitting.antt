@@ -7,13 +7,14 @@ use Rattle.atomic_table.proofs.Lists.{at_set, at_snoc, at_longer}
 use Rattle.g1_race_words.specs.declared.view.Shape.{Shape}
 use Rattle.g1_race_words.specs.declared.view.View.{View}
 use Rattle.g1_race_words.specs.Begin.{Begun}
-use Rattle.g1_race_words.specs.Rule.{In, Held, History, histories_of, claims_of, cleanings_of, pairs_of, held_of, Covered, AtRest, IsBlank, weigh, one_if, tally, numbers, Weighed, Numbered, Raced, times, claims_at, cleanings_at, total}
+use Rattle.g1_race_words.specs.Rule.{In, Held, History, histories_of, claims_of, cleanings_of, pairs_of, held_of, flagged_of, Covered, AtRest, IsBlank, weigh, one_if, tally, numbers, Weighed, Numbered, Raced, times, claims_at, cleanings_at, total}
 use Rattle.g1_race_words.specs.Steps.{lighter, both}
 use Rattle.g1_race_words.proofs.Plain.{SameHeld, held_same, held_split, held_join, weigh_set, weigh_snoc, total_set, total_snoc}
 use Rattle.g1_race_words.proofs.Tallies.{tally_append, times_append, none_below}
 use Rattle.g1_race_words.proofs.Cover.{covered_moves}
 use Rattle.g1_race_words.proofs.CoverSweeps.{covered_split, covered_join}
 use Rattle.g1_race_words.proofs.Keeping.{kept_same}
+use Rattle.g1_race_words.proofs.Flags.{flags_moved}
 use Rattle.g1_race_words.proofs.Unchanged.{stored_same, same_slots, recorded_same, claimed_same, counted_same}
 
 -- a member's seat is split off from a seat that answers for nothing
@@ -54,9 +55,9 @@ total_join : (f : View → ℕ) (views : List View) (id : ℕ) (v w : View) (oth
     → total f (set (set views id w) other spent) ≡ total f views
 total_join f views id v w other u spent at there adds none = let a = total_set f views id v w at in let b = total_set f (set views id w) other u spent there in omega (arith, a, b, adds, none)
 
-pub raced_split : (begun : Begun) (words : List ℕ) (views : List View) (id : ℕ) (v right : View) → IsBlank v → 0 < v.weight → right.weight ≡ 1 → ((m : ℕ) → numbers m (lighter v) + numbers m right ≤ numbers m v) → ((h : History) → In right.histories h → h.1 ≡ []) → right.claims ≡ [] → right.cleanings ≡ [] → right.pairs ≡ [] → right.held ≡ []
+pub raced_split : (begun : Begun) (words : List ℕ) (views : List View) (id : ℕ) (v right : View) → IsBlank v → 0 < v.weight → right.weight ≡ 1 → ((m : ℕ) → numbers m (lighter v) + numbers m right ≤ numbers m v) → ((h : History) → In right.histories h → h.1 ≡ []) → right.claims ≡ [] → right.cleanings ≡ [] → right.pairs ≡ [] → right.held ≡ [] → right.flagged ≡ []
     → get_elem? views id ≡ some v → Raced begun words views → Raced begun words (set views id (lighter v) ++ right ∷ [])
-raced_split begun words views id v right still heavy one fewer fresh claims cleanings pairs held_none at h = let after = set views id (lighter v) ++ right ∷ [] in let held = held_split_blank views id v (lighter v) right at refl fresh in record {
+raced_split begun words views id v right still heavy one fewer fresh claims cleanings pairs held_none flag_none at h = let after = set views id (lighter v) ++ right ∷ [] in let held = held_split_blank views id v (lighter v) right at refl fresh in record {
   sized = h.sized;
   bounded = h.bounded;
   covered = covered_split begun.shape begun.pairs words views id v (lighter v) right at (λ q m a. a) h.covered;
@@ -68,6 +69,7 @@ raced_split begun words views id v right still heavy one fewer fresh claims clea
   claimed = claimed_same begun.shape begun.words words words views after (λ c. refl) (held_split claims_of views id v (lighter v) right at refl claims) (held_split cleanings_of views id v (lighter v) right at refl cleanings) h.claimed;
   counted = counted_same begun.shape begun.words words views after (λ c. total_split (claims_at c) views id v (lighter v) right at refl (ap (times c) claims))
       (λ c. total_split (cleanings_at c) views id v (lighter v) right at refl (ap (times c) cleanings)) h.counted;
+  flagged = flags_moved begun.shape words words views after (λ c lt m. m) (λ c b. b) (λ c. (held_split flagged_of views id v (lighter v) right at refl flag_none c).1) h.flagged;
 }
 
 -- a seat takes in a member's seat that is at rest
@@ -113,6 +115,8 @@ raced_join begun words views id v other u spent one rest still none given at apa
   claimed = claimed_same begun.shape begun.words words words views after (λ c. refl) (held_join claims_of views id v u w spent other at apart there refl still.2) (held_join cleanings_of views id v u w spent other at apart there refl still.3) h.claimed;
   counted = counted_same begun.shape begun.words words views after (λ c. total_join (claims_at c) views id v w other u spent at there (times_append c v.claims u.claims) (ap (times c) still.2))
       (λ c. total_join (cleanings_at c) views id v w other u spent at there (times_append c v.cleanings u.cleanings) (ap (times c) still.3)) h.counted;
+  flagged = flags_moved begun.shape words words views after (λ c lt m. m) (λ c b. b)
+      (λ c. (held_join flagged_of views id v u w spent other at apart there (sym (ap (λ (l : List ℕ). v.flagged ++ l) rest.3 ∙ append-nil v.flagged)) still.0.3 c).1) h.flagged;
 }
 
 -- a seat comes that answers for nothing
@@ -151,4 +155,5 @@ raced_enter begun words views w still light none h = let after = views ++ w ∷ 
   kept = kept_same begun.shape begun.pairs words words views after (λ x. refl) (held_more pairs_of views w still.4) (held_more held_of views w still.0.2) h.kept;
   claimed = claimed_same begun.shape begun.words words words views after (λ c. refl) (held_more claims_of views w still.2) (held_more cleanings_of views w still.3) h.claimed;
   counted = counted_same begun.shape begun.words words views after (λ c. total_more (claims_at c) views w (ap (times c) still.2)) (λ c. total_more (cleanings_at c) views w (ap (times c) still.3)) h.counted;
+  flagged = flags_moved begun.shape words words views after (λ c lt m. m) (λ c b. b) (λ c. (held_more flagged_of views w still.0.3 c).1) h.flagged;
 }

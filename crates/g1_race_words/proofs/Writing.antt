@@ -7,12 +7,13 @@ use Rattle.atomic_table.proofs.Lists.{at_set, set_else}
 use Rattle.g1_race_words.specs.declared.view.Shape.{Shape}
 use Rattle.g1_race_words.specs.declared.view.View.{View}
 use Rattle.g1_race_words.specs.Begin.{Begun}
-use Rattle.g1_race_words.specs.Rule.{BeganInto, mark_word, In, Held, History, histories_of, claims_of, cleanings_of, pairs_of, last_to, Stored, StoredInto, Recorded, Raced}
+use Rattle.g1_race_words.specs.Rule.{BeganInto, mark_word, flag, In, Held, History, histories_of, claims_of, cleanings_of, pairs_of, last_to, Stored, StoredInto, Recorded, Raced}
 use Rattle.g1_race_words.specs.Steps.{gained, wrote}
 use Rattle.g1_race_words.proofs.Plain.{put_here, one_there, true_is, false_is, held_back, held_same}
 use Rattle.g1_race_words.proofs.Tallies.{tally_gained}
 use Rattle.g1_race_words.proofs.CoverStores.{mark_apart, covered_wrote}
-use Rattle.g1_race_words.proofs.PairBits.{same_bits}
+use Rattle.g1_race_words.proofs.PairBits.{same_bits, bit_as}
+use Rattle.g1_race_words.proofs.Flags.{flags_stay}
 use Rattle.g1_race_words.proofs.Keeping.{kept_stays}
 use Rattle.g1_race_words.proofs.Unchanged.{weighed_step, numbered_step, same_numbers, bounded_wrote, claimed_same, counted_stays}
 use Rattle.g1_race_words.specs.Seats.{Sits}
@@ -111,4 +112,6 @@ raced_wrote begun words views id v p n mine sits free one lt fits at h = record 
   claimed = claimed_same begun.shape begun.words words (set words p n) views (set views id (wrote v p n)) (λ c. set_else words p (mark_word begun.shape c) n (mark_apart begun.shape p c lt))
       (held_same claims_of views id v (wrote v p n) at refl) (held_same cleanings_of views id v (wrote v p n) at refl) h.claimed;
   counted = counted_stays begun.shape begun.words words (set words p n) views id v (wrote v p n) at refl refl (λ c. set_else words p (mark_word begun.shape c) n (mark_apart begun.shape p c lt)) h.counted;
+  flagged = flags_stay begun.shape words (set words p n) views id v (wrote v p n) at refl (λ c below m. sym (set_else words p (mark_word begun.shape c) n (mark_apart begun.shape p c lt)) ∙ m)
+      (λ c. bit_as begun.shape words (set words p n) (flag begun.shape c) (same_bits begun.shape words p n (omega arith))) h.flagged;
 }

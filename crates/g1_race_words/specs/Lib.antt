@@ -2,3 +2,4 @@ pub mod Begin
 pub mod Rule
 pub mod Steps
 pub mod Seats
+pub mod Readers

@@ -2,7 +2,8 @@
 -- each other. Word p, below the number of slots, is 0 or one more than the slot that slot p refers
 -- to. The word of card c's mark comes c places after the slots' words. Behind the marks' words come
 -- those with a bit for each pair of a card and a region, which is 1 once the pair is recorded: a
--- row of words for each region, 64 cards to a word.
+-- row of words for each region, 64 cards to a word. One more row has a flag for each card, which is
+-- 1 wherever the card's mark is.
 use Rattle.std.specs.Prelude.{nat_lt, ◌≡◌, ◌⊎◌, ℕ, ◌+◌, ◌-◌, ◌*◌, ◌/◌, ◌%◌, ◌<◌, ◌≤◌, ◌^◌, slice_index, replicate, take, List, [], ◌∷◌, ◌++◌, length, zero, suc, Bool, true, false, not, ◌==◌, if◌then◌else◌, Option, Some, None}
 use Rattle.std.specs.Int.{bit_at}
 use mathlib.Core.Option.{some}
@@ -75,10 +76,28 @@ pairs_of v = v.pairs
 abbrev pub held_of : View → List (ℕ × ℕ)
 held_of v = v.held
 
+abbrev pub flagged_of : View → List ℕ
+flagged_of v = v.flagged
+
 -- the word stored last to slot p
 abbrev pub last_to : ℕ → List (ℕ × ℕ) → Option ℕ
 last_to p [] = None
 last_to p (x ∷ xs) = if x.0 == p then Some x.1 else last_to p xs
+
+-- how many words there are: of slots, of marks, of the pairs' bits and of the cards' flags
+abbrev pub word_count : Shape → ℕ
+word_count k = k.slots + k.cards + k.bits + k.row
+
+-- a card's flag: its bit in the row behind that of the last region
+abbrev pub flag : Shape → ℕ → ℕ × ℕ
+flag k c = (c, k.regions)
+
+abbrev pub IsFlagged : Shape → List ℕ → ℕ → Type 0
+IsFlagged k words c = HasBit k words (flag k c)
+
+-- each card whose mark is 1 has its flag set
+abbrev pub AreFlagged : Shape → List ℕ → Type 0
+AreFlagged k words = (c : ℕ) → c < k.cards → get_elem? words (mark_word k c) ≡ some 1 → IsFlagged k words c
 
 -- the seat answers for slot p, whose word is n: it owes the card, still has the slot to read, or
 -- has read the pair
@@ -96,9 +115,9 @@ Someone k views p n = (seat : ℕ) × (v : View) × (get_elem? views seat ≡ so
 abbrev pub Covered : Shape → List (ℕ × ℕ) → List ℕ → List View → Type 0
 Covered k known words views = (p n : ℕ) → p < k.slots → get_elem? words p ≡ some n → crosses k p n ≡ true → In known (card_of k p, region_at k n) ⊎ IsMarked k words p ⊎ Someone k views p n
 
--- at rest: nothing is owed, nothing is to be read and no pair is held
+-- at rest: nothing is owed, nothing is to be read, and neither a pair is held nor a flag
 abbrev pub AtRest : View → Type 0
-AtRest v = (v.owed ≡ None) × (v.next ≡ v.end) × (v.held ≡ [])
+AtRest v = (v.owed ≡ None) × (v.next ≡ v.end) × (v.held ≡ []) × (v.flagged ≡ [])
 
 abbrev pub IsBlank : View → Type 0
 IsBlank v = AtRest v × (v.histories ≡ []) × (v.claims ≡ []) × (v.cleanings ≡ []) × (v.pairs ≡ [])
@@ -168,6 +187,11 @@ pub record Kept (k : Shape) (known : List (ℕ × ℕ)) (words : List ℕ) (view
   pub only : (x : ℕ × ℕ) → IsPair k x → HasBit k words x → IsNoted known views x
   pub read : (x : ℕ × ℕ) → Held held_of views x → Held pairs_of views x
 
+-- each marked card has its flag set, and each card of which some seat knows it
+pub record Flagged (k : Shape) (words : List ℕ) (views : List View) : Type 0 where
+  pub marked : AreFlagged k words
+  pub known : (c : ℕ) → Held flagged_of views c → IsFlagged k words c
+
 -- the card was marked at the beginning
 abbrev pub BeganMarked : Shape → List ℕ → ℕ → Type 0
 BeganMarked k began c = get_elem? began (mark_word k c) ≡ some 1
@@ -202,7 +226,7 @@ Counted k began words views = (c first now : ℕ) → c < k.cards
     → total (claims_at c) views + first ≡ total (cleanings_at c) views + now
 
 pub record Raced (begun : Begun) (words : List ℕ) (views : List View) : Type 0 where
-  pub sized : length words ≡ begun.shape.slots + begun.shape.cards + begun.shape.bits
+  pub sized : length words ≡ word_count begun.shape
   pub bounded : Bounded begun.shape words
   pub covered : Covered begun.shape begun.pairs words views
   pub weighed : Weighed begun.shape views
@@ -212,6 +236,7 @@ pub record Raced (begun : Begun) (words : List ℕ) (views : List View) : Type 0
   pub kept : Kept begun.shape begun.pairs words views
   pub claimed : Claimed begun.shape begun.words words views
   pub counted : Counted begun.shape begun.words words views
+  pub flagged : Flagged begun.shape words views
 
 -- the pair is that of some reference that crosses regions
 abbrev pub IsOfCrossing : Shape → ℕ × ℕ → Type 0
@@ -223,14 +248,15 @@ abbrev pub IsShape : Shape → Type 0
 IsShape k = (k.slots ≡ k.cards * k.size) × (0 < k.size) × (0 < k.span) × (k.slots < 2 ^ 32) × (k.members < 2 ^ 32) × (0 < k.cards) × (k.slots ≡ k.regions * k.span) × (k.cards ≤ k.row * 64) × (k.bits ≡ k.regions * k.row) × (k.bits < 2 ^ 32)
 
 -- what a race can start with: words, with each slot that refers into another region covered by its
--- card's mark or its pair's bit, and no bit but those of such pairs
+-- card's mark or its pair's bit, no bit but those of such pairs, and the flags of marked cards set
 pub record IsBegun (s : Start) : Type 0 where
   pub shaped : IsShape s.shape
-  pub sized : length s.words ≡ s.shape.slots + s.shape.cards + s.shape.bits
+  pub sized : length s.words ≡ word_count s.shape
   pub bounded : Bounded s.shape s.words
   pub marks : (c : ℕ) → c < s.shape.cards → (get_elem? s.words (mark_word s.shape c) ≡ some 1) ⊎ (get_elem? s.words (mark_word s.shape c) ≡ some 0)
   pub covered : (p n : ℕ) → p < s.shape.slots → get_elem? s.words p ≡ some n → crosses s.shape p n ≡ true → HasBit s.shape s.words (card_of s.shape p, region_at s.shape n) ⊎ IsMarked s.shape s.words p
   pub proper : (x : ℕ × ℕ) → IsPair s.shape x → HasBit s.shape s.words x → IsOfCrossing s.shape x
+  pub flagged : AreFlagged s.shape s.words
 
 -- the words of the slots and of the marks among those of a table
 abbrev pub front : Shape → List ℕ → List ℕ
@@ -254,7 +280,7 @@ beginning s = record { shape = s.shape; words = front s.shape s.words; pairs = p
 
 -- all null, all clean, and no pair recorded
 abbrev pub null_of : Shape → Start
-null_of k = start k (replicate (k.slots + k.cards + k.bits) 0)
+null_of k = start k (replicate (word_count k) 0)
 
 -- what a view says of the last pause
 abbrev pub start_of : View → Start

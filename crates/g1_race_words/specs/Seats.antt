@@ -1,5 +1,5 @@
 -- What a seat at the words of a race must be for a step, and what the step at a pause tells it.
-use Rattle.std.specs.Prelude.{◌≡◌, ℕ, ◌<◌, List, [], ◌∷◌, Some, false}
+use Rattle.std.specs.Prelude.{◌≡◌, ℕ, ◌<◌, List, [], ◌∷◌, Some, true, false}
 use mathlib.Core.Option.{some}
 use lib.ListN.{get_elem?}
 use Rattle.atomic_table.specs.Table.{Me}
@@ -8,7 +8,7 @@ use Rattle.atomic_table.specs.declared.shared.Seat.{Seat}
 use Rattle.g1_race_words.specs.declared.view.Shape.{Shape}
 use Rattle.g1_race_words.specs.declared.view.View.{View}
 use Rattle.g1_race_words.specs.Begin.{Start}
-use Rattle.g1_race_words.specs.Rule.{IsBegun, IsPair, Raced, beginning, bit_word, mark_word, start, start_of}
+use Rattle.g1_race_words.specs.Rule.{IsBegun, IsPair, Raced, beginning, bit_word, flag, mark_word, start, start_of}
 use Rattle.g1_race_words.specs.Steps.{chair, iced}
 
 -- the words of a race: which table they are, and the shape of its heap
@@ -25,6 +25,10 @@ pub record Sits (k : Shape) (v : View) : Type 0 where
 -- the word is the mark of the card that the seat owes
 abbrev pub OwesMark : Shape → View → ℕ → Type 0
 OwesMark k v word = (card : ℕ) × (v.owed ≡ Some card) × (card < k.cards) × (word ≡ mark_word k card)
+
+-- the word has the flag of the card that the seat owes
+abbrev pub OwesFlag : Shape → View → ℕ → ℕ → Type 0
+OwesFlag k v card word = (v.owed ≡ Some card) × (card < k.cards) × (word ≡ bit_word k (flag k card))
 
 -- the word is the mark of some card
 abbrev pub IsMark : Shape → ℕ → Type 0
@@ -44,7 +48,8 @@ pub record IsPaused (z : TableId) (k : Shape) (s : Seat (Unit {0}) View) : Type 
   pub view : s.me ≡ (iced (start k s.me.0.began_words) k.members, [])
   pub begun : IsBegun (start k s.me.0.began_words)
 
--- a seat with all the weight learns the words, and what they are to the beginning of the race
+-- a seat with all the weight learns the words, and what they are to the beginning of the race; where
+-- it was frozen, they are those that it knew
 pub record Freezes (before after : Me (Unit {0}) View) : Type 0 where
   pub words : List ℕ
   pub views : List View
@@ -53,3 +58,4 @@ pub record Freezes (before after : Me (Unit {0}) View) : Type 0 where
   pub begun : IsBegun (start before.0.shape words)
   pub raced : Raced (beginning (start_of before.0)) words views
   pub mine : get_elem? views id ≡ some before.0
+  pub still : before.0.frozen ≡ true → words ≡ before.0.began_words

@@ -1,14 +1,14 @@
 -- What a seat's view is after each kind of step, and how views are cut in two and joined.
-use Rattle.std.specs.Prelude.{ℕ, ◌+◌, ◌-◌, ◌*◌, slice_set, List, [], ◌∷◌, ◌++◌, true, false, ◌==◌, if◌then◌else◌, Some, None}
+use Rattle.std.specs.Prelude.{ℕ, ◌+◌, ◌-◌, ◌*◌, slice_set, List, [], ◌∷◌, ◌++◌, true, false, ◌==◌, if◌then◌else◌, Option, Some, None}
 use Rattle.std.specs.Int.{bit_at}
 use Rattle.g1_race_words.specs.declared.view.Shape.{Shape}
 use Rattle.g1_race_words.specs.declared.view.View.{View}
 use Rattle.g1_race_words.specs.Begin.{Start}
-use Rattle.g1_race_words.specs.Rule.{card_of, region_at, bit_place, crosses, History, null_of, start_of}
+use Rattle.g1_race_words.specs.Rule.{card_of, region_at, bit_place, crosses, flag, History, null_of, start_of}
 
 -- a seat that answers for nothing
 abbrev pub blank : Start → ℕ → List History → View
-blank s weight histories = record { shape = s.shape; weight = weight; spare = 0; began_words = s.words; frozen = false; histories = histories; owed = None; claims = []; next = 0; end = 0; swept = []; cleanings = []; pairs = []; held = [] }
+blank s weight histories = record { shape = s.shape; weight = weight; spare = 0; began_words = s.words; frozen = false; histories = histories; owed = None; claims = []; next = 0; end = 0; swept = []; cleanings = []; pairs = []; held = []; flagged = [] }
 
 -- the seat of a pause that ends, which has the weight and the numbers of all that are still to come
 abbrev pub chair : Start → ℕ → View
@@ -39,9 +39,27 @@ wrote v p n = record v { histories = gained p n v.histories; owed = if crosses v
 abbrev pub looked : View → ℕ → View
 looked v n = record v { owed = if n == 1 then None else v.owed }
 
+-- the card that is owed
+abbrev pub owed_card : Option ℕ → List ℕ
+owed_card None = []
+owed_card (Some c) = c ∷ []
+
+-- those of the cards whose flag is set where its word is n
+abbrev pub set_flags : Shape → ℕ → List ℕ → List ℕ
+set_flags k n [] = []
+set_flags k n (c ∷ cs) = if bit_at n (bit_place k (flag k c)) == 1 then c ∷ set_flags k n cs else set_flags k n cs
+
+-- a racer finds n at the word with the flag of the card that it owes
+abbrev pub spotted : View → ℕ → View
+spotted v n = record v { flagged = set_flags v.shape n (owed_card v.owed) }
+
+-- a racer has set the flag of the card that it owes
+abbrev pub raised : View → View
+raised v = record v { flagged = owed_card v.owed }
+
 -- a racer swaps 1 to the mark of the card c that it owes, and finds n
 abbrev pub dirtied : View → ℕ → ℕ → View
-dirtied v c n = record v { owed = None; claims = if n == 0 then c ∷ v.claims else v.claims }
+dirtied v c n = record v { owed = None; claims = if n == 0 then c ∷ v.claims else v.claims; flagged = [] }
 
 -- a sweeper swaps 0 to the mark of card c, finds n, and has the card's slots to read
 abbrev pub cleaned : View → ℕ → ℕ → View

@@ -14,9 +14,13 @@
 //!   ([`RaceTable::read`]).
 //! - A sweeper looks for the bit of a pair ([`RaceTable::seek`]) and sets it
 //!   ([`RaceTable::record`]).
+//! - A racer looks for the flag of the card that it owes ([`RaceTable::spot`]) and sets it
+//!   ([`RaceTable::raise`]), before it swaps the mark: so each dirty card has its flag set.
 //! - The seats are split and joined, with no word read for it or written.
 //! - At a pause the one seat that has the weight of all members learns the words, reads and writes
 //!   them, and lets them change again.
+//! - It may give shares of what it knows to readers ([`RaceTable::split_reader`]), each of which
+//!   reads words ([`RaceTable::see`]). They join it again before a word changes.
 //!
 //! So of steps on a slot's word or a mark there are just the first five kinds while mutators run.
 //! Each is one atomic instruction, waits for nobody and takes no memory.
@@ -26,6 +30,7 @@ mod pausing;
 mod racing;
 mod rule;
 mod seats;
+mod sharing;
 mod sweeping;
 mod table;
 mod view;

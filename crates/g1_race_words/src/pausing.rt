@@ -1,8 +1,6 @@
 //! The steps of a pause, by the one seat that has the weight of all members.
-ghost use Rattle.std.specs.Prelude.{◌≡◌, ◌+◌, ◌<◌, slice_set};
-ghost use mathlib.Core.Option.{some};
-ghost use lib.ListN.{get_elem?};
-ghost use Rattle.g1_race_words.specs.Rule.{AtRest, IsBegun, start};
+ghost use Rattle.std.specs.Prelude.{◌≡◌, ◌<◌, slice_set};
+ghost use Rattle.g1_race_words.specs.Rule.{AtRest, IsBegun, start, word_count};
 ghost use Rattle.g1_race_words.specs.Steps.{thawed};
 ghost use Rattle.g1_race_words.specs.Seats.{Freezes, IsPaused};
 
@@ -25,17 +23,6 @@ impl Play<(), View> for Thaws {
     ghost use Rattle.g1_race_words.specs.Steps.{thawed};
 
     ghost then = { λ step before found after. after ≡ (thawed before.0, before.1) };
-}
-
-pub(crate) struct Sees;
-
-impl Play<(), View> for Sees {
-    ghost use Rattle.std.specs.Prelude.{◌≡◌};
-    ghost use mathlib.Core.Option.{some};
-    ghost use lib.ListN.{get_elem?};
-
-    ghost then = { λ step before found after.
-        (after ≡ before) × (get_elem? before.0.began_words step.word ≡ some found) };
 }
 
 pub(crate) struct Sets;
@@ -70,21 +57,11 @@ impl RaceTable {
         self.table.shared.load::<Thaws>(&mut seat.seat, 0);
     }
 
-    /// Reads a word at a pause, which is what the seat knows it to be.
-    pub fn see(&self, seat: &mut Place, word: usize) -> u64
-        requires seat { IsPaused self.now.table_id self.now.shape seat.old }
-        requires word { word < self.now.shape.slots + self.now.shape.cards + self.now.shape.bits }
-        ensures word { get_elem? seat.old.me.0.began_words word ≡ some result }
-        ensures seat { (seat.new.table_id ≡ seat.old.table_id) × (seat.new.me ≡ seat.old.me) }
-    {
-        self.table.shared.load::<Sees>(&mut seat.seat, word)
-    }
-
     /// Writes a word at a pause, and nothing else, where the words are still what a race can begin
     /// with.
     pub fn put(&self, seat: &mut Place, word: usize, new: u64)
         requires seat { IsPaused self.now.table_id self.now.shape seat.old }
-        requires word { word < self.now.shape.slots + self.now.shape.cards + self.now.shape.bits }
+        requires word { word < word_count self.now.shape }
         requires begun { IsBegun
             (start self.now.shape (slice_set seat.old.me.0.began_words word new)) }
         ensures seat { IsPaused self.now.table_id self.now.shape seat.new }

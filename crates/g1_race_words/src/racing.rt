@@ -1,8 +1,8 @@
 //! The steps of a racer.
-ghost use Rattle.std.specs.Prelude.{◌≡◌, ◌-◌, ◌<◌, ◌≤◌, [], ◌∷◌, None};
-ghost use Rattle.g1_race_words.specs.Rule.{History};
-ghost use Rattle.g1_race_words.specs.Steps.{wrote, looked, dirtied};
-ghost use Rattle.g1_race_words.specs.Seats.{Sits, OwesMark};
+ghost use Rattle.std.specs.Prelude.{◌≡◌, ℕ, ◌-◌, ◌<◌, ◌≤◌, [], ◌∷◌, None};
+ghost use Rattle.g1_race_words.specs.Rule.{History, bit_place, flag};
+ghost use Rattle.g1_race_words.specs.Steps.{wrote, looked, spotted, raised, owed_card, dirtied};
+ghost use Rattle.g1_race_words.specs.Seats.{Sits, OwesMark, OwesFlag};
 
 use crate::table::{Place, RaceTable};
 use crate::view::View;
@@ -25,6 +25,24 @@ impl Play<(), View> for Looks {
     ghost use Rattle.g1_race_words.specs.Steps.{looked};
 
     ghost then = { λ step before found after. after ≡ (looked before.0 found, before.1) };
+}
+
+pub(crate) struct Spots;
+
+impl Play<(), View> for Spots {
+    ghost use Rattle.std.specs.Prelude.{◌≡◌};
+    ghost use Rattle.g1_race_words.specs.Steps.{spotted};
+
+    ghost then = { λ step before found after. after ≡ (spotted before.0 found, before.1) };
+}
+
+pub(crate) struct Raises;
+
+impl Play<(), View> for Raises {
+    ghost use Rattle.std.specs.Prelude.{◌≡◌};
+    ghost use Rattle.g1_race_words.specs.Steps.{raised};
+
+    ghost then = { λ step before found after. after ≡ (raised before.0, before.1) };
 }
 
 pub(crate) struct Dirties;
@@ -67,12 +85,41 @@ impl RaceTable {
         self.table.shared.load::<Looks>(&mut seat.seat, mark)
     }
 
-    /// A racer swaps the mark of the card that it owes to dirty, and owes it no more. Returns the
-    /// mark as it was: where it was clean, the racer has claimed the card.
+    /// A racer looks at the word with the flag of the card that it owes, and then knows the flag to
+    /// be set where it is. Returns the word. It touches no slot and no mark.
+    pub fn spot(&self, seat: &mut Place, word: usize) -> u64
+        requires table { seat.old.table_id ≡ self.now.table_id }
+        requires racer { Sits self.now.shape seat.old.me.0 }
+        requires flag { (card : ℕ) × OwesFlag self.now.shape seat.old.me.0 card word }
+        ensures table { seat.new.table_id ≡ seat.old.table_id }
+        ensures view { seat.new.me ≡ (spotted seat.old.me.0 result, seat.old.me.1) }
+    {
+        self.table.shared.load::<Spots>(&mut seat.seat, word)
+    }
+
+    /// A racer sets the flag of the card that it owes, and knows it to be set. It touches no slot
+    /// and no mark.
+    pub fn raise(&self, seat: &mut Place, word: usize, place: u32)
+        requires table { seat.old.table_id ≡ self.now.table_id }
+        requires racer { Sits self.now.shape seat.old.me.0 }
+        requires flag { (card : ℕ) × OwesFlag self.now.shape seat.old.me.0 card word
+            × (place ≡ bit_place self.now.shape (flag self.now.shape card)) }
+        ensures table { seat.new.table_id ≡ seat.old.table_id }
+        ensures view { seat.new.me ≡ (raised seat.old.me.0, seat.old.me.1) }
+    {
+        self.table
+            .shared
+            .fetch_or::<Raises>(&mut seat.seat, word, 1 << place);
+    }
+
+    /// A racer swaps the mark of the card that it owes to dirty, and owes it no more. It knows the
+    /// card's flag to be set before. Returns the mark as it was: where it was clean, the racer has
+    /// claimed the card.
     pub fn dirty(&self, seat: &mut Place, mark: usize) -> u64
         requires table { seat.old.table_id ≡ self.now.table_id }
         requires racer { Sits self.now.shape seat.old.me.0 }
         requires mark { OwesMark self.now.shape seat.old.me.0 mark }
+        requires flag { seat.old.me.0.flagged ≡ owed_card seat.old.me.0.owed }
         ensures table { seat.new.table_id ≡ seat.old.table_id }
         ensures view { seat.new.me
             ≡ (dirtied seat.old.me.0 (mark - seat.old.me.0.shape.slots) result, seat.old.me.1) }

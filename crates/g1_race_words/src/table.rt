@@ -1,7 +1,7 @@
 //! The table of words and a seat at it: how they begin, and how they end.
-ghost use Rattle.std.specs.Prelude.{◌≡◌, ◌+◌, ◌<◌, [], IfOk};
+ghost use Rattle.std.specs.Prelude.{◌≡◌, ◌<◌, [], IfOk};
 ghost use Rattle.std.specs.Slots.{slots_items, slots_len, IsFull};
-ghost use Rattle.g1_race_words.specs.Rule.{IsShape, null_of};
+ghost use Rattle.g1_race_words.specs.Rule.{IsShape, null_of, word_count};
 ghost use Rattle.g1_race_words.specs.Steps.{iced};
 ghost use Rattle.g1_race_words.specs.Seats.{IsPaused};
 
@@ -11,8 +11,8 @@ use atomic_table::{Closed, Seat, Table};
 use std::alloc::{AllocError, Global};
 use std::marker::Model;
 
-/// The words of a race: one for each slot, one for each card's mark, and a row of bits for each
-/// region. Threads share it by `&`.
+/// The words of a race: one for each slot, one for each card's mark, a row of bits for each region,
+/// and a row of flags, one for each card. Threads share it by `&`.
 ///
 /// Its model is which table it is, and the shape of its heap.
 #[derive(Drop)]
@@ -21,16 +21,15 @@ pub struct RaceTable {
 }
 
 impl Model for RaceTable {
-    ghost use Rattle.std.specs.Prelude.{◌≡◌, ◌+◌, ◌<◌};
-    ghost use Rattle.g1_race_words.specs.Rule.{IsShape};
+    ghost use Rattle.std.specs.Prelude.{◌≡◌, ◌<◌};
+    ghost use Rattle.g1_race_words.specs.Rule.{IsShape, word_count};
     ghost use Rattle.g1_race_words.specs.Seats.{Words};
 
     ghost Value = { Words };
 
     ghost view = { λ a. record { table_id = a.table.shared.table_id; shape = a.table.shared.key } };
 
-    ghost invariant = { λ a. (a.table.shared.table_id.words
-        ≡ a.table.shared.key.slots + a.table.shared.key.cards + a.table.shared.key.bits)
+    ghost invariant = { λ a. (a.table.shared.table_id.words ≡ word_count a.table.shared.key)
         × (a.table.shared.table_id.slots ≡ 0)
         × IsShape a.table.shared.key × (0 < a.table.shared.key.members) };
 }
@@ -66,7 +65,7 @@ impl RaceTable {
         ensures seat { IfOk result (λ r. IsPaused r.0.table_id shape r.1) }
         ensures words { IfOk result (λ r. r.1.me ≡ (iced (null_of shape) shape.members, [])) }
     {
-        let zeros = vec![in alloc; 0u64; shape.slots + shape.cards + shape.bits]?;
+        let zeros = vec![in alloc; 0u64; shape.slots + shape.cards + shape.bits + shape.row]?;
         let (table, seat) = Table::of_words(alloc, &zeros, &shape)?;
         Ok((RaceTable { table }, Place { seat }))
     }
@@ -76,8 +75,7 @@ impl RaceTable {
         requires seat { IsPaused self.table_id self.shape seat }
         ensures words { slots_items result.words ≡ seat.me.0.began_words }
         ensures full { IsFull result.words }
-        ensures len { slots_len result.words
-            ≡ self.shape.slots + self.shape.cards + self.shape.bits }
+        ensures len { slots_len result.words ≡ word_count self.shape }
         ensures none { slots_len result.slots ≡ 0 }
     {
         let RaceTable { table } = self;

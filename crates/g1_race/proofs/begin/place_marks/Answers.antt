@@ -4,16 +4,12 @@ use Rattle.atomic_table.specs.declared.shared.Seat.{Seat}
 use Rattle.g1_race_words.specs.declared.view.View.{View}
 use Rattle.g1_race.specs.Resumed.{AreMarked}
 use Rattle.g1_race_words.specs.Seats.{IsPaused}
-use Rattle.g1_race.proofs.AtPause.{begun_marked}
-use Rattle.g1_race.proofs.Placing.{marked_none, marked_next, marked_past, marked_less}
+use Rattle.g1_race.proofs.Placing.{marked_flag, marked_none, marked_next, marked_past, marked_less}
 use Rattle.g1_race.proofs.begin.place_marks.Goals.{then-is_pending, else-is_pending}
 use Rattle.g1_race.proofs.begin.place_marks.Goals as goal
 
 pub loop-number-init : goal.loop-number-init
 loop-number-init c = record { below = omega arith; seat = c.requires.seat; marks = marked_none _ _ _ }
-
-pub put-requires-clause-begun : goal.put-requires-clause-begun
-put-requires-clause-begun c = begun_marked c.args.race.now.shape c.loop-number.seat.me.0.began_words c.loop-number.number c.loop-number-test.true c.loop-number.invariant.seat.begun
 
 pub loop-number-preserved : goal.loop-number-preserved
 loop-number-preserved c =
@@ -30,8 +26,9 @@ loop-number-preserved c =
       | then-is_pending w ↦ subst (λ (s : Seat (Unit {0}) View). record { below : n + 1 ≤ k.cards; seat : IsPaused z k s; marks : AreMarked k t old s.me.0.began_words (n + 1) }) (sym w.seat-is)
           (record {
             below = omega (arith, lt);
-            seat = w.put.ensures.seat;
-            marks = subst (λ (l : List ℕ). AreMarked k t old l (n + 1)) (sym w.put.ensures.words) (marked_next k t old mid n lt (omega (arith, i.seat.begun.sized)) (sym flag ∙ w.if-is_pending.true) i.marks);
+            seat = w.dirty.ensures.seat;
+            marks = let d = w.dirty.ensures.dirtied in subst (λ (l : List ℕ). AreMarked k t old l (n + 1)) (sym d.marked)
+                (marked_next k t old d.mid n lt (omega (arith, d.begun.sized)) (sym flag ∙ w.if-is_pending.true) (marked_flag k t old mid d.mid n n d.flagged i.marks));
           })
       | else-is_pending w ↦ subst (λ (s : Seat (Unit {0}) View). record { below : n + 1 ≤ k.cards; seat : IsPaused z k s; marks : AreMarked k t old s.me.0.began_words (n + 1) }) (sym w.seat-is)
           (record {

@@ -17,14 +17,20 @@ item xs i x lt e = at_read xs i x lt ∙ ap (λ (y : ℕ × ℕ). some y) (sym e
 among : (xs : List (ℕ × ℕ)) (i : ℕ) (x : ℕ × ℕ) → i < length xs → x ≡ get_or xs i x → In xs x
 among xs i x lt e = contains_in xs x (i, lt, sym e)
 
-pub set_bit-requires-clause-pair : goal.set_bit-requires-clause-pair
-set_bit-requires-clause-pair c =
+pub set_bit-requires-clause-card : goal.set_bit-requires-clause-card
+set_bit-requires-clause-card c =
     let x = c.pair-item.result in
     let pair = (c.requires.pairs x (among c.args.pairs.now c.loop-pair.pair-index x c.loop-pair-test.true c.pair-item.is)).0 in
-    (omega (arith, c.number.ensures, pair.0), omega (arith, c.number-in-loop-pair.ensures, pair.1))
+    omega (arith, c.number.ensures, pair.0)
+
+pub set_bit-requires-clause-row : goal.set_bit-requires-clause-row
+set_bit-requires-clause-row c =
+    let x = c.pair-item.result in
+    let pair = (c.requires.pairs x (among c.args.pairs.now c.loop-pair.pair-index x c.loop-pair-test.true c.pair-item.is)).0 in
+    omega (arith, c.number-in-loop-pair.ensures, pair.1)
 
 pub set_bit-requires-clause-proper : goal.set_bit-requires-clause-proper
-set_bit-requires-clause-proper c =
+set_bit-requires-clause-proper c low =
     let x = c.pair-item.result in
     let same : (c.number.result, c.number-in-loop-pair.result) ≡ x = λ i. (c.number.ensures i, c.number-in-loop-pair.ensures i) in
     subst (IsOfCrossing c.args.race.now.shape) (sym same) (c.requires.pairs x (among c.args.pairs.now c.loop-pair.pair-index x c.loop-pair-test.true c.pair-item.is)).1

@@ -1,15 +1,19 @@
-use Rattle.std.proofs.Common.{ℕ, List, sym, ap, subst, arith}
-use Rattle.g1_race.specs.Refining.{IsRefined, AreRefined}
+use Rattle.std.proofs.Common.{◌≡◌, ℕ, List, ap, subst, arith}
+use mathlib.Core.Option.{some}
+use lib.ListN.{get_elem?}
+use Rattle.g1_race_words.specs.Rule.{mark_word}
+use Rattle.g1_race.specs.Clearing.{IsEmptied}
+use Rattle.g1_race.specs.Refining.{IsRefined}
+use Rattle.g1_race_words.proofs.AtBeginning.{never_both}
+use Rattle.g1_race.proofs.ClearWords.{none_behind}
 use Rattle.g1_race.proofs.AtPause.{paused_same}
 use Rattle.g1_race.proofs.NextCards.{marked_word, unmarked_word}
 use Rattle.g1_race.proofs.PauseWords.{refined_none, refined_next, refined_past}
+use Rattle.g1_race.proofs.FlagWords.{refined_emptied}
 use Rattle.g1_race.proofs.drain.refine_cards.Goals as goal
 
 pub loop-card-init : goal.loop-card-init
 loop-card-init c = record { seat = c.requires.seat; within = omega arith; refined = refined_none _ _ }
-
-pub next_marked-requires : goal.next_marked-requires
-next_marked-requires c = c.loop-card.invariant.seat
 
 pub refine_card-requires-clause-seat : goal.refine_card-requires-clause-seat
 refine_card-requires-clause-seat c = paused_same _ _ c.loop-card.seat c.next_marked.new.seat c.next_marked.ensures.seat.0 c.next_marked.ensures.seat.1 c.loop-card.invariant.seat
@@ -32,8 +36,19 @@ loop-card-preserved c =
           (subst (λ (l : List ℕ). IsRefined k l new n) same c.refine_card.ensures.refined);
     }
 
-pub returns-clause-seat : goal.returns-clause-seat
-returns-clause-seat c = paused_same _ _ c.loop-card.seat c.next_marked.new.seat c.next_marked.ensures.seat.0 c.next_marked.ensures.seat.1 c.loop-card.invariant.seat
+pub empty_row-requires-clause-seat : goal.empty_row-requires-clause-seat
+empty_row-requires-clause-seat c = paused_same _ _ c.loop-card.seat c.next_marked.new.seat c.next_marked.ensures.seat.0 c.next_marked.ensures.seat.1 c.loop-card.invariant.seat
+
+pub empty_row-requires-clause-none : goal.empty_row-requires-clause-none
+empty_row-requires-clause-none c p = none_behind c.args.race.now.shape c.next_marked.new.seat.me.0.began_words p (paused_same _ _ c.loop-card.seat c.next_marked.new.seat c.next_marked.ensures.seat.0 c.next_marked.ensures.seat.1 c.loop-card.invariant.seat).begun
+
+pub empty_row-requires-clause-clean : goal.empty_row-requires-clause-clean
+empty_row-requires-clause-clean c e d lt at =
+    let k = c.args.race.now.shape in
+    let i = c.loop-card.invariant in
+    let mid = c.loop-card.seat.me.0.began_words in
+    let refined = refined_past k c.args.seat.now.me.0.began_words mid c.loop-card.from k.cards i.seat.begun i.within (λ f le up below m. unmarked_word k mid f (c.in_default.ensures.next f le up) m) i.refined in
+    never_both mid (mark_word k d) (refined.clean d lt lt) (subst (λ (l : List ℕ). get_elem? l (mark_word k d) ≡ some 1) (ap (λ m. m.0.began_words) c.next_marked.ensures.seat.1) at)
 
 pub returns-clause-refined : goal.returns-clause-refined
 returns-clause-refined c =
@@ -41,5 +56,6 @@ returns-clause-refined c =
     let i = c.loop-card.invariant in
     let old = c.args.seat.now.me.0.began_words in
     let mid = c.loop-card.seat.me.0.began_words in
-    subst (λ (l : List ℕ). AreRefined k old l k.cards) (sym (ap (λ m. m.0.began_words) c.next_marked.ensures.seat.1))
-    (refined_past k old mid c.loop-card.from k.cards i.seat.begun i.within (λ d le lt below at. unmarked_word k mid d (c.in_default.ensures.next d le lt) at) i.refined)
+    let new = c.empty_row.new.seat.me.0.began_words in
+    let refined = refined_past k old mid c.loop-card.from k.cards i.seat.begun i.within (λ d le lt below at. unmarked_word k mid d (c.in_default.ensures.next d le lt) at) i.refined in
+    refined_emptied k old mid new k.cards refined (subst (λ (l : List ℕ). IsEmptied k l new k.regions k.row) (ap (λ m. m.0.began_words) c.next_marked.ensures.seat.1) c.empty_row.ensures.emptied)

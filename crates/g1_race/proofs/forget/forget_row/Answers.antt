@@ -9,9 +9,6 @@ use Rattle.g1_race.proofs.forget.forget_row.Goals as goal
 pub loop-card-init : goal.loop-card-init
 loop-card-init c = record { seat = c.requires.seat; low = omega arith; within = c.requires.within.0; unset = row_none _ _ _ _ }
 
-pub next_member-requires-clause-seat : goal.next_member-requires-clause-seat
-next_member-requires-clause-seat c = c.loop-card.invariant.seat
-
 pub returns-then-card-end-clause-seat : goal.returns-then-card-end-clause-seat
 returns-then-card-end-clause-seat c = paused_same _ _ c.loop-card.seat c.next_member.new.seat c.next_member.ensures.seat.0 c.next_member.ensures.seat.1 c.loop-card.invariant.seat
 

@@ -30,7 +30,7 @@ returns-then-slot-shape-clause-moved c =
     subst (λ (ws : List ℕ). AreMoved k old ws r to p 1) (sym c.put.ensures.words) (moved_one k old old r to p n begun begun [] (notes_same k old old [] refl (λ x i. absurd i)) c.requires.slot c.requires.to c.requires.word into (λ ne. absurd (ne c.if-slot-shape.true)) (λ x i. absurd i))
 
 pub set_bit-requires-clause-proper : goal.set_bit-requires-clause-proper
-set_bit-requires-clause-proper c =
+set_bit-requires-clause-proper c low =
     let k = c.args.race.now.shape in
     let old = c.args.seat.now.me.0.began_words in
     let p = c.args.slot in

@@ -1,7 +1,6 @@
 use Rattle.std.proofs.Common.{◌≡◌, ◌/◌, ◌+◌, ◌<◌, ◌≤◌, ℕ, true, false, List, set, ap, sym, ◌∙◌, subst, inr, arith}
 use mathlib.Core.Option.{some, some-injective}
 use lib.ListN.{get_elem?}
-use Rattle.atomic_table.proofs.Lists.{set_here}
 use Rattle.g1_layout.specs.declared.kind.Kind.TheVariants.{SameRegion, Null, AlreadyDirty, Logged}
 use Rattle.g1_layout.specs.Shape.{slot_count}
 use Rattle.g1_race_words.specs.declared.view.Shape.{Shape}
@@ -10,8 +9,9 @@ use Rattle.g1_race.specs.Race.{word_of}
 use Rattle.g1_race.specs.Over.{Halt, ended, halted, table_of}
 use Rattle.g1_race.proofs.StoreCalls.{word_fits}
 use Rattle.g1_race_words.proofs.PairBits.{card_below}
-use Rattle.g1_race.proofs.AtPause.{begun_marked, begun_placed}
-use Rattle.g1_race.proofs.PauseStores.{kind_clean, kind_dirty, kind_null, kind_same, logged_store, quiet_store, store_step}
+use Rattle.g1_race.proofs.AtPause.{begun_placed}
+use Rattle.g1_race.proofs.FlagStores.{dirtied_here, dirtied_store}
+use Rattle.g1_race.proofs.PauseStores.{kind_dirty, kind_null, kind_same, quiet_store, store_step}
 use Rattle.g1_race.proofs.paused.Paused.store.Goals as goal
 
 pub put-requires-clause-begun : goal.put-requires-clause-begun
@@ -104,7 +104,7 @@ put-requires-then-see-eq1-clause-begun c =
     let fits : word_of target ≤ k.slots = omega (arith, slots, word_fits target (slot_count c.args.self.now.layout) c.requires.target) in
     let across : crosses k c.args.slot (word_of target) ≡ c.crosses-across.result = ap (λ (x : Shape). crosses x c.args.slot (word_of target)) race.laid ∙ sym c.crosses-across.ensures in
     let cr : crosses k c.args.slot (word_of target) ≡ true = across ∙ c.if-not-across.false in
-    let card : c.number.result ≡ card_of k c.args.slot = c.number.ensures ∙ (c.card_of.ensures.quotient ∙ ap (λ (x : Shape). c.args.slot / x.size) (sym race.laid)) in
+    let card : c.number-card.result ≡ card_of k c.args.slot = c.number-card.ensures ∙ (c.card_of.ensures.quotient ∙ ap (λ (x : Shape). c.args.slot / x.size) (sym race.laid)) in
     let mark : get_elem? words (mark_word k (card_of k c.args.slot)) ≡ some c.see.result = subst (λ (n : ℕ). get_elem? words (k.slots + n) ≡ some c.see.result) card c.see.ensures.word in
     let seen = ap (λ m. m.0.began_words) c.see.ensures.seat.1 in
     let marked : get_elem? words (mark_word k (card_of k c.args.slot)) ≡ some 1 = mark ∙ ap (λ (n : ℕ). some n) c.if-see-eq1.true in
@@ -123,7 +123,7 @@ returns-then-see-eq1-clause-kind c =
     let fits : word_of target ≤ k.slots = omega (arith, slots, word_fits target (slot_count c.args.self.now.layout) c.requires.target) in
     let across : crosses k c.args.slot (word_of target) ≡ c.crosses-across.result = ap (λ (x : Shape). crosses x c.args.slot (word_of target)) race.laid ∙ sym c.crosses-across.ensures in
     let cr : crosses k c.args.slot (word_of target) ≡ true = across ∙ c.if-not-across.false in
-    let card : c.number.result ≡ card_of k c.args.slot = c.number.ensures ∙ (c.card_of.ensures.quotient ∙ ap (λ (x : Shape). c.args.slot / x.size) (sym race.laid)) in
+    let card : c.number-card.result ≡ card_of k c.args.slot = c.number-card.ensures ∙ (c.card_of.ensures.quotient ∙ ap (λ (x : Shape). c.args.slot / x.size) (sym race.laid)) in
     let mark : get_elem? words (mark_word k (card_of k c.args.slot)) ≡ some c.see.result = subst (λ (n : ℕ). get_elem? words (k.slots + n) ≡ some c.see.result) card c.see.ensures.word in
     let seen = ap (λ m. m.0.began_words) c.see.ensures.seat.1 in
     let marked : get_elem? words (mark_word k (card_of k c.args.slot)) ≡ some 1 = mark ∙ ap (λ (n : ℕ). some n) c.if-see-eq1.true in
@@ -142,7 +142,7 @@ returns-then-see-eq1-clause-table c =
     let fits : word_of target ≤ k.slots = omega (arith, slots, word_fits target (slot_count c.args.self.now.layout) c.requires.target) in
     let across : crosses k c.args.slot (word_of target) ≡ c.crosses-across.result = ap (λ (x : Shape). crosses x c.args.slot (word_of target)) race.laid ∙ sym c.crosses-across.ensures in
     let cr : crosses k c.args.slot (word_of target) ≡ true = across ∙ c.if-not-across.false in
-    let card : c.number.result ≡ card_of k c.args.slot = c.number.ensures ∙ (c.card_of.ensures.quotient ∙ ap (λ (x : Shape). c.args.slot / x.size) (sym race.laid)) in
+    let card : c.number-card.result ≡ card_of k c.args.slot = c.number-card.ensures ∙ (c.card_of.ensures.quotient ∙ ap (λ (x : Shape). c.args.slot / x.size) (sym race.laid)) in
     let mark : get_elem? words (mark_word k (card_of k c.args.slot)) ≡ some c.see.result = subst (λ (n : ℕ). get_elem? words (k.slots + n) ≡ some c.see.result) card c.see.ensures.word in
     let seen = ap (λ m. m.0.began_words) c.see.ensures.seat.1 in
     let marked : get_elem? words (mark_word k (card_of k c.args.slot)) ≡ some 1 = mark ∙ ap (λ (n : ℕ). some n) c.if-see-eq1.true in
@@ -161,51 +161,34 @@ returns-then-see-eq1-clause-step c = λ caller.
     let fits : word_of target ≤ k.slots = omega (arith, slots, word_fits target (slot_count c.args.self.now.layout) c.requires.target) in
     let across : crosses k c.args.slot (word_of target) ≡ c.crosses-across.result = ap (λ (x : Shape). crosses x c.args.slot (word_of target)) race.laid ∙ sym c.crosses-across.ensures in
     let cr : crosses k c.args.slot (word_of target) ≡ true = across ∙ c.if-not-across.false in
-    let card : c.number.result ≡ card_of k c.args.slot = c.number.ensures ∙ (c.card_of.ensures.quotient ∙ ap (λ (x : Shape). c.args.slot / x.size) (sym race.laid)) in
+    let card : c.number-card.result ≡ card_of k c.args.slot = c.number-card.ensures ∙ (c.card_of.ensures.quotient ∙ ap (λ (x : Shape). c.args.slot / x.size) (sym race.laid)) in
     let mark : get_elem? words (mark_word k (card_of k c.args.slot)) ≡ some c.see.result = subst (λ (n : ℕ). get_elem? words (k.slots + n) ≡ some c.see.result) card c.see.ensures.word in
     let seen = ap (λ m. m.0.began_words) c.see.ensures.seat.1 in
     let marked : get_elem? words (mark_word k (card_of k c.args.slot)) ≡ some 1 = mark ∙ ap (λ (n : ℕ). some n) c.if-see-eq1.true in
     let r = quiet_store k l race.laid c.args.slot lt target (halted c.args.self.now) words c.put-then-see-eq1.new.seat.me.0.began_words (ap halted c.self.view_is) (c.put-then-see-eq1.ensures.words ∙ (λ i. set (seen i) (c.number-place.ensures i) (c.word_of-word.ensures i))) begun c.put-then-see-eq1.ensures.seat.begun AlreadyDirty (kind_dirty k l race.laid c.args.slot lt target words begun cr marked) (λ e. cc) in
     store_step (halted c.args.self.now) _ caller c.args.slot target AlreadyDirty c.requires.slot c.requires.target r.0 r.1
 
+pub dirty-requires-clause-card : goal.dirty-requires-clause-card
+dirty-requires-clause-card c =
+    let race = c.self.inside.race in
+    let k = race.shape in
+    let slots : k.slots ≡ slot_count c.args.self.now.layout = ap (λ (x : Shape). x.slots) race.laid ∙ ap (λ (x : Halt). slot_count x.layout) c.self.view_is in
+    let lt : c.args.slot < k.slots = omega (arith, slots, c.requires.slot) in
+    let card : c.number-card.result ≡ card_of k c.args.slot = c.number-card.ensures ∙ (c.card_of.ensures.quotient ∙ ap (λ (x : Shape). c.args.slot / x.size) (sym race.laid)) in
+    let low = card_below k c.args.slot race.shaped lt in omega (arith, card, low)
+
 pub put-requires-2-clause-begun : goal.put-requires-2-clause-begun
 put-requires-2-clause-begun c =
     let race = c.self.inside.race in
     let k = race.shape in
-    let l = race.layout in
-    let words = c.self.inside.seat.me.0.began_words in
-    let begun = c.self.invariant.0.begun in
     let target = c.args.target in
     let slots : k.slots ≡ slot_count c.args.self.now.layout = ap (λ (x : Shape). x.slots) race.laid ∙ ap (λ (x : Halt). slot_count x.layout) c.self.view_is in
     let lt : c.args.slot < k.slots = omega (arith, slots, c.requires.slot) in
     let fits : word_of target ≤ k.slots = omega (arith, slots, word_fits target (slot_count c.args.self.now.layout) c.requires.target) in
-    let across : crosses k c.args.slot (word_of target) ≡ c.crosses-across.result = ap (λ (x : Shape). crosses x c.args.slot (word_of target)) race.laid ∙ sym c.crosses-across.ensures in
-    let cr : crosses k c.args.slot (word_of target) ≡ true = across ∙ c.if-not-across.false in
-    let card : c.number.result ≡ card_of k c.args.slot = c.number.ensures ∙ (c.card_of.ensures.quotient ∙ ap (λ (x : Shape). c.args.slot / x.size) (sym race.laid)) in
-    let mark : get_elem? words (mark_word k (card_of k c.args.slot)) ≡ some c.see.result = subst (λ (n : ℕ). get_elem? words (k.slots + n) ≡ some c.see.result) card c.see.ensures.word in
-    let seen = ap (λ m. m.0.began_words) c.see.ensures.seat.1 in
-    subst (λ (ws : List ℕ). IsBegun (start k ws)) (λ i. set (sym seen i) (mark_word k (sym card i)) 1) (begun_marked k words (card_of k c.args.slot) (card_below k c.args.slot race.shaped lt) begun)
-
-pub put-requires-3-clause-begun : goal.put-requires-3-clause-begun
-put-requires-3-clause-begun c =
-    let race = c.self.inside.race in
-    let k = race.shape in
-    let l = race.layout in
-    let words = c.self.inside.seat.me.0.began_words in
-    let begun = c.self.invariant.0.begun in
-    let target = c.args.target in
-    let slots : k.slots ≡ slot_count c.args.self.now.layout = ap (λ (x : Shape). x.slots) race.laid ∙ ap (λ (x : Halt). slot_count x.layout) c.self.view_is in
-    let lt : c.args.slot < k.slots = omega (arith, slots, c.requires.slot) in
-    let fits : word_of target ≤ k.slots = omega (arith, slots, word_fits target (slot_count c.args.self.now.layout) c.requires.target) in
-    let across : crosses k c.args.slot (word_of target) ≡ c.crosses-across.result = ap (λ (x : Shape). crosses x c.args.slot (word_of target)) race.laid ∙ sym c.crosses-across.ensures in
-    let cr : crosses k c.args.slot (word_of target) ≡ true = across ∙ c.if-not-across.false in
-    let card : c.number.result ≡ card_of k c.args.slot = c.number.ensures ∙ (c.card_of.ensures.quotient ∙ ap (λ (x : Shape). c.args.slot / x.size) (sym race.laid)) in
-    let mark : get_elem? words (mark_word k (card_of k c.args.slot)) ≡ some c.see.result = subst (λ (n : ℕ). get_elem? words (k.slots + n) ≡ some c.see.result) card c.see.ensures.word in
-    let seen = ap (λ m. m.0.began_words) c.see.ensures.seat.1 in
-    let mid = c.put-2.new.seat.me.0.began_words in
-    let is : mid ≡ set words (mark_word k (card_of k c.args.slot)) 1 = c.put-2.ensures.words ∙ (λ j. set (seen j) (mark_word k (card j)) 1) in
-    let here : get_elem? mid (mark_word k (card_of k c.args.slot)) ≡ some 1 = ap (λ (ws : List ℕ). get_elem? ws (mark_word k (card_of k c.args.slot))) is ∙ set_here words (mark_word k (card_of k c.args.slot)) 1 (let b = card_below k c.args.slot race.shaped lt in omega (arith, begun.sized, b)) in
-    subst (λ (ws : List ℕ). IsBegun (start k ws)) (λ i. set mid (sym c.number-place.ensures i) (sym c.word_of-word.ensures i)) (begun_placed k mid c.args.slot (word_of target) lt fits (λ x. inr here) c.put-2.ensures.seat.begun)
+    let card : c.number-card.result ≡ card_of k c.args.slot = c.number-card.ensures ∙ (c.card_of.ensures.quotient ∙ ap (λ (x : Shape). c.args.slot / x.size) (sym race.laid)) in
+    let mid = c.dirty.new.seat.me.0.began_words in
+    let here = dirtied_here k race.layout race.laid c.args.slot lt target c.see.new.seat.me.0.began_words mid c.number-card.result card c.dirty.ensures.dirtied in
+    subst (λ (ws : List ℕ). IsBegun (start k ws)) (λ i. set mid (sym c.number-place.ensures i) (sym c.word_of-word.ensures i)) (begun_placed k mid c.args.slot (word_of target) lt fits (λ x. inr here) c.dirty.ensures.seat.begun)
 
 pub returns-clause-kind : goal.returns-clause-kind
 returns-clause-kind c =
@@ -213,18 +196,18 @@ returns-clause-kind c =
     let k = race.shape in
     let l = race.layout in
     let words = c.self.inside.seat.me.0.began_words in
-    let begun = c.self.invariant.0.begun in
     let target = c.args.target in
     let slots : k.slots ≡ slot_count c.args.self.now.layout = ap (λ (x : Shape). x.slots) race.laid ∙ ap (λ (x : Halt). slot_count x.layout) c.self.view_is in
     let lt : c.args.slot < k.slots = omega (arith, slots, c.requires.slot) in
-    let fits : word_of target ≤ k.slots = omega (arith, slots, word_fits target (slot_count c.args.self.now.layout) c.requires.target) in
     let across : crosses k c.args.slot (word_of target) ≡ c.crosses-across.result = ap (λ (x : Shape). crosses x c.args.slot (word_of target)) race.laid ∙ sym c.crosses-across.ensures in
     let cr : crosses k c.args.slot (word_of target) ≡ true = across ∙ c.if-not-across.false in
-    let card : c.number.result ≡ card_of k c.args.slot = c.number.ensures ∙ (c.card_of.ensures.quotient ∙ ap (λ (x : Shape). c.args.slot / x.size) (sym race.laid)) in
+    let card : c.number-card.result ≡ card_of k c.args.slot = c.number-card.ensures ∙ (c.card_of.ensures.quotient ∙ ap (λ (x : Shape). c.args.slot / x.size) (sym race.laid)) in
     let mark : get_elem? words (mark_word k (card_of k c.args.slot)) ≡ some c.see.result = subst (λ (n : ℕ). get_elem? words (k.slots + n) ≡ some c.see.result) card c.see.ensures.word in
-    let seen = ap (λ m. m.0.began_words) c.see.ensures.seat.1 in
     let unmarked : get_elem? words (mark_word k (card_of k c.args.slot)) ≡ some 1 → ⊥ = λ at. c.if-see-eq1.false (some-injective c.see.result 1 (sym mark ∙ at)) in
-    (logged_store k l race.laid c.args.slot lt target (halted c.args.self.now) words c.put-3.new.seat.me.0.began_words (ap halted c.self.view_is) (c.put-3.ensures.words ∙ (λ i. set ((c.put-2.ensures.words ∙ (λ j. set (seen j) (mark_word k (card j)) 1)) i) (c.number-place.ensures i) (c.word_of-word.ensures i))) begun c.put-3.ensures.seat.begun (kind_clean k l race.laid c.args.slot lt target words cr unmarked)).0
+    let seen = ap (λ m. m.0.began_words) c.see.ensures.seat.1 in
+    let r = dirtied_store k l race.laid c.args.slot lt target (halted c.args.self.now) words c.see.new.seat.me.0.began_words c.dirty.new.seat.me.0.began_words c.put-2.new.seat.me.0.began_words c.number-card.result seen card c.dirty.ensures.dirtied
+    (ap halted c.self.view_is) cr unmarked (c.put-2.ensures.words ∙ (λ i. set c.dirty.new.seat.me.0.began_words (c.number-place.ensures i) (c.word_of-word.ensures i))) c.put-2.ensures.seat.begun in
+    r.0
 
 pub returns-clause-table : goal.returns-clause-table
 returns-clause-table c =
@@ -232,18 +215,18 @@ returns-clause-table c =
     let k = race.shape in
     let l = race.layout in
     let words = c.self.inside.seat.me.0.began_words in
-    let begun = c.self.invariant.0.begun in
     let target = c.args.target in
     let slots : k.slots ≡ slot_count c.args.self.now.layout = ap (λ (x : Shape). x.slots) race.laid ∙ ap (λ (x : Halt). slot_count x.layout) c.self.view_is in
     let lt : c.args.slot < k.slots = omega (arith, slots, c.requires.slot) in
-    let fits : word_of target ≤ k.slots = omega (arith, slots, word_fits target (slot_count c.args.self.now.layout) c.requires.target) in
     let across : crosses k c.args.slot (word_of target) ≡ c.crosses-across.result = ap (λ (x : Shape). crosses x c.args.slot (word_of target)) race.laid ∙ sym c.crosses-across.ensures in
     let cr : crosses k c.args.slot (word_of target) ≡ true = across ∙ c.if-not-across.false in
-    let card : c.number.result ≡ card_of k c.args.slot = c.number.ensures ∙ (c.card_of.ensures.quotient ∙ ap (λ (x : Shape). c.args.slot / x.size) (sym race.laid)) in
+    let card : c.number-card.result ≡ card_of k c.args.slot = c.number-card.ensures ∙ (c.card_of.ensures.quotient ∙ ap (λ (x : Shape). c.args.slot / x.size) (sym race.laid)) in
     let mark : get_elem? words (mark_word k (card_of k c.args.slot)) ≡ some c.see.result = subst (λ (n : ℕ). get_elem? words (k.slots + n) ≡ some c.see.result) card c.see.ensures.word in
-    let seen = ap (λ m. m.0.began_words) c.see.ensures.seat.1 in
     let unmarked : get_elem? words (mark_word k (card_of k c.args.slot)) ≡ some 1 → ⊥ = λ at. c.if-see-eq1.false (some-injective c.see.result 1 (sym mark ∙ at)) in
-    (logged_store k l race.laid c.args.slot lt target (halted c.args.self.now) words c.put-3.new.seat.me.0.began_words (ap halted c.self.view_is) (c.put-3.ensures.words ∙ (λ i. set ((c.put-2.ensures.words ∙ (λ j. set (seen j) (mark_word k (card j)) 1)) i) (c.number-place.ensures i) (c.word_of-word.ensures i))) begun c.put-3.ensures.seat.begun (kind_clean k l race.laid c.args.slot lt target words cr unmarked)).1
+    let seen = ap (λ m. m.0.began_words) c.see.ensures.seat.1 in
+    let r = dirtied_store k l race.laid c.args.slot lt target (halted c.args.self.now) words c.see.new.seat.me.0.began_words c.dirty.new.seat.me.0.began_words c.put-2.new.seat.me.0.began_words c.number-card.result seen card c.dirty.ensures.dirtied
+    (ap halted c.self.view_is) cr unmarked (c.put-2.ensures.words ∙ (λ i. set c.dirty.new.seat.me.0.began_words (c.number-place.ensures i) (c.word_of-word.ensures i))) c.put-2.ensures.seat.begun in
+    r.1
 
 pub returns-clause-step : goal.returns-clause-step
 returns-clause-step c = λ caller.
@@ -251,16 +234,15 @@ returns-clause-step c = λ caller.
     let k = race.shape in
     let l = race.layout in
     let words = c.self.inside.seat.me.0.began_words in
-    let begun = c.self.invariant.0.begun in
     let target = c.args.target in
     let slots : k.slots ≡ slot_count c.args.self.now.layout = ap (λ (x : Shape). x.slots) race.laid ∙ ap (λ (x : Halt). slot_count x.layout) c.self.view_is in
     let lt : c.args.slot < k.slots = omega (arith, slots, c.requires.slot) in
-    let fits : word_of target ≤ k.slots = omega (arith, slots, word_fits target (slot_count c.args.self.now.layout) c.requires.target) in
     let across : crosses k c.args.slot (word_of target) ≡ c.crosses-across.result = ap (λ (x : Shape). crosses x c.args.slot (word_of target)) race.laid ∙ sym c.crosses-across.ensures in
     let cr : crosses k c.args.slot (word_of target) ≡ true = across ∙ c.if-not-across.false in
-    let card : c.number.result ≡ card_of k c.args.slot = c.number.ensures ∙ (c.card_of.ensures.quotient ∙ ap (λ (x : Shape). c.args.slot / x.size) (sym race.laid)) in
+    let card : c.number-card.result ≡ card_of k c.args.slot = c.number-card.ensures ∙ (c.card_of.ensures.quotient ∙ ap (λ (x : Shape). c.args.slot / x.size) (sym race.laid)) in
     let mark : get_elem? words (mark_word k (card_of k c.args.slot)) ≡ some c.see.result = subst (λ (n : ℕ). get_elem? words (k.slots + n) ≡ some c.see.result) card c.see.ensures.word in
-    let seen = ap (λ m. m.0.began_words) c.see.ensures.seat.1 in
     let unmarked : get_elem? words (mark_word k (card_of k c.args.slot)) ≡ some 1 → ⊥ = λ at. c.if-see-eq1.false (some-injective c.see.result 1 (sym mark ∙ at)) in
-    let r = logged_store k l race.laid c.args.slot lt target (halted c.args.self.now) words c.put-3.new.seat.me.0.began_words (ap halted c.self.view_is) (c.put-3.ensures.words ∙ (λ i. set ((c.put-2.ensures.words ∙ (λ j. set (seen j) (mark_word k (card j)) 1)) i) (c.number-place.ensures i) (c.word_of-word.ensures i))) begun c.put-3.ensures.seat.begun (kind_clean k l race.laid c.args.slot lt target words cr unmarked) in
+    let seen = ap (λ m. m.0.began_words) c.see.ensures.seat.1 in
+    let r = dirtied_store k l race.laid c.args.slot lt target (halted c.args.self.now) words c.see.new.seat.me.0.began_words c.dirty.new.seat.me.0.began_words c.put-2.new.seat.me.0.began_words c.number-card.result seen card c.dirty.ensures.dirtied
+    (ap halted c.self.view_is) cr unmarked (c.put-2.ensures.words ∙ (λ i. set c.dirty.new.seat.me.0.began_words (c.number-place.ensures i) (c.word_of-word.ensures i))) c.put-2.ensures.seat.begun in
     store_step (halted c.args.self.now) _ caller c.args.slot target Logged c.requires.slot c.requires.target r.0 r.1

@@ -1,4 +1,5 @@
 use Rattle.std.proofs.Common.{◌≡◌}
+use Rattle.g1_race_words.specs.Steps.{owed_card}
 use Rattle.g1_race_words.specs.Seats.{OwesMark, Sits}
 use Rattle.g1_race_words.proofs.Calls.{inside, dirty_owed}
 use Rattle.g1_race_words.proofs.table.RaceTable.dirty.Goals as goal
@@ -9,5 +10,5 @@ swap-requires c =
     let i = c.self.invariant in
     let r = c.requires in
     let m = c.args.mark in
-    let asked = inside (λ w s. (s.table_id ≡ w.table_id) × Sits w.shape s.me.0 × OwesMark w.shape s.me.0 m) _ _ _ _ c.self.view_is c.seat.view_is (r.table, r.racer, r.mark) in
-    dirty_owed t.table_id t.key i.0 i.2 c.seat.inside.seat asked.0 m asked.1 asked.2
+    let asked = inside (λ w s. (s.table_id ≡ w.table_id) × Sits w.shape s.me.0 × OwesMark w.shape s.me.0 m × (s.me.0.flagged ≡ owed_card s.me.0.owed)) _ _ _ _ c.self.view_is c.seat.view_is (r.table, r.racer, r.mark, r.flag) in
+    dirty_owed t.table_id t.key i.0 i.2 c.seat.inside.seat asked.0 m asked.1 asked.2 asked.3

@@ -1,0 +1,96 @@
+-- The cards' flags at a pause.
+use Rattle.std.proofs.Common.{◌≡◌, ℕ, zero, suc, ◌+◌, ◌<◌, ◌≤◌, ◌++◌, List, [], ◌∷◌, false, Some, None, sym, ap, ◌∙◌, subst, inl, inr, ⊎_elim, arith, eq-eqb}
+use native.Mathlib.Decide.{ℕ_discrete}
+use lib.ListN.{get_elem?}
+use Rattle.std.specs.Int.{bit_at}
+use Rattle.std.specs.List.{slice_index}
+use Rattle.std.proofs.lemmas.Bool.{cases_Bool, cases_lt, true≢false}
+use Rattle.g1_layout.specs.Shape as layout
+use Rattle.g1_race_words.specs.declared.view.Shape.{Shape}
+use Rattle.g1_race_words.specs.Rule.{HasBit, In, IsBegun, IsPair, bit_place, bit_word, flag, front, mark_word, pairs_of_card, pairs_up_to, start}
+use Rattle.g1_race.specs.Over.{ended}
+use Rattle.g1_race.specs.Clearing.{IsEmptied}
+use Rattle.g1_race.specs.Refining.{AreRefined, Notes}
+use Rattle.g1_race.specs.Telling.{IsNext, is_marked, is_member}
+use Rattle.g1_race_words.proofs.Listing.{one_pair, pair_clear, pair_set}
+use Rattle.g1_race_words.proofs.Places.{take_at, take_same}
+use Rattle.g1_race.proofs.NextCards.{marked_word}
+
+-- a card whose flag is clear is clean
+pub unflagged_clean : (k : Shape) (words : List ℕ) (c : ℕ) → IsBegun (start k words) → c < k.cards → is_member k words k.regions c ≡ false → is_marked k words c ≡ false
+unflagged_clean k words c h lt e = elim (cases_Bool (is_marked k words c)) [
+  | inl m ↦ absurd (true≢false (sym (eq-eqb _ 1 (h.flagged c lt (marked_word k words c h lt m))) ∙ e))
+  | inr m ↦ m
+]
+
+-- no card is dirty from one on up to the next one with a flag
+
+abbrev NoneDirty : Shape → List ℕ → ℕ → ℕ → Type 0
+NoneDirty k words from end = (c : ℕ) → from ≤ c → c < end → c < k.cards → is_marked k words c ≡ false
+
+pub clean_before : (k : Shape) (words : List ℕ) (from next card : ℕ) → IsBegun (start k words) → NoneDirty k words from next → IsNext (is_member k words k.regions) k.cards next (Some card) → (c : ℕ) → from ≤ c → c < card → is_marked k words c ≡ false
+clean_before k words from next card h none is c le lt = elim (cases_lt c next) [
+  | inl low ↦ none c le low (omega (arith, lt, is.1))
+  | inr high ↦ unflagged_clean k words c h (omega (arith, lt, is.1)) (is.3 c high lt)
+]
+
+pub clean_past : (k : Shape) (words : List ℕ) (from next card : ℕ) → IsBegun (start k words) → NoneDirty k words from next → IsNext (is_member k words k.regions) k.cards next (Some card) → is_marked k words card ≡ false → NoneDirty k words from (card + 1)
+clean_past k words from next card h none is clean c le lt below = elim (cases_lt c card) [
+  | inl low ↦ clean_before k words from next card h none is c le low
+  | inr high ↦ subst (λ (x : ℕ). is_marked k words x ≡ false) (let e : card ≡ c = omega (arith, high, lt) in e) clean
+]
+
+pub clean_after : (k : Shape) (words : List ℕ) (from next : ℕ) → IsBegun (start k words) → NoneDirty k words from next → IsNext (is_member k words k.regions) k.cards next None → IsNext (is_marked k words) k.cards from None
+clean_after k words from next h none is c le lt = elim (cases_lt c next) [
+  | inl low ↦ none c le low lt
+  | inr high ↦ unflagged_clean k words c h lt (is c high lt)
+]
+
+-- a flag is no pair's bit
+pub flag_only : (k : Shape) (old new : List ℕ) (c : ℕ) → Notes k old new (flag k c ∷ []) → (x : ℕ × ℕ) → IsPair k x → HasBit k new x → HasBit k old x
+flag_only k old new c notes x pair b = ⊎_elim (λ (o : HasBit k old x). o) (λ (i : In (flag k c ∷ []) x). absurd (apart i)) (notes.only x pair b)
+  where
+    apart : In (flag k c ∷ []) x → ⊥
+    apart (inl e) = absurd (let r : k.regions ≡ x.1 = ap (λ (y : ℕ × ℕ). y.1) e in let lt : x.1 < k.regions = pair.1 in omega (arith, r, lt))
+    apart (inr n) = n
+
+-- words with the same bits of pairs have the same pairs
+module _ (k : Shape) (old new : List ℕ) (on : (x : ℕ × ℕ) → IsPair k x → HasBit k old x → HasBit k new x) (back : (x : ℕ × ℕ) → IsPair k x → HasBit k new x → HasBit k old x) where
+  one_same : (x : ℕ × ℕ) → IsPair k x → one_pair k new x ≡ one_pair k old x
+  one_same x pair = pick (ℕ_discrete (bit_at (slice_index old (bit_word k x)) (bit_place k x)) 1)
+    where
+      pick : Dec (HasBit k old x) → one_pair k new x ≡ one_pair k old x
+      pick (yes b) = pair_set k new x (on x pair b) ∙ sym (pair_set k old x b)
+      pick (no ne) = pair_clear k new x (λ b. ne (back x pair b)) ∙ sym (pair_clear k old x ne)
+
+  card_same : (c r : ℕ) → c < k.cards → r ≤ k.regions → pairs_of_card k new c r ≡ pairs_of_card k old c r
+  card_same c zero lt le = λ i. []
+  card_same c (suc r) lt le = let a = card_same c r lt (omega (arith, le)) in let b = one_same (c, r) (lt, omega (arith, le)) in λ i. a i ++ b i
+
+  up_same : (c : ℕ) → c ≤ k.cards → pairs_up_to k new c ≡ pairs_up_to k old c
+  up_same zero le = λ i. []
+  up_same (suc c) le = let a = up_same c (omega (arith, le)) in let b = card_same c k.regions (omega (arith, le)) (omega arith) in λ i. a i ++ b i
+
+  pub pairs_same : pairs_up_to k new k.cards ≡ pairs_up_to k old k.cards
+  pairs_same = up_same k.cards (omega arith)
+
+-- a flag changes nothing of the heap
+pub flag_ended : (k : Shape) (l : layout.Shape) (old new : List ℕ) (c : ℕ) → Notes k old new (flag k c ∷ []) → ended l k new ≡ ended l k old
+flag_ended k l old new c notes =
+    let words = take_same new old (k.slots + k.cards) notes.front in
+    let pairs = pairs_same k old new (λ x pair b. notes.kept x b) (flag_only k old new c notes) in
+    λ i. record { layout = l; words = words i; pairs = pairs i }
+
+-- a word of the front, where the front has not changed
+pub front_at : (k : Shape) (old new : List ℕ) (i : ℕ) → front k new ≡ front k old → i < k.slots + k.cards → get_elem? new i ≡ get_elem? old i
+front_at k old new i same lt = sym (take_at new (k.slots + k.cards) i lt) ∙ (ap (λ (l : List ℕ). get_elem? l i) same ∙ take_at old (k.slots + k.cards) i lt)
+
+-- the flags are cleared then
+pub refined_emptied : (k : Shape) (old mid new : List ℕ) (n : ℕ) → AreRefined k old mid n → IsEmptied k mid new k.regions k.row → AreRefined k old new n
+refined_emptied k old mid new n h g = record {
+  slots = λ p lt. front_at k mid new p g.front (omega (arith, lt)) ∙ h.slots p lt;
+  clean = λ c up below. front_at k mid new (mark_word k c) g.front (omega (arith, below)) ∙ h.clean c up below;
+  marks = λ c up below. front_at k mid new (mark_word k c) g.front (omega (arith, below)) ∙ h.marks c up below;
+  kept = λ x pair b. g.kept x pair (λ e. absurd (let lt : x.1 < k.regions = pair.1 in omega (arith, lt, e))) (h.kept x pair b);
+  only = λ x pair b. h.only x pair (g.only x pair b);
+}

@@ -1,0 +1,46 @@
+-- A race at a pause that several threads read.
+use Rattle.std.specs.Prelude.{◌≡◌, ℕ, ◌≤◌, Option, Some, None}
+use Rattle.atomic_table.specs.Seated.{TableId}
+use Rattle.atomic_table.specs.declared.shared.Seat.{Seat}
+use Rattle.g1_core.specs.Table.{Table, IsPending}
+use Rattle.g1_race_words.specs.declared.view.Shape.{Shape}
+use Rattle.g1_race_words.specs.declared.view.View.{View}
+use Rattle.g1_race_words.specs.Begin.{Start}
+use Rattle.g1_race.specs.declared.race.Race.{Race}
+use Rattle.g1_race.specs.Over.{Halt, ended, start_at, table_of}
+
+-- the pause, which table it is at, and how many readers there are
+pub record Readable : Type 0 where
+  pub pause : Halt
+  pub table_id : TableId
+  pub readers : ℕ
+
+-- what a reader knows: which table it is at, and all its words
+pub record Known : Type 0 where
+  pub table_id : TableId
+  pub start : Start
+
+abbrev pub known : TableId → Start → Known
+known z begin = record { table_id = z; start = begin }
+
+-- the reader is of this pause
+abbrev pub IsReaderOf : Readable → Known → Type 0
+IsReaderOf reading reader = reader ≡ known reading.table_id (start_at reading.pause)
+
+-- the race that a reader is of
+abbrev pub reader_race : Known → TableId × Shape
+reader_race reader = (reader.table_id, reader.start.shape)
+
+-- the table of the race, as a reader knows it
+abbrev pub table_read : Race → Known → Table
+table_read race reader = table_of (ended race.layout race.shape reader.start.words)
+
+-- the same, as a seat at a pause knows it
+abbrev pub table_known : Race → Seat (Unit {0}) View → Table
+table_known race s = table_of (ended race.layout race.shape s.me.0.began_words)
+
+-- the least pending card from one on
+abbrev pub IsNextPending : Table → ℕ → Option ℕ → Type 0
+IsNextPending t from None = (card : ℕ) → from ≤ card → IsPending t card → ⊥
+IsNextPending t from (Some next) = (from ≤ next) × IsPending t next
+    × ((card : ℕ) → from ≤ card → IsPending t card → next ≤ card)

@@ -1,0 +1,132 @@
+//! How readers come and go at a pause.
+ghost use Rattle.std.specs.Prelude.{◌≡◌, ◌+◌, ◌≤◌, All, vec_len, vec_capacity};
+ghost use Rattle.g1_race_words.specs.Rule.{start_of};
+ghost use Rattle.g1_race_words.specs.Readers.{IsLent};
+ghost use Rattle.g1_race.specs.Members.{race_id, race_layout};
+ghost use Rattle.g1_race.specs.Over.{halted};
+ghost use Rattle.g1_race.specs.Reading.{IsReaderOf, Known, known, table_read};
+
+use crate::paused::Paused;
+use crate::race::Race;
+use crate::reading::{Reader, Reading};
+use g1_race_words::{Place, RaceTable};
+
+impl Paused {
+    /// How many readers a pause can have at most: as many as the race has racers and sweepers.
+    pub fn reader_limit(&self) -> usize
+        ensures { result ≡ self.now.shape.members }
+    {
+        self.race.shape.members
+    }
+
+    /// Lets as many readers ask at once, each in a thread of its own. The list is empty and has
+    /// room for them, and there are at most [`Paused::reader_limit`].
+    ///
+    /// Takes no memory and cannot fail. Makes no step but those that split the seats.
+    pub fn read_by(self, readers: &mut Vec<Reader>, count: usize) -> Reading
+        requires count { count ≤ self.shape.members }
+        requires empty { vec_len readers.old ≡ 0 }
+        requires room { count ≤ vec_capacity readers.old }
+        ensures pause { result.pause ≡ self }
+        ensures count { (result.readers ≡ count) × (vec_len readers.new ≡ count) }
+        ensures readers { All (IsReaderOf result) readers.new.items }
+        ensures room { vec_capacity readers.old ≤ vec_capacity readers.new }
+    {
+        let Paused {
+            race,
+            mut seat,
+            racers,
+            sweepers,
+            count: sweeping,
+        } = self;
+        seat_readers(&race.table, &mut seat, readers, count);
+        Reading {
+            race,
+            seat,
+            racers,
+            sweepers,
+            count: sweeping,
+        }
+    }
+}
+
+impl Reading {
+    /// The race, which the readers ask with: threads share it by `&`. What a reader of this pause
+    /// knows of it is the table of the pause.
+    pub fn race(&self) -> &Race
+        ensures race { race_id result.now ≡ (self.now.table_id, self.now.pause.shape) }
+        ensures layout { race_layout result.now ≡ self.now.pause.layout }
+        ensures table { (reader : Known) → IsReaderOf self.now reader →
+            table_read result.now reader ≡ halted self.now.pause }
+    {
+        &self.race
+    }
+
+    /// Lets the pause go on, as it was: all readers are handed in, which is a condition. The list
+    /// is empty then, and keeps its room for the next time.
+    ///
+    /// Takes no memory and cannot fail. Makes no step but one and those that join the seats.
+    pub fn pause(self, readers: &mut Vec<Reader>) -> Paused
+        requires count { vec_len readers.old ≡ self.readers }
+        requires readers { All (IsReaderOf self) readers.old.items }
+        ensures pause { result ≡ self.pause }
+        ensures empty { vec_len readers.new ≡ 0 }
+        ensures room { vec_capacity readers.new ≡ vec_capacity readers.old }
+    {
+        let Reading {
+            race,
+            mut seat,
+            racers,
+            sweepers,
+            count,
+        } = self;
+        join_readers(&race.table, &mut seat, readers);
+        race.table.freeze(&mut seat);
+        Paused {
+            race,
+            seat,
+            racers,
+            sweepers,
+            count,
+        }
+    }
+}
+
+// Splits off a seat for each reader.
+fn seat_readers(table: &RaceTable, chair: &mut Place, readers: &mut Vec<Reader>, count: usize)
+    requires seat { IsLent table.now.table_id table.now.shape chair.old }
+    requires weight { count ≤ chair.old.me.0.weight }
+    requires empty { vec_len readers.old ≡ 0 }
+    requires room { count ≤ vec_capacity readers.old }
+    ensures seat { IsLent table.now.table_id table.now.shape chair.new }
+    ensures start { start_of chair.new.me.0 ≡ start_of chair.old.me.0 }
+    ensures weight { chair.new.me.0.weight + count ≡ chair.old.me.0.weight }
+    ensures count { vec_len readers.new ≡ count }
+    ensures readers { let begin = start_of chair.old.me.0 in
+        All (λ r. r ≡ known table.now.table_id begin) readers.new.items }
+    ensures room { vec_capacity readers.old ≤ vec_capacity readers.new }
+{
+    for _i in 0..count {
+        let seat = table.split_reader(chair);
+        let Ok(()) = readers.push(Reader { seat }) else {
+            unreachable!()
+        };
+    }
+}
+
+// Joins the readers' seats to the one that they were split from.
+fn join_readers(table: &RaceTable, chair: &mut Place, readers: &mut Vec<Reader>)
+    requires seat { IsLent table.now.table_id table.now.shape chair.old }
+    requires readers { let begin = start_of chair.old.me.0 in
+        All (λ r. r ≡ known table.now.table_id begin) readers.old.items }
+    ensures seat { IsLent table.now.table_id table.now.shape chair.new }
+    ensures start { start_of chair.new.me.0 ≡ start_of chair.old.me.0 }
+    ensures weight { chair.new.me.0.weight ≡ chair.old.me.0.weight + vec_len readers.old }
+    ensures empty { vec_len readers.new ≡ 0 }
+    ensures room { vec_capacity readers.new ≡ vec_capacity readers.old }
+{
+    while let Some(reader) = readers.pop() {
+        let Reader { seat } = reader;
+        table.join(chair, seat);
+    }
+}

@@ -1,0 +1,66 @@
+//! A race at a pause that several threads read, and what each of them reads with.
+
+use crate::race::{Race, Racer, Sweeper};
+use g1_race_words::Place;
+use std::marker::Model;
+
+/// A race at a pause, while readers ask what it knows.
+///
+/// Its model is the pause, which table it is at, and how many readers have to be handed in before
+/// the pause goes on. Nothing changes meanwhile.
+#[derive(Drop)]
+pub struct Reading {
+    pub(crate) race: Race,
+    pub(crate) seat: Place,
+    pub(crate) racers: Vec<Racer>,
+    pub(crate) sweepers: Vec<Sweeper>,
+    pub(crate) count: usize,
+}
+
+impl Model for Reading {
+    ghost use Rattle.std.specs.Prelude.{◌≡◌, ◌+◌, ◌-◌, ◌≤◌, map, reverse, vec_len, vec_capacity};
+    ghost use Rattle.g1_race.specs.Reading.{Readable};
+    ghost use Rattle.g1_race_words.specs.Readers.{IsLent};
+
+    ghost Value = { Readable };
+
+    ghost view = { λ a. record {
+      pause = record {
+        layout = a.race.layout;
+        shape = a.race.shape;
+        words = a.seat.me.0.began_words;
+        logs = reverse (map (λ l. l.items) a.race.logs.items);
+        sweepers = a.count;
+      };
+      table_id = a.race.table.table_id;
+      readers = a.race.shape.members - a.seat.me.0.weight;
+    } };
+
+    ghost invariant = { λ a. IsLent a.race.table.table_id a.race.shape a.seat
+        × (a.seat.me.0.weight ≤ a.race.shape.members)
+        × (vec_len a.race.logs + a.count ≡ a.race.shape.members)
+        × (vec_len a.racers ≡ 0) × (vec_len a.sweepers ≡ 0)
+        × (vec_len a.race.logs ≤ vec_capacity a.racers) × (a.count ≤ vec_capacity a.sweepers) };
+}
+
+/// What a thread of the collector reads with at a pause: its right to read the words. It has no
+/// bytes.
+///
+/// It belongs to one thread at a time, and any number of readers ask at once. Its model is which
+/// table it is at, and all the words there.
+#[derive(Drop)]
+pub struct Reader {
+    pub(crate) seat: Place,
+}
+
+impl Model for Reader {
+    ghost use Rattle.g1_race_words.specs.Rule.{IsBegun, start_of};
+    ghost use Rattle.g1_race_words.specs.Readers.{IsReader};
+    ghost use Rattle.g1_race.specs.Reading.{Known};
+
+    ghost Value = { Known };
+
+    ghost view = { λ a. record { table_id = a.seat.table_id; start = start_of a.seat.me.0 } };
+
+    ghost invariant = { λ a. IsReader a.seat.me.0 × IsBegun (start_of a.seat.me.0) };
+}

@@ -1,0 +1,173 @@
+//! Several threads read one pause.
+ghost use Rattle.std.specs.Prelude.{◌≡◌, All};
+ghost use Rattle.g1_race.specs.Members.{race_id};
+ghost use Rattle.g1_race.specs.Reading.{reader_race};
+
+use crate::in_place::race_on;
+use crate::in_threads::Plan;
+use g1_core::Drained;
+use g1_layout::{Card, Layout, NoMemory, Region, Slot};
+use g1_race::{Paused, Race, Reader};
+use std::alloc::Global;
+use std::process::Abort;
+use std::test::Fail;
+use std::thread::{self, Threads};
+
+const READERS: u32 = 4;
+
+// What a pause says of one card.
+#[derive(Drop)]
+struct Told {
+    card: Card,
+    pending: bool,
+    // Its slots, and what they refer to.
+    targets: Vec<(Slot, Option<Slot>)>,
+    // The regions, and whether the card is recorded for them.
+    pairs: Vec<(Region, bool)>,
+}
+
+// What the pause says of each card.
+fn told_of(rt: &impl Abort, alloc: Global, paused: &mut Paused) -> Result<Vec<Told>, NoMemory> {
+    let mut told = Vec::new(alloc);
+    for number in 0..paused.layout().card_count() {
+        told.push(card_of(rt, alloc, paused, number)?)?;
+    }
+    Ok(told)
+}
+
+// What it says of the card of this number.
+fn card_of(
+    rt: &impl Abort,
+    alloc: Global,
+    paused: &mut Paused,
+    number: u32,
+) -> Result<Told, NoMemory> {
+    let card = paused.layout().card(number).expect(rt, "card");
+    let pending = paused.is_pending(card);
+    Ok(Told {
+        card,
+        pending,
+        targets: targets_of(rt, alloc, paused, card)?,
+        pairs: pairs_of(rt, alloc, paused, card)?,
+    })
+}
+
+fn targets_of(
+    rt: &impl Abort,
+    alloc: Global,
+    paused: &mut Paused,
+    card: Card,
+) -> Result<Vec<(Slot, Option<Slot>)>, NoMemory> {
+    let layout = paused.layout();
+    let mut targets = Vec::new(alloc);
+    for number in 0..layout.slot_count() {
+        let slot = layout.slot(number).expect(rt, "slot");
+        if layout.card_of(slot) == card {
+            let slot = paused.layout().slot(number).expect(rt, "slot");
+            targets.push((slot, paused.target(slot)))?;
+        }
+    }
+    Ok(targets)
+}
+
+fn pairs_of(
+    rt: &impl Abort,
+    alloc: Global,
+    paused: &mut Paused,
+    card: Card,
+) -> Result<Vec<(Region, bool)>, NoMemory> {
+    let layout = paused.layout();
+    let (regions, _, _) = layout.counts();
+    let mut pairs = Vec::new(alloc);
+    for number in 0..regions {
+        let region = layout.region(number).expect(rt, "region");
+        pairs.push((region, paused.has(card, region)))?;
+    }
+    Ok(pairs)
+}
+
+// A reader asks of each card whose number leaves k what was told of it.
+fn scan(rt: &impl Abort, race: &Race, reader: &mut Reader, told: &[Told], k: u32)
+    requires { reader_race reader.old ≡ race_id race.now }
+    ensures { reader.new ≡ reader.old }
+{
+    for card in told {
+        if card.card.number() % READERS == k {
+            ask(rt, race, reader, card);
+        }
+    }
+}
+
+// A reader asks what was told of one card.
+fn ask(rt: &impl Abort, race: &Race, reader: &mut Reader, told: &Told)
+    requires { reader_race reader.old ≡ race_id race.now }
+    ensures { reader.new ≡ reader.old }
+{
+    let number = told.card.number();
+    let card = race.layout().card(number).expect(rt, "card");
+    assert!(rt; reader.is_pending(race, card) == told.pending);
+    assert!(rt; (reader.next_dirty(race, card) == Some(card)) == told.pending);
+    for pair in &told.pairs {
+        assert!(rt; reader.has(race, card, pair.0) == pair.1);
+    }
+    for slot in &told.targets {
+        ask_of(rt, race, reader, slot);
+    }
+}
+
+// A reader asks what was told of one slot.
+fn ask_of(rt: &impl Abort, race: &Race, reader: &mut Reader, told: &(Slot, Option<Slot>))
+    requires { reader_race reader.old ≡ race_id race.now }
+    ensures { reader.new ≡ reader.old }
+{
+    let slot = race.layout().slot(told.0.number()).expect(rt, "slot");
+    assert!(rt; reader.target(race, slot) == told.1);
+}
+
+// Each reader scans in a thread of its own.
+fn all_scan<R: Threads + Abort + Sync>(
+    rt: &R,
+    race: &Race,
+    readers: &mut Vec<Reader>,
+    told: &[Told],
+)
+    requires { All (λ r. reader_race r ≡ race_id race.now) readers.old.items }
+    ensures { readers.new.items ≡ readers.old.items }
+{
+    thread::for_each_mut(
+        rt,
+        readers.as_mut_slice(),
+        4,
+        &|k, reader| scan(rt, race, reader, told, (k % 4) as u32),
+    );
+}
+
+#[test]
+fn four_readers(rt: HostRuntime) -> Result<(), Fail> {
+    let layout = Layout::new(16, 2, 16).expect(&rt, "layout");
+    let plan = Plan {
+        stores: 500,
+        rounds: 1,
+        cards: 32,
+        spread: true,
+        first: 0,
+    };
+    let mut paused = race_on(&rt, Paused::open(rt.alloc(), layout, 4, 2)?, plan);
+    let told = told_of(&rt, rt.alloc(), &mut paused)?;
+    assert!(rt; paused.reader_limit() == 6);
+    let mut readers = Vec::with_capacity(rt.alloc(), 4)?;
+    let reading = paused.read_by(&mut readers, 4);
+    all_scan(&rt, reading.race(), &mut readers, told.as_slice());
+    let mut paused = reading.pause(&mut readers);
+    let slot = paused.layout().slot(0).expect(&rt, "slot");
+    let place = paused.layout().slot(100).expect(&rt, "place");
+    paused.store(slot, Some(place));
+    let region = paused.layout().region(3).expect(&rt, "region");
+    let Drained::Cards { cards, refined: _ } = paused.drain(rt.alloc(), region)? else {
+        panic!(rt; "a drain was short");
+    };
+    assert!(rt; cards.as_slice().len() > 0);
+    let (race, racers, sweepers) = paused.resume();
+    assert!(rt; race.members() == racers.len() + sweepers.len());
+    Ok(())
+}

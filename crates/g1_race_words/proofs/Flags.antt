@@ -1,0 +1,81 @@
+-- The cards' flags among the words.
+use Rattle.std.proofs.Common.{◌≡◌, ◌∙◌, ℕ, ◌+◌, ◌*◌, ◌/◌, ◌<◌, ◌≤◌, zero, suc, List, length, set, sym, subst, arith}
+use Rattle.std.proofs.Math.Nat.{le-mul_of_pos_right, mul-pos, mul-suc}
+use Rattle.std.proofs.lemmas.Nat.{mul-add-lt}
+use mathlib.Core.Option.{some, some-injective}
+use native.Mathlib.Decide.{ℕ_discrete}
+use lib.ListN.{get_elem?}
+use Rattle.atomic_table.proofs.Lists.{set_else, set_here}
+use Rattle.g1_race_words.specs.declared.view.Shape.{Shape}
+use Rattle.g1_race_words.specs.declared.view.View.{View}
+use Rattle.g1_race_words.specs.Rule.{AreFlagged, Flagged, Held, IsFlagged, IsShape, bit_word, flag, flagged_of, mark_word, word_count}
+use Rattle.g1_race_words.proofs.Plain.{held_same}
+use Rattle.g1_race_words.proofs.PairBits.{card_in_row, with_pair}
+
+-- the flags have room, behind the bits of all pairs
+
+pub flag_word : (k : Shape) (c : ℕ) → IsShape k → bit_word k (flag k c) ≡ k.slots + k.cards + k.bits + c / 64
+flag_word k c shaped = let n : ℕ = k.regions * k.row in let e : k.bits ≡ n = shaped.8 in let goal : k.slots + k.cards + (n + c / 64) ≡ k.slots + k.cards + k.bits + c / 64 = omega arith in goal
+
+pub flag_below : (k : Shape) (c : ℕ) → IsShape k → c < k.cards → bit_word k (flag k c) < word_count k
+flag_below k c shaped lt = let e = flag_word k c shaped in let low = card_in_row k c shaped lt in omega (arith, e, low)
+
+-- a word of a region's row, or of the row of flags
+pub word_in_row : (k : Shape) (region i : ℕ) → IsShape k → region ≤ k.regions → i < k.row → k.slots + k.cards + (region * k.row + i) < word_count k
+word_in_row k region i shaped le lt =
+    let r : ℕ = region * k.row in let all : ℕ = k.row * suc k.regions in let pairs : ℕ = k.row * k.regions in let same : ℕ = k.regions * k.row in
+    let a : r + i < all = mul-add-lt region k.row i (suc k.regions) (omega (arith, le)) lt in
+    let b : all ≡ pairs + k.row = mul-suc k.row k.regions in let e : k.bits ≡ same = shaped.8 in let f : pairs ≡ same = omega arith in
+    let goal : k.slots + k.cards + (r + i) < k.slots + k.cards + k.bits + k.row = omega arith in goal
+
+pub bit_below : (k : Shape) (x : ℕ × ℕ) → IsShape k → x.0 < k.cards → x.1 ≤ k.regions → bit_word k x < word_count k
+bit_below k x shaped low row = word_in_row k x.1 (x.0 / 64) shaped row (card_in_row k x.0 shaped low)
+
+-- a row is no longer than the bits of all pairs
+pub row_small : (k : Shape) → IsShape k → k.row ≤ k.bits
+row_small k shaped =
+    let same : ℕ = k.regions * k.row in let all : ℕ = k.row * k.regions in let e : k.bits ≡ same = shaped.8 in
+    let some_region : 0 < k.regions = pick k.regions shaped.6 in let le : k.row ≤ all = le-mul_of_pos_right k.row some_region in omega arith
+  where
+    filled : 0 < k.slots
+    filled = subst (λ (n : ℕ). 0 < n) (sym shaped.0) (mul-pos shaped.5 shaped.1)
+
+    pick : (r : ℕ) → k.slots ≡ r * k.span → 0 < r
+    pick zero e = absurd (omega (arith, filled, e))
+    pick (suc r) e = omega arith
+
+-- the words of slots and marks stay
+abbrev pub SameFront : Shape → List ℕ → List ℕ → Type 0
+SameFront k words new = (i : ℕ) → i < k.slots + k.cards → get_elem? new i ≡ get_elem? words i
+
+-- a pair's bit, or a card's flag, is set
+pub front_stays : (k : Shape) (words : List ℕ) (x : ℕ × ℕ) → SameFront k words (with_pair k words x)
+front_stays k words x i lt = set_else words (bit_word k x) i _ (λ e. let m : ℕ = x.1 * k.row + x.0 / 64 in let f : i ≡ k.slots + k.cards + m = e in absurd (omega arith))
+
+-- no mark is made dirty, and no flag is cleared
+
+abbrev pub NoneDirtied : Shape → List ℕ → List ℕ → Type 0
+NoneDirtied k words new = (c : ℕ) → c < k.cards → get_elem? new (mark_word k c) ≡ some 1 → get_elem? words (mark_word k c) ≡ some 1
+
+-- a mark is cleaned
+pub none_dirtied : (k : Shape) (words : List ℕ) (c : ℕ) → mark_word k c < length words → NoneDirtied k words (set words (mark_word k c) 0)
+none_dirtied k words c short d below m = pick (ℕ_discrete d c)
+  where
+    pick : Dec (d ≡ c) → get_elem? words (mark_word k d) ≡ some 1
+    pick (yes e) = absurd (let z : 0 ≡ 1 = some-injective 0 1 (sym (set_here words (mark_word k c) 0 short) ∙ subst (λ (x : ℕ). get_elem? (set words (mark_word k c) 0) (mark_word k x) ≡ some 1) e m) in omega arith)
+    pick (no ne) = sym (set_else words (mark_word k c) (mark_word k d) 0 (λ x. ne (omega arith))) ∙ m
+
+abbrev pub FlagsStay : Shape → List ℕ → List ℕ → Type 0
+FlagsStay k words new = (c : ℕ) → IsFlagged k words c → IsFlagged k new c
+
+pub are_flagged : (k : Shape) (words new : List ℕ) → NoneDirtied k words new → FlagsStay k words new → AreFlagged k words → AreFlagged k new
+are_flagged k words new marks flags h c lt m = flags c (h c lt (marks c lt m))
+
+pub flags_moved : (k : Shape) (words new : List ℕ) (views after : List View) → NoneDirtied k words new → FlagsStay k words new → ((c : ℕ) → Held flagged_of after c → Held flagged_of views c) → Flagged k words views → Flagged k new after
+flags_moved k words new views after marks flags back h = record {
+  marked = are_flagged k words new marks flags h.marked;
+  known = λ c b. flags c (h.known c (back c b));
+}
+
+pub flags_stay : (k : Shape) (words new : List ℕ) (views : List View) (id : ℕ) (v w : View) → get_elem? views id ≡ some v → v.flagged ≡ w.flagged → NoneDirtied k words new → FlagsStay k words new → Flagged k words views → Flagged k new (set views id w)
+flags_stay k words new views id v w at same marks flags = flags_moved k words new views (set views id w) marks flags (λ c. (held_same flagged_of views id v w at same c).1)
