@@ -26,7 +26,7 @@ use Rattle.g1_race.specs.Clearing.{Into, IsLeastInto, IsLeastOn, IsEmptied}
 use Rattle.g1_race_words.proofs.AtBeginning.{no_bit}
 use Rattle.g1_race_words.proofs.Places.{at_take, at_untake, reads_as}
 use Rattle.g1_race_words.proofs.PairBits.{card_below, card_in_row, crosses_some, crossing_pair, in_row}
-use Rattle.g1_race_words.proofs.Flags.{word_in_row}
+use Rattle.g1_race_words.proofs.Flags.{flag_card, word_in_row}
 use Rattle.g1_race.proofs.StoreCalls.{other_region}
 use Rattle.g1_race.proofs.Ends.{crosses_apart, recorded_set, set_recorded, word_back, word_refers}
 
@@ -109,7 +109,7 @@ module _ (k : Shape) (words : List ℕ) (region i : ℕ) (h : IsBegun (start k w
         (h.covered p n low there cr);
     proper = λ x pair b. h.proper x pair (bit_back x b);
     flagged = λ c low m. let was = sym (far (mark_word k c) (omega (arith, low))) ∙ m in
-        bit_on (flag k c) (row_apart k (flag k c) region i h.shaped low (λ e. clean (sym e) c low was) below) (h.flagged c low was);
+        bit_on (flag k c) (row_apart k (flag k c) region i h.shaped (flag_card k c low) (λ e. clean (sym e) c low was) below) (h.flagged c low was);
   }
 
   pub emptied_next : (old : List ℕ) → IsEmptied k old words region i → IsEmptied k old less region (i + 1)

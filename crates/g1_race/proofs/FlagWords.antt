@@ -1,5 +1,5 @@
 -- The cards' flags at a pause.
-use Rattle.std.proofs.Common.{◌≡◌, ℕ, zero, suc, ◌+◌, ◌<◌, ◌≤◌, ◌++◌, List, [], ◌∷◌, false, Some, None, sym, ap, ◌∙◌, subst, inl, inr, ⊎_elim, arith, eq-eqb}
+use Rattle.std.proofs.Common.{◌≡◌, ℕ, zero, suc, ◌+◌, ◌*◌, ◌/◌, ◌%◌, ◌<◌, ◌≤◌, ◌++◌, List, [], ◌∷◌, Option, false, Some, None, sym, ap, ◌∙◌, subst, inl, inr, ⊎_elim, arith, eq-eqb}
 use native.Mathlib.Decide.{ℕ_discrete}
 use lib.ListN.{get_elem?}
 use Rattle.std.specs.Int.{bit_at}
@@ -11,39 +11,44 @@ use Rattle.g1_race_words.specs.Rule.{HasBit, In, IsBegun, IsPair, bit_place, bit
 use Rattle.g1_race.specs.Over.{ended}
 use Rattle.g1_race.specs.Clearing.{IsEmptied}
 use Rattle.g1_race.specs.Refining.{AreRefined, Notes}
-use Rattle.g1_race.specs.Telling.{IsNext, is_marked, is_member}
+use Rattle.g1_race.specs.Telling.{IsNext, SkipsNone, is_marked, is_member}
 use Rattle.g1_race_words.proofs.Listing.{one_pair, pair_clear, pair_set}
 use Rattle.g1_race_words.proofs.Places.{take_at, take_same}
 use Rattle.g1_race.proofs.NextCards.{marked_word}
 
 -- a card whose flag is clear is clean
-pub unflagged_clean : (k : Shape) (words : List ℕ) (c : ℕ) → IsBegun (start k words) → c < k.cards → is_member k words k.regions c ≡ false → is_marked k words c ≡ false
+unflagged_clean : (k : Shape) (words : List ℕ) (c : ℕ) → IsBegun (start k words) → c < k.cards → is_member k words k.regions (c / 8 * 8) ≡ false → is_marked k words c ≡ false
 unflagged_clean k words c h lt e = elim (cases_Bool (is_marked k words c)) [
   | inl m ↦ absurd (true≢false (sym (eq-eqb _ 1 (h.flagged c lt (marked_word k words c h lt m))) ∙ e))
   | inr m ↦ m
 ]
 
--- no card is dirty from one on up to the next one with a flag
+-- where flags are passed over that are clear, no dirty card is
+pub skips_none : (k : Shape) (words : List ℕ) (from : ℕ) (found : Option ℕ) → IsBegun (start k words) → from % 8 ≡ 0 → IsNext (is_member k words k.regions) k.cards from found → SkipsNone (is_marked k words) k.cards from found
+skips_none k words from None h first none = λ c le lt. unflagged_clean k words c h lt (none (c / 8 * 8) (omega (arith, le, first)) (omega (arith, lt)))
+skips_none k words from (Some card) h first is = (is.0, is.1, λ c le lt. unflagged_clean k words c h (omega (arith, lt, is.1)) (is.3 (c / 8 * 8) (omega (arith, le, first)) (omega (arith, lt))))
+
+-- from one such card to the next
 
 abbrev NoneDirty : Shape → List ℕ → ℕ → ℕ → Type 0
 NoneDirty k words from end = (c : ℕ) → from ≤ c → c < end → c < k.cards → is_marked k words c ≡ false
 
-pub clean_before : (k : Shape) (words : List ℕ) (from next card : ℕ) → IsBegun (start k words) → NoneDirty k words from next → IsNext (is_member k words k.regions) k.cards next (Some card) → (c : ℕ) → from ≤ c → c < card → is_marked k words c ≡ false
-clean_before k words from next card h none is c le lt = elim (cases_lt c next) [
+pub clean_before : (k : Shape) (words : List ℕ) (from next card : ℕ) → NoneDirty k words from next → SkipsNone (is_marked k words) k.cards next (Some card) → (c : ℕ) → from ≤ c → c < card → is_marked k words c ≡ false
+clean_before k words from next card none is c le lt = elim (cases_lt c next) [
   | inl low ↦ none c le low (omega (arith, lt, is.1))
-  | inr high ↦ unflagged_clean k words c h (omega (arith, lt, is.1)) (is.3 c high lt)
+  | inr high ↦ is.2 c high lt
 ]
 
-pub clean_past : (k : Shape) (words : List ℕ) (from next card : ℕ) → IsBegun (start k words) → NoneDirty k words from next → IsNext (is_member k words k.regions) k.cards next (Some card) → is_marked k words card ≡ false → NoneDirty k words from (card + 1)
-clean_past k words from next card h none is clean c le lt below = elim (cases_lt c card) [
-  | inl low ↦ clean_before k words from next card h none is c le low
+pub clean_past : (k : Shape) (words : List ℕ) (from next card : ℕ) → NoneDirty k words from next → SkipsNone (is_marked k words) k.cards next (Some card) → is_marked k words card ≡ false → NoneDirty k words from (card + 1)
+clean_past k words from next card none is clean c le lt below = elim (cases_lt c card) [
+  | inl low ↦ clean_before k words from next card none is c le low
   | inr high ↦ subst (λ (x : ℕ). is_marked k words x ≡ false) (let e : card ≡ c = omega (arith, high, lt) in e) clean
 ]
 
-pub clean_after : (k : Shape) (words : List ℕ) (from next : ℕ) → IsBegun (start k words) → NoneDirty k words from next → IsNext (is_member k words k.regions) k.cards next None → IsNext (is_marked k words) k.cards from None
-clean_after k words from next h none is c le lt = elim (cases_lt c next) [
+pub clean_after : (k : Shape) (words : List ℕ) (from next : ℕ) → NoneDirty k words from next → SkipsNone (is_marked k words) k.cards next None → IsNext (is_marked k words) k.cards from None
+clean_after k words from next none is c le lt = elim (cases_lt c next) [
   | inl low ↦ none c le low lt
-  | inr high ↦ unflagged_clean k words c h lt (is c high lt)
+  | inr high ↦ is c high lt
 ]
 
 -- a flag is no pair's bit

@@ -23,7 +23,7 @@ use Rattle.g1_race.specs.Evacuating.{forgotten}
 use Rattle.g1_race.specs.Telling.{is_member}
 use Rattle.g1_race_words.proofs.Places.{at_take, at_untake, reads_as}
 use Rattle.g1_race_words.proofs.PairBits.{bit_apart, crosses_some, card_below, crossing_pair}
-use Rattle.g1_race_words.proofs.Flags.{bit_below}
+use Rattle.g1_race_words.proofs.Flags.{bit_below, flag_card}
 use Rattle.g1_race.proofs.Ends.{crosses_apart, recorded_set, region_of_quotient, set_recorded, word_refers}
 
 module _ (k : Shape) (words : List ℕ) (x : ℕ × ℕ) where
@@ -78,7 +78,7 @@ module _ (k : Shape) (words : List ℕ) (x : ℕ × ℕ) where
           (λ (m : IsMarked k words p). inr (far (mark_word k (card_of k p)) (let c = card_below k p h.shaped lt in omega (arith, c)) ∙ m))
           (h.covered p n lt was cr);
       proper = λ y py b. h.proper y py (back y b);
-      flagged = λ c lt m. stays (flag k c) lt (λ e. absurd (let r : x.1 ≡ k.regions = ap (λ (y : ℕ × ℕ). y.1) e in let low : x.1 < k.regions = pair.1 in omega (arith, r, low))) (h.flagged c lt (sym (far (mark_word k c) (omega (arith, lt))) ∙ m));
+      flagged = λ c lt m. stays (flag k c) (flag_card k c lt) (λ e. absurd (let r : x.1 ≡ k.regions = ap (λ (y : ℕ × ℕ). y.1) e in let low : x.1 < k.regions = pair.1 in omega (arith, r, low))) (h.flagged c lt (sym (far (mark_word k c) (omega (arith, lt))) ∙ m));
     }
 
     pub unset_is : AreUnset k words without (λ y. y ≡ x)

@@ -38,6 +38,11 @@ has_block k words block region =
 abbrev pub block_regions : Shape → List ℕ → ℕ → ℕ → List ℕ
 block_regions k words block n = cards_where (has_block k words block) n
 
+-- a card from one on, below a limit, and of none before it the test is true; or of none at all
+abbrev pub SkipsNone : (ℕ → Bool) → ℕ → ℕ → Option ℕ → Type 0
+SkipsNone test limit from None = (card : ℕ) → from ≤ card → card < limit → test card ≡ false
+SkipsNone test limit from (Some card) = (from ≤ card) × (card < limit) × ((other : ℕ) → from ≤ other → other < card → test other ≡ false)
+
 -- the least card from one on, below a limit, of which the test is true
 abbrev pub IsNext : (ℕ → Bool) → ℕ → ℕ → Option ℕ → Type 0
 IsNext test limit from None = (card : ℕ) → from ≤ card → card < limit → test card ≡ false

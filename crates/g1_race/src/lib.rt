@@ -4,9 +4,9 @@
 //! The table of a race has one word for each slot (0 for null, else the place that it refers to,
 //! plus 1) and one for each card's mark (1 for a dirty card, else 0), and behind them a row of bits
 //! for each region, with one for each card, set where the pair (card, region) is recorded. One more
-//! row has a flag for each card, set wherever its mark is dirty: a racer sets it before the mark,
-//! and only a pause clears it, so a pause finds the dirty cards without a look at each mark. A
-//! [`Racer`] stores: it writes the slot first, and then sees that the slot's card is dirty where
+//! row has a flag for each eight cards, set wherever one of them is dirty: a racer sets it before
+//! the mark, and only a pause clears it, so a pause finds the dirty cards without a look at each
+//! mark. A [`Racer`] stores: it writes the slot first, and then sees that the slot's card is dirty where
 //! the reference crosses regions. A [`Sweeper`] refines: it cleans the card first, and then reads
 //! its slots. So whatever the threads do, between any two steps each slot with a reference into
 //! another region has its card dirty or its pair (card, region) recorded, or a racer is about to

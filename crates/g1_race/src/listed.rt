@@ -43,8 +43,8 @@ impl Paused {
         members_of(&self.race, &mut self.seat, alloc, region)
     }
 
-    /// How many cards are dirty. Reads a word for each 64 cards of the heap, and two more for each
-    /// card that was dirtied since all was last refined at a pause.
+    /// How many cards are dirty. Reads a word for each 64 cards of the heap, and the marks of each
+    /// eight cards of which one was dirtied since all was last refined at a pause.
     pub fn pending_count(&mut self) -> u32
         ensures count { result ≡ set.len (halted self.old).pending }
         ensures same { self.new ≡ self.old }
@@ -67,8 +67,8 @@ impl Paused {
         Status { pending, recorded }
     }
 
-    /// The least dirty card. Reads a word for each 64 cards up to it, and two more for each of these
-    /// cards that was dirtied since all was last refined at a pause.
+    /// The least dirty card. Reads a word for each 64 cards up to it, and the marks of each eight of
+    /// these of which one was dirtied since all was last refined at a pause.
     pub fn next_dirty(&mut self) -> Option<Card>
         ensures dirty { IsLeastPending (halted self.old) result }
         ensures same { self.new ≡ self.old }

@@ -1,6 +1,6 @@
 //! Where the next dirty card is, and the next card of a region's set.
 ghost use Rattle.std.specs.Prelude.{◌≡◌, ◌+◌, ◌*◌, ◌<◌, ◌≤◌, ℕ, [], length, vec_capacity};
-ghost use Rattle.g1_race.specs.Telling.{IsNext, is_marked, is_member, marked_cards, member_cards, pair_count};
+ghost use Rattle.g1_race.specs.Telling.{IsNext, SkipsNone, is_marked, is_member, marked_cards, member_cards, pair_count};
 ghost use Rattle.g1_race.specs.Evacuating.{AreWritten};
 ghost use Rattle.g1_race_words.specs.Readers.{IsReading};
 
@@ -10,20 +10,38 @@ use crate::stopped::see;
 use g1_layout::Card;
 use g1_race_words::Place;
 
-// The least dirty card from one on. It looks at the marks of those cards alone whose flag is set.
+// The least dirty card from one on.
 pub(crate) fn next_marked(race: &Race, seat: &mut Place, from: usize) -> Option<usize>
     requires { IsReading race.now.table.table_id race.now.shape seat.old }
     ensures next { IsNext (is_marked race.now.shape seat.old.me.0.began_words) race.now.shape.cards from result }
     ensures seat { (seat.new.table_id ≡ seat.old.table_id) × (seat.new.me ≡ seat.old.me) }
 {
     let mut next = from;
-    while let Some(card) = next_member(race, seat, next, race.shape.regions) {
+    while let Some(card) = next_flagged(race, seat, next) {
         if see(race, seat, race.shape.slots + card) == 1 {
             return Some(card);
         }
         next = card + 1;
     }
     None
+}
+
+// A card from one on before which none is dirty: the first of the next eight that have their flag
+// set, or the card itself where it is not the first of its eight.
+fn next_flagged(race: &Race, seat: &mut Place, from: usize) -> Option<usize>
+    requires { IsReading race.now.table.table_id race.now.shape seat.old }
+    ensures next { let words = seat.old.me.0.began_words in
+        SkipsNone (is_marked race.now.shape words) race.now.shape.cards from result }
+    ensures seat { (seat.new.table_id ≡ seat.old.table_id) × (seat.new.me ≡ seat.old.me) }
+{
+    if from % 8 == 0 {
+        return next_member(race, seat, from, race.shape.regions);
+    }
+    if from < race.shape.cards {
+        Some(from)
+    } else {
+        None
+    }
 }
 
 // The least card from one on that is of the region's set, or in the row of flags the least whose

@@ -77,8 +77,8 @@ impl Reader {
     }
 
     /// The least dirty card from one on: each of several readers can look for those of a stretch of
-    /// the heap. Reads a word for each 64 cards up to it, and two more for each of these cards that
-    /// was dirtied since all was last refined at a pause. The reader must be of this race.
+    /// the heap. Reads a word for each 64 cards up to it, and the marks of each eight of them of
+    /// which one was dirtied since all was last refined at a pause. The reader must be of this race.
     pub fn next_dirty(&mut self, race: &Race, from: Card) -> Option<Card>
         requires reader { reader_race self.old ≡ race_id race.now }
         ensures dirty { IsNextPending (table_read race.now self.old) from result }

@@ -14,12 +14,6 @@ use Rattle.g1_race_words.proofs.PairBits.{card_in_row, with_pair}
 
 -- the flags have room, behind the bits of all pairs
 
-pub flag_word : (k : Shape) (c : ℕ) → IsShape k → bit_word k (flag k c) ≡ k.slots + k.cards + k.bits + c / 64
-flag_word k c shaped = let n : ℕ = k.regions * k.row in let e : k.bits ≡ n = shaped.8 in let goal : k.slots + k.cards + (n + c / 64) ≡ k.slots + k.cards + k.bits + c / 64 = omega arith in goal
-
-pub flag_below : (k : Shape) (c : ℕ) → IsShape k → c < k.cards → bit_word k (flag k c) < word_count k
-flag_below k c shaped lt = let e = flag_word k c shaped in let low = card_in_row k c shaped lt in omega (arith, e, low)
-
 -- a word of a region's row, or of the row of flags
 pub word_in_row : (k : Shape) (region i : ℕ) → IsShape k → region ≤ k.regions → i < k.row → k.slots + k.cards + (region * k.row + i) < word_count k
 word_in_row k region i shaped le lt =
@@ -30,6 +24,12 @@ word_in_row k region i shaped le lt =
 
 pub bit_below : (k : Shape) (x : ℕ × ℕ) → IsShape k → x.0 < k.cards → x.1 ≤ k.regions → bit_word k x < word_count k
 bit_below k x shaped low row = word_in_row k x.1 (x.0 / 64) shaped row (card_in_row k x.0 shaped low)
+
+pub flag_card : (k : Shape) (c : ℕ) → c < k.cards → c / 8 * 8 < k.cards
+flag_card k c lt = omega arith
+
+pub flag_below : (k : Shape) (c : ℕ) → IsShape k → c < k.cards → bit_word k (flag k c) < word_count k
+flag_below k c shaped lt = bit_below k (flag k c) shaped (flag_card k c lt) (omega arith)
 
 -- a row is no longer than the bits of all pairs
 pub row_small : (k : Shape) → IsShape k → k.row ≤ k.bits

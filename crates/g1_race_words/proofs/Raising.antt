@@ -15,7 +15,7 @@ use Rattle.g1_race_words.proofs.Plain.{held_back, held_same, true_is, false_is}
 use Rattle.g1_race_words.proofs.PairBits.{with_pair, bit_here, bits_stay, bits_back, same_bits, bit_as}
 use Rattle.g1_race_words.proofs.Keeping.{kept_stays, noted_on}
 use Rattle.g1_race_words.proofs.Recording.{raced_held}
-use Rattle.g1_race_words.proofs.Flags.{flag_below, front_stays}
+use Rattle.g1_race_words.proofs.Flags.{flag_below, flag_card, front_stays}
 
 -- the one card that is owed
 only_owed : (o : Option ℕ) (c d : ℕ) → o ≡ Some c → In (owed_card o) d → c ≡ d
@@ -76,7 +76,7 @@ raced_raised begun words views id v c shaped sits owes lt at h = raced_held begu
       has = λ y n. ⊎_elim (λ (b : HasBit k words y). inl (bits_stay k words x short y b)) (λ (a : Held held_of views y). inr ((held_same held_of views id v w at refl y).0 a)) (h.kept.has y (noted_on begun.pairs (set views id w) views (λ z. (pairs z).1) y n));
       only = λ y p b. ⊎_elim (λ (o : HasBit k words y). noted_on begun.pairs views (set views id w) (λ z. (pairs z).0) y (h.kept.only y p o))
           (λ (e : x ≡ y). absurd (let r : k.regions ≡ y.1 = ap (λ (z : ℕ × ℕ). z.1) e in let l : y.1 < k.regions = p.1 in omega (arith, r, l)))
-          (bits_back k words x short y shaped lt p.0 b);
+          (bits_back k words x short y shaped (flag_card k c lt) p.0 b);
       read = λ y a. (pairs y).0 (h.kept.read y ((held_same held_of views id v w at refl y).1 a));
     })
     (record {

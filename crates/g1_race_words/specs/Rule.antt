@@ -2,8 +2,8 @@
 -- each other. Word p, below the number of slots, is 0 or one more than the slot that slot p refers
 -- to. The word of card c's mark comes c places after the slots' words. Behind the marks' words come
 -- those with a bit for each pair of a card and a region, which is 1 once the pair is recorded: a
--- row of words for each region, 64 cards to a word. One more row has a flag for each card, which is
--- 1 wherever the card's mark is.
+-- row of words for each region, 64 cards to a word. One more row has a flag for each eight cards,
+-- which is 1 wherever a mark of theirs is.
 use Rattle.std.specs.Prelude.{nat_lt, ◌≡◌, ◌⊎◌, ℕ, ◌+◌, ◌-◌, ◌*◌, ◌/◌, ◌%◌, ◌<◌, ◌≤◌, ◌^◌, slice_index, replicate, take, List, [], ◌∷◌, ◌++◌, length, zero, suc, Bool, true, false, not, ◌==◌, if◌then◌else◌, Option, Some, None}
 use Rattle.std.specs.Int.{bit_at}
 use mathlib.Core.Option.{some}
@@ -88,9 +88,10 @@ last_to p (x ∷ xs) = if x.0 == p then Some x.1 else last_to p xs
 abbrev pub word_count : Shape → ℕ
 word_count k = k.slots + k.cards + k.bits + k.row
 
--- a card's flag: its bit in the row behind that of the last region
+-- a card's flag, which eight cards have together: the first one's bit in the row behind that of the
+-- last region
 abbrev pub flag : Shape → ℕ → ℕ × ℕ
-flag k c = (c, k.regions)
+flag k c = (c / 8 * 8, k.regions)
 
 abbrev pub IsFlagged : Shape → List ℕ → ℕ → Type 0
 IsFlagged k words c = HasBit k words (flag k c)

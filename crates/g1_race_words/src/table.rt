@@ -12,7 +12,7 @@ use std::alloc::{AllocError, Global};
 use std::marker::Model;
 
 /// The words of a race: one for each slot, one for each card's mark, a row of bits for each region,
-/// and a row of flags, one for each card. Threads share it by `&`.
+/// and a row of flags, one for each eight cards. Threads share it by `&`.
 ///
 /// Its model is which table it is, and the shape of its heap.
 #[derive(Drop)]
