@@ -3,9 +3,9 @@
 //! has 4 regions of 2 cards of 4 slots: region r has slots 8r to 8r + 7, card c slots 4c to 4c + 3.
 //!
 //! What is printed is the same whatever the threads do. No slot is stored to twice before a pause,
-//! so at a pause each slot refers to what the stores up to it say, and every store is in the
-//! history. A drain returns each card outside its region that refers into it, and none that has not
-//! since the region's remembered set was last cleared. The comments below say which cards these are.
+//! so at a pause each slot refers to what the stores up to it say, and each store is an entry of
+//! the history. A drain returns every card outside its region that refers into it, and none that
+//! has not since the region's remembered set was last cleared. Comments say which cards these are.
 #![tactic(auto)]
 
 ghost use Rattle.std.specs.Prelude.{◌≡◌, []};
@@ -36,9 +36,9 @@ static FIRST: [Stores; 3] = [
 ];
 
 // The objects of region 1 are in region 3 now. Up to the second pause card 1 loses its reference
-// into it, card 0 comes to have a second one and card 5 a first and a second: with slots 0 and 16,
-// which the pause redirected, and slots 1, 20 and 21 there are 5 slots on cards 0, 4 and 5. Card 1
-// is listed too: the redirect recorded it, and a remembered set keeps a card until it is cleared.
+// into it, card 0 comes to have a second one and card 5 two: with slots 0 and 16, which the pause
+// redirected, and slots 1, 20 and 21 there are 5 slots, on cards 0, 4 and 5. Card 1 is listed too:
+// the redirect recorded it, and a remembered set keeps a card until it is cleared.
 static SECOND: [Stores; 3] = [
     &[(4, None), (1, Some(24))],
     &[(17, None), (18, Some(1))],

@@ -11,8 +11,8 @@ use g1_shared::{Caller, Counted, Frame, Shared};
 use std::sync::Wait;
 use std::sync::ledger::Ledger;
 
-/// Evacuates region `from` into the empty region `to`, at a pause of all callers, which may go on
-/// then. The slots of `from` are null here; else the guard's stores copy what they hold.
+/// Evacuates region `from` into the empty region `to` at a pause, and gives the callers back to go
+/// on. The slots of `from` are null here; else the guard's stores would copy what they hold.
 pub fn evacuate<R: Wait + Print, M: Frame, S: Ledger>(
     rt: &R,
     shared: &Shared<M, S>,
@@ -65,7 +65,8 @@ fn drain<M: Frame, S: Ledger>(
     region: Region,
 ) -> Result<CardList>
     requires { region < M.terms.layout.regions }
-    ensures exact { IfOk result (λ cards. IsExact (layout_in book.old) book.old.entries region cards) }
+    ensures exact { IfOk result (λ cards.
+        IsExact (layout_in book.old) book.old.entries region cards) }
     ensures mark { mark_of caller.new ≡ mark_of caller.old }
 {
     match book.drain(caller, region)? {
