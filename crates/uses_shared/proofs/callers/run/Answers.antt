@@ -1,6 +1,5 @@
 use Rattle.std.proofs.Common.{arith, ◌≡◌, ◌+◌, ◌∙◌, ap, subst, All, IfOk, length, length-append}
 use Rattle.std.proofs.lemmas.List.Elements.{All-head, All-rest, All-push}
-use Rattle.std.specs.Vec.Iter.{into_iter_items}
 use Rattle.g1_shared.specs.Callers.{IsCallerOf}
 use Rattle.uses_shared.proofs.callers.run.Goals as goal
 
