@@ -1,28 +1,58 @@
-//! Three mutators store references, each in a thread of its own, while two refinement threads run
-//! beside them. Then the book that they shared says how many stores there were, and which cards
-//! have to be scanned for each region.
+//! The life of a runtime whose threads share one book: twice its mutators store beside two
+//! refinement threads, each in a thread of its own, and twice a pause evacuates a region. The heap
+//! has 4 regions of 2 cards of 4 slots: region r has slots 8r to 8r + 7, card c slots 4c to 4c + 3.
+//!
+//! What is printed is the same whatever the threads do. No slot is stored to twice before a pause,
+//! so at a pause each slot refers to what the stores up to it say, and each store is an entry of
+//! the history. A drain returns every card outside its region that refers into it, and none that
+//! has not since the region's remembered set was last cleared. Comments say which cards these are.
 #![tactic(auto)]
 
-mod crew;
+ghost use Rattle.std.specs.Prelude.{◌≡◌, []};
+ghost use Rattle.g1_book.specs.History.{terms_of};
+
+mod callers;
+mod pause;
 
 use anyhow::{Context, Result, bail};
-use crew::run;
+use callers::{Stores, run};
 use g1_book::Book;
-use g1_core::{Call, Config, Drained};
+use g1_core::{Call, Config};
 use g1_layout::Layout;
-use std::marker::Brand;
-use std::sync::ledger::Blank;
+use g1_shared::{Frame, Shared};
+use pause::evacuate;
+use std::alloc::Global;
+use std::marker::{Brand, Send};
+use std::sync::Wait;
+use std::sync::ledger::{Blank, Ledger};
+use std::thread::Threads;
+
+// Up to the first pause slots 0, 4 and 16 of cards 0, 1 and 4 come to refer into region 1, and no
+// other slot outside it does: so its drain lists these cards, and 3 slots are redirected.
+static FIRST: [Stores; 3] = [
+    &[(0, Some(8)), (1, Some(16)), (4, Some(9)), (5, Some(6))],
+    &[(16, Some(10)), (17, Some(1)), (18, Some(20))],
+    &[(20, Some(2)), (21, Some(3))],
+];
+
+// The objects of region 1 are in region 3 now. Up to the second pause card 1 loses its reference
+// into it, card 0 comes to have a second one and card 5 two: with slots 0 and 16, which the pause
+// redirected, and slots 1, 20 and 21 there are 5 slots, on cards 0, 4 and 5. Card 1 is listed too:
+// the redirect recorded it, and a remembered set keeps a card until it is cleared.
+static SECOND: [Stores; 3] = [
+    &[(4, None), (1, Some(24))],
+    &[(17, None), (18, Some(1))],
+    &[(20, Some(25)), (21, Some(26))],
+];
 
 fn main(rt: HostRuntime) -> Result<()> {
     let layout = Layout::new(4, 2, 4).context("outside the limits of a heap")?;
     let config = Config::new(2, 1, 4, 4, 1).context("a setting outside its limits")?;
     let book = Book::open(rt.alloc(), layout, config, 3, 1_000)?;
     let (made, stored) = (Blank::new(5), Blank::new(5));
-    let mut book = run::<HostRuntime, Brand, Brand>(&rt, rt.alloc(), made, stored, book)?;
-    println!(&rt; "{} stores", count_stores(&book))?;
-    for number in 0..4 {
-        print_cards(&rt, &mut book, number)?;
-    }
+    let book = live::<HostRuntime, Brand, Brand>(&rt, rt.alloc(), made, stored, book)?;
+    // each store is one entry: 9 up to the first pause, and 6 up to the second
+    println!(&rt; "{} stores in the history", count_stores(&book))?;
     Ok(())
 }
 
@@ -33,16 +63,27 @@ fn count_stores(book: &Book) -> usize {
         .count()
 }
 
-// Drains a region, and prints the cards that hold references into it.
-fn print_cards(rt: &impl Print, book: &mut Book, number: u32) -> Result<()> {
-    let region = book.layout().region(number).context("no such region")?;
-    let Drained::Cards { cards, .. } = book.drain(0, region)? else {
-        bail!("out of memory: the rest stays pending, drain again");
+// Shares a book among three mutators and two refinement threads, which run up to each of two
+// pauses. No clause can name what is under the lock, so conditions speak of `M.terms`.
+fn live<R: Threads + Wait + Sync + Print, M: Frame + Send + Sync, S: Ledger + Send + Sync>(
+    rt: &R,
+    alloc: Global,
+    made: Blank,
+    stored: Blank,
+    book: Book,
+) -> Result<Book>
+    requires made { (made.name ≡ M.name) × (made.parts ≡ M.parts) × (made.parts ≡ 5) }
+    requires stored { (stored.name ≡ S.name) × (stored.parts ≡ S.parts) × (stored.parts ≡ 5) }
+    requires terms { terms_of book ≡ M.terms }
+    requires mutators { M.terms.mutators ≡ 3 }
+    requires empty { book.entries ≡ [] }
+{
+    let Ok((shared, callers)) = Shared::<M, S>::open(made, stored, book, 5) else {
+        bail!("out of memory");
     };
-    print!(rt; "region {number}: scan")?;
-    for card in cards.as_slice() {
-        print!(rt; " {}", card.number())?;
-    }
-    println!(rt; "")?;
-    Ok(())
+    let callers = run(rt, alloc, &shared, callers, &FIRST)?;
+    let callers = evacuate(rt, &shared, callers, 1, 3)?;
+    let callers = run(rt, alloc, &shared, callers, &SECOND)?;
+    let callers = evacuate(rt, &shared, callers, 3, 1)?;
+    Ok(shared.finish(callers))
 }
