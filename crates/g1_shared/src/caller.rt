@@ -10,7 +10,7 @@ use std::sync::ledger::{Ledger, Share};
 /// A caller's number, how many of its calls were entered and how many of these are stores, with its shares of both
 /// totals.
 #[derive(Drop)]
-pub(crate) struct Counts<M: Frame, S: Ledger> {
+pub struct Counts<M: Frame, S: Ledger> {
     number: u32,
     pub(crate) made: u64,
     pub(crate) stored: u64,

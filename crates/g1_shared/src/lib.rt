@@ -10,6 +10,7 @@
 
 mod caller;
 mod counted;
+mod keeper;
 mod ledgers;
 mod locked_book;
 mod shared;
@@ -17,6 +18,7 @@ mod shared_desk;
 
 pub use caller::Caller;
 pub use counted::Counted;
+pub use keeper::Keeper;
 pub use ledgers::Frame;
 pub use shared::Shared;
 pub use shared_desk::SharedDesk;

@@ -4,7 +4,7 @@ ghost use Rattle.std.proofs.Common.{◌∙◌, ap};
 ghost use Rattle.g1_shared.specs.Counts.{counted, counted_then, counted_number};
 
 use crate::caller::Counts;
-use crate::counted::Counted;
+use crate::keeper::Keeper;
 use crate::ledgers::Frame;
 use g1_book::Refusal;
 use g1_core::{RefineReply, StoreReply};
@@ -19,14 +19,14 @@ use std::sync::{Mutex, Wait};
 ///
 /// Of the calls that were made only the counts tell: what the book was at that moment no clause can say.
 #[derive(Drop)]
-pub(crate) struct LockedBook<'a, R, M: Frame, S: Ledger> {
+pub(crate) struct LockedBook<'a, R, M: Frame, S: Ledger, K: Keeper<M, S>> {
     pub(crate) rt: &'a R,
-    pub(crate) book: &'a Mutex<Counted<M, S>>,
+    pub(crate) book: &'a Mutex<K>,
     pub(crate) counts: &'a mut Counts<M, S>,
     pub(crate) alloc: Global,
 }
 
-impl<'a, R: Wait, M: Frame, S: Ledger> Calls for LockedBook<'a, R, M, S> {
+impl<'a, R: Wait, M: Frame, S: Ledger, K: Keeper<M, S>> Calls for LockedBook<'a, R, M, S, K> {
     ghost layout = { λ s. M.terms.layout };
 
     ghost may_store = { λ s. nat_lt s.counts.now.number M.terms.mutators };

@@ -9,10 +9,11 @@ mod opening;
 mod steps;
 
 use crate::counted::Counted;
+use crate::keeper::Keeper;
 use crate::ledgers::Frame;
 use g1_log::Line;
 use std::alloc::Global;
-use std::marker::Model;
+use std::marker::{Model, PhantomData};
 use std::sync::ledger::Ledger;
 use std::sync::{Mutex, MutexGuard, Wait};
 
@@ -22,14 +23,15 @@ use std::sync::{Mutex, MutexGuard, Wait};
 /// lock is held for one call of the book at a time, and never while a buffer is put into the line or taken from it.
 /// Contracts see the line.
 #[derive(Drop)]
-pub struct Shared<M: Frame, S: Ledger> {
-    counted: Mutex<Counted<M, S>>,
+pub struct Shared<M: Frame, S: Ledger, K: Keeper<M, S> = Counted<M, S>> {
+    counted: Mutex<K>,
     line: Line,
     alloc: Global,
     start: usize,
+    of: PhantomData<(M, S)>,
 }
 
-impl<M: Frame, S: Ledger> Model for Shared<M, S> {
+impl<M: Frame, S: Ledger, K: Keeper<M, S>> Model for Shared<M, S, K> {
     ghost use Rattle.std.specs.Prelude.{◌≡◌};
     ghost use Rattle.g1_log.specs.declared.line.Line.{Line as L};
 
@@ -40,7 +42,7 @@ impl<M: Frame, S: Ledger> Model for Shared<M, S> {
     ghost invariant = { λ s. s.start ≡ M.terms.settings.start };
 }
 
-impl<M: Frame, S: Ledger> Shared<M, S> {
+impl<M: Frame, S: Ledger> Shared<M, S, Counted<M, S>> {
     ghost use Rattle.std.specs.Sync.Mutex.{mutex_guard_value};
     ghost use Rattle.g1_core.specs.Table.{IsCovered};
     ghost use Rattle.g1_core.specs.Machine.{IsSound};

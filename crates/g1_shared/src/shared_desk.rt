@@ -8,6 +8,8 @@ ghost use Rattle.g1_shared.specs.Callers.{IsCallerOf, log_of, StoresAt, FlushesA
 ghost use Rattle.g1_shared.specs.Did.{DeskDid, caller_did_none, desk_did_then};
 
 use crate::caller::Caller;
+use crate::counted::Counted;
+use crate::keeper::Keeper;
 use crate::ledgers::Frame;
 use crate::shared::Shared;
 use g1_book::Refusal;
@@ -21,16 +23,20 @@ use std::sync::ledger::Ledger;
 ///
 /// Its calls are those of [`Shared`]. Of the calls that were made, what is known is what the caller's counts tell.
 #[derive(Drop)]
-pub struct SharedDesk<'a, R, M: Frame, S: Ledger> {
+pub struct SharedDesk<'a, R, M: Frame, S: Ledger, K: Keeper<M, S> = Counted<M, S>> {
     rt: &'a R,
-    shared: &'a Shared<M, S>,
+    shared: &'a Shared<M, S, K>,
     caller: Caller<M, S>,
     ghost of: { IsCallerOf shared.now caller } by { Prim.hlevel props },
 }
 
-impl<'a, R, M: Frame, S: Ledger> SharedDesk<'a, R, M, S> {
+impl<'a, R, M: Frame, S: Ledger, K: Keeper<M, S>> SharedDesk<'a, R, M, S, K> {
     /// A desk of this caller at the book that it is a caller of.
-    pub fn new(rt: &'a R, shared: &'a Shared<M, S>, caller: Caller<M, S>) -> SharedDesk<'a, R, M, S>
+    pub fn new(
+        rt: &'a R,
+        shared: &'a Shared<M, S, K>,
+        caller: Caller<M, S>,
+    ) -> SharedDesk<'a, R, M, S, K>
         requires { IsCallerOf shared.now caller }
         ensures caller { result.caller ≡ caller }
         ensures shared { result.shared.now ≡ shared.now }
@@ -53,7 +59,7 @@ impl<'a, R, M: Frame, S: Ledger> SharedDesk<'a, R, M, S> {
 }
 
 #[tactic(auto, using(crate::proofs::CountLemmas::makes_none, crate::proofs::CountLemmas::makes_lost))]
-impl<'a, R: Wait, M: Frame, S: Ledger> Desk for SharedDesk<'a, R, M, S> {
+impl<'a, R: Wait, M: Frame, S: Ledger, K: Keeper<M, S>> Desk for SharedDesk<'a, R, M, S, K> {
     ghost did = { λ s asks t. DeskDid (capacity_of s.shared.now) s.caller asks (capacity_of t.shared.now) t.caller };
 
     ghost slots = { λ s. slot_count M.terms.layout };

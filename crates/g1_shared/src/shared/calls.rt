@@ -4,6 +4,7 @@ ghost use Rattle.g1_layout.specs.Shape.{slot_count, card_count};
 ghost use Rattle.g1_shared.specs.Callers.{called_once};
 
 use crate::caller::Caller;
+use crate::keeper::Keeper;
 use crate::ledgers::Frame;
 use crate::shared::Shared;
 use g1_book::Refusal;
@@ -15,7 +16,7 @@ use std::sync::ledger::Ledger;
 /// Each call waits for the lock, makes the call of [`Counted`](crate::Counted) for the caller, and hands its answer on. It is
 /// one entry more of that caller, or refused, which leaves the caller as it was. A clause can say no more of what stood
 /// under the lock; who holds the guard (`lock`) makes the same calls with their whole contracts.
-impl<M: Frame, S: Ledger> Shared<M, S> {
+impl<M: Frame, S: Ledger, K: Keeper<M, S>> Shared<M, S, K> {
     /// As the book's question for what a slot refers to, by this caller under the lock.
     pub fn target<R: Wait>(
         &self,

@@ -10,6 +10,7 @@ ghost use Rattle.g1_shared.specs.Counts.{CountsDid};
 ghost use Rattle.g1_shared.specs.Callers.{Standing, mark_of, IsCallerOf, log_of, taken_list, StoresAt, FlushesAt, RefinesAt, RoundsAt, IsPaused};
 
 use crate::caller::{Caller, Counts};
+use crate::keeper::Keeper;
 use crate::ledgers::Frame;
 use crate::locked_book::LockedBook;
 use crate::shared::Shared;
@@ -21,7 +22,7 @@ use g1_steps::{FlushReply, empty_line, refine, work};
 use std::sync::Wait;
 use std::sync::ledger::Ledger;
 
-impl<M: Frame, S: Ledger> Shared<M, S> {
+impl<M: Frame, S: Ledger, K: Keeper<M, S>> Shared<M, S, K> {
     /// Stores a reference, or null, as a mutator does (`Mutator::store`), by a call under the lock.
     ///
     /// Once the lock is left, a log that was filled goes into the line; where the line does not take it, the caller

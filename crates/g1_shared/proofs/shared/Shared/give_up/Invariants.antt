@@ -1,5 +1,5 @@
 use Rattle.std.proofs.Common.{◌≡◌, ◌+◌, vec_len, sum_by}
-use Rattle.g1_shared.proofs.shared.Shared.finish.Given as goal
+use Rattle.g1_shared.proofs.shared.Shared.give_up.Given as goal
 
 abbrev pub invariant-loop-caller : goal.invariant-loop-caller
 invariant-loop-caller g l =
