@@ -35,8 +35,8 @@ impl Collector {
         })
     }
 
-    /// A step of the mutator: a new object, a store into a field, of a reference or of null, or a load from a field. All of them are
-    /// at objects to which roots refer.
+    /// Makes a step of the mutator: a new object, a store into a field, of a reference or of null,
+    /// or a load from a field. All of them are at objects to which roots refer.
     pub fn step(&mut self, script: &mut Script) -> Result<()> {
         let kind = script.next(8);
         let one = script.next(32) as usize;
@@ -83,7 +83,7 @@ impl Collector {
         }
     }
 
-    // A new object, after a pause where there is no room for it.
+    // A new object, after a pause if there is no room for it.
     fn allocate(&mut self) -> Result<u32> {
         if self.room().is_none() {
             self.pause()?;
@@ -130,7 +130,8 @@ impl Collector {
         )
     }
 
-    // A pause: the region with the most garbage is emptied into the free one, and is the free one then.
+    // A pause: the region with the most garbage is emptied into the free one, and is the free one
+    // then.
     fn pause(&mut self) -> Result<()> {
         let live = Live::of(self.alloc, &mut self.heap, self.roots.as_slice())?;
         let from = self.most_garbage(&live).context("the heap is full")?;
@@ -146,7 +147,8 @@ impl Collector {
         self.check()
     }
 
-    // The region with the most objects that were not reached, if any has one: the least of such regions.
+    // The region with the most objects that were not reached, if any has one: the least of such
+    // regions.
     fn most_garbage(&self, live: &Live) -> Option<u32> {
         let (regions, _, _) = self.heap.layout().counts();
         let mut most = 0;
@@ -184,7 +186,8 @@ impl Collector {
         Ok(())
     }
 
-    // Copies the objects of region `from` that were reached to the same offsets of region `to`, by stores.
+    // Copies the objects of region `from` that were reached to the same offsets of region `to`, by
+    // stores.
     fn copy(&mut self, from: u32, to: u32, live: &Live) -> Result<()> {
         for slot in 0..self.heap.layout().slot_count() {
             if self.region_of(slot) == Some(from) && live.has(slot) {
@@ -218,7 +221,7 @@ impl Collector {
         self.heap.clear(region)
     }
 
-    // The objects that were reached stand at the same offsets of region `to`.
+    // The objects that were reached are at the same offsets of region `to`.
     fn move_objects(&mut self, from: u32, to: u32, live: &Live) {
         for number in 0..OBJECTS {
             let object = number * FIELDS;
@@ -243,7 +246,7 @@ impl Collector {
         }
     }
 
-    // Holds each remembered set against all slots.
+    // Tests each remembered set against all slots.
     fn check(&mut self) -> Result<()> {
         let (regions, _, _) = self.heap.layout().counts();
         for region in 0..regions {

@@ -28,7 +28,7 @@ impl Heap {
         self.core.layout()
     }
 
-    /// A store of the mutator, which refines its log where that is full.
+    /// Makes a store of the mutator, which refines its log if that is full.
     pub fn store(&mut self, slot: u32, target: Option<u32>) -> Result<()> {
         let layout = self.core.layout();
         let into = layout.slot(slot).context("no such slot")?;
@@ -42,13 +42,14 @@ impl Heap {
         Ok(())
     }
 
-    /// What a slot refers to.
+    /// Returns what a slot refers to.
     pub fn target(&mut self, slot: u32) -> Option<u32> {
         let slot = self.core.layout().slot(slot)?;
         Some(self.core.target(slot)?.number())
     }
 
-    /// Drains a region at a pause: the cards to scan for references into it. The log is dropped: what it has is pending.
+    /// Drains a region at a pause, and returns the cards to scan for references into it. The log is
+    /// dropped: what it has is pending.
     pub fn drain(&mut self, region: u32) -> Result<CardList> {
         let _ = self.log.take();
         let region = self.core.layout().region(region).context("no such region")?;
@@ -58,7 +59,8 @@ impl Heap {
         }
     }
 
-    /// Moves the references into region `from` to region `to`, which also empties the remembered set of `from`.
+    /// Moves the references into region `from` to region `to`, which also empties the remembered
+    /// set of `from`.
     pub fn redirect(&mut self, from: u32, to: u32) -> Result<()> {
         let layout = self.core.layout();
         let from = layout.region(from).context("no such region")?;
@@ -87,7 +89,7 @@ impl Heap {
         }
     }
 
-    /// Holds the remembered set of a region against all slots outside it.
+    /// Tests the remembered set of a region against all slots outside it.
     pub fn check(&mut self, region: u32) -> Result<()> {
         let of = self.core.layout().region(region).context("no such region")?;
         let members = self.core.members(of)?;
@@ -102,7 +104,7 @@ impl Heap {
         Ok(())
     }
 
-    /// How many slots of a card refer into a region from outside.
+    /// Returns how many slots of a card refer into a region from outside.
     pub fn references(&mut self, card: u32, region: u32) -> u64 {
         let layout = self.core.layout();
         let (Some(card), Some(region)) = (layout.card(card), layout.region(region)) else {

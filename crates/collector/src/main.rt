@@ -1,5 +1,6 @@
-//! A small region collector over the remembered sets: a mutator that makes 20,000 steps, and a pause each time the heap is
-//! full, which empties the region with the most garbage. `tools/collector` counts what this has to print.
+//! A small region collector over the remembered sets. A mutator makes 20,000 steps. Each time the
+//! heap is full, an evacuation pause empties the region with the most garbage. `tools/collector`
+//! counts what this has to print.
 #![tactic(auto)]
 
 mod collector;

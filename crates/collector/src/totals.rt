@@ -20,7 +20,8 @@ pub struct Totals {
     pub found: u64,
     /// The slots that redirects changed.
     pub redirected: u64,
-    /// The pairs of a card and a region that hold: a slot of the card refers into the region from outside.
+    /// The pairs of a card and a region that hold: a slot of the card refers into the region from
+    /// outside.
     pub holding: u64,
     /// Those of them that no remembered set has.
     pub missing: u64,
@@ -71,7 +72,7 @@ impl Totals {
         }
     }
 
-    /// Prints them, where the heap has `cards` cards.
+    /// Prints them for a heap of `cards` cards.
     pub fn print(&self, rt: &impl Print, cards: u32) -> io::Result<()> {
         println!(rt; "stores, null: {}", self.null)?;
         println!(rt; "stores, same region: {}", self.same_region)?;

@@ -1,7 +1,8 @@
 //! The machinery of a heap, with the log of its one mutator and the buffers that it completed.
 //!
-//! Slots and regions are plain numbers here, and each method makes the library's numbers from `core.layout()` right before
-//! it calls: so the conditions of the call are met whatever was called before.
+//! Slots and regions are plain numbers here. Each method makes the library's numbers from
+//! `core.layout()` right before it calls, so the conditions of the call are met whatever was called
+//! before.
 
 use anyhow::{Context, Result, bail};
 use g1_core::{CardList, ClearReply, Config, Core, Drained, Redirected};
@@ -27,7 +28,7 @@ impl Collector {
         })
     }
 
-    /// A store of the mutator, which hands its log over where that is full.
+    /// Makes a store of the mutator, which passes its log on if that is full.
     pub fn store(&mut self, rt: &impl Print, slot: u32, target: Option<u32>) -> Result<()> {
         let layout = self.core.layout();
         let into = layout.slot(slot).context("no such slot")?;
@@ -40,7 +41,7 @@ impl Collector {
         }
     }
 
-    // Lets a completed buffer wait, or has the mutator refine it where as many wait as may.
+    // Lets a completed buffer wait, or has the mutator refine it if as many wait as may.
     fn hand_over(&mut self, rt: &impl Print, buffer: Buffer) -> Result<()> {
         match self.done.add(buffer) {
             Ok(()) => {
@@ -62,7 +63,8 @@ impl Collector {
         }
     }
 
-    // Refines a buffer. Where memory runs out the rest of its cards stay pending, and the buffer may be given up.
+    // Refines a buffer. If memory runs out, the rest of its cards stay pending, and the buffer may
+    // be given up.
     fn refine(&mut self, rt: &impl Print, buffer: &Buffer) -> Result<()> {
         let reply = self.core.refine(Some(buffer))?;
         print!(rt; "refined")?;
@@ -71,7 +73,7 @@ impl Collector {
         Ok(())
     }
 
-    /// A pause that empties region `from` into the empty region `to`.
+    /// Makes an evacuation pause that empties region `from` into the empty region `to`.
     pub fn evacuate(&mut self, rt: &impl Print, from: u32, to: u32) -> Result<()> {
         // Logs and buffers may be dropped: the card table says what is pending.
         let _ = self.log.take();
@@ -146,8 +148,8 @@ impl Collector {
         Ok(())
     }
 
-    // Where a slot of region `from` that isn't null is copied to, and the place that its copy is to refer to: a reference
-    // inside the region becomes one inside the copy.
+    // Where a slot of region `from` that isn't null is copied to, and the place that its copy is to
+    // refer to: a reference inside the region becomes one inside the copy.
     fn copy_of(&mut self, slot: u32, from: u32, to: u32) -> Option<(u32, u32)> {
         let (place, region) = self.target(slot)?;
         let layout = self.core.layout();
@@ -166,7 +168,8 @@ impl Collector {
         Some((copy.number(), target.number()))
     }
 
-    // Moves the references into region `from` to region `to`, which also empties the remembered set of `from`.
+    // Moves the references into region `from` to region `to`, which also empties the remembered set
+    // of `from`.
     fn redirect(&mut self, rt: &impl Print, from: u32, to: u32) -> Result<()> {
         let layout = self.core.layout();
         let from = layout.region(from).context("no such region")?;
@@ -183,7 +186,8 @@ impl Collector {
         }
     }
 
-    // Sets the slots of an emptied region to null, and asks once more whether anything refers into it.
+    // Sets the slots of an emptied region to null, and asks once more whether anything refers into
+    // it.
     fn forget(&mut self, rt: &impl Print, region: u32) -> Result<()> {
         for slot in 0..self.core.layout().slot_count() {
             if self.is_full_slot_of(slot, region) {

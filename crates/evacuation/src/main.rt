@@ -1,5 +1,6 @@
-//! The remembered sets of a tiny collector with one mutator: its stores, hand-overs and refinements, and then a pause that empties
-//! region 1 of a heap of 4 regions of 2 cards of 4 slots.
+//! The remembered sets of a tiny collector with one mutator: its stores, hand-overs and
+//! refinements, and then an evacuation pause that empties region 1. The heap has 4 regions of 2
+//! cards of 4 slots.
 #![tactic(auto)]
 
 mod collector;
@@ -9,7 +10,8 @@ use collector::Collector;
 use g1_core::Config;
 use g1_layout::Layout;
 
-// Region 0 has the slots from 0 on, region 1 those from 8, region 2 those from 16 and region 3 those from 24.
+// Region 0 has the slots from 0 on, region 1 those from 8, region 2 those from 16 and region 3
+// those from 24.
 static BEFORE: [(u32, Option<u32>); 7] = [
     (0, Some(8)),
     (4, Some(9)),

@@ -1,4 +1,5 @@
-//! Replays the examples and says which of them print what is written beside them (crates/examples/data/README.md).
+//! Replays the examples and says which of them print what their files say
+//! (crates/examples/data/README.md).
 #![tactic(auto)]
 
 use g1_replay::{End, Mode, crew, race, read_options, run};

@@ -8,11 +8,12 @@ use std::marker::Model;
 
 /// A core and the history of its calls (docs/PROFILE.md, The history).
 ///
-/// Its entries are a permitted run of the plain table, which ends in the core's table. Each call appends one entry with
-/// its caller and just the reply that it gives, or is refused and changes nothing. `BookFull` comes exactly where
-/// the history has as many entries as it may have, and before `NoMemory`: then no memory is asked.
-/// Otherwise room for the entry, and for its copies of the lists of the reply, is made before the core is called.
-/// Growing the history is amortised over its entries.
+/// Its entries are a permitted run of the plain table that ends in the core's table. Each call
+/// either appends one entry, with its caller and exactly the reply that it returns, or is refused
+/// and changes nothing. A call returns `BookFull` exactly if the history has as many entries as it
+/// may have. That comes before `NoMemory`: no memory is asked for then. Otherwise room for the
+/// entry, and for its copies of the reply's lists, is made before the core changes. Growing the
+/// history is amortised over its entries.
 #[derive(Drop)]
 pub struct Book {
     pub(crate) alloc: Global,
@@ -40,11 +41,12 @@ impl Book {
     ghost use Rattle.g1_core.specs.Table.{IsCovered};
     ghost use Rattle.g1_book.specs.History.{IsHistory, opened, table_in, layout_in};
 
-    /// An empty history over a new core: every slot null, every card clean, nothing recorded (docs/PROFILE.md, The
-    /// history).
+    /// Returns an empty history over a new core: every slot is null, every card is clean, and
+    /// nothing is recorded (docs/PROFILE.md, The history).
     ///
-    /// `mutators`, from 1 to 8, is how many of the callers may store, and `history`, from 1 to 1,000,000, how many entries
-    /// there may be. `NoMemory` where a growth for the core was refused; room for entries is made as they come.
+    /// `mutators`, from 1 to 8, says how many of the callers may store. `history`, from 1 to
+    /// 1,000,000, says how many entries there may be. Returns `NoMemory` if a growth for the core
+    /// was refused. Room for entries is made as they come.
     pub fn open(
         alloc: Global,
         layout: Layout,
@@ -95,9 +97,11 @@ impl Book {
         self.alloc
     }
 
-    /// The calls so far, oldest first: a permitted run of the plain table, from the opening table to the core's. Where a
-    /// slot refers into another region, its card is pending or recorded for that region. What references, pending cards
-    /// and recorded pairs name lies in the heap, and the hot ring holds distinct cards, each of them pending. Constant time.
+    /// Returns the calls so far, oldest first: a permitted run of the plain table, from the opening
+    /// table to the core's. If a slot refers into another region, its card is pending or recorded
+    /// for that region. The slots, cards and regions that references, pending cards and recorded
+    /// pairs name lie in the heap. The hot ring holds distinct cards, each of them pending.
+    /// Constant time.
     pub fn entries(&self) -> &[Entry]
         ensures entries { result.now ≡ self.now.entries }
         ensures history { IsHistory self.now }

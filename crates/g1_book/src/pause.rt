@@ -1,4 +1,4 @@
-//! Drains and clears, entered.
+//! Drains and clears that are entered in the history.
 ghost use Rattle.std.specs.Prelude.{◌≡◌, ◌≢◌, ◌≤◌, ◌<◌, ◌+◌, ◌*◌, ◌↔◌, length, IfOk, OnErr, vec_len, vec_capacity};
 ghost use Rattle.std.specs.FinSet as set;
 ghost use Rattle.g1_core.specs.Calls.{drain_cards, drain_reply, drain_refined};
@@ -16,15 +16,17 @@ impl Book {
     ghost use Rattle.g1_core.specs.Pause.{IsDrainOf};
     ghost use Rattle.g1_book.specs.History.{IsEntered, AnswersExactly, table_in, layout_in};
 
-    /// Refines all that is pending, as the core does, answers the region's remembered set, and enters it
-    /// (docs/PROFILE.md, The pause).
+    /// Refines all pending cards, as the core does, returns the region's remembered set, and enters
+    /// the call (docs/PROFILE.md, The pause).
     ///
-    /// The answer of a whole drain is exact: ascending, with each card that now holds a reference into the region, and
-    /// only cards outside it that held one since its set was last cleared. A short drain is entered too.
+    /// The list of a whole drain is exact and ascending. It has each card outside the region that
+    /// now holds a reference into it, and only cards outside it that held one since its set was
+    /// last cleared. A short drain is entered too.
     ///
-    /// `BookFull` exactly where the history is full; `NoMemory` where room for the entry or for a list was refused.
-    /// Either changes nothing. The entry's lists take 4 bytes for each card that was answered or refined; room for as
-    /// many as may come is taken first, and what is not needed is given back.
+    /// Returns `BookFull` exactly if the history is full, `NoMemory` if room for the entry or for a
+    /// list was refused. Either changes nothing. The entry's lists take 4 bytes for each card that
+    /// was returned or refined. Room for as many as may come is made first, and what is not needed
+    /// is given back.
     pub fn drain(&mut self, caller: u32, region: Region) -> Result<Drained, Refusal>
         requires { region < (layout_in self.old).regions }
         ensures entered { IfOk result (λ answer. IsEntered self.old (drain_entry caller region answer) self.new) }
@@ -50,12 +52,15 @@ impl Book {
         Ok(answer)
     }
 
-    /// Empties the region's remembered set, once nothing is pending and no reference enters the region from outside, and
-    /// enters what became of it (docs/PROFILE.md, Clear).
+    /// Empties the region's remembered set if no card is pending and no reference enters the region
+    /// from outside, and enters the outcome (docs/PROFILE.md, Clear).
     ///
-    /// `Pending` and `StillReferenced` are answers with an entry: they leave all but the count of reads as it was.
-    /// `BookFull` exactly where the history is full, `NoMemory` where room for the entry was refused. Either changes
-    /// nothing. The entry holds no list.
+    /// `Pending` and `StillReferenced` are replies with an entry. They leave all but the count of
+    /// reads as it was. A clear reads no more slots than the cards in the set have, and none while
+    /// a card is pending.
+    ///
+    /// Returns `BookFull` exactly if the history is full, `NoMemory` if room for the entry was
+    /// refused. Either changes nothing. The entry holds no list.
     pub fn clear(&mut self, caller: u32, region: Region) -> Result<ClearReply, Refusal>
         requires { region < (layout_in self.old).regions }
         ensures entered { IfOk result (λ answer. IsEntered self.old (clear_entry caller region answer) self.new) }
@@ -92,7 +97,7 @@ fn drained_cards(answer: &Drained) -> &CardList
     }
 }
 
-/// What a drain answered beside them, in room that was made for it.
+/// What the drain returned beside them, in room that was made for it.
 fn drained_reply(room: Vec<Card>, answer: &Drained) -> Reply
     requires empty { vec_len room ≡ 0 }
     requires room { length (drain_cards answer.now) ≤ vec_capacity room }

@@ -1,4 +1,4 @@
-//! Questions to the core, entered.
+//! Questions to the core that are entered in the history.
 ghost use Rattle.std.specs.Prelude.{◌≡◌, ◌<◌, ◌↔◌, ◌+◌, ◌-◌, ◌^◌, length, min, IfOk, OnErr};
 ghost use Rattle.std.specs.FinSet as set;
 ghost use Rattle.g1_layout.specs.Shape.{slot_count, card_count};
@@ -14,10 +14,12 @@ impl Book {
     ghost use Rattle.g1_core.specs.Calls.{target_entry, pending_entry, members_entry, status_entry};
     ghost use Rattle.g1_book.specs.History.{IsEntered, table_in, layout_in};
 
-    /// The place that a slot refers to, or `None` where it is null, entered. One slot is read.
+    /// Returns the place that a slot refers to, or `None` if it is null, and enters the call. One
+    /// slot is read.
     ///
-    /// `BookFull` exactly where the history is full, `NoMemory` where room for the entry was refused. Either changes
-    /// nothing. Constant time but for the growth of the history; the entry holds no list.
+    /// Returns `BookFull` exactly if the history is full, `NoMemory` if room for the entry was
+    /// refused. Either changes nothing. Constant time except for the growth of the history. The
+    /// entry holds no list.
     pub fn target(&mut self, caller: u32, slot: Slot) -> Result<Option<Slot>, Refusal>
         requires { slot < slot_count (layout_in self.old) }
         ensures entered { IfOk result (λ target. IsEntered self.old (target_entry caller slot target) self.new) }
@@ -34,10 +36,12 @@ impl Book {
         Ok(target)
     }
 
-    /// Whether a card is pending, entered: dirty, or held in the hot card ring.
+    /// Returns whether a card is pending, that is, dirty or held in the hot card ring, and enters
+    /// the call.
     ///
-    /// `BookFull` exactly where the history is full, `NoMemory` where room for the entry was refused. Either changes
-    /// nothing. Constant time but for the growth of the history; the entry holds no list.
+    /// Returns `BookFull` exactly if the history is full, `NoMemory` if room for the entry was
+    /// refused. Either changes nothing. Constant time except for the growth of the history. The
+    /// entry holds no list.
     pub fn is_pending(&mut self, caller: u32, card: Card) -> Result<bool, Refusal>
         requires { card < card_count (layout_in self.old) }
         ensures entered { IfOk result (λ answer. IsEntered self.old (pending_entry caller card answer) self.new) }
@@ -54,11 +58,13 @@ impl Book {
         Ok(answer)
     }
 
-    /// The cards of a region's remembered set as it is recorded, ascending, each once, entered.
+    /// Returns the cards of a region's remembered set as it is recorded, ascending, each once, and
+    /// enters the call.
     ///
-    /// `BookFull` exactly where the history is full; `NoMemory` where room for the entry or for a list was refused.
-    /// Either changes nothing. The entry's list takes 4 bytes a card. The question changes nothing in the core, so that
-    /// list is made after it, in just the room that it needs.
+    /// Returns `BookFull` exactly if the history is full, `NoMemory` if room for the entry or for a
+    /// list was refused. Either changes nothing. The entry's list takes 4 bytes a card. The
+    /// question changes nothing in the core, so this list is made after it, with exactly the room
+    /// that it needs.
     pub fn members(&mut self, caller: u32, region: Region) -> Result<CardList, Refusal>
         requires { region < (layout_in self.old).regions }
         ensures entered { IfOk result (λ cards. IsEntered self.old (members_entry caller region cards) self.new) }
@@ -82,10 +88,12 @@ impl Book {
         Ok(cards)
     }
 
-    /// How many cards are pending and how many pairs of a card and a region are recorded, entered.
+    /// Returns how many cards are pending and how many pairs of a card and a region are recorded,
+    /// and enters the call.
     ///
-    /// `BookFull` exactly where the history is full, `NoMemory` where room for the entry was refused. Either changes
-    /// nothing. Takes time in the number of regions; the entry holds no list.
+    /// Returns `BookFull` exactly if the history is full, `NoMemory` if room for the entry was
+    /// refused. Either changes nothing. The time grows with the number of regions. The entry holds
+    /// no list.
     pub fn status(&mut self, caller: u32) -> Result<Status, Refusal>
         ensures entered { IfOk result (λ status. IsEntered self.old (status_entry caller status) self.new) }
         ensures pending { IfOk result (λ status. status.pending ≡ set.len (table_in self.old).pending) }
@@ -103,7 +111,7 @@ impl Book {
     }
 }
 
-/// The reply that answers this target.
+/// The reply for this target.
 fn target_reply(target: &Option<Slot>) -> Reply
     ensures { result ≡ Reply.Target target.now }
 {

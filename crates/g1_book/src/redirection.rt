@@ -1,4 +1,4 @@
-//! Redirects, entered.
+//! Redirects that are entered in the history.
 ghost use Rattle.std.specs.Prelude.{◌≡◌, ◌≢◌, ◌<◌, ◌↔◌, length, IfOk, OnErr};
 ghost use Rattle.g1_core.specs.Calls.{redirect_reply, redirect_refined};
 
@@ -13,13 +13,13 @@ impl Book {
     ghost use Rattle.g1_core.specs.Redirect.{IsRedirectOf};
     ghost use Rattle.g1_book.specs.History.{IsEntered, layout_in};
 
-    /// Moves each reference into one region to the same offset in another, as the core does, and enters it
-    /// (docs/PROFILE.md, Redirect).
+    /// Makes each slot outside `from` that refers into it refer to the same offset of `to`, as the
+    /// core does, and enters the call (docs/PROFILE.md, Redirect).
     ///
-    /// A short redirect, which only refined the cards that it lists, is entered too. `BookFull` exactly where the
-    /// history is full; `NoMemory` where room for the entry or for a list was refused. Either changes nothing.
-    /// The entry's list takes 4 bytes for each refined card; room for all that is pending is taken
-    /// first, and what is not needed is given back.
+    /// A short redirect only refined the cards that it lists. It is entered too. Returns `BookFull`
+    /// exactly if the history is full, `NoMemory` if room for the entry or for a list was refused.
+    /// Either changes nothing. The entry's list takes 4 bytes for each refined card. Room for all
+    /// pending cards is made first, and what is not needed is given back.
     pub fn redirect(&mut self, caller: u32, from: Region, to: Region) -> Result<Redirected, Refusal>
         requires from { from < (layout_in self.old).regions }
         requires to { to < (layout_in self.old).regions }
@@ -51,7 +51,7 @@ fn redirected_cards(answer: &Redirected) -> &CardList
     }
 }
 
-/// What a redirect answered beside them.
+/// What the redirect returned beside them.
 fn redirected_reply(answer: &Redirected) -> Reply
     ensures { result ≡ redirect_reply answer.now }
 {

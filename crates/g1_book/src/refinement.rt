@@ -1,4 +1,4 @@
-//! Refinements, entered.
+//! Refinements that are entered in the history.
 ghost use Rattle.std.specs.Prelude.{◌≡◌, ◌≤◌, ◌+◌, ◌↔◌, length, IfOk, OnErr, option_map};
 ghost use Rattle.g1_book.specs.History.{cards_in};
 
@@ -13,12 +13,13 @@ impl Book {
     ghost use Rattle.g1_core.specs.Refinement.{IsRefined, AreCardsRead};
     ghost use Rattle.g1_book.specs.History.{IsEntered};
 
-    /// Refines a lent buffer, as the core does, and enters it: its cards take their turns, oldest first. `None` refines
-    /// nothing, and is entered too (docs/PROFILE.md, Refinement).
+    /// Refines a buffer, as the core does, and enters the call: the buffer's cards take their
+    /// turns, oldest first. `None` refines nothing, and is entered too (docs/PROFILE.md,
+    /// Refinement).
     ///
-    /// A short reply is entered. `BookFull` exactly where the history is full; `NoMemory` where room for the entry, for
-    /// its list or for the reply's was refused. Either changes nothing. The entry's list takes 4 bytes for each refined
-    /// card.
+    /// A short reply is entered. Returns `BookFull` exactly if the history is full, `NoMemory` if
+    /// room for the entry, for its list or for the reply's list was refused. Either changes
+    /// nothing. The entry's list takes 4 bytes for each refined card.
     pub fn refine(&mut self, caller: u32, buffer: Option<&Buffer>) -> Result<RefineReply, Refusal>
         ensures entered { IfOk result (λ reply. IsEntered self.old (refine_entry caller reply) self.new) }
         ensures refined { IfOk result (λ reply. IsRefined self.old.machine.state (option_map (λ b. b.now) buffer.entry) reply self.new.machine.state) }
@@ -43,7 +44,8 @@ impl Book {
     }
 }
 
-/// How many cards a refinement of the buffer refines at most: those of the buffer, and 0 where there is none. Constant time.
+/// Returns how many cards a refinement of the buffer refines at most: the cards of the buffer, or 0
+/// if there is none. Constant time.
 pub fn cards_in(buffer: Option<&Buffer>) -> usize
     ensures cards { result ≡ cards_in (option_map (λ b. b.now) buffer.entry) }
     ensures few { result ≤ 256 }

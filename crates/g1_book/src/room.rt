@@ -5,7 +5,8 @@ use crate::refusal::Refusal;
 use g1_core::{Call, CardList, Entry, Reply};
 use g1_layout::Card;
 
-/// Makes room for one more entry, unless the history is full. Growing is amortised over the entries.
+/// Makes room for one more entry, unless the history is full. Growing is amortised over the
+/// entries.
 pub(crate) fn make_room(entries: &mut Vec<Entry>, limit: usize) -> Result<(), Refusal>
     ensures items { entries.new.items ≡ entries.old.items }
     ensures ok { OnOk result (vec_len entries.new < vec_capacity entries.new) }
@@ -39,7 +40,7 @@ pub(crate) fn enter(
     });
 }
 
-/// The same cards, in room that was made for them; what they do not need of it is given back.
+/// The same cards, in room that was made for them. What they do not need of it is given back.
 pub(crate) fn copied(mut room: Vec<Card>, cards: &CardList) -> CardList
     requires empty { vec_len room ≡ 0 }
     requires room { length cards.now ≤ vec_capacity room }

@@ -1,4 +1,4 @@
-//! Stores of references, entered.
+//! Stores of references that are entered in the history.
 ghost use Rattle.std.specs.Prelude.{◌≡◌, ◌+◌, ◌<◌, ◌↔◌, [], ◌∷◌, ◌++◌, false, length, IfOk, OnErr, IfSome, vec_len, vec_capacity};
 ghost use Rattle.g1_layout.specs.Shape.{slot_count, card_of};
 
@@ -16,14 +16,16 @@ impl Book {
     ghost use Rattle.g1_core.specs.Calls.{store_entry};
     ghost use Rattle.g1_book.specs.History.{IsEntered, table_in, layout_in};
 
-    /// Stores a reference, or null, as the core does with the log that is lent, and enters it (docs/PROFILE.md, The
-    /// barrier).
+    /// Stores a reference, or null, with the given log, as the core does, and enters the call
+    /// (docs/PROFILE.md, The barrier).
     ///
-    /// The caller is the mutator, below the count that the book was opened with. A buffer that the log handed out comes
-    /// back beside the reply; while nobody refines it its cards stay pending.
+    /// The caller is a mutator: its number is below the count that the book was opened with. A
+    /// buffer that the log hands out is returned beside the reply. Its cards stay pending as long
+    /// as nothing refines them.
     ///
-    /// `BookFull` exactly where the history is full, `NoMemory` where room for the entry was refused. Either leaves book
-    /// and log as they were. Constant time but for the growth of the history; the entry holds no list.
+    /// Returns `BookFull` exactly if the history is full, `NoMemory` if room for the entry was
+    /// refused. Either leaves book and log as they were. Constant time except for the growth of the
+    /// history. The entry holds no list.
     pub fn store(
         &mut self,
         caller: u32,
@@ -52,11 +54,12 @@ impl Book {
         Ok((reply, buffer))
     }
 
-    /// Stores and enters as `store` does, with a log that has room for more than one card (`Log::has_room`): `fill` is `No`, and
-    /// no buffer is handed out.
+    /// Stores and enters as `store` does, with a log that one more card does not fill
+    /// (`Log::has_room`): `fill` is `No`, and no buffer is handed out (docs/PROFILE.md, The
+    /// barrier).
     ///
-    /// `BookFull` and `NoMemory` come where they do for `store`, and leave book and log as they were. Constant time but for the
-    /// growth of the history (docs/PROFILE.md, The barrier).
+    /// `BookFull` and `NoMemory` are returned as by `store`, and leave book and log as they were.
+    /// Constant time except for the growth of the history.
     #[inline(always)]
     pub fn store_with_room(
         &mut self,

@@ -1,4 +1,4 @@
-//! Adoption: a core that is made of a table, and the pairs of a core's table.
+//! Adoption: makes a core of a table that exists already, and lists the pairs of a core's table.
 ghost use Rattle.std.specs.Prelude.{◌≡◌, ◌<◌, ◌^◌, ◌↔◌, ◌⊎◌, ℕ, All, Contains, IfSome, IfOk, OnOk, length, replicate};
 ghost use Rattle.std.specs.FinSet as set;
 ghost use Rattle.g1_layout.specs.Shape.{slot_count, card_count};
@@ -18,15 +18,17 @@ use g1_sets::Sets;
 use std::alloc::Global;
 
 impl Core {
-    /// A core of a table that is there already: `refs` has what each slot refers to, in the order of the slots, `marked`
-    /// says of each card whether it is pending, and `pairs` has the recorded pairs of a card and a region, in any order.
+    /// Makes a core of a table that exists already. `refs` says what each slot refers to, in the
+    /// order of the slots, `marked` says of each card whether it is pending, and `pairs` lists the
+    /// recorded pairs of a card and a region, in any order.
     ///
-    /// Each marked card is dirty, every other one clean. Each count is 0, the ring is empty, and no slot was read. Every
-    /// place, card and region must be of the heap, each pair's card must lie outside its region, and cover must hold: the
-    /// card of a slot that refers into another region is marked, or its pair is listed.
+    /// Each marked card is dirty, and every other card is clean. Each count is 0, the ring is
+    /// empty, and no slot has been read. Every place, card and region must be of the heap, and each
+    /// pair's card must lie outside its region. Cover must hold: if a slot refers into another
+    /// region, its card is marked or its pair is listed.
     ///
-    /// Takes the memory that [`Core::new`] takes, and what the remembered sets need for the pairs. `NoMemory` where a
-    /// growth was refused; what was taken is given back.
+    /// Takes the memory that [`Core::new`] takes, and what the remembered sets need for the pairs.
+    /// Returns `NoMemory` if a growth was refused. What was taken is then given back.
     pub fn adopt(
         alloc: Global,
         layout: Layout,
@@ -60,9 +62,9 @@ impl Core {
         })
     }
 
-    /// The recorded pairs of a card and a region: what [`Core::adopt`] is given of a core's remembered sets.
+    /// Returns the recorded pairs of a card and a region, as [`Core::adopt`] takes them.
     ///
-    /// `NoMemory` where the room for the list was refused.
+    /// Returns `NoMemory` if the room for the list was refused.
     pub fn pairs(&self) -> Result<Vec<(Card, Region)>, NoMemory>
         ensures recorded { IfOk result (λ pairs. set.from_list pairs.items ≡ self.now.state.table.recorded) }
         ensures within { IfOk result (λ pairs. All (IsPairOf self.now.state.table.layout) pairs.items) }
@@ -134,7 +136,7 @@ fn set_references(heap: &mut Heap, refs: &[Option<Slot>])
     }
 }
 
-// Marks cards dirty where all are clean, and answers how many.
+// Marks cards dirty in a heap of clean cards, and returns how many.
 fn mark_cards(heap: &mut Heap, marked: &[bool]) -> u32
     requires clean { heap.old.marks ≡ replicate (card_count heap.old.layout) Clean }
     requires cards { length marked.now ≡ card_count heap.old.layout }

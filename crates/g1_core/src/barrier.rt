@@ -1,4 +1,4 @@
-//! The barrier: what a reference store does to the card table and to its mutator's log.
+//! The write barrier: what a reference store does to the card table and to its mutator's log.
 ghost use Rattle.std.specs.Prelude.{◌≡◌, ◌≢◌, ◌<◌, ◌+◌, ℕ, [], false, length, IfSome, IsNone};
 ghost use Rattle.g1_layout.specs.Shape.{slot_count, card_count, card_of};
 
@@ -41,15 +41,17 @@ impl Core {
         }
     }
 
-    /// Stores a reference, or null, into a slot: the barrier (ISMM 2004, section 2.2; docs/PROFILE.md, The barrier).
+    /// Stores a reference, or null, into a slot: the write barrier (ISMM 2004, section 2.2;
+    /// docs/PROFILE.md, The barrier).
     ///
-    /// The slot gets the target. Where the store crosses regions and the slot's card is clean, the card becomes dirty
-    /// and goes last into the lent log (kind `Logged`); every other store leaves the log alone. Where that fills the log,
-    /// `fill` is `Full`, and the cards of the log are handed out as a completed buffer; the log is then empty. What becomes
-    /// of the buffer is up to the caller: its cards are pending by their marks.
+    /// The slot gets the target. If the store crosses regions and the slot's card is clean, the
+    /// card becomes dirty and goes last into the mutator's log (kind `Logged`). Every other store
+    /// leaves the log alone. If the card fills the log, `fill` is `Full`, the cards of the log are
+    /// returned as a completed buffer, and the log is empty. The caller decides what becomes of the
+    /// buffer: the marks alone say which of its cards are pending.
     ///
-    /// It refines nothing, takes no memory, reads no slot, and takes constant time: a filtered store looks at one mark at
-    /// most. The hand-over of a buffer moves 1,032 bytes.
+    /// The call refines nothing, takes no memory, reads no slot, and takes constant time: a
+    /// filtered store looks at one mark at most. To return a buffer moves 1,032 bytes.
     pub fn store(
         &mut self,
         log: &mut Log,
@@ -78,8 +80,9 @@ impl Core {
         (plain_reply(self.alloc, kind, Fill::Full), Some(buffer))
     }
 
-    /// Stores as `store` does, with a log that has room (`Log::has_room`): `fill` is `No`, and no buffer is handed out, so
-    /// that none is made room for. It takes no memory, reads no slot, and takes constant time (docs/PROFILE.md, The barrier).
+    /// Makes the same store as `store`, with a log that has room (`Log::has_room`). `fill` is `No`,
+    /// and no buffer is returned, so no room for one is made. The call takes no memory, reads no
+    /// slot, and takes constant time (docs/PROFILE.md, The barrier).
     #[inline(always)]
     pub fn store_with_room(&mut self, log: &mut Log, slot: Slot, target: Option<Slot>) -> StoreReply
         requires room { length log.old.cards + 1 < log.old.size }
@@ -99,8 +102,8 @@ impl Core {
         plain_reply(self.alloc, kind, Fill::No)
     }
 
-    // What a store does but for the log: the slot gets the target, and the card of a logged store becomes dirty and is
-    // answered.
+    // What a store does besides the log: the slot gets the target, and the card of a logged store
+    // becomes dirty and is returned.
     #[inline(always)]
     fn mark(&mut self, slot: Slot, target: Option<Slot>) -> (Kind, Option<Card>)
         requires slot { slot < slot_count self.old.state.table.layout }

@@ -20,14 +20,17 @@ impl Core {
     ghost use Rattle.g1_core.specs.Calls.{clear_entry};
     ghost use Rattle.g1_core.specs.Clearing.{member_count};
 
-    /// Empties the remembered set of a region, once nothing is pending and no reference enters the region from outside
-    /// (docs/PROFILE.md, Clear; ISMM 2004, "Evacuation Pauses": the region was evacuated).
+    /// Empties the remembered set of a region, once nothing is pending and no slot outside the
+    /// region refers into it (docs/PROFILE.md, Clear; ISMM 2004, "Evacuation Pauses": the region
+    /// was evacuated).
     ///
-    /// `Pending` counts the cards that are pending. `StillReferenced` names the least slot of the whole heap that lies
-    /// outside the region and refers into it. Both leave all but the count of reads as it was, and `Pending` that too.
+    /// `Pending` is how many cards are pending, and nothing has changed. `StillReferenced` names
+    /// the least slot of the whole heap that lies outside the region and refers into it, and only
+    /// the count of reads has changed.
     ///
-    /// Takes no memory. It reads each slot of the region's members at most once, and no other: the card of a slot that
-    /// enters the region is a member, since cover holds and nothing is pending.
+    /// Takes no memory. It reads each slot of the cards in the region's set at most once, and no
+    /// other: a card with a slot that refers into the region is in the set, since cover holds and
+    /// nothing is pending.
     pub fn clear(&mut self, region: Region) -> ClearReply
         requires { region < self.old.state.table.layout.regions }
         ensures step { (caller : ℕ) → IsStep self.old.state.table (clear_entry caller region result) self.new.state.table }
@@ -49,8 +52,9 @@ impl Core {
     }
 }
 
-// The least slot on the cards of the region's set that lies outside the region and refers into it. It mostly lies on the
-// card of the least number, which is looked at first: no other card is read then.
+// The least slot on the cards of the region's set that lies outside the region and refers into it.
+// It mostly lies on the card of the least number, which is looked at first: no other card is read
+// then.
 fn least_entering(heap: &mut Heap, sets: &Sets, region: Region) -> Option<Slot>
     requires region { region < heap.old.layout.regions }
     requires layouts { sets.now.layout ≡ heap.old.layout }
@@ -67,7 +71,7 @@ fn least_entering(heap: &mut Heap, sets: &Sets, region: Region) -> Option<Slot>
     least_after(heap, members, first, region)
 }
 
-// The card of the least number, or `None` where there is no card.
+// The card of the least number, or `None` if there is no card.
 fn first_of(layout: Layout, cards: &[Card]) -> Option<Card>
     requires { All (λ card. card < card_count layout) cards.now }
     ensures none { IfNone result (length cards.now ≡ 0) }
@@ -81,8 +85,8 @@ fn first_of(layout: Layout, cards: &[Card]) -> Option<Card>
     layout.card(least)
 }
 
-// The same of the cards where no slot of the first one refers into the region. A card at or past that of the slot found
-// last has no lesser one, and is not read.
+// The same of the cards, if no slot of the first one refers into the region. A card at or past that
+// of the slot found last has no lesser one, and is not read.
 fn least_after(heap: &mut Heap, cards: &[Card], first: Card, region: Region) -> Option<Slot>
     requires cards { All (λ card. card < card_count heap.old.layout) cards.now }
     requires region { region < heap.old.layout.regions }

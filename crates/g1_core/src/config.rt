@@ -7,19 +7,19 @@ ghost use Rattle.g1_core.specs.Settings.{Settings, AreSettings, IsWithin, defaul
 use g1_log::Log;
 use std::marker::Model;
 
-/// From where to where a setting may go, and what it is where nobody chooses.
+/// The least and the greatest number that a setting may be, and its default.
 #[derive(Clone, Copy, Debug, PartialEq, Eq)]
 pub struct Limits {
-    /// The least number that it may be.
+    /// The least number that the setting may be.
     pub least: u32,
-    /// The greatest number that it may be.
+    /// The greatest number that the setting may be.
     pub most: u32,
-    /// The number that it is where nobody chooses.
+    /// The number that the setting is by default.
     pub default: u32,
 }
 
 impl Limits {
-    /// Whether a setting may be this number.
+    /// Whether the setting may be this number.
     pub fn contain(&self, number: usize) -> bool
         ensures { IsTrue result ↔ IsWithin self.now number }
     {
@@ -57,37 +57,40 @@ impl Config {
         default: 256,
     };
 
-    /// How many completed buffers the line holds.
+    /// How many completed buffers their queue holds at most.
     pub const LIMIT: Limits = Limits {
         least: 1,
         most: 1024,
         default: 10,
     };
 
-    /// The count of refinements from which on a card is hot: with 0 each card is.
+    /// The count of refinements from which on a card is hot. With 0 every card is.
     pub const HOT: Limits = Limits {
         least: 0,
         most: 255,
         default: 4,
     };
 
-    /// How many cards the hot ring holds.
+    /// How many cards the hot ring holds at most.
     pub const RING: Limits = Limits {
         least: 1,
         most: 4096,
         default: 1024,
     };
 
-    /// At how many completed buffers a round of refinement begins: more than the line can hold never wait.
+    /// At how many completed buffers a round of refinement begins. If that is above the limit, no
+    /// round ever begins, since the queue never holds that many.
     pub const START: Limits = Limits {
         least: 1,
         most: 1024,
         default: 5,
     };
 
-    /// Settings of these numbers, or `None` exactly where one is outside its limits: `log` in cards ([`Config::LOG`]),
-    /// `limit` in completed buffers ([`Config::LIMIT`]), `hot` in refinements of a card ([`Config::HOT`]), `ring` in
+    /// Makes settings of these numbers: `log` in cards ([`Config::LOG`]), `limit` in completed
+    /// buffers ([`Config::LIMIT`]), `hot` in refinements of a card ([`Config::HOT`]), `ring` in
     /// cards ([`Config::RING`]), `start` in completed buffers ([`Config::START`]).
+    ///
+    /// Returns `None` exactly if one of them is outside its limits.
     pub fn new(log: usize, limit: usize, hot: u32, ring: usize, start: usize) -> Option<Config>
         ensures { let s : Settings = record { log = log; limit = limit; hot = hot; ring = ring; start = start } in SomeIff result (AreSettings s) s }
     {
@@ -116,7 +119,7 @@ impl Config {
         self.log
     }
 
-    /// How many completed buffers the line holds.
+    /// How many completed buffers their queue holds at most.
     pub fn limit(&self) -> usize
         ensures buffers { result ≡ self.now.limit }
         ensures within { IsWithin Config.LIMIT result }
@@ -132,7 +135,7 @@ impl Config {
         self.hot
     }
 
-    /// How many cards the hot ring holds.
+    /// How many cards the hot ring holds at most.
     pub fn ring(&self) -> usize
         ensures cards { result ≡ self.now.ring }
         ensures within { IsWithin Config.RING result }
@@ -148,7 +151,7 @@ impl Config {
         self.start
     }
 
-    /// An empty log of a mutator, which takes as many cards as these settings say.
+    /// Makes an empty log for a mutator. As many cards fill it as these settings say.
     pub fn new_log(&self) -> Log
         ensures { let log : Cards = record { size = self.now.log; cards = [] } in result ≡ log }
     {
@@ -159,8 +162,8 @@ impl Config {
 impl Default for Config {
     ghost is_default = { λ config. config ≡ default_settings };
 
-    /// Logs of 256 cards, a line of 10 completed buffers, a card hot from a count of 4 on, a ring of 1,024 cards, and
-    /// rounds from 5 completed buffers on.
+    /// 256 cards fill a log, the queue holds 10 completed buffers, a card is hot from a count of 4
+    /// on, the ring holds 1,024 cards, and a round begins at 5 completed buffers.
     fn default() -> Config {
         Config {
             log: Config::LOG.default as usize,

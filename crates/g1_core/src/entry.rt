@@ -1,10 +1,11 @@
-//! Entries of a history: calls of a core with what they answered.
+//! Entries of a history: calls of a core with what they returned.
 
 use crate::list::CardList;
 use crate::reply::{ClearReply, Fill, Status};
 use g1_layout::{Card, Kind, Region, Slot};
 
-/// A call with its arguments. A refinement's buffer is not kept: the cards that it refined stand in the entry.
+/// A call with its arguments. A refinement's buffer is not kept: its entry lists the cards that
+/// were refined.
 #[derive(Clone, Copy, Debug, PartialEq, Eq)]
 pub enum Call {
     /// A reference was stored.
@@ -37,29 +38,29 @@ pub enum Call {
     },
 }
 
-/// What was answered beside the cards that were refined.
+/// What a call returned, but for the cards that it refined.
 #[derive(Debug, Drop)]
 pub enum Reply {
     /// What became of a store.
     Stored {
-        /// What the barrier made of it.
+        /// The kind of the store.
         kind: Kind,
         /// What became of the log.
         fill: Fill,
-        /// Whether a growth was refused in the middle.
+        /// Whether a growth was refused midway.
         short: bool,
     },
     /// What a refinement counted.
     Refined {
-        /// How many buffers are wholly done.
+        /// How many buffers were refined to the end.
         taken: u32,
         /// How many cards were found hot.
         hot: u32,
-        /// How many cards were not dirty.
+        /// How many cards were skipped because they were not dirty.
         skipped: u32,
         /// How many completed buffers are left.
         left: u32,
-        /// Whether a growth was refused in the middle.
+        /// Whether a growth was refused midway.
         short: bool,
     },
     /// What the slot refers to.
@@ -70,7 +71,7 @@ pub enum Reply {
     Cards(CardList),
     /// How much is pending and recorded.
     Status(Status),
-    /// A drain or a redirect stopped where a growth was refused.
+    /// A growth was refused midway in a drain or a redirect.
     Short,
     /// What became of a clear.
     Clear(ClearReply),
@@ -78,17 +79,17 @@ pub enum Reply {
     Moved(u32),
 }
 
-/// One call of the history: who made it, what it was, and just what it answered.
+/// One call of the history: who made it, what it was, and exactly what it returned.
 ///
-/// It takes 80 bytes in the history's own block, and further memory only for those of its lists that hold cards:
-/// 4 bytes a card (docs/PROFILE.md, The history).
+/// It takes 80 bytes in the history's own block. Those of its lists that hold cards take further
+/// memory: 4 bytes a card (docs/PROFILE.md, The history).
 #[derive(Debug, Drop)]
 pub struct Entry {
     /// Who called: for a store the number of its mutator.
     pub caller: u32,
     /// The call.
     pub call: Call,
-    /// What it answered beside `refined`.
+    /// What it returned, but for `refined`.
     pub reply: Reply,
     /// The cards that it refined, in order.
     pub refined: CardList,

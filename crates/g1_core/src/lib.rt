@@ -1,13 +1,16 @@
-//! The remembered-set machinery of a heap in regions, for one thread: what stands between a reference store and the
-//! remembered sets that an evacuation pause scans (docs/ARCHITECTURE.md).
+//! The remembered-set machinery of a heap in regions, for one thread: all that lies between a
+//! reference store and the remembered sets that an evacuation pause scans (docs/ARCHITECTURE.md).
 //!
-//! A card's way, a module for each step: [`barrier`] marks a card dirty and logs it, [`refinement`] gives the cards of a
-//! completed buffer their turns, and [`pause`] refines what is left before a remembered set is trusted; [`clearing`] empties a
-//! set. [`queries`] has the questions beside it, [`adoption`] makes a core of a table that is there already, [`config`] has the
-//! settings, [`reply`] and [`list`] what calls answer. What a caller names beside a core, of the crates below, is exported here too.
+//! A card passes through these modules, one for each step. [`barrier`] marks a card dirty and logs
+//! it, [`refinement`] gives the cards of a completed buffer their turns, and [`pause`] refines what
+//! is left before a remembered set is relied on. [`clearing`] empties a set, and [`redirection`]
+//! moves the references into a region as well. [`queries`] has the questions. [`adoption`] makes a
+//! core of a table that exists already. [`config`] has the settings, [`reply`] and [`list`] what
+//! calls return. The items of the crates below that a caller of a core names are exported here too.
 //!
-//! Every call is a step of the plain table (`specs/Table.antt`, `specs/Run.antt`), and [`laws`] says what follows of it:
-//! no card that refers into another region is forgotten, and what a drain answers is exact.
+//! Every call is a step of the plain table (`specs/Table.antt`, `specs/Run.antt`). [`laws`] says
+//! what follows: no card that refers into another region is forgotten, and what a drain returns is
+//! exact.
 #![tactic(auto)]
 
 pub mod adoption;

@@ -5,7 +5,7 @@ use g1_layout::{Card, NoMemory};
 use std::alloc::Global;
 use std::marker::Model;
 
-/// Some cards in order: a `Vec` that contracts see as a plain list.
+/// Cards in order: a `Vec` that contracts see as a plain list.
 #[derive(Debug, Drop)]
 pub struct CardList {
     cards: Vec<Card>,
@@ -20,7 +20,7 @@ impl Model for CardList {
 }
 
 impl CardList {
-    /// No card; takes no memory.
+    /// Makes an empty list. It takes no memory.
     pub fn new(alloc: Global) -> CardList
         ensures { result ≡ [] }
     {
@@ -29,14 +29,14 @@ impl CardList {
         }
     }
 
-    /// The cards of a `Vec`; takes no memory.
+    /// Makes a list of the cards of a `Vec`. It takes no memory.
     pub fn of(cards: Vec<Card>) -> CardList
         ensures { result ≡ cards.items }
     {
         CardList { cards }
     }
 
-    /// The `Vec` of the cards; takes no memory.
+    /// Returns the `Vec` of the cards. It takes no memory.
     pub fn into_vec(self) -> Vec<Card>
         ensures { result.items ≡ self }
     {
@@ -58,16 +58,16 @@ impl CardList {
         self.cards.len()
     }
 
-    /// Whether there is none.
+    /// Whether there are no cards.
     pub fn is_empty(&self) -> bool
         ensures { result ≡ (length self.now == 0) }
     {
         self.cards.is_empty()
     }
 
-    /// The same cards in a list of their own.
+    /// Copies the cards into a list of their own.
     ///
-    /// `NoMemory` where its room was refused. No cards take no memory.
+    /// Returns `NoMemory` if its room was refused. A copy of no cards takes no memory.
     pub fn try_clone(&self, alloc: Global) -> Result<CardList, NoMemory>
         ensures { IfOk result (λ list. list ≡ self.now) }
     {

@@ -15,10 +15,12 @@ use g1_sets::Sets;
 use std::alloc::Global;
 use std::marker::Model;
 
-/// A heap in regions with its card table, remembered sets, refinement counts and hot card ring, for one thread.
+/// A heap in regions with its card table, remembered sets, refinement counts and hot ring, for one
+/// thread.
 ///
-/// Contracts see a `Machine` (`specs/Machine.antt`): the plain table and the ring with its counts, the settings, and how many
-/// slots were read. Logs and completed buffers belong to the callers, and nothing in them is trusted.
+/// Contracts see a `Machine` (`specs/Machine.antt`): the plain table and the ring with its counts,
+/// the settings, and how many slots were read. Logs and completed buffers belong to the callers,
+/// and the core trusts nothing in them.
 #[derive(Drop)]
 pub struct Core {
     pub(crate) alloc: Global,
@@ -27,7 +29,7 @@ pub struct Core {
     pub(crate) sets: Sets,
     pub(crate) hot: Hot,
     pub(crate) pending: u32,
-    // The targets of the card that is refined. They are no part of what contracts see.
+    // The targets of the card that is being refined. Contracts do not see them.
     pub(crate) targets: ArrayVec<Region, 64>,
 }
 
@@ -44,11 +46,13 @@ impl Model for Core {
 }
 
 impl Core {
-    /// A heap of nulls, with every card clean, nothing recorded, every count 0 and an empty ring.
+    /// Makes a core of a heap of nulls: every card is clean, nothing is recorded, every count is 0
+    /// and the ring is empty.
     ///
-    /// Takes the memory of the slots (4 bytes each), the marks and counts (a byte a card each), the rows of the recorded
-    /// regions (32 bytes a card) and the ring; afterwards only the remembered sets and the lists that are answered grow.
-    /// `NoMemory` where a growth was refused; what was taken is given back.
+    /// Takes memory for the slots (4 bytes each), the marks and counts (a byte a card each), the
+    /// rows of the recorded regions (32 bytes a card) and the ring. Later only the remembered sets
+    /// and the returned lists grow. Returns `NoMemory` if a growth was refused. What was taken is
+    /// then given back.
     pub fn new(alloc: Global, layout: Layout, config: Config) -> Result<Core, NoMemory>
         ensures { IfOk result (λ core. core ≡ new_machine layout config) }
     {
@@ -69,7 +73,7 @@ impl Core {
     }
 }
 
-/// Records what the card holds and is not recorded yet, or nothing.
+/// Records the regions that the card refers into and is not recorded for yet, all of them or none.
 #[inline(always)]
 pub(crate) fn record_card(
     heap: &mut Heap,

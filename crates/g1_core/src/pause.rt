@@ -1,4 +1,4 @@
-//! The pause: what is still pending is refined, and then a remembered set is trusted.
+//! The pause: what is still pending is refined, and then a remembered set is relied on.
 ghost use Rattle.std.specs.Prelude.{◌≡◌, ◌<◌, ◌≤◌, ◌+◌, ◌*◌, ◌++◌, ◌∷◌, [], ℕ, true, false, length, slice_index, slice_get, IfOk, OnOk, OnErr, IfSome, IfNone, Some, nat_lt, vec_len, vec_capacity, All};
 ghost use Rattle.std.specs.FinSet as set;
 ghost use Rattle.g1_layout.specs.Shape.{card_count};
@@ -134,15 +134,18 @@ impl Core {
         self.hot.reset_counts();
     }
 
-    /// Refines all that is pending, and answers the remembered set of a region (docs/PROFILE.md, The pause).
+    /// Refines all that is pending, and returns the remembered set of a region (docs/PROFILE.md,
+    /// The pause).
     ///
-    /// The cards of the hot ring come first, oldest first, and then the dirty cards, ascending; nothing is counted. A
-    /// whole drain answers the set of the region, ascending, each card once, and sets every count to 0. It adds
-    /// as many reads as the cards that it refines have slots.
+    /// The cards of the hot ring are refined first, oldest first, and then the dirty cards,
+    /// ascending. Nothing is counted. A whole drain returns the set of the region, ascending, each
+    /// card once, and sets every count to 0. The count of reads rises by the slots of the cards
+    /// that it refines.
     ///
-    /// `NoMemory` where the room for the list of refined cards was refused: nothing has changed. Where a later growth
-    /// is refused the answer is `Short`: just the listed cards were refined, the others are pending as before, the
-    /// counts stay, and at most one card more was read.
+    /// Returns `NoMemory` if the room for the list of refined cards was refused: nothing has
+    /// changed. Returns `Short` if a later growth was refused: just the listed cards were refined,
+    /// the others are pending as before, the counts have not changed, and at most one card more was
+    /// read.
     pub fn drain(&mut self, region: Region) -> Result<Drained, NoMemory>
         requires { region < self.old.state.table.layout.regions }
         ensures drained { IfOk result (λ answer. IsDrainOf self.old region answer self.new) }
@@ -171,7 +174,7 @@ impl Core {
         Ok(Drained::Cards { cards, refined })
     }
 
-    /// Whether a card stands in the ring.
+    /// Whether a card is in the ring.
     fn has_held(&self) -> bool
         ensures { result ≡ nat_lt 0 (length self.now.state.ring.cards) }
     {

@@ -18,7 +18,8 @@ impl Core {
     ghost use Rattle.g1_core.specs.Run.{IsStep};
     ghost use Rattle.g1_core.specs.Calls.{target_entry, pending_entry, members_entry, status_entry};
 
-    /// The layout of the heap. Constant time. Its contract says what every core keeps: cover above all.
+    /// The layout of the heap. Constant time. The clauses also say what every core keeps, cover
+    /// above all.
     pub fn layout(&self) -> Layout
         ensures value { result ≡ self.now.state.table.layout }
         ensures shape { IsShape self.now.state.table.layout }
@@ -37,7 +38,7 @@ impl Core {
 
     /// How many slots were read since the core was made, at most the greatest `u64`. Constant time.
     ///
-    /// Refinement, drains, clears, redirects and `target` read slots; the count is never reset.
+    /// Refinement, drains, clears, redirects and `target` read slots. The count is never reset.
     pub fn reads(&self) -> u64
         ensures value { result ≡ self.now.reads }
         ensures bound { self.now.reads < 2 ^ 64 }
@@ -45,7 +46,8 @@ impl Core {
         self.heap.reads()
     }
 
-    /// The place that a slot refers to, or `None` where it is null. One slot is read. Constant time.
+    /// Returns the place that a slot refers to, or `None` if the slot is null. One slot is read.
+    /// Constant time.
     pub fn target(&mut self, slot: Slot) -> Option<Slot>
         requires { slot < slot_count self.old.state.table.layout }
         ensures target { result ≡ target_of self.old.state.table slot }
@@ -71,10 +73,11 @@ impl Core {
         }
     }
 
-    /// The cards of a region's remembered set as it is recorded, ascending, each once. Cards that are pending may be
-    /// missing in it (`drain` answers the set once nothing is pending).
+    /// Returns the cards of a region's remembered set as it is recorded, ascending, each once.
+    /// Cards that are pending may be missing from it. (`drain` returns the set once nothing is
+    /// pending.)
     ///
-    /// `NoMemory` where the room for the list was refused.
+    /// Returns `NoMemory` if the room for the list was refused.
     pub fn members(&self, region: Region) -> Result<CardList, NoMemory>
         requires { region < self.now.state.table.layout.regions }
         ensures members { IfOk result (λ cards. AreMembers self.now.state.table region cards) }
@@ -85,7 +88,8 @@ impl Core {
         Ok(CardList::of(cards))
     }
 
-    /// How many cards are pending and how many pairs are recorded. Takes time in the number of regions.
+    /// How many cards are pending and how many pairs are recorded. Takes time in the number of
+    /// regions.
     pub fn status(&self) -> Status
         ensures pending { result.pending ≡ set.len self.now.state.table.pending }
         ensures recorded { result.recorded ≡ set.len self.now.state.table.recorded }

@@ -1,4 +1,5 @@
-//! The redirect: the references into a region are moved to another region, and its remembered set is emptied.
+//! The redirect: the references into a region are moved to another one, and its remembered set is
+//! emptied.
 ghost use Rattle.std.specs.Prelude.{◌≡◌, ◌≢◌, ◌≤◌, ◌<◌, ◌+◌, ◌*◌, ◌++◌, ℕ, All, IfOk, OnOk, OnErr, length};
 ghost use Rattle.std.specs.FinSet as set;
 ghost use Rattle.g1_layout.specs.Shape.{slot_count, card_count};
@@ -58,7 +59,8 @@ fn add_changes_on(
     Ok(())
 }
 
-// The changes of the slots of a region's members, and the members that gain a reference into the other region.
+// The changes of the slots of a region's members, and the members that gain a reference into the
+// other region.
 fn changes_into(
     alloc: Global,
     heap: &mut Heap,
@@ -108,8 +110,9 @@ impl Core {
     ghost use Rattle.g1_core.specs.Calls.{redirect_entry};
     ghost use Rattle.g1_core.specs.Redirect.{IsMoved, AreMembersRead, IsRedirectOf};
 
-    // Moves every reference into a region, where nothing is pending, and answers how many slots changed. The room for
-    // the changes and for the cards that they record is made first: where it is refused, the members were only read.
+    // Moves every reference into a region, where nothing is pending, and returns how many slots
+    // changed. The room for the changes and for the cards that they record is made first: if it is
+    // refused, the members were only read.
     fn move_references(&mut self, from: Region, to: Region) -> Result<u32, NoMemory>
         requires from { from < self.old.state.table.layout.regions }
         requires to { to < self.old.state.table.layout.regions }
@@ -126,19 +129,21 @@ impl Core {
         Ok(changes.references.len() as u32)
     }
 
-    /// Moves the references into a region to the same offsets of another region, and empties its remembered set
-    /// (docs/PROFILE.md, Redirect; ISMM 2004, "Evacuation Pauses": the objects of a region were copied).
+    /// Moves the references into the region `from` to the same offsets of the region `to`, and
+    /// empties the remembered set of `from` (docs/PROFILE.md, Redirect; ISMM 2004, "Evacuation
+    /// Pauses": the objects of a region were copied).
     ///
-    /// All that is pending is refined first, as in a drain. Then each slot outside `from` that refers into `from` refers
-    /// to the same offset in `to`, and its card is recorded for `to` where it lies outside `to`. Slots inside `from`
-    /// stay. `Moved` says how many slots changed; every count is 0 then.
+    /// All that is pending is refined first, as by a drain. Then each slot outside `from` that
+    /// refers into `from` refers to the same offset of `to` instead, and its card is recorded for
+    /// `to` if it lies outside `to`. Slots inside `from` stay. `Moved` says how many slots changed;
+    /// every count is 0 then.
     ///
-    /// `NoMemory` where the room for the list of refined cards was refused: nothing has changed. Where a later growth
-    /// is refused the answer is `Short`: just the listed cards were refined, no slot changed, nothing was emptied, and
-    /// the counts stay.
+    /// Returns `NoMemory` if the room for the list of refined cards was refused: nothing has
+    /// changed. Returns `Short` if a later growth was refused: just the listed cards were refined,
+    /// no slot has changed, no set was emptied, and the counts have not changed.
     ///
-    /// It reads the slots of each card that it refines and of each member of the set of `from`, once, and no other; a
-    /// short one reads at most one card more.
+    /// It reads at most the slots of each card that it refines and of each card in the set of
+    /// `from`, once. A short redirect reads at most one card more.
     pub fn redirect(&mut self, from: Region, to: Region) -> Result<Redirected, NoMemory>
         requires from { from < self.old.state.table.layout.regions }
         requires to { to < self.old.state.table.layout.regions }

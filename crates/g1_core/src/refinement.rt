@@ -1,4 +1,5 @@
-//! Refinement: the cards of a completed buffer take their turns, and what each holds is recorded.
+//! Refinement: the cards of a completed buffer take their turns, and the regions that each refers
+//! into are recorded.
 ghost use Rattle.std.specs.Prelude.{◌≡◌, ◌<◌, ◌≤◌, ◌+◌, ◌*◌, ◌++◌, ◌↔◌, [], ℕ, false, IfOk, OnErr, IsTrue, length, slice_index_or, vec_len, vec_capacity, option_map, if◌then◌else◌};
 ghost use Rattle.g1_layout.specs.Shape.{card_count};
 ghost use Rattle.g1_heap.specs.declared.mark.Mark.TheVariants.{Clean, Dirty};
@@ -22,19 +23,23 @@ impl Core {
     ghost use Rattle.g1_core.specs.Calls.{refine_entry};
     ghost use Rattle.g1_core.specs.Run.{IsStep};
 
-    /// Refines a lent buffer: its cards take their turns, oldest first; `None` changes nothing and takes no memory
-    /// (ISMM 2004, section 2.2, "Remembered Set Maintenance"; docs/PROFILE.md, Refinement).
+    /// Refines a completed buffer: its cards take their turns, oldest first. `None` changes nothing
+    /// and takes no memory (ISMM 2004, section 2.2, "Remembered Set Maintenance"; docs/PROFILE.md,
+    /// Refinement).
     ///
-    /// A card that is not dirty is skipped, as is one that the heap does not have. A dirty card is counted once more:
-    /// a cold one is refined, so that the regions it holds into are recorded and it becomes clean, and a hot one goes
-    /// last into the hot ring, from which it may push the oldest card, which is refined in its place.
+    /// A card that is not dirty is skipped, as is one that the heap does not have. A dirty card is
+    /// counted once more. If it is cold, it is refined: the regions that it refers into are
+    /// recorded, and it becomes clean. If it is hot, it goes last into the hot ring. It may push
+    /// out the oldest card of the ring, which is refined in its place.
     ///
-    /// The reply is `short` where recording a card was refused memory. The turns of the cards before it have then been
-    /// taken whole; that card and all later ones are as they were, and dirty cards among them stay pending. `NoMemory`
-    /// where room for the reply's list was refused: no card had its turn.
+    /// Returns `NoMemory` if room for the reply's list was refused: no card had its turn, and
+    /// nothing has changed. The reply is `short` if memory to record a card was refused: the cards
+    /// before some card of the buffer had their turns, and that card and the later ones had none.
+    /// Every card that was pending and is not in `refined` is pending still.
     ///
-    /// Reads the slots of each refined card once, and where it is short those of at most one card more. Takes memory for
-    /// the list, one card's room for each card of the buffer, and for what the remembered sets gain.
+    /// Reads the slots of each refined card once, and if it is short those of at most one card
+    /// more. Takes memory for the list, with room for each card of the buffer, and for what the
+    /// remembered sets gain.
     pub fn refine(&mut self, buffer: Option<&Buffer>) -> Result<RefineReply, NoMemory>
         ensures turned { IfOk result (λ reply. IsRefined self.old.state (option_map (λ b. b.now) buffer.entry) reply self.new.state) }
         ensures step { IfOk result (λ reply. (caller : ℕ) → IsStep self.old.state.table (refine_entry caller reply) self.new.state.table) }
@@ -53,7 +58,8 @@ impl Core {
         Ok(reply)
     }
 
-    /// Gives each of the cards its turn, in order. Where a growth is refused the later cards have none.
+    /// Gives each of the cards its turn, in order. If a growth is refused, the later cards have
+    /// none.
     fn turn_all(&mut self, cards: &[Card]) -> Result<RefineReply, NoMemory>
         requires few { length cards.now ≤ 256 }
         ensures turned { IfOk result (λ reply. IsTurned self.old.state cards.now reply self.new.state) }
@@ -72,7 +78,8 @@ impl Core {
         Ok(tally.reply(false))
     }
 
-    /// The turn of a card: what the ring answered, or `None` where the card is not dirty. Memory comes first.
+    /// The turn of a card: what the ring does with it, or `None` if the card is not dirty. Memory
+    /// comes first.
     fn turn(&mut self, card: Card) -> Result<Option<Offer>, NoMemory>
         ensures offer { IfOk result (λ offer. offer ≡ offer_to self.old.state card) }
         ensures state { IfOk result (λ offer. self.new.state ≡ state_after self.old.state card offer) }
@@ -136,7 +143,7 @@ fn is_dirty(heap: &Heap, card: Card) -> bool
     }
 }
 
-/// The reply where there was no buffer.
+/// The reply if there was no buffer.
 fn idle(alloc: Global) -> RefineReply
     ensures none { (result.taken ≡ 0) × (result.left ≡ 0) }
     ensures refined { result.refined ≡ [] }
@@ -209,7 +216,7 @@ impl Tally {
         }
     }
 
-    /// The reply, which is short where a growth was refused.
+    /// The reply, which is short if a growth was refused.
     fn reply(self, short: bool) -> RefineReply
         ensures taken { result.taken ≡ (if short then 0 else 1) }
         ensures refined { result.refined ≡ self.refined.items }

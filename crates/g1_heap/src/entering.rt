@@ -4,8 +4,8 @@ ghost use Rattle.std.specs.Prelude.{◌+◌, ◌<◌, ◌≤◌, ℕ, length, sl
 
 use crate::null::{GROUP, NULL, has_reference};
 
-// The index of the first word from one index on that is one of `size` numbers from `low` on, or how many words there are. It skips groups of
-// null words.
+// The index of the first word from one index on that is one of `size` numbers from `low` on, or how
+// many words there are. It skips groups of null words.
 #[inline(always)]
 pub(crate) fn first_between(row: &[u32], from: usize, low: u32, size: u32) -> usize
     requires range { from ≤ length row.now }

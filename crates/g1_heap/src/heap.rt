@@ -18,11 +18,12 @@ use memchr::memchr;
 use std::alloc::Global;
 use std::marker::Model;
 
-/// The slots of a heap and its card table: four bytes a slot and one byte a card, in a block each.
-/// The largest heap, of 1,073,741,824 slots and 16,777,216 cards, takes 4,312 MB, and the largest
-/// within the profile less than 4.3 MB.
+/// The slots of a heap and its card table. It takes four bytes a slot and one byte a card, in one
+/// block each. The largest heap, of 1,073,741,824 slots and 16,777,216 cards, takes 4,312 MB, and
+/// the largest within the profile less than 4.3 MB.
 ///
-/// Every slot and card that a call is given lies within the heap's layout. No call takes memory but [`Heap::new`].
+/// Every slot and card that is passed to a call lies within the heap's layout. Only [`Heap::new`]
+/// takes memory.
 #[derive(Drop)]
 pub struct Heap {
     layout: Layout,
@@ -44,9 +45,11 @@ impl Model for Heap {
 }
 
 impl Heap {
-    /// A heap of this layout, with each slot null, each card clean and no slot read.
+    /// Makes a heap of this layout. Each slot is null, each card is clean, and no slot has been
+    /// read.
     ///
-    /// `NoMemory` where the block of the slots or that of the card table was refused. Nothing is kept then.
+    /// Returns `NoMemory` if the block of the slots or that of the card table was refused. Nothing
+    /// is kept then.
     pub fn new(alloc: Global, layout: Layout) -> Result<Heap, NoMemory>
         ensures { IfOk result (λ heap. heap ≡ new_cells layout) }
     {
@@ -61,7 +64,7 @@ impl Heap {
         })
     }
 
-    /// How many regions, cards a region and slots a card the heap has.
+    /// The heap's layout: its count of regions, of cards a region and of slots a card.
     pub fn layout(&self) -> Layout
         ensures layout { result ≡ self.now.layout }
         ensures cells { AreCells self.now }
@@ -69,7 +72,7 @@ impl Heap {
         self.layout
     }
 
-    /// Writes a reference, or null, into a slot. It touches no card: to mark the slot's card is the write barrier's part.
+    /// Writes a reference, or null, into a slot. It marks no card: the write barrier does that.
     pub fn set(&mut self, slot: Slot, target: Option<Slot>)
         requires slot { slot < slot_count self.old.layout }
         requires target { IfSome target (λ place. place < slot_count self.old.layout) }
@@ -82,7 +85,8 @@ impl Heap {
         self.words[slot.number() as usize] = word;
     }
 
-    /// The place that a slot refers to, or null. It counts one read, and changes nothing else (docs/PROFILE.md, Reads).
+    /// Returns the place that a slot refers to, or `None` if the slot is null. It counts one read,
+    /// and changes nothing else (docs/PROFILE.md, Reads).
     pub fn get(&mut self, slot: Slot) -> Option<Slot>
         requires { slot < slot_count self.old.layout }
         ensures target { result ≡ slice_index_or self.old.refs slot None }
@@ -92,10 +96,12 @@ impl Heap {
         self.layout.slot(self.words[slot.number() as usize])
     }
 
-    /// The regions other than the card's own into which the card's slots refer: each once, by the first slot that refers into it.
+    /// Returns the regions, other than the card's own, into which the card's slots refer. Each is
+    /// listed once, in the order of the first slot that refers into it.
     ///
-    /// These are the regions whose remembered sets the card belongs in (ISMM 2004 paper, section 2.2). It counts as many reads as a card has
-    /// slots, and changes nothing else. It goes once over the slots, and finds by one look whether a region is listed already.
+    /// These are the regions whose remembered sets the card belongs in (ISMM 2004 paper, section
+    /// 2.2). The call counts as many reads as a card has slots, and changes nothing else. It passes
+    /// over the slots once, and tests one bit to see whether a region is listed already.
     pub fn targets(&mut self, card: Card) -> ArrayVec<Region, 64>
         requires { card < card_count self.old.layout }
         ensures regions { AreTargets self.old.layout self.old.refs card result.items }
@@ -108,10 +114,13 @@ impl Heap {
         targets
     }
 
-    /// As [`Heap::targets`], but for the regions that the caller knows, into a list that the caller lends and that is emptied first.
+    /// Lists the same regions as [`Heap::targets`], except those in `known`, in the caller's list,
+    /// which is emptied first. It counts the same reads.
     ///
-    /// Refinement lends the regions whose remembered sets have the card already: a card that refers into no other then has nothing to record.
-    /// Whoever refines many cards makes one list for all of them: to fill a new one with zeros costs more than to list a target or two.
+    /// Refinement passes the regions whose remembered sets have the card already. A card that
+    /// refers into no other region then has nothing to record. A caller that refines many cards
+    /// uses one list for all of them: to fill a new list with zeros costs more than to list a
+    /// target or two.
     #[inline(always)]
     pub fn list_targets(
         &mut self,
@@ -132,11 +141,12 @@ impl Heap {
         add_targets(&layout, self.words.as_slice(), card, known, targets);
     }
 
-    /// The offset of the first slot of the card, from one offset on, that refers into the region, and the place that it refers to. `None` where
-    /// no slot from there on does.
+    /// Finds the first slot of the card, at offset `from` or later, that refers into the region.
+    /// Returns its offset and the place that it refers to, or `None` if there is no such slot.
     ///
-    /// `from` may be the number of slots a card, one past the last offset, so that a walk can go on after the last slot. It counts as many reads
-    /// as it looks at slots, nulls that are skipped many at a time included, and changes nothing else.
+    /// `from` may be the number of slots a card, one past the last offset, so that a walk can go on
+    /// after the last slot. The call counts one read for each slot that it looks at, also for nulls
+    /// that it skips many at a time, and changes nothing else.
     #[inline(always)]
     pub fn next_into(&mut self, card: Card, from: u32, region: Region) -> Option<(u32, Slot)>
         requires card { card < card_count self.old.layout }
@@ -161,7 +171,7 @@ impl Heap {
         Some((at as u32, place))
     }
 
-    /// The card's entry in the card table. It is no read of a slot.
+    /// Returns the card's entry in the card table. This is no read of a slot.
     pub fn mark(&self, card: Card) -> Mark
         requires { card < card_count self.now.layout }
         ensures { result ≡ slice_index_or self.now.marks card Mark.Clean }
@@ -177,10 +187,11 @@ impl Heap {
         self.bytes[card.number() as usize] = mark.byte();
     }
 
-    /// The first dirty card at or after the card of this number, or `None` where there is none. A held card is not dirty.
+    /// Returns the first dirty card whose number is `from` or more, or `None` if there is none. A
+    /// held card is not dirty.
     ///
-    /// `from` may be the number of cards, one past the last, so that a walk can go on after the last card. It reads no slot. Cards that are
-    /// not dirty are skipped many at a time.
+    /// `from` may be the number of cards, one past the last, so that a walk can go on after the
+    /// last card. The call reads no slot. It skips cards that are not dirty many at a time.
     pub fn next_dirty(&self, from: u32) -> Option<Card>
         requires { from ≤ card_count self.now.layout }
         ensures { MatchOption result (HasNoDirty self.now.marks from) (λ card. IsFirstDirty self.now.marks from card) }
@@ -189,8 +200,9 @@ impl Heap {
         self.layout.card(from + skipped as u32)
     }
 
-    /// How many slots [`Heap::get`], [`Heap::targets`] and [`Heap::next_into`] have read since the heap was made. It is never reset, and stops at the greatest
-    /// `u64`.
+    /// How many slots [`Heap::get`], [`Heap::targets`], [`Heap::list_targets`] and
+    /// [`Heap::next_into`] have read since the heap was made. The count is never reset, and stops
+    /// at the greatest `u64`.
     pub fn reads(&self) -> u64
         ensures { result ≡ self.now.reads }
     {
@@ -198,8 +210,8 @@ impl Heap {
     }
 }
 
-// How many bytes stand before the first one of a dirty card. Dirty cards often lie side by side, so the first byte is looked at before the
-// search of many at a time begins.
+// How many bytes come before the first one of a dirty card. Dirty cards are often neighbours, so
+// the first byte is looked at before the search of many at a time begins.
 fn clean_before(bytes: &[u8]) -> Option<usize>
     ensures { IsFirstByte (is_byte 1) bytes.now result }
 {

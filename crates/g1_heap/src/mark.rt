@@ -9,14 +9,14 @@ pub(crate) const DIRTY: u8 = 1;
 
 pub(crate) const HELD: u8 = 2;
 
-/// What the card table says of a card (docs/PROFILE.md, Card marks).
+/// A card's entry in the card table (docs/PROFILE.md, Card marks).
 #[derive(Clone, Copy, Debug, PartialEq, Eq)]
 pub enum Mark {
     /// The card is not pending.
     Clean,
     /// The card is pending: it waits for refinement.
     Dirty,
-    /// The card is pending: it is hot, and held back in the hot card cache.
+    /// The card is pending: it is hot, and the hot card cache holds it back.
     Held,
 }
 

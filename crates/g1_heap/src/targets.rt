@@ -12,7 +12,8 @@ use crate::null::{GROUP, has_reference};
 use arrayvec::ArrayVec;
 use g1_layout::{Card, Layout, Region, RegionSet};
 
-// Lists the regions into which the words of a row refer from one of them up to another, but those that are in the set, which gains them.
+// Lists the regions into which the words of a row refer from one of them up to another, except
+// those in the set, which gains them.
 #[inline(always)]
 fn add_each(
     layout: &Layout,
@@ -41,7 +42,8 @@ fn add_each(
     }
 }
 
-// One pass over the card's words, which skips groups of null slots. The card's own region is not listed, nor are those that are known.
+// One pass over the card's words, which skips groups of null slots. It lists neither the card's own
+// region nor those that are known.
 #[inline(always)]
 pub(crate) fn add_targets(
     layout: &Layout,

@@ -1,4 +1,4 @@
-//! The counts and the ring.
+//! The refinement counts and the hot ring.
 ghost use Rattle.std.specs.Prelude.{◌≡◌, false, replicate, ◌<◌, ◌≤◌, ◌==◌, ◌↔◌, Contains, IfOk, IsTrue, length, slice_get};
 ghost use Rattle.g1_hot.specs.Ring.{answer, offered, popped, reset, new_ring, IsRing};
 
@@ -10,7 +10,7 @@ use std::marker::Model;
 
 /// How often each card was refined, up to the hot limit, and the ring of hot cards.
 ///
-/// A count takes one byte a card. After `new` no call takes memory.
+/// The counts take one byte a card. After `new` no call takes memory.
 #[derive(Drop)]
 pub struct Hot {
     counts: Vec<u8>,
@@ -34,11 +34,14 @@ impl Model for Hot {
 }
 
 impl Hot {
-    /// Every card of the layout with count 0, and an empty ring.
+    /// Makes an empty ring, and a count of 0 for every card of the layout.
     ///
-    /// `limit` is the count from which on a card is hot (0 makes every card hot), and `capacity` is how many cards the
-    /// ring holds at most (docs/PROFILE.md, Hotness). `NoMemory` where the room for the counts or the ring was refused;
-    /// what was taken is given back. Takes one byte a card and the room of the whole ring; time in the number of cards.
+    /// `limit` is the count from which on a card is hot; with 0 every card is. `capacity` is how
+    /// many cards the ring holds at most (docs/PROFILE.md, Hotness). The call takes one byte a card
+    /// and the room of the whole ring, and time in the number of cards.
+    ///
+    /// Returns `NoMemory` if the room for the counts or the ring was refused. What was taken is
+    /// then given back.
     pub fn new(alloc: Global, layout: Layout, limit: u32, capacity: usize) -> Result<Hot, NoMemory>
         requires limit { limit ≤ 255 }
         requires some { 1 ≤ capacity }
@@ -56,7 +59,7 @@ impl Hot {
         })
     }
 
-    /// What `offer` would answer to the card. Nothing changes. Constant time.
+    /// Returns what `offer` would return for the card, and changes nothing. Constant time.
     pub fn would(&self, card: Card) -> Offer
         requires { card < length self.now.counts }
         ensures answer { result ≡ answer self.now card }
@@ -71,11 +74,11 @@ impl Hot {
         }
     }
 
-    /// Counts a refinement of the card, and where the card is hot puts it last into the ring.
+    /// Counts a refinement of the card. If the card is hot, it goes last into the ring.
     ///
-    /// A card is hot where it was refined `limit` times before this time. Its count rises by one, and stops at the limit.
-    /// Where the ring was full, its oldest card leaves it and is handed out (docs/PROFILE.md, Hotness). The card must not
-    /// stand in the ring. Constant time.
+    /// A card is hot if its count was `limit` before this call. The count rises by one, and stops
+    /// at the limit. If the card is hot and the ring was full, the oldest card leaves the ring and
+    /// is returned (docs/PROFILE.md, Hotness). The card must not be in the ring. Constant time.
     pub fn offer(&mut self, card: Card) -> Offer
         requires within { card < length self.old.counts }
         requires absent { Contains self.old.cards card → ⊥ }
@@ -94,7 +97,8 @@ impl Hot {
         }
     }
 
-    /// The card that has stood in the ring the longest, `None` exactly where the ring is empty. Constant time.
+    /// The card that has been in the ring the longest. `None` exactly if the ring is empty.
+    /// Constant time.
     pub fn oldest(&self) -> Option<Card>
         ensures card { result ≡ slice_get self.now.cards 0 }
         ensures kept { IsRing self.now }
@@ -102,8 +106,8 @@ impl Hot {
         self.ring.front().copied()
     }
 
-    /// Takes the card out of the ring that has stood there the longest, `None` exactly where the ring is empty. The counts
-    /// stay. Constant time.
+    /// Takes the card that has been in the ring the longest out of it. `None` exactly if the ring
+    /// is empty. The counts do not change. Constant time.
     pub fn pop_oldest(&mut self) -> Option<Card>
         ensures card { result ≡ slice_get self.old.cards 0 }
         ensures ring { self.new ≡ popped self.old }
@@ -111,14 +115,14 @@ impl Hot {
         self.ring.pop_front()
     }
 
-    /// Whether the card stands in the ring. Time in the number of cards in the ring.
+    /// Whether the card is in the ring. Time in the number of cards in the ring.
     pub fn contains(&self, card: Card) -> bool
         ensures { IsTrue result ↔ Contains self.now.cards card }
     {
         self.ring.iter().any(|kept| *kept == card)
     }
 
-    /// How many cards stand in the ring, at most its capacity. Constant time.
+    /// How many cards are in the ring: at most its capacity. Constant time.
     pub fn len(&self) -> usize
         ensures len { result ≡ length self.now.cards }
         ensures kept { IsRing self.now }
@@ -126,15 +130,15 @@ impl Hot {
         self.ring.len()
     }
 
-    /// Whether no card stands in the ring. Constant time.
+    /// Whether the ring is empty. Constant time.
     pub fn is_empty(&self) -> bool
         ensures { result ≡ (length self.now.cards == 0) }
     {
         self.ring.is_empty()
     }
 
-    /// Sets the count of every card to 0, as at the end of a pause's drain (docs/PROFILE.md, Hotness). The ring stays. One
-    /// pass over the counts.
+    /// Sets the count of every card to 0, as a whole drain does at its end (docs/PROFILE.md,
+    /// Hotness). The ring does not change. One pass over the counts, at most.
     pub fn reset_counts(&mut self)
         ensures { self.new ≡ reset self.old }
     {

@@ -1,10 +1,11 @@
-//! How often each card was refined, and the ring of hot cards: cards that were refined so often that they are set
-//! aside until they are pushed out or a pause drains them. HotSpot calls it the hot card cache.
+//! How often each card was refined, and the ring of hot cards. A card that was refined often enough
+//! is hot: it is set aside in the ring until it is pushed out or a pause drains it. HotSpot calls
+//! this the hot card cache.
 //!
 //! - `hot`: the counts and the ring.
-//! - `offer`: what the ring answers to a card.
+//! - `offer`: what the ring does with a card.
 //!
-//! The rule of hotness and what contracts see of both stand in `specs/Ring.antt`.
+//! `specs/Ring.antt` has the rule of hotness, and what contracts see of the counts and the ring.
 #![tactic(auto)]
 
 mod hot;

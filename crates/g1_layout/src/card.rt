@@ -5,9 +5,10 @@ ghost use Rattle.std.specs.Prelude.{◌≡◌};
 use std::fmt;
 use std::marker::Model;
 
-/// A card: some slots in a row, with one entry in the card table.
+/// A card: consecutive slots that share one entry in the card table.
 ///
-/// A layout makes it ([`Layout::card`](crate::Layout::card)); the default is number 0, which every layout has.
+/// A layout makes it ([`Layout::card`](crate::Layout::card)). The default is card 0, which every
+/// layout has.
 #[derive(Clone, Copy, Debug, Default, PartialEq, Eq, PartialOrd, Ord, Hash)]
 pub struct Card {
     pub(crate) number: u32,
@@ -24,7 +25,7 @@ impl Model for Card {
 }
 
 impl Card {
-    /// The number among the cards of the heap, from 0 in the order of the heap.
+    /// The card's number. Cards are numbered from 0 in the order of the heap.
     pub fn number(self) -> u32
         ensures { result ≡ self }
     {
@@ -32,7 +33,7 @@ impl Card {
     }
 }
 
-/// As its number.
+/// Formats the card as its number.
 impl fmt::Display for Card {
     ghost use Rattle.std.specs.Prelude.{Some};
     ghost use Rattle.std.specs.Fmt.{decimal, styled_decimal};

@@ -1,15 +1,17 @@
-//! What became of a store.
+//! The kinds of reference stores.
 
-/// What a store was, which decides whether its card is logged (Detlefs and others, ISMM 2004, section 2.2, has the
-/// filters; docs/PROFILE.md, Kinds of store, has the order in which they are asked).
+/// The kind of a store, which decides whether the slot's card is logged.
+///
+/// The filters come from Detlefs and others, ISMM 2004, section 2.2. The order in which they are
+/// tried is in docs/PROFILE.md, Kinds of store.
 #[derive(Clone, Copy, Debug, PartialEq, Eq)]
 pub enum Kind {
-    /// The slot and its target lie in one region: no remembered set needs to know.
+    /// The slot and its target lie in one region. No remembered set needs such a reference.
     SameRegion,
-    /// The target is null: nothing is referred to.
+    /// The target is null: the slot refers to nothing.
     Null,
-    /// The slot's card was pending already: refinement will read it anyway.
+    /// The slot's card was pending already, so refinement will read it anyway.
     AlreadyDirty,
-    /// The slot's card was clean. It was marked dirty and put into the mutator's log.
+    /// The slot's card was clean. The store marked it dirty and put it into the mutator's log.
     Logged,
 }

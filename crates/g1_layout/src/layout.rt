@@ -23,13 +23,14 @@ const PROFILE_MAX_CARDS: u32 = 256;
 
 const PROFILE_MAX_HEAP_SLOTS: u32 = 1_048_576;
 
-/// How many regions, cards a region and slots a card a heap has (docs/PROFILE.md, Limits), and so
-/// where each slot and card lies (docs/PROFILE.md, Geometry; regions of equal size are those of the
-/// ISMM 2004 paper, section 2.1).
+/// The counts of a heap: how many regions it has, how many cards a region, and how many slots a
+/// card. They say where each slot and card lies (docs/PROFILE.md, Geometry; regions of equal size
+/// come from the ISMM 2004 paper, section 2.1).
 ///
-/// [`Layout::new`] makes one within the limits of the profile, [`Layout::large`] one of a runtime's
-/// size. Every call takes either. Seven words that are copied freely. Every call is a few
-/// instructions and takes no memory; none but these two divides.
+/// [`Layout::new`] makes a layout within the limits of the profile, [`Layout::large`] one of a
+/// runtime's size (docs/PROFILE.md, Limits). Every call takes either. A layout is seven words,
+/// which are copied freely. Every call is a few instructions and takes no memory; only `new` and
+/// `large` divide.
 #[derive(Clone, Copy, Debug)]
 pub struct Layout {
     regions: u32,
@@ -72,11 +73,11 @@ impl Model for Layout {
 }
 
 impl Layout {
-    /// A layout of `regions` regions of `cards` cards of `slots` slots, within the profile's
-    /// limits.
+    /// Makes a layout of `regions` regions of `cards` cards of `slots` slots, within the limits of
+    /// the profile.
     ///
-    /// `None` exactly outside them: a count of 0, more than 256 regions, 256 cards a region or 64
-    /// slots a card, or more than 1,048,576 slots in all.
+    /// Returns `None` exactly outside them: if a count is 0, or if there are more than 256 regions,
+    /// 256 cards a region, 64 slots a card, or 1,048,576 slots in all.
     pub fn new(regions: u32, cards: u32, slots: u32) -> Option<Layout>
         ensures { let l : Shape = record { regions = regions; cards = cards; slots = slots } in
             SomeIff result (IsWithinProfile l) l }
@@ -88,12 +89,13 @@ impl Layout {
         Some(layout)
     }
 
-    /// A layout of `regions` regions of `cards` cards of `slots` slots, for the heap of a runtime:
-    /// of at most 2^30 slots, which are 8 GB of 8-byte words in regions of 32 MB and cards of 512
-    /// bytes.
+    /// Makes a layout of `regions` regions of `cards` cards of `slots` slots, for the heap of a
+    /// runtime. It has at most 2^30 slots: 8 GB of 8-byte words, in regions of 32 MB and cards of
+    /// 512 bytes.
     ///
-    /// `None` exactly outside these limits: a count of 0, more than 256 regions, 65,536 cards a
-    /// region or 64 slots a card. What a heap takes in memory is in docs/PROFILE.md, Limits.
+    /// Returns `None` exactly outside these limits: if a count is 0, or if there are more than 256
+    /// regions, 65,536 cards a region, or 64 slots a card. What a heap takes in memory is in
+    /// docs/SPEED.md, Memory.
     pub fn large(regions: u32, cards: u32, slots: u32) -> Option<Layout>
         ensures { let l : Shape = record { regions = regions; cards = cards; slots = slots } in
             SomeIff result (IsShape l) l }
@@ -148,7 +150,7 @@ impl Layout {
         self.regions * self.cards.divisor()
     }
 
-    /// The slot of this number, from 0. `None` exactly where the heap has no such slot.
+    /// The slot of this number, from 0. `None` exactly if the heap has no such slot.
     pub fn slot(&self, number: u32) -> Option<Slot>
         ensures { SomeIff result (number < slot_count self.now) number }
     {
@@ -159,7 +161,7 @@ impl Layout {
         }
     }
 
-    /// The card of this number, from 0. `None` exactly where the heap has no such card.
+    /// The card of this number, from 0. `None` exactly if the heap has no such card.
     pub fn card(&self, number: u32) -> Option<Card>
         ensures { SomeIff result (number < card_count self.now) number }
     {
@@ -170,7 +172,7 @@ impl Layout {
         }
     }
 
-    /// The region of this number, from 0. `None` exactly where the heap has no such region.
+    /// The region of this number, from 0. `None` exactly if the heap has no such region.
     pub fn region(&self, number: u32) -> Option<Region>
         ensures { SomeIff result (number < self.now.regions) number }
     {
@@ -181,8 +183,8 @@ impl Layout {
         }
     }
 
-    /// The card that a slot of this heap lies on: the slot's number by the slots a card, rounded
-    /// down.
+    /// The card on which a slot of this heap lies: the slot's number divided by the slots a card,
+    /// rounded down.
     pub fn card_of(&self, slot: Slot) -> Card
         requires { slot < slot_count self.now }
         ensures quotient { result ≡ card_of self.now slot }
@@ -193,8 +195,8 @@ impl Layout {
         }
     }
 
-    /// The region that a slot of this heap lies in: the slot's number by the slots a region,
-    /// rounded down.
+    /// The region in which a slot of this heap lies: the slot's number divided by the slots a
+    /// region, rounded down.
     pub fn region_of(&self, slot: Slot) -> Region
         requires { slot < slot_count self.now }
         ensures quotient { result ≡ region_of self.now slot }
@@ -205,8 +207,8 @@ impl Layout {
         }
     }
 
-    /// The region that a card of this heap lies in: the card's number by the cards a region,
-    /// rounded down.
+    /// The region in which a card of this heap lies: the card's number divided by the cards a
+    /// region, rounded down.
     pub fn region_of_card(&self, card: Card) -> Region
         requires { card < card_count self.now }
         ensures quotient { result ≡ region_of_card self.now card }
@@ -217,8 +219,8 @@ impl Layout {
         }
     }
 
-    /// The first slot of a card of this heap. All the slots of the card follow it, and the heap has
-    /// them all.
+    /// The first slot of a card of this heap. The other slots of the card follow it, and the heap
+    /// has them all.
     pub fn first_slot(&self, card: Card) -> Slot
         requires { card < card_count self.now }
         ensures first { result ≡ card * self.now.slots }
@@ -229,7 +231,7 @@ impl Layout {
         }
     }
 
-    /// The slot at an offset of a card of this heap: offset 0 is the card's first slot.
+    /// The slot at an offset on a card of this heap. The card's first slot is at offset 0.
     pub fn slot_at(&self, card: Card, offset: u32) -> Slot
         requires card { card < card_count self.now }
         requires offset { offset < self.now.slots }
@@ -241,8 +243,8 @@ impl Layout {
         }
     }
 
-    /// The place at the same offset in another region, where an evacuation puts what lay at this
-    /// one.
+    /// The place at the same offset of the region `to`. An evacuation puts there what was at
+    /// `place`.
     pub fn same_offset(&self, place: Slot, to: Region) -> Slot
         requires place { place < slot_count self.now }
         requires to { to < self.now.regions }

@@ -1,10 +1,11 @@
-//! The numbers of a heap: which slots, cards and regions there are, and which lies where.
+//! The numbers of a heap: its slots, cards and regions, and which lies where.
 //!
-//! A heap has regions of cards of slots (docs/PROFILE.md, Geometry). [`Layout`] holds the three counts. It makes
-//! every [`Slot`], [`Card`] and [`Region`], and says on which card a slot lies and in which region. Every crate
-//! above speaks of places in the heap by these numbers, and of a growth that was refused by [`NoMemory`].
+//! A heap has regions of cards of slots (docs/PROFILE.md, Geometry). [`Layout`] holds the three
+//! counts. It makes every [`Slot`], [`Card`] and [`Region`], and returns the card and the region of
+//! a slot. Every crate above names places in the heap by these numbers, and returns [`NoMemory`] if
+//! a growth is refused.
 //!
-//! Nothing here takes memory, and no call waits for anybody.
+//! Nothing here takes memory, and no call waits.
 #![tactic(auto)]
 
 mod card;

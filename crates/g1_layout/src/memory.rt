@@ -3,9 +3,10 @@
 use std::alloc::{AllocError, AllocFailed};
 use thiserror::Error;
 
-/// A growth was refused (docs/PROFILE.md, No memory). It is answered for no other reason.
+/// A growth was refused (docs/PROFILE.md, No memory). It is returned for no other reason.
 ///
-/// `?` makes it of the allocator's own errors. A call that answers it says what it left unchanged.
+/// `?` converts the allocator's own errors to it. A call that returns it says what it left
+/// unchanged.
 #[derive(Clone, Copy, Debug, PartialEq, Eq, Error)]
 #[error("no memory")]
 pub struct NoMemory;
@@ -16,7 +17,7 @@ impl From<AllocError> for NoMemory {
     }
 }
 
-/// The value that found no room is let go.
+/// The value for which there was no room is dropped.
 impl<T: Drop> From<AllocFailed<T>> for NoMemory {
     fn from(_: AllocFailed<T>) -> Self {
         NoMemory

@@ -5,9 +5,10 @@ ghost use Rattle.std.specs.Prelude.{◌≡◌};
 use std::fmt;
 use std::marker::Model;
 
-/// A region: some cards in a row, with one remembered set.
+/// A region: consecutive cards with one remembered set.
 ///
-/// A layout makes it ([`Layout::region`](crate::Layout::region)); the default is number 0, which every layout has.
+/// A layout makes it ([`Layout::region`](crate::Layout::region)). The default is region 0, which
+/// every layout has.
 #[derive(Clone, Copy, Debug, Default, PartialEq, Eq, PartialOrd, Ord, Hash)]
 pub struct Region {
     pub(crate) number: u32,
@@ -24,7 +25,7 @@ impl Model for Region {
 }
 
 impl Region {
-    /// The number among the regions of the heap, from 0 in the order of the heap.
+    /// The region's number. Regions are numbered from 0 in the order of the heap.
     pub fn number(self) -> u32
         ensures { result ≡ self }
     {
@@ -32,7 +33,7 @@ impl Region {
     }
 }
 
-/// As its number.
+/// Formats the region as its number.
 impl fmt::Display for Region {
     ghost use Rattle.std.specs.Prelude.{Some};
     ghost use Rattle.std.specs.Fmt.{decimal, styled_decimal};

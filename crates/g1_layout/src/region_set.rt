@@ -5,16 +5,18 @@ ghost use Rattle.g1_layout.specs.Regions.{HasRegion, Gains, Loses};
 
 use crate::region::Region;
 
-/// A set of regions, a bit for each that a heap may have: 32 bytes that are copied freely.
+/// A set of regions, with one bit for each region that a heap may have: 32 bytes, which are copied
+/// freely.
 ///
-/// Each call is a few instructions and takes no memory. Contracts speak of a set by `HasRegion` alone.
+/// Each call is a few instructions and takes no memory. Contracts describe a set by `HasRegion`
+/// alone.
 #[derive(Clone, Copy, Debug)]
 pub struct RegionSet {
     words: [u64; 4],
 }
 
 impl RegionSet {
-    /// The set of no region.
+    /// An empty set.
     pub fn new() -> RegionSet
         ensures { (r : ℕ) → HasRegion result r → ⊥ }
     {

@@ -5,9 +5,11 @@ ghost use Rattle.std.specs.Prelude.{◌≡◌};
 use std::fmt;
 use std::marker::Model;
 
-/// A slot of the heap, which holds one reference or null. As the target of a reference it is a place.
+/// A slot of the heap, which holds one reference or null. A slot that a reference refers to is
+/// called a place.
 ///
-/// A layout makes it ([`Layout::slot`](crate::Layout::slot)); the default is number 0, which every layout has.
+/// A layout makes it ([`Layout::slot`](crate::Layout::slot)). The default is slot 0, which every
+/// layout has.
 #[derive(Clone, Copy, Debug, Default, PartialEq, Eq, PartialOrd, Ord, Hash)]
 pub struct Slot {
     pub(crate) number: u32,
@@ -24,7 +26,7 @@ impl Model for Slot {
 }
 
 impl Slot {
-    /// The number among the slots of the heap, from 0 in the order of the heap.
+    /// The slot's number. Slots are numbered from 0 in the order of the heap.
     pub fn number(self) -> u32
         ensures { result ≡ self }
     {
@@ -32,7 +34,7 @@ impl Slot {
     }
 }
 
-/// As its number.
+/// Formats the slot as its number.
 impl fmt::Display for Slot {
     ghost use Rattle.std.specs.Prelude.{Some};
     ghost use Rattle.std.specs.Fmt.{decimal, styled_decimal};

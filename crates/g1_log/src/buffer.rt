@@ -6,10 +6,11 @@ use g1_layout::Card;
 use std::marker::Model;
 use std::mem;
 
-/// A completed buffer: the cards of a log, oldest first, at most 256 of them and possibly none.
+/// A completed buffer: the cards of a log, oldest first. It has at most 256 cards, and may have
+/// none.
 ///
-/// Contracts see the list of the cards' numbers. The cards lie in the value itself: a move copies 1,032 bytes, and
-/// no call takes memory (ISMM 2004, section 2.2, Remembered Set Maintenance).
+/// Contracts see the list of the cards' numbers. The value holds the cards itself: a move copies
+/// 1,032 bytes, and no call takes memory (ISMM 2004, section 2.2, Remembered Set Maintenance).
 #[derive(Debug, Drop)]
 pub struct Buffer {
     cards: ArrayVec<Card, 256>,
@@ -24,7 +25,7 @@ impl Model for Buffer {
 }
 
 impl Buffer {
-    /// The buffer of these cards, oldest first. It may have none.
+    /// Makes a buffer of these cards, oldest first. There may be none.
     pub fn of(cards: ArrayVec<Card, 256>) -> Buffer
         ensures { result ≡ cards.items }
     {

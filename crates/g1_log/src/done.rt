@@ -22,8 +22,9 @@ pub enum Why {
 
 /// The completed buffers of one thread, oldest first, at most as many as its limit.
 ///
-/// Contracts see the limit and the list of the buffers' lists of cards (`Completed`). Only `new` and `add` take memory
-/// (ISMM 2004, section 2.2, Remembered Set Maintenance; docs/PROFILE.md, Logs and completed buffers).
+/// Contracts see the limit and the list of the buffers' lists of cards (`Completed`). Only `add`
+/// takes memory (ISMM 2004, section 2.2, Remembered Set Maintenance; docs/PROFILE.md, Logs and
+/// completed buffers).
 #[derive(Debug, Drop)]
 pub struct Done {
     limit: usize,
@@ -45,7 +46,7 @@ impl Model for Done {
 impl Done {
     ghost use Rattle.g1_log.specs.declared.done.Why.TheVariants.{Full};
 
-    /// No buffers, and room for at most `limit` of them.
+    /// Makes an empty list of at most `limit` buffers. It takes no memory.
     pub fn new(alloc: Global, limit: usize) -> Done
         requires low { 1 ≤ limit }
         requires high { limit ≤ 1024 }
@@ -65,7 +66,7 @@ impl Done {
         self.buffers.len()
     }
 
-    /// Whether there is no buffer.
+    /// Whether there are no buffers.
     pub fn is_empty(&self) -> bool
         ensures { IsTrue result ↔ (self.now.buffers ≡ []) }
     {
@@ -74,8 +75,8 @@ impl Done {
 
     /// Adds a buffer as the youngest.
     ///
-    /// `Why::Full` comes exactly at the limit, `Why::NoMemory` where a growth was refused. Either hands the buffer
-    /// back, and nothing has changed.
+    /// Returns `Why::Full` exactly if there are as many buffers as the limit, and `Why::NoMemory`
+    /// if a growth was refused. Either hands the buffer back, and nothing has changed.
     pub fn add(&mut self, buffer: Buffer) -> Result<(), (Buffer, Why)>
         ensures ok { OnOk result (self.new ≡ added self.old buffer) }
         ensures full { (result ≡ Err (buffer, Full)) ↔ (length self.old.buffers ≡ self.old.limit) }
@@ -90,14 +91,14 @@ impl Done {
         }
     }
 
-    /// The oldest buffer.
+    /// The oldest buffer. `None` exactly if there is none.
     pub fn oldest(&self) -> Option<&Buffer>
         ensures { option_copied result ≡ slice_get self.now.buffers 0 }
     {
         self.buffers.front()
     }
 
-    /// Takes the oldest buffer out, in constant time.
+    /// Takes the oldest buffer out, in constant time. `None` exactly if there is none.
     pub fn take_oldest(&mut self) -> Option<Buffer>
         ensures buffer { result ≡ slice_get self.old.buffers 0 }
         ensures others { self.new ≡ record self.old { buffers = drop 1 self.old.buffers } }
@@ -105,7 +106,8 @@ impl Done {
         self.buffers.pop_front()
     }
 
-    /// Removes the first `n` cards of the oldest buffer, and the buffer where none is left.
+    /// Removes the first `n` cards of the oldest buffer. If none is left, the buffer is removed
+    /// too.
     pub fn cut_oldest(&mut self, n: usize)
         requires { IsSomeAnd (slice_get self.old.buffers 0) (λ cards. n ≤ length cards) }
         ensures { self.new ≡ record self.old { buffers = oldest_cut n self.old.buffers } }

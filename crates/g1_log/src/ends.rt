@@ -1,4 +1,4 @@
-//! The senders and the takers of the line, and the line that has ended.
+//! The ends of the queue of completed buffers, and the queue once it is settled.
 ghost use Rattle.std.specs.Prelude.{◌≡◌, true, false, [], ◌≤◌, ◌^◌, length, IfSome};
 ghost use Rattle.std.proofs.Props.{props};
 ghost use Rattle.crossbeam_queue.specs.Passes.{view, IsPassOf};
@@ -9,7 +9,7 @@ use crate::rule::Queue;
 use crate::view::View;
 use crossbeam_queue::Pass;
 
-/// The end of the line into which one mutator puts.
+/// The end of the queue by which one mutator puts buffers.
 #[derive(Drop)]
 pub struct Sender {
     pub(crate) pass: Pass<Parcel, View>,
@@ -21,7 +21,7 @@ pub struct Sender {
     ghost most: { next ≤ 2 ^ 58 },
 }
 
-/// The end of the line from which one thread takes.
+/// The end of the queue by which one thread takes parcels.
 #[derive(Drop)]
 pub struct Taker {
     pub(crate) pass: Pass<Parcel, View>,
@@ -29,7 +29,7 @@ pub struct Taker {
     ghost role: { IsTakerView (view pass) } by { Prim.hlevel props },
 }
 
-/// A line that has ended, with the parcels that are left in it.
+/// A queue that is settled, with the parcels that are left in it.
 #[derive(Drop)]
 pub struct Settled {
     pub(crate) queue: Queue,

@@ -1,8 +1,9 @@
 //! Dirty card queues and completed buffers.
 //!
-//! A mutator logs each card that it dirties in a log of its own. The card that fills the log makes a completed
-//! buffer of it, and the mutator goes on with an empty log. `Done` keeps the completed buffers of one thread. A
-//! `Line` carries them between threads without a lock: mutators put, refiners take.
+//! A mutator has a dirty card queue of its own, its log, into which it puts each card that it
+//! dirties. The card that fills the log makes a completed buffer of it, and the mutator goes on
+//! with an empty log. `Done` keeps the completed buffers of one thread. `Line` is the queue of
+//! completed buffers between threads, without a lock: mutators put, refinement threads take.
 #![tactic(auto)]
 
 mod buffer;

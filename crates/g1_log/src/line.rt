@@ -1,4 +1,4 @@
-//! The line of completed buffers between threads.
+//! The queue of completed buffers between threads.
 ghost use Rattle.std.specs.Prelude.{◌≡◌, false, ◌∷◌, ◌++◌, [], ◌+◌, ◌-◌, ◌<◌, ◌≤◌, ◌^◌, ◌⊎◌, length, map, fold, sum_by, MatchResult, MatchOption, IfOk, OnOk, IsTrue};
 ghost use Rattle.std.specs.List.{All};
 ghost use Rattle.crossbeam_queue.specs.Passes.{view, IsPassOf, IsSamePass, ruled_capacity};
@@ -15,13 +15,18 @@ use g1_layout::NoMemory;
 use std::alloc::Global;
 use std::sync::Wait;
 
-/// A line of completed buffers: a bounded queue without a lock, into which each sender puts and from which each taker
-/// takes, from threads of their own.
+/// The queue of completed buffers: a bounded queue without a lock. Senders put into it and takers
+/// take from it, each in a thread of its own.
 ///
-/// Between any two steps of any threads, in every schedule: each buffer that a sender has put stands exactly once in
-/// the queue and all takers' lists together, as the parcel of that sender and of its place among that sender's
-/// buffers; nothing else stands there; the numbers of one sender rise in the queue and in each taker's list, and those
-/// taken are below those in the queue (`each_parcel_stands_once`; docs/PROFILE.md, The line of completed buffers).
+/// Between any two steps of any threads, under every schedule:
+///
+/// - each buffer that a sender has put is exactly once in the queue and all takers' lists together,
+///   as the parcel of that sender and of its place among that sender's buffers, and nothing else is
+///   there (`each_parcel_stands_once`);
+/// - the numbers of one sender rise in the queue and in each taker's list, and those taken are
+///   below those in the queue.
+///
+/// The rules are in docs/PROFILE.md, The line of completed buffers.
 #[derive(Drop)]
 pub struct Line {
     queue: Queue,
@@ -34,10 +39,11 @@ const MOST_PUT: u64 = 1 << 58;
 impl Line {
     ghost use Rattle.g1_log.specs.Ends.{IsSenderOf, IsTakerOf, IsSameSender, IsSameTaker, put_of, taken_of, capacity_of, WasFull, WasEmpty, AreNewSenders, IsNewTaker, sender_rights, taker_rights, AreAll, sender_view, taker_view, put_count, taken_count, EachTakenOrLeft, AreNumberedApart, RiseInto, left_of, sent_of, left_count};
 
-    /// An empty line of at most `capacity` buffers, with its senders, numbered from 0, and its takers.
+    /// Makes an empty queue of at most `capacity` buffers, with its senders, numbered from 0, and
+    /// its takers.
     ///
-    /// This is the only call that takes memory: for the queue, the two lists and nothing else. `NoMemory` where a growth
-    /// was refused.
+    /// Only this call takes memory: for the queue, the two lists and nothing else. It returns
+    /// `NoMemory` if a growth was refused.
     pub fn new(
         alloc: Global,
         capacity: usize,
@@ -62,11 +68,12 @@ impl Line {
         Ok((line, senders, takers))
     }
 
-    /// Puts a buffer last into the line, under this sender's next number.
+    /// Puts a buffer last into the queue, under this sender's next number.
     ///
-    /// `Err` hands the buffer back and uses up no number. It comes only if the queue was full at some moment of the call
-    /// (the clause says so in part: docs/DECISIONS.md), or if this sender has put 2^58 buffers. One step of the queue,
-    /// which moves the buffer; no memory.
+    /// `Err` hands the buffer back, and uses up no number. It comes only if the queue was full at
+    /// some moment of the call (the clause says so in part: docs/DECISIONS.md), or if this sender
+    /// has put 2^58 buffers. The call is one step of the queue, which moves the buffer. It takes no
+    /// memory.
     pub fn put<R: Wait>(&self, rt: &R, sender: &mut Sender, buffer: Buffer) -> Result<(), Buffer>
         requires { IsSenderOf self.now sender.old }
         ensures same { IsSameSender sender.new sender.old }
@@ -92,11 +99,12 @@ impl Line {
         }
     }
 
-    /// Takes the oldest parcel of the line.
+    /// Takes the oldest parcel of the queue.
     ///
-    /// `None` comes only if the queue was empty at some moment of the call (the clause says so in part: docs/DECISIONS.md).
-    /// No clause says that it is the oldest; the rule says that the numbers of each sender rise in what a taker takes. One
-    /// step of the queue, which moves the buffer; no memory.
+    /// `None` comes only if the queue was empty at some moment of the call (the clause says so in
+    /// part: docs/DECISIONS.md). No clause says that the parcel is the oldest. The rule says that
+    /// the numbers of each sender rise in what a taker takes. The call is one step of the queue,
+    /// which moves the buffer. It takes no memory.
     pub fn take<R: Wait>(&self, rt: &R, taker: &mut Taker) -> Option<Parcel>
         requires { IsTakerOf self.now taker.old }
         ensures same { IsSameTaker taker.new taker.old }
@@ -107,10 +115,11 @@ impl Line {
         self.queue.pop_as::<Takes, R>(rt, &mut taker.pass)
     }
 
-    /// Whether the line was seen empty, at some moment of the call: a take that is not made.
+    /// Whether the queue was seen empty at some moment of the call: a take that is not made.
     ///
-    /// `true` is what the `None` of [`Line::take`] is, and comes with the same clause, but costs two loads: no parcel is moved. `false` does not
-    /// say that a take finds a parcel, where there are other takers. No memory.
+    /// `true` means what the `None` of [`Line::take`] means, by the same clause. The call costs two
+    /// loads and moves no parcel. If there are other takers, `false` does not mean that a take
+    /// finds a parcel. It takes no memory.
     pub fn is_empty_for(&self, taker: &mut Taker) -> bool
         requires { IsTakerOf self.now taker.old }
         ensures same { IsSameTaker taker.new taker.old }
@@ -121,7 +130,7 @@ impl Line {
         self.queue.is_empty_as::<Takes>(&mut taker.pass)
     }
 
-    /// How many parcels the line holds at most, as it was made. Constant time; no memory.
+    /// How many parcels the queue holds at most, as it was made. Constant time; no memory.
     pub fn capacity(&self) -> usize
         ensures capacity { result ≡ capacity_of self.now }
         ensures few { result ≤ 1024 }
@@ -129,8 +138,8 @@ impl Line {
         self.queue.capacity()
     }
 
-    /// How many parcels the queue held at some moment of the call. The clause says that they are at most the capacity, and
-    /// no more. No memory.
+    /// How many parcels the queue held at some moment of the call. The clause says only that this
+    /// is at most the capacity. It takes no memory.
     pub fn len<R: Wait>(&self, rt: &R) -> usize
         ensures within { result ≤ capacity_of self.now }
         ensures few { result ≤ 1024 }
@@ -139,10 +148,11 @@ impl Line {
         self.queue.len_as::<Free, R>(rt, &mut pass)
     }
 
-    /// Ends the line, once all its senders and takers are back.
+    /// Settles the queue, once all its senders and takers are back.
     ///
-    /// What was put is what was taken and what is left, each parcel once, however parcels are weighed. It takes no
-    /// memory: one step of the queue for each sender and each taker, and one take.
+    /// What was put is what was taken and what is left, each parcel once: the clause says so for
+    /// every way to weigh parcels. The call is one step of the queue for each sender and each
+    /// taker, and one take. It takes no memory.
     pub fn settle<R: Wait>(self, rt: &R, senders: Vec<Sender>, takers: Vec<Taker>) -> Settled
         requires senders { All (IsSenderOf self) senders.items }
         requires takers { All (IsTakerOf self) takers.items }
@@ -259,28 +269,29 @@ impl Line {
 impl Settled {
     ghost use Rattle.g1_log.specs.Ends.{left_of, sent_of, left_count};
 
-    /// How many buffers were put into the line by all its senders.
+    /// How many buffers all senders of the queue have put.
     pub fn sent(&self) -> u64
         ensures { result ≡ sent_of self.now }
     {
         self.sent
     }
 
-    /// How many parcels were taken by all its takers.
+    /// How many parcels all takers of the queue have taken.
     pub fn taken(&self) -> u64
         ensures { sent_of self.now ≡ result + left_count self.now }
     {
         self.sent - self.left
     }
 
-    /// How many parcels were left when the line was settled. It stays as `next` hands them out.
+    /// How many parcels were left when the queue was settled. Calls of `next` do not change it.
     pub fn left(&self) -> u64
         ensures { result ≡ left_count self.now }
     {
         self.left
     }
 
-    /// Hands out the oldest parcel that is left. One step of the queue; no memory.
+    /// Takes the oldest parcel that is left. `None` exactly if none is left. One step of the queue;
+    /// no memory.
     pub fn next<R: Wait>(&mut self, rt: &R) -> Option<Parcel>
         ensures next { MatchOption result ((left_of self.old ≡ []) × (left_of self.new ≡ []))
             (λ x. left_of self.old ≡ x ∷ left_of self.new) }

@@ -8,10 +8,12 @@ use g1_layout::Card;
 use std::marker::Model;
 use std::mem;
 
-/// A dirty card queue: the cards that one mutator has logged since it last handed out a buffer, oldest first.
+/// A dirty card queue: the cards that one mutator has logged since its last buffer was handed out,
+/// oldest first.
 ///
-/// It is never full between two calls. Contracts see its size and the list of the cards' numbers (`Cards`). No call
-/// takes memory (ISMM 2004, section 2.2, Remembered Set Maintenance; docs/PROFILE.md, Logs and completed buffers).
+/// Between two calls it is never full. Contracts see its size and the list of the cards' numbers
+/// (`Cards`). No call takes memory (ISMM 2004, section 2.2, Remembered Set Maintenance;
+/// docs/PROFILE.md, Logs and completed buffers).
 #[derive(Debug, Drop)]
 pub struct Log {
     size: usize,
@@ -31,7 +33,7 @@ impl Model for Log {
 }
 
 impl Log {
-    /// An empty log that `size` cards fill.
+    /// Makes an empty log, which `size` cards fill.
     pub fn new(size: usize) -> Log
         requires low { 1 ≤ size }
         requires high { size ≤ 256 }
@@ -43,7 +45,7 @@ impl Log {
         }
     }
 
-    /// How many cards it has: fewer than its size.
+    /// How many cards the log has: fewer than its size.
     pub fn len(&self) -> usize
         ensures value { result ≡ length self.now.cards }
         ensures log { IsLog self.now }
@@ -51,14 +53,14 @@ impl Log {
         self.cards.len()
     }
 
-    /// Whether it has no card.
+    /// Whether the log has no card.
     pub fn is_empty(&self) -> bool
         ensures { IsTrue result ↔ (self.now.cards ≡ []) }
     {
         self.cards.is_empty()
     }
 
-    /// The cards, oldest first.
+    /// The cards of the log, oldest first.
     pub fn cards(&self) -> &[Card]
         ensures value { result.now ≡ self.now.cards }
         ensures log { IsLog self.now }
@@ -66,10 +68,11 @@ impl Log {
         self.cards.as_slice()
     }
 
-    /// Appends a card. Where that fills the log its cards are handed out as a completed buffer, and it is empty.
+    /// Appends a card. If that fills the log, its cards are returned as a completed buffer, and the
+    /// log is empty.
     ///
-    /// A push is a store into a fixed array and a compare. A hand-over also moves 1,032 bytes out and fills the log's
-    /// places anew.
+    /// A push costs a store into a fixed array and a comparison. If a buffer is returned, the call
+    /// also moves 1,032 bytes out and fills the log's places anew.
     pub fn push(&mut self, card: Card) -> Option<Buffer>
         ensures buffer { result ≡ handed self.old card }
         ensures log { self.new ≡ pushed self.old card }
@@ -82,14 +85,15 @@ impl Log {
         Some(Buffer::of(filled))
     }
 
-    /// Whether it takes one more card without being filled. Constant time.
+    /// Whether one more card does not fill the log. Constant time.
     pub fn has_room(&self) -> bool
         ensures { IsTrue result ↔ (length self.now.cards + 1 < self.now.size) }
     {
         self.len() + 1 < self.size
     }
 
-    /// Appends a card that does not fill the log, as `push` does: a store into a fixed array. Nothing is handed out.
+    /// Appends a card that does not fill the log, as `push` does, and returns no buffer. It costs a
+    /// store into a fixed array.
     pub fn add(&mut self, last: Card)
         requires { length self.old.cards + 1 < self.old.size }
         ensures { self.new ≡ pushed self.old last }
@@ -97,7 +101,8 @@ impl Log {
         self.cards.push(last);
     }
 
-    /// Hands out the cards as a completed buffer, where there are any. The log is then empty.
+    /// Returns the cards as a completed buffer, or `None` exactly if there are none. The log is
+    /// then empty.
     pub fn take(&mut self) -> Option<Buffer>
         ensures none { IsNone result ↔ (self.old.cards ≡ []) }
         ensures buffer { IfSome result (λ cards. cards ≡ self.old.cards) }
@@ -109,7 +114,7 @@ impl Log {
         Some(Buffer::of(self.cards.take()))
     }
 
-    /// Removes the first `n` cards.
+    /// Removes the first `n` cards of the log.
     pub fn cut(&mut self, n: usize)
         requires { n ≤ length self.old.cards }
         ensures { self.new ≡ record self.old { cards = drop n self.old.cards } }

@@ -1,4 +1,5 @@
-//! The rule of the line, and what its steps tell. These types are for the proofs alone.
+//! The rule of the queue of completed buffers, and what its steps tell. These types are for the
+//! proofs alone.
 ghost use Rattle.std.specs.Prelude.{◌≡◌, ◌∷◌};
 ghost use Rattle.g1_log.specs.Line.{IsLineState, newcomer, keeper, sender_made, new_sender, taker_made, new_taker, joined, spent, SeenBy, after_put, after_take, IsLeft, drained};
 
@@ -7,7 +8,7 @@ use crate::view::View;
 use crossbeam_queue::RuledArrayQueue;
 use crossbeam_queue::protocol::{Join, Lesson, Outcome, Protocol, Split};
 
-/// The rule of the line, which each pass of the queue keeps.
+/// The rule of the queue, which each pass of the queue keeps.
 pub struct Ordered;
 
 impl Protocol<Parcel, View> for Ordered {
@@ -16,7 +17,7 @@ impl Protocol<Parcel, View> for Ordered {
     ghost first = { newcomer };
 }
 
-/// The queue of the line.
+/// The queue of parcels, under that rule.
 pub type Queue = RuledArrayQueue<Parcel, View, Ordered>;
 
 /// A put: the sender's view gains the buffer. One that is refused has seen a full queue.

@@ -1,4 +1,4 @@
-//! What the rule of the line knows of each pass of the queue. No value of these types is made.
+//! What the rule of the queue knows of each pass of the queue. No value of these types is made.
 use crate::buffer::Buffer;
 use crate::parcel::Parcel;
 use std::collections::LinkedList;
@@ -13,7 +13,7 @@ pub struct Sent {
 pub struct View {
     /// Whether it is as it came.
     pub fresh: bool,
-    /// Its share of the line. Where all shares are in one pass, no other can put or take.
+    /// Its share of the queue. If all shares are in one pass, no other can put or take.
     pub rights: u64,
     /// Whether it may give out sender numbers, from `made` on.
     pub makes: bool,
@@ -22,7 +22,7 @@ pub struct View {
     pub sent: LinkedList<Sent>,
     /// What it has taken, a list for each taker.
     pub taken: LinkedList<LinkedList<Parcel>>,
-    /// Whether it has ended the line, and then what the queue still holds.
+    /// Whether it has settled the queue, and then what the queue still holds.
     pub ended: bool,
     pub rest: LinkedList<Parcel>,
 }

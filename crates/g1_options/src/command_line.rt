@@ -13,10 +13,11 @@ use g1_core::Config;
 use g1_trace::Mode;
 use std::alloc::{AllocError, Global};
 
-/// Why the program doesn't start: the command line was refused, asks for help or the version, or memory was refused.
+/// Why the program doesn't start: the command line was refused, asks for help or the version, or
+/// memory was refused.
 #[derive(Debug, Drop)]
 pub struct LineFault {
-    /// What the program writes to standard error. It is empty where memory was refused.
+    /// What the program writes to standard error. It is empty if memory was refused.
     pub text: String,
 }
 
@@ -129,16 +130,18 @@ Exit status:
   4  a read of standard input failed: 'read failed' is printed
   5  a write to standard output failed";
 
-/// What the command line means; its first word is the program's name. Each mode comes with the options of its own
-/// subcommand: those that aren't given, and those that only others have, have their defaults. An unknown word, an
-/// option given twice, a value that is no decimal whole number or outside its limits, a missing subcommand and a wish for
-/// help or the version are refused with a text for standard error.
+/// Returns what the command line means. The first word is the program's name.
+///
+/// Each mode has the options of its own subcommand. Those that aren't given, and those that only
+/// other subcommands have, have their defaults. Refused with a text for standard error are an
+/// unknown word, an option given twice, a value that is no decimal whole number or is outside its
+/// limits, a missing subcommand, and a request for help or the version. Refused memory has no text.
 pub fn read_options(alloc: Global, words: &[&str]) -> Result<(Mode, Options), LineFault>
     ensures within { IfOk result (λ p. AreWithin p.1) }
     ensures read { IfOk result (λ p. IsLine (map (λ w. w.now) words.now) p.0 p.1) }
     ensures taken { OnOk result (fault_of line_app (map (λ w. w.now) words.now) ≡ []) }
 
-    // Words that the line takes are refused only with no text, as where memory was refused.
+    // A command line that the parser takes is refused only with no text, as if memory was refused.
     ensures refused { IfErr result (λ f. takes line_app (map (λ w. w.now) words.now) ≡ true → string_bytes f.text ≡ []) }
 {
     let Ok(command) = line(alloc) else {
@@ -271,7 +274,8 @@ fn threaded_options(matches: &ArgMatches<'_>) -> Option<Options>
     Some(options)
 }
 
-// The value of an option. The parser has found it within its limits, which is tested once more for the proof.
+// The value of an option. The parser has found it within its limits, which is tested once more for
+// the proof.
 fn value(matches: &ArgMatches<'_>, setting: &Setting) -> Option<u32>
     ensures read { IfSome result (IsRead (rows_of (found_of matches.now)) setting.now.name.now) }
     ensures low { IfSome result (λ n. setting.now.least ≤ n) }
@@ -289,7 +293,7 @@ fn number(matches: &ArgMatches<'_>, name: &str) -> Option<u32>
 }
 
 impl LineFault {
-    // No text, where memory was refused.
+    // No text, if memory was refused.
     fn silent(alloc: Global) -> LineFault
         ensures { string_bytes result.text ≡ [] }
     {

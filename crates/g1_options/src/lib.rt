@@ -1,4 +1,4 @@
-//! What a replay is run with, and how the command line says it.
+//! The options of a replay, and how the command line gives them.
 #![tactic(auto)]
 
 mod command_line;

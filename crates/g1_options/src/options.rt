@@ -8,13 +8,13 @@ use g1_core::Config;
 pub struct Options {
     /// How many mutators there are.
     pub mutators: u32,
-    /// The settings of the core, and of logs and line.
+    /// The settings of the core, of the logs and of the queue of completed buffers.
     pub config: Config,
-    /// How many entries the history takes.
+    /// How many entries the history may have.
     pub history: u32,
-    /// How many threads of a crew refine.
+    /// How many refinement threads a crew or a race has.
     pub refiners: u32,
-    /// How many work rounds each of them makes.
+    /// How many rounds of refinement each of them makes.
     pub rounds: u32,
     pub ghost mutators_in: { (1 ≤ mutators) × (mutators ≤ 8) },
     pub ghost history_in: { (1 ≤ history) × (history ≤ 1000000) },
@@ -27,7 +27,8 @@ impl Default for Options {
 
     ghost is_default = { AreDefaults };
 
-    /// One mutator, the settings that a core has by default, a history of 1,000,000 entries, and one refiner of 100 rounds.
+    /// One mutator, the settings that a core has by default, a history of 1,000,000 entries, and
+    /// one refinement thread of 100 rounds.
     fn default() -> Options {
         Options {
             mutators: 1,

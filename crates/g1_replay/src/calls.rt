@@ -1,4 +1,5 @@
-//! The questions, drains, clears and redirects of a trace: one call of the first caller each, and its line.
+//! The questions, drains, clears and redirects of a trace: each is one call of the first caller,
+//! and its line.
 ghost use Rattle.std.specs.Prelude.{◌∷◌, [], IfErr, codes};
 ghost use Rattle.g1_book.specs.History.{layout_in};
 ghost use Rattle.g1_trace.specs.Bytes.{Puts};
@@ -30,7 +31,7 @@ pub(crate) fn play_call<W: Write>(book: &mut Book, call: Call, output: &mut W) -
     Ok(())
 }
 
-// The call of the book. Its answer stands in the entry.
+// The call of the book. Its reply is in the entry.
 fn make_call(book: &mut Book, call: Call) -> Result<(), Refusal>
     requires { IsCallOf (layout_in book.old) call }
     ensures { IsCalled book.old book.new call result }
@@ -62,7 +63,8 @@ fn make_call(book: &mut Book, call: Call) -> Result<(), Refusal>
     Ok(())
 }
 
-/// Writes the line of a call with this reply, and nothing for a store, a refinement or a reply that no such call has.
+/// Writes the line of a call with this reply, and nothing for a store, a refinement or a reply that
+/// no such call has.
 pub(crate) fn put_call<W: Write>(
     output: &mut W,
     call: Call,

@@ -22,7 +22,7 @@ use std::sync::Wait;
 use std::sync::ledger::{Blank, Ledger};
 use std::thread::Threads;
 
-// The next script: the calls of a mutator, or rounds where none is left.
+// The next script: the calls of a mutator, or rounds if none is left.
 fn next_script(scripts: &mut Vec<Vec<Step>>, rounds: u32) -> Script
     ensures { (all : _) (k : ℕ) → scripts.old.items ≡ drop k all → IsScriptAt (λ steps. steps.items) rounds all k result × (scripts.new.items ≡ drop (k + 1) all) }
 {
@@ -32,7 +32,8 @@ fn next_script(scripts: &mut Vec<Vec<Step>>, rounds: u32) -> Script
     Script::Mutate(scripts.remove(0))
 }
 
-// One job a caller, in the order of the callers: each mutator's calls, and then rounds of refinement.
+// One job for each caller, in the order of the callers: each mutator's calls, and then rounds of
+// refinement.
 fn jobs_of<'a, T, M: Frame, S: Ledger>(
     rt: &'a T,
     alloc: Global,
@@ -83,12 +84,12 @@ fn callers_of<'a, T, M: Frame, S: Ledger>(
     (callers, refused)
 }
 
-/// Runs one job a mutator, with its script, and one a refiner. The book comes back with why the
-/// first of the jobs that were refused was, in the order of the callers. Its stores are those of
-/// the scripts, of each up to its refusal.
+/// Runs one job for each mutator, with its script, and one for each refinement thread. Returns the
+/// book, with why the first of the jobs that were refused was, in the order of the callers. The
+/// book's stores are those of the scripts, of each up to its refusal.
 ///
-/// `NoMemory` where a growth for callers, jobs or scripts was refused, and `NoThread` where a thread could not be started:
-/// then the book is given up.
+/// Returns `NoMemory` if a growth for callers, jobs or scripts was refused, and `NoThread` if a
+/// thread could not be started. The book is then given up.
 pub(crate) fn run_jobs<T: Threads + Wait + Sync, M: Frame + Send + Sync, S: Ledger + Send + Sync>(
     rt: &T,
     alloc: Global,

@@ -76,9 +76,11 @@ impl Player for Scripts {
     ghost then = { λ s t u cs ds xs ys. kept_then (λ steps. steps.items) s.steps.items t.steps.items u.steps.items cs ds xs ys };
 }
 
-/// Reads a trace to its end: its heap, and for each mutator its calls in the order of the trace. Nothing is written.
+/// Reads a trace to its end: its heap, and for each mutator its calls in the order of the trace.
+/// Nothing is written.
 ///
-/// A fault is of the line that `source` then counts as the next one. `NoMemory` where a growth for the calls was refused.
+/// A fault is of the line that `source` then counts as the next one. Returns `NoMemory` if a growth
+/// for the calls was refused.
 pub(crate) fn read_crew<T: Wait, R: BufRead, W: Write>(
     rt: &T,
     alloc: Global,

@@ -68,7 +68,7 @@ fn put_book<W: Write>(book: &mut Book, output: &mut W) -> Result<(), Stop>
     result
 }
 
-// Why a crew ends that was refused a call: the history is full, or memory was refused.
+// Why a crew that was refused a call ends: the history is full, or memory was refused.
 fn stop_of(book: &Book, refusal: Refusal, history: u32) -> Stop
     requires { book.now.limit ≡ history }
     ensures full { result ≡ Stop.BookFull → IsFull book.now }
@@ -82,7 +82,7 @@ fn stop_of(book: &Book, refusal: Refusal, history: u32) -> Stop
     Stop::NoMemory
 }
 
-/// Writes what comes of the crew's book, where no call was refused.
+/// Writes what comes of the crew's book, if no call was refused.
 pub(crate) fn put_crew<W: Write>(
     book: &mut Book,
     refused: Option<Refusal>,

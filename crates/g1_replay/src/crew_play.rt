@@ -1,5 +1,5 @@
-//! A trace is read to its end, the lines of each mutator are made by a thread of its own, and what has come of it is
-//! written.
+//! Reads a trace to its end, makes the calls of each mutator in a thread of its own, and writes
+//! what has come of it.
 ghost use Rattle.std.specs.Prelude.{◌≡◌, ℕ, List, ◌++◌, true, vec_len, All, Result, IfSome};
 ghost use Rattle.g1_layout.specs.Shape.{slot_count};
 ghost use Rattle.g1_steps.specs.Ask.{StepFits};
@@ -77,23 +77,25 @@ fn play_crew<T: Threads + Wait + Sync, R: BufRead, W: Write>(
     run_scripts(rt, alloc, layout, scripts, output, options)
 }
 
-/// Replays a trace by a crew: reads all of it, makes the calls of each mutator in a thread of its own with the refiners
-/// beside them, and writes how many stores were made and what a drain of each region answers (docs/TRACES.md).
+/// Replays a trace by a crew: reads all of it, makes the calls of each mutator in a thread of its
+/// own with refinement threads beside them, and writes how many stores were made and what a drain
+/// of each region returns (docs/TRACES.md).
 ///
-/// What is written is how many stores a permitted run of the plain table has, the lines of the drains that end this run,
-/// of each region in order, and then the line of the end, if it has one. `Whole` comes only where the trace has no fault
-/// and all regions were drained, and `Refused` only where it has one: then nothing was run, and the fault's line is all
-/// that was written. With `Stopped` the threads were refused a call, memory or a thread, and its line is all, or a drain
-/// was refused, and its line stands behind those of the drains before it; `book full` is written only where the run has
-/// as many entries as `options` allows. With `ReadFailed` nothing was run; with `WriteFailed` a beginning of such a text
-/// was written.
+/// It writes how many stores a permitted run of the plain table has, then the lines of the drains
+/// that end this run, of each region in order, and then the line of the end, if it has one. Returns
+/// `Whole` only if the trace has no fault and all regions were drained, and `Refused` only if the
+/// trace has a fault: then nothing was run, and only the fault's line was written. With `Stopped`,
+/// either the threads were refused a call, memory or a thread, and that line is all that was
+/// written, or a drain was refused, and its line follows those of the drains before it. `book full`
+/// is written only if the run has as many entries as `options` allows. With `ReadFailed` nothing
+/// was run. With `WriteFailed` a beginning of such a text was written.
 ///
-/// Which cards are refined between two stores is free. So what is written of a trace that stores to a slot twice may
-/// differ between two runs.
+/// Which cards are refined between two stores is free. So two runs may write different text for a
+/// trace that stores to a slot twice.
 ///
-/// It keeps the scripts, asks the reader for bytes at most 2^40 times, and tries no failed read or write
-/// again. A line is one write or a few, so give it a writer with a buffer. Its threads wait for the lock of the book; all
-/// of them have been joined when it returns.
+/// The crew keeps the scripts, asks the reader for bytes at most 2^40 times, and tries no failed
+/// read or write again. A line is one write or a few, so give it a writer with a buffer. Its
+/// threads wait for the lock of the book. All of them have been joined when it returns.
 pub fn crew<T: Threads + Wait + Sync, R: BufRead, W: Write>(
     rt: &T,
     alloc: Global,

@@ -7,7 +7,8 @@ pub enum End {
     Whole,
     /// A line of the trace has a fault; its line was written.
     Refused,
-    /// Memory was refused, the history was full, or a thread could not be started; a line says which.
+    /// Memory was refused, the history was full, or a thread could not be started. A line says
+    /// which.
     Stopped,
     /// A read of the input failed, or 2^40 reads were made; a line says so.
     ReadFailed,

@@ -1,4 +1,4 @@
-//! A trace is read line by line, the calls of each line are made, and its output line is written.
+//! Reads a trace line by line, makes the calls of each line, and writes its output line.
 ghost use Rattle.std.specs.Prelude.{◌≡◌, ℕ, List, [], ◌++◌, ◌<◌, ◌≤◌, ◌^◌, ◌⊎◌, Ok, true, Result, IfSome, IfErr, OnOk};
 ghost use Rattle.g1_trace.specs.declared.mode.Mode.TheVariants.{Run};
 ghost use Rattle.g1_replay.specs.Playing.{Follows, Writes};
@@ -23,7 +23,7 @@ use std::alloc::Global;
 use std::io::{BufRead, Write};
 use std::sync::Wait;
 
-// One line. Answers whether another may come: at the end of the input it does not.
+// One line. Returns whether another may come: at the end of the input it does not.
 fn play_line<T: Wait, P: Player, R: BufRead, W: Write>(
     rt: &T,
     source: &mut Source,
@@ -117,20 +117,24 @@ fn end_unless(written: Result<(), WriteFailed>, end: End) -> End
     }
 }
 
-/// Replays a trace: reads it line by line, makes the calls of each command and writes its output line
-/// (docs/TRACES.md).
+/// Replays a trace: reads it line by line, makes the calls of each command and writes its output
+/// line (docs/TRACES.md).
 ///
-/// What is written is the text of a permitted run of the plain table that belongs to the commands of what was read, a
-/// line a command, and then the line of the end, if it has one. `Whole` comes only where the trace has no fault, and
-/// `Refused` only where it has one, with the fault's line; with `Stopped` and `ReadFailed` the commands are those before
-/// the end, and `book full` is written only where the run has as many entries as `options` allows; with `WriteFailed`
-/// a beginning of such a text was written. A round of `work` makes at most as many calls as one that begins at the start
-/// threshold of `options` and sees no more completed buffers than their limit. A fault is the end wherever its line was
-/// read whole: it does not hide behind a failed read or refused memory.
+/// It writes the text of a permitted run of the plain table that belongs to the commands that were
+/// read, a line for each command, and then the line of the end, if it has one. Returns `Whole` only
+/// if the trace has no fault, and `Refused` only if it has one, whose line was written. With
+/// `Stopped` and `ReadFailed` the commands are those before the end. `book full` is written only if
+/// the run has as many entries as `options` allows. With `WriteFailed` a beginning of such a text
+/// was written. A fault is the end wherever its line was read whole: a failed read or refused
+/// memory does not hide it.
 ///
-/// It holds one line of the trace at a time, asks the reader for bytes at most 2^40 times, and tries no failed read or
-/// write again. A line is one write or a few, so give it a writer with a buffer. No line takes memory; what grows is the
-/// history. It may wait for the line of completed buffers, which nobody else uses.
+/// A round of `work` makes at most as many calls as one that begins at the start threshold of
+/// `options` and sees no more completed buffers than their limit.
+///
+/// It holds one line of the trace at a time, asks the reader for bytes at most 2^40 times, and
+/// tries no failed read or write again. A line is one write or a few, so give it a writer with a
+/// buffer. No line takes memory; only the history grows. It may wait for the queue of completed
+/// buffers, which nothing else uses.
 pub fn run<T: Wait, R: BufRead, W: Write>(
     rt: &T,
     alloc: Global,

@@ -1,7 +1,9 @@
-//! Replays: a trace is read line by line and played on a book, by one thread ([`run`]), by a crew of threads under one lock
-//! ([`crew`]), or by threads whose stores race ([`race`]). Each answers how it ended ([`End`]).
+//! Replays: a trace is read line by line and played on a book, by one thread ([`run`]), by a crew
+//! of threads under one lock ([`crew`]), or by threads whose stores race ([`race`]). Each returns
+//! how it ended ([`End`]).
 //!
-//! What a line asks for, and the line of every answer, stands in `g1_trace`; the command line in `g1_options`.
+//! `g1_trace` has what a line asks for and the output line of every reply, `g1_options` the command
+//! line.
 #![tactic(auto)]
 
 mod calls;

@@ -18,14 +18,14 @@ pub const LINE_LIMIT: usize = 64;
 /// How many reads of the input are made at most (docs/TRACES.md, Ends).
 pub const READ_LIMIT: u64 = 1 << 40;
 
-/// What the bytes that a reader shows have of the line.
+/// How much of the line a reader's bytes have.
 #[derive(Clone, Copy)]
 pub enum Part {
     /// All the rest of it, with its line feed.
     Whole,
     /// More than it has room for.
     TooLong,
-    /// A part, behind which more may come.
+    /// A part, after which more may come.
     More,
     /// Nothing: no byte is shown.
     Nothing,
@@ -33,7 +33,7 @@ pub enum Part {
     Failed,
 }
 
-/// What one read gave.
+/// What one read returned.
 #[derive(Clone, Copy)]
 pub enum Byte {
     /// One byte.
@@ -44,7 +44,7 @@ pub enum Byte {
     Failed,
 }
 
-// How many bytes stand before the first line feed.
+// How many bytes there are before the first line feed.
 fn part_len(bytes: &[u8]) -> usize
     ensures bound { result ≤ length bytes.now }
     ensures ends { EndsAtFeed bytes.now result }
@@ -52,7 +52,8 @@ fn part_len(bytes: &[u8]) -> usize
     memchr_iter(b'\n', bytes).next().unwrap_or(bytes.len())
 }
 
-// What the bytes have of a line with room for `room` more, how many of them go into it, and how many are used up.
+// How much of a line with room for `room` more the bytes have, how many of them go into it, and how
+// many are used up.
 fn part_of(shown: &[u8], room: usize) -> (Part, usize, usize)
     ensures goes_on { GoesOn shown.now room result.0 result.1 result.2 }
     ensures fits { result.1 ≤ room }
@@ -72,7 +73,8 @@ fn part_of(shown: &[u8], room: usize) -> (Part, usize, usize)
     }
 }
 
-/// Keeps what the reader shows of a line that was begun. Answers what that is, and how many of the bytes it uses up.
+/// Keeps what the reader shows of a line that was begun. Returns how much of the line that is, and
+/// how many of the bytes it uses up.
 pub fn keep_part(shown: &[u8], line: &mut ArrayVec<u8, 64>) -> (Part, usize)
     requires { length line.old.items ≤ 64 }
     ensures kept { IsKept shown.now result.0 result.1 line.old.items line.new.items }
@@ -131,8 +133,8 @@ fn settle_byte(byte: Byte, line: &mut ArrayVec<u8, 64>) -> Result<Option<bool>, 
     }
 }
 
-// What comes of a line whose last part is this: whether there is one, or nothing yet. Where the reader showed nothing, one
-// read of one byte tells whether the input has ended.
+// What comes of a line whose last part is this: whether there is one, or nothing yet. If the reader
+// showed nothing, one read of one byte tells whether the input has ended.
 fn settle<R: BufRead>(
     part: Part,
     reads: &mut u64,
@@ -160,7 +162,8 @@ fn settle<R: BufRead>(
     }
 }
 
-/// Reads the rest of a line, of which `first` was taken, into `line`. Answers and counts as [`next_line`] does.
+/// Reads the rest of a line, of which `first` was taken, into `line`. Returns and counts what
+/// [`next_line`] does.
 pub fn rest_of_line<R: BufRead>(
     first: Part,
     reads: &mut u64,
@@ -186,11 +189,13 @@ pub fn rest_of_line<R: BufRead>(
     }
 }
 
-/// Reads the next line into `line`, which is empty, and counts the reads in `reads` (docs/TRACES.md, Lines and words).
-/// Answers whether there is one: at the end of the input there is none.
+/// Reads the next line into `line`, which is empty, and counts the reads in `reads`
+/// (docs/TRACES.md, Lines and words). Returns whether there is one: at the end of the input there
+/// is none.
 ///
-/// What the reader shows is taken at once. Where it shows nothing, one read of one byte tells whether the input has
-/// ended. Nothing behind the line feed is taken, and no read follows a failed one. Takes no memory.
+/// What the reader shows is taken at once. If it shows nothing, one read of one byte tells whether
+/// the input has ended. Nothing behind the line feed is taken, and no read follows a failed one. It
+/// takes no memory.
 pub fn next_line<R: BufRead>(
     reads: &mut u64,
     input: &mut R,

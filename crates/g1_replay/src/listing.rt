@@ -55,7 +55,8 @@ impl Player for Listing {
 
 /// Reads a trace to its end: its heap, and its commands in order. Nothing is written.
 ///
-/// A fault is of the line that `source` then counts as the next one. `NoMemory` where a growth for the commands was refused.
+/// A fault is of the line that `source` then counts as the next one. Returns `NoMemory` if a growth
+/// for the commands was refused.
 pub(crate) fn read_scripts<T: Wait, R: BufRead, W: Write>(
     rt: &T,
     alloc: Global,

@@ -13,7 +13,7 @@ use g1_options::Options;
 use g1_steps::{Mutator, open_line};
 use std::alloc::Global;
 
-/// A book, the line of its completed buffers, and its mutators, with the taker of the first.
+/// A book, the queue of its completed buffers, and its mutators, with the taker of the first.
 #[derive(Drop)]
 pub(crate) struct Machinery {
     pub book: Book,
@@ -25,9 +25,9 @@ pub(crate) struct Machinery {
 }
 
 impl Machinery {
-    /// An empty heap, history and line.
+    /// An empty heap, history and queue of completed buffers.
     ///
-    /// `NoMemory` where a growth for heap, line or mutators was refused.
+    /// Returns `NoMemory` if a growth for heap, queue or mutators was refused.
     #[tactic(auto, using(crate::proofs::TakenLemmas::are_senders))]
     pub(crate) fn open(
         alloc: Global,

@@ -26,8 +26,8 @@ pub enum Next {
 
 /// Reads the next line behind the header (docs/TRACES.md, Lines and words, Commands).
 ///
-/// A fault is of the line that `source` then counts as the next one. Nothing behind the line is read, and no read
-/// follows a failed one. Takes no memory.
+/// A fault is of the line that `source` then counts as the next one. Nothing behind the line is
+/// read, and no read follows a failed one. It takes no memory.
 pub fn read_next<R: BufRead>(
     source: &mut Source,
     layout: Layout,
@@ -53,8 +53,8 @@ pub fn read_next<R: BufRead>(
     }
 }
 
-// Takes the store that the reader shows, if its line is there as a whole and spelled plainly, and otherwise what the reader
-// shows of the line.
+// Takes the store that the reader shows, if its line is there as a whole and spelled plainly, and
+// otherwise what the reader shows of the line.
 #[inline(always)]
 fn take_store<R: BufRead>(
     layout: Layout,

@@ -29,10 +29,11 @@ fn next_header<R: BufRead>(source: &mut Source, input: &mut R) -> Result<Option<
     Ok(heap)
 }
 
-/// Reads the lines up to the header and with it (docs/TRACES.md, Commands).
+/// Reads the lines up to the header and with it, and returns the header's heap (docs/TRACES.md,
+/// Commands).
 ///
-/// A fault is of the line that `source` then counts as the next one. Nothing behind the header's line is read, and no
-/// read follows a failed one. Takes no memory.
+/// A fault is of the line that `source` then counts as the next one. Nothing behind the header's
+/// line is read, and no read follows a failed one. It takes no memory.
 pub fn read_heap<R: BufRead>(source: &mut Source, input: &mut R) -> Result<Layout, Stop>
     ensures read { (d : Dialect) → Reads d None source.old.number source.new.number (R.remaining input.old) (R.remaining input.new) (result_ok result) [] (more_may_come result) }
     ensures stops { IfErr result IsReadStop }

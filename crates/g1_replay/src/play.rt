@@ -86,14 +86,15 @@ impl Player for Machinery {
     ghost then = { λ s t u cs ds xs ys. played_then s.book t.book u.book cs ds xs ys };
 }
 
-// Whether the mutators stand still for the call.
+// Whether the mutators are stopped for the call.
 fn is_pause(call: &Call) -> bool
     ensures { result ≡ is_pause call.now }
 {
     matches!(call, Call::Drain(_) | Call::Redirect { .. })
 }
 
-// The mutators stand still for a drain and a redirect: their logs and the line are emptied first.
+// The mutators are stopped for a drain and a redirect: their logs and the queue of completed
+// buffers are emptied first.
 fn one_call<T: Wait, W: Write>(
     rt: &T,
     machinery: &mut Machinery,
@@ -115,7 +116,7 @@ fn one_call<T: Wait, W: Write>(
     answer_call(machinery, call, output)
 }
 
-// The call of the book, for which the mutators stand still where it is a pause.
+// The call of the book, for which the mutators are stopped if it is a pause.
 fn answer_call<W: Write>(machinery: &mut Machinery, call: Call, output: &mut W) -> Result<(), Stop>
     requires call { IsCallOf (layout_in machinery.old.book) call }
     requires still { is_pause call ≡ true → AreStill machinery.old.mutators.items }

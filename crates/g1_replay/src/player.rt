@@ -12,8 +12,8 @@ use std::sync::Wait;
 
 /// Takes the commands of a trace, one after the other.
 ///
-/// The lines are read and their commands handed on by [`play_lines`](crate::engine::play_lines), which knows of a player only what
-/// stands here.
+/// [`play_lines`](crate::engine::play_lines) reads the lines and passes their commands on. It knows
+/// no more of a player than this trait says.
 pub(crate) trait Player {
     ghost use Rattle.std.specs.Prelude.{ℕ, List, [], ◌++◌};
     ghost use Rattle.g1_layout.specs.Shape.{Shape};
@@ -33,7 +33,8 @@ pub(crate) trait Player {
     /// What may stop a command.
     ghost stops: { Stop → Type 0 };
 
-    /// Does what a command asks for, and writes its text. A command that is refused leaves nothing done.
+    /// Does what a command asks for, and writes its text. A command that is refused leaves nothing
+    /// done.
     fn play<T: Wait, W: Write>(
         &mut self,
         rt: &T,

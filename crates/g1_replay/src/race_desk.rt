@@ -1,5 +1,5 @@
-//! A desk at a race: a racer with the end of a line into which it hands its logs, or a sweeper with one from which it takes
-//! them.
+//! A desk at a race: a racer with the end of a queue into which it puts its logs, or a sweeper with
+//! one from which it takes them.
 ghost use Rattle.std.specs.Prelude.{◌≡◌, ◌<◌, ◌≤◌, ℕ, All, Contains, OnOk};
 ghost use Rattle.std.proofs.Props.{props};
 ghost use Rattle.arrayvec.specs.ArrayVec.{array_vec_len};
@@ -22,17 +22,18 @@ use std::sync::Wait;
 /// Who works at the desk.
 #[derive(Drop)]
 pub(crate) enum Member {
-    /// A mutator, with the end of the line into which its logs go.
+    /// A mutator, with the end of the queue into which its logs go.
     Racing(Racer, Sender),
-    /// A refiner, with the end of the line from which it takes them.
+    /// A refinement thread, with the end of the queue from which it takes them.
     Sweeping(Sweeper, Taker),
 }
 
-/// A race and a line of completed buffers, and one of their members.
+/// A race and a queue of completed buffers, and one of their members.
 ///
-/// A racer's log is handed over when as many cards as fill it were logged since it was last taken, and at a flush. Where the line does not take
-/// it, it is given up: its cards stay dirty, so a drain after the race finds them. A call that is not one of its member's changes
-/// nothing and answers an empty reply.
+/// A racer's log is put into the queue once as many cards as fill it were logged since it was last
+/// taken, and at a flush. If the queue does not take it, the log is given up: its cards stay dirty,
+/// so a drain after the race finds them. A call that is not one of its member's changes nothing and
+/// returns an empty reply.
 #[derive(Drop)]
 pub(crate) struct RaceDesk<'a, R> {
     rt: &'a R,
@@ -94,8 +95,8 @@ impl<'a, R> RaceDesk<'a, R> {
     }
 }
 
-// The cards of the log go into the line as a buffer, or are given up where it does not take them: `Full` says that it did. Answers
-// how many they were.
+// The cards of the log go into the queue as a buffer, or are given up if it does not take them:
+// `Full` says that it did. Returns how many they were.
 fn hand_over<R: Wait>(rt: &R, line: &Line, racer: &mut Racer, sender: &mut Sender) -> (u32, Fill)
     requires { IsSenderOf line.now sender.old }
     ensures cards { result.0 ≡ array_vec_len racer.old.log }
@@ -144,7 +145,7 @@ fn refine_all(race: &Race, sweeper: &mut Sweeper, cards: &[Card]) -> Result<(), 
     Ok(())
 }
 
-// What a store of this kind answers.
+// The reply of a store of this kind.
 fn stored(alloc: Global, kind: Kind, fill: Fill) -> StoreReply
     ensures { (result.kind ≡ kind) × (result.fill ≡ fill) }
 {
@@ -156,7 +157,7 @@ fn stored(alloc: Global, kind: Kind, fill: Fill) -> StoreReply
     }
 }
 
-// What a flush of `cards` cards answers.
+// The reply of a flush of `cards` cards.
 fn flushed(alloc: Global, cards: u32, fill: Fill) -> FlushReply
     ensures { (result.cards ≡ cards) × (result.fill ≡ fill) }
 {
@@ -168,7 +169,7 @@ fn flushed(alloc: Global, cards: u32, fill: Fill) -> FlushReply
     }
 }
 
-// What a round that took `taken` buffers answers. Which cards it refined is not counted.
+// The reply of a round that took `taken` buffers. Which cards it refined is not counted.
 fn worked(alloc: Global, taken: u32) -> RefineReply
     ensures { result.taken ≡ taken }
 {

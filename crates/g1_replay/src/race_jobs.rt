@@ -24,8 +24,8 @@ use std::alloc::Global;
 use std::sync::Wait;
 use std::thread::Threads;
 
-// What the member of this number is to do: the stores of its mutator in the order of the trace and one flush, or rounds of
-// refinement.
+// What the member of this number does: the stores of its mutator in the order of the trace and one
+// flush, or rounds of refinement.
 fn race_script(
     alloc: Global,
     commands: &[Command],
@@ -43,7 +43,7 @@ fn race_script(
     }
 }
 
-// One job a member, in their order.
+// One job for each member, in their order.
 fn jobs_of<'a, T>(
     rt: &'a T,
     alloc: Global,
@@ -76,7 +76,7 @@ fn jobs_of<'a, T>(
 
 // The members of the jobs, none of which was refused.
 //
-// `NoMemory` where one was, or a growth of the lists.
+// `NoMemory` is returned if one was, or a growth of the lists.
 fn returned_by<'a, T>(alloc: Global, jobs: Vec<Job<RaceDesk<'a, T>>>) -> Result<Returned, NoMemory>
     ensures racers { IfOk result (λ back. back.racers.items ≡ filter_map racer_in (map (λ job. job.desk.member) jobs.entry.items)) }
     ensures senders { IfOk result (λ back. back.senders.items ≡ filter_map sender_in (map (λ job. job.desk.member) jobs.entry.items)) }
@@ -99,11 +99,12 @@ fn returned_by<'a, T>(alloc: Global, jobs: Vec<Job<RaceDesk<'a, T>>>) -> Result<
     Ok(returned)
 }
 
-/// Races: one job a mutator, with its stores in the order of the trace and one flush as its script, and one a refiner. The race
-/// comes back closed.
+/// Runs a race: one job for each mutator, whose script is its stores in the order of the trace and
+/// one flush, and one for each refinement thread. Returns the closed race.
 ///
-/// `NoMemory` where a growth for race, line, jobs or scripts was refused, or a job was, and `NoThread` where a thread could not be
-/// started: then the race is given up. All threads have been joined.
+/// Returns `NoMemory` if a growth for race, queue, jobs or scripts was refused, or a job was, and
+/// `NoThread` if a thread could not be started. The race is then given up. All threads have been
+/// joined.
 pub(crate) fn run_race<T: Threads + Wait + Sync>(
     rt: &T,
     alloc: Global,

@@ -1,4 +1,5 @@
-//! The members of a race: each racer with an end of the line into which it puts, each sweeper with one from which it takes.
+//! The members of a race: each racer with an end of the queue into which it puts its logs, each
+//! sweeper with one from which it takes them.
 ghost use Rattle.std.specs.Prelude.{◌≡◌, ◌+◌, ◌≤◌, ◌++◌, [], ◌∷◌, All, IfOk, OnOk, sum_by, vec_len};
 ghost use Rattle.std.specs.List.{filter_map};
 ghost use Rattle.g1_log.specs.Ends.{sender_rights, taker_rights, IsSenderOf, IsTakerOf};
@@ -59,7 +60,7 @@ fn add_sweeping(
 
 /// The members of a race that has not begun, the racers first.
 ///
-/// `NoMemory` where a growth of the list was refused.
+/// Returns `NoMemory` if a growth of the list was refused.
 pub(crate) fn members_of(
     alloc: Global,
     race: &Race,
@@ -83,7 +84,8 @@ pub(crate) fn members_of(
     Ok(members)
 }
 
-/// The members of a race that has been run, each kind in a list of its own, as are the ends of the line.
+/// The members of a race that has been run, each kind in a list of its own, as are the ends of the
+/// queue.
 #[derive(Drop)]
 pub(crate) struct Returned {
     pub racers: Vec<Racer>,
@@ -93,7 +95,7 @@ pub(crate) struct Returned {
 }
 
 impl Returned {
-    /// Nobody is back yet.
+    /// No member is back yet.
     pub(crate) fn new(alloc: Global) -> Returned
         ensures racing { (result.racers.items ≡ []) × (result.senders.items ≡ []) }
         ensures sweeping { (result.sweepers.items ≡ []) × (result.takers.items ≡ []) }
@@ -106,9 +108,9 @@ impl Returned {
         }
     }
 
-    /// Puts a member and its end of the line into their lists.
+    /// Puts a member and its end of the queue into their lists.
     ///
-    /// `NoMemory` where a growth of a list was refused: the member is given up.
+    /// Returns `NoMemory` if a growth of a list was refused: the member is given up.
     pub(crate) fn place(&mut self, member: Member) -> Result<(), NoMemory>
         ensures racers { OnOk result (self.new.racers.items ≡ self.old.racers.items ++ filter_map racer_in (member ∷ [])) }
         ensures senders { OnOk result (self.new.senders.items ≡ self.old.senders.items ++ filter_map sender_in (member ∷ [])) }

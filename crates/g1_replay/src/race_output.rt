@@ -1,4 +1,5 @@
-//! What a race prints: how many stores were made, and a drain of each region of the core that the race has become.
+//! What a race prints: how many stores were made, and a drain of each region of the core that the
+//! race has become.
 ghost use Rattle.std.specs.Prelude.{◌≡◌, ℕ, List, count_by};
 ghost use Rattle.g1_core.specs.Calls.{drain_reply};
 ghost use Rattle.g1_race.specs.Over.{Ended, table_of};

@@ -1,4 +1,5 @@
-//! A trace is read to its end, the stores of each mutator race in a thread of its own, and what has come of it is written.
+//! Reads a trace to its end, makes the stores of each mutator in a race, in a thread of its own,
+//! and writes what has come of it.
 ghost use Rattle.std.specs.Prelude.{◌≡◌, ℕ, List, ◌++◌, All, Result, IfSome};
 ghost use Rattle.g1_trace.specs.Grammar.{IsCommandOf};
 ghost use Rattle.g1_trace.specs.declared.mode.Mode.TheVariants.{Race};
@@ -62,25 +63,32 @@ fn play_race<T: Threads + Wait + Sync, R: BufRead, W: Write>(
     race_commands(rt, alloc, layout, &commands, output, options)
 }
 
-/// Replays a trace of stores by a race: reads all of it, makes the stores of each mutator in a thread of its own with no lock
-/// around them and the refiners beside them, and then, with the race closed and made a core, writes how many stores were made and
-/// what a drain of each region answers (docs/TRACES.md, A race).
+/// Replays a trace of stores by a race: reads all of it, and makes the stores of each mutator in a
+/// thread of its own with no lock around them and refinement threads beside them. Then, with the
+/// race closed and made a core, it writes how many stores were made and what a drain of each region
+/// returns (docs/TRACES.md, A race).
 ///
-/// What is written is how many stores the trace has, the lines of drains of the regions in order, and then the line of the end, if it
-/// has one. Each slot refers by then to what some mutator stored to it last, or to nothing where none stores to it. A line
-/// `drained` lists cards outside its region, ascending: every card that holds into the region by these references, and only
-/// cards to which the trace stores a reference into it. `Whole` comes only where the trace has no fault and all
-/// regions were drained, and `Refused` only where it has one: then nothing was run, and the fault's line is all that was written.
-/// With `Stopped` memory or a thread was refused, and its line is all, or a drain was refused, and its line stands behind
-/// those of the drains before it. With `ReadFailed` nothing was run; with `WriteFailed` a beginning of such a text was written.
+/// It writes how many stores the trace has, then the lines of drains of the regions in order, and
+/// then the line of the end, if it has one. By the drains each slot refers to what some mutator
+/// stored to it last, or to nothing if none stores to it. A line `drained` lists cards outside its
+/// region, ascending: every card that holds one of these references into the region, and only cards
+/// to which the trace stores a reference into it.
 ///
-/// Which of two racing stores to a slot comes last is free, and so is which cards a refiner meets. So what is written of a
-/// trace that stores to a slot twice may differ between two runs. No history of one thread is claimed to explain a run, nor that a
-/// logged card ever reaches a refiner: a card that none refines stays dirty, and the drains find it.
+/// Returns `Whole` only if the trace has no fault and all regions were drained, and `Refused` only
+/// if the trace has a fault: then nothing was run, and only the fault's line was written. With
+/// `Stopped`, either memory or a thread was refused, and that line is all that was written, or a
+/// drain was refused, and its line follows those of the drains before it. With `ReadFailed` nothing
+/// was run. With `WriteFailed` a beginning of such a text was written.
 ///
-/// It keeps the commands and the scripts, asks the reader for bytes at most 2^40 times, and tries no failed read or write
-/// again. A line is one write or a few, so give it a writer with a buffer. Its threads wait for nothing but the line of
-/// completed buffers; all of them have been joined when it returns.
+/// Which of two racing stores to a slot comes last is free, and so is which cards a refinement
+/// thread meets. So two runs may write different text for a trace that stores to a slot twice. It
+/// is not claimed that a history of one thread explains a run, nor that a logged card ever reaches
+/// a refinement thread: a card that none refines stays dirty, and the drains find it.
+///
+/// The race keeps the commands and the scripts, asks the reader for bytes at most 2^40 times, and
+/// tries no failed read or write again. A line is one write or a few, so give it a writer with a
+/// buffer. Its threads wait for nothing but the queue of completed buffers. All of them have been
+/// joined when it returns.
 pub fn race<T: Threads + Wait + Sync, R: BufRead, W: Write>(
     rt: &T,
     alloc: Global,

@@ -10,7 +10,7 @@ use g1_steps::{Outcome, Script, Step};
 use g1_trace::Command;
 use std::alloc::Global;
 
-/// The call that a command asks of a mutator, and of which.
+/// The call that a command asks of a mutator, and of which one.
 pub(crate) fn asked(command: Command) -> Option<(u32, Step)>
     ensures { result ≡ asked_in command }
 {
@@ -50,9 +50,10 @@ fn steps_of(alloc: Global, commands: &[Command], mutator: u32) -> Result<Vec<Ste
     Ok(steps)
 }
 
-/// What the caller of this number is to do: the calls of its mutator in the order of the trace, or rounds of refinement.
+/// What the caller of this number does: the calls of its mutator in the order of the trace, or
+/// rounds of refinement.
 ///
-/// `NoMemory` where a growth of the calls was refused.
+/// Returns `NoMemory` if a growth of the calls was refused.
 pub(crate) fn script_for(
     alloc: Global,
     commands: &[Command],

@@ -5,7 +5,8 @@ ghost use Rattle.g1_replay.specs.Status.{exit_status};
 use crate::end::End;
 
 impl End {
-    /// The exit status of a program that ends so (docs/TRACES.md, Ends). 1 is no end's: a command line that is refused has it.
+    /// Returns the exit status of a program that ends so (docs/TRACES.md, Ends). No end has 1: a
+    /// command line that is refused has it.
     pub fn status(self) -> u8
         ensures { result ≡ exit_status self }
     {

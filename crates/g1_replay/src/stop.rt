@@ -14,11 +14,11 @@ pub enum Stop {
     Fault(TraceFault),
     /// A growth was refused.
     NoMemory,
-    /// The history has no room for a call.
+    /// The history has no room for another call.
     BookFull,
     /// A thread could not be started.
     NoThread,
-    /// A read failed, or all reads were made.
+    /// A read failed, or as many reads were made as may be.
     ReadFailed,
     /// A write failed.
     WriteFailed,

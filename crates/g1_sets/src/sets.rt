@@ -17,15 +17,14 @@ use std::marker::Model;
 
 /// The remembered sets of all regions of a heap.
 ///
-/// Cards and regions are numbers of the layout that the sets were made with. No card is recorded
-/// that the caller did not name; whether it lies outside the region is up to the caller.
+/// Cards and regions are numbers of the layout that the sets were made with. The sets record no
+/// card that the caller did not name. Whether a card lies outside the region is up to the caller.
 #[derive(Drop)]
 pub struct Sets {
     alloc: Global,
     layout: Layout,
     sets: Vec<Members>,
-    // By card: the regions whose sets have it. They spare a look-up where a pair is recorded
-    // already.
+    // By card: the regions whose sets have it. They save a look-up if a pair is recorded already.
     rows: Vec<RegionSet>,
 }
 
@@ -55,10 +54,10 @@ fn empty_sets(alloc: Global, regions: u32) -> Result<Vec<Members>, NoMemory>
 }
 
 impl Sets {
-    /// Sets of no card, one for each region of the layout.
+    /// Makes an empty set for each region of the layout.
     ///
     /// It takes memory for one row of a set a region and for 32 bytes a card; a set takes none
-    /// until its first card. `NoMemory` where one of these growths was refused.
+    /// until its first card. Returns `NoMemory` if one of these growths was refused.
     pub fn new(alloc: Global, layout: Layout) -> Result<Sets, NoMemory>
         ensures { IfOk result (λ sets. sets ≡ new_pairs layout) }
     {
@@ -81,11 +80,12 @@ impl Sets {
         &self.rows[card.number() as usize]
     }
 
-    /// Records the card for each of the regions: a card that is new to a region goes last there.
+    /// Records the card for each of the regions. A card that is new to a region goes last there. A
+    /// region may be named twice.
     ///
-    /// `NoMemory` where a growth was refused: then nothing has changed. Room is asked in each set
-    /// that is full and lacks the card, before the card goes into any. A region may be named twice.
-    /// Cost: one look at a bit for a region whose set has the card, and one insert for each other.
+    /// Returns `NoMemory` if a growth was refused, and then nothing has changed. The call asks for
+    /// room in each set that is full and lacks the card, before the card goes into any. It costs
+    /// one look at a bit for a region whose set has the card, and one insert for each other region.
     pub fn record(&mut self, card: Card, regions: &[Region]) -> Result<(), NoMemory>
         requires card { card < card_count self.old.layout }
         requires regions { All (λ region. region < self.old.layout.regions) regions.now }
@@ -104,11 +104,11 @@ impl Sets {
         Ok(())
     }
 
-    /// Records the cards for the region, in their order: those that are new to it go last.
+    /// Records the cards for the region, in their order. Those that are new to it go last.
     ///
-    /// `NoMemory` where a growth was refused: then nothing has changed. Room for as many cards as
-    /// are named is asked first, in one growth at most, so a list that names cards which are there
-    /// may ask for more than it needs. Cost: one insert a card.
+    /// Returns `NoMemory` if a growth was refused, and then nothing has changed. The call first
+    /// asks for room for as many cards as are named, in one growth at most. So a list that names
+    /// cards which are there already may ask for more than it needs. It costs one insert a card.
     pub fn record_many(&mut self, cards: &[Card], region: Region) -> Result<(), NoMemory>
         requires cards { All (λ card. card < card_count self.old.layout) cards.now }
         requires region { region < self.old.layout.regions }
@@ -133,9 +133,9 @@ impl Sets {
         self.sets[region.number() as usize].contains(&card)
     }
 
-    /// How many cards are recorded for the region: the indices of `at` lie below it.
+    /// How many cards are recorded for the region. The indices of `at` lie below this number.
     ///
-    /// The clause `tied` says that a walk by `len` and `at` meets just the region's members.
+    /// The clause `tied` says that a walk by `len` and `at` meets exactly the region's members.
     pub fn len(&self, region: Region) -> u32
         requires { region < self.now.layout.regions }
         ensures len { result ≡ length (list_at self.now.lists region) }
@@ -145,11 +145,12 @@ impl Sets {
         self.sets[region.number() as usize].len() as u32
     }
 
-    /// How many pairs of a card and a region are recorded. Cost: one step a region.
+    /// How many pairs of a card and a region are recorded. It costs one step a region.
     ///
-    /// Exact where each recorded card lies outside its region, and always in a heap within the
-    /// limits of [`Layout::new`]. A larger heap has room for 2^32 pairs with those inside, one more
-    /// than the greatest answer, which then stands for all of them.
+    /// The number is exact if each recorded card lies outside its region, and always in a heap
+    /// within the limits of [`Layout::new`]. If cards inside their region count too, a larger heap
+    /// has room for 2^32 pairs, one more than a `u32` holds. The call then returns the greatest
+    /// `u32`.
     pub fn total(&self) -> u32
         ensures total { result ≡ min (set.len self.now.pairs) 4294967295 }
         ensures outside { HasOnlyOutside self.now.layout self.now.pairs → result ≡ set.len self.now.pairs }
@@ -160,9 +161,9 @@ impl Sets {
         pairs.min(4_294_967_295) as u32
     }
 
-    /// The card at this place of the region's set, in the order of insertion. Constant time.
+    /// The card at this place of the region's set, from 0 in the order of insertion. Constant time.
     ///
-    /// The cards that are there keep their places until the set is cleared.
+    /// A card keeps its place until the set is cleared.
     pub fn at(&self, region: Region, index: u32) -> Card
         requires region { region < self.now.layout.regions }
         requires index { index < length (list_at self.now.lists region) }
@@ -171,8 +172,8 @@ impl Sets {
         self.sets[region.number() as usize].as_slice()[index as usize]
     }
 
-    /// The cards of the region's set, in the order of insertion: those of `at`, for a walk over all
-    /// of them. Constant time.
+    /// The cards of the region's set, in the order of insertion: those that `at` returns, for a
+    /// walk over all of them. Constant time.
     pub fn members(&self, region: Region) -> &[Card]
         requires { region < self.now.layout.regions }
         ensures cards { result.now ≡ list_at self.now.lists region }
@@ -185,7 +186,8 @@ impl Sets {
     /// Empties the region's set, and takes no memory.
     ///
     /// The set keeps its room: a region that is used again mostly needs as much, and then records
-    /// without a growth. Cost: one step for each of its cards and for each 16 cards of that room.
+    /// without a growth. It costs one step for each card of the set and for each 16 cards of its
+    /// room.
     pub fn clear(&mut self, region: Region)
         requires { region < self.old.layout.regions }
         ensures layout { self.new.layout ≡ self.old.layout }
@@ -198,12 +200,14 @@ impl Sets {
         members.clear();
     }
 
-    /// The cards of the region's set, ascending, each once.
+    /// Returns the cards of the region's set, ascending, each once.
     ///
-    /// `NoMemory` where the vector was refused, or, in a heap of more than 65,536 cards, the room
-    /// for a bit for each card. Cost: one pass over a set that was filled in ascending order. Any
-    /// other takes two passes and one over the words of a bit for each card of the heap, or one
-    /// sort where it has fewer cards than 64 or a 1,024th of the heap's, and then asks for no bits.
+    /// Returns `NoMemory` if the vector was refused, or, in a heap of more than 65,536 cards, the
+    /// room for a bit for each card. Nothing has changed then.
+    ///
+    /// A set that was filled in ascending order costs one pass. Any other costs two passes and one
+    /// over the words of a bit for each card of the heap. If the set has fewer cards than 64 or a
+    /// 1,024th of the heap's, it costs one sort instead, and asks for no bits.
     pub fn cards(&self, region: Region) -> Result<Vec<Card>, NoMemory>
         requires { region < self.now.layout.regions }
         ensures { IfOk result (λ cards. AreCardsOf self.now.pairs region cards.items) }

@@ -7,8 +7,8 @@ use g1_steps::Mutator;
 use std::marker::Model;
 use std::sync::ledger::{Ledger, Share};
 
-/// A caller's number, how many of its calls were entered and how many of these are stores, with its shares of both
-/// totals.
+/// A caller's number, how many of its calls were entered and how many of these are stores, with its
+/// shares of both totals.
 #[derive(Drop)]
 pub struct Counts<M: Frame, S: Ledger> {
     number: u32,
@@ -72,9 +72,11 @@ impl<M: Frame, S: Ledger> Counts<M, S> {
     }
 }
 
-/// One of the callers of a shared book: its counts, its log and sender where it is a mutator, and its taker.
+/// One of the callers of a shared book: its counts, its taker, and if it is a mutator its log and
+/// sender.
 ///
-/// It belongs to one thread at a time, and is lent to each call. A caller is used with the shared book that made it.
+/// It belongs to one thread at a time, and each call borrows it. A caller is used with the shared
+/// book that made it.
 #[derive(Drop)]
 pub struct Caller<M: Frame, S: Ledger> {
     pub(crate) counts: Counts<M, S>,
@@ -94,7 +96,8 @@ impl<M: Frame, S: Ledger> Model for Caller<M, S> {
 }
 
 impl<M: Frame, S: Ledger> Caller<M, S> {
-    /// Its number: below the book's count of mutators it is a mutator, which may store and flush. Constant time.
+    /// The caller's number. If it is below the book's count of mutators, the caller is a mutator,
+    /// which may store and flush. Constant time.
     pub fn number(&self) -> u32
         ensures { result ≡ self.now.counts.number }
     {
@@ -115,7 +118,7 @@ impl<M: Frame, S: Ledger> Caller<M, S> {
         self.counts.stored
     }
 
-    /// Its shares of both totals. Log and ends of the line are given up.
+    /// The caller's shares of both totals. Its log and its ends of the queue are given up.
     pub(crate) fn into_shares(self) -> (Share<M>, Share<S>)
         ensures made { (result.0.parts ≡ 1) × (result.0.amount ≡ self.counts.made) }
         ensures stored { (result.1.parts ≡ 1) × (result.1.amount ≡ self.counts.stored) }

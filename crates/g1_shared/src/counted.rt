@@ -27,6 +27,10 @@ use std::sync::ledger;
 use std::sync::ledger::{Ledger, Share};
 
 /// A book with the totals of its calls and of its stores. Contracts see the book.
+///
+/// Each call is the book's call of that name, by the caller's number, with the same reply and
+/// errors. An entered call is counted for its caller. A refused one leaves book and caller as they
+/// were.
 #[derive(Drop)]
 pub struct Counted<M: Frame, S: Ledger> {
     book: Book,
@@ -68,7 +72,7 @@ impl<M: Frame, S: Ledger> Counted<M, S> {
         &self.book
     }
 
-    /// As the book's store, by these counts' caller and with a lent log.
+    /// As the book's store, by these counts' caller and with the given log.
     pub(crate) fn store_by(
         &mut self,
         counts: &mut Counts<M, S>,
@@ -101,7 +105,7 @@ impl<M: Frame, S: Ledger> Counted<M, S> {
         Ok(answer)
     }
 
-    /// As the book's store with room, by these counts' caller and with a lent log.
+    /// As the book's store with room, by these counts' caller and with the given log.
     pub(crate) fn store_with_room_by(
         &mut self,
         counts: &mut Counts<M, S>,
@@ -153,9 +157,10 @@ impl<M: Frame, S: Ledger> Counted<M, S> {
         Ok(reply)
     }
 
-    /// As the book's store, by this caller and with its log.
+    /// Stores a reference, or null, with this caller's log, as `Book::store` does.
     ///
-    /// The cards of a buffer that is handed out stay pending while nobody refines it.
+    /// The caller is a mutator. The cards of a buffer that is handed out stay pending as long as
+    /// nothing refines it.
     pub fn store(
         &mut self,
         caller: &mut Caller<M, S>,
@@ -181,7 +186,7 @@ impl<M: Frame, S: Ledger> Counted<M, S> {
         self.store_of(&mut caller.counts, mutator, slot, target)
     }
 
-    // A store with the log of a mutator, which is lent whole.
+    // A store with the log of a mutator, which is borrowed whole.
     fn store_of(
         &mut self,
         counts: &mut Counts<M, S>,
@@ -206,7 +211,7 @@ impl<M: Frame, S: Ledger> Counted<M, S> {
         self.store_by(counts, &mut mutator.log, slot, target)
     }
 
-    /// As the book's refinement, by this caller.
+    /// Refines a buffer for this caller, as `Book::refine` does.
     pub fn refine(
         &mut self,
         caller: &mut Caller<M, S>,
@@ -223,7 +228,7 @@ impl<M: Frame, S: Ledger> Counted<M, S> {
         self.refine_by(&mut caller.counts, buffer)
     }
 
-    /// As the book's question for what a slot refers to, by this caller.
+    /// Returns what a slot refers to, as `Book::target` does, for this caller.
     pub fn target(&mut self, caller: &mut Caller<M, S>, slot: Slot) -> Result<Option<Slot>, Refusal>
         requires { slot < slot_count M.terms.layout }
         ensures entered { IfOk result (λ target. IsEntered self.old (target_entry caller.old.counts.number slot target) self.new) }
@@ -239,7 +244,7 @@ impl<M: Frame, S: Ledger> Counted<M, S> {
         Ok(target)
     }
 
-    /// As the book's question whether a card is pending, by this caller.
+    /// Returns whether a card is pending, as `Book::is_pending` does, for this caller.
     pub fn is_pending(&mut self, caller: &mut Caller<M, S>, card: Card) -> Result<bool, Refusal>
         requires { card < card_count M.terms.layout }
         ensures entered { IfOk result (λ answer. IsEntered self.old (pending_entry caller.old.counts.number card answer) self.new) }
@@ -255,7 +260,7 @@ impl<M: Frame, S: Ledger> Counted<M, S> {
         Ok(answer)
     }
 
-    /// As the book's question for a remembered set, by this caller.
+    /// Returns the recorded remembered set of a region, as `Book::members` does, for this caller.
     pub fn members(
         &mut self,
         caller: &mut Caller<M, S>,
@@ -275,7 +280,7 @@ impl<M: Frame, S: Ledger> Counted<M, S> {
         Ok(cards)
     }
 
-    /// As the book's question for how much is pending and recorded, by this caller.
+    /// Returns how much is pending and recorded, as `Book::status` does, for this caller.
     pub fn status(&mut self, caller: &mut Caller<M, S>) -> Result<Status, Refusal>
         ensures entered { IfOk result (λ status. IsEntered self.old (status_entry caller.old.counts.number status) self.new) }
         ensures counts { IfOk result (λ status. (status.pending ≡ set.len (table_in self.old).pending) × (status.recorded ≡ set.len (table_in self.old).recorded)) }
@@ -290,7 +295,7 @@ impl<M: Frame, S: Ledger> Counted<M, S> {
         Ok(status)
     }
 
-    /// As the book's drain, by this caller.
+    /// Drains a region, as `Book::drain` does, for this caller. The list of a whole drain is exact.
     pub fn drain(&mut self, caller: &mut Caller<M, S>, region: Region) -> Result<Drained, Refusal>
         requires { region < M.terms.layout.regions }
         ensures entered { IfOk result (λ answer. IsEntered self.old (drain_entry caller.old.counts.number region answer) self.new) }
@@ -306,7 +311,7 @@ impl<M: Frame, S: Ledger> Counted<M, S> {
         Ok(answer)
     }
 
-    /// As the book's clear, by this caller.
+    /// Clears the remembered set of a region, as `Book::clear` does, for this caller.
     pub fn clear(
         &mut self,
         caller: &mut Caller<M, S>,
@@ -328,7 +333,7 @@ impl<M: Frame, S: Ledger> Counted<M, S> {
         Ok(answer)
     }
 
-    /// As the book's redirect, by this caller.
+    /// Redirects a region's references, as `Book::redirect` does, for this caller.
     pub fn redirect(
         &mut self,
         caller: &mut Caller<M, S>,

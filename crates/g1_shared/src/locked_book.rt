@@ -17,7 +17,8 @@ use std::sync::{Mutex, Wait};
 
 /// A book under its lock, which each call takes and leaves, and the counts of the caller.
 ///
-/// Of the calls that were made only the counts tell: what the book was at that moment no clause can say.
+/// Only the counts say anything of the calls that were made: no clause can say what the book was at
+/// that moment.
 #[derive(Drop)]
 pub(crate) struct LockedBook<'a, R, M: Frame, S: Ledger, K: Keeper<M, S>> {
     pub(crate) rt: &'a R,

@@ -1,7 +1,8 @@
-//! A book that threads share, with the line of completed buffers beside its lock.
+//! A book that threads share, with the queue of completed buffers beside its lock.
 //!
-//! Each caller makes the steps of a caller over the locked book ([`steps`]) and asks it questions ([`calls`]), from a
-//! thread of its own. How a book is shared, and how it comes back, stands in [`opening`].
+//! From a thread of its own, each caller makes the steps of a caller over the locked book
+//! ([`steps`]) and asks it questions ([`calls`]). [`opening`] says how a book is shared, and how it
+//! is given back.
 ghost use Rattle.std.specs.Prelude.{◌≡◌};
 
 mod calls;
@@ -17,11 +18,12 @@ use std::marker::{Model, PhantomData};
 use std::sync::ledger::Ledger;
 use std::sync::{Mutex, MutexGuard, Wait};
 
-/// A counted book under a lock, and the line of completed buffers beside it (docs/PROFILE.md, The history under a lock).
+/// A counted book under a lock, and the queue of completed buffers beside it (docs/PROFILE.md, The
+/// history under a lock).
 ///
-/// Every call takes it by `&`, and a caller by `&mut`: so callers call beside each other, each from its own thread. The
-/// lock is held for one call of the book at a time, and never while a buffer is put into the line or taken from it.
-/// Contracts see the line.
+/// Every call takes the shared book by `&` and a caller by `&mut`, so the callers run concurrently,
+/// each in a thread of its own. The lock is held for one call of the book at a time, and never
+/// while a buffer is put into the queue or taken from it. Contracts see the queue.
 #[derive(Drop)]
 pub struct Shared<M: Frame, S: Ledger, K: Keeper<M, S> = Counted<M, S>> {
     counted: Mutex<K>,
@@ -48,7 +50,7 @@ impl<M: Frame, S: Ledger> Shared<M, S, Counted<M, S>> {
     ghost use Rattle.g1_core.specs.Machine.{IsSound};
     ghost use Rattle.g1_book.specs.History.{IsHistory, table_in, terms_of};
 
-    /// The counted book, until the guard is dropped. It waits for the lock.
+    /// Waits for the lock, and returns the counted book until the guard is dropped.
     ///
     /// Its history is a permitted run that ends in the core's table, whatever the threads did.
     pub fn lock<R: Wait>(&self, rt: &R) -> MutexGuard<'_, Counted<M, S>>

@@ -21,7 +21,8 @@ use std::sync::ledger::Ledger;
 
 /// A shared book and one of its callers, with the runtime by which the caller waits for the lock.
 ///
-/// Its calls are those of [`Shared`]. Of the calls that were made, what is known is what the caller's counts tell.
+/// Its calls are those of [`Shared`]. Of the calls that were made, only what the caller's counts
+/// say is known.
 #[derive(Drop)]
 pub struct SharedDesk<'a, R, M: Frame, S: Ledger, K: Keeper<M, S> = Counted<M, S>> {
     rt: &'a R,
@@ -31,7 +32,7 @@ pub struct SharedDesk<'a, R, M: Frame, S: Ledger, K: Keeper<M, S> = Counted<M, S
 }
 
 impl<'a, R, M: Frame, S: Ledger, K: Keeper<M, S>> SharedDesk<'a, R, M, S, K> {
-    /// A desk of this caller at the book that it is a caller of.
+    /// Returns a desk of this caller at the book or core that made it.
     pub fn new(
         rt: &'a R,
         shared: &'a Shared<M, S, K>,
@@ -44,7 +45,7 @@ impl<'a, R, M: Frame, S: Ledger, K: Keeper<M, S>> SharedDesk<'a, R, M, S, K> {
         SharedDesk { rt, shared, caller }
     }
 
-    /// The caller, once the work is done.
+    /// Returns the caller, once the work is done.
     pub fn into_caller(self) -> Caller<M, S>
         ensures caller { result ≡ self.entry.caller }
         ensures of { IsCallerOf self.entry.shared.now result }

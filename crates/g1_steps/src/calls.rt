@@ -10,26 +10,28 @@ use g1_layout::Slot;
 use g1_log::{Buffer, Log};
 use std::alloc::Global;
 
-/// What makes the calls of one caller: a store with a lent log, and a refinement of a lent buffer.
+/// Makes the calls of one caller: a store with a given log, and a refinement of a given buffer.
 ///
-/// The steps of a caller ([`Mutator`](crate::Mutator), [`refine`](crate::refine), [`work`](crate::work)) are written
-/// over these calls, whoever makes them: a lent book ([`LentBook`](crate::LentBook)) or a lent core without a
-/// history ([`LentCore`](crate::LentCore)). What a step says of the calls that it made, it says through `did`, so each
-/// implementation tells as much of them as it knows (docs/PROFILE.md, The steps of a caller).
+/// The steps of a caller ([`Mutator`](crate::Mutator), [`refine`](crate::refine),
+/// [`work`](crate::work)) are written over these calls. A borrowed book
+/// ([`LentBook`](crate::LentBook)) makes them, or a borrowed core without a history
+/// ([`LentCore`](crate::LentCore)). A step says through `did` which calls it made, so each
+/// implementation says as much of them as it knows (docs/PROFILE.md, The steps of a caller).
 pub trait Calls {
     /// The layout of the heap.
     ghost layout: { Self → Shape };
 
-    /// The caller may store: it is a mutator.
+    /// Whether the caller may store: it is a mutator then.
     ghost may_store: { Self → Bool };
 
-    /// Between two states the caller made just these calls, one after the other. A refused one is among them.
+    /// Between two states the caller made exactly these calls, one after the other. Refused calls
+    /// are among them.
     ghost did: { Self → List Made → Self → Type 0 };
 
-    /// Stores a reference, or null, with the log that is lent.
+    /// Stores a reference, or null, with the given log.
     ///
-    /// A logged store pushes its card; a buffer of all the log's cards is handed out where that fills the log, which is
-    /// then empty. A refusal leaves the log as it was.
+    /// A logged store pushes its card into the log. If that fills the log, all its cards are
+    /// returned in a buffer, and the log is then empty. A refusal leaves the log as it was.
     fn store(
         &mut self,
         log: &mut Log,
@@ -46,8 +48,8 @@ pub trait Calls {
         ensures buffer { IfOk result (λ answer. answer.1 ≡ buffer_of answer.0.kind log.old (card_of (layout self.old) slot)) }
         ensures err_log { OnErr result (log.new ≡ log.old) };
 
-    /// Stores as `store` does, with a log that has room for more than one card (`Log::has_room`): no buffer is handed out. A refusal
-    /// leaves the log as it was.
+    /// Stores as `store` does, with a log that one more card does not fill (`Log::has_room`): no
+    /// buffer is handed out. A refusal leaves the log as it was.
     fn store_with_room(
         &mut self,
         log: &mut Log,
@@ -63,16 +65,18 @@ pub trait Calls {
         ensures log { IfOk result (λ reply. log.new ≡ logged reply.kind log.old (card_of (layout self.old) slot)) }
         ensures err_log { OnErr result (log.new ≡ log.old) };
 
-    /// Refines a lent buffer: its cards take their turns, oldest first. `None` refines nothing, and is a call too.
+    /// Refines a buffer: its cards take their turns, oldest first. `None` refines nothing, and is a
+    /// call too.
     ///
-    /// `taken` is 1 where the buffer was wholly done, and `left` is always 0.
+    /// `taken` is 1 if the buffer was wholly done, and `left` is always 0. At most 256 cards are
+    /// refined or skipped, and at most 256 are hot.
     fn refine(&mut self, buffer: Option<&Buffer>) -> Result<RefineReply, Refusal>
         ensures made { did self.old (refines (option_map (λ b. b.now) buffer.entry) result ∷ []) self.new }
         ensures counts { IfOk result (λ reply. (reply.taken ≤ 1) × (length reply.refined + reply.skipped ≤ 256) × (reply.hot ≤ 256)) }
         ensures left { IfOk result (λ reply. reply.left ≡ 0) }
         ensures idle { IfOk result (λ reply. IsNone buffer.entry → reply.taken ≡ 0) };
 
-    /// The allocator of the lists in its replies.
+    /// The allocator of the lists in the replies.
     fn allocator(&self) -> Global;
 
     ghost none: { (s : Self) → did s [] s };

@@ -1,4 +1,4 @@
-//! What workers do, and where.
+//! What workers do, and where they make their calls.
 ghost use Rattle.std.specs.Prelude.{◌≡◌, ℕ, ◌<◌, [], ◌∷◌, ◌++◌, List, Bool, true, IfSome, IfOk, OnErr, OnOk, Option};
 ghost use Rattle.g1_core.specs.declared.reply.StoreReply.{StoreReply as Stored};
 ghost use Rattle.g1_core.specs.declared.reply.RefineReply.{RefineReply as Worked};
@@ -10,7 +10,7 @@ use g1_book::Refusal;
 use g1_core::{RefineReply, StoreReply};
 use g1_layout::Slot;
 
-/// A call that a mutator's script asks for.
+/// A call in a mutator's script.
 #[derive(Debug, Clone, Copy, PartialEq, Eq)]
 pub enum Step {
     /// A store of a reference, or of null, into the slot.
@@ -19,25 +19,28 @@ pub enum Step {
     Flush,
 }
 
-/// What a worker is to do.
+/// What a worker does.
 #[derive(Debug, Drop)]
 pub enum Script {
-    /// To make these calls of a mutator, in order.
+    /// Makes these calls of a mutator, in order.
     Mutate(Vec<Step>),
-    /// To make rounds of refinement, as many as this says.
+    /// Makes this many rounds of refinement.
     Refine(u32),
 }
 
-/// How many calls a worker made; `Err` where one was refused, with how many were made before it.
+/// How many calls a worker made. `Err` if one was refused, with how many were made before it.
 pub type Outcome = Result<u64, (u64, Refusal)>;
 
-/// Where a worker makes its calls: it has all that they take, and belongs to one worker at a time.
+/// Where a worker makes its calls. A desk has all that they take, and belongs to one worker at a
+/// time.
 ///
-/// A worker ([`mutate`](crate::mutate), [`refiner`](crate::refiner)) and a crew ([`run_crew`](crate::run_crew)) know
-/// nothing else of what they work on. So a book or core that is lent ([`LocalDesk`](crate::LocalDesk)), a book that threads
-/// share (`SharedDesk` of the crate `g1_shared`) and desks of a program's own run by the same crew.
+/// A worker ([`mutate`](crate::mutate), [`refiner`](crate::refiner)) and a crew
+/// ([`run_crew`](crate::run_crew)) know nothing else of what they work on. So one crew runs a
+/// borrowed book or core ([`LocalDesk`](crate::LocalDesk)), a book that threads share (`SharedDesk`
+/// of the crate `g1_shared`), or a program's own desks.
 pub trait Desk {
-    /// From one state to another just these calls were made, in order. A refused one is none of them.
+    /// Between two states exactly these calls were made, in order. Refused calls are not among
+    /// them.
     ghost did: { Self → List Ask → Self → Type 0 };
 
     /// How many slots the heap has.
@@ -46,14 +49,14 @@ pub trait Desk {
     /// Whether its caller is a mutator.
     ghost may_store: { Self → Bool };
 
-    /// What the answers of a store, a flush and a round tell of the desk before and after the call.
+    /// What the reply of a store, a flush or a round says of the desk before and after the call.
     ghost stored: { Self → ℕ → Option ℕ → Stored → Self → Type 0 } = { λ _ _ _ _ _. Unit {0} };
 
     ghost flushed: { Self → Flushed → Self → Type 0 } = { λ _ _ _. Unit {0} };
 
     ghost worked: { Self → Worked → Self → Type 0 } = { λ _ _ _. Unit {0} };
 
-    /// Stores a reference, or null.
+    /// Stores a reference, or null. A refused store counts as no call.
     fn store(&mut self, slot: Slot, target: Option<Slot>) -> Result<StoreReply, Refusal>
         requires mutator { may_store self.old ≡ true }
         requires slot { slot < slots self.old }
@@ -63,7 +66,7 @@ pub trait Desk {
         ensures err { OnErr result (did self.old [] self.new) }
         ensures same { (slots self.new ≡ slots self.old) × (may_store self.new ≡ may_store self.old) };
 
-    /// Empties the caller's log.
+    /// Empties the caller's log. A refused flush counts as no call.
     fn flush(&mut self) -> Result<FlushReply, Refusal>
         requires { may_store self.old ≡ true }
         ensures ok { OnOk result (did self.old (AskFlush ∷ []) self.new) }
@@ -71,7 +74,7 @@ pub trait Desk {
         ensures err { OnErr result (did self.old [] self.new) }
         ensures same { (slots self.new ≡ slots self.old) × (may_store self.new ≡ may_store self.old) };
 
-    /// Makes a round of refinement.
+    /// Makes a round of refinement. A refused round counts as no call.
     fn work(&mut self) -> Result<RefineReply, Refusal>
         ensures ok { OnOk result (did self.old (AskWork ∷ []) self.new) }
         ensures reply { IfOk result (λ reply. worked self.old reply self.new) }

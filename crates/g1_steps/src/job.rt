@@ -18,14 +18,14 @@ use std::thread::{Promise, PromisedHandle, Scope, Threads};
 pub struct Job<D> {
     /// Where its calls are made.
     pub desk: D,
-    /// What it is to do.
+    /// What the worker does.
     pub script: Script,
-    /// `None` before the run; then what the worker answered.
+    /// `None` before the run; then what the worker returned.
     pub outcome: Option<Outcome>,
 }
 
-/// A thread could not be started, or room for it was refused: the threads that were started have been joined, and the
-/// desks are given up.
+/// A thread could not be started, or room for it was refused. The threads that were started have
+/// been joined, and the desks are given up.
 #[derive(Drop, Debug, Clone, Copy, PartialEq, Eq, thiserror::Error)]
 #[error("no thread")]
 pub struct NotStarted;
@@ -110,8 +110,10 @@ fn join_all<D: Desk + Drop, R: Threads>(
 
 /// Runs each job in a thread of its own (docs/PROFILE.md, Workers and a crew).
 ///
-/// Every job is started before one is joined. The jobs come back in their order, each with its script, its outcome, and
-/// the desk at which just the calls of that outcome were made. Room for handles and jobs is made first.
+/// Every job is started before one is joined. The jobs are returned in their order, each with its
+/// script, its outcome, and the desk at which exactly the calls of that outcome were made. Room for
+/// handles and jobs is made first. After `NotStarted` the threads that were started have been
+/// joined, and the desks are given up.
 pub fn run_crew<D: Desk + Send + Drop, R: Threads + Wait + Sync>(
     rt: &R,
     alloc: Global,

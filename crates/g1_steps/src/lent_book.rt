@@ -1,4 +1,4 @@
-//! The calls of one caller at a book that is lent.
+//! The calls of one caller at a borrowed book.
 ghost use Rattle.std.specs.Prelude.{◌≡◌, refl, nat_lt};
 ghost use Rattle.std.proofs.Common.{◌∙◌, ap, subst};
 ghost use Rattle.g1_book.specs.History.{Terms, layout_in};
@@ -12,9 +12,10 @@ use g1_layout::Slot;
 use g1_log::{Buffer, Log};
 use std::alloc::Global;
 
-/// A lent book, and the number of the caller.
+/// A borrowed book, and the number of the caller.
 ///
-/// Each call that is not refused is one entry of that caller, and does what the book's own method does.
+/// Each call that is not refused is one entry of that caller, and does what the book's own method
+/// does.
 #[derive(Drop)]
 pub struct LentBook<'a> {
     book: &'a mut Book,
@@ -22,7 +23,8 @@ pub struct LentBook<'a> {
 }
 
 impl<'a> LentBook<'a> {
-    /// The calls of this caller at the book. It may store where its number is below the book's count of mutators.
+    /// Makes the calls of this caller at the book. The caller may store if its number is below the
+    /// book's count of mutators.
     pub fn new(book: &'a mut Book, caller: u32) -> LentBook<'a>
         ensures lends { result.book.ghost_name ≡ book.entry.ghost_name }
         ensures book { result.book.now ≡ book.old }

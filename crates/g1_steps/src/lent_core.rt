@@ -1,4 +1,4 @@
-//! The calls at a core that keeps no history.
+//! The calls at a borrowed core, which keeps no history.
 ghost use Rattle.std.specs.Prelude.{◌≡◌, true, refl};
 ghost use Rattle.std.proofs.Common.{◌∙◌};
 ghost use Rattle.g1_steps.specs.Made.{AreCalls, calls_then};
@@ -11,9 +11,10 @@ use g1_layout::Slot;
 use g1_log::{Buffer, Log};
 use std::alloc::Global;
 
-/// A lent core, for a runtime that keeps no history: a history takes 80 bytes a call, and ends after 1,000,000.
+/// A borrowed core, for a runtime that keeps no history. A history takes 80 bytes a call, and ends
+/// after 1,000,000 calls.
 ///
-/// Any caller may store, and a call is refused only where memory is.
+/// Any caller may store, and a call is refused only if memory is.
 #[derive(Drop)]
 pub struct LentCore<'a> {
     core: &'a mut Core,
@@ -21,7 +22,7 @@ pub struct LentCore<'a> {
 }
 
 impl<'a> LentCore<'a> {
-    /// The calls at this core, with this allocator for the lists in replies.
+    /// Makes the calls at this core, with this allocator for the lists in replies.
     pub fn new(core: &'a mut Core, alloc: Global) -> LentCore<'a>
         ensures lends { result.core.ghost_name ≡ core.entry.ghost_name }
         ensures core { result.core.now ≡ core.old }

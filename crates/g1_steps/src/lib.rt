@@ -1,12 +1,13 @@
-//! The steps of a mutator and of a refiner, and workers that make them.
+//! The steps of a mutator and of a refinement thread, and workers that make them.
 //!
-//! The steps of a caller are written once over the [`Calls`] that they make: at a book that is lent ([`LentBook`]), or at a
-//! core without a history ([`LentCore`]). A [`Mutator`] stores and flushes; completed buffers go through a line, and
-//! [`refine`] and [`work`] take them from there (docs/PROFILE.md, The steps of a caller).
+//! The steps of a caller are written once, over the [`Calls`] that they make: at a borrowed book
+//! ([`LentBook`]), or at a borrowed core without a history ([`LentCore`]). A [`Mutator`] stores and
+//! flushes. Completed buffers go through a queue ([`Line`](g1_log::Line)), from which [`refine`]
+//! and [`work`] take them (docs/PROFILE.md, The steps of a caller).
 //!
-//! A worker makes such steps by a [`Script`], at a [`Desk`] that has all that they take: at a [`LocalDesk`], which shares it
-//! with nobody, or at a desk of another crate. A crew runs workers in threads of their own ([`run_crew`]; docs/PROFILE.md,
-//! Workers and a crew).
+//! A worker makes the steps of a [`Script`] at a [`Desk`], which has all that they take: a
+//! [`LocalDesk`], which shares nothing with another desk, or a desk of another crate. A crew runs
+//! workers in threads of their own ([`run_crew`]; docs/PROFILE.md, Workers and a crew).
 #![tactic(auto)]
 
 mod calls;

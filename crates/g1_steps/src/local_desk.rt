@@ -1,4 +1,4 @@
-//! A desk that shares what it works on with nobody.
+//! A desk that shares what it works on with no other desk.
 ghost use Rattle.std.specs.Prelude.{◌≡◌, ◌≤◌, ◌++◌, ◌∷◌, ℕ, Some, [], refl};
 ghost use Rattle.std.proofs.Common.{◌∙◌};
 ghost use Rattle.std.proofs.Props.{props};
@@ -18,7 +18,8 @@ use g1_layout::Slot;
 use g1_log::{Line, Taker};
 use std::sync::Wait;
 
-/// What makes the calls of one caller, as a lent book or core, with the caller's log and its ends of a line.
+/// Makes the calls of one caller, at a borrowed book or core, with the caller's log and its ends of
+/// the queue of completed buffers.
 ///
 /// Its calls are the steps of that caller (docs/PROFILE.md, The steps of a caller).
 #[derive(Drop)]
@@ -33,7 +34,7 @@ pub struct LocalDesk<'a, R, C> {
 }
 
 impl<'a, R, C> LocalDesk<'a, R, C> {
-    /// A desk of these calls, whose rounds begin at `start` completed buffers.
+    /// Returns a desk of these calls. Its rounds begin at `start` completed buffers.
     pub fn new(
         rt: &'a R,
         line: &'a Line,
@@ -60,7 +61,7 @@ impl<'a, R, C> LocalDesk<'a, R, C> {
         }
     }
 
-    /// What made the calls, the mutator and its taker, once the work is done.
+    /// Returns what made the calls, the mutator and its taker, once the work is done.
     pub fn into_parts(self) -> (C, Mutator, Taker)
         ensures calls { result.0 ≡ self.entry.calls }
         ensures mutator { result.1 ≡ self.entry.mutator }

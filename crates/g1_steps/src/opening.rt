@@ -1,4 +1,5 @@
-//! How callers begin: with a line of completed buffers, an empty log for each mutator, and their ends of the line.
+//! How callers begin: with a queue of completed buffers, an empty log for each mutator, and their
+//! ends of the queue.
 ghost use Rattle.std.specs.Prelude.{◌≡◌, ◌+◌, ◌≤◌, vec_len, vec_capacity, IfOk};
 ghost use Rattle.std.specs.List.{All};
 ghost use Rattle.g1_log.specs.Ends.{capacity_of, AreNewSenders, IsNewTaker};
@@ -10,11 +11,12 @@ use g1_layout::NoMemory;
 use g1_log::{Line, Sender, Taker};
 use std::alloc::Global;
 
-/// A line of completed buffers for a core or a book with these settings, its mutators, and its takers
-/// (docs/PROFILE.md, The steps of a caller).
+/// Returns a queue of completed buffers for a core or a book with these settings, its mutators, and
+/// its takers (docs/PROFILE.md, The steps of a caller).
 ///
-/// The line holds as many buffers as the settings' limit. Mutator `k` has an empty log of the settings' size and sender
-/// `k`. `NoMemory` where a growth was refused; no other step takes memory for line or logs.
+/// There are 1 to 8 mutators and 1 to 12 takers. The queue holds as many buffers as the settings'
+/// limit. Mutator `k` has an empty log of the settings' size and sender `k`. Returns `NoMemory` if
+/// a growth was refused. No other step takes memory for queue or logs.
 pub fn open_line(
     alloc: Global,
     config: Config,

@@ -1,7 +1,9 @@
-//! The steps of one caller: calls with a log, the ends of a line, and the line, which is lent.
+//! The steps of one caller: calls with a log, the ends of the queue of completed buffers, and the
+//! queue, which each step borrows.
 //!
-//! A mutator stores and flushes ([`mutator`]), a refiner takes what was completed ([`refiner`]), and a pause empties
-//! logs and line ([`standstill`]). A step makes no call, one, or several calls (docs/PROFILE.md, The steps of a caller).
+//! A mutator stores and flushes ([`mutator`]), a refinement thread takes completed buffers
+//! ([`refiner`]), and a pause empties logs and queue ([`standstill`]). A step makes no call, one,
+//! or several calls (docs/PROFILE.md, The steps of a caller).
 
 mod mutator;
 mod refiner;

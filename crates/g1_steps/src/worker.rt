@@ -6,8 +6,8 @@ ghost use Rattle.g1_steps.specs.Ran.{HasAsked};
 use crate::desk::{Desk, Outcome, Step};
 use g1_book::Refusal;
 
-/// Makes the calls of a mutator's script, in order. Answers how many were made: all of them, or with the refusal that
-/// ended the script, those before it.
+/// Makes the calls of a mutator's script, in order, and returns how many were made: all of them. If
+/// a call is refused the script ends, and `Err` has how many were made before it, and the refusal.
 pub fn mutate<D: Desk>(desk: &mut D, steps: &[Step]) -> Outcome
     requires { All (StepFits (D.slots desk.old) (D.may_store desk.old)) steps.now }
     ensures { HasAsked D.did (asks_of steps.now) desk.old result desk.new }
@@ -40,8 +40,8 @@ fn make<D: Desk>(desk: &mut D, step: Step) -> Result<(), Refusal>
     Ok(())
 }
 
-/// Makes `rounds` rounds of refinement. Answers how many were made: all of them, or with the refusal that ended the
-/// script, those before it.
+/// Makes `rounds` rounds of refinement, and returns how many were made: all of them. If a round is
+/// refused the script ends, and `Err` has how many were made before it, and the refusal.
 pub fn refiner<D: Desk>(desk: &mut D, rounds: u32) -> Outcome
     ensures { HasAsked D.did (replicate rounds AskWork) desk.old result desk.new }
 {

@@ -11,7 +11,7 @@ pub enum Command {
         mutator: u32,
         /// The slot that is written.
         slot: Slot,
-        /// What it refers to from now on.
+        /// What the slot refers to from now on.
         target: Option<Slot>,
     },
     /// A mutator passes its log on.

@@ -1,7 +1,8 @@
 //! What a trace may ask for.
 use crate::mode::Mode;
 
-/// What a trace may ask for, besides what its heap has: the commands of its subcommand, and how many mutators they may name.
+/// What a trace may ask for, besides what its heap has: the commands of its subcommand, and how
+/// many mutators they may name.
 #[derive(Clone, Copy, Debug, PartialEq, Eq)]
 pub struct Dialect {
     /// The subcommand.

@@ -122,11 +122,12 @@ fn named(layout: Layout, dialect: Dialect, name: &[u8], words: &[u8]) -> Result<
     Ok(Command::Call(call))
 }
 
-/// The command of a line, or none where the line is empty or a remark (docs/TRACES.md, Commands).
+/// Returns the command of a line, or `None` if the line is empty or a remark (docs/TRACES.md,
+/// Commands).
 ///
-/// The faults come in the order of docs/TRACES.md, Faults: no such command, wrong words, then each word that is no
-/// number, and only then the leftmost number that is too large for its place, and last a region named twice. One pass
-/// over the line, and no memory.
+/// The faults are tested in the order of docs/TRACES.md, Faults: no such command, wrong words, then
+/// each word that is no number, then the leftmost number that is too large for its place, and last
+/// a region named twice. It makes one pass over the line, and takes no memory.
 #[tactic(auto, unfolding(crate::specs::Grammar::read_command))]
 pub fn read_command(
     layout: Layout,

@@ -31,10 +31,11 @@ fn opening(name: &[u8], words: &[u8]) -> Result<Layout, TraceFault>
     heap(regions, cards, slots)
 }
 
-/// The heap of a line that is the header, or none where the line is empty or a remark (docs/TRACES.md, Commands).
+/// Returns the heap of the header, or `None` if the line is empty or a remark (docs/TRACES.md,
+/// Commands).
 ///
-/// The faults come in the order of docs/TRACES.md, Faults: no header, wrong words, not a number, and only then a bad
-/// heap. One pass over the line, and no memory.
+/// The faults are tested in the order of docs/TRACES.md, Faults: no header, wrong words, not a
+/// number, and then a bad heap. It makes one pass over the line, and takes no memory.
 #[tactic(auto, unfolding(crate::specs::Grammar::read_header))]
 pub fn read_header(line: &[u8]) -> Result<Option<Layout>, TraceFault>
     ensures { result ≡ read_header line.now }

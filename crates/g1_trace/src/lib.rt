@@ -1,4 +1,5 @@
-//! The text of a trace: its grammar, from the bytes of a line to a command or a fault, and the line of every answer.
+//! The text of a trace: its grammar, from the bytes of a line to a command or a fault, and the
+//! output line of every reply.
 //!
 //! Nothing here knows how a command is carried out.
 #![tactic(auto)]

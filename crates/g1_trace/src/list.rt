@@ -1,4 +1,5 @@
-//! The text of a list of cards: a short one in one block with its line, a longer one in many.
+//! The text of a list of cards. A short list is written in one block with its line, a longer one in
+//! many.
 ghost use Rattle.std.specs.Prelude.{◌≡◌, ℕ, List, [], ◌++◌, ◌+◌, ◌-◌, ◌*◌, ◌<◌, ◌≤◌, length, drop, MatchResult, codes};
 ghost use Rattle.std.specs.Io.KnownBytes.{Appends};
 ghost use Rattle.g1_trace.specs.Bytes.{Puts};
@@ -15,17 +16,17 @@ const BLOCK_CARDS: usize = 64;
 
 const BLOCK_BYTES: usize = 704;
 
-/// How long the words and how many the cards are at most of a line that is made up in one block and written at once, and the
-/// room for it.
+/// How many bytes of words and how many cards a line has at most that is made up in one block and
+/// written at once, and the room for it.
 const SHORT_WORDS: usize = 7;
 
 const SHORT_CARDS: usize = 8;
 
 const SHORT_BYTES: usize = 104;
 
-/// Writes a space and the number for each card, in the order given.
+/// Writes a space and the number for each card, in the given order.
 ///
-/// `WriteFailed` where a write fails or takes no byte; a beginning of the text stays written.
+/// Returns `WriteFailed` if a write fails or takes no byte. A beginning of the text stays written.
 pub fn put_list<W: Write>(output: &mut W, cards: &[Card]) -> Result<(), WriteFailed>
     ensures { Puts (W.contents output.old) (W.contents output.new) result (list_text cards.now) }
 {
@@ -38,7 +39,7 @@ pub fn put_list<W: Write>(output: &mut W, cards: &[Card]) -> Result<(), WriteFai
     Ok(())
 }
 
-// So many cards that their text has room on the stack.
+// A few cards, whose text has room on the stack.
 fn put_block<W: Write>(output: &mut W, cards: &[Card]) -> Result<(), WriteFailed>
     requires { length cards.now ≤ BLOCK_CARDS }
     ensures { Puts (W.contents output.old) (W.contents output.new) result (list_text cards.now) }
@@ -48,8 +49,9 @@ fn put_block<W: Write>(output: &mut W, cards: &[Card]) -> Result<(), WriteFailed
     put(output, &block[start..])
 }
 
-// Writes a space and the number for each card in front of what stands in the block from `end` on. It goes from the last
-// card to the first, so that no number has to be measured. Answers where the text begins.
+// Writes a space and the number for each card in front of what the block has from `end` on. It goes
+// from the last card to the first, so that no number has to be measured. Returns where the text
+// begins.
 fn list_before(block: &mut [u8], end: usize, cards: &[Card]) -> usize
     requires room { 11 * length cards.now ≤ end }
     requires within { end ≤ length block.old }
@@ -68,6 +70,8 @@ fn list_before(block: &mut [u8], end: usize, cards: &[Card]) -> usize
 }
 
 /// Writes the line of a list: words, and a space and the number for each card.
+///
+/// `WriteFailed` as with [`put_list`].
 #[inline(always)]
 pub fn put_cards<W: Write>(
     output: &mut W,
@@ -85,7 +89,7 @@ pub fn put_cards<W: Write>(
     put(output, b"\n")
 }
 
-// The line of so short words and so few cards that it has room in one block.
+// The line of words and cards that are few enough to have room in one block.
 #[inline(always)]
 fn put_short<W: Write>(output: &mut W, words: &[u8], cards: &[Card]) -> Result<(), WriteFailed>
     requires words { length words.now ≤ SHORT_WORDS }

@@ -5,8 +5,9 @@
 pub enum Mode {
     /// Each line is a call, made in the order of the trace.
     Run,
-    /// The stores and flushes of each mutator are made by a thread of its own, while others refine.
+    /// A thread for each mutator makes its stores and flushes, while other threads refine.
     Crew,
-    /// The stores of each mutator are made by a thread of its own, with no lock around them, while others refine.
+    /// A thread for each mutator makes its stores, with no lock around them, while other threads
+    /// refine.
     Race,
 }

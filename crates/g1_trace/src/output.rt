@@ -1,7 +1,7 @@
 //! The loop over `write`, and the parts of a line.
 //!
-//! A write that fails, or that takes no byte, is a failed write: nothing is tried again, and a beginning of the text
-//! stays written (docs/TRACES.md, Ends).
+//! A write that fails, or that takes no byte, is a failed write. Nothing is tried again, and a
+//! beginning of the text stays written (docs/TRACES.md, Ends).
 ghost use Rattle.std.specs.Prelude.{◌≡◌, ℕ, List, [], ◌++◌, ◌+◌, ◌<◌, ◌≤◌, length, take, drop, MatchResult, decimal, IfOk, OnErr, if◌then◌else◌};
 ghost use Rattle.std.specs.Io.KnownBytes.{Appends};
 ghost use Rattle.g1_trace.specs.Bytes.{Puts};
@@ -16,7 +16,7 @@ pub struct WriteFailed;
 
 /// Writes all bytes, in as many writes as it takes.
 ///
-/// `WriteFailed` where a write fails or takes no byte; a beginning of the bytes stays written.
+/// Returns `WriteFailed` if a write fails or takes no byte. A beginning of the bytes stays written.
 #[inline(always)]
 pub fn put<W: Write>(output: &mut W, bytes: &[u8]) -> Result<(), WriteFailed>
     ensures { Puts (W.contents output.old) (W.contents output.new) result bytes.now }
@@ -44,6 +44,8 @@ fn write_some<W: Write>(output: &mut W, bytes: &[u8]) -> Result<usize, WriteFail
 }
 
 /// Writes one of two texts.
+///
+/// `WriteFailed` as with [`put`].
 #[inline(always)]
 pub fn put_either<W: Write>(
     output: &mut W,
@@ -71,7 +73,7 @@ pub fn put_number<W: Write>(output: &mut W, number: u64) -> Result<(), WriteFail
     put(output, buffer.format(number).as_bytes())
 }
 
-/// Copies words in front of what stands in the block from `start` on. Answers where they begin.
+/// Copies words in front of what the block has from `start` on. Returns where they begin.
 #[inline(always)]
 pub(crate) fn words_before(block: &mut [u8], start: usize, words: &[u8]) -> usize
     requires room { length words.now ≤ start }
@@ -84,7 +86,8 @@ pub(crate) fn words_before(block: &mut [u8], start: usize, words: &[u8]) -> usiz
     begin
 }
 
-/// Copies words and the number behind them in front of what stands in the block from `start` on. Answers where they begin.
+/// Copies words and the number behind them in front of what the block has from `start` on. Returns
+/// where they begin.
 #[inline(always)]
 pub(crate) fn counted_before(block: &mut [u8], start: usize, words: &[u8], number: u64) -> usize
     requires room { length words.now + 20 ≤ start }
@@ -97,7 +100,8 @@ pub(crate) fn counted_before(block: &mut [u8], start: usize, words: &[u8], numbe
     words_before(block, digits, words)
 }
 
-/// Copies the end of the line of a reply that may be short to the end of the block. Answers where it begins.
+/// Copies the end of the line of a reply that may be short to the end of the block. Returns where
+/// it begins.
 #[inline(always)]
 pub(crate) fn ending_at_end(block: &mut [u8], short: bool) -> usize
     requires { 7 ≤ length block.old }

@@ -1,4 +1,8 @@
-//! The words in the places behind the first word of a line: as many as the command has, all read, and then each held against its limit.
+//! The words behind the first word of a line: all are read, and then each is tested against its
+//! limit.
+//!
+//! `Words` is returned if there are more or fewer words than the command has, `NotNumber` if a word
+//! is no number, and only then the fault of the leftmost number that is too large for its place.
 
 ghost use Rattle.std.specs.Prelude.{◌≡◌, ◌<◌, ℕ, [], min, IfOk, IfSome};
 ghost use Rattle.g1_layout.specs.Shape.{IsShape, slot_count, card_count};
@@ -10,14 +14,14 @@ use crate::fault::TraceFault;
 use crate::words::{is, is_blank, one_word, three_words, two_words};
 use g1_layout::{Card, Layout, Region, Slot};
 
-/// A number past 32 bits as the largest of 32 bits, which is past every limit too.
+/// Returns the number, or the largest of 32 bits if it is larger. That is past every limit too.
 pub fn clamped(number: u64) -> u32
     ensures { result ≡ min number 4294967295 }
 {
     number.min(u64::from(u32::MAX)) as u32
 }
 
-/// The mutator of this number, of which there are `mutators`; else `NoMutator`.
+/// Returns the mutator of this number, if it is below `mutators`; else `NoMutator`.
 pub fn mutator(mutators: u32, number: u64) -> Result<u32, TraceFault>
     ensures read { result ≡ fit_below mutators NoMutator number }
     ensures valid { IfOk result (λ m. m < mutators) }
@@ -29,7 +33,7 @@ pub fn mutator(mutators: u32, number: u64) -> Result<u32, TraceFault>
     }
 }
 
-/// The slot of this number; `NoSlot` where the heap has none.
+/// Returns the slot of this number; `NoSlot` if the heap has none.
 pub fn slot(layout: Layout, number: u64) -> Result<Slot, TraceFault>
     requires { IsShape layout }
     ensures read { result ≡ fit_below (slot_count layout) NoSlot number }
@@ -75,7 +79,7 @@ fn number_or_null(word: &[u8], number: Result<u64, TraceFault>) -> Result<Option
     Ok(Some(number))
 }
 
-/// The place of this number, or null for none; `NoSlot` where the heap has no such slot.
+/// Returns the place of this number, or null for none; `NoSlot` if the heap has no such slot.
 pub fn target(layout: Layout, number: Option<u64>) -> Result<Option<Slot>, TraceFault>
     requires { IsShape layout }
     ensures read { result ≡ fit_target layout number }

@@ -1,7 +1,7 @@
 //! A store's line in its plain spelling, in one pass over longer bytes.
 //!
-//! Most lines of a trace are stores that a program wrote: single spaces, few digits. What is not spelled so is read as any
-//! other line.
+//! Most lines of a trace are stores that a program wrote: single spaces, few digits. A store that
+//! is not spelled so is read like any other line.
 ghost use Rattle.std.specs.Prelude.{◌≤◌, ◌+◌, length, IfSome};
 ghost use Rattle.g1_layout.specs.Shape.{IsShape};
 ghost use Rattle.g1_trace.specs.Grammar.{IsCommandOf};
@@ -19,7 +19,8 @@ const NUMBER_BYTES: usize = 8;
 /// How many bytes such a line has at most: the name, three numbers, and the byte behind each.
 const STORE_BYTES: usize = 30;
 
-// The number that the bytes begin with, where `end` stands right behind its digits, and what comes behind `end`.
+// The number that the bytes begin with, if `end` comes right behind its digits, and what comes
+// behind `end`.
 #[inline(always)]
 fn number_before(bytes: &[u8], end: u8) -> Option<(u64, &[u8])>
     requires { NUMBER_BYTES ≤ length bytes.now }
@@ -33,7 +34,8 @@ fn number_before(bytes: &[u8], end: u8) -> Option<(u64, &[u8])>
     Some((value, bytes.split_at(count + 1).1))
 }
 
-// The number or `null` that the bytes begin with, where a line feed stands right behind it, and what comes behind that.
+// The number or `null` that the bytes begin with, if a line feed comes right behind it, and what
+// comes behind that.
 #[inline(always)]
 fn target_before(bytes: &[u8]) -> Option<(Option<u64>, &[u8])>
     requires { NUMBER_BYTES ≤ length bytes.now }
@@ -48,11 +50,12 @@ fn target_before(bytes: &[u8]) -> Option<(Option<u64>, &[u8])>
     Some((Some(number), rest))
 }
 
-/// The store whose line the bytes begin with, and how many bytes the line has, with its line feed.
+/// Returns the store whose line the bytes begin with, and how many bytes the line has, with its
+/// line feed.
 ///
-/// `None` where the line is no store, is not there as a whole, has a fault, or is not spelled plainly: one space between
-/// two words and none before or behind, numbers of at most 7 digits. Also where fewer than 30 bytes are there. Takes no
-/// memory.
+/// Returns `None` if the line is no store, is not there as a whole, has a fault, or is not spelled
+/// plainly: one space between two words and none before or behind, numbers of at most 7 digits. It
+/// does so too if there are fewer than 30 bytes. It takes no memory.
 #[inline(always)]
 pub fn read_store(layout: Layout, dialect: Dialect, bytes: &[u8]) -> Option<(Command, usize)>
     ensures line { IfSome result (λ read. IsLineBefore layout dialect bytes.now read.0 read.1) }

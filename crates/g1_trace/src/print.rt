@@ -1,7 +1,7 @@
 //! The output lines (docs/TRACES.md, Commands): a printing function for each reply.
 //!
-//! Each writes its line straight to the output, in no memory of its own. `WriteFailed` where a write fails or takes no
-//! byte; a beginning of the line stays written.
+//! Each writes its line straight to the output, and takes no memory. It returns `WriteFailed` if a
+//! write fails or takes no byte. A beginning of the line stays written.
 
 pub mod ends;
 pub mod pauses;

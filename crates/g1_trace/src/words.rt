@@ -37,9 +37,10 @@ fn word_len(bytes: &[u8]) -> usize
     bytes.len()
 }
 
-/// The first word of a line, a run of bytes other than space, and what comes behind it (docs/TRACES.md, Lines and words).
+/// Returns the first word of a line, a run of bytes other than space, and what comes behind it
+/// (docs/TRACES.md, Lines and words).
 ///
-/// `None` where there is no word. One pass over the word and the spaces before it.
+/// Returns `None` if there is no word. It makes one pass over the word and the spaces before it.
 pub fn split_word(line: &[u8]) -> Option<(&[u8], &[u8])>
     ensures some { IfSome result (λ s. words_from [] line.now ≡ s.0.now ∷ words_from [] s.1.now) }
     ensures none { IsNone result → words_from [] line.now ≡ [] }
@@ -51,7 +52,7 @@ pub fn split_word(line: &[u8]) -> Option<(&[u8], &[u8])>
     Some(rest.split_at(word_len(rest)))
 }
 
-/// Whether no word is left.
+/// Returns whether no word is left.
 pub fn is_blank(line: &[u8]) -> bool
     ensures blank { result ≡ true → words_from [] line.now ≡ [] }
     ensures some { result ≡ false → 0 < length (words_from [] line.now) }
@@ -59,7 +60,8 @@ pub fn is_blank(line: &[u8]) -> bool
     split_word(line).is_none()
 }
 
-// The value of a word of 1 to 10 decimal digits; any other word is no number (docs/TRACES.md, Lines and words).
+// The value of a word of 1 to 10 decimal digits; any other word is no number (docs/TRACES.md, Lines
+// and words).
 fn number(word: &[u8]) -> Result<u64, TraceFault>
     ensures { result ≡ read_number word.now }
 {
@@ -76,7 +78,7 @@ fn number(word: &[u8]) -> Result<u64, TraceFault>
     Ok(value)
 }
 
-/// How many digits the bytes begin with, of the 10 that a number may have, and their value.
+/// Returns how many digits the bytes begin with, of the 10 that a number may have, and their value.
 #[inline(always)]
 pub fn leading_digits(bytes: &[u8]) -> (usize, u64)
     ensures bound { result.0 ≤ length bytes.now }
@@ -103,9 +105,10 @@ fn is_end(bytes: &[u8], place: usize) -> bool
     place >= bytes.len() || bytes[place] == b' '
 }
 
-/// The first word of a line with the number that it is, and what comes behind it.
+/// Returns the first word of a line with the number that it is, and what comes behind it.
 ///
-/// `None` where there is no word. One pass over a word of digits and the spaces before it.
+/// Returns `None` if there is no word. It makes one pass over a word of digits and the spaces
+/// before it.
 #[inline(always)]
 pub fn split_number(line: &[u8]) -> Option<((&[u8], Result<u64, TraceFault>), &[u8])>
     ensures some { IfSome result (λ s. words_from [] line.now ≡ s.0.0.now ∷ words_from [] s.1.now) }
@@ -122,7 +125,8 @@ pub fn split_number(line: &[u8]) -> Option<((&[u8], Result<u64, TraceFault>), &[
     Some(((word, number(word)), behind))
 }
 
-/// The one word of a line with the number that it is, or `None` where it has another number of words.
+/// Returns the one word of a line with the number that it is, or `None` if the line has another
+/// number of words.
 #[inline(always)]
 pub fn one_word(line: &[u8]) -> Option<(&[u8], Result<u64, TraceFault>)>
     ensures some { IfSome result (λ w. words_from [] line.now ≡ w.0.now ∷ []) }
@@ -133,7 +137,8 @@ pub fn one_word(line: &[u8]) -> Option<(&[u8], Result<u64, TraceFault>)>
     if is_blank(rest) { Some(word) } else { None }
 }
 
-/// The two words of a line with the numbers that they are, or `None` where it has another number of words.
+/// Returns the two words of a line with the numbers that they are, or `None` if the line has
+/// another number of words.
 pub fn two_words(
     line: &[u8],
 ) -> Option<
@@ -152,7 +157,8 @@ pub fn two_words(
     Some((first, second))
 }
 
-/// The three words of a line with the numbers that they are, or `None` where it has another number of words.
+/// Returns the three words of a line with the numbers that they are, or `None` if the line has
+/// another number of words.
 #[inline(always)]
 pub fn three_words(
     line: &[u8],
@@ -175,7 +181,7 @@ pub fn three_words(
     Some((first, second, third))
 }
 
-/// Whether a word is this text.
+/// Returns whether a word is this text.
 #[inline(always)]
 pub fn is(word: &[u8], text: &[u8]) -> bool
     ensures { result ≡ bytes_eq word.now text.now }
@@ -191,7 +197,8 @@ pub fn is(word: &[u8], text: &[u8]) -> bool
     true
 }
 
-/// Whether a line whose first word is this is a remark: it begins with `#` (docs/TRACES.md, Lines and words).
+/// Returns whether a line with this first word is a remark: the word begins with `#`
+/// (docs/TRACES.md, Lines and words).
 pub fn is_remark(word: &[u8]) -> bool
     ensures { result ≡ is_remark_word word.now }
 {

@@ -78,7 +78,8 @@ fn replay<R: Threads + Wait + Sync + Input + Print + AllocGlobal>(
     written_out(end, output)
 }
 
-// The end, once all that was written has left the buffer. After a failed write nothing more is written: the rest is let go.
+// The end, once all that was written has left the buffer. After a failed write nothing more is
+// written: the rest is given up.
 fn written_out<W: Write + Drop>(end: End, mut output: BufWriter<W>) -> End {
     if end != End::WriteFailed && output.flush().is_ok() {
         return end;

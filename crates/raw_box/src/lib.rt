@@ -1,4 +1,5 @@
-//! A box as its pointer, for a caller that keeps pointers: C, through a static library.
+//! A box taken apart into its pointer, for a caller that keeps pointers: C, through a static
+//! library.
 #![tactic(auto)]
 
 ghost use Rattle.std.specs.Prelude.{◌≡◌};
@@ -7,13 +8,15 @@ ghost use Rattle.std_alloc.specs.Box.Ownership.{box_owns};
 use std::alloc::Allocator;
 use std::marker::Model;
 
-/// A box taken apart into its pointer and its allocator. It owns what the box owned: the value, and the right to free its block.
+/// A box taken apart into its pointer and its allocator. It owns what the box owned: the value, and
+/// the right to free its block.
 ///
-/// Contracts see the value. Dropping it frees nothing; [`RawBox::into_box`] makes the box again, which does.
+/// Contracts see the value. Dropping a `RawBox` frees nothing. [`RawBox::into_box`] makes the box
+/// again, and dropping that box frees it.
 pub struct RawBox<T, A: Allocator> {
-    /// Where the value lies.
+    /// The pointer to the value.
     pub at: *mut T,
-    /// What the block is given back to.
+    /// The allocator to which the block goes back.
     pub alloc: A,
     /// The value.
     pub ghost value: { T },

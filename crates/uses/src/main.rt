@@ -1,4 +1,5 @@
-//! Stores three references into region 1, refines a full log, and asks at a pause which cards have to be scanned.
+//! Stores three references into region 1, refines a full log, and asks at a pause which cards have
+//! to be scanned.
 #![tactic(auto)]
 
 use anyhow::{Context, Result, bail};

@@ -1,7 +1,7 @@
-//! Mutators and refiners in threads at a book that they share.
+//! Mutators and refinement threads at a book that they share.
 //!
-//! What they share stands under a lock, of which no clause can speak. So `run` is generic in `M`, whose terms are those of
-//! the book, and `S`, and its caller passes `Brand` for both.
+//! The book is under a lock, and no clause can speak of what is under a lock. So `run` is generic
+//! in `M`, whose terms are those of the book, and `S`, and its caller passes `Brand` for both.
 ghost use Rattle.std.specs.Prelude.{◌≡◌, ◌<◌, ◌≤◌, [], true, All, IfOk, nat_lt, vec_len};
 ghost use Rattle.g1_layout.specs.Shape.{slot_count};
 ghost use Rattle.g1_steps.specs.Ask.{ScriptFits, StepFits};
@@ -111,8 +111,8 @@ fn callers_of<'a, R, M: Frame, S: Ledger>(
     Ok(callers)
 }
 
-/// Shares a book of three mutators among them and two refiners, runs each in a thread of its own, and gives the book back once
-/// all have ended.
+/// Shares a book of three mutators among them and two refinement threads, runs each in a thread of
+/// its own, and returns the book once all have ended.
 pub fn run<R: Threads + Wait + Sync, M: Frame + Send + Sync, S: Ledger + Send + Sync>(
     rt: &R,
     alloc: Global,

@@ -1,5 +1,6 @@
-//! Three mutators store references, each in a thread of its own, while two refiners work beside them. Then the book that
-//! they shared says how many stores there were, and which cards have to be scanned for each region.
+//! Three mutators store references, each in a thread of its own, while two refinement threads run
+//! beside them. Then the book that they shared says how many stores there were, and which cards
+//! have to be scanned for each region.
 #![tactic(auto)]
 
 mod crew;

@@ -13,11 +13,12 @@ use g1_layout::{Card, Region, Slot};
 use std::sync::Wait;
 use std::sync::ledger::Ledger;
 
-/// Each call waits for the lock, makes the call of [`Counted`](crate::Counted) for the caller, and hands its answer on. It is
-/// one entry more of that caller, or refused, which leaves the caller as it was. A clause can say no more of what stood
-/// under the lock; who holds the guard (`lock`) makes the same calls with their whole contracts.
+/// Each call waits for the lock, makes the call of what is kept under it for the caller, and
+/// returns its reply. It counts as one call of that caller (over a book, as one entry), or is
+/// refused, which leaves the caller as it was. A clause can say no more of what was under the
+/// lock. The guard (`lock`) makes the same calls with their whole contracts.
 impl<M: Frame, S: Ledger, K: Keeper<M, S>> Shared<M, S, K> {
-    /// As the book's question for what a slot refers to, by this caller under the lock.
+    /// Returns what a slot refers to, by a call under the lock (`Counted::target`).
     pub fn target<R: Wait>(
         &self,
         rt: &R,
@@ -31,7 +32,7 @@ impl<M: Frame, S: Ledger, K: Keeper<M, S>> Shared<M, S, K> {
         self.counted.lock(rt).target(caller, slot)
     }
 
-    /// As the book's question whether a card is pending, by this caller under the lock.
+    /// Returns whether a card is pending, by a call under the lock (`Counted::is_pending`).
     pub fn is_pending<R: Wait>(
         &self,
         rt: &R,
@@ -45,7 +46,8 @@ impl<M: Frame, S: Ledger, K: Keeper<M, S>> Shared<M, S, K> {
         self.counted.lock(rt).is_pending(caller, card)
     }
 
-    /// As the book's question for a remembered set, by this caller under the lock.
+    /// Returns the recorded remembered set of a region, by a call under the lock
+    /// (`Counted::members`).
     pub fn members<R: Wait>(
         &self,
         rt: &R,
@@ -59,7 +61,7 @@ impl<M: Frame, S: Ledger, K: Keeper<M, S>> Shared<M, S, K> {
         self.counted.lock(rt).members(caller, region)
     }
 
-    /// As the book's question for how much is pending and recorded, by this caller under the lock.
+    /// Returns how much is pending and recorded, by a call under the lock (`Counted::status`).
     pub fn status<R: Wait>(&self, rt: &R, caller: &mut Caller<M, S>) -> Result<Status, Refusal>
         ensures ok { OnOk result (caller.new ≡ called_once caller.old) }
         ensures err { OnErr result (caller.new ≡ caller.old) }
@@ -67,7 +69,8 @@ impl<M: Frame, S: Ledger, K: Keeper<M, S>> Shared<M, S, K> {
         self.counted.lock(rt).status(caller)
     }
 
-    /// As the book's drain, by this caller under the lock.
+    /// Drains a region by a call under the lock (`Counted::drain`). No clause says what it lists;
+    /// the guard's drain has that clause.
     pub fn drain<R: Wait>(
         &self,
         rt: &R,
@@ -81,7 +84,7 @@ impl<M: Frame, S: Ledger, K: Keeper<M, S>> Shared<M, S, K> {
         self.counted.lock(rt).drain(caller, region)
     }
 
-    /// As the book's clear, by this caller under the lock.
+    /// Clears the remembered set of a region, by a call under the lock (`Counted::clear`).
     pub fn clear<R: Wait>(
         &self,
         rt: &R,
@@ -95,7 +98,7 @@ impl<M: Frame, S: Ledger, K: Keeper<M, S>> Shared<M, S, K> {
         self.counted.lock(rt).clear(caller, region)
     }
 
-    /// As the book's redirect, by this caller under the lock.
+    /// Redirects a region's references, by a call under the lock (`Counted::redirect`).
     pub fn redirect<R: Wait>(
         &self,
         rt: &R,

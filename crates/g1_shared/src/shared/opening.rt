@@ -1,4 +1,4 @@
-//! How a book is shared, and how it comes back.
+//! How a book is shared, and how it is given back.
 ghost use Rattle.std.specs.Prelude.{◌≡◌, ℕ, ◌+◌, ◌-◌, ◌<◌, ◌≤◌, [], length, count_by, sum_by, slice_index_or, IfOk, IfErr, IfSome, IsSome, vec_len, vec_capacity};
 ghost use Rattle.std.specs.List.{All};
 ghost use Rattle.std.specs.Vec.Iter.{into_iter_items, into_iter_len};
@@ -24,14 +24,15 @@ use std::sync::ledger::{Blank, Ledger, Share};
 use std::vec::IntoIter;
 
 impl<M: Frame, S: Ledger> Shared<M, S, Counted<M, S>> {
-    /// Puts a book without entries under a lock, with a line of completed buffers beside it, and makes its callers
-    /// (docs/PROFILE.md, The history under a lock).
+    /// Puts a book without entries under a lock, with a queue of completed buffers beside it, and
+    /// makes its callers (docs/PROFILE.md, The history under a lock).
     ///
-    /// There are from the book's mutators up to 12 callers, numbered from 0. Caller `k` below the mutators is mutator `k`,
-    /// with an empty log and sender `k`; only these store and flush. Each caller has a taker. The line holds as many
-    /// buffers as the settings' limit. The ledgers are cut into one part a caller.
+    /// There are at least as many callers as the book has mutators, and at most 12, numbered from
+    /// 0. Caller `k` below the mutators is mutator `k`, with an empty log and sender `k`; only
+    /// these store and flush. Each caller has a taker. The queue holds as many buffers as the
+    /// settings' limit. The ledgers are cut into one part for each caller.
     ///
-    /// Where a growth was refused the book comes back as it was; the ledgers are given up.
+    /// If a growth was refused, the book is returned as it was, and the ledgers are given up.
     pub fn open(
         made: Blank,
         stored: Blank,
@@ -72,10 +73,12 @@ impl<M: Frame, S: Ledger> Shared<M, S, Counted<M, S>> {
         Ok((shared, all))
     }
 
-    /// Ends the sharing: the book comes back, once all callers are handed in (docs/PROFILE.md, The history under a lock).
+    /// Ends the sharing and returns the book, once all callers are handed in (docs/PROFILE.md, The
+    /// history under a lock).
     ///
-    /// Its entries are as many as its callers have made, and the stores among them as many as they have stored. What is
-    /// left in logs and line is given up: the cards stay pending by their marks. No memory.
+    /// The book has as many entries as its callers have made, and as many stores among them as they
+    /// have stored. What is left in logs and queue is given up: the cards stay pending by their
+    /// marks. No memory is taken.
     pub fn finish(self, callers: Vec<Caller<M, S>>) -> Book
         requires some { 0 < vec_len callers }
         requires made { vec_len callers ≡ M.parts }
@@ -117,8 +120,8 @@ impl<M: Frame, S: Ledger, K: Keeper<M, S>> Shared<M, S, K> {
     }
 }
 
-/// The callers, each with a part of both shares and a taker, and those below the mutators with the mutator of their
-/// number.
+/// The callers, each with a part of both shares and a taker, and those below the mutators with the
+/// mutator of their number.
 fn callers_of<M: Frame, S: Ledger>(
     line: &Line,
     config: &Config,

@@ -25,9 +25,10 @@ use std::sync::ledger::Ledger;
 impl<M: Frame, S: Ledger, K: Keeper<M, S>> Shared<M, S, K> {
     /// Stores a reference, or null, as a mutator does (`Mutator::store`), by a call under the lock.
     ///
-    /// Once the lock is left, a log that was filled goes into the line; where the line does not take it, the caller
-    /// refines it by one more call. A filtered store costs the lock and its entry. `Err` where the store itself was
-    /// refused, which leaves the caller as it was.
+    /// A log that was filled goes into the queue of completed buffers once the lock is left. If the
+    /// queue hands the buffer back, the caller refines it by one more call. A filtered store costs
+    /// the lock and its entry. Returns `Err` if the store itself was refused, which leaves the
+    /// caller as it was.
     pub fn store<R: Wait>(
         &self,
         rt: &R,
@@ -61,8 +62,8 @@ impl<M: Frame, S: Ledger, K: Keeper<M, S>> Shared<M, S, K> {
         mutator.store(rt, &self.line, &mut calls, slot, target)
     }
 
-    /// Empties the caller's log, as a mutator does (`Mutator::flush`). It takes no lock unless it helps, and is never
-    /// refused.
+    /// Empties the caller's log, as a mutator does (`Mutator::flush`). It takes no lock unless it
+    /// helps, and is never refused.
     pub fn flush<R: Wait>(&self, rt: &R, caller: &mut Caller<M, S>) -> FlushReply
         requires mutator { caller.old.counts.number < M.terms.mutators }
         requires mine { IsCallerOf self.now caller.old }
@@ -87,10 +88,10 @@ impl<M: Frame, S: Ledger, K: Keeper<M, S>> Shared<M, S, K> {
         mutator.flush(rt, &self.line, &mut calls)
     }
 
-    /// Takes the oldest completed buffer and refines it by a call under the lock, or makes the call with none where the
-    /// line gave none (`refine`).
+    /// Takes the oldest completed buffer and refines it by a call under the lock (`refine`). If the
+    /// queue was empty, the call refines nothing.
     ///
-    /// Where the call is refused a buffer that was taken is given up, and its cards stay pending.
+    /// If the call is refused, a buffer that was taken is given up, and its cards stay pending.
     pub fn refine<R: Wait>(&self, rt: &R, caller: &mut Caller<M, S>) -> Result<RefineReply, Refusal>
         requires mine { IsCallerOf self.now caller.old }
         ensures mark { mark_of caller.new ≡ mark_of caller.old }
@@ -112,10 +113,10 @@ impl<M: Frame, S: Ledger, K: Keeper<M, S>> Shared<M, S, K> {
         refine(rt, &self.line, &mut caller.taker, &mut calls)
     }
 
-    /// A round of refinement (`work`), each of its calls under the lock by itself.
+    /// Makes a round of refinement (`work`), each of its calls under the lock by itself.
     ///
-    /// A refusal at the first take or call is the answer. At a later one, or after a short call, the round ends with
-    /// `short` true.
+    /// A refusal at the first take or call is returned. At a later one, or after a short call, the
+    /// round ends with `short` true.
     pub fn work<R: Wait>(&self, rt: &R, caller: &mut Caller<M, S>) -> Result<RefineReply, Refusal>
         requires mine { IsCallerOf self.now caller.old }
         ensures mark { mark_of caller.new ≡ mark_of caller.old }
@@ -157,10 +158,11 @@ impl<M: Frame, S: Ledger, K: Keeper<M, S>> Shared<M, S, K> {
         Ok(reply)
     }
 
-    /// What a pause does once the mutators stand still: it empties the logs of the callers that are lent, and the line by
-    /// the taker of the first (`empty_line`). It makes no call, so the cards stay pending and a drain finds each of them.
+    /// Makes a pause, once the mutators are stopped. It empties the logs of the given callers, and
+    /// the queue by the taker of the first (`empty_line`). It makes no call, so the cards stay
+    /// pending and a drain finds each of them.
     ///
-    /// Lent no caller it does nothing. It takes no lock and no memory.
+    /// With no callers it does nothing. It takes no lock and no memory.
     pub fn pause<R: Wait>(&self, rt: &R, callers: &mut [Caller<M, S>])
         requires mine { All (IsCallerOf self.now) callers.old }
         ensures paused { (k : ℕ) (d : Standing) → k < length callers.old
@@ -175,7 +177,7 @@ impl<M: Frame, S: Ledger, K: Keeper<M, S>> Shared<M, S, K> {
         }
     }
 
-    /// Empties the caller's log and, where it takes, the line.
+    /// Empties the caller's log and, if it takes, the queue.
     fn pause_one<R: Wait>(&self, rt: &R, caller: &mut Caller<M, S>, takes: bool)
         requires mine { IsCallerOf self.now caller.old }
         ensures paused { IsPaused caller.old caller.new }

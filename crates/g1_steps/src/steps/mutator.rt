@@ -1,4 +1,5 @@
-//! What a mutator does: stores, whose filled log goes into the line, and flushes.
+//! What a mutator does: stores, whose filled log goes into the queue of completed buffers, and
+//! flushes.
 ghost use Rattle.std.specs.Prelude.{◌≡◌, ◌≢◌, ◌<◌, ◌↔◌, ◌∷◌, ◌++◌, [], true, length, IfOk, IfSome, IfErr, OnErr, IsNone};
 ghost use Rattle.g1_layout.specs.Shape.{slot_count, card_of};
 ghost use Rattle.g1_log.specs.Ends.{IsSenderOf, put_of, IsSameSender};
@@ -14,27 +15,28 @@ use g1_log::{Buffer, Line, Log, Sender};
 use std::alloc::Global;
 use std::sync::Wait;
 
-/// What a flush answers.
+/// The reply of a flush.
 #[derive(Debug, Drop)]
 pub struct FlushReply {
     /// How many cards left the log.
     pub cards: u32,
-    /// What became of them: `No` where there was none, `Full` where the line took them, `Helped` where it did not.
+    /// What became of the cards: `No` if there were none, `Full` if the queue took them, `Helped`
+    /// if it did not.
     pub fill: Fill,
     /// The cards that the help refined, in order.
     pub refined: CardList,
-    /// Whether the help was refused, or a growth in its middle.
+    /// Whether the help was refused, or a growth in the middle of it.
     pub short: bool,
 }
 
-/// A mutator: its dirty card queue, and its end of the line of completed buffers.
+/// A mutator: its dirty card queue, and its end of the queue of completed buffers.
 ///
-/// What makes its calls, and the line, are lent at each step. The sender has to be one of that line's.
+/// Each step borrows that queue and what makes the calls. The sender has to be one of that queue's.
 #[derive(Drop)]
 pub struct Mutator {
-    /// The cards that it has logged and not yet handed out.
+    /// The cards that the mutator has logged and not yet handed out.
     pub log: Log,
-    /// Its end of the line.
+    /// The mutator's end of the queue.
     pub sender: Sender,
 }
 
@@ -43,13 +45,15 @@ impl Mutator {
 
     /// Stores a reference, or null (docs/PROFILE.md, The steps of a caller).
     ///
-    /// A log that it fills is put into the line: `fill` is `Full`. Where the line does not take it the mutator helps: it
-    /// refines that buffer by one more call, and `fill` is `Helped`, `refined` the cards that the help refined. Otherwise
+    /// A log that the store fills is put into the queue of completed buffers: `fill` is `Full`. If
+    /// the queue hands the buffer back, the mutator helps: it refines that buffer by one more call.
+    /// Then `fill` is `Helped`, and `refined` lists the cards that the help refined. Otherwise
     /// `fill` is `No`, and the reply is that of the one call.
     ///
-    /// The store stands whatever becomes of the buffer: a help that is refused makes the reply short, and the cards stay
-    /// pending. `Err` where the store itself was refused; calls, log and sender are then as they were. A store that fills
-    /// no log is one call and no step of the line.
+    /// The store is made whatever becomes of the buffer. A help that is refused makes the reply
+    /// short, and the cards stay pending. Returns `Err` if the store itself was refused; calls, log
+    /// and sender are then as they were. A store that fills no log is one call, and doesn't touch
+    /// the queue.
     pub fn store<C: Calls, R: Wait>(
         &mut self,
         rt: &R,
@@ -79,7 +83,8 @@ impl Mutator {
         self.store_last(rt, line, calls, slot, target)
     }
 
-    // A store that may fill the log, on its own so that one that cannot makes no place for a buffer.
+    // A store that may fill the log. It is apart, so that one that cannot makes no place for a
+    // buffer.
     #[inline(never)]
     fn store_last<C: Calls, R: Wait>(
         &mut self,
@@ -116,11 +121,11 @@ impl Mutator {
         })
     }
 
-    /// Empties the mutator's log: its cards, where it has any, become a completed buffer and go the way of a filled log
-    /// (docs/PROFILE.md, The steps of a caller).
+    /// Empties the mutator's log. If it has cards, they become a completed buffer and go the way of
+    /// a filled log (docs/PROFILE.md, The steps of a caller).
     ///
-    /// `cards` is how many cards left the log. It is never refused, and makes a call only where it helps. A help that is
-    /// refused makes the reply short, and the cards stay pending.
+    /// `cards` is how many cards left the log. A flush is never refused, and makes a call only if
+    /// it helps. A help that is refused makes the reply short, and the cards stay pending.
     pub fn flush<C: Calls, R: Wait>(&mut self, rt: &R, line: &Line, calls: &mut C) -> FlushReply
         requires line { IsSenderOf line.now self.old.sender }
         ensures flushed { IsFlushed C.did calls.old self.old.log.cards result calls.new }
@@ -151,7 +156,8 @@ impl Mutator {
     }
 }
 
-/// What became of a buffer that left its log: `Full` where the line took it, `Helped` where its mutator refined it.
+/// What became of a buffer that left its log: `Full` if the queue took it, `Helped` if its mutator
+/// refined it.
 #[derive(Drop)]
 struct Passed {
     fill: Fill,
@@ -159,7 +165,7 @@ struct Passed {
     short: bool,
 }
 
-/// Puts a buffer into the line, and refines it where the line does not take it.
+/// Puts a buffer into the queue, and refines it if the queue hands it back.
 fn pass_on<C: Calls, R: Wait>(
     rt: &R,
     line: &Line,
@@ -195,7 +201,7 @@ fn pass_on<C: Calls, R: Wait>(
     }
 }
 
-/// The answer of a flush of an empty log.
+/// The reply of a flush of an empty log.
 fn nothing_flushed(alloc: Global) -> FlushReply
     ensures { result ≡ nothing_flushed }
 {

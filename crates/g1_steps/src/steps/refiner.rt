@@ -1,4 +1,5 @@
-//! What a refiner does: it takes completed buffers from the line and refines them, one or a round of them.
+//! What a refinement thread does: it takes completed buffers from the queue and refines them, one
+//! or a round of them.
 ghost use Rattle.std.specs.Prelude.{◌≡◌, ◌<◌, ◌≤◌, ◌+◌, ◌^◌, ◌*◌, ◌++◌, ◌∷◌, ℕ, [], true, false, length, vec_len, vec_capacity, IfOk, IfErr, OnErr};
 ghost use Rattle.g1_log.specs.declared.parcel.Parcel.{Parcel as P};
 ghost use Rattle.g1_log.specs.Ends.{IsTakerOf, IsSameTaker, taken_of, capacity_of};
@@ -14,7 +15,7 @@ use g1_log::{Line, Taker};
 use std::alloc::Global;
 use std::sync::Wait;
 
-/// How many buffers the line holds, as it was seen at some moment of the call.
+/// How many buffers the queue holds, as it was seen at some moment of the call.
 pub(crate) fn completed<R: Wait>(rt: &R, line: &Line) -> u32
     ensures within { result ≤ capacity_of line.now }
     ensures few { result ≤ 1024 }
@@ -22,11 +23,11 @@ pub(crate) fn completed<R: Wait>(rt: &R, line: &Line) -> u32
     line.len(rt) as u32
 }
 
-/// Takes the oldest completed buffer from the line and refines it, as one call; where the line gave none, the call
-/// refines nothing (docs/PROFILE.md, The steps of a caller).
+/// Takes the oldest completed buffer from the queue and refines it, as one call. If the queue was
+/// empty, the call refines nothing (docs/PROFILE.md, The steps of a caller).
 ///
-/// `left` is how many buffers the line had at some moment after the take. Where the call is refused a buffer that was taken is given up,
-/// and its cards stay pending.
+/// `left` is how many buffers the queue held at some moment after the take. If the call is refused,
+/// a buffer that was taken is given up, and its cards stay pending.
 #[tactic(auto, using(crate::proofs::StepLemmas::gains_nothing, crate::proofs::StepLemmas::gains_single))]
 pub fn refine<C: Calls, R: Wait>(
     rt: &R,
@@ -52,7 +53,8 @@ pub fn refine<C: Calls, R: Wait>(
     Ok(reply)
 }
 
-// The same with a take. It is a call of its own, since its place for a parcel is filled with zeros first.
+// The same with a take. It is a call of its own, since its place for a parcel is filled with zeros
+// first.
 #[inline(never)]
 #[tactic(auto, using(crate::proofs::StepLemmas::gains_nothing, crate::proofs::StepLemmas::gains_single))]
 fn refine_oldest<C: Calls, R: Wait>(
@@ -80,16 +82,16 @@ fn refine_oldest<C: Calls, R: Wait>(
     Ok(reply)
 }
 
-/// A round of refinement: where the line has `n` completed buffers and `n` is at least the start threshold, it takes
-/// and refines the oldest until a quarter of the threshold, rounded down, is left, each by a call of its own
-/// (docs/PROFILE.md, The steps of a caller).
+/// Makes a round of refinement. If the queue has `n` completed buffers and `n` is at least the
+/// threshold `start`, it takes and refines the oldest until a quarter of the threshold, rounded
+/// down, is left, each by a call of its own (docs/PROFILE.md, The steps of a caller).
 ///
-/// It ends early, without a further call, where the line is empty. A refusal at the first take or call is the answer. At
-/// a later one, or after a short call, the round ends with `short` true. Room for 256 more cards is asked before each
-/// take, and a refusal of it is no call.
+/// The round ends early, without a further call, if the queue is empty. A refusal at the first take
+/// or call is returned. At a later one, or after a short call, the round ends with `short` true.
+/// Room for 256 more cards is asked for before each take, and a refusal of it is no call.
 ///
-/// The reply has the sums of its calls and their lists joined. `left` is the line's length that was seen last: after the
-/// take of the last call that was made, or at the beginning where none was.
+/// The reply has the sums of the calls and their lists joined. `left` is the queue's length that
+/// was seen last: after the take of the last call that was made, or at the beginning if none was.
 pub fn work<C: Calls, R: Wait>(
     rt: &R,
     line: &Line,
@@ -118,8 +120,8 @@ pub fn work<C: Calls, R: Wait>(
     })
 }
 
-/// Makes `count` calls of a round that has seen `seen` completed buffers, or fewer where the line is empty, one is short, or
-/// one is refused.
+/// Makes `count` calls of a round that has seen `seen` completed buffers, or fewer if the queue is
+/// empty, a call is short, or one is refused.
 #[tactic(auto, using(crate::proofs::RoundLemmas::round_begins))]
 fn run_round<C: Calls, R: Wait>(
     rt: &R,
@@ -156,8 +158,9 @@ fn run_round<C: Calls, R: Wait>(
     Ok(sums)
 }
 
-/// One more call of a round. Answers whether the round goes on: it does not where the line was empty or the call was
-/// short. Room for the cards comes first, so that a buffer is taken only where they have a place.
+/// Makes one more call of a round. Returns whether the round goes on: it does not if the queue was
+/// empty or the call was short. Room for the cards comes first, so that a buffer is taken only if
+/// they have a place.
 #[tactic(auto, using(crate::proofs::StepLemmas::gains_nothing, crate::proofs::StepLemmas::gains_single))]
 fn next_of_round<C: Calls, R: Wait>(
     rt: &R,
@@ -193,7 +196,7 @@ struct Sums {
     refined: Vec<Card>,
     hot: u32,
     skipped: u32,
-    // The line's length that was seen last.
+    // The queue's length that was seen last.
     left: u32,
     short: bool,
 }
@@ -204,7 +207,7 @@ const MOST_CARDS: usize = 256;
 impl Sums {
     ghost use Rattle.g1_steps.specs.Rounds.{so_far, added};
 
-    /// No call yet, and `left` buffers seen in the line.
+    /// No call yet, and `left` buffers seen in the queue.
     fn new(alloc: Global, left: u32) -> Sums
         ensures numbers { (result.taken ≡ 0) × (result.hot ≡ 0) × (result.skipped ≡ 0) }
         ensures refined { result.refined.items ≡ [] }
@@ -221,7 +224,8 @@ impl Sums {
         }
     }
 
-    /// Adds what a call answered, in room that was made for it, and how many buffers the line had after its take.
+    /// Adds the reply of a call, in room that was made for it, and how many buffers the queue had
+    /// after its take.
     fn add(&mut self, reply: &RefineReply, left: u32)
         requires few { (self.old.taken < 2 ^ 20) × (self.old.hot < 2 ^ 20) × (self.old.skipped < 2 ^ 20) }
         requires counts { (reply.now.taken ≤ 1) × (length reply.now.refined + reply.now.skipped ≤ 256) × (reply.now.hot ≤ 256) }
@@ -240,7 +244,7 @@ impl Sums {
     }
 }
 
-/// How many calls a round makes at most, where it begins at `start` completed buffers and sees `seen`.
+/// How many calls a round makes at most, if it begins at `start` completed buffers and sees `seen`.
 fn round_size(start: usize, seen: u32) -> u32
     ensures size { result ≡ round_size start seen }
     ensures within { result ≤ seen }

@@ -1,4 +1,5 @@
-//! What a pause does once the mutators stand still: it empties their logs and the line.
+//! What a pause does once the mutators are stopped: it empties their logs and the queue of
+//! completed buffers.
 ghost use Rattle.std.specs.Prelude.{◌≡◌, ℕ, ◌<◌, ◌++◌, ◌∷◌, [], length, slice_index_or, MatchOption};
 ghost use Rattle.g1_log.specs.Ends.{IsTakerOf, IsSameTaker, taken_of, capacity_of, WasEmpty};
 ghost use Rattle.g1_steps.specs.Steps.{Empties, IsStopped};
@@ -8,8 +9,9 @@ use crate::steps::Mutator;
 use g1_log::{Line, Parcel, Taker};
 use std::sync::Wait;
 
-/// Empties the logs of mutators that stand still, and the line by this taker (`empty_line`). It makes no call, so the cards
-/// stay pending and a drain finds each of them (docs/PROFILE.md, The steps of a caller).
+/// Empties the logs of mutators that are stopped, and the queue by this taker (`empty_line`). It
+/// makes no call, so the cards stay pending and a drain finds each of them (docs/PROFILE.md, The
+/// steps of a caller).
 pub fn stand_still<R: Wait>(rt: &R, line: &Line, taker: &mut Taker, mutators: &mut [Mutator])
     requires taker { IsTakerOf line.now taker.old }
     ensures stopped { (k : ℕ) (d : M) → k < length mutators.old
@@ -23,10 +25,10 @@ pub fn stand_still<R: Wait>(rt: &R, line: &Line, taker: &mut Taker, mutators: &m
     empty_line(rt, line, taker);
 }
 
-/// Takes buffers from the line until it is seen empty, at most as many as it holds, and gives them up. It makes no call,
-/// so the cards stay pending.
+/// Takes buffers from the queue until it is seen empty, at most as many as it holds, and gives them
+/// up. It makes no call, so the cards stay pending.
 ///
-/// Where nobody puts meanwhile, the line is empty then.
+/// If nothing is put meanwhile, the queue is then empty.
 #[tactic(auto, using(crate::proofs::StepLemmas::gains_no_more, crate::proofs::StepLemmas::gains_one_more, crate::proofs::StepLemmas::empties_full, crate::proofs::StepLemmas::empties_found))]
 pub fn empty_line<R: Wait>(rt: &R, line: &Line, taker: &mut Taker)
     requires taker { IsTakerOf line.now taker.old }

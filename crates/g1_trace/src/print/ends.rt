@@ -8,7 +8,7 @@ use crate::output::{WriteFailed, put, put_between};
 use std::io::Write;
 
 impl TraceFault {
-    /// The text of the fault, as its line has it.
+    /// Returns the text of the fault, as its line has it.
     pub fn text(self) -> &'static str
         ensures { result.now ≡ fault_text self }
     {

@@ -7,8 +7,8 @@ use crate::output::{WriteFailed, put, put_between};
 use g1_core::ClearReply;
 use std::io::Write;
 
-/// Writes the line of a clear: `cleared`, or why it was refused, with the number of pending cards or the first slot that
-/// still refers into the region.
+/// Writes the line of a clear: `cleared`, or why it was refused, with the number of pending cards
+/// or the first slot that still refers into the region.
 pub fn put_clear_reply<W: Write>(output: &mut W, reply: ClearReply) -> Result<(), WriteFailed>
     ensures { Puts (W.contents output.old) (W.contents output.new) result (clear_text reply) }
 {

@@ -1,4 +1,4 @@
-//! The lines of the questions that are answered with numbers.
+//! The lines of the questions whose replies are numbers.
 ghost use Rattle.g1_trace.specs.Bytes.{Puts};
 ghost use Rattle.g1_trace.specs.Text.{target_text, status_text, counted};
 ghost use Rattle.std.specs.Prelude.{codes, ◌++◌};

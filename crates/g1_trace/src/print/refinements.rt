@@ -7,8 +7,8 @@ use crate::output::{WriteFailed, counted_before, ending_at_end, put};
 use g1_core::RefineReply;
 use std::io::Write;
 
-/// Writes the line of one refinement: `idle` where no buffer was taken, else how many cards were refined, found hot and
-/// skipped; ` short` at its end where the reply is short.
+/// Writes the line of one refinement: `idle` if no buffer was taken, else how many cards were
+/// refined, found hot and skipped. It ends with ` short` if the reply is short.
 pub fn put_refine_reply<W: Write>(output: &mut W, reply: &RefineReply) -> Result<(), WriteFailed>
     ensures { Puts (W.contents output.old) (W.contents output.new) result (refine_text reply.now) }
 {
@@ -29,8 +29,9 @@ fn put_refined<W: Write>(output: &mut W, reply: &RefineReply) -> Result<(), Writ
     put(output, &line[start..])
 }
 
-/// Writes the line of a round: how many buffers were taken, how many cards were refined, found hot and skipped, and how
-/// many completed buffers are left; ` short` at its end where the reply is short.
+/// Writes the line of a round: how many buffers were taken, how many cards were refined, found hot
+/// and skipped, and how many completed buffers are left. It ends with ` short` if the reply is
+/// short.
 pub fn put_work_reply<W: Write>(output: &mut W, reply: &RefineReply) -> Result<(), WriteFailed>
     ensures { Puts (W.contents output.old) (W.contents output.new) result (work_text reply.now) }
 {
@@ -42,7 +43,8 @@ pub fn put_work_reply<W: Write>(output: &mut W, reply: &RefineReply) -> Result<(
     put(output, &line[start..])
 }
 
-// Copies what became of the cards in front of what stands in the block from `start` on; the first number stands behind `words`.
+// Copies what became of the cards in front of what the block has from `start` on. The first number
+// is behind `words`.
 fn turns_before(block: &mut [u8], start: usize, words: &[u8], reply: &RefineReply) -> usize
     requires room { length words.now + 74 ≤ start }
     requires within { start ≤ length block.old }

@@ -8,8 +8,8 @@ use g1_core::{CardList, Fill, StoreReply};
 use g1_layout::Kind;
 use std::io::Write;
 
-/// Writes the line of a store: `null`, `same region`, `dirty`, `logged`, `logged full`, or `logged helped` with the number
-/// of refined cards; ` short` at its end where the reply is short.
+/// Writes the line of a store: `null`, `same region`, `dirty`, `logged`, `logged full`, or
+/// `logged helped` with the number of refined cards. It ends with ` short` if the reply is short.
 pub fn put_store_reply<W: Write>(output: &mut W, reply: &StoreReply) -> Result<(), WriteFailed>
     ensures { Puts (W.contents output.old) (W.contents output.new) result (store_text reply.now) }
 {
@@ -42,8 +42,9 @@ fn put_logged<W: Write>(output: &mut W, reply: &StoreReply) -> Result<(), WriteF
     }
 }
 
-/// Writes the line of a flush: `flushed` with the number of cards that left the log, `helped` with the number of refined
-/// cards where the mutator helped; ` short` at its end where the reply is short.
+/// Writes the line of a flush: `flushed` with the number of cards that left the log, or `helped`
+/// with the number of refined cards if the mutator helped. It ends with ` short` if the reply is
+/// short.
 pub fn put_flushed<W: Write>(
     output: &mut W,
     cards: u32,
