@@ -14,13 +14,14 @@ use g1_layout::{Card, Region, Slot};
 use g1_log::{Buffer, Log};
 use std::sync::ledger::Ledger;
 
-/// What a [`Shared`](crate::Shared) keeps under its lock: it makes the calls of the callers, and counts each call that it
-/// makes in the caller's counts.
+/// What a [`Shared`](crate::Shared) keeps under its lock: it makes the calls of the callers, and
+/// counts each call that it makes in the caller's counts.
 ///
-/// [`Counted`] keeps the history of its calls. The clauses say what every keeper tells of a call;
-/// who holds the guard (`lock`) makes the same calls with the whole contracts of what is kept.
+/// [`Counted`] keeps the history of its calls, [`CountedCore`](crate::CountedCore) their totals
+/// alone. The clauses here hold of both; by the guard (`lock`) the same calls have more.
 pub trait Keeper<M: Frame, S: Ledger>: Drop {
-    /// Stores by these counts' caller, with a lent log. A refusal leaves log and counts as they were.
+    /// Stores by these counts' caller, with a lent log. A refusal leaves log and counts as they
+    /// were.
     fn store_by(
         &mut self,
         counts: &mut Counts<M, S>,
@@ -38,7 +39,8 @@ pub trait Keeper<M: Frame, S: Ledger>: Drop {
         ensures counts { OnOk result (counts.new ≡ one_store counts.old) }
         ensures err { OnErr result ((counts.new ≡ counts.old) × (log.new ≡ log.old)) };
 
-    /// Stores as `store_by` does, with a log that has room for more than one card: no buffer is handed out.
+    /// Stores as `store_by` does, with a log that has room for more than one card: no buffer is
+    /// handed out.
     fn store_with_room_by(
         &mut self,
         counts: &mut Counts<M, S>,
@@ -67,25 +69,25 @@ pub trait Keeper<M: Frame, S: Ledger>: Drop {
         ensures counts { OnOk result (counts.new ≡ one_call counts.old) }
         ensures err { OnErr result (counts.new ≡ counts.old) };
 
-    /// The place that a slot refers to.
+    /// Returns the place that a slot refers to.
     fn target(&mut self, caller: &mut Caller<M, S>, slot: Slot) -> Result<Option<Slot>, Refusal>
         requires { slot < slot_count M.terms.layout }
         ensures ok { OnOk result (caller.new ≡ called_once caller.old) }
         ensures err { OnErr result (caller.new ≡ caller.old) };
 
-    /// Whether a card is pending.
+    /// Returns whether a card is pending.
     fn is_pending(&mut self, caller: &mut Caller<M, S>, card: Card) -> Result<bool, Refusal>
         requires { card < card_count M.terms.layout }
         ensures ok { OnOk result (caller.new ≡ called_once caller.old) }
         ensures err { OnErr result (caller.new ≡ caller.old) };
 
-    /// The remembered set of a region as it is recorded.
+    /// Returns the remembered set of a region as it is recorded.
     fn members(&mut self, caller: &mut Caller<M, S>, region: Region) -> Result<CardList, Refusal>
         requires { region < M.terms.layout.regions }
         ensures ok { OnOk result (caller.new ≡ called_once caller.old) }
         ensures err { OnErr result (caller.new ≡ caller.old) };
 
-    /// How many cards are pending and how many pairs are recorded.
+    /// Returns how many cards are pending and how many pairs are recorded.
     fn status(&mut self, caller: &mut Caller<M, S>) -> Result<Status, Refusal>
         ensures ok { OnOk result (caller.new ≡ called_once caller.old) }
         ensures err { OnErr result (caller.new ≡ caller.old) };

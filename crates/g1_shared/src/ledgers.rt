@@ -26,7 +26,7 @@ impl Frame for Brand {
 pub(crate) fn raise<L: Ledger>(total: &mut Book<L>, share: &mut Share<L>, count: &mut u64)
     requires part { share.old.parts ≡ 1 }
     requires same { share.old.amount ≡ count.old }
-    requires fits { total.old.total < 2 ^ 32 }
+    requires fits { total.old.total + 1 < 2 ^ 64 }
     ensures total { total.new.total ≡ total.old.total + 1 }
     ensures amount { share.new.amount ≡ count.new }
     ensures parts { share.new.parts ≡ 1 }

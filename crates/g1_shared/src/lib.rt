@@ -12,15 +12,19 @@
 
 mod caller;
 mod counted;
+mod counted_core;
 mod keeper;
 mod ledgers;
 mod locked_book;
 mod shared;
 mod shared_desk;
+mod totals;
 
 pub use caller::Caller;
 pub use counted::Counted;
+pub use counted_core::CountedCore;
 pub use keeper::Keeper;
 pub use ledgers::Frame;
 pub use shared::Shared;
 pub use shared_desk::SharedDesk;
+pub use totals::Totals;

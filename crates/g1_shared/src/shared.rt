@@ -6,6 +6,7 @@
 ghost use Rattle.std.specs.Prelude.{◌≡◌};
 
 mod calls;
+mod core_opening;
 mod opening;
 mod steps;
 

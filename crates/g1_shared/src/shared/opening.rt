@@ -94,7 +94,7 @@ impl<M: Frame, S: Ledger> Shared<M, S, Counted<M, S>> {
 
 impl<M: Frame, S: Ledger, K: Keeper<M, S>> Shared<M, S, K> {
     /// What was kept under the lock, and all callers' shares, merged.
-    fn give_up(self, callers: Vec<Caller<M, S>>) -> (K, Share<M>, Share<S>)
+    pub(crate) fn give_up(self, callers: Vec<Caller<M, S>>) -> (K, Share<M>, Share<S>)
         requires some { 0 < vec_len callers }
         requires made { vec_len callers ≡ M.parts }
         requires stored { vec_len callers ≡ S.parts }
@@ -122,7 +122,7 @@ impl<M: Frame, S: Ledger, K: Keeper<M, S>> Shared<M, S, K> {
 
 /// The callers, each with a part of both shares and a taker, and those below the mutators with the
 /// mutator of their number.
-fn callers_of<M: Frame, S: Ledger>(
+pub(crate) fn callers_of<M: Frame, S: Ledger>(
     line: &Line,
     config: &Config,
     count: u32,
