@@ -1,8 +1,8 @@
-//! A book that threads share, with the queue of completed buffers beside its lock.
+//! A book or core that threads share, with the queue of completed buffers beside its lock.
 //!
-//! From a thread of its own, each caller makes the steps of a caller over the locked book
+//! From a thread of its own, each caller makes the steps of a caller over what is locked
 //! ([`steps`]) and asks it questions ([`calls`]). [`opening`] says how a book is shared, and how it
-//! is given back.
+//! is given back, [`core_opening`] the same of a core.
 ghost use Rattle.std.specs.Prelude.{◌≡◌};
 
 mod calls;
@@ -11,6 +11,7 @@ mod opening;
 mod steps;
 
 use crate::counted::Counted;
+use crate::counted_core::CountedCore;
 use crate::keeper::Keeper;
 use crate::ledgers::Frame;
 use g1_log::Line;
@@ -19,8 +20,8 @@ use std::marker::{Model, PhantomData};
 use std::sync::ledger::Ledger;
 use std::sync::{Mutex, MutexGuard, Wait};
 
-/// A counted book under a lock, and the queue of completed buffers beside it (docs/PROFILE.md, The
-/// history under a lock).
+/// A counted book under a lock, or what else is a [`Keeper`], and the queue of completed buffers
+/// beside it (docs/PROFILE.md, The history under a lock).
 ///
 /// Every call takes the shared book by `&` and a caller by `&mut`, so the callers run concurrently,
 /// each in a thread of its own. The lock is held for one call of the book at a time, and never
@@ -33,6 +34,10 @@ pub struct Shared<M: Frame, S: Ledger, K: Keeper<M, S> = Counted<M, S>> {
     start: usize,
     of: PhantomData<(M, S)>,
 }
+
+/// A core with the totals of its calls under a lock, without a history, and the queue beside it
+/// (docs/THREADS.md, A lock without a history).
+pub type SharedCore<M, S> = Shared<M, S, CountedCore<M, S>>;
 
 impl<M: Frame, S: Ledger, K: Keeper<M, S>> Model for Shared<M, S, K> {
     ghost use Rattle.std.specs.Prelude.{◌≡◌};

@@ -8,8 +8,8 @@ use crate::caller::Caller;
 use crate::counted_core::CountedCore;
 use crate::keeper::Keeper;
 use crate::ledgers::Frame;
-use crate::shared::Shared;
 use crate::shared::opening::callers_of;
+use crate::shared::{Shared, SharedCore};
 use crate::totals::{Counters, Totals};
 use g1_core::Core;
 use g1_layout::NoMemory;
@@ -19,7 +19,7 @@ use std::marker::PhantomData;
 use std::sync::ledger::{Blank, Ledger};
 use std::sync::{Mutex, MutexGuard, Wait};
 
-impl<M: Frame, S: Ledger> Shared<M, S, CountedCore<M, S>> {
+impl<M: Frame, S: Ledger> SharedCore<M, S> {
     ghost use Rattle.std.specs.Sync.Mutex.{mutex_guard_value};
     ghost use Rattle.g1_core.specs.Table.{IsCovered};
     ghost use Rattle.g1_core.specs.Machine.{IsSound};
@@ -40,7 +40,7 @@ impl<M: Frame, S: Ledger> Shared<M, S, CountedCore<M, S>> {
         mutators: u32,
         limit: Option<u64>,
         callers: u32,
-    ) -> Result<(Shared<M, S, CountedCore<M, S>>, Vec<Caller<M, S>>), (Core, NoMemory)>
+    ) -> Result<(SharedCore<M, S>, Vec<Caller<M, S>>), (Core, NoMemory)>
         requires made { (made.name ≡ M.name) × (made.parts ≡ M.parts) × (made.parts ≡ callers) }
         requires stored { (stored.name ≡ S.name) × (stored.parts ≡ S.parts) × (stored.parts ≡ callers) }
         requires terms { core_terms core mutators limit ≡ M.terms }

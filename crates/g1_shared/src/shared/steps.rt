@@ -12,7 +12,7 @@ ghost use Rattle.g1_shared.specs.Callers.{Standing, mark_of, IsCallerOf, log_of,
 use crate::caller::{Caller, Counts};
 use crate::keeper::Keeper;
 use crate::ledgers::Frame;
-use crate::locked_book::LockedBook;
+use crate::locked_calls::LockedCalls;
 use crate::shared::Shared;
 use g1_book::Refusal;
 use g1_core::{Fill, RefineReply, StoreReply};
@@ -53,9 +53,9 @@ impl<M: Frame, S: Ledger, K: Keeper<M, S>> Shared<M, S, K> {
         let Some(mutator) = &mut caller.mutator else {
             unreachable!()
         };
-        let mut calls = LockedBook {
+        let mut calls = LockedCalls {
             rt,
-            book: &self.counted,
+            counted: &self.counted,
             counts: &mut caller.counts,
             alloc: self.alloc,
         };
@@ -79,9 +79,9 @@ impl<M: Frame, S: Ledger, K: Keeper<M, S>> Shared<M, S, K> {
         let Some(mutator) = &mut caller.mutator else {
             unreachable!()
         };
-        let mut calls = LockedBook {
+        let mut calls = LockedCalls {
             rt,
-            book: &self.counted,
+            counted: &self.counted,
             counts: &mut caller.counts,
             alloc: self.alloc,
         };
@@ -104,9 +104,9 @@ impl<M: Frame, S: Ledger, K: Keeper<M, S>> Shared<M, S, K> {
         ensures refined { IfOk result (λ reply. RefinesAt caller.old reply caller.new) }
         ensures gained { GainsAtMost (taken_list caller.old) 1 (taken_list caller.new) }
     {
-        let mut calls = LockedBook {
+        let mut calls = LockedCalls {
             rt,
-            book: &self.counted,
+            counted: &self.counted,
             counts: &mut caller.counts,
             alloc: self.alloc,
         };
@@ -148,9 +148,9 @@ impl<M: Frame, S: Ledger, K: Keeper<M, S>> Shared<M, S, K> {
         ensures err { OnErr result (counts.new ≡ counts.old) }
         ensures numbers { IfOk result (λ reply. (reply.taken ≤ capacity_of self.now) × (length reply.refined + reply.skipped ≤ 256 * capacity_of self.now) × (reply.hot ≤ 256 * capacity_of self.now) × (reply.left ≤ capacity_of self.now)) }
     {
-        let mut calls = LockedBook {
+        let mut calls = LockedCalls {
             rt,
-            book: &self.counted,
+            counted: &self.counted,
             counts,
             alloc: self.alloc,
         };

@@ -1,4 +1,4 @@
-//! The calls of one caller at a book under a lock.
+//! The calls of one caller at a book or core under a lock.
 ghost use Rattle.std.specs.Prelude.{◌≡◌, refl, nat_lt};
 ghost use Rattle.std.proofs.Common.{◌∙◌, ap};
 ghost use Rattle.g1_shared.specs.Counts.{counted, counted_then, counted_number};
@@ -15,19 +15,20 @@ use std::alloc::Global;
 use std::sync::ledger::Ledger;
 use std::sync::{Mutex, Wait};
 
-/// A book under its lock, which each call takes and leaves, and the counts of the caller.
+/// A counted book or core under its lock, which each call takes and leaves, and the counts of the
+/// caller.
 ///
-/// Only the counts say anything of the calls that were made: no clause can say what the book was at
-/// that moment.
+/// Only the counts say anything of the calls that were made: no clause can say what was under the
+/// lock at that moment.
 #[derive(Drop)]
-pub(crate) struct LockedBook<'a, R, M: Frame, S: Ledger, K: Keeper<M, S>> {
+pub(crate) struct LockedCalls<'a, R, M: Frame, S: Ledger, K: Keeper<M, S>> {
     pub(crate) rt: &'a R,
-    pub(crate) book: &'a Mutex<K>,
+    pub(crate) counted: &'a Mutex<K>,
     pub(crate) counts: &'a mut Counts<M, S>,
     pub(crate) alloc: Global,
 }
 
-impl<'a, R: Wait, M: Frame, S: Ledger, K: Keeper<M, S>> Calls for LockedBook<'a, R, M, S, K> {
+impl<'a, R: Wait, M: Frame, S: Ledger, K: Keeper<M, S>> Calls for LockedCalls<'a, R, M, S, K> {
     ghost layout = { λ s. M.terms.layout };
 
     ghost may_store = { λ s. nat_lt s.counts.now.number M.terms.mutators };
@@ -40,7 +41,7 @@ impl<'a, R: Wait, M: Frame, S: Ledger, K: Keeper<M, S>> Calls for LockedBook<'a,
         slot: Slot,
         target: Option<Slot>,
     ) -> Result<(StoreReply, Option<Buffer>), Refusal> {
-        self.book
+        self.counted
             .lock(self.rt)
             .store_by(self.counts, log, slot, target)
     }
@@ -52,13 +53,13 @@ impl<'a, R: Wait, M: Frame, S: Ledger, K: Keeper<M, S>> Calls for LockedBook<'a,
         slot: Slot,
         target: Option<Slot>,
     ) -> Result<StoreReply, Refusal> {
-        self.book
+        self.counted
             .lock(self.rt)
             .store_with_room_by(self.counts, log, slot, target)
     }
 
     fn refine(&mut self, buffer: Option<&Buffer>) -> Result<RefineReply, Refusal> {
-        self.book.lock(self.rt).refine_by(self.counts, buffer)
+        self.counted.lock(self.rt).refine_by(self.counts, buffer)
     }
 
     fn allocator(&self) -> Global {

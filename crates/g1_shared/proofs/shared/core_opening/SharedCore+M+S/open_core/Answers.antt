@@ -2,7 +2,7 @@ use Rattle.std.proofs.Common.{◌≡◌, ◌<◌, ◌∙◌, ℕ, ap, subst, sli
 use Rattle.g1_core.specs.Settings.{Settings}
 use Rattle.g1_book.specs.History.{Terms}
 use Rattle.g1_shared.specs.Callers.{Standing, IsNewCaller}
-use Rattle.g1_shared.proofs.shared.core_opening.Shared+M+S+CountedCore+M+S.open_core.Goals as goal
+use Rattle.g1_shared.proofs.shared.core_opening.SharedCore+M+S.open_core.Goals as goal
 
 pub returns-clause-each : goal.returns-clause-each
 returns-clause-each g c =
