@@ -38,7 +38,7 @@ call_counted terms made now stored old e new was h plain one = (
   h.terms ∙ was.2,
 )
 
-below_word : (made n m limit : ℕ) → made ≡ n → m ≡ n + 1 → m ≤ limit → limit ≤ 1000000 → made < 2 ^ 32
+below_word : (made n m limit : ℕ) → made ≡ n → m ≡ n + 1 → m ≤ limit → limit ≤ 1000000 → made + 1 < 2 ^ 64
 below_word made n m limit same more within high = omega arith
 
 -- a store counts in both totals
@@ -50,7 +50,7 @@ store_counted terms made now stored all old e new was h store one more = (
 )
 
 -- there is room in the total for one more
-pub total_fits : (terms : Terms) (made stored : ℕ) (old new : History) (e : Entry) → AreCounted terms made stored old → IsEntered old e new → IsHistory new → made < 2 ^ 32
+pub total_fits : (terms : Terms) (made stored : ℕ) (old new : History) (e : Entry) → AreCounted terms made stored old → IsEntered old e new → IsHistory new → made + 1 < 2 ^ 64
 total_fits terms made stored old new e was h history = below_word made (length old.entries) (length new.entries) new.limit was.0 (entries_more old e new h) history.within history.limit_high
 
 -- the entry is that of the caller whose number was read

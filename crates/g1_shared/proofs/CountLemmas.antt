@@ -1,14 +1,17 @@
 -- How counts grow.
 use Rattle.std.proofs.Common.{◌≡◌, ℕ, ◌+◌, ◌-◌, ◌/◌, ◌≤◌, Bool, true, false, cond, if◌then◌else◌, nat_lt, Option, Some, None, List, [], ◌∷◌, ◌++◌, length, map, refl, sym, subst, ap, ◌∙◌, arith, append_assoc, append-nil, length-append}
-use Rattle.std.specs.Prelude.{count_by}
+use Rattle.std.specs.Prelude.{count_by, Result, Ok, Err, IfOk, OnErr}
 use Rattle.std.proofs.lemmas.List.{length-map}
 use Rattle.std.proofs.lemmas.List.Sums.{sum_by-append}
 use Rattle.g1_log.specs.declared.parcel.Parcel.{Parcel}
+use Rattle.g1_log.specs.declared.ends.Taker.{Taker}
+use Rattle.g1_log.specs.Ends.{taken_of}
 use Rattle.g1_core.specs.declared.reply.RefineReply.{RefineReply}
 use Rattle.g1_core.specs.declared.entry.Entry.{Entry}
 use Rattle.g1_book.specs.declared.refusal.Refusal.{Refusal}
 use Rattle.g1_steps.specs.Made.{Made, Refused}
-use Rattle.g1_steps.specs.Steps.{GainsAtMost}
+use Rattle.g1_steps.specs.Steps.{GainsAtMost, IsTake, IsRefinement}
+use Rattle.g1_steps.proofs.StepLemmas.{gains_nothing, gains_single}
 use Rattle.g1_steps.specs.Rounds.{Turn, turn_call, round_calls, round_size, IsRound}
 use Rattle.g1_shared.specs.Counts.{Tally, one_call, counted, counted_then, CountsDid, is_store}
 use Rattle.g1_shared.specs.Callers.{MakesFor}
@@ -73,3 +76,13 @@ makes_none made made' old new few same = record { parcels = []; gained = same �
 
 pub makes_lost : (made made' most : ℕ) (old new : List Parcel) → made' ≤ made → GainsAtMost old most new → MakesFor made old made' new
 makes_lost made made' most old new few lost = record { parcels = lost.parcels; gained = lost.gained; within = omega (arith, few) }
+
+-- a refinement takes one parcel at most, refused or not
+take_gains : (before : Taker) (parcel : Option Parcel) (after : Taker) → IsTake before parcel after → GainsAtMost (taken_of before) 1 (taken_of after)
+take_gains before None after h = gains_nothing _ _ h.0
+take_gains before (Some x) after h = gains_single _ _ x h
+
+pub refinement_gains : {S : Type 0} (did : S → List Made → S → Type 0) (r : Result RefineReply Refusal) (old new : S) (before after : Taker)
+    → IfOk r (λ reply. IsRefinement did old before reply after new) → OnErr r (GainsAtMost (taken_of before) 1 (taken_of after)) → GainsAtMost (taken_of before) 1 (taken_of after)
+refinement_gains did (Ok reply) old new before after h lost = take_gains before h.parcel after h.take
+refinement_gains did (Err e) old new before after h lost = lost

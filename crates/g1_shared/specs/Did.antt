@@ -4,6 +4,7 @@ use Rattle.std.proofs.Common.{refl, sym, ap, subst, ◌∙◌, arith, append-nil
 use Rattle.std.proofs.lemmas.List.Sums.{sum_by-append}
 use Rattle.g1_shared.specs.Callers.{Standing, MakesFor, mark_of, log_in, taken_list}
 use Rattle.g1_steps.specs.Ask.{Ask, AskStore, AskFlush, AskWork, is_store_ask}
+use Rattle.g1_steps.specs.Steps.{GainsAtMost}
 
 -- how many entries are made for a call at most, where a round makes at most `limit`
 abbrev pub most_for : ℕ → Ask → ℕ
@@ -83,7 +84,15 @@ caller_did_then limit s t u xs ys p q = record {
   };
 }
 
--- the same for a desk, whose line stays of one capacity
+-- What was asked of a caller is refused: a store leaves the caller as it was, and a round makes no
+-- entry and gives up at most one parcel. A flush never is.
+abbrev pub IsRefusedAt : Standing → Ask → Standing → Type 0
+IsRefusedAt s (AskStore slot target) t = t ≡ s
+IsRefusedAt s AskFlush t = ⊥
+IsRefusedAt s AskWork t =
+    (t.counts ≡ s.counts) × (t.mutator ≡ s.mutator) × GainsAtMost (taken_list s) 1 (taken_list t)
+
+-- What a caller made, at a desk whose line stays of one capacity.
 abbrev pub DeskDid : ℕ → Standing → List Ask → ℕ → Standing → Type 0
 DeskDid limit s asks limit' t = (limit' ≡ limit) × CallerDid limit s asks t
 

@@ -1,3 +1,4 @@
 pub mod Callers
 pub mod Counts
 pub mod Did
+pub mod Totals

@@ -1,4 +1,4 @@
-//! The callers of a shared book.
+//! The callers of a shared book or core.
 ghost use Rattle.std.specs.Prelude.{◌≡◌};
 
 use crate::ledgers::Frame;
@@ -10,7 +10,7 @@ use std::sync::ledger::{Ledger, Share};
 /// A caller's number, how many of its calls were entered and how many of these are stores, with its
 /// shares of both totals.
 #[derive(Drop)]
-pub(crate) struct Counts<M: Frame, S: Ledger> {
+pub struct Counts<M: Frame, S: Ledger> {
     number: u32,
     pub(crate) made: u64,
     pub(crate) stored: u64,
@@ -72,11 +72,11 @@ impl<M: Frame, S: Ledger> Counts<M, S> {
     }
 }
 
-/// One of the callers of a shared book: its counts, its taker, and if it is a mutator its log and
-/// sender.
+/// One of the callers of a shared book or core: its counts, its taker, and if it is a mutator its
+/// log and sender.
 ///
-/// It belongs to one thread at a time, and each call borrows it. A caller is used with the shared
-/// book that made it.
+/// It belongs to one thread at a time, and each call borrows it. A caller is used with the
+/// `Shared` that made it.
 #[derive(Drop)]
 pub struct Caller<M: Frame, S: Ledger> {
     pub(crate) counts: Counts<M, S>,
@@ -96,15 +96,15 @@ impl<M: Frame, S: Ledger> Model for Caller<M, S> {
 }
 
 impl<M: Frame, S: Ledger> Caller<M, S> {
-    /// The caller's number. If it is below the book's count of mutators, the caller is a mutator,
-    /// which may store and flush. Constant time.
+    /// The caller's number. If it is below the count of mutators, the caller is a mutator, which
+    /// may store and flush. Constant time.
     pub fn number(&self) -> u32
         ensures { result ≡ self.now.counts.number }
     {
         self.counts.number()
     }
 
-    /// How many of its calls were entered since the book was shared. Constant time.
+    /// How many of its calls were made, and not refused, since the sharing began. Constant time.
     pub fn made(&self) -> u64
         ensures { result ≡ self.now.counts.made }
     {

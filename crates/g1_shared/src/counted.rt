@@ -376,7 +376,7 @@ impl<M: Frame, S: Ledger> Counted<M, S> {
 
 // One more call in the total of all calls and in the caller's counts.
 fn raise_made<M: Frame, S: Ledger>(total: &mut ledger::Book<M>, counts: &mut Counts<M, S>)
-    requires fits { total.old.total < 2 ^ 32 }
+    requires fits { total.old.total + 1 < 2 ^ 64 }
     ensures total { total.new.total ≡ total.old.total + 1 }
     ensures counts { counts.new ≡ one_call counts.old }
 {

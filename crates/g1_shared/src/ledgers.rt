@@ -1,20 +1,20 @@
-//! The ledgers of a shared book: two totals that are kept under the lock. Each caller holds a share
-//! of both.
+//! The ledgers of a shared book or core: two totals that are kept under the lock. Each caller holds
+//! a share of both.
 ghost use Rattle.std.specs.Prelude.{◌≡◌, ◌+◌, ◌<◌, ◌^◌};
 
 use std::marker::Brand;
 use std::sync::ledger::{Book, Ledger, Share};
 
-/// The ledger of all calls, which also knows on what terms the book was opened. The conditions on
-/// calls of a shared book speak of these terms, since no clause can speak of what is under the
-/// lock.
+/// The ledger of all calls, which also knows on what terms the book or core was shared. The
+/// conditions on the calls of a `Shared` speak of these terms, since no clause can speak of what is
+/// under the lock.
 ///
-/// A function that opens a shared book is generic in a `Frame` and a `Ledger`. Its caller passes
-/// [`Brand`](std::marker::Brand) for both, and picks the terms of the book that it passes.
+/// A function that shares a book or a core is generic in a `Frame` and a `Ledger`. Its caller
+/// passes [`Brand`](std::marker::Brand) for both, and picks the terms of what it passes.
 pub trait Frame: Ledger {
     ghost use Rattle.g1_book.specs.History.{Terms};
 
-    /// What the book was opened with, and keeps.
+    /// What the book or core was shared with, and keeps.
     ghost terms: { Terms };
 }
 
@@ -26,7 +26,7 @@ impl Frame for Brand {
 pub(crate) fn raise<L: Ledger>(total: &mut Book<L>, share: &mut Share<L>, count: &mut u64)
     requires part { share.old.parts ≡ 1 }
     requires same { share.old.amount ≡ count.old }
-    requires fits { total.old.total < 2 ^ 32 }
+    requires fits { total.old.total + 1 < 2 ^ 64 }
     ensures total { total.new.total ≡ total.old.total + 1 }
     ensures amount { share.new.amount ≡ count.new }
     ensures parts { share.new.parts ≡ 1 }

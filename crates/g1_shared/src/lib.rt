@@ -1,24 +1,31 @@
-//! A book that threads share, under one lock.
+//! A book that threads share, under one lock, or a core without a history.
 //!
 //! A [`Shared`] keeps a book under its lock with the totals of its calls and of its stores
 //! ([`Counted`]), and the queue of completed buffers beside it. Each [`Caller`] makes its calls
 //! from a thread of its own, and counts them. Once all callers are handed in, the book is returned
-//! with as many entries as they have made (docs/PROFILE.md, The history under a lock).
+//! with as many entries as they have made (docs/PROFILE.md, The history under a lock). A
+//! [`SharedCore`] is the same over a core that keeps only the totals ([`CountedCore`]).
 //!
-//! No clause can name what is under the lock. So a ledger has the terms of the book ([`Frame`]),
-//! and the conditions of its calls speak of these. A [`SharedDesk`] says of its calls what the
-//! counts of its caller say.
+//! No clause can name what is under the lock. So a ledger has the terms of the book or core
+//! ([`Frame`]), and the conditions of its calls speak of these. A [`SharedDesk`] says of its calls
+//! what the counts of its caller say.
 #![tactic(auto)]
 
 mod caller;
 mod counted;
+mod counted_core;
+mod keeper;
 mod ledgers;
-mod locked_book;
+mod locked_calls;
 mod shared;
 mod shared_desk;
+mod totals;
 
 pub use caller::Caller;
 pub use counted::Counted;
+pub use counted_core::CountedCore;
+pub use keeper::Keeper;
 pub use ledgers::Frame;
-pub use shared::Shared;
+pub use shared::{Shared, SharedCore};
 pub use shared_desk::SharedDesk;
+pub use totals::Totals;

@@ -1,37 +1,45 @@
-//! A book that threads share, with the queue of completed buffers beside its lock.
+//! A book or core that threads share, with the queue of completed buffers beside its lock.
 //!
-//! From a thread of its own, each caller makes the steps of a caller over the locked book
+//! From a thread of its own, each caller makes the steps of a caller over what is locked
 //! ([`steps`]) and asks it questions ([`calls`]). [`opening`] says how a book is shared, and how it
-//! is given back.
+//! is given back, [`core_opening`] the same of a core.
 ghost use Rattle.std.specs.Prelude.{◌≡◌};
 
 mod calls;
+mod core_opening;
 mod opening;
 mod steps;
 
 use crate::counted::Counted;
+use crate::counted_core::CountedCore;
+use crate::keeper::Keeper;
 use crate::ledgers::Frame;
 use g1_log::Line;
 use std::alloc::Global;
-use std::marker::Model;
+use std::marker::{Model, PhantomData};
 use std::sync::ledger::Ledger;
 use std::sync::{Mutex, MutexGuard, Wait};
 
-/// A counted book under a lock, and the queue of completed buffers beside it (docs/PROFILE.md, The
-/// history under a lock).
+/// A counted book under a lock, or what else is a [`Keeper`], and the queue of completed buffers
+/// beside it (docs/PROFILE.md, The history under a lock).
 ///
 /// Every call takes the shared book by `&` and a caller by `&mut`, so the callers run concurrently,
 /// each in a thread of its own. The lock is held for one call of the book at a time, and never
 /// while a buffer is put into the queue or taken from it. Contracts see the queue.
 #[derive(Drop)]
-pub struct Shared<M: Frame, S: Ledger> {
-    counted: Mutex<Counted<M, S>>,
+pub struct Shared<M: Frame, S: Ledger, K: Keeper<M, S> = Counted<M, S>> {
+    counted: Mutex<K>,
     line: Line,
     alloc: Global,
     start: usize,
+    of: PhantomData<(M, S)>,
 }
 
-impl<M: Frame, S: Ledger> Model for Shared<M, S> {
+/// A core with the totals of its calls under a lock, without a history, and the queue beside it
+/// (docs/THREADS.md, A lock without a history).
+pub type SharedCore<M, S> = Shared<M, S, CountedCore<M, S>>;
+
+impl<M: Frame, S: Ledger, K: Keeper<M, S>> Model for Shared<M, S, K> {
     ghost use Rattle.std.specs.Prelude.{◌≡◌};
     ghost use Rattle.g1_log.specs.declared.line.Line.{Line as L};
 
@@ -42,7 +50,7 @@ impl<M: Frame, S: Ledger> Model for Shared<M, S> {
     ghost invariant = { λ s. s.start ≡ M.terms.settings.start };
 }
 
-impl<M: Frame, S: Ledger> Shared<M, S> {
+impl<M: Frame, S: Ledger> Shared<M, S, Counted<M, S>> {
     ghost use Rattle.std.specs.Sync.Mutex.{mutex_guard_value};
     ghost use Rattle.g1_core.specs.Table.{IsCovered};
     ghost use Rattle.g1_core.specs.Machine.{IsSound};

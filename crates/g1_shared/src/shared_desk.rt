@@ -5,9 +5,12 @@ ghost use Rattle.g1_layout.specs.Shape.{slot_count, card_of};
 ghost use Rattle.g1_core.specs.Barrier.{logged};
 ghost use Rattle.g1_log.specs.Ends.{capacity_of};
 ghost use Rattle.g1_shared.specs.Callers.{IsCallerOf, log_of, StoresAt, FlushesAt, RoundsAt};
+ghost use Rattle.g1_shared.specs.Did.{IsRefusedAt};
 ghost use Rattle.g1_shared.specs.Did.{DeskDid, caller_did_none, desk_did_then};
 
 use crate::caller::Caller;
+use crate::counted::Counted;
+use crate::keeper::Keeper;
 use crate::ledgers::Frame;
 use crate::shared::Shared;
 use g1_book::Refusal;
@@ -22,16 +25,20 @@ use std::sync::ledger::Ledger;
 /// Its calls are those of [`Shared`]. Of the calls that were made, only what the caller's counts
 /// say is known.
 #[derive(Drop)]
-pub struct SharedDesk<'a, R, M: Frame, S: Ledger> {
+pub struct SharedDesk<'a, R, M: Frame, S: Ledger, K: Keeper<M, S> = Counted<M, S>> {
     rt: &'a R,
-    shared: &'a Shared<M, S>,
+    shared: &'a Shared<M, S, K>,
     caller: Caller<M, S>,
     ghost of: { IsCallerOf shared.now caller } by { Prim.hlevel props },
 }
 
-impl<'a, R, M: Frame, S: Ledger> SharedDesk<'a, R, M, S> {
-    /// Returns a desk of this caller at the book that made it.
-    pub fn new(rt: &'a R, shared: &'a Shared<M, S>, caller: Caller<M, S>) -> SharedDesk<'a, R, M, S>
+impl<'a, R, M: Frame, S: Ledger, K: Keeper<M, S>> SharedDesk<'a, R, M, S, K> {
+    /// Returns a desk of this caller at the book or core that made it.
+    pub fn new(
+        rt: &'a R,
+        shared: &'a Shared<M, S, K>,
+        caller: Caller<M, S>,
+    ) -> SharedDesk<'a, R, M, S, K>
         requires { IsCallerOf shared.now caller }
         ensures caller { result.caller ≡ caller }
         ensures shared { result.shared.now ≡ shared.now }
@@ -54,7 +61,7 @@ impl<'a, R, M: Frame, S: Ledger> SharedDesk<'a, R, M, S> {
 }
 
 #[tactic(auto, using(crate::proofs::CountLemmas::makes_none, crate::proofs::CountLemmas::makes_lost))]
-impl<'a, R: Wait, M: Frame, S: Ledger> Desk for SharedDesk<'a, R, M, S> {
+impl<'a, R: Wait, M: Frame, S: Ledger, K: Keeper<M, S>> Desk for SharedDesk<'a, R, M, S, K> {
     ghost did = { λ s asks t. DeskDid (capacity_of s.shared.now) s.caller asks (capacity_of t.shared.now) t.caller };
 
     ghost slots = { λ s. slot_count M.terms.layout };
@@ -69,6 +76,8 @@ impl<'a, R: Wait, M: Frame, S: Ledger> Desk for SharedDesk<'a, R, M, S> {
         × (reply.cards ≡ length (log_of s.caller).cards) };
 
     ghost worked = { λ s reply t. RoundsAt s.shared.now M.terms.settings.start s.caller reply t.caller };
+
+    ghost refused = { λ s ask why t. IsRefusedAt s.caller ask t.caller };
 
     fn store(&mut self, slot: Slot, target: Option<Slot>) -> Result<StoreReply, Refusal> {
         self.shared.store(self.rt, &mut self.caller, slot, target)

@@ -2,7 +2,9 @@
 use Rattle.std.specs.Prelude.{◌≡◌, Bool, true, false, List, [], ◌∷◌, ◌++◌, filter}
 use Rattle.std.proofs.Common.{sym, ap, subst, ◌∙◌, append_assoc}
 use Rattle.std.proofs.lemmas.List.Elements.{filter-append}
+use Rattle.g1_book.specs.declared.refusal.Refusal.{Refusal}
 use Rattle.g1_steps.specs.Made.{Made, Stored, Refined, Refused}
+use Rattle.g1_steps.specs.Rounds.{IsRefused}
 use Rattle.g1_steps.specs.Ask.{Ask, AskStore, AskFlush, AskWork}
 
 -- whether a call was made, and not refused
@@ -29,6 +31,14 @@ Serves (AskStore slot target) (Stored slot' target' reply ∷ help) = (slot' ≡
 Serves (AskStore slot target) _ = ⊥
 Serves AskFlush help = IsHelp help
 Serves AskWork calls = AreRefinements calls
+
+-- What was asked is refused: a store by its own call, a round for room or by its first call. A
+-- flush never is.
+abbrev pub IsRefusedFor : {S : Type 0} → (S → List Made → S → Type 0) → S → Ask → Refusal → S
+    → Type 0
+IsRefusedFor did old (AskStore slot target) why new = did old (Refused why ∷ []) new
+IsRefusedFor did old AskFlush why new = ⊥
+IsRefusedFor did old AskWork why new = IsRefused did old why new
 
 -- The same of all that was asked, one after the other.
 abbrev pub ServesAll : List Ask → List Made → Type 0

@@ -1,7 +1,8 @@
 //! What workers do, and where they make their calls.
-ghost use Rattle.std.specs.Prelude.{◌≡◌, ℕ, ◌<◌, [], ◌∷◌, ◌++◌, List, Bool, true, IfSome, IfOk, OnErr, OnOk, Option};
+ghost use Rattle.std.specs.Prelude.{◌≡◌, ℕ, ◌<◌, [], ◌∷◌, ◌++◌, List, Bool, true, IfSome, IfOk, IfErr, OnErr, OnOk, Option};
 ghost use Rattle.g1_core.specs.declared.reply.StoreReply.{StoreReply as Stored};
 ghost use Rattle.g1_core.specs.declared.reply.RefineReply.{RefineReply as Worked};
+ghost use Rattle.g1_book.specs.declared.refusal.Refusal.{Refusal as Why};
 ghost use Rattle.g1_steps.specs.declared.steps.mutator.FlushReply.{FlushReply as Flushed};
 ghost use Rattle.g1_steps.specs.Ask.{Ask, AskStore, AskFlush, AskWork};
 
@@ -56,6 +57,9 @@ pub trait Desk {
 
     ghost worked: { Self → Worked → Self → Type 0 } = { λ _ _ _. Unit {0} };
 
+    /// What a refusal of what was asked tells of the desk before and after the call.
+    ghost refused: { Self → Ask → Why → Self → Type 0 } = { λ _ _ _ _. Unit {0} };
+
     /// Stores a reference, or null. A refused store counts as no call.
     fn store(&mut self, slot: Slot, target: Option<Slot>) -> Result<StoreReply, Refusal>
         requires mutator { may_store self.old ≡ true }
@@ -63,6 +67,7 @@ pub trait Desk {
         requires target { IfSome target (λ place. place < slots self.old) }
         ensures ok { OnOk result (did self.old (AskStore slot target ∷ []) self.new) }
         ensures reply { IfOk result (λ reply. stored self.old slot target reply self.new) }
+        ensures refusal { IfErr result (λ why. refused self.old (AskStore slot target) why self.new) }
         ensures err { OnErr result (did self.old [] self.new) }
         ensures same { (slots self.new ≡ slots self.old) × (may_store self.new ≡ may_store self.old) };
 
@@ -71,6 +76,7 @@ pub trait Desk {
         requires { may_store self.old ≡ true }
         ensures ok { OnOk result (did self.old (AskFlush ∷ []) self.new) }
         ensures reply { IfOk result (λ reply. flushed self.old reply self.new) }
+        ensures refusal { IfErr result (λ why. refused self.old AskFlush why self.new) }
         ensures err { OnErr result (did self.old [] self.new) }
         ensures same { (slots self.new ≡ slots self.old) × (may_store self.new ≡ may_store self.old) };
 
@@ -78,6 +84,7 @@ pub trait Desk {
     fn work(&mut self) -> Result<RefineReply, Refusal>
         ensures ok { OnOk result (did self.old (AskWork ∷ []) self.new) }
         ensures reply { IfOk result (λ reply. worked self.old reply self.new) }
+        ensures refusal { IfErr result (λ why. refused self.old AskWork why self.new) }
         ensures err { OnErr result (did self.old [] self.new) }
         ensures same { (slots self.new ≡ slots self.old) × (may_store self.new ≡ may_store self.old) };
 

@@ -7,7 +7,7 @@ ghost use Rattle.g1_log.specs.Ends.{IsSenderOf, IsTakerOf, capacity_of, taken_of
 ghost use Rattle.g1_steps.specs.Steps.{IsStored, IsFlushed};
 ghost use Rattle.g1_steps.specs.Rounds.{IsRound, round_size};
 ghost use Rattle.g1_steps.specs.Marks.{mutator_mark, taker_mark};
-ghost use Rattle.g1_steps.specs.Served.{HasServed, served_then};
+ghost use Rattle.g1_steps.specs.Served.{HasServed, IsRefusedFor, served_then};
 
 use crate::calls::Calls;
 use crate::desk::Desk;
@@ -96,6 +96,8 @@ impl<'a, R: Wait, C: Calls> Desk for LocalDesk<'a, R, C> {
 
     ghost worked = { λ s reply t. (seen : ℕ) × (seen ≤ capacity_of s.line.now)
         × IsRound C.did s.calls (taken_of s.taker) (round_size s.start seen) reply (taken_of t.taker) t.calls };
+
+    ghost refused = { λ s ask why t. IsRefusedFor C.did s.calls ask why t.calls };
 
     fn store(&mut self, slot: Slot, target: Option<Slot>) -> Result<StoreReply, Refusal> {
         let reply = self

@@ -4,6 +4,7 @@ ghost use Rattle.g1_layout.specs.Shape.{slot_count, card_count};
 ghost use Rattle.g1_shared.specs.Callers.{called_once};
 
 use crate::caller::Caller;
+use crate::keeper::Keeper;
 use crate::ledgers::Frame;
 use crate::shared::Shared;
 use g1_book::Refusal;
@@ -12,11 +13,11 @@ use g1_layout::{Card, Region, Slot};
 use std::sync::Wait;
 use std::sync::ledger::Ledger;
 
-/// Each call waits for the lock, makes the call of [`Counted`](crate::Counted) for the caller, and
-/// returns its reply. It is one entry more of that caller, or refused, which leaves the caller as
-/// it was. A clause can say no more of what was under the lock. The guard (`lock`) makes the same
-/// calls with their whole contracts.
-impl<M: Frame, S: Ledger> Shared<M, S> {
+/// Each call waits for the lock, makes the call of what is kept under it for the caller, and
+/// returns its reply. It counts as one call of that caller (over a book, as one entry), or is
+/// refused, which leaves the caller as it was. A clause can say no more of what was under the
+/// lock. The guard (`lock`) makes the same calls with their whole contracts.
+impl<M: Frame, S: Ledger, K: Keeper<M, S>> Shared<M, S, K> {
     /// Returns what a slot refers to, by a call under the lock (`Counted::target`).
     pub fn target<R: Wait>(
         &self,

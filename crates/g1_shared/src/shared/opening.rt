@@ -10,6 +10,7 @@ ghost use Rattle.g1_steps.specs.Opening.{IsNewMutator, AreNewMutators};
 
 use crate::caller::{Caller, Counts};
 use crate::counted::Counted;
+use crate::keeper::Keeper;
 use crate::ledgers::Frame;
 use crate::shared::Shared;
 use g1_book::Book;
@@ -17,11 +18,12 @@ use g1_core::Config;
 use g1_layout::NoMemory;
 use g1_log::{Line, Taker};
 use g1_steps::{Mutator, open_line};
+use std::marker::PhantomData;
 use std::sync::Mutex;
 use std::sync::ledger::{Blank, Ledger, Share};
 use std::vec::IntoIter;
 
-impl<M: Frame, S: Ledger> Shared<M, S> {
+impl<M: Frame, S: Ledger> Shared<M, S, Counted<M, S>> {
     /// Puts a book without entries under a lock, with a queue of completed buffers beside it, and
     /// makes its callers (docs/PROFILE.md, The history under a lock).
     ///
@@ -66,6 +68,7 @@ impl<M: Frame, S: Ledger> Shared<M, S> {
             line,
             alloc,
             start: config.start(),
+            of: PhantomData,
         };
         Ok((shared, all))
     }
@@ -84,11 +87,26 @@ impl<M: Frame, S: Ledger> Shared<M, S> {
         ensures stored { count_by is_store result.entries ≡ sum_by (λ caller. caller.counts.stored) callers.items }
         ensures terms { terms_of result ≡ M.terms }
     {
+        let (counted, mut made, mut stored) = self.give_up(callers);
+        counted.audited(&mut made, &mut stored)
+    }
+}
+
+impl<M: Frame, S: Ledger, K: Keeper<M, S>> Shared<M, S, K> {
+    /// What was kept under the lock, and all callers' shares, merged.
+    pub(crate) fn give_up(self, callers: Vec<Caller<M, S>>) -> (K, Share<M>, Share<S>)
+        requires some { 0 < vec_len callers }
+        requires made { vec_len callers ≡ M.parts }
+        requires stored { vec_len callers ≡ S.parts }
+        ensures made { (result.1.parts ≡ M.parts) × (result.1.amount ≡ sum_by (λ caller. caller.counts.made) callers.items) }
+        ensures stored { (result.2.parts ≡ S.parts) × (result.2.amount ≡ sum_by (λ caller. caller.counts.stored) callers.items) }
+    {
         let Shared {
             counted,
             line: _,
             alloc: _,
             start: _,
+            of: _,
         } = self;
         let mut callers = callers;
         let last = callers.take_last();
@@ -98,13 +116,13 @@ impl<M: Frame, S: Ledger> Shared<M, S> {
             made.merge(its_made);
             stored.merge(its_stored);
         }
-        counted.into_inner().audited(&mut made, &mut stored)
+        (counted.into_inner(), made, stored)
     }
 }
 
 /// The callers, each with a part of both shares and a taker, and those below the mutators with the
 /// mutator of their number.
-fn callers_of<M: Frame, S: Ledger>(
+pub(crate) fn callers_of<M: Frame, S: Ledger>(
     line: &Line,
     config: &Config,
     count: u32,

@@ -10,8 +10,9 @@ ghost use Rattle.g1_shared.specs.Counts.{CountsDid};
 ghost use Rattle.g1_shared.specs.Callers.{Standing, mark_of, IsCallerOf, log_of, taken_list, StoresAt, FlushesAt, RefinesAt, RoundsAt, IsPaused};
 
 use crate::caller::{Caller, Counts};
+use crate::keeper::Keeper;
 use crate::ledgers::Frame;
-use crate::locked_book::LockedBook;
+use crate::locked_calls::LockedCalls;
 use crate::shared::Shared;
 use g1_book::Refusal;
 use g1_core::{Fill, RefineReply, StoreReply};
@@ -21,7 +22,7 @@ use g1_steps::{FlushReply, empty_line, refine, work};
 use std::sync::Wait;
 use std::sync::ledger::Ledger;
 
-impl<M: Frame, S: Ledger> Shared<M, S> {
+impl<M: Frame, S: Ledger, K: Keeper<M, S>> Shared<M, S, K> {
     /// Stores a reference, or null, as a mutator does (`Mutator::store`), by a call under the lock.
     ///
     /// A log that was filled goes into the queue of completed buffers once the lock is left. If the
@@ -52,9 +53,9 @@ impl<M: Frame, S: Ledger> Shared<M, S> {
         let Some(mutator) = &mut caller.mutator else {
             unreachable!()
         };
-        let mut calls = LockedBook {
+        let mut calls = LockedCalls {
             rt,
-            book: &self.counted,
+            counted: &self.counted,
             counts: &mut caller.counts,
             alloc: self.alloc,
         };
@@ -78,9 +79,9 @@ impl<M: Frame, S: Ledger> Shared<M, S> {
         let Some(mutator) = &mut caller.mutator else {
             unreachable!()
         };
-        let mut calls = LockedBook {
+        let mut calls = LockedCalls {
             rt,
-            book: &self.counted,
+            counted: &self.counted,
             counts: &mut caller.counts,
             alloc: self.alloc,
         };
@@ -103,9 +104,9 @@ impl<M: Frame, S: Ledger> Shared<M, S> {
         ensures refined { IfOk result (λ reply. RefinesAt caller.old reply caller.new) }
         ensures gained { GainsAtMost (taken_list caller.old) 1 (taken_list caller.new) }
     {
-        let mut calls = LockedBook {
+        let mut calls = LockedCalls {
             rt,
-            book: &self.counted,
+            counted: &self.counted,
             counts: &mut caller.counts,
             alloc: self.alloc,
         };
@@ -147,9 +148,9 @@ impl<M: Frame, S: Ledger> Shared<M, S> {
         ensures err { OnErr result (counts.new ≡ counts.old) }
         ensures numbers { IfOk result (λ reply. (reply.taken ≤ capacity_of self.now) × (length reply.refined + reply.skipped ≤ 256 * capacity_of self.now) × (reply.hot ≤ 256 * capacity_of self.now) × (reply.left ≤ capacity_of self.now)) }
     {
-        let mut calls = LockedBook {
+        let mut calls = LockedCalls {
             rt,
-            book: &self.counted,
+            counted: &self.counted,
             counts,
             alloc: self.alloc,
         };

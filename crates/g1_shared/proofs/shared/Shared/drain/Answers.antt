@@ -1,8 +1,0 @@
-use Rattle.g1_shared.proofs.CallLemmas.{caller_kept}
-use Rattle.g1_shared.proofs.shared.Shared.drain.Goals as goal
-
-pub returns-clause-ok : goal.returns-clause-ok
-returns-clause-ok g c = c.drain.ensures.made
-
-pub returns-clause-err : goal.returns-clause-err
-returns-clause-err g c = caller_kept _ _ _ _ c.drain.ensures.err

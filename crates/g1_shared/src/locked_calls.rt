@@ -1,0 +1,74 @@
+//! The calls of one caller at a book or core under a lock.
+ghost use Rattle.std.specs.Prelude.{◌≡◌, refl, nat_lt};
+ghost use Rattle.std.proofs.Common.{◌∙◌, ap};
+ghost use Rattle.g1_shared.specs.Counts.{counted, counted_then, counted_number};
+
+use crate::caller::Counts;
+use crate::keeper::Keeper;
+use crate::ledgers::Frame;
+use g1_book::Refusal;
+use g1_core::{RefineReply, StoreReply};
+use g1_layout::Slot;
+use g1_log::{Buffer, Log};
+use g1_steps::Calls;
+use std::alloc::Global;
+use std::sync::ledger::Ledger;
+use std::sync::{Mutex, Wait};
+
+/// A counted book or core under its lock, which each call takes and leaves, and the counts of the
+/// caller.
+///
+/// Only the counts say anything of the calls that were made: no clause can say what was under the
+/// lock at that moment.
+#[derive(Drop)]
+pub(crate) struct LockedCalls<'a, R, M: Frame, S: Ledger, K: Keeper<M, S>> {
+    pub(crate) rt: &'a R,
+    pub(crate) counted: &'a Mutex<K>,
+    pub(crate) counts: &'a mut Counts<M, S>,
+    pub(crate) alloc: Global,
+}
+
+impl<'a, R: Wait, M: Frame, S: Ledger, K: Keeper<M, S>> Calls for LockedCalls<'a, R, M, S, K> {
+    ghost layout = { λ s. M.terms.layout };
+
+    ghost may_store = { λ s. nat_lt s.counts.now.number M.terms.mutators };
+
+    ghost did = { λ s ms t. (t.counts.ghost_name ≡ s.counts.ghost_name) × (t.counts.now ≡ counted s.counts.now ms) };
+
+    fn store(
+        &mut self,
+        log: &mut Log,
+        slot: Slot,
+        target: Option<Slot>,
+    ) -> Result<(StoreReply, Option<Buffer>), Refusal> {
+        self.counted
+            .lock(self.rt)
+            .store_by(self.counts, log, slot, target)
+    }
+
+    #[inline(always)]
+    fn store_with_room(
+        &mut self,
+        log: &mut Log,
+        slot: Slot,
+        target: Option<Slot>,
+    ) -> Result<StoreReply, Refusal> {
+        self.counted
+            .lock(self.rt)
+            .store_with_room_by(self.counts, log, slot, target)
+    }
+
+    fn refine(&mut self, buffer: Option<&Buffer>) -> Result<RefineReply, Refusal> {
+        self.counted.lock(self.rt).refine_by(self.counts, buffer)
+    }
+
+    fn allocator(&self) -> Global {
+        self.alloc
+    }
+
+    ghost none = { λ s. (refl, refl) };
+
+    ghost then = { λ s t u xs ys h k. (k.0 ∙ h.0, k.1 ∙ ap (λ n. counted n ys) h.1 ∙ counted_then s.counts.now xs ys) };
+
+    ghost stays = { λ s t ms h. (refl, ap (λ n. nat_lt n M.terms.mutators) (ap (λ t. t.number) h.1 ∙ counted_number s.counts.now ms)) };
+}
