@@ -69,8 +69,9 @@ enum g1_kind {
 
 /*
  * What the other calls return. A code of 8 or more means that the call was refused and that nothing
- * has changed; each call says what its results hold then. g1_store, g1_race_store and
- * g1_is_pending return these codes too if they are refused, and values of their own if not.
+ * has changed, except for G1_NOT_ENDED of g1_race_close; each call says what its results hold then.
+ * g1_store, g1_race_store and g1_is_pending return these codes too if they are refused, and values
+ * of their own if not.
  */
 enum g1_code {
     G1_DONE = 0,
@@ -95,8 +96,10 @@ enum g1_code {
     G1_LOG_FULL = 22,         /* the racer's log has G1_LOG cards: take it, and store again */
     G1_BAD_MEMBERS = 23,      /* not as many handles as the race has members, or as a race may
                                  have */
-    G1_OTHER_RACE = 24        /* the handles are not those of all members of one race, each given
+    G1_OTHER_RACE = 24,       /* the handles are not those of all members of one race, each given
                                  once */
+    G1_NOT_ENDED = 25         /* the members of a race are gathered behind a handle; the race has
+                                 another owner, so it has not ended */
 };
 
 /* The most cards that g1_refine takes at once, and the most stores that g1_store_all takes. */
@@ -386,16 +389,18 @@ uint32_t g1_race_refine(struct g1_member *member, uint32_t card);
 
 /*
  * Ends a race. All its racers and sweepers are handed in, in any order, and none of them is in use.
- * Their handles are closed, and the closed handle `over` is opened on what is left of the race.
  * Logs that were not taken are dropped; their cards stay dirty.
  *
- * Returns G1_DONE, or one of these codes, and then nothing has changed:
- *   - G1_BAD_MEMBERS: not as many handles as a member's race was opened with.
- *   - G1_NOT_OPEN or G1_OTHER_ROLE for a member's handle.
- *   - G1_OTHER_RACE: members of several races, a member that is given twice, or a race of which a
- *     member was closed alone.
- *   - G1_ALREADY_OPEN for `over`.
- *   - G1_NO_MEMORY.
+ * Returns:
+ *   - G1_DONE: the race has ended. The members' handles are closed, and the closed handle `over` is
+ *     opened on what is left of the race.
+ *   - G1_NOT_ENDED: the members' handles are closed, and `over` is opened on the members. Their
+ *     race has another owner, so it has not ended; g1_race_core ends it once that owner is gone. No
+ *     run has shown this code, and no proof rules it out.
+ *   - G1_BAD_MEMBERS (not as many handles as a member's race was opened with), G1_NOT_OPEN or
+ *     G1_OTHER_ROLE for a member's handle, G1_OTHER_RACE (members of several races, a member that
+ *     is given twice, or a race of which a member was closed alone), G1_ALREADY_OPEN for `over`, or
+ *     G1_NO_MEMORY: nothing has changed.
  */
 uint32_t g1_race_close(struct g1_member *racers, size_t racers_length, struct g1_member *sweepers,
                        size_t sweepers_length, struct g1_over *over);
@@ -410,9 +415,10 @@ uint32_t g1_race_close(struct g1_member *racers, size_t racers_length, struct g1
  * Returns:
  *   - G1_DONE.
  *   - G1_NOT_OPEN for `over`, G1_ALREADY_OPEN for `handle`, G1_BAD_SETTINGS or G1_NO_MEMORY:
- *     nothing has changed, so a refused call can be made again.
- *   - G1_OTHER_RACE: nothing has changed either. It can come only if two closes at once broke the
- *     rule above.
+ *     nothing has changed, so a refused call can be made again. (If `over` had the members of a
+ *     race that had not ended, that race may have ended before memory was refused.)
+ *   - G1_NOT_ENDED: `over` has the members of a race that still has another owner, and nothing has
+ *     changed. This code can come only after g1_race_close returned it.
  */
 uint32_t g1_race_core(struct g1_over *over, struct g1 *handle, uint32_t hot, uint32_t ring);
 

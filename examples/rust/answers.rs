@@ -14,6 +14,8 @@ pub enum Refusal {
     LogFull,
     /// Not as many racers or sweepers as a race may have.
     BadMembers,
+    /// A race has another owner, so it has not ended.
+    NotEnded,
     /// A slot, card or region of another heap was passed.
     OtherHeap,
     /// A word that these types rule out, as that the heap is closed.
@@ -30,6 +32,7 @@ impl Refusal {
             library::SAME_REGION => Refusal::SameRegion,
             library::LOG_FULL => Refusal::LogFull,
             library::BAD_MEMBERS => Refusal::BadMembers,
+            library::NOT_ENDED => Refusal::NotEnded,
             word => Refusal::Unexpected(word),
         }
     }
@@ -45,6 +48,7 @@ impl fmt::Display for Refusal {
             Refusal::SameRegion => f.write_str("the same region twice"),
             Refusal::LogFull => f.write_str("the log is full"),
             Refusal::BadMembers => f.write_str("a race of too few or too many members"),
+            Refusal::NotEnded => f.write_str("a race that has another owner"),
             Refusal::OtherHeap => f.write_str("a number of another heap"),
             Refusal::Unexpected(word) => write!(f, "an unexpected answer: {word}"),
         }

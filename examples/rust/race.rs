@@ -4,7 +4,7 @@
 //! theirs. [`Race::close`] and [`Closed::into_heap`] make a heap of it for a pause, and [`Race::resume`] a race of the heap; numbers of the heap stay good.
 use crate::library::{
     g1_member_close, g1_over_close, g1_race_close, g1_race_core, g1_race_open, g1_race_refine, g1_race_resume,
-    g1_race_store, g1_race_take_log, Handle, Member, Over, DONE,
+    g1_race_store, g1_race_take_log, Handle, Member, Over, DONE, NOT_ENDED,
 };
 use crate::numbers::{Home, Numbers};
 use crate::{Card, Counts, Heap, Kind, Refusal, Region, Slot, LOG};
@@ -120,7 +120,8 @@ impl Race {
         (racers.collect(), sweepers.collect())
     }
 
-    /// Ends the race. Refused, it goes on. Logs that were not taken are dropped; their cards stay dirty.
+    /// Ends the race, or gathers its members where it has another owner ([`Closed::into_heap`] ends it then). Refused, it goes on.
+    /// Logs that were not taken are dropped; their cards stay dirty.
     pub fn close(mut self) -> Result<Closed, (Race, Refusal)> {
         let (mut racers, mut sweepers) = (handles(&self.racers), handles(&self.sweepers));
         let mut over = Over { race: null_mut() };
@@ -131,7 +132,7 @@ impl Race {
         for (seat, handle) in all.zip(racers.into_iter().chain(sweepers)) {
             seat.handle = handle;
         }
-        if word != DONE {
+        if word != DONE && word != NOT_ENDED {
             return Err((self, Refusal::of(word)));
         }
         Ok(Closed {

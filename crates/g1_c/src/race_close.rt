@@ -1,19 +1,23 @@
 //! How a race ends.
-ghost use Rattle.std.specs.Prelude.{◌≡◌, ◌<◌, None, All};
-ghost use Rattle.g1_race.specs.declared.race.Race.{Race};
-ghost use Rattle.g1_race.specs.Over.{Ended};
+ghost use Rattle.std.specs.Prelude.{◌≡◌, ◌≢◌, ◌⊎◌, ◌<◌, None, length};
+ghost use Rattle.g1_handles.specs.Closing.{HasEnded, IsGathered, IsLeft};
 ghost use Rattle.g1_handles.specs.Codes.{IsRefusal};
-ghost use Rattle.g1_handles.specs.Racing.{held, AreClosed, AreAsMany, AreOfOneRace, IsOf, IsClosedOf, IsKept, Leaves};
+ghost use Rattle.g1_handles.specs.Racing.{held, AreClosed, AreCounts, AreAsMany, AreOfOneRace};
 ghost use Rattle.g1_handles.specs.Refusals.{IsCloseRefused};
 
-use g1_handles::code::DONE;
+use g1_handles::code::{DONE, Refusal};
+use g1_handles::gathered::Closing;
 use g1_handles::member_handle::MemberHandle;
 use g1_handles::over_handle::OverHandle;
 use g1_handles::race_close::close_race;
 use std::alloc::Global;
 
-/// Ends a race, whose racers and sweepers are all handed in: their handles are closed, and what is left of it lies behind `over`,
-/// for [`g1_race_core`](crate::race_core::g1_race_core).
+/// Ends a race, whose racers and sweepers are all handed in: their handles are closed, and what is
+/// left of it lies behind `over`, for [`g1_race_core`](crate::race_core::g1_race_core).
+///
+/// A race that has another owner does not end: then its members lie behind `over`, and the code is
+/// 25. [`g1_race_core`](crate::race_core::g1_race_core) ends it once that owner is gone. No run has
+/// shown it, since counts are taken before; but no proof excludes it.
 ///
 /// Members of several races are refused before anything changes, by counts of each race's owners. No
 /// proof knows what these counts say, so the condition `one` stands in its place: handles whose roles
@@ -27,20 +31,23 @@ pub extern "C" fn g1_race_close(
 ) -> u32
     requires one { AreAsMany (held racers.old) (held sweepers.old) →
         AreOfOneRace (held racers.old) (held sweepers.old) }
-    ensures members { result ≡ 0 → AreAsMany (held racers.old) (held sweepers.old) }
-    ensures over { result ≡ 0 → (race : Race) → All (IsOf race) (held racers.old) →
-        All (IsOf race) (held sweepers.old) → (e : Ended) → Leaves over.new.value e →
-        IsClosedOf race (held racers.old) (held sweepers.old) e }
-    ensures kept { result ≡ 0 → IsKept over.new.value }
-    ensures closed { result ≡ 0 → (over.old.value ≡ None) × AreClosed (held racers.new) ×
-        AreClosed (held sweepers.new) }
-    ensures why { 0 < result →
+    ensures members { (result ≡ 0) ⊎ (result ≡ 25) →
+        AreCounts (length racers.old) (length sweepers.old) ×
+        AreAsMany (held racers.old) (held sweepers.old) }
+    ensures ended { result ≡ 0 →
+        IsLeft HasEnded (held racers.old) (held sweepers.old) over.new.value }
+    ensures gathered { result ≡ 25 →
+        IsLeft IsGathered (held racers.old) (held sweepers.old) over.new.value }
+    ensures closed { (result ≡ 0) ⊎ (result ≡ 25) → (over.old.value ≡ None) ×
+        AreClosed (held racers.new) × AreClosed (held sweepers.new) }
+    ensures why { 0 < result → result ≢ 25 →
         IsRefusal result (IsCloseRefused (held racers.old) (held sweepers.old) over.old.value) }
-    ensures refused { 0 < result → (held racers.new ≡ held racers.old) ×
+    ensures refused { 0 < result → result ≢ 25 → (held racers.new ≡ held racers.old) ×
         (held sweepers.new ≡ held sweepers.old) × (over.new.value ≡ over.old.value) }
 {
     match close_race(alloc, racers, sweepers, over) {
-        Ok(()) => DONE,
+        Ok(Closing::Ended) => DONE,
+        Ok(Closing::Gathered) => Refusal::NotEnded.word(),
         Err(refusal) => refusal.word(),
     }
 }

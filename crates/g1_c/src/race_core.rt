@@ -1,5 +1,5 @@
 //! A race that is over becomes a core.
-ghost use Rattle.std.specs.Prelude.{◌≡◌, ◌<◌, None, Some, IsSome};
+ghost use Rattle.std.specs.Prelude.{◌≡◌, ◌≢◌, ◌<◌, None, Some, IsSome};
 ghost use Rattle.g1_race.specs.Over.{Ended, core_of};
 ghost use Rattle.g1_handles.specs.Codes.{settings_of, IsRefusal};
 ghost use Rattle.g1_handles.specs.Racing.{IsStill, Leaves};
@@ -29,6 +29,7 @@ pub extern "C" fn g1_race_core(
         IsRefusal result (IsCoreRefused over.old.value handle.old.value (settings_of hot ring)) }
     ensures refused { 0 < result → (handle.new.value ≡ handle.old.value) ×
         IsStill over.old.value over.new.value }
+    ensures same { 0 < result → result ≢ 10 → over.new.value ≡ over.old.value }
 {
     match open_core(alloc, over, handle, hot, ring) {
         Ok(()) => DONE,

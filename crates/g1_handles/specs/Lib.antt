@@ -5,3 +5,4 @@ pub mod Replies
 pub mod Queries
 pub mod Batch
 pub mod Racing
+pub mod Closing

@@ -211,8 +211,7 @@ IsStill (Some remains.Nothing) (Some remains.Nothing) = Unit {0}
 IsStill (Some remains.Nothing) (Some (remains.Members g)) = ⊥
 IsStill (Some remains.Nothing) (Some (remains.Over e)) = ⊥
 IsStill (Some (remains.Members g)) (Some remains.Nothing) = ⊥
-IsStill (Some (remains.Members g)) (Some (remains.Members h)) =
-    (h.race ≡ g.race) × (h.racers ≡ g.racers) × (h.sweepers ≡ g.sweepers)
+IsStill (Some (remains.Members g)) (Some (remains.Members h)) = h ≡ g
 IsStill (Some (remains.Members g)) (Some (remains.Over e)) = EndsAs g e
 IsStill (Some (remains.Over left)) (Some remains.Nothing) = ⊥
 IsStill (Some (remains.Over left)) (Some (remains.Members g)) = ⊥

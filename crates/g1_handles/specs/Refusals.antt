@@ -108,8 +108,8 @@ IsMemberRefused role members m r =
     ⊎ ((r ≡ refusal.OtherRole) × (HasRole role m → ⊥))
     ⊎ ((r ≡ refusal.BadMembers) × (IsAmong role members m → ⊥))
 
--- a close of the race of these members, into this handle; that they are of one race and that nobody
--- else has a share of it is found out by counts, of which no proof knows
+-- a close of the race of these members, into this handle, before anything changes; that they are of
+-- one race and that nobody else has a share of it is found out by counts, of which no proof knows
 abbrev pub IsCloseRefused : List (Option Member) → List (Option Member) → Option Remains → Refusal → Type 0
 IsCloseRefused racers sweepers over r =
     ((r ≡ refusal.BadMembers) × (AreCounts (length racers) (length sweepers) → ⊥))
@@ -123,7 +123,7 @@ IsCloseRefused racers sweepers over r =
 abbrev pub IsCoreRefused : Option Remains → Option Machine → Settings → Refusal → Type 0
 IsCoreRefused over handle s r =
     ((r ≡ refusal.NotOpen) × (IsKept over → ⊥))
-    ⊎ ((r ≡ refusal.OtherRace) × KeepsMembers over)
+    ⊎ ((r ≡ refusal.NotEnded) × KeepsMembers over)
     ⊎ ((r ≡ refusal.AlreadyOpen) × IsSome handle)
     ⊎ ((r ≡ refusal.BadSettings) × (AreSettings s → ⊥))
     ⊎ (r ≡ refusal.NoMemory)

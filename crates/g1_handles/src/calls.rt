@@ -1,5 +1,5 @@
 //! Opening and closing a handle.
-ghost use Rattle.std.specs.Prelude.{◌≡◌, ◌<◌, Some, None, IfOk, IfErr, OnOk, OnErr, SomeIff, IsSome};
+ghost use Rattle.std.specs.Prelude.{◌≡◌, ◌<◌, Some, None, IfOk, IfErr, OnOk, OnErr, SomeIff, IsSome, IsTrue};
 ghost use Rattle.g1_core.specs.Machine.{Machine, new_machine};
 ghost use Rattle.g1_core.specs.Settings.{AreSettings};
 ghost use Rattle.g1_handles.specs.Codes.{layout_of, settings_of};
@@ -54,6 +54,18 @@ pub(crate) fn config(hot: u32, ring: u32) -> Option<Config>
     let limit = Config::LIMIT.default as usize;
     let start = Config::START.default as usize;
     Config::new(log, limit, hot, ring as usize, start)
+}
+
+/// Whether a handle is closed.
+pub(crate) fn is_closed(handle: Handle, alloc: Global) -> (Handle, bool)
+    ensures same { result.0.value ≡ handle.value }
+    ensures closed { IsTrue result.1 → handle.value ≡ None }
+    ensures open { handle.value ≡ None → IsTrue result.1 }
+{
+    match handle.into_raw_box() {
+        None => (Handle::closed(alloc), true),
+        Some(core) => (Handle::of(core), false),
+    }
 }
 
 /// Puts a core into a handle that is closed.

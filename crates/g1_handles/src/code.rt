@@ -53,6 +53,8 @@ pub enum Refusal {
     BadMembers,
     /// The handles are not those of all members of one race, each given once.
     OtherRace,
+    /// The members of a race are gathered, and the race has another owner, so it has not ended.
+    NotEnded,
 }
 
 impl Refusal {
@@ -79,6 +81,7 @@ impl Refusal {
             Refusal::LogFull => 22,
             Refusal::BadMembers => 23,
             Refusal::OtherRace => 24,
+            Refusal::NotEnded => 25,
         }
     }
 }

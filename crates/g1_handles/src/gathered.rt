@@ -17,3 +17,12 @@ pub struct Gathered {
     ghost racing: { All (λ r. racer_race r ≡ race_id (arc_value race)) racers.items },
     ghost sweeping: { All (λ w. sweeper_race w ≡ race_id (arc_value race)) sweepers.items },
 }
+
+/// What a close made of a race.
+#[derive(Clone, Copy, Debug, PartialEq, Eq)]
+pub enum Closing {
+    /// It has ended.
+    Ended,
+    /// It has another owner: its members are gathered, and it has not ended.
+    Gathered,
+}

@@ -4,11 +4,12 @@ ghost use Rattle.std.specs.Arc.{arc_value};
 ghost use Rattle.g1_race.specs.declared.race.Race.{Race};
 ghost use Rattle.g1_race.specs.Over.{Ended};
 ghost use Rattle.g1_race.specs.Members.{race_id, racer_race, sweeper_race, racer_view, sweeper_view};
-ghost use Rattle.g1_handles.specs.Racing.{held, AreClosed, AreAsMany, AreOfOneRace, HasRole, IsOf, IsClosedOf, EndsAs, IsKept, IsStill, Leaves, known_to};
+ghost use Rattle.g1_handles.specs.Racing.{held, AreClosed, AreCounts, AreAsMany, AreOfOneRace, HasRole, IsOf, IsClosedOf, EndsAs, IsStill, known_to};
+ghost use Rattle.g1_handles.specs.Closing.{Lies, IsLeft};
 ghost use Rattle.g1_handles.specs.Refusals.{IsCloseRefused};
 
 use crate::code::Refusal;
-use crate::gathered::Gathered;
+use crate::gathered::{Closing, Gathered};
 use crate::look::look_at;
 use crate::member::{Member, Racing, Role, Sweeping};
 use crate::member_handle::MemberHandle;
@@ -22,7 +23,7 @@ use std::alloc::Global;
 use std::sync::Arc;
 
 /// Ends a race, whose racers and sweepers are all handed in, and leaves what is left of it behind
-/// `over`.
+/// `over`; or its members, where it has another owner.
 ///
 /// Members of several races are refused, before anything stands on the condition.
 pub fn close_race(
@@ -30,14 +31,13 @@ pub fn close_race(
     racers: &mut [MemberHandle],
     sweepers: &mut [MemberHandle],
     over: &mut OverHandle,
-) -> Result<(), Refusal>
+) -> Result<Closing, Refusal>
     requires one { AreAsMany (held racers.old) (held sweepers.old) →
         AreOfOneRace (held racers.old) (held sweepers.old) }
-    ensures members { OnOk result (AreAsMany (held racers.old) (held sweepers.old)) }
-    ensures over { OnOk result ((race : Race) → All (IsOf race) (held racers.old) →
-        All (IsOf race) (held sweepers.old) → (e : Ended) → Leaves over.new.value e →
-        IsClosedOf race (held racers.old) (held sweepers.old) e) }
-    ensures kept { OnOk result (IsKept over.new.value) }
+    ensures members { OnOk result (AreCounts (length racers.old) (length sweepers.old) ×
+        AreAsMany (held racers.old) (held sweepers.old)) }
+    ensures over { IfOk result (λ closing.
+        IsLeft (Lies closing) (held racers.old) (held sweepers.old) over.new.value) }
     ensures closed { OnOk result ((over.old.value ≡ None) × AreClosed (held racers.new) ×
         AreClosed (held sweepers.new)) }
     ensures why { IfErr result (λ refusal.
@@ -57,9 +57,9 @@ pub fn close_race(
     let Some(share) = share_of_all(alloc, racers, sweepers) else {
         return Err(Refusal::OtherRace);
     };
-    let remains = close_all(alloc, share, racers, sweepers)?;
+    let (remains, closing) = close_all(alloc, share, racers, sweepers)?;
     replace_with(over, remains, put_in);
-    Ok(())
+    Ok(closing)
 }
 
 fn is_closed(over: OverHandle, alloc: Global) -> (OverHandle, bool)
@@ -86,14 +86,13 @@ fn close_all(
     share: Arc<Race, Global>,
     racers: &mut [MemberHandle],
     sweepers: &mut [MemberHandle],
-) -> Result<Box<Remains>, Refusal>
+) -> Result<(Box<Remains>, Closing), Refusal>
     requires many { AreAsMany (held racers.old) (held sweepers.old) }
     requires some { 0 < length racers.old }
     requires one { All (IsOf (arc_value share)) (held racers.old) ×
         All (IsOf (arc_value share)) (held sweepers.old) }
-    ensures over { IfOk result (λ remains. (e : Ended) → Leaves (Some remains.value) e →
-        IsClosedOf (arc_value share) (held racers.old) (held sweepers.old) e) }
-    ensures kept { IfOk result (λ remains. IsKept (Some remains.value)) }
+    ensures over { IfOk result (λ left. Lies left.1 (Some left.0.value)
+        (IsClosedOf (arc_value share) (held racers.old) (held sweepers.old))) }
     ensures closed { OnOk result (AreClosed (held racers.new) × AreClosed (held sweepers.new)) }
     ensures why { IfErr result (λ refusal. refusal ≡ Refusal.NoMemory) }
     ensures refused { OnErr result ((held racers.new ≡ held racers.old) ×
@@ -110,12 +109,21 @@ fn close_all(
     };
     let gone_racers = gather_racers(alloc, racers, racer_room);
     let gone_sweepers = gather_sweepers(alloc, sweepers, sweeper_room);
-    *remains = ended(Remains::Members(Gathered {
+    let gathered = Gathered {
         race: share,
         racers: gone_racers,
         sweepers: gone_sweepers,
-    }));
-    Ok(remains)
+    };
+    match end(gathered) {
+        Ok(closed) => {
+            *remains = Remains::Over(closed);
+            Ok((remains, Closing::Ended))
+        }
+        Err(back) => {
+            *remains = Remains::Members(back);
+            Ok((remains, Closing::Gathered))
+        }
+    }
 }
 
 /// Ends the race of members that lie here, where nobody else has a share of it.
@@ -134,8 +142,7 @@ pub(crate) fn ended(remains: Remains) -> Remains
 
 fn end(gathered: Gathered) -> Result<Closed, Gathered>
     ensures over { IfOk result (λ e. EndsAs gathered e) }
-    ensures back { IfErr result (λ back. (back.race ≡ gathered.race) ×
-        (back.racers ≡ gathered.racers) × (back.sweepers ≡ gathered.sweepers)) }
+    ensures back { IfErr result (λ back. back ≡ gathered) }
 {
     let Gathered {
         race,

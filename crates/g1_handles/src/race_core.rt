@@ -1,11 +1,11 @@
 //! A race that is over becomes a core.
-ghost use Rattle.std.specs.Prelude.{◌≡◌, ◌<◌, None, Some, IsSome, IfOk, OnOk, OnErr, IfErr};
+ghost use Rattle.std.specs.Prelude.{◌≡◌, ◌≢◌, ◌<◌, None, Some, IsSome, IfOk, OnOk, OnErr, IfErr};
 ghost use Rattle.g1_race.specs.Over.{Ended, core_of};
 ghost use Rattle.g1_handles.specs.Codes.{settings_of};
 ghost use Rattle.g1_handles.specs.Racing.{IsStill, Leaves};
 ghost use Rattle.g1_handles.specs.Refusals.{IsCoreRefused};
 
-use crate::calls::{config, open_in};
+use crate::calls::{config, is_closed, open_in};
 use crate::code::{DONE, Refusal};
 use crate::handle::Handle;
 use crate::over_handle::{OverHandle, Remains};
@@ -30,7 +30,12 @@ pub fn open_core(
         IsCoreRefused over.old.value handle.old.value (settings_of hot ring) refusal) }
     ensures refused { OnErr result ((handle.new.value ≡ handle.old.value) ×
         IsStill over.old.value over.new.value) }
+    ensures same { IfErr result (λ refusal. refusal ≢ Refusal.NoMemory →
+        over.new.value ≡ over.old.value) }
 {
+    if !replace_with(handle, alloc, is_closed) {
+        return Err(Refusal::AlreadyOpen);
+    }
     let core = replace_with(over, (alloc, hot, ring), core_in)?;
     replace_with(handle, core, open_in)?;
     replace_with(over, alloc, close_in);
@@ -42,6 +47,8 @@ fn core_in(over: OverHandle, words: (Global, u32, u32)) -> (OverHandle, Result<B
     ensures core { IfOk result.1 (λ core. (e : Ended) × Leaves over.value e ×
         (core.value ≡ core_of e (settings_of words.1 words.2))) }
     ensures still { IsStill over.value result.0.value }
+    ensures same { IfErr result.1 (λ refusal. refusal ≢ Refusal.NoMemory →
+        result.0.value ≡ over.value) }
     ensures why { IfErr result.1 (λ refusal.
         IsCoreRefused over.value None (settings_of words.1 words.2) refusal) }
 {
@@ -57,6 +64,8 @@ fn core_of(alloc: Global, remains: &mut Remains, hot: u32, ring: u32) -> Result<
     ensures core { IfOk result (λ core. (e : Ended) × Leaves (Some remains.old) e ×
         (core.value ≡ core_of e (settings_of hot ring))) }
     ensures still { IsStill (Some remains.old) (Some remains.new) }
+    ensures same { IfErr result (λ refusal. refusal ≢ Refusal.NoMemory →
+        remains.new ≡ remains.old) }
     ensures why { IfErr result (λ refusal.
         IsCoreRefused (Some remains.old) None (settings_of hot ring) refusal) }
 {
@@ -66,7 +75,7 @@ fn core_of(alloc: Global, remains: &mut Remains, hot: u32, ring: u32) -> Result<
     replace_with(remains, (), ended_in);
     match remains {
         Remains::Nothing => Err(Refusal::NotOpen),
-        Remains::Members(_) => Err(Refusal::OtherRace),
+        Remains::Members(_) => Err(Refusal::NotEnded),
         Remains::Over(closed) => {
             let Ok(core) = closed.to_core(alloc, config) else {
                 return Err(Refusal::NoMemory);

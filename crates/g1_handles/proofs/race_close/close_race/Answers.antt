@@ -8,28 +8,46 @@ use Rattle.g1_handles.specs.declared.member.Member.{Member}
 use Rattle.g1_handles.specs.declared.member.Role.TheVariants as roles
 use Rattle.g1_handles.specs.declared.member_handle.MemberHandle.{MemberHandle}
 use Rattle.g1_handles.specs.declared.over_handle.Remains.{Remains}
-use Rattle.g1_handles.specs.Racing.{held, AreAsMany, IsAmong, IsOf, IsClosedOf, Leaves}
+use Rattle.g1_handles.specs.Racing.{held, AreAsMany, AreOfOneRace, IsAmong, IsOf, IsClosedOf}
+use Rattle.g1_handles.specs.Closing.{Lies}
 use Rattle.g1_handles.proofs.race_close.close_race.Goals as goal
+
+-- members that are as many as their race has are all of the race that a share is of
+shared : (race : Race) (rs ss : List MemberHandle) → All (IsAmong roles.Racer (length rs + length ss)) (held rs)
+    → All (IsAmong roles.Sweeper (length rs + length ss)) (held ss)
+    → (AreAsMany (held rs) (held ss) → AreOfOneRace (held rs) (held ss))
+    → ((r : Race) → All (IsOf r) (held rs) → race ≡ r)
+    → All (IsOf race) (held rs) × All (IsOf race) (held ss)
+shared race rs ss racers sweepers one is =
+    let m = length-map rs (λ (x : MemberHandle). x.value) in
+    let k = length-map ss (λ (x : MemberHandle). x.value) in
+    let n : length rs + length ss ≡ length (held rs) + length (held ss) = omega (arith, m, k) in
+    let of = one (
+      subst (λ (n : ℕ). All (IsAmong roles.Racer n) (held rs)) n racers,
+      subst (λ (n : ℕ). All (IsAmong roles.Sweeper n) (held ss)) n sweepers,
+    ) in
+    let same : race ≡ of.0 = is of.0 of.1 in
+    subst (λ (r : Race). All (IsOf r) (held rs) × All (IsOf r) (held ss)) (sym same) (of.1, of.2)
 
 pub close_all-requires-clause-one : goal.close_all-requires-clause-one
 close_all-requires-clause-one c =
-    let racers = length-map c.args.racers.now (λ (x : MemberHandle). x.value) in
-    let sweepers = length-map c.args.sweepers.now (λ (x : MemberHandle). x.value) in
-    let n : length c.args.racers.now + length c.args.sweepers.now ≡ length (held c.args.racers.now) + length (held c.args.sweepers.now) = omega (arith, racers, sweepers) in
-    let many : AreAsMany (held c.args.racers.now) (held c.args.sweepers.now) = (
-      subst (λ (n : ℕ). All (IsAmong roles.Racer n) (held c.args.racers.now)) n c.in_ok-look_at.ensures.among,
-      subst (λ (n : ℕ). All (IsAmong roles.Sweeper n) (held c.args.sweepers.now)) n c.in_ok-look_at-2.ensures.among,
-    ) in
-    let one = c.requires.one many in
-    let same : arc_value c.in-Some.share ≡ one.0 = c.in-Some.ensures.race one.0 (subst (All (IsOf one.0)) (sym c.look_at.ensures.same) one.1) in
-    let all : (ms ns : List (Option Member)) → ns ≡ ms → All (IsOf one.0) ms → All (IsOf (arc_value c.in-Some.share)) ns
-    = λ ms ns e of. subst (λ (race : Race). All (IsOf race) ns) (sym same) (subst (All (IsOf one.0)) (sym e) of) in
-    (all _ _ (c.share_of_all.ensures.same.0 ∙ c.look_at.ensures.same) one.1, all _ _ (c.share_of_all.ensures.same.1 ∙ c.look_at-2.ensures.same) one.2)
+    let race = arc_value c.in-Some.share in
+    let of = shared race c.args.racers.now c.args.sweepers.now c.in_ok-look_at.ensures.among c.in_ok-look_at-2.ensures.among c.requires.one
+    (λ r all. c.in-Some.ensures.race r (subst (All (IsOf r)) (sym c.look_at.ensures.same) all)) in
+    (subst (All (IsOf race)) (sym (c.share_of_all.ensures.same.0 ∙ c.look_at.ensures.same)) of.0, subst (All (IsOf race)) (sym (c.share_of_all.ensures.same.1 ∙ c.look_at-2.ensures.same)) of.1)
 
 pub returns-clause-over : goal.returns-clause-over
-returns-clause-over c race rs ss e leaves =
-    let same : arc_value c.in-Some.share ≡ race = c.in-Some.ensures.race race (subst (All (IsOf race)) (sym c.look_at.ensures.same) rs) in
-    let racers = c.share_of_all.ensures.same.0 ∙ c.look_at.ensures.same in
-    let sweepers = c.share_of_all.ensures.same.1 ∙ c.look_at-2.ensures.same in
-    subst (λ (a : Race × List (Option Member) × List (Option Member)). IsClosedOf a.0 a.1 a.2 e) (λ i. (same i, racers i, sweepers i))
-    (c.in_ok-remains.ensures.over e (subst (λ (m : Option Remains). Leaves m e) c.replace_with-2.ensures leaves))
+returns-clause-over c =
+    let race = arc_value c.in-Some.share in
+    let closing = c.in_ok-remains.closing in
+    let of = shared race c.args.racers.now c.args.sweepers.now c.in_ok-look_at.ensures.among c.in_ok-look_at-2.ensures.among c.requires.one
+    (λ r all. c.in-Some.ensures.race r (subst (All (IsOf r)) (sym c.look_at.ensures.same) all)) in
+    let rs = c.share_of_all.ensures.same.0 ∙ c.look_at.ensures.same in
+    let ss = c.share_of_all.ensures.same.1 ∙ c.look_at-2.ensures.same in
+    record {
+      race = race;
+      racing = of.0;
+      sweeping = of.1;
+      left = subst (λ (a : Option Remains × List (Option Member) × List (Option Member)). Lies closing a.0 (IsClosedOf race a.1 a.2))
+          (λ i. (sym c.replace_with-2.ensures i, rs i, ss i)) c.in_ok-remains.ensures.over;
+    }
