@@ -362,7 +362,7 @@ uint32_t g1_redirect(struct g1 *handle, uint32_t from, uint32_t to, uint32_t *mo
  *   - If g1_race_store stores a reference into another region, it marks the slot's card dirty. If
  *     it returns G1_STORED_LOGGED, the card is in the racer's own log.
  *   - The caller takes the log (g1_race_take_log) and hands its cards to a sweeper, by a queue of
- *     its own. The sweeper refines each of them (g1_race_refine).
+ *     its own (g1_refiner.h has one). The sweeper refines each of them (g1_race_refine).
  *   - A log that is lost costs only time. Its cards stay dirty, and the first drain after the race
  *     refines them.
  *

@@ -18,9 +18,9 @@
  *   - No thread is stopped or cancelled inside one of these calls (by a signal, for instance): it
  *     may have the refiner's lock.
  *
- * Several threads may call g1_refiner_store and g1_refiner_hand_on at once, each with a racer of its
- * own. These calls take no memory. They wait for the refiner's lock alone, which no thread has for
- * longer than it takes to copy a log.
+ * Several threads may call g1_refiner_store and g1_refiner_hand_on at once, each with a racer of
+ * its own. These calls take no memory. They wait for the refiner's lock alone, which no thread has
+ * for longer than it takes to copy a log.
  */
 #ifndef G1_REFINER_H
 #define G1_REFINER_H
@@ -145,7 +145,7 @@ static inline int g1_refiner_make_lock(struct g1_refiner *refiner) {
     return error;
 }
 
-/* Closes a paused refiner: ends its threads, and waits for that. It may be opened again. */
+/* Closes a paused refiner: ends its threads, and waits for their ends. It may be opened again. */
 static inline void g1_refiner_close(struct g1_refiner *refiner) {
     pthread_mutex_lock(&refiner->lock);
     refiner->is_ending = 1;
@@ -194,8 +194,8 @@ static inline int g1_refiner_open(struct g1_refiner *refiner, struct g1_log *log
 }
 
 /*
- * Lets refinement begin. `sweepers` are as many open handles as the refiner has threads, one for
- * each. The threads take the sweepers over: the handles that were passed are closed.
+ * Lets refinement begin. `sweepers` are open handles of sweepers, one for each thread. The threads
+ * take the sweepers over, and these handles are closed. It waits for nothing but the lock.
  */
 static inline void g1_refiner_resume(struct g1_refiner *refiner, struct g1_member *sweepers) {
     pthread_mutex_lock(&refiner->lock);
@@ -212,14 +212,14 @@ static inline void g1_refiner_resume(struct g1_refiner *refiner, struct g1_membe
 }
 
 /*
- * Ends refinement: waits until each thread has given its sweeper back, and sets `sweepers` to their
- * handles. Then the queue is empty. The call waits for the logs whose refinement has begun, and
- * with G1_REFINE_QUEUED for that of the queued ones. It waits for no mutator: from its beginning
- * until the resume, a log that is handed on is dropped. Stop the mutators first, then it has all
- * logs that they handed on.
+ * Ends refinement. The call waits until each thread has given its sweeper back, and opens the
+ * handles `sweepers` on these, in the order in which the resume took them. Each thread first ends
+ * the log that it has begun, and with G1_REFINE_QUEUED they refine the queued ones too. The queue
+ * is empty afterwards. From the beginning of the call until the resume, logs that are handed on are
+ * dropped, so the call waits for no mutator. Stop the mutators before it for more to be refined.
  *
  * Returns G1_DONE, or the first code since the resume with which g1_race_refine refused a card. The
- * later cards of the log of a refused card were not refined either.
+ * rest of that card's log was not refined.
  */
 static inline uint32_t g1_refiner_pause(struct g1_refiner *refiner, enum g1_queued queued,
                                         struct g1_member *sweepers) {

@@ -1,9 +1,22 @@
 // What each call of g1_refiner.h returns, and what becomes of the logs that are handed on.
 #define _POSIX_C_SOURCE 200809L
-#include "g1_refiner.h"
-
+#include <errno.h>
+#include <pthread.h>
 #include <stdio.h>
 #include <time.h>
+
+// What a refiner asks of the system when it is opened; one of these calls is refused.
+static unsigned asked, refused;
+
+static int is_refused(void) {
+    return ++asked == refused;
+}
+
+#define pthread_mutex_init(...) (is_refused() ? EAGAIN : pthread_mutex_init(__VA_ARGS__))
+#define pthread_cond_init(...) (is_refused() ? EAGAIN : pthread_cond_init(__VA_ARGS__))
+#define pthread_create(...) (is_refused() ? EAGAIN : pthread_create(__VA_ARGS__))
+
+#include "g1_refiner.h"
 
 enum { REGIONS = 4, CARDS = 512, ALL_CARDS = REGIONS * CARDS };
 enum { LOGS = 3, SWEEPERS = 2, ROUNDS = 100, STORES = 10 };
@@ -51,7 +64,14 @@ static void openings(void) {
     check(g1_refiner_open(&refiner, logs, 0, 1) == EINVAL, "no room in the queue");
     check(g1_refiner_open(&refiner, logs, LOGS, 0) == EINVAL, "no sweeper");
     check(g1_refiner_open(&refiner, logs, LOGS, G1_SWEEPERS + 1) == EINVAL, "too many sweepers");
+    for (refused = 1; refused <= 3 + SWEEPERS; refused++) {
+        asked = 0;
+        check(g1_refiner_open(&refiner, logs, LOGS, SWEEPERS) == EAGAIN, "a refused open");
+        check(asked == refused, "a refused open asks for nothing more");
+    }
+    asked = refused = 0;
     check(g1_refiner_open(&refiner, logs, LOGS, SWEEPERS) == 0, "open");
+    check(asked == 3 + SWEEPERS, "a lock, two conditions and a thread for each sweeper");
     check(store(0) == G1_NOT_OPEN, "a store by a closed handle");
     check(g1_refiner_hand_on(&refiner, &racer) == G1_NOT_OPEN, "a log of a closed handle");
     check(g1_race_open(&counts, &racer, 1, sweepers, SWEEPERS) == G1_DONE, "the race");
