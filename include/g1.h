@@ -51,6 +51,19 @@
 extern "C" {
 #endif
 
+/* The version of the library. Its first number changes where programs must be compiled again. */
+#define G1_VERSION "1.0.0"
+
+/*
+ * Marks a call that may be refused although its caller keeps every rule (by memory, a full log or
+ * what is pending), and g1_is_pending: the compiler warns if what it returns is thrown away.
+ */
+#ifdef __GNUC__
+#define G1_MUST_USE __attribute__((__warn_unused_result__))
+#else
+#define G1_MUST_USE
+#endif
+
 /* A handle of the machinery of one heap. It is closed if the pointer is null. */
 struct g1 {
     void *core;
@@ -102,14 +115,55 @@ enum g1_code {
                                  another owner, so it has not ended */
 };
 
+/*
+ * What a code means, in a few words without a full stop: a string that is never freed. A number
+ * that is no code has a text too. A kind of store is no code: ask only about a word of 8 or more if
+ * it comes from g1_store, g1_race_store or g1_is_pending.
+ */
+static inline const char *g1_code_text(uint32_t code) {
+    switch (code) {
+    case G1_DONE: return "done";
+    case G1_SHORT: return "memory was refused midway";
+    case G1_STOPPED: return "a store names no slot of the heap, and those before it were made";
+    case G1_NOT_OPEN: return "a handle is closed";
+    case G1_ALREADY_OPEN: return "a handle that was to be opened is open";
+    case G1_NO_MEMORY: return "memory was refused before anything changed";
+    case G1_BAD_LAYOUT: return "the counts of the heap are outside their limits";
+    case G1_BAD_SETTINGS: return "the hot limit or the size of the ring is outside its limits";
+    case G1_NO_SLOT: return "the heap has no such slot";
+    case G1_NO_CARD: return "the heap has no such card";
+    case G1_NO_REGION: return "the heap has no such region";
+    case G1_NO_ROOM: return "an array is too small";
+    case G1_TOO_MANY_CARDS: return "there are more cards or stores than one call takes";
+    case G1_SAME_REGION: return "references were to be moved from a region to itself";
+    case G1_STILL_PENDING: return "cards are pending";
+    case G1_STILL_REFERENCED: return "a slot outside the region refers into it";
+    case G1_OTHER_ROLE: return "a racer was passed for a sweeper, or a sweeper for a racer";
+    case G1_LOG_FULL: return "the racer's log is full";
+    case G1_BAD_MEMBERS: return "the race has, or may have, another number of members";
+    case G1_OTHER_RACE: return "the handles are not those of all members of one race";
+    case G1_NOT_ENDED: return "the members are gathered, and their race has not ended";
+    default: return "no code of the library";
+    }
+}
+
 /* The most cards that g1_refine takes at once, and the most stores that g1_store_all takes. */
 #define G1_LOG 256
 
-/* The counts of a heap: 1 to 256 regions, 1 to 65,536 cards a region, 1 to 64 slots a card. */
+/* The limits of a heap: the most regions, cards a region, and slots a card. Each is at least 1. */
+#define G1_MAX_REGIONS 256
+#define G1_MAX_CARDS 65536
+#define G1_MAX_SLOTS 64
+
+/* The greatest hot limit (the least is 0), and the most cards that the ring holds (at least 1). */
+#define G1_MAX_HOT 255
+#define G1_MAX_RING 4096
+
+/* The counts of a heap: how many regions it has, how many cards a region, and slots a card. */
 struct g1_counts {
-    uint32_t regions;
-    uint32_t cards;
-    uint32_t slots;
+    uint32_t regions; /* 1 to G1_MAX_REGIONS */
+    uint32_t cards;   /* 1 to G1_MAX_CARDS */
+    uint32_t slots;   /* 1 to G1_MAX_SLOTS */
 };
 
 /* One store of several: `target` is a place, or G1_NULL. */
@@ -139,11 +193,12 @@ struct g1_totals {
 
 /*
  * Opens a closed handle on a new heap: each slot is null, no card is pending, and nothing is
- * recorded. From `hot` refinements on (0 to 255), a card is hot. The hot ring holds `ring` cards (1
- * to 4096). The heap takes 4 bytes a slot, 34 bytes a card and the ring.
+ * recorded. From `hot` refinements on (0 to G1_MAX_HOT), a card is hot. The hot ring holds `ring`
+ * cards (1 to G1_MAX_RING). The heap takes 4 bytes a slot, 34 bytes a card and the ring.
  *
  * Returns G1_DONE, G1_ALREADY_OPEN, G1_NO_MEMORY, G1_BAD_LAYOUT or G1_BAD_SETTINGS.
  */
+G1_MUST_USE
 uint32_t g1_open(struct g1 *handle, const struct g1_counts *counts, uint32_t hot, uint32_t ring);
 
 /*
@@ -190,6 +245,7 @@ uint32_t g1_store_all(struct g1 *handle, const struct g1_reference *stores, size
  *   - G1_NOT_OPEN, G1_NO_MEMORY, G1_NO_CARD, G1_NO_ROOM or G1_TOO_MANY_CARDS: nothing has changed,
  *     and the tally is 0.
  */
+G1_MUST_USE
 uint32_t g1_refine(struct g1 *handle, const uint32_t *cards, size_t cards_length,
                    uint32_t *refined, size_t refined_length, struct g1_tally *tally);
 
@@ -209,6 +265,7 @@ uint32_t g1_refine(struct g1 *handle, const uint32_t *cards, size_t cards_length
  *   - G1_NOT_OPEN, G1_NO_MEMORY, G1_NO_REGION or G1_NO_ROOM: nothing has changed, and both counts
  *     are 0.
  */
+G1_MUST_USE
 uint32_t g1_drain(struct g1 *handle, uint32_t region, uint32_t *cards, size_t cards_length,
                   uint32_t *count, uint32_t *refined, size_t refined_length,
                   uint32_t *refined_count);
@@ -229,6 +286,7 @@ uint32_t g1_target(struct g1 *handle, uint32_t slot, uint32_t *target);
  *
  * Returns 1 if the card is pending, 0 if it is not, G1_NOT_OPEN or G1_NO_CARD.
  */
+G1_MUST_USE
 uint32_t g1_is_pending(struct g1 *handle, uint32_t card);
 
 /*
@@ -252,6 +310,7 @@ uint32_t g1_status(struct g1 *handle, struct g1_totals *totals);
  *     Nothing is written to the array.
  *   - G1_NOT_OPEN, G1_NO_MEMORY or G1_NO_REGION: `count` is 0, and nothing is written to the array.
  */
+G1_MUST_USE
 uint32_t g1_members(struct g1 *handle, uint32_t region, uint32_t *cards, size_t cards_length,
                     uint32_t *count);
 
@@ -271,6 +330,7 @@ uint32_t g1_members(struct g1 *handle, uint32_t region, uint32_t *cards, size_t 
  *     outside the region and refers into it.
  *   - G1_NOT_OPEN or G1_NO_REGION: nothing has changed, and `detail` is 0.
  */
+G1_MUST_USE
 uint32_t g1_clear(struct g1 *handle, uint32_t region, uint32_t *detail);
 
 /*
@@ -289,6 +349,7 @@ uint32_t g1_clear(struct g1 *handle, uint32_t region, uint32_t *detail);
  *   - G1_NOT_OPEN, G1_NO_MEMORY, G1_NO_REGION for either region, G1_SAME_REGION or G1_NO_ROOM:
  *     nothing has changed, and both counts are 0.
  */
+G1_MUST_USE
 uint32_t g1_redirect(struct g1 *handle, uint32_t from, uint32_t to, uint32_t *moved,
                      uint32_t *refined, size_t refined_length, uint32_t *refined_count);
 
@@ -305,7 +366,7 @@ uint32_t g1_redirect(struct g1 *handle, uint32_t from, uint32_t to, uint32_t *mo
  *   - If g1_race_store stores a reference into another region, it marks the slot's card dirty. If
  *     it returns G1_STORED_LOGGED, the card is in the racer's own log.
  *   - The caller takes the log (g1_race_take_log) and hands its cards to a sweeper, by a queue of
- *     its own. The sweeper refines each of them (g1_race_refine).
+ *     its own (g1_refiner.h has one). The sweeper refines each of them (g1_race_refine).
  *   - A log that is lost costs only time. Its cards stay dirty, and the first drain after the race
  *     refines them.
  *
@@ -349,6 +410,7 @@ struct g1_over {
  *   - G1_BAD_MEMBERS, G1_ALREADY_OPEN for any of the handles, G1_BAD_LAYOUT or G1_NO_MEMORY:
  *     nothing has changed.
  */
+G1_MUST_USE
 uint32_t g1_race_open(const struct g1_counts *counts, struct g1_member *racers,
                       size_t racers_length, struct g1_member *sweepers, size_t sweepers_length);
 
@@ -362,6 +424,7 @@ uint32_t g1_race_open(const struct g1_counts *counts, struct g1_member *racers,
  *   - G1_LOG_FULL (for any store, of null too, while the log is full), G1_NO_SLOT for the slot or
  *     the target, G1_OTHER_ROLE or G1_NOT_OPEN: nothing has changed.
  */
+G1_MUST_USE
 uint32_t g1_race_store(struct g1_member *member, uint32_t slot, uint32_t target);
 
 /*
@@ -402,6 +465,7 @@ uint32_t g1_race_refine(struct g1_member *member, uint32_t card);
  *     is given twice, or a race of which a member was closed alone), G1_ALREADY_OPEN for `over`, or
  *     G1_NO_MEMORY: nothing has changed.
  */
+G1_MUST_USE
 uint32_t g1_race_close(struct g1_member *racers, size_t racers_length, struct g1_member *sweepers,
                        size_t sweepers_length, struct g1_over *over);
 
@@ -420,6 +484,7 @@ uint32_t g1_race_close(struct g1_member *racers, size_t racers_length, struct g1
  *   - G1_NOT_ENDED: `over` has the members of a race that still has another owner, and nothing has
  *     changed. This code can come only after g1_race_close returned it.
  */
+G1_MUST_USE
 uint32_t g1_race_core(struct g1_over *over, struct g1 *handle, uint32_t hot, uint32_t ring);
 
 /*
@@ -434,6 +499,7 @@ uint32_t g1_race_core(struct g1_over *over, struct g1 *handle, uint32_t hot, uin
  *   - G1_BAD_MEMBERS, G1_ALREADY_OPEN for any of the members' handles, G1_NOT_OPEN for the core's,
  *     or G1_NO_MEMORY: nothing has changed.
  */
+G1_MUST_USE
 uint32_t g1_race_resume(struct g1 *handle, struct g1_member *racers, size_t racers_length,
                         struct g1_member *sweepers, size_t sweepers_length);
 

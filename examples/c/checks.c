@@ -110,6 +110,11 @@ static void counts_and_settings(void) {
     answers(g1_open(&handle, &small, ALL, 8), G1_BAD_SETTINGS, "the greatest hot limit");
     answers(g1_open(&handle, &small, 4, 0), G1_BAD_SETTINGS, "no ring");
     answers(g1_open(&handle, &small, 4, 4097), G1_BAD_SETTINGS, "a ring of 4097");
+    struct g1_counts most = {2, G1_MAX_CARDS, 1}, many = {G1_MAX_REGIONS, 1, G1_MAX_SLOTS};
+    answers(g1_open(&handle, &most, G1_MAX_HOT, G1_MAX_RING), G1_DONE, "the most cards, the last hot limit and the largest ring");
+    answers(g1_close(&handle), G1_DONE, "close of the most cards");
+    answers(g1_open(&handle, &many, 0, 1), G1_DONE, "the most regions and slots");
+    answers(g1_close(&handle), G1_DONE, "close of the most regions");
     check(handle.core == NULL, "a refused open leaves zeros");
     struct g1_counts greatest = {256, 64, 64};
     answers(g1_open(&handle, &greatest, 255, 4096), G1_DONE, "a heap of 1,048,576 slots");
@@ -126,7 +131,7 @@ static void counts_and_settings(void) {
 
 static void stores(void) {
     struct g1 handle = {0};
-    g1_open(&handle, &small, 4, 8);
+    answers(g1_open(&handle, &small, 4, 8), G1_DONE, "open");
     answers(g1_store(&handle, 0, G1_NULL), G1_STORED_NULL, "null");
     answers(g1_store(&handle, 0, 7), G1_STORED_SAME_REGION, "same region");
     answers(g1_store(&handle, 0, 8), G1_STORED_LOGGED, "across regions");
@@ -150,7 +155,7 @@ static void batches(void) {
     answers(g1_store_all(&handle, stores, 6, cards, 6, &batch), G1_NOT_OPEN, "several stores on a closed handle");
     check(batch.stored == 0 && batch.logged == 0, "the counts of refused stores");
     answers(g1_store_all(&handle, stores, 0, cards, 0, &batch), G1_NOT_OPEN, "no stores on a closed handle");
-    g1_open(&handle, &small, 4, 8);
+    answers(g1_open(&handle, &small, 4, 8), G1_DONE, "open");
     batch = (struct g1_batch){7, 7};
     answers(g1_store_all(&handle, stores, 6, cards, 5, &batch), G1_NO_ROOM, "room for 5 of 6 stores");
     check(batch.stored == 0 && batch.logged == 0, "the counts of stores without room");
@@ -182,7 +187,7 @@ static void rooms(void) {
     struct g1 handle = {0};
     struct g1_tally tally;
     uint32_t log[257] = {0};
-    g1_open(&handle, &small, 4, 8);
+    answers(g1_open(&handle, &small, 4, 8), G1_DONE, "open");
     g1_store(&handle, 0, 8);
     answers(drain(&handle, 4), G1_NO_REGION, "no such region");
     answers(drain(&handle, ALL), G1_NO_REGION, "the greatest region");
@@ -209,7 +214,7 @@ static void rooms(void) {
 static void questions(void) {
     struct g1 handle = {0};
     uint32_t word = 7;
-    g1_open(&handle, &small, 4, 8);
+    answers(g1_open(&handle, &small, 4, 8), G1_DONE, "open");
     check(has(&handle, 0, 0), "a new heap has nothing pending or recorded");
     check(target_of(&handle, 0) == G1_NULL && target_of(&handle, 31) == G1_NULL, "a new heap is all null");
     g1_store(&handle, 0, 8);
@@ -239,7 +244,7 @@ static void questions(void) {
 
 static void member_rooms(void) {
     struct g1 handle = {0};
-    g1_open(&handle, &small, 4, 8);
+    answers(g1_open(&handle, &small, 4, 8), G1_DONE, "open");
     g1_store(&handle, 20, 8);
     g1_store(&handle, 0, 8);
     g1_store(&handle, 28, 9);
@@ -264,7 +269,7 @@ static void member_rooms(void) {
 static void clears(void) {
     struct g1 handle = {0};
     uint32_t detail = 7;
-    g1_open(&handle, &small, 4, 8);
+    answers(g1_open(&handle, &small, 4, 8), G1_DONE, "open");
     answers(g1_clear(&handle, 1, &detail), G1_DONE, "clear of a set that is empty");
     check(detail == 0, "no detail of a clear that is done");
     g1_store(&handle, 20, 9);
@@ -294,7 +299,7 @@ static void clears(void) {
 // Slots 3 and 20 refer into region 1, from the regions 0 and 2, and slot 9 from within it.
 static void redirects(void) {
     struct g1 handle = {0};
-    g1_open(&handle, &small, 4, 8);
+    answers(g1_open(&handle, &small, 4, 8), G1_DONE, "open");
     g1_store(&handle, 20, 9);
     g1_store(&handle, 3, 8);
     g1_store(&handle, 9, 10);
@@ -328,7 +333,7 @@ static void ring(void) {
     struct g1 handle = {0};
     struct g1_tally tally;
     uint32_t log[2] = {0, 1};
-    g1_open(&handle, &small, 0, 1);
+    answers(g1_open(&handle, &small, 0, 1), G1_DONE, "open");
     g1_store(&handle, 0, 8);
     g1_store(&handle, 4, 8);
     answers(g1_refine(&handle, log, 2, refined, 2, &tally), G1_DONE, "two hot cards, and a ring of one");
@@ -436,7 +441,7 @@ static void random_calls(long calls) {
     struct g1_tally tally;
     uint32_t log[G1_LOG], length = 0;
     long drains = 0, refinements = 0, refusals = 0, wrong = 0, answered = 0;
-    g1_open(&handle, &counts, 2, 6);
+    answers(g1_open(&handle, &counts, 2, 6), G1_DONE, "open");
     memset(table, 255, sizeof table);
     for (long call = 0; call < calls; call++) {
         uint32_t choice = below(1000);
@@ -489,7 +494,18 @@ static void random_calls(long calls) {
     check(calls < 100000 || (drains > 100 && answered > 1000 && refinements > 100), "random calls of every sort");
 }
 
+// Words from 8 to the last code are codes, and of those below just three.
+static void texts(void) {
+    const char *none = g1_code_text(UINT32_MAX);
+    for (uint32_t code = 0; code < 40; code++) {
+        int is_code = code == G1_DONE || code == G1_SHORT || code == G1_STOPPED || (code >= G1_NOT_OPEN && code <= G1_NOT_ENDED);
+        check((strcmp(g1_code_text(code), none) != 0) == is_code, "each code has a text, and no other word has one");
+    }
+    check(strcmp(g1_code_text(G1_LOG_FULL), "the racer's log is full") == 0, "the text of a full log");
+}
+
 int main(int number, char **words) {
+    texts();
     closed_handles();
     counts_and_settings();
     stores();

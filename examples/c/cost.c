@@ -53,7 +53,9 @@ static size_t drain(struct g1 *heap, size_t pending) {
         g1_store(heap, i * SLOTS, (i * SLOTS + ALL_SLOTS / 2) % ALL_SLOTS);
     }
     uint32_t count, refined_count;
-    g1_drain(heap, 0, cards, ALL_CARDS, &count, refined, ALL_CARDS, &refined_count);
+    if (g1_drain(heap, 0, cards, ALL_CARDS, &count, refined, ALL_CARDS, &refined_count) != G1_DONE) {
+        return 0;
+    }
     for (uint32_t i = 0; i < pending; i++) {
         g1_store(heap, i * SLOTS, (i * SLOTS + ALL_SLOTS / 2) % ALL_SLOTS);
     }

@@ -1,0 +1,292 @@
+/*
+ * Refinement threads for a race of g1.h, in C11 or C++17 with POSIX threads.
+ *
+ * A struct g1_refiner has a bounded queue of logs, and one refinement thread for each sweeper of a
+ * race. Mutators hand on their full logs. The threads refine the cards of these, and sleep while
+ * the queue is empty. At a pause they give their sweepers back. All of the code is in this file,
+ * and is compiled into the runtime; no proof covers it.
+ *
+ * A runtime opens a refiner, which is paused. After g1_race_open or g1_race_resume it resumes the
+ * refiner, and mutators store by g1_refiner_store. At a pause it stops the mutators, takes their
+ * racers back, pauses the refiner, and ends the race by g1_race_close.
+ *
+ * Besides what g1.h relies on, these calls rely on the following:
+ *   - One thread at a time, the collector's, opens, resumes, pauses and closes a refiner. It
+ *     resumes and closes one that is paused, and pauses one that is not.
+ *   - While a refiner is open, it and the array of its queue stay where they are, and only these
+ *     calls use them. The races whose sweepers it takes have heaps of the same counts.
+ *   - No thread is stopped or cancelled inside one of these calls (by a signal, for instance): it
+ *     may have the refiner's lock.
+ *
+ * Several threads may call g1_refiner_store and g1_refiner_hand_on at once, each with a racer of
+ * its own. These calls take no memory. They wait for the refiner's lock alone, which no thread has
+ * for longer than it takes to copy a log.
+ */
+#ifndef G1_REFINER_H
+#define G1_REFINER_H
+
+#include "g1.h"
+
+#include <errno.h>
+#include <pthread.h>
+#include <string.h>
+
+#ifdef __cplusplus
+extern "C" {
+#endif
+
+/* The cards of a log: the first `count` elements of `cards`. */
+struct g1_log {
+    uint32_t count;
+    uint32_t cards[G1_LOG];
+};
+
+/* What a pause does with the logs that are queued. */
+enum g1_queued {
+    G1_REFINE_QUEUED, /* the threads refine them first: a longer stop, and less for the drain */
+    G1_DROP_QUEUED    /* they are dropped: their cards stay dirty, and the drain refines them */
+};
+
+/* Private: a refinement thread. The lock of the refiner has all but its number. */
+struct g1_refiner_thread {
+    struct g1_refiner *refiner;
+    pthread_t id;
+    struct g1_member sweeper; /* the thread's, in a local of its own, while it is running */
+    int is_running;           /* from a resume until the thread has given its sweeper back */
+};
+
+/*
+ * A refiner. A runtime may read the three counts while the refiner is paused and the mutators have
+ * stopped. All else is private. The lock has what changes while the refiner is open.
+ */
+struct g1_refiner {
+    uint64_t queued;  /* logs that were put into the queue since the refiner was opened */
+    uint64_t dropped; /* logs that were dropped: for want of room, or queued ones at a pause */
+    uint64_t refined; /* cards that were refined */
+    pthread_mutex_t lock;
+    pthread_cond_t work;    /* signalled for a log; broadcast for a resume, a pause and the end */
+    pthread_cond_t stopped; /* signalled when the last thread has given its sweeper back */
+    struct g1_log *logs;    /* a ring, whose `length` logs from `first` on are queued */
+    size_t logs_length;
+    size_t first;
+    size_t length;
+    struct g1_refiner_thread threads[G1_SWEEPERS];
+    size_t threads_length;
+    size_t running; /* how many threads are */
+    int is_paused;  /* from the beginning of a pause until the resume */
+    int is_ending;
+    uint32_t code; /* G1_DONE, or the first code since the resume that refused a refinement */
+};
+
+/* Private: takes the oldest log, by a thread that has the lock. Returns 0 if it is to stop. */
+static inline int g1_refiner_next(struct g1_refiner *refiner, struct g1_log *log) {
+    while (refiner->length == 0 && !refiner->is_paused) {
+        pthread_cond_wait(&refiner->work, &refiner->lock);
+    }
+    if (refiner->length == 0) {
+        return 0;
+    }
+    *log = refiner->logs[refiner->first];
+    refiner->first = (refiner->first + 1) % refiner->logs_length;
+    refiner->length--;
+    return 1;
+}
+
+/* Private: refines logs until the thread is to stop. It has the lock, but not while it refines. */
+static inline void g1_refiner_refine(struct g1_refiner *refiner, struct g1_member *sweeper) {
+    struct g1_log log;
+    while (g1_refiner_next(refiner, &log)) {
+        uint32_t refined = 0, code = G1_DONE;
+        pthread_mutex_unlock(&refiner->lock);
+        while (refined < log.count && code == G1_DONE) {
+            code = g1_race_refine(sweeper, log.cards[refined]);
+            refined += code == G1_DONE;
+        }
+        pthread_mutex_lock(&refiner->lock);
+        refiner->refined += refined;
+        if (refiner->code == G1_DONE) {
+            refiner->code = code;
+        }
+    }
+}
+
+/* Private: what a refinement thread runs. */
+static inline void *g1_refiner_run(void *place) {
+    struct g1_refiner_thread *thread = (struct g1_refiner_thread *)place;
+    struct g1_refiner *refiner = thread->refiner;
+    pthread_mutex_lock(&refiner->lock);
+    while (!refiner->is_ending) {
+        if (!thread->is_running) {
+            pthread_cond_wait(&refiner->work, &refiner->lock);
+            continue;
+        }
+        struct g1_member sweeper = thread->sweeper;
+        thread->sweeper.member = NULL;
+        g1_refiner_refine(refiner, &sweeper);
+        thread->sweeper = sweeper;
+        thread->is_running = 0;
+        if (--refiner->running == 0) {
+            pthread_cond_signal(&refiner->stopped);
+        }
+    }
+    pthread_mutex_unlock(&refiner->lock);
+    return NULL;
+}
+
+/* Private: makes the lock and both conditions, or returns an error and leaves none of them. */
+static inline int g1_refiner_make_lock(struct g1_refiner *refiner) {
+    int error = pthread_mutex_init(&refiner->lock, NULL);
+    if (error == 0 && (error = pthread_cond_init(&refiner->work, NULL)) != 0) {
+        pthread_mutex_destroy(&refiner->lock);
+    } else if (error == 0 && (error = pthread_cond_init(&refiner->stopped, NULL)) != 0) {
+        pthread_cond_destroy(&refiner->work);
+        pthread_mutex_destroy(&refiner->lock);
+    }
+    return error;
+}
+
+/* Closes a paused refiner: ends its threads, and waits for their ends. It may be opened again. */
+static inline void g1_refiner_close(struct g1_refiner *refiner) {
+    pthread_mutex_lock(&refiner->lock);
+    refiner->is_ending = 1;
+    pthread_cond_broadcast(&refiner->work);
+    pthread_mutex_unlock(&refiner->lock);
+    for (size_t i = 0; i < refiner->threads_length; i++) {
+        pthread_join(refiner->threads[i].id, NULL);
+    }
+    pthread_cond_destroy(&refiner->stopped);
+    pthread_cond_destroy(&refiner->work);
+    pthread_mutex_destroy(&refiner->lock);
+}
+
+/*
+ * Opens a refiner, which is paused. Its queue has room for `logs_length` logs (1 or more) in the
+ * array `logs`. It has as many threads as the race has sweepers (1 to G1_SWEEPERS). They inherit
+ * the caller's signal mask, so block there what is not to interrupt them.
+ *
+ * Returns 0, EINVAL for a length outside its limits, or the error of the call of pthreads that
+ * failed. After an error the refiner is not open, and nothing is left of it.
+ */
+G1_MUST_USE
+static inline int g1_refiner_open(struct g1_refiner *refiner, struct g1_log *logs,
+                                  size_t logs_length, size_t sweepers_length) {
+    if (logs_length == 0 || sweepers_length == 0 || sweepers_length > G1_SWEEPERS) {
+        return EINVAL;
+    }
+    memset(refiner, 0, sizeof *refiner);
+    int error = g1_refiner_make_lock(refiner);
+    if (error != 0) {
+        return error;
+    }
+    refiner->logs = logs;
+    refiner->logs_length = logs_length;
+    refiner->is_paused = 1;
+    while (error == 0 && refiner->threads_length < sweepers_length) {
+        struct g1_refiner_thread *thread = &refiner->threads[refiner->threads_length];
+        thread->refiner = refiner;
+        error = pthread_create(&thread->id, NULL, g1_refiner_run, thread);
+        refiner->threads_length += error == 0;
+    }
+    if (error != 0) {
+        g1_refiner_close(refiner);
+    }
+    return error;
+}
+
+/*
+ * Lets refinement begin. `sweepers` are open handles of sweepers, one for each thread. The threads
+ * take the sweepers over, and these handles are closed. It waits for nothing but the lock.
+ */
+static inline void g1_refiner_resume(struct g1_refiner *refiner, struct g1_member *sweepers) {
+    pthread_mutex_lock(&refiner->lock);
+    for (size_t i = 0; i < refiner->threads_length; i++) {
+        refiner->threads[i].sweeper = sweepers[i];
+        refiner->threads[i].is_running = 1;
+        sweepers[i].member = NULL;
+    }
+    refiner->running = refiner->threads_length;
+    refiner->is_paused = 0;
+    refiner->code = G1_DONE;
+    pthread_cond_broadcast(&refiner->work);
+    pthread_mutex_unlock(&refiner->lock);
+}
+
+/*
+ * Ends refinement. The call waits until each thread has given its sweeper back, and opens the
+ * handles `sweepers` on these, in the order in which the resume took them. Each thread first ends
+ * the log that it has begun, and with G1_REFINE_QUEUED they refine the queued ones too. The queue
+ * is empty afterwards. From the beginning of the call until the resume, logs that are handed on are
+ * dropped, so the call waits for no mutator. Stop the mutators before it for more to be refined.
+ *
+ * Returns G1_DONE, or the first code since the resume with which g1_race_refine refused a card. The
+ * rest of that card's log was not refined.
+ */
+static inline uint32_t g1_refiner_pause(struct g1_refiner *refiner, enum g1_queued queued,
+                                        struct g1_member *sweepers) {
+    pthread_mutex_lock(&refiner->lock);
+    refiner->is_paused = 1;
+    if (queued == G1_DROP_QUEUED) {
+        refiner->dropped += refiner->length;
+        refiner->length = 0;
+    }
+    pthread_cond_broadcast(&refiner->work);
+    while (refiner->running > 0) {
+        pthread_cond_wait(&refiner->stopped, &refiner->lock);
+    }
+    for (size_t i = 0; i < refiner->threads_length; i++) {
+        sweepers[i] = refiner->threads[i].sweeper;
+    }
+    uint32_t code = refiner->code;
+    pthread_mutex_unlock(&refiner->lock);
+    return code;
+}
+
+/*
+ * Takes a racer's log, full or not, and puts it into the queue. A mutator calls this before it ends
+ * or blocks, so that its cards are refined before the pause.
+ *
+ * If the queue is full or the refiner is paused, the log is dropped. Its cards stay dirty, and the
+ * first drain after the race refines them. A mutator cannot refine, as its handle is a racer's. And
+ * it does not wait for room: the threads that would make room may have stopped, for a pause that
+ * waits for this mutator. If many logs are dropped, lengthen the queue or add sweepers.
+ *
+ * Returns G1_DONE, or the code with which g1_race_take_log refused; then nothing has changed.
+ */
+static inline uint32_t g1_refiner_hand_on(struct g1_refiner *refiner, struct g1_member *racer) {
+    struct g1_log log;
+    uint32_t code = g1_race_take_log(racer, log.cards, G1_LOG, &log.count);
+    if (code != G1_DONE || log.count == 0) {
+        return code;
+    }
+    pthread_mutex_lock(&refiner->lock);
+    if (refiner->is_paused || refiner->length == refiner->logs_length) {
+        refiner->dropped++;
+    } else {
+        refiner->logs[(refiner->first + refiner->length++) % refiner->logs_length] = log;
+        refiner->queued++;
+        pthread_cond_signal(&refiner->work);
+    }
+    pthread_mutex_unlock(&refiner->lock);
+    return G1_DONE;
+}
+
+/*
+ * A mutator's store: g1_race_store, and if the racer's log is full, first g1_refiner_hand_on.
+ *
+ * Returns what g1_race_store returns, but never G1_LOG_FULL.
+ */
+static inline uint32_t g1_refiner_store(struct g1_refiner *refiner, struct g1_member *racer,
+                                        uint32_t slot, uint32_t target) {
+    uint32_t kind = g1_race_store(racer, slot, target);
+    if (kind != G1_LOG_FULL) {
+        return kind;
+    }
+    uint32_t code = g1_refiner_hand_on(refiner, racer);
+    return code == G1_DONE ? g1_race_store(racer, slot, target) : code;
+}
+
+#ifdef __cplusplus
+}
+#endif
+
+#endif
