@@ -16,7 +16,6 @@ ghost use Rattle.g1_race.specs.Refining.{IsDirtied};
 ghost use Rattle.g1_race_words.specs.Seats.{IsPaused};
 ghost use Rattle.g1_race_words.specs.Readers.{IsReading};
 
-use crate::bits::flag_of;
 use crate::drain::set_bit;
 use crate::paused::Paused;
 use crate::race::Race;
@@ -133,7 +132,7 @@ pub(crate) fn dirty(race: &Race, seat: &mut Place, card: usize)
     ensures dirtied { IsDirtied race.now.shape seat.old.me.0.began_words
         seat.new.me.0.began_words card }
 {
-    set_bit(race, seat, flag_of(card), race.shape.regions);
+    set_bit(race, seat, card / 8 * 8, race.shape.regions);
     put(race, seat, race.shape.slots + card, 1);
 }
 

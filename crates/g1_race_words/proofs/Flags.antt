@@ -1,5 +1,5 @@
 -- The cards' flags among the words.
-use Rattle.std.proofs.Common.{◌≡◌, ◌∙◌, ℕ, ◌+◌, ◌*◌, ◌/◌, ◌<◌, ◌≤◌, zero, suc, List, length, set, sym, subst, arith}
+use Rattle.std.proofs.Common.{◌≡◌, ◌∙◌, ℕ, ◌+◌, ◌*◌, ◌/◌, ◌%◌, ◌<◌, ◌≤◌, zero, suc, List, length, set, sym, subst, arith}
 use Rattle.std.proofs.Math.Nat.{le-mul_of_pos_right, mul-pos, mul-suc}
 use Rattle.std.proofs.lemmas.Nat.{mul-add-lt}
 use mathlib.Core.Option.{some, some-injective}
@@ -27,6 +27,12 @@ bit_below k x shaped low row = word_in_row k x.1 (x.0 / 64) shaped row (card_in_
 
 pub flag_card : (k : Shape) (c : ℕ) → c < k.cards → c / 8 * 8 < k.cards
 flag_card k c lt = omega arith
+
+pub flag_word : (k : Shape) (c : ℕ) → IsShape k → k.slots + k.cards + k.bits + c / 64 ≡ bit_word k (flag k c)
+flag_word k c shaped = let n : ℕ = k.regions * k.row in let e : k.bits ≡ n = shaped.8 in let goal : k.slots + k.cards + k.bits + c / 64 ≡ k.slots + k.cards + (n + c / 8 * 8 / 64) = omega arith in goal
+
+pub flag_place : (c : ℕ) → c % 64 / 8 * 8 ≡ c / 8 * 8 % 64
+flag_place c = omega arith
 
 pub flag_below : (k : Shape) (c : ℕ) → IsShape k → c < k.cards → bit_word k (flag k c) < word_count k
 flag_below k c shaped lt = bit_below k (flag k c) shaped (flag_card k c lt) (omega arith)
