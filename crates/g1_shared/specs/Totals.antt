@@ -2,6 +2,8 @@
 use Rattle.std.specs.Prelude.{◌≡◌, ℕ, ◌+◌, ◌-◌, ◌^◌, Option, Some, None, refl}
 use Rattle.std.specs.Coded.{Coded, code_by, coded×, coded_ℕ}
 use Rattle.g1_core.specs.Machine.{Machine, machine_code}
+use Rattle.g1_core.specs.Run.{IsStep}
+use Rattle.g1_core.specs.declared.entry.Entry.{Entry}
 use Rattle.g1_book.specs.History.{Terms}
 
 -- how many calls were made, how many of these are stores, and how many may be made
@@ -30,6 +32,14 @@ core_terms m mutators limit = record { layout = m.state.table.layout; settings =
 pub record CountedMachine : Type 0 where
   pub machine : Machine
   pub totals : Totals
+
+-- No call more may be made.
+abbrev pub IsFull : CountedMachine → Type 0
+IsFull c = c.totals.made ≡ c.totals.limit
+
+-- The call is a step of the plain table, whoever made it.
+abbrev pub IsCoreStep : CountedMachine → (ℕ → Entry) → CountedMachine → Type 0
+IsCoreStep old entry new = (number : ℕ) → IsStep old.machine.state.table (entry number) new.machine.state.table
 
 -- both are stored as the tuples of their fields
 abbrev pub totals_code : Coded Totals

@@ -9,11 +9,11 @@ ghost use Rattle.g1_core.specs.Machine.{IsLater, IsOnlyRead};
 ghost use Rattle.g1_core.specs.Pause.{IsDrainOf};
 ghost use Rattle.g1_core.specs.Redirect.{IsRedirectOf};
 ghost use Rattle.g1_core.specs.Refinement.{IsRefined, AreCardsRead};
-ghost use Rattle.g1_core.specs.Run.{kind_of, IsStep};
+ghost use Rattle.g1_core.specs.Run.{kind_of};
 ghost use Rattle.g1_core.specs.Table.{target_of, AreMembers, IsCovered};
 ghost use Rattle.g1_shared.specs.Counts.{one_call, one_store};
 ghost use Rattle.g1_shared.specs.Callers.{called_once, HandsOut};
-ghost use Rattle.g1_shared.specs.Totals.{with_call, with_store};
+ghost use Rattle.g1_shared.specs.Totals.{with_call, with_store, IsCoreStep, IsFull};
 
 use crate::caller::{Caller, Counts};
 use crate::keeper::Keeper;
@@ -49,7 +49,8 @@ impl<M: Frame, S: Ledger> Model for CountedCore<M, S> {
 
     ghost view = { λ c. record { machine = c.core; totals = c.counters } };
 
-    ghost invariant = { λ c. (c.core.state.table.layout ≡ M.terms.layout) × (c.core.settings ≡ M.terms.settings) × (c.counters.limit ≡ M.terms.limit) };
+    ghost invariant = { λ c. (c.core.state.table.layout ≡ M.terms.layout)
+        × (c.core.settings ≡ M.terms.settings) × (c.counters.limit ≡ M.terms.limit) };
 }
 
 impl<M: Frame, S: Ledger> CountedCore<M, S> {
@@ -76,7 +77,8 @@ impl<M: Frame, S: Ledger> CountedCore<M, S> {
     pub fn totals(&self) -> Totals
         ensures made { result.made ≡ self.now.totals.made }
         ensures stored { result.stored ≡ self.now.totals.stored }
-        ensures within { (self.now.totals.stored ≤ self.now.totals.made) × (self.now.totals.made ≤ self.now.totals.limit) }
+        ensures within { (self.now.totals.stored ≤ self.now.totals.made)
+            × (self.now.totals.made ≤ self.now.totals.limit) }
         ensures limit { self.now.totals.limit ≡ M.terms.limit }
     {
         self.counters.totals()
@@ -94,16 +96,20 @@ impl<M: Frame, S: Ledger> CountedCore<M, S> {
         requires caller { caller.old.counts.number < M.terms.mutators }
         requires slot { slot < slot_count M.terms.layout }
         requires target { IfSome target (λ place. place < slot_count M.terms.layout) }
-        ensures kind { IfOk result (λ answer. answer.0.kind ≡ kind_of self.old.machine.state.table slot target) }
-        ensures machine { OnOk result (self.new.machine ≡ stored_machine self.old.machine slot target) }
+        ensures kind { IfOk result (λ answer.
+            answer.0.kind ≡ kind_of self.old.machine.state.table slot target) }
+        ensures machine { OnOk result (self.new.machine
+            ≡ stored_machine self.old.machine slot target) }
         ensures fill { IfOk result (λ answer. answer.0.fill ≡ fill_of answer.1) }
         ensures plain { IfOk result (λ answer. (answer.0.refined ≡ []) × (answer.0.short ≡ false)) }
-        ensures buffer { IfOk result (λ answer. HandsOut caller.old answer.0.kind (card_of M.terms.layout slot) answer.1 caller.new) }
-        ensures step { IfOk result (λ answer. (number : ℕ) → IsStep self.old.machine.state.table (store_entry number slot target answer.0) self.new.machine.state.table) }
+        ensures buffer { IfOk result (λ answer.
+            HandsOut caller.old answer.0.kind (card_of M.terms.layout slot) answer.1 caller.new) }
+        ensures step { IfOk result (λ answer.
+            IsCoreStep self.old (λ number. store_entry number slot target answer.0) self.new) }
         ensures later { OnOk result (IsLater self.old.machine self.new.machine) }
         ensures totals { OnOk result (self.new.totals ≡ with_store self.old.totals) }
         ensures counts { OnOk result (caller.new.counts ≡ one_store caller.old.counts) }
-        ensures full { (result ≡ Err Refusal.BookFull) ↔ (self.old.totals.made ≡ self.old.totals.limit) }
+        ensures full { (result ≡ Err Refusal.BookFull) ↔ IsFull self.old }
         ensures err { OnErr result ((self.new ≡ self.old) × (caller.new ≡ caller.old)) }
     {
         let Some(mutator) = &mut caller.mutator else {
@@ -123,18 +129,24 @@ impl<M: Frame, S: Ledger> CountedCore<M, S> {
         requires caller { counts.old.number < M.terms.mutators }
         requires slot { slot < slot_count M.terms.layout }
         requires target { IfSome target (λ place. place < slot_count M.terms.layout) }
-        ensures kind { IfOk result (λ answer. answer.0.kind ≡ kind_of self.old.machine.state.table slot target) }
-        ensures machine { OnOk result (self.new.machine ≡ stored_machine self.old.machine slot target) }
+        ensures kind { IfOk result (λ answer.
+            answer.0.kind ≡ kind_of self.old.machine.state.table slot target) }
+        ensures machine { OnOk result (self.new.machine
+            ≡ stored_machine self.old.machine slot target) }
         ensures fill { IfOk result (λ answer. answer.0.fill ≡ fill_of answer.1) }
         ensures plain { IfOk result (λ answer. (answer.0.refined ≡ []) × (answer.0.short ≡ false)) }
-        ensures buffer { IfOk result (λ answer. (mutator.new.log ≡ logged answer.0.kind mutator.old.log (card_of M.terms.layout slot)) × (answer.1 ≡ buffer_of answer.0.kind mutator.old.log (card_of M.terms.layout slot))) }
+        ensures buffer { IfOk result (λ answer.
+            (mutator.new.log ≡ logged answer.0.kind mutator.old.log (card_of M.terms.layout slot))
+            × (answer.1 ≡ buffer_of answer.0.kind mutator.old.log (card_of M.terms.layout slot))) }
         ensures sender { mutator.new.sender ≡ mutator.old.sender }
-        ensures step { IfOk result (λ answer. (number : ℕ) → IsStep self.old.machine.state.table (store_entry number slot target answer.0) self.new.machine.state.table) }
+        ensures step { IfOk result (λ answer.
+            IsCoreStep self.old (λ number. store_entry number slot target answer.0) self.new) }
         ensures later { OnOk result (IsLater self.old.machine self.new.machine) }
         ensures totals { OnOk result (self.new.totals ≡ with_store self.old.totals) }
         ensures counts { OnOk result (counts.new ≡ one_store counts.old) }
-        ensures full { (result ≡ Err Refusal.BookFull) ↔ (self.old.totals.made ≡ self.old.totals.limit) }
-        ensures err { OnErr result ((self.new ≡ self.old) × (counts.new ≡ counts.old) × (mutator.new.log ≡ mutator.old.log)) }
+        ensures full { (result ≡ Err Refusal.BookFull) ↔ IsFull self.old }
+        ensures err { OnErr result ((self.new ≡ self.old) × (counts.new ≡ counts.old)
+            × (mutator.new.log ≡ mutator.old.log)) }
     {
         self.store_by(counts, &mut mutator.log, slot, target)
     }
@@ -145,13 +157,16 @@ impl<M: Frame, S: Ledger> CountedCore<M, S> {
         caller: &mut Caller<M, S>,
         buffer: Option<&Buffer>,
     ) -> Result<RefineReply, Refusal>
-        ensures refined { IfOk result (λ reply. IsRefined self.old.machine.state (option_map (λ b. b.now) buffer.entry) reply self.new.machine.state) }
-        ensures reads { IfOk result (λ reply. AreCardsRead self.old.machine reply self.new.machine) }
-        ensures step { IfOk result (λ reply. (number : ℕ) → IsStep self.old.machine.state.table (refine_entry number reply) self.new.machine.state.table) }
+        ensures refined { IfOk result (λ reply. IsRefined self.old.machine.state
+            (option_map (λ b. b.now) buffer.entry) reply self.new.machine.state) }
+        ensures reads { IfOk result (λ reply.
+            AreCardsRead self.old.machine reply self.new.machine) }
+        ensures step { IfOk result (λ reply.
+            IsCoreStep self.old (λ number. refine_entry number reply) self.new) }
         ensures later { OnOk result (IsLater self.old.machine self.new.machine) }
         ensures totals { OnOk result (self.new.totals ≡ with_call self.old.totals) }
         ensures made { OnOk result (caller.new ≡ called_once caller.old) }
-        ensures full { (result ≡ Err Refusal.BookFull) ↔ (self.old.totals.made ≡ self.old.totals.limit) }
+        ensures full { (result ≡ Err Refusal.BookFull) ↔ IsFull self.old }
         ensures err { OnErr result ((self.new ≡ self.old) × (caller.new ≡ caller.old)) }
     {
         self.refine_by(&mut caller.counts, buffer)
@@ -186,18 +201,24 @@ impl<M: Frame, S: Ledger> Keeper<M, S> for CountedCore<M, S> {
         requires caller { counts.old.number < M.terms.mutators }
         requires slot { slot < slot_count M.terms.layout }
         requires target { IfSome target (λ place. place < slot_count M.terms.layout) }
-        ensures kind { IfOk result (λ answer. answer.0.kind ≡ kind_of self.old.machine.state.table slot target) }
-        ensures machine { OnOk result (self.new.machine ≡ stored_machine self.old.machine slot target) }
+        ensures kind { IfOk result (λ answer.
+            answer.0.kind ≡ kind_of self.old.machine.state.table slot target) }
+        ensures machine { OnOk result (self.new.machine
+            ≡ stored_machine self.old.machine slot target) }
         ensures fill { IfOk result (λ answer. answer.0.fill ≡ fill_of answer.1) }
         ensures plain { IfOk result (λ answer. (answer.0.refined ≡ []) × (answer.0.short ≡ false)) }
-        ensures log { IfOk result (λ answer. log.new ≡ logged answer.0.kind log.old (card_of M.terms.layout slot)) }
-        ensures buffer { IfOk result (λ answer. answer.1 ≡ buffer_of answer.0.kind log.old (card_of M.terms.layout slot)) }
-        ensures step { IfOk result (λ answer. (number : ℕ) → IsStep self.old.machine.state.table (store_entry number slot target answer.0) self.new.machine.state.table) }
+        ensures log { IfOk result (λ answer.
+            log.new ≡ logged answer.0.kind log.old (card_of M.terms.layout slot)) }
+        ensures buffer { IfOk result (λ answer.
+            answer.1 ≡ buffer_of answer.0.kind log.old (card_of M.terms.layout slot)) }
+        ensures step { IfOk result (λ answer.
+            IsCoreStep self.old (λ number. store_entry number slot target answer.0) self.new) }
         ensures later { OnOk result (IsLater self.old.machine self.new.machine) }
         ensures totals { OnOk result (self.new.totals ≡ with_store self.old.totals) }
         ensures counts { OnOk result (counts.new ≡ one_store counts.old) }
-        ensures full { (result ≡ Err Refusal.BookFull) ↔ (self.old.totals.made ≡ self.old.totals.limit) }
-        ensures err { OnErr result ((self.new ≡ self.old) × (counts.new ≡ counts.old) × (log.new ≡ log.old)) }
+        ensures full { (result ≡ Err Refusal.BookFull) ↔ IsFull self.old }
+        ensures err { OnErr result ((self.new ≡ self.old) × (counts.new ≡ counts.old)
+            × (log.new ≡ log.old)) }
     {
         if self.counters.is_full() {
             return Err(Refusal::BookFull);
@@ -221,13 +242,17 @@ impl<M: Frame, S: Ledger> Keeper<M, S> for CountedCore<M, S> {
         requires slot { slot < slot_count M.terms.layout }
         requires target { IfSome target (λ place. place < slot_count M.terms.layout) }
         ensures reply { IfOk result (λ reply. reply ≡ unfilled reply.kind) }
-        ensures kind { IfOk result (λ reply. reply.kind ≡ kind_of self.old.machine.state.table slot target) }
-        ensures machine { OnOk result (self.new.machine ≡ stored_machine self.old.machine slot target) }
-        ensures log { IfOk result (λ reply. log.new ≡ logged reply.kind log.old (card_of M.terms.layout slot)) }
+        ensures kind { IfOk result (λ reply.
+            reply.kind ≡ kind_of self.old.machine.state.table slot target) }
+        ensures machine { OnOk result (self.new.machine
+            ≡ stored_machine self.old.machine slot target) }
+        ensures log { IfOk result (λ reply.
+            log.new ≡ logged reply.kind log.old (card_of M.terms.layout slot)) }
         ensures totals { OnOk result (self.new.totals ≡ with_store self.old.totals) }
         ensures counts { OnOk result (counts.new ≡ one_store counts.old) }
-        ensures full { (result ≡ Err Refusal.BookFull) ↔ (self.old.totals.made ≡ self.old.totals.limit) }
-        ensures err { OnErr result ((self.new ≡ self.old) × (counts.new ≡ counts.old) × (log.new ≡ log.old)) }
+        ensures full { (result ≡ Err Refusal.BookFull) ↔ IsFull self.old }
+        ensures err { OnErr result ((self.new ≡ self.old) × (counts.new ≡ counts.old)
+            × (log.new ≡ log.old)) }
     {
         if self.counters.is_full() {
             return Err(Refusal::BookFull);
@@ -243,16 +268,20 @@ impl<M: Frame, S: Ledger> Keeper<M, S> for CountedCore<M, S> {
         counts: &mut Counts<M, S>,
         buffer: Option<&Buffer>,
     ) -> Result<RefineReply, Refusal>
-        ensures refined { IfOk result (λ reply. IsRefined self.old.machine.state (option_map (λ b. b.now) buffer.entry) reply self.new.machine.state) }
-        ensures reads { IfOk result (λ reply. AreCardsRead self.old.machine reply self.new.machine) }
-        ensures numbers { IfOk result (λ reply. (reply.taken ≤ 1) × (length reply.refined + reply.skipped ≤ 256) × (reply.hot ≤ 256)) }
+        ensures refined { IfOk result (λ reply. IsRefined self.old.machine.state
+            (option_map (λ b. b.now) buffer.entry) reply self.new.machine.state) }
+        ensures reads { IfOk result (λ reply.
+            AreCardsRead self.old.machine reply self.new.machine) }
+        ensures numbers { IfOk result (λ reply.
+            (reply.taken ≤ 1) × (length reply.refined + reply.skipped ≤ 256) × (reply.hot ≤ 256)) }
         ensures left { IfOk result (λ reply. reply.left ≡ 0) }
         ensures idle { IfOk result (λ reply. IsNone buffer.entry → reply.taken ≡ 0) }
-        ensures step { IfOk result (λ reply. (number : ℕ) → IsStep self.old.machine.state.table (refine_entry number reply) self.new.machine.state.table) }
+        ensures step { IfOk result (λ reply.
+            IsCoreStep self.old (λ number. refine_entry number reply) self.new) }
         ensures later { OnOk result (IsLater self.old.machine self.new.machine) }
         ensures totals { OnOk result (self.new.totals ≡ with_call self.old.totals) }
         ensures counts { OnOk result (counts.new ≡ one_call counts.old) }
-        ensures full { (result ≡ Err Refusal.BookFull) ↔ (self.old.totals.made ≡ self.old.totals.limit) }
+        ensures full { (result ≡ Err Refusal.BookFull) ↔ IsFull self.old }
         ensures err { OnErr result ((self.new ≡ self.old) × (counts.new ≡ counts.old)) }
     {
         if self.counters.is_full() {
@@ -269,14 +298,18 @@ impl<M: Frame, S: Ledger> Keeper<M, S> for CountedCore<M, S> {
     /// As the core's question for what a slot refers to, by this caller.
     fn target(&mut self, caller: &mut Caller<M, S>, slot: Slot) -> Result<Option<Slot>, Refusal>
         requires { slot < slot_count M.terms.layout }
-        ensures target { IfOk result (λ target. target ≡ target_of self.old.machine.state.table slot) }
-        ensures within { IfOk result (λ target. IfSome target (λ place. place < slot_count M.terms.layout)) }
-        ensures machine { OnOk result (self.new.machine ≡ record self.old.machine { reads = min (self.old.machine.reads + 1) (2 ^ 64 - 1) }) }
-        ensures step { IfOk result (λ target. (number : ℕ) → IsStep self.old.machine.state.table (target_entry number slot target) self.new.machine.state.table) }
+        ensures target { IfOk result (λ target.
+            target ≡ target_of self.old.machine.state.table slot) }
+        ensures within { IfOk result (λ target.
+            IfSome target (λ place. place < slot_count M.terms.layout)) }
+        ensures machine { OnOk result (self.new.machine
+            ≡ record self.old.machine { reads = min (self.old.machine.reads + 1) (2 ^ 64 - 1) }) }
+        ensures step { IfOk result (λ target.
+            IsCoreStep self.old (λ number. target_entry number slot target) self.new) }
         ensures later { OnOk result (IsLater self.old.machine self.new.machine) }
         ensures totals { OnOk result (self.new.totals ≡ with_call self.old.totals) }
         ensures ok { OnOk result (caller.new ≡ called_once caller.old) }
-        ensures full { (result ≡ Err Refusal.BookFull) ↔ (self.old.totals.made ≡ self.old.totals.limit) }
+        ensures full { (result ≡ Err Refusal.BookFull) ↔ IsFull self.old }
         ensures kept { OnErr result (self.new ≡ self.old) }
         ensures err { OnErr result (caller.new ≡ caller.old) }
     {
@@ -291,12 +324,14 @@ impl<M: Frame, S: Ledger> Keeper<M, S> for CountedCore<M, S> {
     /// As the core's question whether a card is pending, by this caller.
     fn is_pending(&mut self, caller: &mut Caller<M, S>, card: Card) -> Result<bool, Refusal>
         requires { card < card_count M.terms.layout }
-        ensures pending { IfOk result (λ answer. answer ≡ set.contains self.old.machine.state.table.pending card) }
+        ensures pending { IfOk result (λ answer.
+            answer ≡ set.contains self.old.machine.state.table.pending card) }
         ensures machine { self.new.machine ≡ self.old.machine }
-        ensures step { IfOk result (λ answer. (number : ℕ) → IsStep self.old.machine.state.table (pending_entry number card answer) self.new.machine.state.table) }
+        ensures step { IfOk result (λ answer.
+            IsCoreStep self.old (λ number. pending_entry number card answer) self.new) }
         ensures totals { OnOk result (self.new.totals ≡ with_call self.old.totals) }
         ensures ok { OnOk result (caller.new ≡ called_once caller.old) }
-        ensures full { (result ≡ Err Refusal.BookFull) ↔ (self.old.totals.made ≡ self.old.totals.limit) }
+        ensures full { (result ≡ Err Refusal.BookFull) ↔ IsFull self.old }
         ensures kept { OnErr result (self.new ≡ self.old) }
         ensures err { OnErr result (caller.new ≡ caller.old) }
     {
@@ -311,13 +346,16 @@ impl<M: Frame, S: Ledger> Keeper<M, S> for CountedCore<M, S> {
     /// As the core's question for a remembered set, by this caller.
     fn members(&mut self, caller: &mut Caller<M, S>, region: Region) -> Result<CardList, Refusal>
         requires { region < M.terms.layout.regions }
-        ensures members { IfOk result (λ cards. AreMembers self.old.machine.state.table region cards) }
-        ensures within { IfOk result (λ cards. All (λ card. card < card_count M.terms.layout) cards) }
+        ensures members { IfOk result (λ cards.
+            AreMembers self.old.machine.state.table region cards) }
+        ensures within { IfOk result (λ cards.
+            All (λ card. card < card_count M.terms.layout) cards) }
         ensures machine { self.new.machine ≡ self.old.machine }
-        ensures step { IfOk result (λ cards. (number : ℕ) → IsStep self.old.machine.state.table (members_entry number region cards) self.new.machine.state.table) }
+        ensures step { IfOk result (λ cards.
+            IsCoreStep self.old (λ number. members_entry number region cards) self.new) }
         ensures totals { OnOk result (self.new.totals ≡ with_call self.old.totals) }
         ensures ok { OnOk result (caller.new ≡ called_once caller.old) }
-        ensures full { (result ≡ Err Refusal.BookFull) ↔ (self.old.totals.made ≡ self.old.totals.limit) }
+        ensures full { (result ≡ Err Refusal.BookFull) ↔ IsFull self.old }
         ensures kept { OnErr result (self.new ≡ self.old) }
         ensures err { OnErr result (caller.new ≡ caller.old) }
     {
@@ -333,13 +371,16 @@ impl<M: Frame, S: Ledger> Keeper<M, S> for CountedCore<M, S> {
 
     /// As the core's question for how much is pending and recorded, by this caller.
     fn status(&mut self, caller: &mut Caller<M, S>) -> Result<Status, Refusal>
-        ensures pending { IfOk result (λ status. status.pending ≡ set.len self.old.machine.state.table.pending) }
-        ensures recorded { IfOk result (λ status. status.recorded ≡ set.len self.old.machine.state.table.recorded) }
+        ensures pending { IfOk result (λ status.
+            status.pending ≡ set.len self.old.machine.state.table.pending) }
+        ensures recorded { IfOk result (λ status.
+            status.recorded ≡ set.len self.old.machine.state.table.recorded) }
         ensures machine { self.new.machine ≡ self.old.machine }
-        ensures step { IfOk result (λ status. (number : ℕ) → IsStep self.old.machine.state.table (status_entry number status) self.new.machine.state.table) }
+        ensures step { IfOk result (λ status.
+            IsCoreStep self.old (λ number. status_entry number status) self.new) }
         ensures totals { OnOk result (self.new.totals ≡ with_call self.old.totals) }
         ensures ok { OnOk result (caller.new ≡ called_once caller.old) }
-        ensures full { (result ≡ Err Refusal.BookFull) ↔ (self.old.totals.made ≡ self.old.totals.limit) }
+        ensures full { (result ≡ Err Refusal.BookFull) ↔ IsFull self.old }
         ensures kept { OnErr result (self.new ≡ self.old) }
         ensures err { OnErr result (caller.new ≡ caller.old) }
     {
@@ -354,13 +395,16 @@ impl<M: Frame, S: Ledger> Keeper<M, S> for CountedCore<M, S> {
     /// As the core's drain, by this caller.
     fn drain(&mut self, caller: &mut Caller<M, S>, region: Region) -> Result<Drained, Refusal>
         requires { region < M.terms.layout.regions }
-        ensures drained { IfOk result (λ answer. IsDrainOf self.old.machine region answer self.new.machine) }
-        ensures within { IfOk result (λ answer. All (λ card. card < card_count M.terms.layout) (drain_cards answer)) }
-        ensures step { IfOk result (λ answer. (number : ℕ) → IsStep self.old.machine.state.table (drain_entry number region answer) self.new.machine.state.table) }
+        ensures drained { IfOk result (λ answer.
+            IsDrainOf self.old.machine region answer self.new.machine) }
+        ensures within { IfOk result (λ answer.
+            All (λ card. card < card_count M.terms.layout) (drain_cards answer)) }
+        ensures step { IfOk result (λ answer.
+            IsCoreStep self.old (λ number. drain_entry number region answer) self.new) }
         ensures later { OnOk result (IsLater self.old.machine self.new.machine) }
         ensures totals { OnOk result (self.new.totals ≡ with_call self.old.totals) }
         ensures ok { OnOk result (caller.new ≡ called_once caller.old) }
-        ensures full { (result ≡ Err Refusal.BookFull) ↔ (self.old.totals.made ≡ self.old.totals.limit) }
+        ensures full { (result ≡ Err Refusal.BookFull) ↔ IsFull self.old }
         ensures kept { OnErr result (self.new ≡ self.old) }
         ensures err { OnErr result (caller.new ≡ caller.old) }
     {
@@ -377,15 +421,19 @@ impl<M: Frame, S: Ledger> Keeper<M, S> for CountedCore<M, S> {
     /// As the core's clear, by this caller.
     fn clear(&mut self, caller: &mut Caller<M, S>, region: Region) -> Result<ClearReply, Refusal>
         requires { region < M.terms.layout.regions }
-        ensures step { IfOk result (λ answer. (number : ℕ) → IsStep self.old.machine.state.table (clear_entry number region answer) self.new.machine.state.table) }
-        ensures refused { IfOk result (λ answer. answer ≢ ClearReply.Cleared → IsOnlyRead self.old.machine self.new.machine) }
+        ensures step { IfOk result (λ answer.
+            IsCoreStep self.old (λ number. clear_entry number region answer) self.new) }
+        ensures refused { IfOk result (λ answer.
+            answer ≢ ClearReply.Cleared → IsOnlyRead self.old.machine self.new.machine) }
         ensures ring { self.new.machine.state.ring ≡ self.old.machine.state.ring }
-        ensures unread { 1 ≤ set.len self.old.machine.state.table.pending → self.new.machine.reads ≡ self.old.machine.reads }
-        ensures reads { self.new.machine.reads ≤ self.old.machine.reads + member_count self.old.machine.state.table region * M.terms.layout.slots }
+        ensures unread { 1 ≤ set.len self.old.machine.state.table.pending
+            → self.new.machine.reads ≡ self.old.machine.reads }
+        ensures reads { self.new.machine.reads ≤ self.old.machine.reads
+            + member_count self.old.machine.state.table region * M.terms.layout.slots }
         ensures later { OnOk result (IsLater self.old.machine self.new.machine) }
         ensures totals { OnOk result (self.new.totals ≡ with_call self.old.totals) }
         ensures ok { OnOk result (caller.new ≡ called_once caller.old) }
-        ensures full { (result ≡ Err Refusal.BookFull) ↔ (self.old.totals.made ≡ self.old.totals.limit) }
+        ensures full { (result ≡ Err Refusal.BookFull) ↔ IsFull self.old }
         ensures kept { OnErr result (self.new ≡ self.old) }
         ensures err { OnErr result (caller.new ≡ caller.old) }
     {
@@ -407,12 +455,14 @@ impl<M: Frame, S: Ledger> Keeper<M, S> for CountedCore<M, S> {
         requires from { from < M.terms.layout.regions }
         requires to { to < M.terms.layout.regions }
         requires apart { from ≢ to }
-        ensures redirected { IfOk result (λ answer. IsRedirectOf self.old.machine from to answer self.new.machine) }
-        ensures step { IfOk result (λ answer. (number : ℕ) → IsStep self.old.machine.state.table (redirect_entry number from to answer) self.new.machine.state.table) }
+        ensures redirected { IfOk result (λ answer.
+            IsRedirectOf self.old.machine from to answer self.new.machine) }
+        ensures step { IfOk result (λ answer.
+            IsCoreStep self.old (λ number. redirect_entry number from to answer) self.new) }
         ensures later { OnOk result (IsLater self.old.machine self.new.machine) }
         ensures totals { OnOk result (self.new.totals ≡ with_call self.old.totals) }
         ensures ok { OnOk result (caller.new ≡ called_once caller.old) }
-        ensures full { (result ≡ Err Refusal.BookFull) ↔ (self.old.totals.made ≡ self.old.totals.limit) }
+        ensures full { (result ≡ Err Refusal.BookFull) ↔ IsFull self.old }
         ensures kept { OnErr result (self.new ≡ self.old) }
         ensures err { OnErr result (caller.new ≡ caller.old) }
     {

@@ -34,8 +34,10 @@ pub trait Keeper<M: Frame, S: Ledger>: Drop {
         requires target { IfSome target (λ place. place < slot_count M.terms.layout) }
         ensures fill { IfOk result (λ answer. answer.0.fill ≡ fill_of answer.1) }
         ensures plain { IfOk result (λ answer. (answer.0.refined ≡ []) × (answer.0.short ≡ false)) }
-        ensures log { IfOk result (λ answer. log.new ≡ logged answer.0.kind log.old (card_of M.terms.layout slot)) }
-        ensures buffer { IfOk result (λ answer. answer.1 ≡ buffer_of answer.0.kind log.old (card_of M.terms.layout slot)) }
+        ensures log { IfOk result (λ answer.
+            log.new ≡ logged answer.0.kind log.old (card_of M.terms.layout slot)) }
+        ensures buffer { IfOk result (λ answer.
+            answer.1 ≡ buffer_of answer.0.kind log.old (card_of M.terms.layout slot)) }
         ensures counts { OnOk result (counts.new ≡ one_store counts.old) }
         ensures err { OnErr result ((counts.new ≡ counts.old) × (log.new ≡ log.old)) };
 
@@ -53,7 +55,8 @@ pub trait Keeper<M: Frame, S: Ledger>: Drop {
         requires slot { slot < slot_count M.terms.layout }
         requires target { IfSome target (λ place. place < slot_count M.terms.layout) }
         ensures reply { IfOk result (λ reply. reply ≡ unfilled reply.kind) }
-        ensures log { IfOk result (λ reply. log.new ≡ logged reply.kind log.old (card_of M.terms.layout slot)) }
+        ensures log { IfOk result (λ reply.
+            log.new ≡ logged reply.kind log.old (card_of M.terms.layout slot)) }
         ensures counts { OnOk result (counts.new ≡ one_store counts.old) }
         ensures err { OnErr result ((counts.new ≡ counts.old) × (log.new ≡ log.old)) };
 
@@ -63,7 +66,8 @@ pub trait Keeper<M: Frame, S: Ledger>: Drop {
         counts: &mut Counts<M, S>,
         buffer: Option<&Buffer>,
     ) -> Result<RefineReply, Refusal>
-        ensures numbers { IfOk result (λ reply. (reply.taken ≤ 1) × (length reply.refined + reply.skipped ≤ 256) × (reply.hot ≤ 256)) }
+        ensures numbers { IfOk result (λ reply.
+            (reply.taken ≤ 1) × (length reply.refined + reply.skipped ≤ 256) × (reply.hot ≤ 256)) }
         ensures left { IfOk result (λ reply. reply.left ≡ 0) }
         ensures idle { IfOk result (λ reply. IsNone buffer.entry → reply.taken ≡ 0) }
         ensures counts { OnOk result (counts.new ≡ one_call counts.old) }

@@ -38,7 +38,8 @@ impl<M: Frame, S: Ledger> Model for Counters<M, S> {
 
     ghost view = { λ c. record { made = c.made; stored = c.stored; limit = c.limit } };
 
-    ghost invariant = { λ c. (c.made_book.total ≡ c.made) × (c.stored_book.total ≡ c.stored) × (c.stored ≤ c.made) × (c.made ≤ c.limit) };
+    ghost invariant = { λ c. (c.made_book.total ≡ c.made) × (c.stored_book.total ≡ c.stored)
+        × (c.stored ≤ c.made) × (c.made ≤ c.limit) };
 }
 
 impl<M: Frame, S: Ledger> Counters<M, S> {

@@ -42,12 +42,15 @@ impl<M: Frame, S: Ledger> SharedCore<M, S> {
         callers: u32,
     ) -> Result<(SharedCore<M, S>, Vec<Caller<M, S>>), (Core, NoMemory)>
         requires made { (made.name ≡ M.name) × (made.parts ≡ M.parts) × (made.parts ≡ callers) }
-        requires stored { (stored.name ≡ S.name) × (stored.parts ≡ S.parts) × (stored.parts ≡ callers) }
+        requires stored { (stored.name ≡ S.name) × (stored.parts ≡ S.parts)
+            × (stored.parts ≡ callers) }
         requires terms { core_terms core mutators limit ≡ M.terms }
         requires mutators { (1 ≤ mutators) × (mutators ≤ 8) }
         requires callers { (mutators ≤ callers) × (callers ≤ 12) }
         ensures callers { IfOk result (λ opened. vec_len opened.1 ≡ callers) }
-        ensures each { IfOk result (λ opened. (k : ℕ) (d : Standing) → k < callers → IsNewCaller opened.0 M.terms.settings.log M.terms.mutators k (slice_index_or opened.1.items k d)) }
+        ensures each { IfOk result (λ opened. (k : ℕ) (d : Standing) → k < callers
+            → IsNewCaller opened.0 M.terms.settings.log M.terms.mutators k
+            (slice_index_or opened.1.items k d)) }
         ensures capacity { IfOk result (λ opened. capacity_of opened.0 ≡ M.terms.settings.limit) }
         ensures err { IfErr result (λ refused. refused.0 ≡ core) }
     {
@@ -82,7 +85,8 @@ impl<M: Frame, S: Ledger> SharedCore<M, S> {
         ensures layout { (mutex_guard_value result).machine.state.table.layout ≡ M.terms.layout }
         ensures settings { (mutex_guard_value result).machine.settings ≡ M.terms.settings }
         ensures limit { (mutex_guard_value result).totals.limit ≡ M.terms.limit }
-        ensures within { let c = mutex_guard_value result in (c.totals.stored ≤ c.totals.made) × (c.totals.made ≤ c.totals.limit) }
+        ensures within { let c = mutex_guard_value result in (c.totals.stored ≤ c.totals.made)
+            × (c.totals.made ≤ c.totals.limit) }
         ensures cover { IsCovered (mutex_guard_value result).machine.state.table }
         ensures sound { IsSound (mutex_guard_value result).machine.state }
     {
