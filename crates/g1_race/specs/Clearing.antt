@@ -6,34 +6,34 @@ use Rattle.g1_core.specs.Table.{Table, IsPending}
 use Rattle.g1_race_words.specs.declared.view.Shape.{Shape}
 use Rattle.g1_race_words.specs.Rule.{IsPair, HasBit, card_of, crosses, front, region_at}
 
--- slot p lies outside the region and refers into it
+-- the slot lies outside the region and refers into it
 abbrev pub Into : Shape → List ℕ → ℕ → ℕ → Type 0
-Into k words region p = (n : ℕ) × (p < k.slots) × (get_elem? words p ≡ some n) × (crosses k p n ≡ true) × (region_at k n ≡ region)
+Into heap words region slot = (n : ℕ) × (slot < heap.slots) × (get_elem? words slot ≡ some n) × (crosses heap slot n ≡ true) × (region_at heap n ≡ region)
 
 -- the least such slot, of all and of a card
 abbrev pub IsLeastInto : Shape → List ℕ → ℕ → Option ℕ → Type 0
-IsLeastInto k words region None = (p : ℕ) → Into k words region p → ⊥
-IsLeastInto k words region (Some p) = Into k words region p × ((q : ℕ) → Into k words region q → p ≤ q)
+IsLeastInto heap words region None = (slot : ℕ) → Into heap words region slot → ⊥
+IsLeastInto heap words region (Some slot) = Into heap words region slot × ((q : ℕ) → Into heap words region q → slot ≤ q)
 
 abbrev pub IsLeastOn : Shape → List ℕ → ℕ → ℕ → Option ℕ → Type 0
-IsLeastOn k words card region None = (p : ℕ) → card_of k p ≡ card → Into k words region p → ⊥
-IsLeastOn k words card region (Some p) = (card_of k p ≡ card) × Into k words region p × ((q : ℕ) → card_of k q ≡ card → Into k words region q → p ≤ q)
+IsLeastOn heap words card region None = (slot : ℕ) → card_of heap slot ≡ card → Into heap words region slot → ⊥
+IsLeastOn heap words card region (Some slot) = (card_of heap slot ≡ card) × Into heap words region slot × ((q : ℕ) → card_of heap q ≡ card → Into heap words region q → slot ≤ q)
 
--- the first i words of the region's row are 0, and nothing else has changed
-pub record IsEmptied (k : Shape) (old new : List ℕ) (region i : ℕ) : Type 0 where
-  pub front : front k new ≡ front k old
-  pub kept : (x : ℕ × ℕ) → IsPair k x → x.1 ≢ region → HasBit k old x → HasBit k new x
-  pub only : (x : ℕ × ℕ) → IsPair k x → HasBit k new x → HasBit k old x
-  pub clear : (x : ℕ × ℕ) → IsPair k x → x.1 ≡ region → x.0 / 64 < i → HasBit k new x → ⊥
+-- the first words of the region's row, as many as this, are 0, and nothing else has changed
+pub record IsEmptied (heap : Shape) (old new : List ℕ) (region words : ℕ) : Type 0 where
+  pub front : front heap new ≡ front heap old
+  pub kept : (x : ℕ × ℕ) → IsPair heap x → x.1 ≢ region → HasBit heap old x → HasBit heap new x
+  pub only : (x : ℕ × ℕ) → IsPair heap x → HasBit heap new x → HasBit heap old x
+  pub clear : (x : ℕ × ℕ) → IsPair heap x → x.1 ≡ region → x.0 / 64 < words → HasBit heap new x → ⊥
 
 -- the bits of the pairs that are gone are 0, and nothing else has changed
-pub record AreUnset (k : Shape) (old new : List ℕ) (Gone : ℕ × ℕ → Type 0) : Type 0 where
-  pub front : front k new ≡ front k old
-  pub kept : (x : ℕ × ℕ) → IsPair k x → (Gone x → ⊥) → HasBit k old x → HasBit k new x
-  pub only : (x : ℕ × ℕ) → IsPair k x → HasBit k new x → HasBit k old x
-  pub clear : (x : ℕ × ℕ) → IsPair k x → Gone x → HasBit k new x → ⊥
+pub record AreUnset (heap : Shape) (old new : List ℕ) (Gone : ℕ × ℕ → Type 0) : Type 0 where
+  pub front : front heap new ≡ front heap old
+  pub kept : (x : ℕ × ℕ) → IsPair heap x → (Gone x → ⊥) → HasBit heap old x → HasBit heap new x
+  pub only : (x : ℕ × ℕ) → IsPair heap x → HasBit heap new x → HasBit heap old x
+  pub clear : (x : ℕ × ℕ) → IsPair heap x → Gone x → HasBit heap new x → ⊥
 
 -- the least pending card
 abbrev pub IsLeastPending : Table → Option ℕ → Type 0
-IsLeastPending t None = (c : ℕ) → IsPending t c → ⊥
-IsLeastPending t (Some card) = IsPending t card × ((c : ℕ) → IsPending t c → card ≤ c)
+IsLeastPending table None = (c : ℕ) → IsPending table c → ⊥
+IsLeastPending table (Some card) = IsPending table card × ((c : ℕ) → IsPending table c → card ≤ c)

@@ -46,14 +46,14 @@ pub record IsExactAtPause (old : Table) (region : ℕ) (cards : List ℕ) : Type
 abbrev pub plain_reply : Kind → StoreReply
 plain_reply kind = record { kind = kind; fill = No; refined = []; short = false }
 
--- null is stored to n slots, from one on
+-- null is stored to as many slots, from one on
 abbrev pub nulled : ℕ → ℕ → Table → Table
-nulled first zero t = t
-nulled first (suc n) t = stored (nulled first n t) (first + n) None
+nulled first zero table = table
+nulled first (suc count) table = stored (nulled first count table) (first + count) None
 
 -- null is stored to each slot of the region
 abbrev pub wiped : ℕ → Table → Table
-wiped region t = nulled (region * (t.layout.cards * t.layout.slots)) (t.layout.cards * t.layout.slots) t
+wiped region table = nulled (region * (table.layout.cards * table.layout.slots)) (table.layout.cards * table.layout.slots) table
 
 -- the first ones of these cards stand in the slice, as far as it reaches, and behind them it is as it was
 pub record AreWritten (cards old new : List ℕ) : Type 0 where
@@ -71,4 +71,4 @@ pub record IsDrainedInto (old new : Table) (region count : ℕ) (before after : 
 
 -- the pairs of the region's cards are recorded no more
 abbrev pub forgotten : ℕ → Table → Table
-forgotten region t = record { layout = t.layout; refs = t.refs; pending = t.pending; recorded = set.retain t.recorded (λ pair. not (region_of_card t.layout pair.0 == region)) }
+forgotten region table = record { layout = table.layout; refs = table.refs; pending = table.pending; recorded = set.retain table.recorded (λ pair. not (region_of_card table.layout pair.0 == region)) }

@@ -12,42 +12,42 @@ use Rattle.g1_race_words.specs.declared.view.Shape.{Shape}
 use Rattle.g1_race_words.specs.Rule.{IsBegun, IsPair, HasBit, card_of, crosses, mark_word, one_if, region_at, start}
 use Rattle.g1_race.specs.Clearing.{IsEmptied}
 
--- slot p, with word n, lies outside the region and refers into it
+-- the slot, with this word, lies outside the region and refers into it
 abbrev pub is_into : Shape → ℕ → ℕ → ℕ → Bool
-is_into k region p n = crosses k p n && (region_at k n == region)
+is_into heap region slot word = crosses heap slot word && (region_at heap word == region)
 
 -- the word of a reference that is moved to the same offset of another region
 abbrev pub moved_word : Shape → ℕ → ℕ → ℕ
-moved_word k to n = to * k.span + (n - 1) % k.span + 1
+moved_word heap to word = to * heap.span + (word - 1) % heap.span + 1
 
 -- what a slot's word becomes
 abbrev pub word_after : Shape → ℕ → ℕ → ℕ → ℕ → ℕ
-word_after k from to p n = if is_into k from p n then moved_word k to n else n
+word_after heap from to slot word = if is_into heap from slot word then moved_word heap to word else word
 
 -- how many of these slots, from one on, lie outside the region and refer into it
 abbrev pub into_count : Shape → List ℕ → ℕ → ℕ → ℕ → ℕ
-into_count k words region first zero = 0
-into_count k words region first (suc n) = into_count k words region first n
-    + one_if (is_into k region (first + n) (slice_index words (first + n)))
+into_count heap words region first zero = 0
+into_count heap words region first (suc count) = into_count heap words region first count
+    + one_if (is_into heap region (first + count) (slice_index words (first + count)))
 
 -- a slot that is moved has this pair then
 abbrev pub Acquires : Shape → List ℕ → ℕ → ℕ → ℕ × ℕ → Type 0
-Acquires k words from to x = (p : ℕ) × (n : ℕ) × (p < k.slots) × (get_elem? words p ≡ some n)
-    × (is_into k from p n ≡ true) × (p / k.span ≢ to) × ((card_of k p, to) ≡ x)
+Acquires heap words from to pair = (p : ℕ) × (n : ℕ) × (p < heap.slots) × (get_elem? words p ≡ some n)
+    × (is_into heap from p n ≡ true) × (p / heap.span ≢ to) × ((card_of heap p, to) ≡ pair)
 
 -- the references of these slots, from one on, are moved from the one region to the other, and
 -- recorded for it
-pub record AreMoved (k : Shape) (old new : List ℕ) (from to first count : ℕ) : Type 0 where
-  pub moved : (p n : ℕ) → first ≤ p → p < first + count → p < k.slots →
-      get_elem? old p ≡ some n → get_elem? new p ≡ some (word_after k from to p n)
-  pub outside : (p : ℕ) → p < k.slots → (p < first) ⊎ (first + count ≤ p) →
+pub record AreMoved (heap : Shape) (old new : List ℕ) (from to first count : ℕ) : Type 0 where
+  pub moved : (p n : ℕ) → first ≤ p → p < first + count → p < heap.slots →
+      get_elem? old p ≡ some n → get_elem? new p ≡ some (word_after heap from to p n)
+  pub outside : (p : ℕ) → p < heap.slots → (p < first) ⊎ (first + count ≤ p) →
       get_elem? new p ≡ get_elem? old p
-  pub marks : (c : ℕ) → c < k.cards →
-      get_elem? new (mark_word k c) ≡ get_elem? old (mark_word k c)
-  pub kept : (x : ℕ × ℕ) → HasBit k old x → HasBit k new x
-  pub only : (x : ℕ × ℕ) → IsPair k x → HasBit k new x → HasBit k old x ⊎ Acquires k old from to x
-  pub has : (p n : ℕ) → first ≤ p → p < first + count → p < k.slots → get_elem? old p ≡ some n →
-      is_into k from p n ≡ true → p / k.span ≢ to → HasBit k new (card_of k p, to)
+  pub marks : (c : ℕ) → c < heap.cards →
+      get_elem? new (mark_word heap c) ≡ get_elem? old (mark_word heap c)
+  pub kept : (x : ℕ × ℕ) → HasBit heap old x → HasBit heap new x
+  pub only : (x : ℕ × ℕ) → IsPair heap x → HasBit heap new x → HasBit heap old x ⊎ Acquires heap old from to x
+  pub has : (p n : ℕ) → first ≤ p → p < first + count → p < heap.slots → get_elem? old p ≡ some n →
+      is_into heap from p n ≡ true → p / heap.span ≢ to → HasBit heap new (card_of heap p, to)
 
 -- a redirect is not short
 abbrev pub HasMoved : Redirected → Type 0
@@ -55,11 +55,11 @@ HasMoved (Moved slots refined) = Unit {0}
 HasMoved (Short refined) = ⊥
 
 -- all references into the region are moved to the other, and its pairs are forgotten
-pub record AreMovedAway (k : Shape) (old new : List ℕ) (from to : ℕ) : Type 0 where
+pub record AreMovedAway (heap : Shape) (old new : List ℕ) (from to : ℕ) : Type 0 where
   pub between : List ℕ
-  pub begun : IsBegun (start k between)
-  pub moved : AreMoved k old between from to 0 k.slots
-  pub emptied : IsEmptied k between new from k.row
+  pub begun : IsBegun (start heap between)
+  pub moved : AreMoved heap old between from to 0 heap.slots
+  pub emptied : IsEmptied heap between new from heap.row
 
 -- a redirect from the one region to the other leaves the new table, and has changed as many slots
 pub record IsRedirected (old : Table) (from to slots : ℕ) (new : Table) : Type 0 where

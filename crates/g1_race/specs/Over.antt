@@ -19,30 +19,30 @@ pub record Ended : Type 0 where
 
 -- what a slot's word refers to
 abbrev pub target_of : ℕ → Option ℕ
-target_of n = if n == 0 then None else Some (n - 1)
+target_of word = if word == 0 then None else Some (word - 1)
 
 abbrev pub refs_of : Ended → List (Option ℕ)
-refs_of e = map target_of (take (slot_count e.layout) e.words)
+refs_of left = map target_of (take (slot_count left.layout) left.words)
 
 abbrev pub marks_of : Ended → List Bool
-marks_of e = map (λ n. n == 1) (drop (slot_count e.layout) e.words)
+marks_of left = map (λ n. n == 1) (drop (slot_count left.layout) left.words)
 
 -- the table of references, pending cards and recorded pairs that it makes
 abbrev pub table_of : Ended → Table
-table_of e = table_with e.layout (refs_of e) (marks_of e) e.pairs
+table_of left = table_with left.layout (refs_of left) (marks_of left) left.pairs
 
 -- the core that it makes
 abbrev pub core_of : Ended → Settings → Machine
-core_of e settings = adopted_machine e.layout settings (refs_of e) (marks_of e) e.pairs
+core_of left settings = adopted_machine left.layout settings (refs_of left) (marks_of left) left.pairs
 
 -- what a race's words say
 abbrev pub ended : layout.Shape → Shape → List ℕ → Ended
-ended l k words = record { layout = l; words = front k words; pairs = pairs_up_to k words k.cards }
+ended layout heap words = record { layout = layout; words = front heap words; pairs = pairs_up_to heap words heap.cards }
 
 -- what the words of a closed race keep
-pub record IsEnded (k : Shape) (l : layout.Shape) (words : List ℕ) : Type 0 where
-  pub laid : k ≡ shape_of l k.members
-  pub begun : IsBegun (start k words)
+pub record IsEnded (heap : Shape) (layout : layout.Shape) (words : List ℕ) : Type 0 where
+  pub laid : heap ≡ shape_of layout heap.members
+  pub begun : IsBegun (start heap words)
 
 -- a race at a pause: its layout, also in plain numbers, the words of its table, the racers' logs,
 -- and how many sweepers there are
@@ -54,12 +54,12 @@ pub record Halt : Type 0 where
   pub sweepers : ℕ
 
 abbrev pub ended_of : Halt → Ended
-ended_of h = ended h.layout h.shape h.words
+ended_of halt = ended halt.layout halt.shape halt.words
 
 -- what a race that goes on from it begins with
 abbrev pub start_at : Halt → Start
-start_at h = start h.shape h.words
+start_at halt = start halt.shape halt.words
 
 -- its table
 abbrev pub halted : Halt → Table
-halted h = table_of (ended_of h)
+halted halt = table_of (ended_of halt)

@@ -21,7 +21,7 @@ pub record Known : Type 0 where
   pub start : Start
 
 abbrev pub known : TableId → Start → Known
-known z begin = record { table_id = z; start = begin }
+known table_id begin = record { table_id = table_id; start = begin }
 
 -- the reader is of this pause
 abbrev pub IsReaderOf : Readable → Known → Type 0
@@ -37,10 +37,10 @@ table_read race reader = table_of (ended race.layout race.shape reader.start.wor
 
 -- the same, as a seat at a pause knows it
 abbrev pub table_known : Race → Seat (Unit {0}) View → Table
-table_known race s = table_of (ended race.layout race.shape s.me.0.began_words)
+table_known race seat = table_of (ended race.layout race.shape seat.me.0.began_words)
 
 -- the least pending card from one on
 abbrev pub IsNextPending : Table → ℕ → Option ℕ → Type 0
-IsNextPending t from None = (card : ℕ) → from ≤ card → IsPending t card → ⊥
-IsNextPending t from (Some next) = (from ≤ next) × IsPending t next
-    × ((card : ℕ) → from ≤ card → IsPending t card → next ≤ card)
+IsNextPending table from None = (card : ℕ) → from ≤ card → IsPending table card → ⊥
+IsNextPending table from (Some next) = (from ≤ next) × IsPending table next
+    × ((card : ℕ) → from ≤ card → IsPending table card → next ≤ card)

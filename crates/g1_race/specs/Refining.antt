@@ -7,40 +7,41 @@ use Rattle.g1_race_words.specs.declared.view.Shape.{Shape}
 use Rattle.g1_race_words.specs.Rule.{In, IsBegun, IsPair, HasBit, BeganInto, flag, mark_word, start}
 use Rattle.g1_race_words.specs.Steps.{pair_at}
 
--- the pairs of the first i slots of card c
+-- the pairs of the card's first slots, as many as this
 abbrev pub card_pairs : Shape → List ℕ → ℕ → ℕ → List (ℕ × ℕ)
-card_pairs k words c zero = []
-card_pairs k words c (suc i) = card_pairs k words c i ++ pair_at k (c * k.size + i) (slice_index_or words (c * k.size + i) 0)
+card_pairs heap words card zero = []
+card_pairs heap words card (suc count) = card_pairs heap words card count ++ pair_at heap (card * heap.size + count) (slice_index_or words (card * heap.size + count) 0)
 
 -- the bits of these pairs are set, and nothing else changes
-pub record Notes (k : Shape) (old new : List ℕ) (xs : List (ℕ × ℕ)) : Type 0 where
-  pub front : (i : ℕ) → i < k.slots + k.cards → get_elem? new i ≡ get_elem? old i
-  pub kept : (x : ℕ × ℕ) → HasBit k old x → HasBit k new x
-  pub has : (x : ℕ × ℕ) → In xs x → HasBit k new x
-  pub only : (x : ℕ × ℕ) → IsPair k x → HasBit k new x → HasBit k old x ⊎ In xs x
+pub record Notes (heap : Shape) (old new : List ℕ) (pairs : List (ℕ × ℕ)) : Type 0 where
+  pub front : (i : ℕ) → i < heap.slots + heap.cards → get_elem? new i ≡ get_elem? old i
+  pub kept : (x : ℕ × ℕ) → HasBit heap old x → HasBit heap new x
+  pub has : (x : ℕ × ℕ) → In pairs x → HasBit heap new x
+  pub only : (x : ℕ × ℕ) → IsPair heap x → HasBit heap new x → HasBit heap old x ⊎ In pairs x
 
--- card c is dirty: its flag is set, and then its mark, and nothing else changes
-pub record IsDirtied (k : Shape) (old new : List ℕ) (c : ℕ) : Type 0 where
+-- the card is dirtied: its flag is set, and then its mark, and nothing else changes
+pub record IsDirtied (heap : Shape) (old new : List ℕ) (card : ℕ) : Type 0 where
   pub mid : List ℕ
-  pub flagged : Notes k old mid (flag k c ∷ [])
-  pub begun : IsBegun (start k mid)
-  pub marked : new ≡ slice_set mid (mark_word k c) 1
+  pub flagged : Notes heap old mid (flag heap card ∷ [])
+  pub begun : IsBegun (start heap mid)
+  pub marked : new ≡ slice_set mid (mark_word heap card) 1
 
--- card c is clean, and the pairs of its references are recorded
-pub record IsRefined (k : Shape) (old new : List ℕ) (c : ℕ) : Type 0 where
-  pub slots : (p : ℕ) → p < k.slots → get_elem? new p ≡ get_elem? old p
-  pub clean : get_elem? new (mark_word k c) ≡ some 0
-  pub marks : (d : ℕ) → d < k.cards → d ≢ c → get_elem? new (mark_word k d) ≡ get_elem? old (mark_word k d)
-  pub kept : (x : ℕ × ℕ) → HasBit k old x → HasBit k new x
-  pub only : (x : ℕ × ℕ) → IsPair k x → HasBit k new x → HasBit k old x ⊎ ((x.0 ≡ c) × BeganInto k old x)
+-- the card is clean, and the pairs of its references are recorded
+pub record IsRefined (heap : Shape) (old new : List ℕ) (card : ℕ) : Type 0 where
+  pub slots : (p : ℕ) → p < heap.slots → get_elem? new p ≡ get_elem? old p
+  pub clean : get_elem? new (mark_word heap card) ≡ some 0
+  pub marks : (d : ℕ) → d < heap.cards → d ≢ card → get_elem? new (mark_word heap d) ≡ get_elem? old (mark_word heap d)
+  pub kept : (x : ℕ × ℕ) → HasBit heap old x → HasBit heap new x
+  pub only : (x : ℕ × ℕ) → IsPair heap x → HasBit heap new x → HasBit heap old x ⊎ ((x.0 ≡ card) × BeganInto heap old x)
 
--- the dirty ones of the first n cards are clean, and beside the old pairs only those of their references are recorded
-pub record AreRefined (k : Shape) (old new : List ℕ) (n : ℕ) : Type 0 where
-  pub slots : (p : ℕ) → p < k.slots → get_elem? new p ≡ get_elem? old p
-  pub clean : (c : ℕ) → c < n → c < k.cards → get_elem? new (mark_word k c) ≡ some 0
-  pub marks : (c : ℕ) → n ≤ c → c < k.cards → get_elem? new (mark_word k c) ≡ get_elem? old (mark_word k c)
-  pub kept : (x : ℕ × ℕ) → IsPair k x → HasBit k old x → HasBit k new x
-  pub only : (x : ℕ × ℕ) → IsPair k x → HasBit k new x → HasBit k old x ⊎ ((get_elem? old (mark_word k x.0) ≡ some 1) × BeganInto k old x)
+-- the dirty ones of the first cards, as many as this, are clean, and beside the old pairs only
+-- those of their references are recorded
+pub record AreRefined (heap : Shape) (old new : List ℕ) (count : ℕ) : Type 0 where
+  pub slots : (p : ℕ) → p < heap.slots → get_elem? new p ≡ get_elem? old p
+  pub clean : (c : ℕ) → c < count → c < heap.cards → get_elem? new (mark_word heap c) ≡ some 0
+  pub marks : (c : ℕ) → count ≤ c → c < heap.cards → get_elem? new (mark_word heap c) ≡ get_elem? old (mark_word heap c)
+  pub kept : (x : ℕ × ℕ) → IsPair heap x → HasBit heap old x → HasBit heap new x
+  pub only : (x : ℕ × ℕ) → IsPair heap x → HasBit heap new x → HasBit heap old x ⊎ ((get_elem? old (mark_word heap x.0) ≡ some 1) × BeganInto heap old x)
 
 -- where nothing is pending and each reference is covered, the members of a region are exact: every card that holds into it is one
 abbrev pub MembersAreExact : Type 0

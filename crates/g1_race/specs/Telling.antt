@@ -4,39 +4,39 @@ use Rattle.std.specs.Int.{bit_at}
 use Rattle.g1_race_words.specs.declared.view.Shape.{Shape}
 use Rattle.g1_race_words.specs.Rule.{bit_place, bit_word, mark_word}
 
--- those of the first n cards of which the test is true, ascending
+-- those of the first cards, as many as this, of which the test is true, ascending
 abbrev pub cards_where : (ℕ → Bool) → ℕ → List ℕ
 cards_where test zero = []
-cards_where test (suc n) = cards_where test n ++ (if test n then n ∷ [] else [])
+cards_where test (suc count) = cards_where test count ++ (if test count then count ∷ [] else [])
 
 -- whether the card is dirty
 abbrev pub is_marked : Shape → List ℕ → ℕ → Bool
-is_marked k words card = slice_index words (mark_word k card) == 1
+is_marked heap words card = slice_index words (mark_word heap card) == 1
 
 -- whether the card's pair with the region is recorded
 abbrev pub is_member : Shape → List ℕ → ℕ → ℕ → Bool
-is_member k words region card = bit_at (slice_index words (bit_word k (card, region))) (bit_place k (card, region)) == 1
+is_member heap words region card = bit_at (slice_index words (bit_word heap (card, region))) (bit_place heap (card, region)) == 1
 
 -- all dirty cards, and all of the region's set
 abbrev pub marked_cards : Shape → List ℕ → List ℕ
-marked_cards k words = cards_where (is_marked k words) k.cards
+marked_cards heap words = cards_where (is_marked heap words) heap.cards
 
 abbrev pub member_cards : Shape → List ℕ → ℕ → List ℕ
-member_cards k words region = cards_where (is_member k words region) k.cards
+member_cards heap words region = cards_where (is_member heap words region) heap.cards
 
--- how many pairs are recorded for the first n regions
+-- how many pairs are recorded for the first regions, as many as this
 abbrev pub pair_count : Shape → List ℕ → ℕ → ℕ
-pair_count k words zero = 0
-pair_count k words (suc r) = pair_count k words r + length (member_cards k words r)
+pair_count heap words zero = 0
+pair_count heap words (suc region) = pair_count heap words region + length (member_cards heap words region)
 
--- whether some card of a block of 64 is in the region's set, and for which of the first n regions
--- one is
+-- whether some card of a block of 64 is in the region's set, and for which of the first regions one
+-- is
 abbrev pub has_block : Shape → List ℕ → ℕ → ℕ → Bool
-has_block k words block region =
-    not (slice_index words (k.slots + k.cards + (region * k.row + block)) == 0)
+has_block heap words block region =
+    not (slice_index words (heap.slots + heap.cards + (region * heap.row + block)) == 0)
 
 abbrev pub block_regions : Shape → List ℕ → ℕ → ℕ → List ℕ
-block_regions k words block n = cards_where (has_block k words block) n
+block_regions heap words block count = cards_where (has_block heap words block) count
 
 -- a card from one on, below a limit, and of none before it the test is true; or of none at all
 abbrev pub SkipsNone : (ℕ → Bool) → ℕ → ℕ → Option ℕ → Type 0

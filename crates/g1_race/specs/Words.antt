@@ -7,10 +7,10 @@ use Rattle.g1_race_words.specs.declared.view.View.{View}
 use Rattle.g1_race_words.specs.Begin.{Begun}
 use Rattle.g1_race_words.specs.Rule.{In, Held, held_of, card_of, region_at, crosses, IsMarked, IsPair, HasBit, StoredInto, BeganInto, Raced}
 
--- the seat owes the card of slot p, still has the slot to read, or holds the pair of the slot and
--- its word n
+-- the seat owes the card of the slot, still has the slot to read, or holds the pair of the slot and
+-- its word
 abbrev pub Minds : Shape → View → ℕ → ℕ → Type 0
-Minds k v p n = (v.owed ≡ Some (card_of k p)) ⊎ ((v.next ≤ p) × (p < v.end)) ⊎ In v.held (card_of k p, region_at k n)
+Minds heap view slot word = (view.owed ≡ Some (card_of heap slot)) ⊎ ((view.next ≤ slot) × (slot < view.end)) ⊎ In view.held (card_of heap slot, region_at heap word)
 
 -- each slot that refers into another region has its card marked or its pair's bit set, or some seat
 -- minds it
@@ -21,7 +21,7 @@ SlotsAreCovered = (begun : Begun) (words : List ℕ) (views : List View) → Rac
 -- the pair is of a reference that some racer stored, or that was there at the beginning, or was
 -- recorded then
 abbrev pub IsOfReference : Begun → List View → ℕ × ℕ → Type 0
-IsOfReference begun views x = StoredInto begun.shape views x ⊎ BeganInto begun.shape begun.words x ⊎ In begun.pairs x
+IsOfReference begun views pair = StoredInto begun.shape views pair ⊎ BeganInto begun.shape begun.words pair ⊎ In begun.pairs pair
 
 -- each bit that is set, and each pair that a seat holds, is of such a reference
 abbrev pub BitsAreOfReferences : Type 0

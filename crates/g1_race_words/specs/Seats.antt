@@ -17,36 +17,36 @@ pub record Words : Type 0 where
   pub shape : Shape
 
 -- a member's seat while mutators run: it is of this race, and has one member's weight
-pub record Sits (k : Shape) (v : View) : Type 0 where
-  pub shape : v.shape ≡ k
-  pub weight : v.weight ≡ 1
-  pub going : v.frozen ≡ false
+pub record Sits (heap : Shape) (view : View) : Type 0 where
+  pub shape : view.shape ≡ heap
+  pub weight : view.weight ≡ 1
+  pub going : view.frozen ≡ false
 
 -- the word is the mark of the card that the seat owes
 abbrev pub OwesMark : Shape → View → ℕ → Type 0
-OwesMark k v word = (card : ℕ) × (v.owed ≡ Some card) × (card < k.cards) × (word ≡ mark_word k card)
+OwesMark heap view word = (card : ℕ) × (view.owed ≡ Some card) × (card < heap.cards) × (word ≡ mark_word heap card)
 
 -- the word has the flag of the card that the seat owes
 abbrev pub OwesFlag : Shape → View → ℕ → ℕ → Type 0
-OwesFlag k v card word = (v.owed ≡ Some card) × (card < k.cards) × (word ≡ bit_word k (flag k card))
+OwesFlag heap view card word = (view.owed ≡ Some card) × (card < heap.cards) × (word ≡ bit_word heap (flag heap card))
 
 -- the word is the mark of some card
 abbrev pub IsMark : Shape → ℕ → Type 0
-IsMark k word = (card : ℕ) × (card < k.cards) × (word ≡ mark_word k card)
+IsMark heap word = (card : ℕ) × (card < heap.cards) × (word ≡ mark_word heap card)
 
--- the seat holds the pair x, whose bit stands in the word
+-- the seat holds the pair, whose bit is in the word
 abbrev pub HoldsBit : Shape → View → ℕ × ℕ → ℕ → Type 0
-HoldsBit k v x word = (v.held ≡ x ∷ []) × IsPair k x × (word ≡ bit_word k x)
+HoldsBit heap view pair word = (view.held ≡ pair ∷ []) × IsPair heap pair × (word ≡ bit_word heap pair)
 
 -- the seat of a pause that ends, with the share of a member still to give
 abbrev pub IsChair : View → Type 0
-IsChair v = (begin : Start) × (weight : ℕ) × (v ≡ chair begin weight) × (0 < weight)
+IsChair view = (begin : Start) × (weight : ℕ) × (view ≡ chair begin weight) × (0 < weight)
 
 -- the one seat of a race at a pause
-pub record IsPaused (z : TableId) (k : Shape) (s : Seat (Unit {0}) View) : Type 0 where
-  pub table : s.table_id ≡ z
-  pub view : s.me ≡ (iced (start k s.me.0.began_words) k.members, [])
-  pub begun : IsBegun (start k s.me.0.began_words)
+pub record IsPaused (table_id : TableId) (heap : Shape) (seat : Seat (Unit {0}) View) : Type 0 where
+  pub table : seat.table_id ≡ table_id
+  pub view : seat.me ≡ (iced (start heap seat.me.0.began_words) heap.members, [])
+  pub begun : IsBegun (start heap seat.me.0.began_words)
 
 -- a seat with all the weight learns the words, and what they are to the beginning of the race; where
 -- it was frozen, they are those that it knew

@@ -8,98 +8,98 @@ use Rattle.g1_race_words.specs.Rule.{card_of, region_at, bit_place, crosses, fla
 
 -- a seat that answers for nothing
 abbrev pub blank : Start → ℕ → List History → View
-blank s weight histories = record { shape = s.shape; weight = weight; spare = 0; began_words = s.words; frozen = false; histories = histories; owed = None; claims = []; next = 0; end = 0; swept = []; cleanings = []; pairs = []; held = []; flagged = [] }
+blank begin weight histories = record { shape = begin.shape; weight = weight; spare = 0; began_words = begin.words; frozen = false; histories = histories; owed = None; claims = []; next = 0; end = 0; swept = []; cleanings = []; pairs = []; held = []; flagged = [] }
 
 -- the seat of a pause that ends, which has the weight and the numbers of all that are still to come
 abbrev pub chair : Start → ℕ → View
-chair s w = record (blank s w []) { spare = w }
+chair begin weight = record (blank begin weight []) { spare = weight }
 
 -- the seat of a pause, which has all the weight and knows all the words
 abbrev pub iced : Start → ℕ → View
-iced s w = record (chair s w) { frozen = true }
+iced begin weight = record (chair begin weight) { frozen = true }
 
 -- the words may change again
 abbrev pub thawed : View → View
-thawed v = record v { frozen = false }
+thawed view = record view { frozen = false }
 
 -- one word changes at a pause
 abbrev pub put : View → ℕ → ℕ → View
-put v p n = record v { began_words = slice_set v.began_words p n }
+put view slot word = record view { began_words = slice_set view.began_words slot word }
 
 -- the first history gains a store
 abbrev pub gained : ℕ → ℕ → List History → List History
-gained p n [] = []
-gained p n (h ∷ hs) = (h.0, (p, n) ∷ h.1) ∷ hs
+gained slot word [] = []
+gained slot word (history ∷ histories) = (history.0, (slot, word) ∷ history.1) ∷ histories
 
--- a racer writes n to slot p
+-- a racer writes the word to the slot
 abbrev pub wrote : View → ℕ → ℕ → View
-wrote v p n = record v { histories = gained p n v.histories; owed = if crosses v.shape p n then Some (card_of v.shape p) else None }
+wrote view slot word = record view { histories = gained slot word view.histories; owed = if crosses view.shape slot word then Some (card_of view.shape slot) else None }
 
--- a racer finds n at the mark of the card that it owes
+-- a racer finds this at the mark of the card that it owes
 abbrev pub looked : View → ℕ → View
-looked v n = record v { owed = if n == 1 then None else v.owed }
+looked view word = record view { owed = if word == 1 then None else view.owed }
 
 -- the card that is owed
 abbrev pub owed_card : Option ℕ → List ℕ
 owed_card None = []
-owed_card (Some c) = c ∷ []
+owed_card (Some card) = card ∷ []
 
--- those of the cards whose flag is set where its word is n
+-- those of the cards whose flag is set in the word
 abbrev pub set_flags : Shape → ℕ → List ℕ → List ℕ
-set_flags k n [] = []
-set_flags k n (c ∷ cs) = if bit_at n (bit_place k (flag k c)) == 1 then c ∷ set_flags k n cs else set_flags k n cs
+set_flags heap word [] = []
+set_flags heap word (card ∷ cards) = if bit_at word (bit_place heap (flag heap card)) == 1 then card ∷ set_flags heap word cards else set_flags heap word cards
 
--- a racer finds n at the word with the flag of the card that it owes
+-- a racer finds the word with the flag of the card that it owes
 abbrev pub spotted : View → ℕ → View
-spotted v n = record v { flagged = set_flags v.shape n (owed_card v.owed) }
+spotted view word = record view { flagged = set_flags view.shape word (owed_card view.owed) }
 
 -- a racer has set the flag of the card that it owes
 abbrev pub raised : View → View
-raised v = record v { flagged = owed_card v.owed }
+raised view = record view { flagged = owed_card view.owed }
 
--- a racer swaps 1 to the mark of the card c that it owes, and finds n
+-- a racer swaps 1 to the mark of the card that it owes, and finds the word
 abbrev pub dirtied : View → ℕ → ℕ → View
-dirtied v c n = record v { owed = None; claims = if n == 0 then c ∷ v.claims else v.claims; flagged = [] }
+dirtied view card word = record view { owed = None; claims = if word == 0 then card ∷ view.claims else view.claims; flagged = [] }
 
--- a sweeper swaps 0 to the mark of card c, finds n, and has the card's slots to read
+-- a sweeper swaps 0 to the mark of the card, finds the word, and has the card's slots to read
 abbrev pub cleaned : View → ℕ → ℕ → View
-cleaned v c n = record v { next = c * v.shape.size; end = c * v.shape.size + v.shape.size; swept = c ∷ v.swept; cleanings = if n == 1 then c ∷ v.cleanings else v.cleanings }
+cleaned view card word = record view { next = card * view.shape.size; end = card * view.shape.size + view.shape.size; swept = card ∷ view.swept; cleanings = if word == 1 then card ∷ view.cleanings else view.cleanings }
 
 -- the pair of a slot's word, where it refers into another region
 abbrev pub pair_at : Shape → ℕ → ℕ → List (ℕ × ℕ)
-pair_at k p n = if crosses k p n then (card_of k p, region_at k n) ∷ [] else []
+pair_at heap slot word = if crosses heap slot word then (card_of heap slot, region_at heap word) ∷ [] else []
 
--- a sweeper finds n at slot p
+-- a sweeper finds the word at the slot
 abbrev pub read : View → ℕ → ℕ → View
-read v p n = record v { next = p + 1; pairs = v.pairs ++ pair_at v.shape p n; held = pair_at v.shape p n }
+read view slot word = record view { next = slot + 1; pairs = view.pairs ++ pair_at view.shape slot word; held = pair_at view.shape slot word }
 
--- those of the pairs whose bit isn't set where their word is n
+-- those of the pairs whose bit isn't set in the word
 abbrev pub unset : Shape → ℕ → List (ℕ × ℕ) → List (ℕ × ℕ)
-unset k n [] = []
-unset k n (x ∷ xs) = if bit_at n (bit_place k x) == 1 then unset k n xs else x ∷ unset k n xs
+unset heap word [] = []
+unset heap word (pair ∷ pairs) = if bit_at word (bit_place heap pair) == 1 then unset heap word pairs else pair ∷ unset heap word pairs
 
--- a sweeper finds n at the word of the pair that it holds
+-- a sweeper finds the word with the bit of the pair that it holds
 abbrev pub sought : View → ℕ → View
-sought v n = record v { held = unset v.shape n v.held }
+sought view word = record view { held = unset view.shape word view.held }
 
 -- a sweeper has set the bit of the pair that it holds
 abbrev pub recorded : View → View
-recorded v = record v { held = [] }
+recorded view = record view { held = [] }
 
 -- one member's share of the weight is cut off, and the number that goes with it
 abbrev pub lighter : View → View
-lighter v = record v { weight = v.weight - 1; spare = v.spare - 1 }
+lighter view = record view { weight = view.weight - 1; spare = view.spare - 1 }
 
 -- a racer that has stored nothing gets the number that is cut off
 abbrev pub new_racer : View → View
-new_racer v = blank (start_of v) 1 ((v.spare - 1, []) ∷ [])
+new_racer view = blank (start_of view) 1 ((view.spare - 1, []) ∷ [])
 
 abbrev pub new_sweeper : View → View
-new_sweeper v = blank (start_of v) 1 []
+new_sweeper view = blank (start_of view) 1 []
 
 -- what two seats at rest know, together; the second one has weight, so its beginning is the race's
 abbrev pub both : View → View → View
-both v u = record v { shape = u.shape; began_words = u.began_words; frozen = u.frozen; weight = v.weight + u.weight; histories = v.histories ++ u.histories; claims = v.claims ++ u.claims; swept = v.swept ++ u.swept; cleanings = v.cleanings ++ u.cleanings; pairs = v.pairs ++ u.pairs }
+both view other = record view { shape = other.shape; began_words = other.began_words; frozen = other.frozen; weight = view.weight + other.weight; histories = view.histories ++ other.histories; claims = view.claims ++ other.claims; swept = view.swept ++ other.swept; cleanings = view.cleanings ++ other.cleanings; pairs = view.pairs ++ other.pairs }
 
 -- the view of a seat that was joined to another
 abbrev pub nothing : View
