@@ -120,8 +120,8 @@ impl Race {
         (racers.collect(), sweepers.collect())
     }
 
-    /// Ends the race, or gathers its members where it has another owner ([`Closed::into_heap`] ends it then). Refused, it goes on.
-    /// Logs that were not taken are dropped; their cards stay dirty.
+    /// Ends the race. If it has another owner, its members are gathered, and [`Closed::into_heap`]
+    /// ends it. Refused, it goes on. Logs that were not taken are dropped; their cards stay dirty.
     pub fn close(mut self) -> Result<Closed, (Race, Refusal)> {
         let (mut racers, mut sweepers) = (handles(&self.racers), handles(&self.sweepers));
         let mut over = Over { race: null_mut() };
