@@ -3,7 +3,7 @@ use Rattle.g1_core.specs.Calls.{refine_entry}
 use Rattle.g1_core.specs.Run.{IsStep}
 use Rattle.g1_book.proofs.RoomLemmas.{refinement_few, refinement_counts}
 use Rattle.g1_shared.specs.Totals.{CountedMachine}
-use Rattle.g1_shared.proofs.counted_core.CountedCoreKeeper.refine_by.Goals as goal
+use Rattle.g1_shared.proofs.counted_core.calls.CountedCoreKeeper.refine_by.Goals as goal
 
 pub returns-clause-step : goal.returns-clause-step
 returns-clause-step g c = subst (λ (was : CountedMachine). (number : ℕ) → IsStep was.machine.state.table (refine_entry number c.in-Ok.reply) c.refine.new.self.state.table) c.self.view_is c.in-Ok.ensures.step

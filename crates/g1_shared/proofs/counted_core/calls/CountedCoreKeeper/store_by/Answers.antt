@@ -2,7 +2,7 @@ use Rattle.std.proofs.Common.{ℕ, subst}
 use Rattle.g1_core.specs.Calls.{store_entry}
 use Rattle.g1_core.specs.Run.{IsStep}
 use Rattle.g1_shared.specs.Totals.{CountedMachine}
-use Rattle.g1_shared.proofs.counted_core.CountedCoreKeeper.store_by.Goals as goal
+use Rattle.g1_shared.proofs.counted_core.calls.CountedCoreKeeper.store_by.Goals as goal
 
 pub returns-clause-step : goal.returns-clause-step
 returns-clause-step g c = subst (λ (was : CountedMachine). (number : ℕ) → IsStep was.machine.state.table (store_entry number c.args.slot c.args.target c.store-answer.result.0) c.store-answer.new.self.state.table) c.self.view_is c.store-answer.ensures.step
