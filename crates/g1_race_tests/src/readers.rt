@@ -1,13 +1,13 @@
 //! Several threads read one pause.
-ghost use Rattle.std.specs.Prelude.{◌≡◌, All};
+ghost use Rattle.std.specs.Prelude.{◌≡◌, All, vec_len};
 ghost use Rattle.g1_race.specs.Members.{race_id};
-ghost use Rattle.g1_race.specs.Reading.{reader_race};
+ghost use Rattle.g1_race.specs.Reading.{IsReaderOf, reader_race};
 
 use crate::in_place::race_on;
 use crate::in_threads::Plan;
 use g1_core::Drained;
 use g1_layout::{Card, Layout, NoMemory, Region, Slot};
-use g1_race::{Paused, Race, Reader};
+use g1_race::{Paused, Race, Reader, Reading};
 use std::alloc::Global;
 use std::process::Abort;
 use std::test::Fail;
@@ -127,13 +127,15 @@ fn ask_of(rt: &impl Abort, race: &Race, reader: &mut Reader, told: &(Slot, Optio
 // Each reader scans in a thread of its own.
 fn all_scan<R: Threads + Abort + Sync>(
     rt: &R,
-    race: &Race,
+    reading: &Reading,
     readers: &mut Vec<Reader>,
     told: &[Told],
 )
-    requires { All (λ r. reader_race r ≡ race_id race.now) readers.old.items }
-    ensures { readers.new.items ≡ readers.old.items }
+    requires { All (IsReaderOf reading.now) readers.old.items }
+    ensures all { All (IsReaderOf reading.now) readers.new.items }
+    ensures len { vec_len readers.new ≡ vec_len readers.old }
 {
+    let race = reading.race();
     thread::for_each_mut(
         rt,
         readers.as_mut_slice(),
@@ -157,7 +159,7 @@ fn four_readers(rt: HostRuntime) -> Result<(), Fail> {
     assert!(rt; paused.reader_limit() == 6);
     let mut readers = Vec::with_capacity(rt.alloc(), 4)?;
     let reading = paused.read_by(&mut readers, 4);
-    all_scan(&rt, reading.race(), &mut readers, told.as_slice());
+    all_scan(&rt, &reading, &mut readers, told.as_slice());
     let mut paused = reading.pause(&mut readers);
     let slot = paused.layout().slot(0).expect(&rt, "slot");
     let place = paused.layout().slot(100).expect(&rt, "place");
