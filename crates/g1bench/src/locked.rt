@@ -1,15 +1,17 @@
-//! Stores at a book under a lock, by callers that have each a thread and cards of their own.
-ghost use Rattle.std.specs.Prelude.{◌≡◌, ◌<◌, ◌≤◌, []};
-ghost use Rattle.g1_shared.specs.Callers.{IsCallerOf, mark_of};
+//! Stores at a book or a core under a lock, by callers that have each a thread and cards of their
+//! own.
+ghost use Rattle.std.specs.Prelude.{◌≡◌, ℕ, ◌<◌, ◌≤◌, [], None, length, slice_index_or};
+ghost use Rattle.g1_shared.specs.Callers.{Standing, IsCallerOf, IsNewCaller, mark_of};
+ghost use Rattle.g1_shared.specs.Totals.{core_terms};
 ghost use Rattle.g1_book.specs.History.{terms_of};
 
 use crate::list::{List, lists_of};
 use crate::meter::{Meter, now};
-use crate::timed::Timed;
+use crate::timed::{Barrier, Timed};
 use g1_book::Book;
-use g1_core::Config;
+use g1_core::{Config, Core};
 use g1_layout::{Kind, Layout, NoMemory};
-use g1_shared::{Caller, Frame, Shared};
+use g1_shared::{Caller, Frame, Keeper, Shared, SharedCore};
 use std::alloc::Global;
 use std::marker::Brand;
 use std::rt::Clock;
@@ -17,7 +19,7 @@ use std::sync::Wait;
 use std::sync::ledger::{Blank, Ledger};
 use std::thread::{self, Threads};
 
-/// Makes the stores by `timed.threads` callers.
+/// Makes the stores by `timed.threads` callers: of a core if unrecorded, or else of a book.
 pub fn lock<R: Threads + Wait + Sync + Clock>(
     rt: &R,
     alloc: Global,
@@ -28,11 +30,15 @@ pub fn lock<R: Threads + Wait + Sync + Clock>(
 {
     let lists = lists_of(alloc, timed.layout, timed.target, timed.stores)?;
     let threads = timed.threads;
-    let book = Book::open(alloc, timed.layout, Config::default(), threads, 1_000_000)?;
     let (made, stored) = (
         Blank::new(u64::from(threads)),
         Blank::new(u64::from(threads)),
     );
+    if timed.barrier == Barrier::Unrecorded {
+        let core = Core::new(alloc, timed.layout, Config::default())?;
+        return share_core::<Brand, Brand, R>(rt, alloc, made, stored, core, &lists, timed, meter);
+    }
+    let book = Book::open(alloc, timed.layout, Config::default(), threads, 1_000_000)?;
     share::<Brand, Brand, R>(rt, made, stored, book, &lists, timed, meter)
 }
 
@@ -47,7 +53,8 @@ fn share<M: Frame + Send + Sync, S: Ledger + Send + Sync, R: Threads + Wait + Sy
     meter: &Meter,
 ) -> Result<(), NoMemory>
     requires made { (made.name ≡ M.name) × (made.parts ≡ M.parts) × (made.parts ≡ timed.threads) }
-    requires stored { (stored.name ≡ S.name) × (stored.parts ≡ S.parts) × (stored.parts ≡ timed.threads) }
+    requires stored { (stored.name ≡ S.name) × (stored.parts ≡ S.parts)
+        × (stored.parts ≡ timed.threads) }
     requires terms { terms_of book ≡ M.terms }
     requires layout { timed.layout ≡ M.terms.layout }
     requires empty { book.entries ≡ [] }
@@ -56,20 +63,70 @@ fn share<M: Frame + Send + Sync, S: Ledger + Send + Sync, R: Threads + Wait + Sy
     let Ok((shared, mut callers)) = Shared::<M, S>::open(made, stored, book, timed.threads) else {
         return Err(NoMemory);
     };
-    let shared = &shared;
-    thread::for_each_mut(
-        rt,
-        callers.as_mut_slice(),
-        4,
-        &|k, caller| run(rt, shared, caller, k, lists, timed, meter),
-    );
+    run_all(rt, &shared, callers.as_mut_slice(), lists, timed, meter);
     Ok(())
 }
 
-// The rounds of one caller.
-fn run<M: Frame, S: Ledger, R: Wait + Clock>(
+// The callers of the core, in their threads.
+fn share_core<M: Frame + Send + Sync, S: Ledger + Send + Sync, R: Threads + Wait + Sync + Clock>(
     rt: &R,
-    shared: &Shared<M, S>,
+    alloc: Global,
+    made: Blank,
+    stored: Blank,
+    core: Core,
+    lists: &Vec<List>,
+    timed: Timed,
+    meter: &Meter,
+) -> Result<(), NoMemory>
+    requires made { (made.name ≡ M.name) × (made.parts ≡ M.parts) × (made.parts ≡ timed.threads) }
+    requires stored { (stored.name ≡ S.name) × (stored.parts ≡ S.parts)
+        × (stored.parts ≡ timed.threads) }
+    requires terms { core_terms core timed.threads None ≡ M.terms }
+    requires layout { timed.layout ≡ M.terms.layout }
+    requires threads { (M.terms.mutators ≡ timed.threads) × (1 ≤ timed.threads)
+        × (timed.threads ≤ 4) }
+{
+    let threads = timed.threads;
+    let opened = SharedCore::<M, S>::open_core(alloc, made, stored, core, threads, None, threads);
+    let Ok((shared, mut callers)) = opened else {
+        return Err(NoMemory);
+    };
+    run_all(rt, &shared, callers.as_mut_slice(), lists, timed, meter);
+    Ok(())
+}
+
+// The rounds of all callers, each in a thread of its own.
+fn run_all<
+    M: Frame + Send + Sync,
+    S: Ledger + Send + Sync,
+    K: Keeper<M, S> + Send,
+    R: Threads + Wait + Sync + Clock,
+>(
+    rt: &R,
+    shared: &Shared<M, S, K>,
+    callers: &mut [Caller<M, S>],
+    lists: &Vec<List>,
+    timed: Timed,
+    meter: &Meter,
+)
+    requires each { (k : ℕ) (d : Standing) → k < length callers.old
+        → IsNewCaller shared.now M.terms.settings.log M.terms.mutators k
+        (slice_index_or callers.old k d) }
+    requires mutators { length callers.old ≡ M.terms.mutators }
+    requires layout { timed.layout ≡ M.terms.layout }
+{
+    thread::for_each_mut(
+        rt,
+        callers,
+        4,
+        &|k, caller| run(rt, shared, caller, k, lists, timed, meter),
+    );
+}
+
+// The rounds of one caller.
+fn run<M: Frame, S: Ledger, K: Keeper<M, S>, R: Wait + Clock>(
+    rt: &R,
+    shared: &Shared<M, S, K>,
     caller: &mut Caller<M, S>,
     k: usize,
     lists: &Vec<List>,
@@ -91,9 +148,9 @@ fn run<M: Frame, S: Ledger, R: Wait + Clock>(
 }
 
 // Makes the stores of the list. `None` where one was refused.
-fn store<M: Frame, S: Ledger, R: Wait>(
+fn store<M: Frame, S: Ledger, K: Keeper<M, S>, R: Wait>(
     rt: &R,
-    shared: &Shared<M, S>,
+    shared: &Shared<M, S, K>,
     caller: &mut Caller<M, S>,
     layout: Layout,
     list: &[(u32, u32)],

@@ -12,7 +12,7 @@ use std::sync::Wait;
 use std::thread::Threads;
 
 /// Where the stores are made.
-#[derive(Clone, Copy, Debug)]
+#[derive(Clone, Copy, Debug, PartialEq, Eq)]
 pub enum Barrier {
     /// Nowhere: the loop alone.
     Walk,
@@ -22,6 +22,8 @@ pub enum Barrier {
     Book,
     /// At a book under a lock.
     Locked,
+    /// At a core under a lock, which keeps no history.
+    Unrecorded,
     /// In a race.
     Raced,
 }
@@ -72,14 +74,14 @@ pub fn read_timed(words: &[String]) -> Option<Timed>
     Some(timed)
 }
 
-// No card is cleaned, so it is logged once. At a book, whose history ends, nothing is logged; and where no thread shares anything,
-// there is one.
+// A run whose stores are logged has one round, since a card that is dirty is not logged again. At a
+// book, whose history ends, nothing is logged; and where no thread shares anything, there is one.
 fn is_possible(timed: &Timed) -> bool {
     if timed.logs() && timed.rounds > 1 {
         return false;
     }
     match timed.barrier {
-        Barrier::Raced => true,
+        Barrier::Raced | Barrier::Unrecorded => true,
         Barrier::Locked => !timed.logs(),
         Barrier::Book => timed.threads == 1 && !timed.logs(),
         Barrier::Core => timed.threads == 1,
@@ -93,6 +95,7 @@ fn barrier_of(word: &str) -> Option<Barrier> {
         "core" => Some(Barrier::Core),
         "book" => Some(Barrier::Book),
         "locked" => Some(Barrier::Locked),
+        "unrecorded" => Some(Barrier::Unrecorded),
         "raced" => Some(Barrier::Raced),
         _ => None,
     }
@@ -143,7 +146,7 @@ fn run<R: Threads + Wait + Sync + Clock>(
         Barrier::Walk => alone::walk(rt, alloc, timed, meter),
         Barrier::Core => alone::core(rt, alloc, timed, meter),
         Barrier::Book => alone::book(rt, alloc, timed, meter),
-        Barrier::Locked => locked::lock(rt, alloc, timed, meter),
+        Barrier::Locked | Barrier::Unrecorded => locked::lock(rt, alloc, timed, meter),
         Barrier::Raced => raced::race(rt, alloc, timed, meter),
     }
 }
