@@ -26,6 +26,7 @@ impl Book {
     /// Returns `BookFull` exactly if the history is full, `NoMemory` if room for the entry was
     /// refused. Either leaves book and log as they were. Constant time except for the growth of the
     /// history. The entry holds no list.
+    #[inline(always)]
     pub fn store(
         &mut self,
         caller: u32,
@@ -47,6 +48,11 @@ impl Book {
         ensures err { OnErr result (self.new ≡ self.old) }
         ensures err_log { OnErr result (log.new ≡ log.old) }
     {
+        // No empty `Option<Buffer>`, which is a kilobyte, is moved then.
+        if log.has_room() {
+            let reply = self.store_with_room(caller, log, slot, target)?;
+            return Ok((reply, None));
+        }
         make_room(&mut self.entries, self.limit)?;
         let call = store_call(slot, &target);
         let (reply, buffer) = self.core.store(log, slot, target);
