@@ -71,8 +71,8 @@ fn store_all<R: Threads + Wait + Sync>(
     racers
 }
 
-// A racer's stores. A full log is handed on; one that the queue has no memory for is let go of, and
-// as its cards stay dirty, the next pause refines them.
+// A racer's stores. A full log is handed on. One that the queue has no memory for is dropped: each
+// of its cards stays dirty until it is refined, by the next pause at the latest.
 fn store_each(rt: &impl Wait, race: &Race, racer: &mut Racer, stores: &Stores, to: &Sender<Buffer>)
     requires { racer_race racer.old ≡ race_id race.now }
     ensures { racer_race racer.new ≡ racer_race racer.old }
