@@ -14,8 +14,8 @@ use std::thread::{self, Threads};
 /// The cards of a full log.
 pub type Buffer = ArrayVec<Card, 256>;
 
-/// What one mutator stores: to every second slot from the first number on a reference to each place
-/// in turn from the second one on, or null, so many times.
+/// What one mutator stores: the number of the first slot, that of the first place, or `None` for
+/// null, and how many stores. The stores go to every second slot, with each place in turn.
 pub type Stores = (u32, Option<u32>, u32);
 
 /// Runs the race up to its next pause: each racer stores and each sweeper refines in a thread of
