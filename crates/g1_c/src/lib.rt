@@ -12,9 +12,13 @@
 //! - [`race_open`] and [`race_resume`] begin a race, [`race_store`], [`race_log`] and
 //!   [`race_refine`] are the path of a card in it, and [`race_close`] and [`race_core`] end it.
 //!
-//! Each call returns a code ([`g1_handles::code`]): 8 or more if it was refused. What only the
-//! caller can know is left to the caller: that a handle is zeros or was opened here, that one call
-//! at a time uses it, and that arrays have the lengths that are passed and overlap nothing else.
+//! A call returns a word below 8 if it was made, and else the word of a
+//! [`Refusal`](g1_handles::code::Refusal). One word of 8 or more is no refusal: 25 of
+//! [`race_close`].
+//!
+//! What only the caller can know is left to the caller: that a handle is zeros or was opened here,
+//! that one call at a time uses it, and that arrays have the lengths that are passed and overlap
+//! nothing else.
 #![tactic(auto)]
 
 pub mod batch;

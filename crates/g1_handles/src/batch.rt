@@ -31,7 +31,7 @@ pub struct Stored {
     pub cards: ArrayVec<Card, 256>,
     /// How many stores were made.
     pub count: usize,
-    /// Whether these are all stores that were given.
+    /// Whether these are all the stores that were given.
     pub is_whole: bool,
 }
 

@@ -18,8 +18,8 @@
 //! same name, and writes the results where C asks for them.
 //!
 //! Before anything changes, a call checks each word and each array's length, and is refused if one
-//! of them is wrong or if a handle is closed. There is no text, no callback, no thread and no lock
-//! inside.
+//! of them is wrong or if a handle is closed. (The stores of a batch are checked one by one, each
+//! before it is made.) There is no text, no callback, no thread and no lock inside.
 #![tactic(auto)]
 
 pub mod batch;

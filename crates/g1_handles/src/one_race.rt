@@ -4,7 +4,7 @@
 //! counts owners. One more share of the first member's race raises the count that another member
 //! sees if that member is of the same race, and only then. Each member also has a number, so that a
 //! member that is given twice is seen. No proof uses what the counts say: the clauses say only that
-//! nothing changes.
+//! nothing changes, and that a share is of the race of the racers if they are all of one race.
 ghost use Rattle.std.specs.Prelude.{◌≡◌, ◌<◌, Some, length, All, IfSome};
 ghost use Rattle.std.specs.Arc.{arc_value};
 ghost use Rattle.g1_race.specs.declared.race.Race.{Race};

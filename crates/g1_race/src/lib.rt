@@ -24,7 +24,7 @@
 //! A heap begins at a pause, by [`Paused::open`] or, with a core's table, by
 //! [`Paused::begin_from`]. [`Paused::resume`] returns the race, its racers and its sweepers. Each
 //! of them then belongs to one thread at a time, and they share the race by `&`. [`Race::pause`]
-//! takes all of them back, in place. A [`Paused`] returns what each slot refers to, which cards are
+//! takes all of them back, in place. A [`Paused`] tells what each slot refers to, which cards are
 //! dirty and which pairs are recorded. It also refines, drains, redirects and clears.
 //! [`Paused::read_by`] lets several threads read at once. Between the birth of a heap and its end
 //! no call takes memory, except for the lists that are returned. [`Race::open`], [`Race::resume`]

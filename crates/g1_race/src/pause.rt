@@ -14,8 +14,8 @@ use g1_race_words::{Place, RaceTable};
 
 impl Race {
     /// Pauses the race in place: the table stays where it is. All its racers and sweepers must be
-    /// handed in. The following holds then, where the beginning of the race is its last resume,
-    /// with what its racers and sweepers know:
+    /// handed in. The following holds then. The beginning of the race is its last resume, as its
+    /// racers and sweepers know it.
     ///
     /// - Each slot has the last target that some racer stored into it. If no racer stored into it,
     ///   it refers to what it referred to when the race began.
