@@ -429,8 +429,7 @@ uint32_t g1_race_store(struct g1_member *member, uint32_t slot, uint32_t target)
 
 /*
  * Takes the cards of a racer's log, and leaves the log empty. The first `count` elements of `cards`
- * are these cards, oldest first. `cards` has room for G1_LOG cards. No mark
- * changes.
+ * are these cards, oldest first. `cards` has room for G1_LOG cards. No mark changes.
  *
  * Returns:
  *   - G1_DONE.
