@@ -17,8 +17,8 @@
  *     that is still pending, and returns the remembered set of the region. Once the region is
  *     evacuated, g1_clear empties that set; or g1_redirect empties it, and moves the references
  *     into the region as well.
- *   - A queue that is lost costs only time. Its cards stay pending, and the next drain refines
- *     them.
+ *   - A queue that is lost costs only time. Each of its cards stays pending until it is refined, by
+ *     the next drain at the latest.
  *
  * What a collector must know: the library cannot tell that an object is dead or that a region was
  * freed. While a slot of a dead object or of a freed region still refers into another region,
@@ -367,8 +367,8 @@ uint32_t g1_redirect(struct g1 *handle, uint32_t from, uint32_t to, uint32_t *mo
  *     it returns G1_STORED_LOGGED, the card is in the racer's own log.
  *   - The caller takes the log (g1_race_take_log) and hands its cards to a sweeper, by a queue of
  *     its own (g1_refiner.h has one). The sweeper refines each of them (g1_race_refine).
- *   - A log that is lost costs only time. Its cards stay dirty, and the first drain after the race
- *     refines them.
+ *   - A log that is lost costs only time. Each of its cards stays dirty until it is refined, by the
+ *     first drain after the race at the latest.
  *
  * Besides what every call relies on, these calls rely on the following:
  *   - One call at a time uses a member's handle. A handle may go from thread to thread, by a lock,
@@ -401,8 +401,8 @@ struct g1_over {
 
 /*
  * Opens a race over a new heap, all of whose slots are null. It has as many racers and sweepers as
- * closed handles are passed. The race takes 8 bytes a slot, 8 bytes a card, a bit for each pair of a
- * card and a region and a bit for each card, and all of this twice while it begins. It also takes
+ * closed handles are passed. The race takes 8 bytes a slot, 8 bytes a card, a bit for each pair of
+ * a card and a region and a bit for each card, and all of this twice while it begins. It also takes
  * about two kilobytes for each racer and one for each sweeper.
  *
  * Returns:
@@ -429,7 +429,7 @@ uint32_t g1_race_store(struct g1_member *member, uint32_t slot, uint32_t target)
 
 /*
  * Takes the cards of a racer's log, and leaves the log empty. The first `count` elements of `cards`
- * are these cards, oldest first. `cards` has room for G1_LOG cards. The cards stay dirty.
+ * are these cards, oldest first. `cards` has room for G1_LOG cards. No mark changes.
  *
  * Returns:
  *   - G1_DONE.
@@ -452,7 +452,8 @@ uint32_t g1_race_refine(struct g1_member *member, uint32_t card);
 
 /*
  * Ends a race. All its racers and sweepers are handed in, in any order, and none of them is in use.
- * Logs that were not taken are dropped; their cards stay dirty.
+ * Logs that were not taken are dropped. Each of their cards is still dirty, unless it was refined
+ * meanwhile.
  *
  * Returns:
  *   - G1_DONE: the race has ended. The members' handles are closed, and the closed handle `over` is

@@ -44,7 +44,7 @@ struct g1_log {
 /* What a pause does with the logs that are queued. */
 enum g1_queued {
     G1_REFINE_QUEUED, /* the threads refine them first: a longer stop, and less for the drain */
-    G1_DROP_QUEUED    /* they are dropped: their cards stay dirty, and the drain refines them */
+    G1_DROP_QUEUED    /* they are dropped: the drain refines those of their cards that are dirty */
 };
 
 /* Private: a refinement thread. The lock of the refiner has all but its number. */
@@ -245,10 +245,11 @@ static inline uint32_t g1_refiner_pause(struct g1_refiner *refiner, enum g1_queu
  * Takes a racer's log, full or not, and puts it into the queue. A mutator calls this before it ends
  * or blocks, so that its cards are refined before the pause.
  *
- * If the queue is full or the refiner is paused, the log is dropped. Its cards stay dirty, and the
- * first drain after the race refines them. A mutator cannot refine, as its handle is a racer's. And
- * it does not wait for room: the threads that would make room may have stopped, for a pause that
- * waits for this mutator. If many logs are dropped, lengthen the queue or add sweepers.
+ * If the queue is full or the refiner is paused, the log is dropped. Each of its cards stays dirty
+ * until it is refined, by the first drain after the race at the latest. A mutator cannot refine, as
+ * its handle is a racer's. And it does not wait for room: the threads that would make room may have
+ * stopped, for a pause that waits for this mutator. If many logs are dropped, lengthen the queue or
+ * add sweepers.
  *
  * Returns G1_DONE, or the code with which g1_race_take_log refused; then nothing has changed.
  */

@@ -1,9 +1,10 @@
 // Racing mutators and refinement threads, with pauses between races: `race [STORES [CYCLES]]`.
 //
-// Each cycle is a race and a pause. In a race every mutator stores with no lock, and hands full logs on in an array that a lock protects;
-// where there is no room it lets the log go, whose cards stay dirty. Refinement threads take logs from there. At the pause the race becomes a
-// core, the remembered set of each region is compared with a scan of all slots, one region is redirected into another, and the core becomes
-// a race again.
+// Each cycle is a race and a pause. In a race every mutator stores lock-free, and hands full logs on
+// in an array that a lock protects. If there is no room, it drops the log, and a card of it stays
+// dirty until it is refined. Refinement threads take logs from the array. At the pause the race
+// becomes a core. The remembered set of each region is compared with a scan of all slots, one region
+// is redirected into another, and the core becomes a race again.
 #define _POSIX_C_SOURCE 200809L
 #include "g1.h"
 

@@ -121,7 +121,8 @@ impl Race {
     }
 
     /// Ends the race. If it has another owner, its members are gathered, and [`Closed::into_heap`]
-    /// ends it. Refused, it goes on. Logs that were not taken are dropped; their cards stay dirty.
+    /// ends it. Refused, it goes on. Logs that were not taken are dropped: each of their cards is
+    /// still dirty, unless it was refined meanwhile.
     pub fn close(mut self) -> Result<Closed, (Race, Refusal)> {
         let (mut racers, mut sweepers) = (handles(&self.racers), handles(&self.sweepers));
         let mut over = Over { race: null_mut() };

@@ -63,8 +63,8 @@ impl Collector {
         }
     }
 
-    // Refines a buffer. If memory runs out, the rest of its cards stay pending, and the buffer may
-    // be given up.
+    // Refines a buffer. If memory runs out, each card that had no turn is pending by its mark,
+    // unless it was refined before. So the buffer may be given up.
     fn refine(&mut self, rt: &impl Print, buffer: &Buffer) -> Result<()> {
         let reply = self.core.refine(Some(buffer))?;
         print!(rt; "refined")?;

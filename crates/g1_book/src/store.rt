@@ -20,8 +20,8 @@ impl Book {
     /// (docs/PROFILE.md, The barrier).
     ///
     /// The caller is a mutator: its number is below the count that the book was opened with. A
-    /// buffer that the log hands out is returned beside the reply. Its cards stay pending as long
-    /// as nothing refines them.
+    /// buffer that the log hands out is returned beside the reply. Each of its cards stays pending
+    /// until it is refined.
     ///
     /// Returns `BookFull` exactly if the history is full, `NoMemory` if room for the entry was
     /// refused. Either leaves book and log as they were. Constant time except for the growth of the

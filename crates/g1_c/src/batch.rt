@@ -21,11 +21,16 @@ pub struct Batch {
     pub logged: u32,
 }
 
-/// Makes stores in order, at most 256, up to the first that names a slot or a place that the heap does not have. The cards of those that
-/// were logged stand first in `cards`, which has room for as many as stores are given. Takes no memory.
+/// Makes at most 256 stores in order, up to the first that names a slot or a target that the heap
+/// does not have. The first `batch.logged` elements of `cards` are the cards of the logged stores,
+/// in order. `cards` has room for at least as many cards as there are stores. Takes no memory.
 ///
-/// The word is 0 where all were made, and 3 where they stopped early: `batch` counts those that were made. At a closed handle, with more
-/// than 256 stores or with too small an array it is that refusal's ([`Refusal`]), and nothing has changed.
+/// Returns:
+///
+/// - 0: all stores were made.
+/// - 3: they stopped early. The first `batch.stored` of them were made.
+/// - The word of `NotOpen`, of `NoRoom` if `cards` is shorter than `stores`, or of `TooManyCards`
+///   ([`Refusal`]): nothing has changed, and both counts are 0.
 #[unsafe(no_mangle)]
 pub extern "C" fn g1_store_all(
     alloc: Global,

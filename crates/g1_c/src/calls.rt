@@ -10,8 +10,12 @@ use g1_handles::code::DONE;
 use g1_handles::handle::Handle;
 use std::alloc::Global;
 
-/// Opens a closed handle on a new heap: all slots null, no card pending, nothing recorded. `hot` is the count of refinements from
-/// which on a card is hot, and `ring` how many cards the hot ring holds.
+/// Opens a closed handle on a new heap: each slot is null, no card is pending, and nothing is
+/// recorded. From `hot` refinements on (0 to 255), a card is hot. The hot ring holds `ring` cards
+/// (1 to 4096).
+///
+/// Returns 0, or the word of `AlreadyOpen`, `BadLayout`, `BadSettings` or `NoMemory`: the handle is
+/// as it was.
 #[unsafe(no_mangle)]
 pub extern "C" fn g1_open(
     alloc: Global,
@@ -37,7 +41,8 @@ pub extern "C" fn g1_open(
     }
 }
 
-/// Closes a handle, and gives back all memory that it held. The handle may be opened again.
+/// Closes a handle, and frees all its memory. The handle may be opened again. Returns 0, or the
+/// word of `NotOpen` if the handle was closed.
 #[unsafe(no_mangle)]
 pub extern "C" fn g1_close(alloc: Global, handle: &mut Handle) -> u32
     ensures closed { handle.new.value ≡ None }

@@ -1,14 +1,24 @@
-//! The machinery of a heap as a static library: calls on a handle that C keeps, with words and arrays of the caller's
-//! (`include/g1.h` tells each call to a C programmer).
+//! The machinery of a heap as a static library: calls on a handle that C keeps, with words and
+//! arrays of the caller's (`include/g1.h` describes each call to a C programmer).
 //!
-//! Here is what C sees and nothing else: the exported functions, each with what it promises, and the structs that they fill. The
-//! handles and the work of each call are in the crate `g1_handles`, in the file of the same name. [`calls`] opens and closes a
-//! handle, [`store`], [`batch`], [`refinement`] and [`pause`] have a card's way, [`clearing`] and [`redirection`] what may follow
-//! an evacuation, [`queries`] and [`members`] the questions. A race is begun by [`race_open`] and [`race_resume`], has a card's way
-//! in [`race_store`], [`race_log`] and [`race_refine`], and ends by [`race_close`] and [`race_core`].
+//! Here is what C sees and nothing else: the exported functions, each with what it promises, and
+//! the structs that they fill. The handles and the work of each call are in the crate `g1_handles`,
+//! in the file of the same name. The modules:
 //!
-//! What only the caller can know is left to the caller: that a handle is zeros or was opened here, that one call at a time uses it,
-//! and that arrays have the lengths that are passed and overlap nothing else.
+//! - [`calls`] opens and closes a handle.
+//! - [`store`], [`batch`], [`refinement`] and [`pause`] are the path of a card.
+//! - [`clearing`] and [`redirection`] may follow an evacuation.
+//! - [`queries`] and [`members`] read what is known.
+//! - [`race_open`] and [`race_resume`] begin a race, [`race_store`], [`race_log`] and
+//!   [`race_refine`] are the path of a card in it, and [`race_close`] and [`race_core`] end it.
+//!
+//! A call returns a word below 8 if it was made, and else the word of a
+//! [`Refusal`](g1_handles::code::Refusal). One word of 8 or more is no refusal: 25 of
+//! [`race_close`].
+//!
+//! What only the caller can know is left to the caller: that a handle is zeros or was opened here,
+//! that one call at a time uses it, and that arrays have the lengths that are passed and overlap
+//! nothing else.
 #![tactic(auto)]
 
 pub mod batch;

@@ -11,8 +11,15 @@ use g1_handles::list::put;
 use g1_handles::members::{Listed, members_in};
 use std::alloc::Global;
 
-/// Answers the remembered set of a region as it is recorded: its cards, ascending, stand first in `cards`. Where the array is too
-/// small, `count` is how many there are.
+/// Returns the remembered set of a region as it is recorded, and changes nothing. The first `count`
+/// elements of `cards` are the cards of the set, ascending. Pending cards may be missing from it.
+/// Takes memory for the list, and frees it.
+///
+/// Returns:
+///
+/// - 0.
+/// - 16: the array is too small, and `count` is how many cards there are. The array is not written.
+/// - The word of `NotOpen`, `NoRegion` or `NoMemory`: `count` is 0, and the array is not written.
 #[unsafe(no_mangle)]
 pub extern "C" fn g1_members(
     alloc: Global,

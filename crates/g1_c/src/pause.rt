@@ -12,8 +12,17 @@ use g1_handles::list::put;
 use g1_handles::pause::drain_in;
 use std::alloc::Global;
 
-/// Refines all that is pending and answers the remembered set of a region: its cards, ascending, stand first in `cards`, and those
-/// that were refined, in order, in `refined`. Each array has room for every card of the heap.
+/// Refines all that is pending, and returns the remembered set of a region. The first `count`
+/// elements of `cards` are its cards, ascending. The first `refined_count` elements of `refined`
+/// are the cards that were refined, in order. Each array has room for every card of the heap.
+///
+/// Returns:
+///
+/// - 0.
+/// - 1: memory was refused midway. Just the cards in `refined` were refined, the others are pending
+///   as before, and `count` is 0.
+/// - The word of `NotOpen`, `NoRegion`, `NoRoom` or `NoMemory`: nothing has changed, and both
+///   counts are 0.
 #[unsafe(no_mangle)]
 pub extern "C" fn g1_drain(
     alloc: Global,

@@ -1,4 +1,4 @@
-//! Questions: what a slot refers to, whether a card is pending, and how much is pending and recorded.
+//! Queries: what a slot refers to, whether a card is pending, and how much is pending and recorded.
 ghost use Rattle.std.specs.Prelude.{◌≡◌, ◌<◌, ◌≤◌, ◌==◌, IfSome, IsSome};
 ghost use Rattle.g1_layout.specs.Shape.{slot_count, card_count};
 ghost use Rattle.g1_handles.specs.Codes.{Between, OfOpen, reference_of};
@@ -20,7 +20,11 @@ pub struct Totals {
     pub recorded: u32,
 }
 
-/// Answers what a slot refers to: the place, or the word for null. One slot is read.
+/// Sets `target` to what a slot refers to: the number of a slot, or the word for null. Reads one
+/// slot.
+///
+/// Returns 0, or the word of `NotOpen` or `NoSlot`: nothing has changed, and `target` is the word
+/// for null.
 #[unsafe(no_mangle)]
 pub extern "C" fn g1_target(alloc: Global, handle: &mut Handle, slot: u32, target: &mut u32) -> u32
     ensures target { result ≡ 0 → Between handle.old.value handle.new.value (λ old new. RefersTo old slot (reference_of target.new) new) }
@@ -38,7 +42,8 @@ pub extern "C" fn g1_target(alloc: Global, handle: &mut Handle, slot: u32, targe
     }
 }
 
-/// Whether a card is pending: 1 where it is, 0 where it is not.
+/// Returns whether a card is pending: 1 if it is, 0 if it is not, or the word of `NotOpen` or
+/// `NoCard`. Changes nothing.
 #[unsafe(no_mangle)]
 pub extern "C" fn g1_is_pending(alloc: Global, handle: &mut Handle, card: u32) -> u32
     ensures pending { result ≤ 1 → OfOpen handle.old.value (λ machine. IsToldPending machine card (result == 1)) }
@@ -48,7 +53,9 @@ pub extern "C" fn g1_is_pending(alloc: Global, handle: &mut Handle, card: u32) -
     replace_with(handle, (alloc, card), is_pending_in)
 }
 
-/// Answers how many cards are pending and how many pairs are recorded.
+/// Sets `totals` to how many cards are pending and how many pairs are recorded. Changes nothing.
+///
+/// Returns 0, or the word of `NotOpen`: both totals are 0.
 #[unsafe(no_mangle)]
 pub extern "C" fn g1_status(alloc: Global, handle: &mut Handle, totals: &mut Totals) -> u32
     ensures totals { result ≡ 0 → OfOpen handle.old.value (λ machine. HasStatus machine (record { pending = totals.new.pending; recorded = totals.new.recorded })) }

@@ -12,16 +12,21 @@ use g1_handles::over_handle::OverHandle;
 use g1_handles::race_close::close_race;
 use std::alloc::Global;
 
-/// Ends a race, whose racers and sweepers are all handed in: their handles are closed, and what is
-/// left of it lies behind `over`, for [`g1_race_core`](crate::race_core::g1_race_core).
+/// Ends a race. All its racers and sweepers are handed in. Returns:
 ///
-/// A race that has another owner does not end: then its members lie behind `over`, and the code is
-/// 25. [`g1_race_core`](crate::race_core::g1_race_core) ends it once that owner is gone. No run has
-/// shown it, since counts are taken before; but no proof excludes it.
+/// - 0: the members' handles are closed, and the closed handle `over` is opened on what is left of
+///   the race, for [`g1_race_core`](crate::race_core::g1_race_core).
+/// - 25: the race has another owner, so it has not ended. The members' handles are closed, and
+///   `over` is opened on the members. [`g1_race_core`](crate::race_core::g1_race_core) ends the
+///   race once that owner is gone. No run has shown this code, since counts are taken before, but
+///   no proof rules it out.
+/// - The word of `BadMembers`, `NotOpen`, `OtherRole`, `AlreadyOpen`, `OtherRace` or `NoMemory`:
+///   nothing has changed.
 ///
-/// Members of several races are refused before anything changes, by counts of each race's owners. No
-/// proof knows what these counts say, so the condition `one` stands in its place: handles whose roles
-/// and numbers fit are of one race. Nothing stands on it before the counts were taken.
+/// Members of several races are refused before anything changes, by counts of each race's owners.
+/// No proof knows what these counts say, so the condition `one` takes their place: handles whose
+/// roles and numbers fit are of one race. Nothing relies on the condition before the counts are
+/// taken.
 #[unsafe(no_mangle)]
 pub extern "C" fn g1_race_close(
     alloc: Global,

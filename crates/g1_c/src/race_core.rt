@@ -12,8 +12,14 @@ use g1_handles::over_handle::OverHandle;
 use g1_handles::race_core::{close_in, open_core};
 use std::alloc::Global;
 
-/// Opens a closed handle on what a race left: each slot refers to what it referred to when the race ended, the cards that were dirty
-/// then are pending, and what the sweepers recorded, or was recorded before the race, is recorded. `over` is closed.
+/// Opens a closed handle on what a race left, and closes `over`. Each slot refers to what it
+/// referred to when the race ended. The cards that were dirty then are pending. What was recorded,
+/// by the sweepers or before the race, is recorded. `hot` and `ring` are those of
+/// [`g1_open`](crate::calls::g1_open).
+///
+/// Returns 0, or the word of `NotOpen` for `over`, `AlreadyOpen` for `handle`, `BadSettings`,
+/// `NotEnded` or `NoMemory`: nothing has changed, except that a race whose members `over` has may
+/// have ended before memory was refused.
 #[unsafe(no_mangle)]
 pub extern "C" fn g1_race_core(
     alloc: Global,
@@ -37,7 +43,8 @@ pub extern "C" fn g1_race_core(
     }
 }
 
-/// Closes the handle of a race that is over, and gives back all memory that it held. The race is gone.
+/// Closes the handle of a race that is over, and frees all its memory. What the race left is gone.
+/// Returns 0, or the word of `NotOpen` if the handle was closed.
 #[unsafe(no_mangle)]
 pub extern "C" fn g1_over_close(alloc: Global, over: &mut OverHandle) -> u32
     ensures closed { over.new.value ≡ None }

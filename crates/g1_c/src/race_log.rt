@@ -9,8 +9,12 @@ use g1_handles::member_handle::MemberHandle;
 use g1_handles::race_log::{LOG, take_in};
 use std::alloc::Global;
 
-/// Takes the cards that a racer has logged, oldest first: they stand first in `cards`, which has room for 256, and the log is empty.
-/// They stay dirty until a sweeper of the race refines them, or a drain after it.
+/// Takes the cards of a racer's log, and leaves the log empty. The first `count` elements of
+/// `cards` are these cards, oldest first. `cards` has room for 256. The marks stay: each of the
+/// cards is dirty until a sweeper of the race refines it, or a drain after the race.
+///
+/// Returns 0, or the word of `NoRoom`, `OtherRole` or `NotOpen`: `count` is 0, and the log is as it
+/// was.
 #[unsafe(no_mangle)]
 pub extern "C" fn g1_race_take_log(
     alloc: Global,

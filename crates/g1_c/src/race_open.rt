@@ -12,8 +12,11 @@ use g1_handles::member_handle::MemberHandle;
 use g1_handles::race_open::{close_in, open_race};
 use std::alloc::Global;
 
-/// Opens a race over a heap whose slots are all null and whose cards are all clean, for as many racers (1 to 8) and sweepers (1 to 4)
-/// as there are handles, which are closed.
+/// Opens a race over a heap whose slots are all null and whose cards are all clean. It has as many
+/// racers (1 to 8) and sweepers (1 to 4) as closed handles are passed.
+///
+/// Returns 0, or the word of `BadMembers`, `AlreadyOpen` for any of the handles, `BadLayout` or
+/// `NoMemory`: no handle has changed.
 #[unsafe(no_mangle)]
 pub extern "C" fn g1_race_open(
     alloc: Global,
@@ -34,8 +37,9 @@ pub extern "C" fn g1_race_open(
     }
 }
 
-/// Closes a member's handle without its race, which then has too few members to be closed: its memory is given back with the last
-/// of its handles.
+/// Closes a member's handle without its race, which then has too few members to be ended. The
+/// race's memory is freed with the last of its handles. Returns 0, or the word of `NotOpen` if the
+/// handle was closed.
 #[unsafe(no_mangle)]
 pub extern "C" fn g1_member_close(alloc: Global, member: &mut MemberHandle) -> u32
     ensures closed { member.new.value ≡ None }

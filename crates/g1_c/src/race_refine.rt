@@ -1,4 +1,4 @@
-//! Refinement in a race.
+//! Concurrent refinement in a race.
 ghost use Rattle.std.specs.Prelude.{◌≡◌, ◌<◌};
 ghost use Rattle.g1_layout.specs.Shape.{card_count};
 ghost use Rattle.g1_race.specs.Members.{race_layout};
@@ -9,8 +9,11 @@ use g1_handles::member_handle::MemberHandle;
 use g1_handles::race_refine::refine_in;
 use std::alloc::Global;
 
-/// Refines a card beside whatever the other members of the race do: it is clean first, and then each of its slots is read, and the
-/// region of each reference into another region is recorded, whether the card was dirty or not. Takes no memory and waits for nobody.
+/// A sweeper refines a card, concurrently with whatever the other members of the race do. It makes
+/// the card clean, and then reads its slots and records the region of each reference into another
+/// region, whether the card was dirty or not. Takes no memory and never waits.
+///
+/// Returns 0, or the word of `NoCard`, `OtherRole` or `NotOpen`: nothing has changed.
 #[unsafe(no_mangle)]
 pub extern "C" fn g1_race_refine(alloc: Global, member: &mut MemberHandle, card: u32) -> u32
     ensures refined { result ≡ 0 → OfSweeper member.old.value (λ a. OfSweeper member.new.value (λ b. Sweeps a card b)) }

@@ -10,9 +10,13 @@ use g1_handles::member_handle::MemberHandle;
 use g1_handles::race_resume::resume_race;
 use std::alloc::Global;
 
-/// Opens a race that begins with the core of a handle, which is closed, for as many racers (1 to 8) and sweepers (1 to 4) as there are
-/// handles, which were closed: each slot refers to what it refers to in the core, the pending cards are dirty, and what is recorded
-/// stays recorded.
+/// Opens a race that begins with the core of a handle, and closes that handle. The race has as many
+/// racers (1 to 8) and sweepers (1 to 4) as closed handles are passed. Each slot refers to what it
+/// refers to in the core, the pending cards are dirty, and what is recorded stays recorded.
+///
+/// Returns 0, or the word of `BadMembers`, `AlreadyOpen` for any of the members' handles, `NotOpen`
+/// for the core's, or `NoMemory`: the handles are as they were, except for the core's count of
+/// reads.
 #[unsafe(no_mangle)]
 pub extern "C" fn g1_race_resume(
     alloc: Global,

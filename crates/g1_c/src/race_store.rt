@@ -1,4 +1,4 @@
-//! Stores of a race.
+//! Lock-free stores in a race.
 ghost use Rattle.std.specs.Prelude.{◌≡◌, ◌<◌, ◌≤◌};
 ghost use Rattle.arrayvec.specs.ArrayVec.{array_vec_len};
 ghost use Rattle.g1_race.specs.Members.{race_layout};
@@ -10,9 +10,15 @@ use g1_handles::member_handle::MemberHandle;
 use g1_handles::race_store::store_in;
 use std::alloc::Global;
 
-/// Stores a reference into a slot, or null, beside whatever the other members of the race do, and answers the kind of store: 0 null,
-/// 1 same region, 2 dirty, 3 logged. Where it is 3 the slot's card is last in the racer's log, which has room for 256 cards. Waits
-/// for nobody and takes no memory.
+/// A racer stores a reference, or null, into a slot, concurrently with whatever the other members
+/// of the race do. Takes no memory and never waits.
+///
+/// Returns:
+///
+/// - The kind of the store: 0 null, 1 same region, 2 dirty, 3 logged. If it is 3, the slot's card
+///   is last in the racer's log, which has room for 256 cards.
+/// - The word of `LogFull`, of `NoSlot` for the slot or the target, of `OtherRole` or of `NotOpen`:
+///   nothing has changed.
 #[unsafe(no_mangle)]
 pub extern "C" fn g1_race_store(
     alloc: Global,

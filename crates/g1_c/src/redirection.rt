@@ -12,9 +12,18 @@ use g1_handles::list::put;
 use g1_handles::redirection::redirect_in;
 use std::alloc::Global;
 
-/// Refines all that is pending, moves each reference from outside into the region `from` to the same offset of the region `to`, and
-/// empties the remembered set of `from`. `moved` is how many slots changed. The cards that were refined, in order, stand first in
-/// `refined`, which has room for every card of the heap.
+/// Refines all that is pending, moves each reference from outside into the region `from` to the
+/// same offset of the region `to`, and empties the remembered set of `from`. `moved` is how many
+/// slots changed. The first `refined_count` elements of `refined` are the cards that were refined,
+/// in order. `refined` has room for every card of the heap.
+///
+/// Returns:
+///
+/// - 0.
+/// - 1: memory was refused midway. Just the cards in `refined` were refined, no slot has changed,
+///   and `moved` is 0.
+/// - The word of `NotOpen`, `NoRegion` for either region, `SameRegion`, `NoRoom` or `NoMemory`:
+///   nothing has changed, and both counts are 0.
 #[unsafe(no_mangle)]
 pub extern "C" fn g1_redirect(
     alloc: Global,

@@ -22,8 +22,17 @@ pub struct Tally {
     pub skipped: u32,
 }
 
-/// Refines the cards of a log, at most 256, in order. The cards that were refined stand first in `refined`, which has room for as
-/// many as are given.
+/// Refines the cards of a log, at most 256, in order. The first `tally.refined` elements of
+/// `refined` are the cards that were refined, in order. `refined` has room for at least as many
+/// cards as are given.
+///
+/// Returns:
+///
+/// - 0.
+/// - 1: memory was refused midway. The cards before some card had their turns, and that card and
+///   the later ones had none.
+/// - The word of `NotOpen`, `NoRoom`, `TooManyCards`, `NoCard` or `NoMemory`: nothing has changed,
+///   and the tally is 0.
 #[unsafe(no_mangle)]
 pub extern "C" fn g1_refine(
     alloc: Global,

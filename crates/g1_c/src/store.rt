@@ -8,8 +8,11 @@ use g1_handles::handle::Handle;
 use g1_handles::store::store_in;
 use std::alloc::Global;
 
-/// Stores a reference into a slot, or null, and answers the kind of store: 0 null, 1 same region, 2 dirty, 3 logged. Where it is 3
-/// the caller logs the slot's card. Takes no memory and constant time.
+/// Stores a reference, or null, into a slot. Takes no memory and constant time.
+///
+/// Returns the kind of the store: 0 null, 1 same region, 2 dirty, 3 logged. If it is 3, the caller
+/// logs the slot's card. Returns the word of `NotOpen`, or of `NoSlot` for the slot or the target,
+/// if the call was refused: nothing has changed.
 #[unsafe(no_mangle)]
 pub extern "C" fn g1_store(alloc: Global, handle: &mut Handle, slot: u32, target: u32) -> u32
     ensures kind { result ≤ 3 → Between handle.old.value handle.new.value (λ old new. result ≡ kind_word (kind_of old.state.table slot (reference_of target))) }

@@ -14,29 +14,33 @@ use g1_log::Log;
 use raw_box::RawBox;
 use std::alloc::Global;
 
-/// One store: the slot, and the place that it is to refer to, or null.
+/// One store: a slot and its target.
 #[repr(C)]
 #[derive(Clone, Copy, Debug)]
 pub struct Store {
-    /// The slot.
+    /// The number of the slot.
     pub slot: u32,
-    /// The place, or the word for null.
+    /// The number of the slot that it is to refer to, or the word for null.
     pub target: u32,
 }
 
 /// The stores that were made.
 #[derive(Drop)]
 pub struct Stored {
-    /// The cards of those that were logged, in order.
+    /// The cards of the logged stores, in order.
     pub cards: ArrayVec<Card, 256>,
-    /// How many there were.
+    /// How many stores were made.
     pub count: usize,
-    /// Whether they are all that were given.
+    /// Whether these are all the stores that were given.
     pub is_whole: bool,
 }
 
-/// Stores in order at the core of a handle, up to the first that names a slot or a place that the heap does not have, for an
-/// array of a length.
+/// Makes stores in order at the core of a handle, up to the first that names a slot or a target
+/// that the heap does not have. `words` has the stores, and the length of the caller's array for
+/// their cards.
+///
+/// Returns `NotOpen`, `NoRoom` if the array is shorter than the list of stores, or `TooManyCards`
+/// for more than 256 stores: nothing has changed. Takes no memory.
 pub fn store_all_in(
     handle: Handle,
     words: (Global, &[Store], usize),
@@ -91,7 +95,8 @@ fn store_each(core: &mut Core, stores: &[Store]) -> Stored
     }
 }
 
-/// Makes one store, and answers its card where it is logged; `None` where the heap has no such slot or place.
+/// Makes one store, and returns its card if it is logged. Returns `None` if the heap has no such
+/// slot or target.
 fn store_next(core: &mut Core, store: Store) -> Option<Option<Card>>
     ensures layout { core.new.state.table.layout ≡ core.old.state.table.layout }
     ensures none { IfNone result (IsStoreOf core.old.state.table.layout store.slot store.target → ⊥) }

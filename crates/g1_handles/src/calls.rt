@@ -12,7 +12,7 @@ use g1_layout::Layout;
 use raw_box::RawBox;
 use std::alloc::Global;
 
-/// How many regions, cards a region and slots a card a heap has.
+/// The counts of a heap: how many regions it has, cards a region, and slots a card.
 #[repr(C)]
 #[derive(Clone, Copy, Debug)]
 pub struct Counts {
@@ -24,7 +24,11 @@ pub struct Counts {
     pub slots: u32,
 }
 
-/// A core of its own on the heap.
+/// Makes a core in memory of the allocator. From `hot` refinements on, a card is hot, and the hot
+/// ring holds `ring` cards. The other settings have their defaults.
+///
+/// Returns `BadLayout` or `BadSettings` if the counts or the settings are outside their limits, or
+/// `NoMemory` if memory was refused.
 pub fn new_core(alloc: Global, counts: &Counts, hot: u32, ring: u32) -> Result<Box<Core>, Refusal>
     ensures new { IfOk result (λ core.
         core.value ≡ new_machine (layout_of counts.now) (settings_of hot ring)) }
@@ -68,7 +72,8 @@ pub(crate) fn is_closed(handle: Handle, alloc: Global) -> (Handle, bool)
     }
 }
 
-/// Puts a core into a handle that is closed.
+/// Puts a core into a closed handle. Returns `AlreadyOpen` if the handle is open: it keeps its own
+/// core, and the other one is dropped.
 pub fn open_in(handle: Handle, core: Box<Core>) -> (Handle, Result<(), Refusal>)
     ensures new { OnOk result.1 ((handle.value ≡ None) × (result.0.value ≡ Some core.value)) }
     ensures why { IfErr result.1 (λ refusal.
@@ -81,7 +86,8 @@ pub fn open_in(handle: Handle, core: Box<Core>) -> (Handle, Result<(), Refusal>)
     }
 }
 
-/// Closes a handle, and drops the core that it had.
+/// Closes a handle, and drops its core. Returns 0, or the word of `NotOpen` if the handle was
+/// closed.
 pub fn close_in(handle: Handle, alloc: Global) -> (Handle, u32)
     ensures closed { result.0.value ≡ None }
     ensures done { IsSome handle.value → result.1 ≡ 0 }

@@ -11,7 +11,15 @@ use g1_core::{ClearReply, Core};
 use raw_box::RawBox;
 use std::alloc::Global;
 
-/// The clear of a region at the core of a handle: the word of its reply, and the number that goes with it.
+/// Clears a region at the core of a handle. Returns the word of the reply and the number that goes
+/// with it:
+///
+/// - 0 and 0: the remembered set is empty now.
+/// - The word of `StillPending`, and how many cards are pending.
+/// - The word of `StillReferenced`, and the least slot outside the region that refers into it.
+///
+/// In the second and third case the core is as it was, except for its count of reads. Returns
+/// `NotOpen` or `NoRegion` if the call was refused: nothing has changed.
 pub fn clear_in(handle: Handle, words: (Global, u32)) -> (Handle, Result<(u32, u32), Refusal>)
     ensures cleared { IfOk result.1 (λ answer. Between handle.value result.0.value (λ old new. ClearsTo old words.1 (cleared_of answer.0 answer.1) new)) }
     ensures words { IfOk result.1 (λ answer. IsClearWord answer.0 answer.1) }

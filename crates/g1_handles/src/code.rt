@@ -1,4 +1,4 @@
-//! The words that calls answer.
+//! The codes that calls return.
 ghost use Rattle.std.specs.Prelude.{◌≡◌, ◌<◌};
 ghost use Rattle.g1_handles.specs.Codes.{kind_word, refusal_word};
 
@@ -7,23 +7,25 @@ use g1_layout::Kind;
 /// The call did what its name says.
 pub const DONE: u32 = 0;
 
-/// A growth was refused in the middle: what was done by then stands.
+/// Memory was refused midway: the work that is reported was done, and no more.
 pub const SHORT: u32 = 1;
 
-/// A store of several names a slot or a place that the heap does not have: those before it were made.
+/// One of several stores names a slot or a target that the heap does not have. Those before it were
+/// made. It and the later ones were not.
 pub const STOPPED: u32 = 3;
 
 /// The word for null.
 pub const NULL: u32 = 4_294_967_295;
 
-/// Why a call was refused. Words up to 7 are left to what was done.
+/// Why a call was refused. Its words are 8 and above. The words below say what a call did that was
+/// not refused.
 #[derive(Clone, Copy, Debug, PartialEq, Eq)]
 pub enum Refusal {
     /// The handle is closed.
     NotOpen,
     /// The handle that was to be opened is open.
     AlreadyOpen,
-    /// A growth was refused before anything changed.
+    /// Memory was refused before anything changed.
     NoMemory,
     /// The counts of the heap are outside their limits.
     BadLayout,
@@ -37,7 +39,7 @@ pub enum Refusal {
     NoRegion,
     /// An array is too small.
     NoRoom,
-    /// More cards or stores than a log has cards.
+    /// More cards or stores were given than a log has room for.
     TooManyCards,
     /// References were to be moved from a region to itself.
     SameRegion,
@@ -45,20 +47,20 @@ pub enum Refusal {
     StillPending,
     /// A clear, while a slot outside the region refers into it.
     StillReferenced,
-    /// The handle is a sweeper's where a racer's is asked for, or a racer's where a sweeper's is.
+    /// A sweeper's handle was passed for a racer's, or a racer's for a sweeper's.
     OtherRole,
     /// A racer's log is full.
     LogFull,
-    /// The handles are not as many as the race has members, or as a race may have.
+    /// There are not as many handles as the race has members, or as a race may have.
     BadMembers,
     /// The handles are not those of all members of one race, each given once.
     OtherRace,
-    /// The members of a race are gathered, and the race has another owner, so it has not ended.
+    /// The members of a race are gathered; the race has another owner, so it has not ended.
     NotEnded,
 }
 
 impl Refusal {
-    /// The word that C gets.
+    /// Returns the word that C gets, which is 8 or more.
     pub fn word(self) -> u32
         ensures number { result ≡ refusal_word self }
         ensures refused { 7 < result }

@@ -18,11 +18,11 @@ pub struct Gathered {
     ghost sweeping: { All (λ w. sweeper_race w ≡ race_id (arc_value race)) sweepers.items },
 }
 
-/// What a close made of a race.
+/// How a close left a race.
 #[derive(Clone, Copy, Debug, PartialEq, Eq)]
 pub enum Closing {
     /// It has ended.
     Ended,
-    /// It has another owner: its members are gathered, and it has not ended.
+    /// It has another owner, so it has not ended. Its members are gathered.
     Gathered,
 }

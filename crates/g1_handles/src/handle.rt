@@ -1,4 +1,4 @@
-//! The handle that C keeps: a core behind a pointer, or nothing where the pointer is null.
+//! The handle that C keeps: a core behind a pointer, or nothing if the pointer is null.
 ghost use Rattle.std.specs.Prelude.{◌≡◌, Option, Some, None, MatchOption};
 ghost use Rattle.std.specs.Coded.{coded_option};
 ghost use Rattle.g1_core.specs.Machine.{Machine, machine_code};
@@ -9,10 +9,10 @@ use std::alloc::Global;
 use std::marker::Model;
 use std::ptr::null_mut;
 
-/// A core behind a pointer that C can hold, or nothing where the pointer is null.
+/// A core behind a pointer that C can hold, or nothing if the pointer is null.
 ///
-/// Contracts see what the handle holds: the core's machine, or `None` where the handle is closed. C makes a closed handle of
-/// zeros. A handle that is dropped frees nothing: `g1_close` does.
+/// Contracts see what the handle holds: the core's machine, or `None` if the handle is closed. C
+/// makes a closed handle of zeros. Dropping a handle frees nothing: `g1_close` does.
 #[repr(C)]
 #[derive(Drop)]
 pub struct Handle {
@@ -49,7 +49,7 @@ impl Handle {
         }
     }
 
-    /// Gives the core back, where there is one.
+    /// Gives the core back, if there is one.
     pub(crate) fn into_raw_box(self) -> Option<RawBox<Core, Global>>
         ensures { MatchOption result (self.value ≡ None) (λ core. self.value ≡ Some core.value) }
     {
@@ -65,12 +65,12 @@ impl Handle {
     }
 }
 
-/// A core goes to another thread.
+/// A core may go to another thread.
 unsafe impl Send for Handle {}
 
 fn sent<T: Send>(_value: &T) {}
 
-/// The check shows that a handle may go to another thread.
+/// This compiles only if a handle may go to another thread.
 pub fn is_sent(handle: &Handle) {
     sent(handle);
 }

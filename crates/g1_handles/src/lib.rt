@@ -1,18 +1,25 @@
-//! What stands behind the calls of the C library: the handles that C keeps, and the work of each call.
+//! The work of each call of the C library, and the handles that C keeps.
 //!
-//! It is a checked shadow of a runtime's references, and has to be told of each store. [`handle`] has the handle of a core, and
-//! [`calls`] opens and closes it; [`store`], [`batch`], [`refinement`] and [`pause`] have a card's way, [`clearing`] and
-//! [`redirection`] what may follow an evacuation, [`queries`] and [`members`] the questions, and [`code`] the answers. Mutators
-//! that store with no lock have a race: [`member_handle`] and [`over_handle`] are its handles, [`race_open`] and [`race_resume`]
-//! begin it, [`race_store`], [`race_log`] and [`race_refine`] have a card's way in it, and [`race_close`] and [`race_core`] make a
-//! core of it. Before anything changes, a close asks whether it was given all members of one race
-//! (`look`, `one_race`).
+//! The library is a checked shadow of a runtime's references: it must be told of each store. Its
+//! modules:
 //!
-//! A function `.._in` takes what is behind one handle and gives the handle back with an answer; a call over several handles is one
-//! function. The crate `g1_c` exports each, in the file of the same name, and writes the answers where C asks for them.
+//! - [`handle`] has the handle of a core, and [`calls`] opens and closes it.
+//! - [`store`], [`batch`], [`refinement`] and [`pause`] are the path of a card.
+//! - [`clearing`] and [`redirection`] may follow an evacuation.
+//! - [`queries`] and [`members`] read what is known, and [`code`] has the codes that calls return.
+//! - Mutators that store lock-free have a race. [`member_handle`] and [`over_handle`] are its
+//!   handles. [`race_open`] and [`race_resume`] begin it, [`race_store`], [`race_log`] and
+//!   [`race_refine`] are the path of a card in it, and [`race_close`] and [`race_core`] make a core
+//!   of it. Before anything changes, a close checks that it was given all members of one race
+//!   (`look`, `one_race`).
 //!
-//! What a word or an array can get wrong is looked at before anything changes, and answered by a refusal; so is a handle that is
-//! closed. There is no text, no callback, no thread and no lock inside.
+//! A function `.._in` takes what is behind one handle, and gives the handle back with a result. A
+//! call over several handles is one function. The crate `g1_c` exports each, in the file of the
+//! same name, and writes the results where C asks for them.
+//!
+//! Before anything changes, a call checks each word and each array's length, and is refused if one
+//! of them is wrong or if a handle is closed. (The stores of a batch are checked one by one, each
+//! before it is made.) There is no text, no callback, no thread and no lock inside.
 #![tactic(auto)]
 
 pub mod batch;

@@ -3,7 +3,7 @@ ghost use Rattle.std.specs.Prelude.{◌≡◌, ◌≤◌, length, take};
 
 use g1_layout::Card;
 
-/// Writes the numbers of the cards to the front of an array.
+/// Writes the numbers of the cards to the front of an array, which has room for them.
 pub fn put(cards: &[Card], array: &mut [u32])
     requires { length cards.now ≤ length array.old }
     ensures { take (length cards.now) array.new ≡ cards.now }

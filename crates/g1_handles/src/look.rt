@@ -1,4 +1,4 @@
-//! What is asked of the members of a race before it is closed.
+//! What a close checks of each member of a race.
 ghost use Rattle.std.specs.Prelude.{◌≡◌, Some, All, Any, OnOk, IfErr};
 ghost use Rattle.g1_handles.specs.Racing.{held, role_of, members_of, IsAmong};
 ghost use Rattle.g1_handles.specs.Refusals.{IsMemberRefused};
@@ -10,7 +10,7 @@ use core::mem::replace_with;
 use raw_box::RawBox;
 use std::alloc::Global;
 
-/// Whether each handle's member has this role, and its race this many members.
+/// Checks that each handle has a member of this role, of a race with this many members.
 pub(crate) fn look_at(
     alloc: Global,
     handles: &mut [MemberHandle],
@@ -28,7 +28,7 @@ pub(crate) fn look_at(
     Ok(())
 }
 
-/// The same of one handle.
+/// Checks the same of one handle.
 fn look_in(
     handle: MemberHandle,
     words: (Global, Role, usize),

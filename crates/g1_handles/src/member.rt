@@ -1,4 +1,4 @@
-//! Who takes part in a race: a racer or a sweeper, each with its share of the race.
+//! A member of a race: a racer or a sweeper, with its share of the race.
 ghost use Rattle.std.specs.Prelude.{◌≡◌};
 ghost use Rattle.std.specs.Arc.{arc_value};
 ghost use Rattle.g1_race.specs.Members.{race_id, racer_race, sweeper_race};
@@ -14,7 +14,8 @@ pub struct Racing {
     pub(crate) racer: Racer,
     // Its number among the racers of its race.
     pub(crate) number: usize,
-    // A cache line that nobody uses: boxes of racers lie side by side, and a store writes the end of its racer.
+    // Padding of a cache line: boxes of racers lie side by side, and a store writes the end of its
+    // racer.
     pub(crate) apart: [u64; 8],
     ghost same: { racer_race racer ≡ race_id (arc_value race) },
 }
@@ -49,7 +50,7 @@ pub enum Role {
 
 fn sent<T: Send>(_value: &T) {}
 
-/// The check shows that a member may go to another thread.
+/// This compiles only if a member may go to another thread.
 pub fn is_member_sent(member: &Member) {
     sent(member);
 }

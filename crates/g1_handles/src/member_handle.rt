@@ -1,4 +1,5 @@
-//! The handle of a racer or a sweeper: a member of a race behind a pointer, or nothing where the pointer is null.
+//! The handle of a racer or a sweeper: a member of a race behind a pointer, or nothing if the
+//! pointer is null.
 ghost use Rattle.std.specs.Prelude.{◌≡◌, Option, Some, None, MatchOption};
 ghost use Rattle.std.specs.Coded.{coded_option};
 ghost use Rattle.g1_handles.specs.declared.member.Member.{Member};
@@ -10,10 +11,11 @@ use std::alloc::Global;
 use std::marker::Model;
 use std::ptr::null_mut;
 
-/// A member of a race behind a pointer that C can hold, or nothing where the pointer is null.
+/// A member of a race behind a pointer that C can hold, or nothing if the pointer is null.
 ///
-/// Contracts see what the handle holds: the member, or `None` where the handle is closed. C makes a closed handle of zeros. A handle
-/// that is dropped frees nothing: `g1_race_close` and `g1_member_close` do.
+/// Contracts see what the handle holds: the member, or `None` if the handle is closed. C makes a
+/// closed handle of zeros. Dropping a handle frees nothing: `g1_race_close` and `g1_member_close`
+/// do.
 #[repr(C)]
 #[derive(Drop)]
 pub struct MemberHandle {
@@ -50,7 +52,7 @@ impl MemberHandle {
         }
     }
 
-    /// Gives the member back, where there is one.
+    /// Gives the member back, if there is one.
     pub(crate) fn into_raw_box(self) -> Option<RawBox<Member, Global>>
         ensures { MatchOption result (self.value ≡ None) (λ value. self.value ≡ Some value.value) }
     {
@@ -66,12 +68,12 @@ impl MemberHandle {
     }
 }
 
-/// A member goes to another thread.
+/// A member may go to another thread.
 unsafe impl Send for MemberHandle {}
 
 fn sent<T: Send>(_value: &T) {}
 
-/// The check shows that a handle may go to another thread.
+/// This compiles only if a handle may go to another thread.
 pub fn is_handle_sent(handle: &MemberHandle) {
     sent(handle);
 }

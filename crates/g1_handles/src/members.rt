@@ -10,16 +10,21 @@ use g1_core::{CardList, Core};
 use raw_box::RawBox;
 use std::alloc::Global;
 
-/// What a list of members gives to C.
+/// What C gets of the list of members.
 #[derive(Drop)]
 pub enum Listed {
     /// The members.
     Members(CardList),
-    /// The array is too small: how many members there are.
+    /// The array is too small. There are this many members.
     NoRoom(u32),
 }
 
-/// The members of a region at the core of a handle, for an array of a length.
+/// Returns the remembered set of a region as it is recorded, from the core of a handle, or how many
+/// cards it has if the caller's array is shorter. `words` has the region and the length of that
+/// array.
+///
+/// Returns `NotOpen`, `NoRegion` or `NoMemory` if the call was refused. The core stays as it is in
+/// each case.
 pub fn members_in(handle: Handle, words: (Global, u32, usize)) -> (Handle, Result<Listed, Refusal>)
     ensures listed { IfOk result.1 (λ answer. OfOpen handle.value (λ machine. IsListed machine words.1 words.2 answer)) }
     ensures why { IfErr result.1 (λ refusal. AreMembersRefused handle.value words.1 refusal) }

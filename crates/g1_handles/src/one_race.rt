@@ -1,9 +1,10 @@
 //! Whether members are all those of one race.
 //!
-//! A share of a race is a pointer, and the toolchain compares no pointers into two blocks. So owners
-//! are counted: one share more of the first member's race raises the count that another member sees
-//! where it is of the same race, and no other. Each member has a number besides, so that one that is
-//! given twice is seen. No proof knows of it: the clauses say only that nothing changes.
+//! A share of a race is a pointer, and the toolchain compares no pointers into two blocks, so this
+//! counts owners. One more share of the first member's race raises the count that another member
+//! sees if that member is of the same race, and only then. Each member also has a number, so that a
+//! member that is given twice is seen. No proof uses what the counts say: the clauses say only that
+//! nothing changes, and that a share is of the race of the racers if they are all of one race.
 ghost use Rattle.std.specs.Prelude.{◌≡◌, ◌<◌, Some, length, All, IfSome};
 ghost use Rattle.std.specs.Arc.{arc_value};
 ghost use Rattle.g1_race.specs.declared.race.Race.{Race};
@@ -17,8 +18,8 @@ use raw_box::RawBox;
 use std::alloc::Global;
 use std::sync::Arc;
 
-/// A share of the race of these members, where they are all those of one race, each given once, and
-/// nobody else has a share of it.
+/// Returns a share of the race of these members, if they are all those of one race, each given
+/// once, and the race has no other owner.
 pub(crate) fn share_of_all(
     alloc: Global,
     racers: &mut [MemberHandle],
@@ -68,7 +69,8 @@ fn are_of(alloc: Global, share: &Arc<Race, Global>, handles: &mut [MemberHandle]
     true
 }
 
-/// The number of a handle's member among those of its role, where it is of the race of a share.
+/// Returns the number of a handle's member among those of its role, if it is of the race of a
+/// share.
 fn number_in(
     handle: MemberHandle,
     words: (Global, &Arc<Race, Global>),

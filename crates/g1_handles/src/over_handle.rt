@@ -1,4 +1,5 @@
-//! The handle of a race that is over: it lies behind a pointer, or nothing does where the pointer is null.
+//! The handle of a race that is over: the race is behind a pointer, or nothing is if the pointer is
+//! null.
 ghost use Rattle.std.specs.Prelude.{◌≡◌, Option, Some, None, MatchOption};
 ghost use Rattle.std.specs.Coded.{coded_option};
 ghost use Rattle.g1_handles.specs.declared.over_handle.Remains.{Remains};
@@ -14,19 +15,21 @@ use std::ptr::null_mut;
 /// What is left of a race.
 #[derive(Drop)]
 pub enum Remains {
-    /// Nothing: only while the race that is to lie here is closed.
+    /// Nothing: only while a close of the race that will be here is under way.
     Nothing,
-    /// The members of a race of which somebody else has a share: a close looks for that before, so
-    /// it is not to come, but no proof knows it.
+    /// The members of a race that has another owner. A close checks for that before, so this should
+    /// never occur, but no proof rules it out.
     Members(Gathered),
     /// A race that is over.
     Over(Closed),
 }
 
-/// A race that is over behind a pointer that C can hold, or nothing where the pointer is null. It stays on its thread.
+/// A race that is over behind a pointer that C can hold, or nothing if the pointer is null. It
+/// stays on its thread.
 ///
-/// Contracts see what the handle holds: what is left of the race, or `None` where the handle is closed. C makes a closed handle of
-/// zeros. A handle that is dropped frees nothing: `g1_race_core` and `g1_over_close` do.
+/// Contracts see what the handle holds: what is left of the race, or `None` if the handle is
+/// closed. C makes a closed handle of zeros. Dropping a handle frees nothing: `g1_race_core` and
+/// `g1_over_close` do.
 #[repr(C)]
 #[derive(Drop)]
 pub struct OverHandle {
@@ -63,7 +66,7 @@ impl OverHandle {
         }
     }
 
-    /// Gives back what is left of the race, where there is one.
+    /// Gives back what is left of the race, if there is anything.
     pub(crate) fn into_raw_box(self) -> Option<RawBox<Remains, Global>>
         ensures { MatchOption result (self.value ≡ None) (λ value. self.value ≡ Some value.value) }
     {

@@ -11,7 +11,11 @@ use g1_core::{Core, Drained};
 use raw_box::RawBox;
 use std::alloc::Global;
 
-/// The drain of a region at the core of a handle, for arrays of these lengths.
+/// Drains a region at the core of a handle ([`Core::drain`]). `words` has the region and the
+/// lengths of the caller's two arrays: for the remembered set, and for the cards that were refined.
+///
+/// Returns `NotOpen`, `NoRegion`, `NoRoom` if an array is shorter than the heap has cards, or
+/// `NoMemory`: nothing has changed.
 pub fn drain_in(
     handle: Handle,
     words: (Global, u32, usize, usize),

@@ -1,4 +1,4 @@
-//! Questions: what a slot refers to, whether a card is pending, and how much is pending and recorded.
+//! Queries: what a slot refers to, whether a card is pending, and how much is pending and recorded.
 ghost use Rattle.std.specs.Prelude.{◌≡◌, ◌<◌, ◌≤◌, ◌==◌, IfOk, OnErr, IfSome, IsSome};
 ghost use Rattle.g1_layout.specs.Shape.{slot_count, card_count};
 ghost use Rattle.g1_handles.specs.Codes.{Between, OfOpen, reference_of};
@@ -11,7 +11,8 @@ use g1_layout::{Layout, Slot};
 use raw_box::RawBox;
 use std::alloc::Global;
 
-/// The word of what a slot refers to at the core of a handle.
+/// Returns the word of what a slot refers to at the core of a handle. Returns `NotOpen` or `NoSlot`
+/// if the call was refused: nothing has changed.
 pub fn target_in(handle: Handle, words: (Global, u32)) -> (Handle, Result<u32, Refusal>)
     ensures target { IfOk result.1 (λ word. Between handle.value result.0.value (λ old new. RefersTo old words.1 (reference_of word) new)) }
     ensures answered { OnErr result.1 (IfSome handle.value (λ old. slot_count old.state.table.layout ≤ words.1)) }
@@ -49,7 +50,8 @@ fn word_of(layout: Layout, target: Option<Slot>) -> u32
     }
 }
 
-/// Whether a card is pending at the core of a handle, as a word.
+/// Returns whether a card is pending at the core of a handle, as a word: 1 or 0, or the word of
+/// `NotOpen` or `NoCard`. The core stays as it is.
 pub fn is_pending_in(handle: Handle, words: (Global, u32)) -> (Handle, u32)
     ensures pending { result.1 ≤ 1 → OfOpen handle.value (λ machine. IsToldPending machine words.1 (result.1 == 1)) }
     ensures answered { IfSome handle.value (λ machine. words.1 < card_count machine.state.table.layout → result.1 ≤ 1) }
@@ -73,7 +75,8 @@ fn is_pending_one(core: &Core, card: u32) -> u32
     core.is_pending(card) as u32
 }
 
-/// How much is pending and recorded at the core of a handle.
+/// Returns how much is pending and recorded at the core of a handle, or `NotOpen`. The core stays
+/// as it is.
 pub fn status_in(handle: Handle, alloc: Global) -> (Handle, Result<Status, Refusal>)
     ensures status { IfOk result.1 (λ status. OfOpen handle.value (λ machine. HasStatus machine status)) }
     ensures answered { OnErr result.1 (IsSome handle.value → ⊥) }

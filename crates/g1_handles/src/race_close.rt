@@ -22,10 +22,13 @@ use raw_box::RawBox;
 use std::alloc::Global;
 use std::sync::Arc;
 
-/// Ends a race, whose racers and sweepers are all handed in, and leaves what is left of it behind
-/// `over`; or its members, where it has another owner.
+/// Ends a race, and opens the closed handle `over` on what is left of it. All its racers and
+/// sweepers must be handed in, and their handles are closed. If the race has another owner, it does
+/// not end, and `over` is opened on its members.
 ///
-/// Members of several races are refused, before anything stands on the condition.
+/// Returns `BadMembers`, `NotOpen`, `OtherRole`, `AlreadyOpen`, `OtherRace` or `NoMemory` if the
+/// call was refused: nothing has changed. Members of several races are refused before anything
+/// relies on the condition `one`.
 pub fn close_race(
     alloc: Global,
     racers: &mut [MemberHandle],
@@ -79,8 +82,8 @@ fn put_in(_over: OverHandle, remains: Box<Remains>) -> (OverHandle, ())
     (OverHandle::of(RawBox::of(remains)), ())
 }
 
-/// Closes the race of these handles, of which this is a share. Memory is taken before the first of
-/// them changes.
+/// Closes the race of these handles, of which `share` is a share. Takes all memory before the first
+/// handle changes.
 fn close_all(
     alloc: Global,
     share: Arc<Race, Global>,
@@ -126,7 +129,7 @@ fn close_all(
     }
 }
 
-/// Ends the race of members that lie here, where nobody else has a share of it.
+/// Ends the race of members that are kept here, if it has no other owner.
 pub(crate) fn ended(remains: Remains) -> Remains
     ensures { IsStill (Some remains) (Some result) }
 {

@@ -15,7 +15,12 @@ use g1_core::Core;
 use raw_box::RawBox;
 use std::alloc::Global;
 
-/// Opens a closed handle on what a race left, and closes `over`.
+/// Opens a closed handle on a core of what a race left, and closes `over`. `hot` and `ring` are the
+/// settings of [`new_core`](crate::calls::new_core).
+///
+/// Returns `NotOpen` for `over`, `AlreadyOpen` for the handle, `BadSettings`, `NotEnded` or
+/// `NoMemory` if the call was refused. Then nothing has changed, except that a race whose members
+/// `over` has may have ended before memory was refused.
 pub fn open_core(
     alloc: Global,
     over: &mut OverHandle,
@@ -42,7 +47,7 @@ pub fn open_core(
     Ok(())
 }
 
-/// A core of what is left, which stays.
+/// Makes a core of what is left, which stays.
 fn core_in(over: OverHandle, words: (Global, u32, u32)) -> (OverHandle, Result<Box<Core>, Refusal>)
     ensures core { IfOk result.1 (λ core. (e : Ended) × Leaves over.value e ×
         (core.value ≡ core_of e (settings_of words.1 words.2))) }
@@ -94,7 +99,8 @@ fn ended_in(remains: Remains, _nothing: ()) -> (Remains, ())
     (ended(remains), ())
 }
 
-/// Closes the handle of a race that is over, and drops what was left of it.
+/// Closes the handle of a race that is over, and drops what was left of it. Returns 0, or the word
+/// of `NotOpen` if the handle was closed.
 pub fn close_in(over: OverHandle, alloc: Global) -> (OverHandle, u32)
     ensures closed { result.0.value ≡ None }
     ensures done { IsSome over.value → result.1 ≡ 0 }

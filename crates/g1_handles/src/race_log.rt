@@ -13,7 +13,8 @@ use std::alloc::Global;
 /// How many cards a racer's log has room for.
 pub const LOG: usize = 256;
 
-/// The log of the racer of a handle, which stays open with an empty one.
+/// Takes the log of the racer of a handle, which stays open with an empty one. Returns the cards,
+/// oldest first, or the word of `NotOpen` or `OtherRole`: nothing has changed.
 pub fn take_in(
     member: MemberHandle,
     alloc: Global,

@@ -14,7 +14,11 @@ use g1_layout::Layout;
 use g1_race::Race;
 use std::alloc::Global;
 
-/// Opens a race over a heap whose slots are all null and whose cards are all clean, and seats its members.
+/// Opens a race over a heap whose slots are all null and whose cards are all clean. Puts its
+/// members into the handles, which must be closed.
+///
+/// Returns `BadMembers` if there are not 1 to 8 racers and 1 to 4 sweepers, `AlreadyOpen` if one of
+/// the handles is open, `BadLayout` or `NoMemory`: no handle has changed.
 pub fn open_race(
     alloc: Global,
     counts: &Counts,
@@ -54,7 +58,8 @@ pub fn open_race(
     }
 }
 
-/// Closes a member's handle without its race, and drops the member.
+/// Closes a member's handle without its race, and drops the member. Returns 0, or the word of
+/// `NotOpen` if the handle was closed.
 pub fn close_in(member: MemberHandle, alloc: Global) -> (MemberHandle, u32)
     ensures closed { result.0.value ≡ None }
     ensures done { IsSome member.value → result.1 ≡ 0 }

@@ -1,4 +1,4 @@
-//! Refinement in a race.
+//! Concurrent refinement in a race.
 ghost use Rattle.std.specs.Prelude.{◌≡◌, ◌<◌, Some};
 ghost use Rattle.g1_layout.specs.Shape.{card_count};
 ghost use Rattle.g1_race.specs.Members.{race_layout};
@@ -10,7 +10,8 @@ use crate::member_handle::MemberHandle;
 use raw_box::RawBox;
 use std::alloc::Global;
 
-/// The refinement of a card by the sweeper of a handle, which stays open.
+/// Refines a card by the sweeper of a handle, which stays open. Returns 0, or the word of
+/// `NotOpen`, `OtherRole` or `NoCard`: nothing has changed.
 pub fn refine_in(member: MemberHandle, words: (Global, u32)) -> (MemberHandle, u32)
     ensures refined { result.1 ≡ 0 → OfSweeper member.value (λ a. OfSweeper result.0.value (λ b. Sweeps a words.1 b)) }
     ensures taken { IfSweeper member.value (λ a. words.1 < card_count (race_layout (sweeper_race_of a)) → result.1 ≡ 0) }

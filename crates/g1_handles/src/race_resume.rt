@@ -15,7 +15,12 @@ use g1_race::{Race, Racer, Sweeper};
 use raw_box::RawBox;
 use std::alloc::Global;
 
-/// Opens a race that begins with the core of a handle, which is closed, and seats its members.
+/// Opens a race that begins with the core of a handle, and closes that handle. Puts the race's
+/// members into the other handles, which must be closed.
+///
+/// Returns `BadMembers` if there are not 1 to 8 racers and 1 to 4 sweepers, `AlreadyOpen` if one of
+/// the members' handles is open, `NotOpen` if the core's is closed, or `NoMemory`. Then the handles
+/// are as they were, except for the core's count of reads.
 pub fn resume_race(
     alloc: Global,
     handle: &mut Handle,
@@ -55,7 +60,7 @@ pub fn resume_race(
     }
 }
 
-/// A race that begins with the core, which stays as it is but for its count of reads.
+/// Makes a race that begins with the core, which stays as it is, except for its count of reads.
 fn begin_in(
     handle: Handle,
     words: (Global, u32, u32),

@@ -1,4 +1,4 @@
-//! Stores of a race.
+//! Lock-free stores in a race.
 ghost use Rattle.std.specs.Prelude.{◌≡◌, ◌<◌, ◌≤◌, Some};
 ghost use Rattle.arrayvec.specs.ArrayVec.{array_vec_len};
 ghost use Rattle.g1_race.specs.Members.{race_layout};
@@ -12,7 +12,9 @@ use crate::store::reference;
 use raw_box::RawBox;
 use std::alloc::Global;
 
-/// The store of a slot and a target by the racer of a handle, which stays open.
+/// Stores a target into a slot by the racer of a handle, which stays open. Returns the word of the
+/// kind of the store, or that of `NotOpen`, `OtherRole`, `LogFull` or `NoSlot`, for the slot or the
+/// target: nothing has changed.
 pub fn store_in(member: MemberHandle, words: (Global, u32, u32)) -> (MemberHandle, u32)
     ensures stored { result.1 ≤ 3 → OfRacer member.value (λ a. OfRacer result.0.value (λ b. StoresWord a words.1 words.2 result.1 b)) }
     ensures taken { IfRacer member.value (λ a. array_vec_len a.racer.log < 256 → IsStoreOf (race_layout (racer_race_of a)) words.1 words.2 → result.1 ≤ 3) }

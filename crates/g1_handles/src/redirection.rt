@@ -11,7 +11,11 @@ use g1_core::{Core, Redirected};
 use raw_box::RawBox;
 use std::alloc::Global;
 
-/// The redirect from one region to another at the core of a handle, for an array of a length.
+/// Redirects from one region to another at the core of a handle ([`Core::redirect`]). `words` has
+/// the two regions and the length of the caller's array for the cards that were refined.
+///
+/// Returns `NotOpen`, `NoRegion` for either region, `SameRegion`, `NoRoom` if the array is shorter
+/// than the heap has cards, or `NoMemory`: nothing has changed.
 pub fn redirect_in(
     handle: Handle,
     words: (Global, u32, u32, usize),

@@ -14,7 +14,7 @@ use g1_log::Buffer;
 use raw_box::RawBox;
 use std::alloc::Global;
 
-/// The word of a reply.
+/// The word of a reply: 0, or 1 if it is short.
 pub fn word_of(reply: &RefineReply) -> u32
     requires taken { reply.now.taken ≡ (if reply.now.short then 0 else 1) }
     requires left { reply.now.left ≡ 0 }
@@ -24,7 +24,11 @@ pub fn word_of(reply: &RefineReply) -> u32
     if reply.short { SHORT } else { DONE }
 }
 
-/// The refinement of some cards at the core of a handle, for an array of a length.
+/// Refines some cards at the core of a handle ([`Core::refine`]). `words` has the cards and the
+/// length of the caller's array for those that were refined.
+///
+/// Returns `NotOpen`, `NoRoom` if the array is shorter than the list of cards, `TooManyCards` for
+/// more than 256 cards, `NoCard`, or `NoMemory`: nothing has changed.
 pub fn refine_in(
     handle: Handle,
     words: (Global, &[u32], usize),
@@ -67,7 +71,7 @@ fn refine_one(core: &mut Core, cards: &[u32], room: usize) -> Result<RefineReply
     }
 }
 
-/// The cards of these numbers, or `None` where the heap lacks one of them.
+/// The cards of these numbers, or `None` if the heap lacks one of them.
 fn buffer_of(layout: Layout, cards: &[u32]) -> Option<Buffer>
     requires { length cards.now ≤ 256 }
     ensures cards { IfSome result (λ buffer. buffer ≡ cards.now) }

@@ -1,4 +1,4 @@
-//! The seats of a race's members: the handles that are given to them.
+//! How the members of a race are put into handles.
 ghost use Rattle.std.specs.Prelude.{◌≡◌, ◌≤◌, Bool, true, false, Some, None, length, All, IsTrue, IfOk, OnOk, OnErr, vec_len};
 ghost use Rattle.std.specs.Arc.{arc_value};
 ghost use Rattle.g1_race.specs.declared.race.Race.{Race};
@@ -48,7 +48,8 @@ fn is_closed(handle: MemberHandle, alloc: Global) -> (MemberHandle, bool)
     }
 }
 
-/// Seats the racers and the sweepers of a race that has just begun. Memory is taken before the first handle changes.
+/// Puts the racers and the sweepers of a race that has just begun into the handles. Takes all
+/// memory before the first handle changes.
 pub(crate) fn seat(
     alloc: Global,
     race: Race,

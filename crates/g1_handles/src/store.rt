@@ -12,7 +12,9 @@ use g1_log::Log;
 use raw_box::RawBox;
 use std::alloc::Global;
 
-/// The store of a slot and a target at the core of a handle, which stays open.
+/// Stores a target into a slot at the core of a handle, which stays open. Returns the word of the
+/// kind of the store, or that of `NotOpen` or `NoSlot`, for the slot or the target: nothing has
+/// changed.
 pub fn store_in(handle: Handle, words: (Global, u32, u32)) -> (Handle, u32)
     ensures kind { result.1 ≤ 3 → Between handle.value result.0.value (λ old new. result.1 ≡ kind_word (kind_of old.state.table words.1 (reference_of words.2))) }
     ensures machine { result.1 ≤ 3 → Between handle.value result.0.value (λ old new. new ≡ stored_machine old words.1 (reference_of words.2)) }
@@ -45,7 +47,7 @@ fn store_one(core: &mut Core, slot: u32, target: u32) -> u32
     kind_word(reply.kind)
 }
 
-/// The reference of a word, or `None` where the heap has no such slot.
+/// The reference of a word, or `None` if the heap has no such slot.
 pub(crate) fn reference(layout: Layout, word: u32) -> Option<Option<Slot>>
     ensures value { IfSome result (λ target. target ≡ reference_of word) }
     ensures within { IfSome result (λ target. IfSome target (λ place. place < slot_count layout)) }

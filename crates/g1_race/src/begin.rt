@@ -22,13 +22,13 @@ use g1_race_words::Place;
 use std::alloc::Global;
 
 impl Paused {
-    /// A heap at a pause with a core's whole table, for 1 to 64 racers and 1 to 64 sweepers: each
-    /// slot refers to what it refers to in the core, the pending cards are dirty, and the recorded
-    /// pairs are recorded. The settings and the refinement counts are not taken over.
+    /// Opens a heap at a pause with a core's whole table, for 1 to 64 racers and 1 to 64 sweepers.
+    /// Each slot refers to what it refers to in the core, the pending cards are dirty, and the
+    /// recorded pairs are recorded. The settings and the refinement counts are not taken over.
     ///
-    /// Reads each slot of the core once, and the core stays as it is but for its count of reads.
-    /// Takes the memory of [`Paused::open`] and for the time of the call that of the list of pairs.
-    /// On `NoMemory` nothing is left of the heap.
+    /// Reads each slot of the core once. The core stays as it is, except for its count of reads.
+    /// Takes the memory of [`Paused::open`] and, during the call, that of the list of pairs.
+    /// Returns `NoMemory` if memory was refused: nothing is left of the heap.
     pub fn begin_from(
         alloc: Global,
         core: &mut Core,
@@ -51,7 +51,7 @@ impl Paused {
         Ok(paused)
     }
 
-    // Gives a heap of nulls the core's table.
+    // Places the core's table into a heap of nulls.
     fn place(&mut self, core: &mut Core, pairs: &[(Card, Region)])
         requires layout { self.old.layout ≡ core.old.state.table.layout }
         requires null { start_at self.old ≡ null_of self.old.shape }

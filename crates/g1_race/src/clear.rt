@@ -1,4 +1,4 @@
-//! The clear at a pause: a region's remembered set is emptied once no reference enters the region.
+//! The clear at a pause: it empties a region's remembered set, once no reference enters the region.
 ghost use Rattle.std.specs.Prelude.{◌≡◌, ◌≢◌, ℕ, ◌+◌, ◌*◌, ◌<◌, ◌≤◌, ◌↔◌, IsTrue, IfSome, option_map, true};
 ghost use mathlib.Core.Option.{some};
 ghost use lib.ListN.{get_elem?};
@@ -20,11 +20,11 @@ use g1_layout::Region;
 use g1_race_words::{Place, Shape};
 
 impl Paused {
-    /// Empties the remembered set of a region, once nothing is dirty and no reference enters the
-    /// region from outside. Takes no memory.
+    /// Empties the remembered set of a region, once no card is dirty and no slot outside the region
+    /// refers into it. Takes no memory.
     ///
-    /// `Pending` counts the dirty cards. `StillReferenced` names the least slot of the whole heap
-    /// that lies outside the region and refers into it. Both leave all as it was.
+    /// Returns `Pending` with the number of dirty cards, or `StillReferenced` with the least slot
+    /// of the whole heap that lies outside the region and refers into it. Then nothing has changed.
     pub fn clear(&mut self, region: Region) -> ClearReply
         requires { region < self.old.layout.regions }
         ensures race { IsSameRace self.old self.new }

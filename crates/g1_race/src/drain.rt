@@ -1,4 +1,4 @@
-//! Refinement at a pause: which cards refer into a region.
+//! Refinement and drains at a pause.
 ghost use Rattle.std.specs.Prelude.{◌≡◌, ℕ, ◌+◌, ◌*◌, ◌<◌, ◌≤◌, [], ◌∷◌, IfOk, OnErr, List, length, map, replicate, vec_len, vec_capacity};
 ghost use Rattle.g1_layout.specs.Shape.{slot_count};
 ghost use Rattle.g1_core.specs.Run.{IsStep};
@@ -25,13 +25,13 @@ use g1_race_words::Place;
 use std::alloc::Global;
 
 impl Paused {
-    /// Refines every dirty card, and answers the remembered set of the region: ascending, each card
-    /// once, every card that holds into the region, and beside these only cards whose pair was
-    /// recorded before. Nothing is dirty then, and the racers' logs are empty.
+    /// Refines every dirty card, and returns the remembered set of a region, ascending, each card
+    /// once. It has every card that holds into the region, and besides these only cards whose pair
+    /// was recorded before. Then no card is dirty, and the racers' logs are empty.
     ///
     /// Reads a word for each 64 cards of the heap a few times over, what each dirty card needs, and
-    /// the set. The room for the answer is asked for first, and refinement takes none. `NoMemory`
-    /// where it was refused: nothing has changed. A drain is never `Short`.
+    /// the set. The room for the lists is asked for first, and refinement takes none. Returns
+    /// `NoMemory` if that room was refused: nothing has changed. A drain is never `Short`.
     pub fn drain(&mut self, alloc: Global, region: Region) -> Result<Drained, NoMemory>
         requires { region < self.old.layout.regions }
         ensures race { IfOk result (λ answer. IsRefinedRace self.old self.new) }
@@ -55,8 +55,8 @@ impl Paused {
         Ok(Drained::Cards { cards, refined })
     }
 
-    /// A drain that writes its answer into the slice, as far as that reaches, and returns how many
-    /// cards the answer has. Takes no memory.
+    /// Drains a region, writes its remembered set into a slice, as far as that reaches, and returns
+    /// how many cards the set has. Takes no memory.
     pub fn drain_into(&mut self, region: Region, cards: &mut [Card]) -> usize
         requires { region < self.old.layout.regions }
         ensures race { IsRefinedRace self.old self.new }
@@ -120,7 +120,7 @@ fn refine_card(race: &Race, seat: &mut Place, card: usize)
     put(race, seat, shape.slots + card, 0);
 }
 
-// Records the pair of a slot's word, where it refers into another region.
+// Records the pair of a slot's word, if it refers into another region.
 fn note_slot(race: &Race, seat: &mut Place, slot: u32, word: u32)
     requires slot { slot < slot_count race.now.layout }
     requires word { word ≤ slot_count race.now.layout }
@@ -147,7 +147,7 @@ fn note_slot(race: &Race, seat: &mut Place, slot: u32, word: u32)
     );
 }
 
-// Sees that the bit of the pair is set, or in the row of flags the card's flag.
+// Makes sure that the bit of the pair is set, or in the row of flags the card's flag.
 pub(crate) fn set_bit(race: &Race, seat: &mut Place, card: usize, region: usize)
     requires seat { IsPaused race.now.table.table_id race.now.shape seat.old }
     requires card { card < race.now.shape.cards }

@@ -13,11 +13,11 @@ use g1_race_words::Shape;
 use std::alloc::Global;
 use std::marker::Model;
 
-/// A race that is over, with no thread at it any more ([`Race::close`](crate::Race::close)).
+/// A race that is over: no thread takes part in it any more ([`Race::close`](crate::Race::close)).
 ///
 /// Its model is a table: the layout, the words of slots and marks, and the recorded pairs, each
 /// once, by card and then by region. Each slot that refers into another region has its card dirty
-/// or its pair recorded, and each pair has its card outside its region.
+/// or its pair recorded. The card of each pair lies outside its region.
 pub struct Closed {
     pub(crate) words: atomic_table::Closed<(), Global>,
     pub(crate) layout: Layout,
@@ -51,7 +51,7 @@ impl Drop for Closed {
 }
 
 impl Closed {
-    /// What the slot refers to, or None for null. Reads one word.
+    /// Returns what a slot refers to, or `None` for null. Reads one word.
     pub fn target(&self, slot: Slot) -> Option<Slot>
         requires { slot < slot_count self.now.layout }
         ensures target { result ≡ target_of (table_of self.now) slot }
@@ -60,8 +60,8 @@ impl Closed {
         self.target_at(slot.number() as usize)
     }
 
-    /// Whether the card is dirty: stored to since it was last refined, or dirty from the beginning.
-    /// Reads one word.
+    /// Returns whether a card is dirty: stored to since it was last refined, or dirty from the
+    /// beginning. Reads one word.
     pub fn marked(&self, card: Card) -> bool
         requires { card < card_count self.now.layout }
         ensures { IsTrue result ↔ IsPending (table_of self.now) card }
@@ -69,7 +69,7 @@ impl Closed {
         self.marked_at(card.number() as usize)
     }
 
-    /// Whether the pair was recorded, by a sweeper or before the race. Reads one word.
+    /// Returns whether a pair was recorded, by a sweeper or before the race. Reads one word.
     pub fn has(&self, card: Card, region: Region) -> bool
         ensures { IsTrue result ↔ IsRecorded (table_of self.now) card region }
     {

@@ -1,4 +1,4 @@
-//! A region that is freed: its cards are forgotten by all remembered sets.
+//! A region is freed: its cards are removed from all remembered sets.
 ghost use Rattle.std.specs.Prelude.{◌≡◌, ◌≢◌, ℕ, ◌+◌, ◌*◌, ◌<◌, ◌≤◌, true};
 ghost use mathlib.Core.Option.{some};
 ghost use lib.ListN.{get_elem?};
@@ -20,8 +20,8 @@ use g1_race_words::Place;
 
 impl Paused {
     /// Removes the region's cards from the remembered sets of all regions. No slot of the region
-    /// may refer out of it, as after [`Paused::wipe`]. Later drains then answer no card of the
-    /// region, until one is stored to. Takes no memory.
+    /// may refer out of it, as after [`Paused::wipe`]. Later drains then return no card of the
+    /// region until one is stored to. Takes no memory.
     pub fn forget(&mut self, region: Region)
         requires region { region < self.old.layout.regions }
         requires closed { (slot place : ℕ) → Crosses (halted self.old) slot place → region_of self.old.layout slot ≢ region }

@@ -10,14 +10,14 @@ use g1_layout::{Card, NoMemory, Region, Slot};
 use std::alloc::Global;
 
 impl Closed {
-    /// A core of this table: each slot refers to what it referred to when the race ended, the cards
-    /// that were dirty then are pending, and the pairs that the sweepers recorded, or that were
-    /// recorded before the race, are recorded. Nothing is counted, nothing was read and the hot
-    /// ring is empty (docs/PROFILE.md, Racing stores).
+    /// Makes a core of this table. Each slot refers to what it referred to when the race ended. The
+    /// cards that were dirty then are pending. The pairs that were recorded, by the sweepers or
+    /// before the race, are recorded. Nothing is counted, nothing was read and the hot ring is
+    /// empty (docs/PROFILE.md, Racing stores).
     ///
-    /// Takes the memory of a core ([`Core::adopt`]), and for the time of the call 8 bytes for each
-    /// slot, one for each card and 8 for each recorded pair. `NoMemory` where a growth was refused:
-    /// the race comes back as it was, and the call can be made again.
+    /// Takes the memory of a core ([`Core::adopt`]) and, during the call, 8 bytes for each slot,
+    /// one for each card and 8 for each recorded pair. Returns `NoMemory` if memory was refused,
+    /// with the race as it was; the call can be made again.
     pub fn into_core(self, alloc: Global, config: Config) -> Result<Core, (Closed, NoMemory)>
         ensures core { IfOk result (λ core. core ≡ core_of self config) }
         ensures refused { IfErr result (λ e. e.0 ≡ self) }
@@ -28,8 +28,8 @@ impl Closed {
         }
     }
 
-    /// As [`Closed::into_core`], and the race stays: for a caller that lets go of it only once it
-    /// has the memory for all that it does with the core.
+    /// Makes a core as [`Closed::into_core`] does, and the race stays. It is for a caller that
+    /// drops the race only once it has the memory for all that it does with the core.
     pub fn to_core(&self, alloc: Global, config: Config) -> Result<Core, NoMemory>
         ensures { IfOk result (λ core. core ≡ core_of self.now config) }
     {

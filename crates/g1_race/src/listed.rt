@@ -21,7 +21,7 @@ use g1_race_words::Place;
 use std::alloc::Global;
 
 impl Paused {
-    /// Whether the pair is recorded. Reads one word.
+    /// Returns whether a pair is recorded. Reads one word.
     pub fn has(&mut self, card: Card, region: Region) -> bool
         ensures has { IsTrue result ↔ IsRecorded (halted self.old) card region }
         ensures same { self.new ≡ self.old }
@@ -29,11 +29,11 @@ impl Paused {
         is_recorded(&self.race, &mut self.seat, card, region)
     }
 
-    /// The cards of a region's remembered set as it is recorded, ascending, each once. Cards that
-    /// are dirty may be missing in it. Reads a word for each 64 cards of the heap, and one more for
-    /// each card of the set, twice.
+    /// Returns the cards of a region's remembered set as it is recorded, ascending, each once.
+    /// Dirty cards may be missing from it. Reads a word for each 64 cards of the heap, and one more
+    /// for each card of the set, and all of this twice.
     ///
-    /// `NoMemory` where the room for the list was refused.
+    /// Returns `NoMemory` if the room for the list was refused.
     pub fn members(&mut self, alloc: Global, region: Region) -> Result<CardList, NoMemory>
         requires { region < self.old.layout.regions }
         ensures members { IfOk result (λ cards. AreMembers (halted self.old) region cards) }
@@ -43,8 +43,8 @@ impl Paused {
         members_of(&self.race, &mut self.seat, alloc, region)
     }
 
-    /// How many cards are dirty. Reads a word for each 64 cards of the heap, and the marks of each
-    /// eight cards of which one was dirtied since all was last refined at a pause.
+    /// Returns how many cards are dirty. Reads a word for each 64 cards of the heap, and the marks
+    /// of each eight cards of which one was dirtied since all were last refined at a pause.
     pub fn pending_count(&mut self) -> u32
         ensures count { result ≡ set.len (halted self.old).pending }
         ensures same { self.new ≡ self.old }
@@ -52,8 +52,9 @@ impl Paused {
         count_marked(&self.race, &mut self.seat) as u32
     }
 
-    /// How many cards are dirty, and how many pairs are recorded. Reads what `pending_count` reads,
-    /// a word for each region and 64 cards of the heap, and one more for each recorded pair.
+    /// Returns how many cards are dirty, and how many pairs are recorded. Reads what
+    /// [`Paused::pending_count`] reads, for each region a word for each 64 cards of the heap, and
+    /// one more word for each recorded pair.
     pub fn status(&mut self) -> Status
         ensures pending { result.pending ≡ set.len (halted self.old).pending }
         ensures recorded { result.recorded ≡ set.len (halted self.old).recorded }
@@ -67,8 +68,9 @@ impl Paused {
         Status { pending, recorded }
     }
 
-    /// The least dirty card. Reads a word for each 64 cards up to it, and the marks of each eight of
-    /// these of which one was dirtied since all was last refined at a pause.
+    /// Returns the least dirty card, or `None` if there is none. Reads a word for each 64 cards up
+    /// to it, and the marks of each eight of these of which one was dirtied since all were last
+    /// refined at a pause.
     pub fn next_dirty(&mut self) -> Option<Card>
         ensures dirty { IsLeastPending (halted self.old) result }
         ensures same { self.new ≡ self.old }

@@ -147,7 +147,7 @@ pub(crate) fn list_members(race: &Race, seat: &mut Place, region: usize, cards: 
     }
 }
 
-// Writes the cards of the region's set into the slice, as far as it reaches, and says how many
+// Writes the cards of the region's set into the slice, as far as it reaches, and returns how many
 // there are.
 pub(crate) fn write_members(
     race: &Race,

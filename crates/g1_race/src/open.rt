@@ -14,12 +14,13 @@ use g1_race_words::{RaceTable, Shape};
 use std::alloc::Global;
 
 impl Paused {
-    /// A heap whose slots are all null and whose cards are all clean, at a pause, for 1 to 64
-    /// racers and 1 to 64 sweepers. A runtime opens as many as it may ever have threads.
+    /// Opens a heap at a pause, for 1 to 64 racers and 1 to 64 sweepers. Its slots are all null and
+    /// its cards are all clean. A runtime opens as many as it may ever have threads.
     ///
-    /// Takes 8 bytes for each slot and each card, a bit for each pair of a card and a region, and a
-    /// bit for each card, all of this twice while it begins, and about two kilobytes for each racer
-    /// and one for each sweeper. On `NoMemory` nothing is left of it.
+    /// Takes 8 bytes a slot, 8 bytes a card, a bit for each pair of a card and a region, and a bit
+    /// for each card, and all of this twice while it begins. It also takes about two kilobytes for
+    /// each racer and one for each sweeper. Returns `NoMemory` if memory was refused: nothing is
+    /// left of the heap.
     pub fn open(
         alloc: Global,
         layout: Layout,
@@ -59,10 +60,11 @@ impl Paused {
 
 impl Race {
     /// Opens a race over a heap whose slots are all null and whose cards are all clean, with 1 to 8
-    /// racers and 1 to 4 sweepers. It is a birth at a pause ([`Paused::open`]) and a resume.
+    /// racers and 1 to 4 sweepers. It is [`Paused::open`] and then [`Paused::resume`].
     ///
-    /// No racer has stored and no sweeper has refined; each racer has a number of its own. Takes the
-    /// memory of [`Paused::open`]. On `NoMemory` nothing is left of it.
+    /// No racer has stored and no sweeper has refined. Each racer has a number of its own. Takes
+    /// the memory of [`Paused::open`]. Returns `NoMemory` if memory was refused: nothing is left of
+    /// the race.
     pub fn open(
         alloc: Global,
         layout: Layout,
@@ -84,7 +86,7 @@ impl Race {
     }
 }
 
-// As many empty logs, with room for so many.
+// A list of `count` empty logs, with room for `room` logs.
 fn empty_logs(
     alloc: Global,
     count: usize,

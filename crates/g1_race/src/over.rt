@@ -1,4 +1,4 @@
-//! How a race ends, and what is known then.
+//! How a race ends, and what holds then.
 ghost use Rattle.g1_core.specs.Table.{IsCovered};
 ghost use Rattle.g1_race.specs.Over.{ended_of, table_of};
 ghost use Rattle.g1_core.specs.Adoption.{IsPairOf};
@@ -11,16 +11,18 @@ use crate::paused::Paused;
 use crate::race::{Race, Racer, Sweeper};
 
 impl Race {
-    /// Ends the race: all its racers and sweepers are handed in, which is a condition, and the
-    /// words and the recorded pairs stay.
+    /// Ends the race. All its racers and sweepers must be handed in. The words and the recorded
+    /// pairs stay, and the following holds of them:
     ///
-    /// Each slot refers to what some racer stored to it last, or to what it referred to when the
-    /// race began and nobody has stored to it. A dirty card was claimed by some racer or began
-    /// dirty; a card that is clean and either of these was cleaned by some sweeper. A card's
-    /// claims, and one more where it began dirty, are as many as its cleanings, and one more where
-    /// it is dirty. A pair that a sweeper recorded is of a reference that was stored or was there
-    /// from the beginning, and its card lies outside its region. A slot that refers into another
-    /// region has its card dirty or its pair recorded.
+    /// - Each slot has the last target that some racer stored into it. If no racer stored into it,
+    ///   it refers to what it referred to when the race began.
+    /// - A dirty card was claimed by a racer or was dirty at the beginning. A clean card of which
+    ///   either is true was cleaned by a sweeper.
+    /// - Take the number of a card's claims, plus 1 if it was dirty at the beginning. That is the
+    ///   number of its cleanings, plus 1 if it is dirty now.
+    /// - A pair that a sweeper recorded is of a reference that was stored, or was there at the
+    ///   beginning. Its card lies outside its region.
+    /// - A slot that refers into another region has its card dirty or its pair recorded.
     ///
     /// It is a pause ([`Race::pause`]) and then [`Paused::close`]. Takes no memory. Logs that were
     /// not taken are dropped; the marks stay.
@@ -43,8 +45,8 @@ impl Race {
 }
 
 impl Paused {
-    /// Ends the heap's life as one that is raced over: its words and recorded pairs stay, for a
-    /// core that is made of them ([`Closed::into_core`]). The logs are dropped; the marks stay.
+    /// Ends the races over this heap. Its words and recorded pairs stay, for a core that is made of
+    /// them ([`Closed::into_core`]). The logs are dropped; the marks stay.
     ///
     /// Takes no memory and copies no word.
     pub fn close(self) -> Closed

@@ -54,8 +54,9 @@ pub(crate) fn list_pairs(
     Ok(pairs)
 }
 
-// Sees that these are the regions that have some card of the card's block: of the 64 whose bits lie
-// in one word. They are those of the card before where that is of the same block.
+// Makes sure that these are the regions with which some card of the card's block has a recorded
+// pair. The block is the 64 cards whose bits lie in one word. If the card before is of the same
+// block, its regions are these already.
 fn note_regions(
     words: &Closed<(), Global>,
     shape: Shape,
@@ -126,7 +127,7 @@ fn pair_at(layout: Layout, shape: Shape, card: usize, region: usize) -> (Card, R
     (card, region)
 }
 
-// How many bits are set: so much room is asked for at once.
+// How many bits are set: room for that many pairs is asked for at once.
 fn count_bits(words: &Closed<(), Global>, shape: Shape) -> usize
     requires shape { IsShape shape }
     requires words { (slots_len words.now.words ≡ word_count shape)

@@ -1,4 +1,4 @@
-//! How a race comes to a pause, and what is known then.
+//! How a race comes to a pause, and what holds then.
 ghost use Rattle.g1_core.specs.Table.{IsCovered};
 ghost use Rattle.g1_race.specs.Over.{halted, ended_of};
 ghost use Rattle.g1_core.specs.Adoption.{IsPairOf};
@@ -13,20 +13,22 @@ use g1_layout::Card;
 use g1_race_words::{Place, RaceTable};
 
 impl Race {
-    /// Pauses the race in place: all its racers and sweepers are handed in, which is a condition,
-    /// and the table stays where it is.
+    /// Pauses the race in place: the table stays where it is. All its racers and sweepers must be
+    /// handed in. The following holds then. The beginning of the race is its last resume, as its
+    /// racers and sweepers know it.
     ///
-    /// Each slot refers to what some racer stored to it last, or to what it referred to when the
-    /// race began and nobody has stored to it. A dirty card was claimed by some racer or began
-    /// dirty; a card that is clean and either of these was cleaned by some sweeper. A card's
-    /// claims, and one more where it began dirty, are as many as its cleanings, and one more where
-    /// it is dirty. A pair that a sweeper recorded is of a reference that was stored or was there
-    /// from the beginning, and its card lies outside its region. A slot that refers into another
-    /// region has its card dirty or its pair recorded. The race began at its last resume, with what
-    /// its racers and sweepers know.
+    /// - Each slot has the last target that some racer stored into it. If no racer stored into it,
+    ///   it refers to what it referred to when the race began.
+    /// - A dirty card was claimed by a racer or was dirty at the beginning. A clean card of which
+    ///   either is true was cleaned by a sweeper.
+    /// - Take the number of a card's claims, plus 1 if it was dirty at the beginning. That is the
+    ///   number of its cleanings, plus 1 if it is dirty now.
+    /// - A pair that a sweeper recorded is of a reference that was stored, or was there at the
+    ///   beginning. Its card lies outside its region.
+    /// - A slot that refers into another region has its card dirty or its pair recorded.
     ///
-    /// Takes no memory, copies no word, and makes no step but those that join the seats and one.
-    /// The logs are kept for the racers.
+    /// Takes no memory and copies no word. The only steps that it makes are those that join the
+    /// seats, and one more. The logs are kept for the racers.
     pub fn pause(self, mut racers: Vec<Racer>, mut sweepers: Vec<Sweeper>) -> Paused
         requires racers { (vec_len racers + vec_len sweepers ≡ (race_shape self).members)
             × All (λ r. racer_race r ≡ race_id self) racers.items }

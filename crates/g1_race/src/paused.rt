@@ -1,11 +1,11 @@
-//! A race at a pause: its whole table is known, and stands where it always stood.
+//! A race at a pause: its whole table is known, and stays in place.
 ghost use Rattle.std.specs.Prelude.{◌≡◌, ◌+◌, ◌<◌};
 
 use crate::race::{Race, Racer, Sweeper};
 use g1_race_words::Place;
 use std::marker::Model;
 
-/// A race at a pause, with no thread at it.
+/// A race at a pause: no thread takes part in it.
 ///
 /// Its model is a table: the layout and the words of slots, marks and pairs, with the racers' logs
 /// and the number of sweepers. Each slot that refers into another region has its card dirty or its

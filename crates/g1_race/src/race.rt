@@ -1,7 +1,7 @@
-//! The race and those who take part in it.
+//! The race and its members.
 //!
 //! A racer or a sweeper has a seat at the table of words: a token of no bytes at run time, which
-//! carries what its thread knows in the proofs alone ([`View`](crate::View)).
+//! carries what its thread knows, in the proofs alone ([`View`](crate::View)).
 ghost use Rattle.std.specs.Prelude.{◌≡◌, ◌+◌, ◌<◌, ◌≤◌, [], vec_capacity};
 ghost use Rattle.g1_race_words.specs.Rule.{IsShape};
 ghost use Rattle.g1_race.specs.Race.{shape_of, IsRacing, IsSweeping};
@@ -13,8 +13,8 @@ use g1_race_words::{Place, RaceTable, Shape};
 /// A race over the slots and cards of one heap. Racers and sweepers in any number of threads share
 /// it by `&`.
 ///
-/// It has 8 bytes for each slot and 8 for each card, a bit for each pair of a card and a region, and
-/// a bit for each card. It takes no memory once it is open.
+/// It has 8 bytes a slot, 8 bytes a card, a bit for each pair of a card and a region, and a bit for
+/// each card. Once it is open it takes no memory.
 #[derive(Drop)]
 pub struct Race {
     pub(crate) table: RaceTable,
@@ -30,11 +30,11 @@ pub struct Race {
     ghost room: { shape.members ≤ vec_capacity logs },
 }
 
-/// What a mutator stores with: its right to write slots and to dirty cards, and its dirty card
+/// A mutator's part in a race: its right to write slots and to dirty cards, and its dirty card
 /// queue, of at most 256 cards.
 ///
-/// Between two calls it owes nothing: each reference that it stored across regions has had its card
-/// dirtied.
+/// Between two calls it owes nothing: for each reference that it stored across regions, it has
+/// found the card dirty or made it dirty.
 #[derive(Drop)]
 pub struct Racer {
     pub(crate) seat: Place,
@@ -42,8 +42,8 @@ pub struct Racer {
     ghost racing: { IsRacing seat.me.0 },
 }
 
-/// What a refiner works with: its right to clean cards, to read their slots and to record pairs. It
-/// has no bytes.
+/// A refinement thread's part in a race: its right to clean cards, to read their slots and to
+/// record pairs. It has no bytes.
 ///
 /// Between two calls it has nothing left to read, and each pair that it has read is recorded.
 #[derive(Drop)]

@@ -1,4 +1,4 @@
-//! How readers come and go at a pause.
+//! How readers are made at a pause, and handed in again.
 ghost use Rattle.std.specs.Prelude.{◌≡◌, ◌+◌, ◌≤◌, All, vec_len, vec_capacity};
 ghost use Rattle.g1_race_words.specs.Rule.{start_of};
 ghost use Rattle.g1_race_words.specs.Readers.{IsLent};
@@ -12,17 +12,20 @@ use crate::reading::{Reader, Reading};
 use g1_race_words::{Place, RaceTable};
 
 impl Paused {
-    /// How many readers a pause can have at most: as many as the race has racers and sweepers.
+    /// Returns how many readers a pause can have at most: as many as the race has racers and
+    /// sweepers.
     pub fn reader_limit(&self) -> usize
         ensures { result ≡ self.now.shape.members }
     {
         self.race.shape.members
     }
 
-    /// Lets as many readers ask at once, each in a thread of its own. The list is empty and has
-    /// room for them, and there are at most [`Paused::reader_limit`].
+    /// Lets `count` readers read concurrently, each in a thread of its own, and puts them into the
+    /// list. The list must be empty and have room for them, and `count` is at most
+    /// [`Paused::reader_limit`].
     ///
-    /// Takes no memory and cannot fail. Makes no step but those that split the seats.
+    /// Takes no memory and cannot fail. The only steps that it makes are those that split the
+    /// seats.
     pub fn read_by(self, readers: &mut Vec<Reader>, count: usize) -> Reading
         requires count { count ≤ self.shape.members }
         requires empty { vec_len readers.old ≡ 0 }
@@ -51,8 +54,8 @@ impl Paused {
 }
 
 impl Reading {
-    /// The race, which the readers ask with: threads share it by `&`. What a reader of this pause
-    /// knows of it is the table of the pause.
+    /// Returns the race, which readers pass to their calls. Threads share it by `&`. What a reader
+    /// of this pause knows of the race is the table of the pause.
     pub fn race(&self) -> &Race
         ensures race { race_id result.now ≡ (self.now.table_id, self.now.pause.shape) }
         ensures layout { race_layout result.now ≡ self.now.pause.layout }
@@ -62,10 +65,11 @@ impl Reading {
         &self.race
     }
 
-    /// Lets the pause go on, as it was: all readers are handed in, which is a condition. The list
-    /// is empty then, and keeps its room for the next time.
+    /// Ends the reading, and returns the pause as it was. All readers must be handed in. The list
+    /// is then empty, and keeps its room for the next time.
     ///
-    /// Takes no memory and cannot fail. Makes no step but one and those that join the seats.
+    /// Takes no memory and cannot fail. The only steps that it makes are those that join the seats,
+    /// and one more.
     pub fn pause(self, readers: &mut Vec<Reader>) -> Paused
         requires count { vec_len readers.old ≡ self.readers }
         requires readers { All (IsReaderOf self) readers.old.items }

@@ -1,4 +1,4 @@
-//! What a reader asks at a pause.
+//! What a reader reads at a pause.
 ghost use Rattle.std.specs.Prelude.{◌≡◌, ℕ, ◌<◌, ◌↔◌, IsTrue, IfOk, IfSome};
 ghost use Rattle.std.specs.FinSet as set;
 ghost use Rattle.g1_layout.specs.Shape.{slot_count, card_count};
@@ -17,8 +17,8 @@ use g1_layout::{Card, NoMemory, Region, Slot};
 use std::alloc::Global;
 
 impl Reader {
-    /// What the slot refers to, or None for null. Reads one word. The reader and the slot must be
-    /// of this race.
+    /// Returns what a slot refers to, or `None` for null. Reads one word. The reader and the slot
+    /// must be of this race.
     pub fn target(&mut self, race: &Race, slot: Slot) -> Option<Slot>
         requires reader { reader_race self.old ≡ race_id race.now }
         requires slot { slot < slot_count (race_layout race.now) }
@@ -31,8 +31,8 @@ impl Reader {
         target_of(race, &mut self.seat, slot)
     }
 
-    /// Whether the card is pending: dirty, by a store or from the beginning. Reads one word. The
-    /// reader and the card must be of this race.
+    /// Returns whether a card is pending: dirty, by a store or from the beginning. Reads one word.
+    /// The reader and the card must be of this race.
     pub fn is_pending(&mut self, race: &Race, card: Card) -> bool
         requires reader { reader_race self.old ≡ race_id race.now }
         requires card { card < card_count (race_layout race.now) }
@@ -44,7 +44,7 @@ impl Reader {
         is_dirty(race, &mut self.seat, card)
     }
 
-    /// Whether the pair is recorded. Reads one word. The reader must be of this race.
+    /// Returns whether a pair is recorded. Reads one word. The reader must be of this race.
     pub fn has(&mut self, race: &Race, card: Card, region: Region) -> bool
         requires reader { reader_race self.old ≡ race_id race.now }
         ensures has { IsTrue result ↔ IsRecorded (table_read race.now self.old) card region }
@@ -53,11 +53,12 @@ impl Reader {
         is_recorded(race, &mut self.seat, card, region)
     }
 
-    /// The cards of a region's remembered set as it is recorded, ascending, each once. Cards that
-    /// are dirty may be missing in it. Reads a word for each 64 cards of the heap, and one more for
-    /// each card of the set, twice. The reader and the region must be of this race.
+    /// Returns the cards of a region's remembered set as it is recorded, ascending, each once.
+    /// Dirty cards may be missing from it. Reads a word for each 64 cards of the heap, and one more
+    /// for each card of the set, and all of this twice. The reader and the region must be of this
+    /// race.
     ///
-    /// `NoMemory` where the room for the list was refused.
+    /// Returns `NoMemory` if the room for the list was refused.
     pub fn members(
         &mut self,
         race: &Race,
@@ -76,9 +77,10 @@ impl Reader {
         members_of(race, &mut self.seat, alloc, region)
     }
 
-    /// The least dirty card from one on: each of several readers can look for those of a stretch of
-    /// the heap. Reads a word for each 64 cards up to it, and the marks of each eight of them of
-    /// which one was dirtied since all was last refined at a pause. The reader must be of this race.
+    /// Returns the least dirty card from `from` on, or `None` if there is none. So each of several
+    /// readers can look for the dirty cards of a stretch of the heap. Reads a word for each 64
+    /// cards up to the card that it returns, and the marks of each eight of these of which one was
+    /// dirtied since all were last refined at a pause. The reader must be of this race.
     pub fn next_dirty(&mut self, race: &Race, from: Card) -> Option<Card>
         requires reader { reader_race self.old ≡ race_id race.now }
         ensures dirty { IsNextPending (table_read race.now self.old) from result }

@@ -4,10 +4,10 @@ use crate::race::{Race, Racer, Sweeper};
 use g1_race_words::Place;
 use std::marker::Model;
 
-/// A race at a pause, while readers ask what it knows.
+/// A race at a pause, while readers read it.
 ///
-/// Its model is the pause, which table it is at, and how many readers have to be handed in before
-/// the pause goes on. Nothing changes meanwhile.
+/// Its model has the pause, the identity of its table, and how many readers have to be handed in
+/// before the pause goes on. Nothing changes meanwhile.
 #[derive(Drop)]
 pub struct Reading {
     pub(crate) race: Race,
@@ -46,8 +46,8 @@ impl Model for Reading {
 /// What a thread of the collector reads with at a pause: its right to read the words. It has no
 /// bytes.
 ///
-/// It belongs to one thread at a time, and any number of readers ask at once. Its model is which
-/// table it is at, and all the words there.
+/// It belongs to one thread at a time, and any number of readers read concurrently. Its model has
+/// the identity of its table, and all the words there.
 #[derive(Drop)]
 pub struct Reader {
     pub(crate) seat: Place,

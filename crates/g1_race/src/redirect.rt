@@ -1,5 +1,5 @@
-//! The redirect at a pause: the references into a region are moved to another region, and its
-//! remembered set is emptied.
+//! The redirect at a pause: it moves the references into a region to another region, and empties
+//! the region's remembered set.
 ghost use Rattle.std.specs.Prelude.{◌≡◌, ◌≢◌, ℕ, ◌*◌, ◌<◌, ◌≤◌, IfOk, OnErr, true};
 ghost use mathlib.Core.Option.{some};
 ghost use lib.ListN.{get_elem?};
@@ -23,18 +23,18 @@ use g1_race_words::Place;
 use std::alloc::Global;
 
 impl Paused {
-    /// Moves the references into a region to the same offsets of another region, and empties its
-    /// remembered set.
+    /// Moves the references into the region `from` to the same offsets of the region `to`, and
+    /// empties the remembered set of `from`.
     ///
-    /// Every dirty card is refined first, as in a drain. Then each slot outside `from` that refers
-    /// into `from` refers to the same offset in `to`, and its card is recorded for `to` where it
-    /// lies outside `to`. Slots inside `from` stay. `Moved` says how many slots changed, and has
-    /// the cards that were refined, ascending.
+    /// Every dirty card is refined first, as in a drain, and the racers' logs are emptied. Then
+    /// each slot outside `from` that refers into `from` refers to the same offset in `to`. If the
+    /// slot lies outside `to`, its card is recorded for `to`. Slots inside `from` stay. `Moved` has
+    /// how many slots changed, and the cards that were refined, ascending.
     ///
     /// Once all is refined it reads a word for each 64 cards of the heap and the slots of each card
     /// of the set of `from`. The room for the list of refined cards is asked for first, and nothing
-    /// else takes memory. `NoMemory` where it was refused: nothing has changed. A redirect is never
-    /// `Short`.
+    /// else takes memory. Returns `NoMemory` if that room was refused: nothing has changed. A
+    /// redirect is never `Short`.
     pub fn redirect(
         &mut self,
         alloc: Global,
@@ -61,7 +61,8 @@ impl Paused {
         Ok(Redirected::Moved { slots, refined })
     }
 
-    /// A redirect that lists no card, and returns how many slots it changed. Takes no memory.
+    /// Redirects as [`Paused::redirect`] does, but lists no card, and returns how many slots
+    /// changed. Takes no memory.
     pub fn redirect_in_place(&mut self, from: Region, to: Region) -> u32
         requires from { from < self.old.layout.regions }
         requires to { to < self.old.layout.regions }
@@ -76,7 +77,7 @@ impl Paused {
     }
 }
 
-// Moves the references into the region, empties its row of bits, and says how many slots have
+// Moves the references into the region, empties its row of bits, and returns how many slots have
 // changed. No card is dirty.
 fn move_references(race: &Race, seat: &mut Place, from: usize, to: usize) -> u32
     requires seat { IsPaused race.now.table.table_id race.now.shape seat.old }
@@ -101,7 +102,7 @@ fn move_references(race: &Race, seat: &mut Place, from: usize, to: usize) -> u32
     count as u32
 }
 
-// Moves the references into the region of a card's slots, and says how many have changed.
+// Moves the references into the region of a card's slots, and returns how many have changed.
 fn move_on(race: &Race, seat: &mut Place, card: usize, from: usize, to: usize) -> usize
     requires seat { IsPaused race.now.table.table_id race.now.shape seat.old }
     requires card { card < race.now.shape.cards }

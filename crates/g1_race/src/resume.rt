@@ -1,4 +1,4 @@
-//! How a race goes on after a pause, or from a core.
+//! How a race goes on after a pause, or begins from a core.
 ghost use Rattle.std.specs.Prelude.{◌≡◌, ◌+◌, ◌-◌, ◌<◌, ◌≤◌, [], All, IfOk, IfErr, length, map, reverse, vec_len, vec_capacity};
 ghost use Rattle.g1_race_words.specs.Rule.{beginning, start_of};
 ghost use Rattle.g1_race_words.specs.Steps.{chair};
@@ -17,11 +17,13 @@ use g1_race_words::{Place, RaceTable};
 use std::alloc::Global;
 
 impl Paused {
-    /// Lets the race go on: the racers get their logs back, empty where all was refined, and have
-    /// stored nothing, the sweepers have swept nothing, and the race begins with the table as the
-    /// pause left it. A racer has a number of its own from here to the next pause.
+    /// Lets the race go on, and returns it with its racers and its sweepers. The racers get their
+    /// logs back, which are empty if all was refined. They have stored nothing, and the sweepers
+    /// have swept nothing: the race begins with the table as the pause left it. A racer has a
+    /// number of its own from here to the next pause.
     ///
-    /// Takes no memory and cannot fail. Makes no step but one and those that split the seats.
+    /// Takes no memory and cannot fail. The only steps that it makes are those that split the
+    /// seats, and one more.
     pub fn resume(self) -> (Race, Vec<Racer>, Vec<Sweeper>)
         ensures layout { race_layout result.0 ≡ self.layout }
         ensures shape { race_shape result.0 ≡ self.shape }
@@ -60,17 +62,17 @@ impl Paused {
 }
 
 impl Race {
-    /// Opens a race that begins with a core's whole table, with 1 to 8 racers and 1 to 4 sweepers:
-    /// each slot refers to what it refers to in the core, the pending cards are dirty, and the
+    /// Opens a race that begins with a core's whole table, with 1 to 8 racers and 1 to 4 sweepers.
+    /// Each slot refers to what it refers to in the core, the pending cards are dirty, and the
     /// recorded pairs are recorded (docs/PROFILE.md, Racing stores).
     ///
-    /// No racer has stored and no sweeper has refined. A card that is dirty from the beginning
-    /// stands in no racer's log: a sweep of that card, or a drain after the race, refines it. The
-    /// settings and the refinement counts go with the core.
+    /// No racer has stored and no sweeper has refined. A card that is dirty from the beginning is
+    /// in no racer's log: a sweep of that card, or a drain after the race, refines it. The settings
+    /// and the refinement counts are dropped with the core.
     ///
-    /// Reads each slot once. Takes the memory of [`Paused::open`] and for the time of the call that
-    /// of the list of pairs. `NoMemory` where a growth was refused: the core comes back as it was,
-    /// but for its count of reads.
+    /// Reads each slot once. Takes the memory of [`Paused::open`] and, during the call, that of the
+    /// list of pairs. Returns `NoMemory` if memory was refused, with the core as it was, except for
+    /// its count of reads.
     pub fn resume(
         alloc: Global,
         mut core: Core,
@@ -93,8 +95,9 @@ impl Race {
         }
     }
 
-    /// As [`Race::resume`], and the core stays as it is, but for its count of reads: for a caller
-    /// that lets go of the core only once it has the memory for all that it does with the race.
+    /// Opens a race as [`Race::resume`] does, and the core stays as it is, except for its count of
+    /// reads. It is for a caller that drops the core only once it has the memory for all that it
+    /// does with the race.
     pub fn begin_from(
         alloc: Global,
         core: &mut Core,

@@ -1,4 +1,4 @@
-//! What is read and stored at a pause.
+//! What a pause reads and stores.
 ghost use Rattle.std.specs.Prelude.{◌≡◌, ℕ, ◌<◌, IfSome, slice_set};
 ghost use Rattle.std.specs.FinSet as set;
 ghost use mathlib.Core.Option.{some};
@@ -24,7 +24,7 @@ use g1_layout::{Card, Kind, Layout, Slot};
 use g1_race_words::Place;
 
 impl Paused {
-    /// What the slot refers to, or None for null. Reads one word.
+    /// Returns what a slot refers to, or `None` for null. Reads one word.
     pub fn target(&mut self, slot: Slot) -> Option<Slot>
         requires { slot < slot_count self.old.layout }
         ensures target { result ≡ target_of (halted self.old) slot }
@@ -35,7 +35,7 @@ impl Paused {
         target_of(&self.race, &mut self.seat, slot)
     }
 
-    /// Whether the card is pending: dirty, by a store or from the beginning. Reads one word.
+    /// Returns whether a card is pending: dirty, by a store or from the beginning. Reads one word.
     pub fn is_pending(&mut self, card: Card) -> bool
         requires { card < card_count self.old.layout }
         ensures pending { result ≡ set.contains (halted self.old).pending card }
@@ -45,9 +45,9 @@ impl Paused {
         is_dirty(&self.race, &mut self.seat, card)
     }
 
-    /// Stores a reference (or null) into the slot, as the collector itself does, and dirties the
-    /// slot's card where the reference crosses regions. No log has the card. Answers what kind of
-    /// store it is: `Logged` where the card was clean. Takes no memory.
+    /// Stores a reference (or null) into a slot, for the collector, and dirties the slot's card if
+    /// the reference crosses regions. No log gets the card. Returns the kind of the store: `Logged`
+    /// if the reference crosses regions and the card was clean. Takes no memory.
     pub fn store(&mut self, slot: Slot, target: Option<Slot>) -> Kind
         requires slot { slot < slot_count self.old.layout }
         requires target { IfSome target (λ place. place < slot_count self.old.layout) }

@@ -1,4 +1,4 @@
-//! Refinement that races with stores.
+//! Concurrent refinement, which races with stores.
 ghost use Rattle.std.specs.Prelude.{◌≡◌, ℕ, ◌+◌, ◌-◌, ◌*◌, ◌<◌, ◌≤◌, [], ◌∷◌, OnOk, OnErr};
 ghost use Rattle.std.specs.Result.{IsOk};
 ghost use Rattle.g1_race_words.specs.Rule.{IsPair, start_of};
@@ -12,14 +12,15 @@ use g1_layout::{Card, NoMemory};
 use g1_race_words::Place;
 
 impl Sweeper {
-    /// Refines a card: swaps its mark to clean, and then reads each of its slots in order and
-    /// records the pair (card, region) of each reference into another region, whether the card was
-    /// dirty or not.
+    /// Refines a card, whether it is dirty or not. Swaps its mark to clean, then reads each of its
+    /// slots in order, and records the pair (card, region) of each reference into another region.
     ///
-    /// A store to the card that comes too late to be read dirties it again, so nothing is lost. A
-    /// pair is recorded by its bit among the words of the race, which is looked at first and set in
-    /// one step where it is clear. Takes no memory, so the answer is always `Ok`, and waits for
-    /// nobody. The sweeper and the card must be of this race.
+    /// A store of a reference into another region that comes too late to be read dirties the card
+    /// again, so nothing is lost. A pair is recorded by its bit among the words of the race. The
+    /// bit is read first, and set in one step if it is clear.
+    ///
+    /// Takes no memory, so it always returns `Ok`, and never waits. Any other member may make its
+    /// calls concurrently. The sweeper and the card must be of this race.
     pub fn refine(&mut self, race: &Race, card: Card) -> Result<(), NoMemory>
         requires race { sweeper_race self.old ≡ race_id race.now }
         requires card { card < card_count (race_layout race.now) }
@@ -52,7 +53,7 @@ fn sweep(race: &Race, seat: &mut Place, card: usize)
     }
 }
 
-// Records the pair of a slot's word, where it refers into another region.
+// Records the pair of a slot's word, if it refers into another region.
 fn note_slot(race: &Race, seat: &mut Place, slot: u32, word: u32)
     requires slot { slot < slot_count race.now.layout }
     requires word { word ≤ slot_count race.now.layout }
@@ -79,7 +80,7 @@ fn note_slot(race: &Race, seat: &mut Place, slot: u32, word: u32)
     );
 }
 
-// Sees that the bit of the pair is set.
+// Makes sure that the bit of the pair is set.
 fn record_pair(race: &Race, seat: &mut Place, card: usize, region: usize)
     requires pair { IsPair race.now.shape (card, region) }
     requires seat { Holding race.now.table.table_id race.now.shape (card, region) seat.old }

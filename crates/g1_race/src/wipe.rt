@@ -1,4 +1,4 @@
-//! A region that is freed: its slots are nulled.
+//! A region is freed: its slots are nulled.
 ghost use Rattle.std.specs.Prelude.{◌≡◌, ℕ, ◌+◌, ◌*◌, ◌<◌, ◌≤◌, None};
 ghost use mathlib.Core.Option.{some};
 ghost use lib.ListN.{get_elem?};

@@ -1,4 +1,4 @@
-//! The steps of a pause, by the one seat that has the weight of all members.
+//! The steps of a pause. The one seat that has the weight of all members makes them.
 ghost use Rattle.std.specs.Prelude.{◌≡◌, ◌<◌, slice_set};
 ghost use Rattle.g1_race_words.specs.Rule.{AtRest, IsBegun, start, word_count};
 ghost use Rattle.g1_race_words.specs.Steps.{thawed};
@@ -36,8 +36,8 @@ impl Play<(), View> for Sets {
 }
 
 impl RaceTable {
-    /// The seat that all the others joined learns all the words, and what they are to the beginning
-    /// of the race. No word changes.
+    /// The seat that all the others joined learns all the words, and how they follow from the
+    /// beginning of the race. No word changes.
     pub fn freeze(&self, seat: &mut Place)
         requires table { seat.old.table_id ≡ self.now.table_id }
         requires all { seat.old.me.0.weight ≡ self.now.shape.members }
@@ -57,8 +57,8 @@ impl RaceTable {
         self.table.shared.load::<Thaws>(&mut seat.seat, 0);
     }
 
-    /// Writes a word at a pause, and nothing else, where the words are still what a race can begin
-    /// with.
+    /// Writes a word at a pause, and nothing else. With it, the words must still be words that a
+    /// race can begin with.
     pub fn put(&self, seat: &mut Place, word: usize, new: u64)
         requires seat { IsPaused self.now.table_id self.now.shape seat.old }
         requires word { word < word_count self.now.shape }

@@ -56,8 +56,9 @@ impl Play<(), View> for Dirties {
 }
 
 impl RaceTable {
-    /// A racer that owes nothing writes the slot. Where the reference crosses regions, it owes the
-    /// slot's card from then on.
+    /// Writes a slot, for a racer that owes no card. `word` is 0 for null, or the number of the
+    /// target slot plus 1. If the reference crosses regions, the racer owes the slot's card from
+    /// then on.
     pub fn write(&self, seat: &mut Place, slot: usize, word: u64)
         requires table { seat.old.table_id ≡ self.now.table_id }
         requires racer { Sits self.now.shape seat.old.me.0
@@ -73,8 +74,8 @@ impl RaceTable {
             .store::<Writes>(&mut seat.seat, slot, word);
     }
 
-    /// A racer looks at the mark of the card that it owes, which it owes no more where the mark is
-    /// dirty. Returns the mark.
+    /// Reads the mark of the card that a racer owes, and returns it. If the mark is dirty, the
+    /// racer owes the card no more.
     pub fn look(&self, seat: &mut Place, mark: usize) -> u64
         requires table { seat.old.table_id ≡ self.now.table_id }
         requires racer { Sits self.now.shape seat.old.me.0 }
@@ -85,8 +86,8 @@ impl RaceTable {
         self.table.shared.load::<Looks>(&mut seat.seat, mark)
     }
 
-    /// A racer looks at the word with the flag of the card that it owes, and then knows the flag to
-    /// be set where it is. Returns the word. It touches no slot and no mark.
+    /// Reads the word with the flag of the card that a racer owes, and returns the word. If the
+    /// flag is set in it, the racer knows that it is set. The call touches no slot and no mark.
     pub fn spot(&self, seat: &mut Place, word: usize) -> u64
         requires table { seat.old.table_id ≡ self.now.table_id }
         requires racer { Sits self.now.shape seat.old.me.0 }
@@ -97,8 +98,8 @@ impl RaceTable {
         self.table.shared.load::<Spots>(&mut seat.seat, word)
     }
 
-    /// A racer sets the flag of the card that it owes, and knows it to be set. It touches no slot
-    /// and no mark.
+    /// Sets the flag of the card that a racer owes: the bit `place` of the word. The racer then
+    /// knows that the flag is set. The call touches no slot and no mark.
     pub fn raise(&self, seat: &mut Place, word: usize, place: u32)
         requires table { seat.old.table_id ≡ self.now.table_id }
         requires racer { Sits self.now.shape seat.old.me.0 }
@@ -112,9 +113,9 @@ impl RaceTable {
             .fetch_or::<Raises>(&mut seat.seat, word, 1 << place);
     }
 
-    /// A racer swaps the mark of the card that it owes to dirty, and owes it no more. It knows the
-    /// card's flag to be set before. Returns the mark as it was: where it was clean, the racer has
-    /// claimed the card.
+    /// Swaps the mark of the card that a racer owes to dirty, and returns the mark as it was. The
+    /// racer must know that the card's flag is set. It owes the card no more. If the mark was
+    /// clean, the racer has claimed the card.
     pub fn dirty(&self, seat: &mut Place, mark: usize) -> u64
         requires table { seat.old.table_id ≡ self.now.table_id }
         requires racer { Sits self.now.shape seat.old.me.0 }

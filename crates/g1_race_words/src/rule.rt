@@ -2,7 +2,7 @@
 use crate::view::{Shape, View};
 use atomic_table::TableRule;
 
-/// The rule that the words and the views keep (`Going` of `specs/Rule.antt`).
+/// The rule that the words and the views keep (`Going` in `specs/Rule.antt`).
 pub struct RaceRule;
 
 impl TableRule<(), View, Shape> for RaceRule {

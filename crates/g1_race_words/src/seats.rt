@@ -1,4 +1,4 @@
-//! How seats come, are split off and are joined. No word changes.
+//! How seats are made, split and joined. No word changes.
 ghost use Rattle.std.specs.Prelude.{◌≡◌, []};
 ghost use Rattle.g1_race_words.specs.Rule.{AtRest, null_of};
 ghost use Rattle.g1_race_words.specs.Steps.{blank, both, lighter, new_racer, new_sweeper};
@@ -49,7 +49,7 @@ impl Play<(), View> for Comes {
 }
 
 impl RaceTable {
-    /// A new seat, which has no weight and answers for nothing.
+    /// Makes a new seat. Its weight is 0, and its view is blank.
     pub fn enter(&self) -> Place
         ensures table { result.table_id ≡ self.now.table_id }
         ensures view { result.me ≡ (blank (null_of self.now.shape) 0 [], []) }
@@ -58,7 +58,7 @@ impl RaceTable {
         Place { seat }
     }
 
-    /// A racer with a number of its own gets its share of the seat of a pause that ends.
+    /// Splits a racer's seat off the seat of a pause that ends. The racer has a number of its own.
     pub fn split_racer(&self, chair: &mut Place) -> Place
         requires table { chair.old.table_id ≡ self.now.table_id }
         requires chair { IsChair chair.old.me.0 }
@@ -72,7 +72,7 @@ impl RaceTable {
         }
     }
 
-    /// A sweeper gets its share of the seat of a pause that ends.
+    /// Splits a sweeper's seat off the seat of a pause that ends.
     pub fn split_sweeper(&self, chair: &mut Place) -> Place
         requires table { chair.old.table_id ≡ self.now.table_id }
         requires chair { IsChair chair.old.me.0 }
@@ -86,7 +86,8 @@ impl RaceTable {
         }
     }
 
-    /// One seat takes in what a member at rest knows.
+    /// Joins the seat of a member at rest to another seat, which takes in what the member knows.
+    /// The member's seat is used up.
     pub fn join(&self, seat: &mut Place, other: Place)
         requires table { (seat.old.table_id ≡ self.now.table_id)
             × (other.table_id ≡ self.now.table_id) }

@@ -1,4 +1,4 @@
-//! The readers of a pause: seats that share what its one seat knows.
+//! The readers of a pause: seats that share what the pause's one seat knows.
 ghost use Rattle.std.specs.Prelude.{◌≡◌, ◌<◌, []};
 ghost use mathlib.Core.Option.{some};
 ghost use lib.ListN.{get_elem?};
@@ -33,7 +33,7 @@ impl Play<(), View> for Sees {
 }
 
 impl RaceTable {
-    /// A reader gets its share of the seat of a pause. No word can change until all readers have
+    /// Splits a reader's seat off the seat of a pause. No word can change until all readers have
     /// joined that seat again.
     pub fn split_reader(&self, chair: &mut Place) -> Place
         requires chair { IsLent self.now.table_id self.now.shape chair.old }
@@ -48,7 +48,7 @@ impl RaceTable {
         }
     }
 
-    /// Reads a word at a pause, which is what the seat knows it to be.
+    /// Reads a word at a pause, and returns it. It is the word that the seat knows.
     pub fn see(&self, seat: &mut Place, word: usize) -> u64
         requires seat { IsReading self.now.table_id self.now.shape seat.old }
         requires word { word < word_count self.now.shape }

@@ -47,8 +47,8 @@ impl Play<(), View> for Records {
 }
 
 impl RaceTable {
-    /// A sweeper that has nothing left to read swaps a mark to clean, and then has each slot of the
-    /// card to read. Returns the mark as it was.
+    /// Swaps a mark to clean, for a sweeper that has nothing left to read, and returns the mark as
+    /// it was. The sweeper then has each slot of the card to read.
     pub fn clean(&self, seat: &mut Place, mark: usize) -> u64
         requires table { seat.old.table_id ≡ self.now.table_id }
         requires sweeper { Sits self.now.shape seat.old.me.0 }
@@ -61,8 +61,8 @@ impl RaceTable {
         self.table.shared.swap::<Cleans>(&mut seat.seat, mark, 0)
     }
 
-    /// A sweeper that holds no pair reads the next slot. It holds the slot's pair from then on,
-    /// where the reference crosses regions. Returns the slot's word.
+    /// Reads the next slot, for a sweeper that holds no pair, and returns the slot's word. If the
+    /// reference crosses regions, the sweeper holds the slot's pair from then on.
     pub fn read(&self, seat: &mut Place, slot: usize) -> u64
         requires table { seat.old.table_id ≡ self.now.table_id }
         requires sweeper { Sits self.now.shape seat.old.me.0 }
@@ -76,8 +76,8 @@ impl RaceTable {
         self.table.shared.load::<Reads>(&mut seat.seat, slot)
     }
 
-    /// A sweeper looks at the word with the bit of the pair that it holds, which it holds no more
-    /// where the bit is set. Returns the word. It touches no slot and no mark.
+    /// Reads the word with the bit of the pair that a sweeper holds, and returns the word. If the
+    /// bit is set in it, the sweeper holds the pair no more. The call touches no slot and no mark.
     pub fn seek(&self, seat: &mut Place, word: usize) -> u64
         requires table { seat.old.table_id ≡ self.now.table_id }
         requires sweeper { Sits self.now.shape seat.old.me.0 }
@@ -88,8 +88,8 @@ impl RaceTable {
         self.table.shared.load::<Seeks>(&mut seat.seat, word)
     }
 
-    /// A sweeper sets the bit of the pair that it holds, and holds it no more. It touches no slot
-    /// and no mark.
+    /// Sets the bit of the pair that a sweeper holds: the bit `place` of the word. The sweeper
+    /// holds the pair no more. The call touches no slot and no mark.
     pub fn record(&self, seat: &mut Place, word: usize, place: u32)
         requires table { seat.old.table_id ≡ self.now.table_id }
         requires sweeper { Sits self.now.shape seat.old.me.0 }

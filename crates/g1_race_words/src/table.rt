@@ -14,7 +14,7 @@ use std::marker::Model;
 /// The words of a race: one for each slot, one for each card's mark, a row of bits for each region,
 /// and a row of flags, one for each eight cards. Threads share it by `&`.
 ///
-/// Its model is which table it is, and the shape of its heap.
+/// Its model has the identity of the table and the shape of its heap.
 #[derive(Drop)]
 pub struct RaceTable {
     pub(crate) table: Table<(), View, Shape, RaceRule, Global>,
@@ -36,7 +36,7 @@ impl Model for RaceTable {
 
 /// A seat at the words of a race. It has no bytes.
 ///
-/// Its model is the table that it is at, and what its thread knows.
+/// Its model has the identity of its table, and what its thread knows.
 #[derive(Drop)]
 pub struct Place {
     pub(crate) seat: Seat<(), View>,
@@ -55,9 +55,10 @@ impl Model for Place {
 }
 
 impl RaceTable {
-    /// The words of a heap at a pause, all 0, and the one seat at them.
+    /// Makes the words of a heap at a pause, all 0, and the one seat at them.
     ///
-    /// Takes 8 bytes for each word, twice while it begins. On an error nothing is left of it.
+    /// Takes 8 bytes a word, twice while it begins. Returns `AllocError` if memory was refused:
+    /// nothing is left of the table.
     pub fn open(alloc: Global, shape: Shape) -> Result<(RaceTable, Place), AllocError>
         requires shape { IsShape shape }
         requires members { 0 < shape.members }
@@ -70,7 +71,7 @@ impl RaceTable {
         Ok((RaceTable { table }, Place { seat }))
     }
 
-    /// Ends the race at a pause: the words stay, as the seat knew them.
+    /// Ends the race at a pause, and returns the words as the seat knew them.
     pub fn close(self, seat: Place) -> Closed<(), Global>
         requires seat { IsPaused self.table_id self.shape seat }
         ensures words { slots_items result.words ≡ seat.me.0.began_words }

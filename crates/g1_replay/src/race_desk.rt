@@ -31,9 +31,9 @@ pub(crate) enum Member {
 /// A race and a queue of completed buffers, and one of their members.
 ///
 /// A racer's log is put into the queue once as many cards as fill it were logged since it was last
-/// taken, and at a flush. If the queue does not take it, the log is given up: its cards stay dirty,
-/// so a drain after the race finds them. A call that is not one of its member's changes nothing and
-/// returns an empty reply.
+/// taken, and at a flush. If the queue does not take it, the log is given up. Each of its cards
+/// stays dirty until it is refined, by a drain after the race at the latest. A call that is not one
+/// of its member's changes nothing and returns an empty reply.
 #[derive(Drop)]
 pub(crate) struct RaceDesk<'a, R> {
     rt: &'a R,

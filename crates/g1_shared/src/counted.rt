@@ -159,8 +159,8 @@ impl<M: Frame, S: Ledger> Counted<M, S> {
 
     /// Stores a reference, or null, with this caller's log, as `Book::store` does.
     ///
-    /// The caller is a mutator. The cards of a buffer that is handed out stay pending as long as
-    /// nothing refines it.
+    /// The caller is a mutator. Each card of a buffer that is handed out stays pending until it is
+    /// refined.
     pub fn store(
         &mut self,
         caller: &mut Caller<M, S>,

@@ -84,7 +84,7 @@ impl<M: Frame, S: Ledger> CountedCore<M, S> {
 
     /// As the core's store, by this caller and with its log.
     ///
-    /// The cards of a buffer that is handed out stay pending while nobody refines it.
+    /// Each card of a buffer that is handed out stays pending until it is refined.
     pub fn store(
         &mut self,
         caller: &mut Caller<M, S>,

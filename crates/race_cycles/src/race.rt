@@ -116,7 +116,8 @@ fn seed_of(number: u32, racer: usize) -> u64 {
         .wrapping_mul(0x9E37_79B9_7F4A_7C15)
 }
 
-// A racer's stores, all over the heap. A full log is dropped: its cards stay dirty.
+// A racer's stores, all over the heap. A full log is dropped: each of its cards stays dirty until
+// it is refined.
 fn store_each(race: &Race, racer: &mut Racer, stores: u32, seed: u64)
     requires { racer_race racer.old ≡ race_id race.now }
     ensures { racer_race racer.new ≡ racer_race racer.old }

@@ -14,8 +14,8 @@ use std::thread::{self, Threads};
 /// The cards of a full log.
 pub type Buffer = ArrayVec<Card, 256>;
 
-/// What one mutator stores: to every second slot from the first number on a reference to each place
-/// in turn from the second one on, or null, so many times.
+/// What one mutator stores: the number of the first slot, that of the first place, or `None` for
+/// null, and how many stores. The stores go to every second slot, with each place in turn.
 pub type Stores = (u32, Option<u32>, u32);
 
 /// Runs the race up to its next pause: each racer stores and each sweeper refines in a thread of
@@ -71,8 +71,8 @@ fn store_all<R: Threads + Wait + Sync>(
     racers
 }
 
-// A racer's stores. A full log is handed on; one that the queue has no memory for is let go of, and
-// as its cards stay dirty, the next pause refines them.
+// A racer's stores. A full log is handed on. One that the queue has no memory for is dropped: each
+// of its cards stays dirty until it is refined, by the next pause at the latest.
 fn store_each(rt: &impl Wait, race: &Race, racer: &mut Racer, stores: &Stores, to: &Sender<Buffer>)
     requires { racer_race racer.old ≡ race_id race.now }
     ensures { racer_race racer.new ≡ racer_race racer.old }

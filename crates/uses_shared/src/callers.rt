@@ -64,8 +64,9 @@ fn run_one<R: Wait, M: Frame, S: Ledger>(
     Ok(caller)
 }
 
-// A mutator's stores. A full log goes into the queue, or if that is full, the mutator refines it.
-// What is left in its log at the end stays pending by its mark, so the pause's drain finds it.
+// A mutator's stores. A full log goes into the queue, or if that is full, the mutator refines it. A
+// card that is left in its log at the end is pending by its mark until it is refined, by the
+// pause's drain at the latest.
 fn store_each<R: Wait, M: Frame, S: Ledger>(
     rt: &R,
     shared: &Shared<M, S>,

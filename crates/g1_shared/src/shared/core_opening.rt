@@ -99,8 +99,8 @@ impl<M: Frame, S: Ledger> SharedCore<M, S> {
     /// Ends the sharing: returns the core with its totals, once all callers are handed in.
     ///
     /// As many calls were made as its callers have made, and as many stores as they have stored.
-    /// What is left in logs and queue is given up: the cards stay pending by their marks. It takes
-    /// no memory.
+    /// What is left in logs and queue is given up: each card there is pending by its mark, unless
+    /// it was refined meanwhile. It takes no memory.
     pub fn finish(self, callers: Vec<Caller<M, S>>) -> (Core, Totals)
         requires some { 0 < vec_len callers }
         requires made { vec_len callers ≡ M.parts }

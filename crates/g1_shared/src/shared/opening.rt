@@ -77,8 +77,8 @@ impl<M: Frame, S: Ledger> Shared<M, S, Counted<M, S>> {
     /// history under a lock).
     ///
     /// The book has as many entries as its callers have made, and as many stores among them as they
-    /// have stored. What is left in logs and queue is given up: the cards stay pending by their
-    /// marks. No memory is taken.
+    /// have stored. What is left in logs and queue is given up: each card there is pending by its
+    /// mark, unless it was refined meanwhile. No memory is taken.
     pub fn finish(self, callers: Vec<Caller<M, S>>) -> Book
         requires some { 0 < vec_len callers }
         requires made { vec_len callers ≡ M.parts }

@@ -91,7 +91,8 @@ impl<M: Frame, S: Ledger, K: Keeper<M, S>> Shared<M, S, K> {
     /// Takes the oldest completed buffer and refines it by a call under the lock (`refine`). If the
     /// queue was empty, the call refines nothing.
     ///
-    /// If the call is refused, a buffer that was taken is given up, and its cards stay pending.
+    /// If the call is refused, a buffer that was taken is given up. Each of its cards is then
+    /// pending by its mark, unless it was refined meanwhile.
     pub fn refine<R: Wait>(&self, rt: &R, caller: &mut Caller<M, S>) -> Result<RefineReply, Refusal>
         requires mine { IsCallerOf self.now caller.old }
         ensures mark { mark_of caller.new ≡ mark_of caller.old }
@@ -159,8 +160,9 @@ impl<M: Frame, S: Ledger, K: Keeper<M, S>> Shared<M, S, K> {
     }
 
     /// Makes a pause, once the mutators are stopped. It empties the logs of the given callers, and
-    /// the queue by the taker of the first (`empty_line`). It makes no call, so the cards stay
-    /// pending and a drain finds each of them.
+    /// the queue by the taker of the first (`empty_line`). It makes no call. Each card that was
+    /// there is pending by its mark, unless it was refined meanwhile, and a drain refines each that
+    /// is pending.
     ///
     /// With no callers it does nothing. It takes no lock and no memory.
     pub fn pause<R: Wait>(&self, rt: &R, callers: &mut [Caller<M, S>])

@@ -51,9 +51,9 @@ impl Mutator {
     /// `fill` is `No`, and the reply is that of the one call.
     ///
     /// The store is made whatever becomes of the buffer. A help that is refused makes the reply
-    /// short, and the cards stay pending. Returns `Err` if the store itself was refused; calls, log
-    /// and sender are then as they were. A store that fills no log is one call, and doesn't touch
-    /// the queue.
+    /// short. Each card of the buffer is then pending by its mark, unless it was refined meanwhile.
+    /// Returns `Err` if the store itself was refused; calls, log and sender are then as they were.
+    /// A store that fills no log is one call, and doesn't touch the queue.
     pub fn store<C: Calls, R: Wait>(
         &mut self,
         rt: &R,
@@ -125,7 +125,8 @@ impl Mutator {
     /// a filled log (docs/PROFILE.md, The steps of a caller).
     ///
     /// `cards` is how many cards left the log. A flush is never refused, and makes a call only if
-    /// it helps. A help that is refused makes the reply short, and the cards stay pending.
+    /// it helps. A help that is refused makes the reply short. Each of the cards is then pending by
+    /// its mark, unless it was refined meanwhile.
     pub fn flush<C: Calls, R: Wait>(&mut self, rt: &R, line: &Line, calls: &mut C) -> FlushReply
         requires line { IsSenderOf line.now self.old.sender }
         ensures flushed { IsFlushed C.did calls.old self.old.log.cards result calls.new }
@@ -148,7 +149,8 @@ impl Mutator {
         }
     }
 
-    /// Gives up the cards of the log. They stay pending.
+    /// Gives up the cards of the log. Each of them is pending by its mark, unless it was refined
+    /// meanwhile.
     pub fn stop(&mut self)
         ensures { IsStopped self.old self.new }
     {

@@ -27,7 +27,8 @@ pub(crate) fn completed<R: Wait>(rt: &R, line: &Line) -> u32
 /// empty, the call refines nothing (docs/PROFILE.md, The steps of a caller).
 ///
 /// `left` is how many buffers the queue held at some moment after the take. If the call is refused,
-/// a buffer that was taken is given up, and its cards stay pending.
+/// a buffer that was taken is given up. Each of its cards is then pending by its mark, unless it
+/// was refined meanwhile.
 #[tactic(auto, using(crate::proofs::StepLemmas::gains_nothing, crate::proofs::StepLemmas::gains_single))]
 pub fn refine<C: Calls, R: Wait>(
     rt: &R,

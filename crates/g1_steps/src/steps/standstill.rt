@@ -10,8 +10,8 @@ use g1_log::{Line, Parcel, Taker};
 use std::sync::Wait;
 
 /// Empties the logs of mutators that are stopped, and the queue by this taker (`empty_line`). It
-/// makes no call, so the cards stay pending and a drain finds each of them (docs/PROFILE.md, The
-/// steps of a caller).
+/// makes no call. Each card that was there is pending by its mark, unless it was refined meanwhile,
+/// and a drain refines each that is pending (docs/PROFILE.md, The steps of a caller).
 pub fn stand_still<R: Wait>(rt: &R, line: &Line, taker: &mut Taker, mutators: &mut [Mutator])
     requires taker { IsTakerOf line.now taker.old }
     ensures stopped { (k : ℕ) (d : M) → k < length mutators.old
@@ -26,7 +26,8 @@ pub fn stand_still<R: Wait>(rt: &R, line: &Line, taker: &mut Taker, mutators: &m
 }
 
 /// Takes buffers from the queue until it is seen empty, at most as many as it holds, and gives them
-/// up. It makes no call, so the cards stay pending.
+/// up. It makes no call. Each of their cards is pending by its mark, unless it was refined
+/// meanwhile.
 ///
 /// If nothing is put meanwhile, the queue is then empty.
 #[tactic(auto, using(crate::proofs::StepLemmas::gains_no_more, crate::proofs::StepLemmas::gains_one_more, crate::proofs::StepLemmas::empties_full, crate::proofs::StepLemmas::empties_found))]
