@@ -1,0 +1,101 @@
+//! A core that is shared without a history: sharing it, and a question at its guard, take memory.
+ghost use Rattle.std.specs.Prelude.{◌≡◌, None, IfOk, IfErr};
+ghost use Rattle.g1_shared.specs.Totals.{core_terms};
+
+use crate::cores::steps::Step::{Refine, Store};
+use crate::cores::steps::take;
+use crate::cores::{is_left, new_core, state_of};
+use crate::numbers::{numbers_of, region};
+use crate::outcome::{Failure, check, refused};
+use crate::race::REFERENCES;
+use g1_book::Refusal;
+use g1_core::Core;
+use g1_layout::NoMemory;
+use g1_shared::{Caller, Frame, Keeper, SharedCore, Totals};
+use std::alloc::Global;
+use std::marker::Brand;
+use std::sync::Wait;
+use std::sync::ledger::{Blank, Ledger};
+
+/// A core whose three cards are recorded is shared, and asked for a region's members. It is as it
+/// was where the sharing is refused, and where it ends.
+pub(crate) fn asked_and_ended<R: Wait + Eprint + AllocGlobal>(rt: &R) -> Result<(), Failure> {
+    let mut core = new_core(rt, 4, 4)?;
+    let steps = [Store(&REFERENCES), Refine(&[0, 1, 2], &[0, 1, 2], 0)];
+    take(rt, &mut core, &steps)?;
+    let before = state_of(&mut core)?;
+    let mut core = match shared_once(rt, rt.alloc(), core)? {
+        Ok(core) => core,
+        Err(mut core) => {
+            refused(rt, "Shared::open_core");
+            is_left(rt, &mut core, &before, &[])?;
+            match shared_once(rt, rt.alloc(), core)? {
+                Ok(core) => core,
+                Err(_) => return Err(Failure::NoMemory),
+            }
+        }
+    };
+    is_left(rt, &mut core, &before, &[])
+}
+
+// Shares the core once. Where that is refused, the core is the error.
+fn shared_once<R: Wait + Eprint>(
+    rt: &R,
+    alloc: Global,
+    core: Core,
+) -> Result<Result<Core, Core>, Failure>
+    ensures { IfOk result (λ ended. IfErr ended (λ back. back ≡ core)) }
+{
+    let (made, stored) = (Blank::new(1), Blank::new(1));
+    share::<Brand, Brand, R>(rt, alloc, made, stored, core)
+}
+
+// Shares the core with one caller, who asks once, and ends the sharing.
+fn share<M: Frame, S: Ledger, R: Wait + Eprint>(
+    rt: &R,
+    alloc: Global,
+    made: Blank,
+    stored: Blank,
+    core: Core,
+) -> Result<Result<Core, Core>, Failure>
+    requires made { (made.name ≡ M.name) × (made.parts ≡ M.parts) × (made.parts ≡ 1) }
+    requires stored { (stored.name ≡ S.name) × (stored.parts ≡ S.parts) × (stored.parts ≡ 1) }
+    requires terms { core_terms core 1 None ≡ M.terms }
+    ensures { IfOk result (λ ended. IfErr ended (λ back. back ≡ core)) }
+{
+    let opened = SharedCore::<M, S>::open_core(alloc, made, stored, core, 1, None, 1);
+    let (shared, mut callers) = match opened {
+        Ok(opened) => opened,
+        Err((core, NoMemory)) => return Ok(Err(core)),
+    };
+    let mut caller = callers.take_last();
+    if has_members(rt, &shared, &mut caller)? == Err(Refusal::NoMemory) {
+        refused(rt, "CountedCore::members");
+        let is_uncounted = caller.made() == 0 && shared.lock(rt).totals().made == 0;
+        check(rt, is_uncounted, "a refused call was counted")?;
+        has_members(rt, &shared, &mut caller)??;
+    }
+    callers.push_reserved(caller);
+    let (core, totals) = shared.finish(callers);
+    let one = Totals { made: 1, stored: 0 };
+    check(rt, totals == one, "the totals of a shared core")?;
+    Ok(Ok(core))
+}
+
+// Asks the guard for the members of the region that cards 0 and 2 refer into.
+fn has_members<M: Frame, S: Ledger, R: Wait + Eprint>(
+    rt: &R,
+    shared: &SharedCore<M, S>,
+    caller: &mut Caller<M, S>,
+) -> Result<Result<(), Refusal>, Failure> {
+    let mut guard = shared.lock(rt);
+    let of = region(&guard.core().layout(), 3)?;
+    let cards = match guard.members(caller, of) {
+        Ok(cards) => cards,
+        Err(refusal) => return Ok(Err(refusal)),
+    };
+    let cards = numbers_of(cards.as_slice())?;
+    let is = cards.as_slice() == [0, 2].as_slice();
+    check(rt, is, "the members of a shared core's region")?;
+    Ok(Ok(()))
+}
