@@ -1,36 +1,29 @@
-//! Replays the examples and says which of them print what their files say
-//! (crates/examples/data/README.md).
+//! Replays the worked traces of its folder `data/`, and says how many print and end as their files
+//! say (crates/examples/data/README.md).
 #![tactic(auto)]
 
-use g1_replay::{End, Mode, crew, race, read_options, run};
+use g1_replay::{Mode, crew, race, read_options, run};
 use std::fs::{self, Files};
 use std::io;
 use std::sync::Wait;
 use std::thread::Threads;
 
-static NAMES: [&str; 11] = [
-    "one_reference",
-    "hot_card",
-    "full_line_and_help",
-    "round_of_work",
-    "cleared_and_redirected",
-    "crew_of_two",
-    "race_of_two",
-    "full_history",
-    "fault",
-    "recorded_compiler",
-    "recorded_threads",
-];
-
 fn main(rt: HostRuntime) -> io::Result<()> {
-    for name in NAMES {
+    let mut count = 0u32;
+    let mut agreed = 0u32;
+    for entry in fs::read_dir(&rt, ".")? {
+        let entry = entry?;
+        let Some(name) = entry.file_name().strip_suffix(".trace") else {
+            continue;
+        };
+        count = count.saturating_add(1);
         if is_as_written(&rt, name)? {
-            println!(rt; "{name}: as written")?;
+            agreed = agreed.saturating_add(1);
         } else {
             println!(rt; "{name}: not as written")?;
         }
     }
-    Ok(())
+    println!(rt; "{agreed} of {count} traces are as written")
 }
 
 // What is printed, and the end, are those that are written beside the trace.
@@ -62,7 +55,7 @@ fn is_as_written<R: Files + Threads + Wait + Sync + AllocGlobal>(
     Ok(printed.as_slice() == wanted.as_bytes() && status.as_str() == ended.as_str())
 }
 
-// One file of an example.
+// One file of a trace.
 fn part<R: Files + AllocGlobal>(rt: &R, name: &str, kind: &str) -> io::Result<String> {
     let path = format!(in rt.alloc(); "{name}.{kind}")?;
     fs::read_to_string(rt, path.as_str())

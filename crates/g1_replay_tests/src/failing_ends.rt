@@ -1,5 +1,4 @@
 //! Inputs and outputs that fail or end early, and what is written then.
-use crate::played::without_rounds;
 use crate::streams::{Narrow, failing_after};
 use g1_replay::{End, Options, run};
 use std::io::BufReader;
@@ -8,13 +7,6 @@ use std::sync::Wait;
 use std::test::Fail;
 
 pub(crate) const TRACE: &[u8] = b"heap 4 2 4\nstore 0 0 8\ndrain 1\n";
-
-/// What a replay of these bytes writes, and its end.
-fn replayed<R: Wait + AllocGlobal>(rt: &R, mut bytes: &[u8], options: &Options) -> (Vec<u8>, End) {
-    let mut output: Vec<u8> = Vec::new(rt.alloc());
-    let end = run(rt, rt.alloc(), &mut bytes, &mut output, options);
-    (output, end)
-}
 
 /// One byte a read and one byte a write change nothing.
 #[test]
@@ -113,34 +105,18 @@ fn cut(length: usize) -> (&'static [u8], End) {
 #[test]
 fn every_beginning(rt: HostRuntime) -> Result<(), Fail> {
     for length in 0..=TRACE.len() {
-        let (printed, end) = replayed(&rt, &TRACE[..length], &Options::default());
+        let mut input = &TRACE[..length];
+        let mut printed: Vec<u8> = Vec::new(rt.alloc());
+        let end = run(
+            &rt,
+            rt.alloc(),
+            &mut input,
+            &mut printed,
+            &Options::default(),
+        );
         let (wanted, wanted_end) = cut(length);
         assert!(rt; printed.as_slice() == wanted, "{length}");
         assert_eq!(rt; end, wanted_end, "{length}");
     }
-    Ok(())
-}
-
-/// A full book stops the replay at the call that it has no room for.
-#[test]
-fn full_book(rt: HostRuntime) -> Result<(), Fail> {
-    let (printed, end) = replayed(&rt, TRACE, &without_rounds(1));
-    assert_eq!(rt; end, End::Stopped);
-    assert!(rt; printed.as_slice() == b"logged\nbook full\n".as_slice());
-    Ok(())
-}
-
-/// Carriage returns belong to words, NUL is no digit, and 10,000 bytes are too long.
-#[test]
-fn strange_bytes(rt: HostRuntime) -> Result<(), Fail> {
-    let (printed, end) = replayed(&rt, b"heap 4 2 4\r\n", &Options::default());
-    assert_eq!(rt; end, End::Refused);
-    assert!(rt; printed.as_slice() == b"line 1: not a number\n".as_slice());
-    let (printed, end) = replayed(&rt, b"heap 4 2 4\ndrain \0\n", &Options::default());
-    assert_eq!(rt; end, End::Refused);
-    assert!(rt; printed.as_slice() == b"line 2: not a number\n".as_slice());
-    let (printed, end) = replayed(&rt, &[b'1'; 10_000], &Options::default());
-    assert_eq!(rt; end, End::Refused);
-    assert!(rt; printed.as_slice() == b"line 1: too long\n".as_slice());
     Ok(())
 }

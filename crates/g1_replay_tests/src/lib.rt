@@ -1,15 +1,17 @@
-//! Tests of `g1_replay` through its public calls: what no clause says, as texts, that calls succeed, and traces that were worked out
-//! by hand.
+//! Tests of `g1_replay` through its public calls, which no file of a trace can show: readers and
+//! writers that fail, tables of lines, and the texts of the command line. The worked traces are
+//! files, and the crate `examples` replays them.
 //!
-//! They stand in a crate of their own so that a proof of the tests does not prove the replays again.
+//! They stand in a crate of their own so that a proof of the tests does not prove the replays
+//! again.
 #![tactic(auto)]
 
 #[cfg(test)]
 mod answers;
 #[cfg(test)]
-mod crew;
-#[cfg(test)]
 mod crew_and_run;
+#[cfg(test)]
+mod crews_and_races;
 #[cfg(test)]
 mod failing_ends;
 #[cfg(test)]
@@ -23,14 +25,8 @@ mod options;
 #[cfg(test)]
 mod played;
 #[cfg(test)]
-mod race;
-#[cfg(test)]
 mod reading;
-#[cfg(test)]
-mod refused_traces;
 #[cfg(test)]
 mod spellings;
 #[cfg(test)]
 mod streams;
-#[cfg(test)]
-mod worked_traces;

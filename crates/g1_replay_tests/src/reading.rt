@@ -1,76 +1,12 @@
-//! Traces that were read by hand, line by line.
-use crate::played::{is_played, two_mutators, without_rounds};
+//! How far a replay reads: long lines, and what it leaves behind the line that ends it.
+use crate::played::without_rounds;
 use crate::streams::failing_after;
-use g1_replay::{End, Mode, Options, run};
+use g1_replay::{End, Options, run};
 use std::alloc::Global;
 use std::io;
 use std::io::{BufReader, Read};
 use std::sync::Wait;
 use std::test::Fail;
-
-#[test]
-fn ends_of_traces(rt: HostRuntime) -> Result<(), Fail> {
-    let status_then_three = "status pending 0 recorded 0\nline 3: no such command\n";
-    let status_and_work =
-        "status pending 0 recorded 0\nworked 0 refined 0 hot 0 skipped 0 left 0\n";
-    let rows = [
-        ("", "line 1: heap expected\n", End::Refused),
-        ("\n\n# all\n", "line 4: heap expected\n", End::Refused),
-        ("store 0 0 8\n", "line 1: heap expected\n", End::Refused),
-        ("\nheap 0 1 1\n", "line 2: bad heap\n", End::Refused),
-        ("heap 4 2 4", "line 1: cut\n", End::Refused),
-        ("# all", "line 1: cut\n", End::Refused),
-        (
-            "heap 4 2 4\r\nstatus\r\n",
-            "line 1: not a number\n",
-            End::Refused,
-        ),
-        ("heap 4 2 4\n", "", End::Whole),
-        ("heap 4 2 4\nx\n", "line 2: no such command\n", End::Refused),
-        (
-            "\n#\nheap 4 2 4\n\n \n# all\nstatus\n\nwork\n\n",
-            status_and_work,
-            End::Whole,
-        ),
-        (
-            "\n#\nheap 4 2 4\n\n \n# all\n\n\n\n\nx\n",
-            "line 11: no such command\n",
-            End::Refused,
-        ),
-        (
-            "heap 4 2 4\n# all\ndrain 4\n",
-            "line 3: no such region\n",
-            End::Refused,
-        ),
-        (
-            "heap 4 2 4\nheap 4 2 4\n",
-            "line 2: no such command\n",
-            End::Refused,
-        ),
-        (
-            "heap 4 2 4\nstatus\nstatu\nstatus\n",
-            status_then_three,
-            End::Refused,
-        ),
-        (
-            "heap 4 2 4\nstore 0 0 8\ndrain 1",
-            "logged\nline 3: cut\n",
-            End::Refused,
-        ),
-        ("heap 4 2 4\n# cut", "line 2: cut\n", End::Refused),
-        ("heap 4 2 4\n ", "line 2: cut\n", End::Refused),
-        (
-            "heap 4 2 4\nstatus\n\0",
-            "status pending 0 recorded 0\nline 3: cut\n",
-            End::Refused,
-        ),
-        ("heap 4 2 4\nstatus\n\0\n", status_then_three, End::Refused),
-    ];
-    for (trace, printed, end) in rows {
-        is_played(&rt, Mode::Run, trace, &two_mutators(), printed, end)?;
-    }
-    Ok(())
-}
 
 /// What comes of a trace whose second line begins with `count` times this byte and then has `rest`, through a buffer of 7 bytes.
 fn play_line<R: Wait + AllocGlobal>(

@@ -1,52 +1,10 @@
-//! Crews, and how crews and races end.
+//! Crews and races: which commands their traces may have, and reads and writes that fail.
 use crate::failing_ends::TRACE;
 use crate::played::{is_played, replay, without_rounds};
 use crate::streams::{Narrow, failing_after};
-use g1_replay::{End, Mode, read_options};
+use g1_replay::{End, Mode};
 use std::io::BufReader;
 use std::test::Fail;
-
-static WORDS: [&str; 10] = [
-    "g1replay",
-    "crew",
-    "--mutators",
-    "2",
-    "--refiners",
-    "1",
-    "--rounds",
-    "3",
-    "--log",
-    "1",
-];
-
-/// Each mutator stores a reference into region 1.
-#[test]
-fn two_mutators(rt: HostRuntime) -> Result<(), Fail> {
-    let (mode, options) = read_options(rt.alloc(), &WORDS)?;
-    assert!(&rt; mode == Mode::Crew);
-    is_played(
-        &rt,
-        Mode::Crew,
-        "heap 4 2 4\nstore 0 0 8\nstore 1 16 8\nflush 0\n",
-        &options,
-        "stores 2\ndrained\ndrained 0 4\ndrained\ndrained\n",
-        End::Whole,
-    )
-}
-
-/// A drain is no call of a mutator, and nothing in front of it is run.
-#[test]
-fn a_fault_prints_its_line_alone(rt: HostRuntime) -> Result<(), Fail> {
-    let (_, options) = read_options(rt.alloc(), &WORDS)?;
-    is_played(
-        &rt,
-        Mode::Crew,
-        "heap 4 2 4\nstore 0 0 8\ndrain 1\n",
-        &options,
-        "line 3: no such command\n",
-        End::Refused,
-    )
-}
 
 /// No other command belongs to a script, and that comes before the number of its words.
 #[test]
@@ -83,43 +41,33 @@ fn scripts_have_stores_and_flushes_alone(rt: HostRuntime) -> Result<(), Fail> {
     )
 }
 
-/// A trace of nothing but its header drains all regions of an empty heap.
+/// No other command is a store, and that comes before the number of its words.
 #[test]
-fn an_empty_trace(rt: HostRuntime) -> Result<(), Fail> {
-    is_played(
-        &rt,
-        Mode::Crew,
-        "heap 2 1 1\n",
-        &without_rounds(2),
-        "stores 0\ndrained\ndrained\n",
-        End::Whole,
-    )
-}
-
-/// The history has room for one of two stores.
-#[test]
-fn a_store_that_the_book_has_no_room_for(rt: HostRuntime) -> Result<(), Fail> {
-    is_played(
-        &rt,
-        Mode::Crew,
-        "heap 4 2 4\nstore 0 0 8\nstore 0 4 8\n",
-        &without_rounds(1),
-        "book full\n",
-        End::Stopped,
-    )
-}
-
-/// The history has room for the store and one of four drains.
-#[test]
-fn a_drain_that_the_book_has_no_room_for(rt: HostRuntime) -> Result<(), Fail> {
-    is_played(
-        &rt,
-        Mode::Crew,
-        "heap 4 2 4\nstore 0 0 8\n",
-        &without_rounds(2),
-        "stores 1\ndrained\nbook full\n",
-        End::Stopped,
-    )
+fn races_have_stores_alone(rt: HostRuntime) -> Result<(), Fail> {
+    for line in [
+        "drain 1",
+        "flush 0",
+        "flush",
+        "refine",
+        "work",
+        "target 0",
+        "pending 0",
+        "members 0",
+        "status",
+        "clear 0",
+        "redirect 0 1",
+    ] {
+        let trace = format!(in rt.alloc(); "heap 4 2 4\nstore 0 0 8\n{line}\n")?;
+        is_played(
+            &rt,
+            Mode::Race,
+            trace.as_str(),
+            &without_rounds(1000),
+            "line 3: no such command\n",
+            End::Refused,
+        )?;
+    }
+    Ok(())
 }
 
 /// After 23 bytes, the whole first two lines, and after 25, in the middle of the third, nothing is run.
