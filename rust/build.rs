@@ -44,7 +44,7 @@ fn link() -> Result<(), String> {
     }
     let (library, kit) = built()?;
     take(&library, "static", "g1_c", "libg1_c.a")?;
-    take(&kit.join("c"), "static", "c_c", "liblibc_c.a")
+    take(&kit.join("c"), "static", "libc_c", "liblibc_c.a")
 }
 
 /// Has the crate linked with a library of a folder.
