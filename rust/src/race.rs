@@ -6,6 +6,10 @@
 //! returned; [`Race::close`] and [`Closed::into_heap`] then make a heap of the race, and
 //! [`Race::resume`] makes a race of the heap. A number of the heap stays good through all of them.
 //!
+//! A runtime that keeps its references in memory of its own orders the stores to one slot, around
+//! both its own store and the call, or tells the library again until it was told what memory holds:
+//! `docs/EMBEDDING_THREADS.md` has the loop, and what a pause waits for.
+//!
 //! ```
 //! use ninkoda::{race::Race, Counts, Refusal};
 //! use std::thread;
