@@ -35,6 +35,12 @@ use crate::numbers::{numbers_of, Home, Numbers};
 use crate::{Card, Counts, Heap, Kind, Refusal, Refused, Region, Slot, LOG};
 use std::ptr::null_mut;
 
+/// The most racers that a race has.
+pub const RACERS: usize = 8;
+
+/// The most sweepers that a race has.
+pub const SWEEPERS: usize = 4;
+
 /// A member's handle, on a cache line of its own, since each of its calls writes it.
 #[repr(align(64))]
 struct Seat {
@@ -84,9 +90,14 @@ numbers_of!(Racer, seat.numbers);
 numbers_of!(Sweeper, seat.numbers);
 numbers_of!(Closed, numbers);
 
-fn closed_handles(count: usize) -> Vec<Member> {
-    let member = null_mut();
-    vec![Member { member }; count]
+/// Closed handles for so many racers and sweepers: at most one more than a race has, which is
+/// refused like any greater number.
+fn closed_handles(racers: usize, sweepers: usize) -> (Vec<Member>, Vec<Member>) {
+    let closed = |count| vec![Member { member: null_mut() }; count];
+    (
+        closed(racers.min(RACERS + 1)),
+        closed(sweepers.min(SWEEPERS + 1)),
+    )
 }
 
 fn handles(seats: &[Seat]) -> Vec<Member> {
@@ -94,14 +105,15 @@ fn handles(seats: &[Seat]) -> Vec<Member> {
 }
 
 impl Race {
-    /// A race over a new heap, each of whose slots is null, with 1 to 8 racers and 1 to 4 sweepers.
+    /// A race over a new heap, each of whose slots is null, with 1 to [`RACERS`] racers and 1 to
+    /// [`SWEEPERS`] sweepers.
     ///
     /// Refused with [`Refusal::BadMembers`], [`Refusal::BadLayout`] or [`Refusal::NoMemory`].
     pub fn open(counts: Counts, racers: usize, sweepers: usize) -> Result<Race, Refusal> {
-        let (mut racing, mut sweeping) = (closed_handles(racers), closed_handles(sweepers));
+        let (mut racing, mut sweeping) = closed_handles(racers, sweepers);
         let (some, few) = (racing.as_mut_ptr(), sweeping.as_mut_ptr());
         // SAFETY: each array has as many closed handles as its length says.
-        match unsafe { g1_race_open(&counts, some, racers, few, sweepers) } {
+        match unsafe { g1_race_open(&counts, some, racing.len(), few, sweeping.len()) } {
             DONE => {
                 let home = Home::new();
                 Ok(Race::of(racing, sweeping, Numbers { counts, home }))
@@ -110,14 +122,15 @@ impl Race {
         }
     }
 
-    /// A race that begins with what the heap holds, with 1 to 8 racers and 1 to 4 sweepers.
+    /// A race that begins with what the heap holds, with as many members as [`Race::open`] allows.
     ///
     /// Refused with [`Refusal::BadMembers`] or [`Refusal::NoMemory`].
     pub fn resume(mut heap: Heap, racers: usize, sweepers: usize) -> Result<Race, Refused<Heap>> {
-        let (mut racing, mut sweeping) = (closed_handles(racers), closed_handles(sweepers));
+        let (mut racing, mut sweeping) = closed_handles(racers, sweepers);
         let (some, few) = (racing.as_mut_ptr(), sweeping.as_mut_ptr());
+        let core = &mut heap.handle;
         // SAFETY: each array has as many closed handles as its length says, and the heap is open.
-        match unsafe { g1_race_resume(&mut heap.handle, some, racers, few, sweepers) } {
+        match unsafe { g1_race_resume(core, some, racing.len(), few, sweeping.len()) } {
             DONE => Ok(Race::of(racing, sweeping, heap.numbers)),
             word => Err(Refused {
                 value: heap,

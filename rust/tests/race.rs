@@ -1,5 +1,5 @@
 //! The members of a race: taken, returned, missing, and of another heap.
-use ninkoda::race::Race;
+use ninkoda::race::{Race, RACERS, SWEEPERS};
 use ninkoda::{Counts, Drained, Kind, Refusal, Slot, LOG};
 use std::thread;
 
@@ -20,8 +20,12 @@ fn slot(race: &Race, number: u32) -> Slot {
 #[test]
 fn has_as_many_members_as_it_was_opened_with() {
     assert_eq!(Race::open(COUNTS, 0, 1).err(), Some(Refusal::BadMembers));
-    assert_eq!(Race::open(COUNTS, 9, 1).err(), Some(Refusal::BadMembers));
-    assert_eq!(Race::open(COUNTS, 1, 5).err(), Some(Refusal::BadMembers));
+    let many = [(RACERS + 1, 1), (1, SWEEPERS + 1), (usize::MAX, usize::MAX)];
+    for (racers, sweepers) in many {
+        let refused = Race::open(COUNTS, racers, sweepers).err();
+        assert_eq!(refused, Some(Refusal::BadMembers));
+    }
+    assert!(Race::open(COUNTS, RACERS, SWEEPERS).is_ok());
     let mut race = race();
     let all = [race.take_racer(), race.take_racer()];
     assert!(all.iter().all(Option::is_some) && race.take_racer().is_none());
