@@ -22,7 +22,9 @@
  *
  * What a collector must know: the library cannot tell that an object is dead or that a region was
  * freed. While a slot of a dead object or of a freed region still refers into another region,
- * g1_clear of that other region is refused. Store null to such a slot.
+ * g1_clear of that other region is refused. So store null to each slot of a region that was
+ * evacuated (g1_store_all takes 256 at once), and elsewhere to the slots of dead objects, at the
+ * latest when a refused clear names one.
  *
  * Linking, without an install: libg1_c.a, and the toolchain's liblibc_c.a after it. The code is for
  * x86-64-v2.
@@ -31,11 +33,16 @@
  *   - A handle was made of zeros (struct g1 handle = {0};), is in one place at a time, and was
  *     written by these calls alone.
  *   - One call at a time uses a handle. The caller orders the calls of several threads, for
- *     instance by a lock.
+ *     instance by a lock. A thread that is stopped inside a call, as by a signal, still uses its
+ *     handle, so a pause waits until it has left the call. No thread is cancelled, and none jumps
+ *     away, inside a call.
+ *   - No pause begins between a runtime's own store and the call that reports it: a drain knows
+ *     what was reported.
  *   - Each pointer points to what its type says. A pointer to an array points to as many elements
  *     as the length after it says. No pointer is null, even for a length of 0. No array that a call
  *     writes overlaps anything else that is passed.
- *   - malloc, realloc and free are of one allocator, and align as C asks.
+ *   - malloc, realloc and free are of one allocator, and align as C asks. Several threads may call
+ *     them at once, and one may free what another took.
  *   - No call is made in a signal handler, or in the forked child of a process with threads.
  *
  * Numbers are not tied to a heap: a call accepts a slot of another heap if its own heap has a slot
@@ -377,12 +384,28 @@ uint32_t g1_redirect(struct g1 *handle, uint32_t from, uint32_t to, uint32_t *mo
  *     threads share: a row of handles is a cache line that all of them write. The thread copies its
  *     local back into the row before the race is closed. A copy that was left behind is not to be
  *     used.
- *   - The runtime orders the stores to one slot, around both its own store and the call. Of two
- *     that race, the library may see the other one last than memory does, and then a drain can miss
- *     what memory holds. Stores to different slots need no order.
+ *   - The runtime orders the stores to one slot, around both its own store and the call, or makes
+ *     each by the loop below. Of two that race, the library may see the other one last than memory
+ *     does, and then a drain can miss what memory holds. Stores to different slots need no order.
  *   - Of two closes that are under way at once, in two threads, no race has members in both. (A
  *     close that is given members of several races is refused: it counts the owners of each race,
  *     and another close with members of the same races would disturb the counts.)
+ *
+ * The loop, for a runtime that keeps its references in atomic words of its own and has no lock for
+ * the stores to one slot:
+ *
+ *     atomic_store(&memory[slot], target);
+ *     do {
+ *         told = target;
+ *         g1_race_store(racer, slot, told);    (and once more if the log was full and was taken)
+ *         target = atomic_load(&memory[slot]);
+ *     } while (target != told);
+ *
+ * Once no thread is inside it, what the library was told last of each slot is what memory holds.
+ * For the thread that told it last read memory after that, and found what it had told. The thread
+ * that wrote memory last told the library after its write, so no later than by that last call; the
+ * read after that call found its write. A thread goes round again only if another one has stored to
+ * the slot meanwhile; how often is not bounded.
  */
 
 /* A handle of a racer or a sweeper. It is closed if the pointer is null. */

@@ -1,6 +1,6 @@
-//! error[E0505]
-use g1::race::Race;
-use g1::Counts;
+//! error[E0382]
+use ninkoda::race::Race;
+use ninkoda::Counts;
 
 fn main() {
     let counts = Counts {
@@ -10,8 +10,7 @@ fn main() {
     };
     let mut race = Race::open(counts, 1, 1).unwrap();
     let slot = race.slot(0).unwrap();
-    let (mut racers, _) = race.members();
-    let closed = race.close();
-    let _ = racers[0].store(slot, None);
-    drop(closed);
+    let mut racer = race.take_racer().unwrap();
+    let _ = race.return_racer(racer);
+    let _ = racer.store(slot, None);
 }

@@ -1,6 +1,6 @@
 //! error[E0277]
-use g1::race::Race;
-use g1::Counts;
+use ninkoda::race::Race;
+use ninkoda::Counts;
 
 fn main() {
     let counts = Counts {

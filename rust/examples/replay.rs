@@ -1,9 +1,10 @@
-//! Replays a trace through the library, and prints what `g1replay run` prints for it: `replay OPTION NUMBER .. < TRACE`.
+//! Replays a trace as `g1replay run` does, and prints what that prints: `replay OPTION NUMBER ..`.
 //!
-//! The options are those of `g1replay run` but for `--history`: the library keeps none. The mutators' dirty card queues and the line
-//! of completed buffers are this program's, as they are a runtime's. A trace that g1replay refuses is not answered line by line:
-//! the program ends with status 1 at its fault.
-use g1::{Card, Cleared, Counts, Drained, Heap, Kind, Redirected, Region};
+//! The trace comes from standard input. The options are those of `g1replay run` but for
+//! `--history`: the library keeps none. The mutators' dirty card queues and the line of completed
+//! buffers are this program's, as they are a runtime's. A trace that g1replay refuses is not
+//! answered line by line: the program ends with status 1 at its fault.
+use ninkoda::{Card, Cleared, Counts, Drained, Heap, Kind, Redirected, Region};
 use std::collections::VecDeque;
 use std::error::Error;
 use std::fmt::Write as _;
@@ -93,7 +94,9 @@ impl Replay {
     }
 
     fn region(&self, word: &str) -> Result<Region> {
-        self.heap.region(number(word)?).ok_or_else(|| "no such region".into())
+        self.heap
+            .region(number(word)?)
+            .ok_or_else(|| "no such region".into())
     }
 
     fn queue(&mut self, word: &str) -> Result<&mut Vec<Card>> {
@@ -181,7 +184,9 @@ impl Replay {
         let mut sums = Sums::default();
         if self.line.len() >= self.options.start {
             for _ in self.options.start / 4..self.line.len() {
-                let Some(buffer) = self.line.pop_front() else { break };
+                let Some(buffer) = self.line.pop_front() else {
+                    break;
+                };
                 self.refine(&buffer, &mut sums)?;
             }
         }
@@ -228,7 +233,9 @@ impl Replay {
         Ok(match self.heap.clear(region)? {
             Cleared::Cleared => "cleared".into(),
             Cleared::Pending(count) => format!("refused: {count} pending"),
-            Cleared::StillReferenced(slot) => format!("refused: still referenced by slot {}", slot.number()),
+            Cleared::StillReferenced(slot) => {
+                format!("refused: still referenced by slot {}", slot.number())
+            }
         })
     }
 
@@ -240,7 +247,12 @@ impl Replay {
 
     fn is_pending(&mut self, card: &str) -> Result<String> {
         let card = self.heap.card(number(card)?).ok_or("no such card")?;
-        Ok(if self.heap.is_pending(card)? { "yes" } else { "no" }.into())
+        Ok(if self.heap.is_pending(card)? {
+            "yes"
+        } else {
+            "no"
+        }
+        .into())
     }
 
     fn status(&mut self) -> Result<String> {

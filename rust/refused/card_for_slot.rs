@@ -1,8 +1,8 @@
-//! error[E0382]
-use g1::{Counts, Heap};
+//! error[E0308]
+use ninkoda::{Counts, Heap};
 
 fn main() {
-    let heap = Heap::open(
+    let mut heap = Heap::open(
         Counts {
             regions: 4,
             cards: 2,
@@ -12,6 +12,6 @@ fn main() {
         8,
     )
     .unwrap();
-    drop(heap);
-    drop(heap);
+    let card = heap.card(0).unwrap();
+    let _ = heap.target(card);
 }

@@ -1,8 +1,8 @@
-//! error[E0308]
-use g1::{Counts, Heap};
+//! error[E0382]
+use ninkoda::{Counts, Heap};
 
 fn main() {
-    let mut heap = Heap::open(
+    let heap = Heap::open(
         Counts {
             regions: 4,
             cards: 2,
@@ -12,6 +12,6 @@ fn main() {
         8,
     )
     .unwrap();
-    let card = heap.card(0).unwrap();
-    let _ = heap.target(card);
+    drop(heap);
+    drop(heap);
 }

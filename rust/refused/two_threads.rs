@@ -1,5 +1,5 @@
 //! error[E0499]
-use g1::{Counts, Heap};
+use ninkoda::{Counts, Heap};
 
 fn main() {
     let mut heap = Heap::open(

@@ -11,6 +11,19 @@ pub struct Tally {
 }
 
 #[repr(C)]
+pub struct Reference {
+    pub slot: u32,
+    pub target: u32,
+}
+
+#[repr(C)]
+#[derive(Default)]
+pub struct Batch {
+    pub stored: u32,
+    pub logged: u32,
+}
+
+#[repr(C)]
 pub struct Handle {
     pub core: *mut c_void,
 }
@@ -30,6 +43,14 @@ extern "C" {
     pub fn g1_open(handle: *mut Handle, counts: *const Counts, hot: u32, ring: u32) -> u32;
     pub fn g1_close(handle: *mut Handle) -> u32;
     pub fn g1_store(handle: *mut Handle, slot: u32, target: u32) -> u32;
+    pub fn g1_store_all(
+        handle: *mut Handle,
+        stores: *const Reference,
+        stores_length: usize,
+        cards: *mut u32,
+        cards_length: usize,
+        batch: *mut Batch,
+    ) -> u32;
     pub fn g1_refine(
         handle: *mut Handle,
         cards: *const u32,
@@ -51,7 +72,13 @@ extern "C" {
     pub fn g1_target(handle: *mut Handle, slot: u32, target: *mut u32) -> u32;
     pub fn g1_is_pending(handle: *mut Handle, card: u32) -> u32;
     pub fn g1_status(handle: *mut Handle, totals: *mut Totals) -> u32;
-    pub fn g1_members(handle: *mut Handle, region: u32, cards: *mut u32, cards_length: usize, count: *mut u32) -> u32;
+    pub fn g1_members(
+        handle: *mut Handle,
+        region: u32,
+        cards: *mut u32,
+        cards_length: usize,
+        count: *mut u32,
+    ) -> u32;
     pub fn g1_clear(handle: *mut Handle, region: u32, detail: *mut u32) -> u32;
     pub fn g1_redirect(
         handle: *mut Handle,
@@ -70,7 +97,12 @@ extern "C" {
         sweepers_length: usize,
     ) -> u32;
     pub fn g1_race_store(member: *mut Member, slot: u32, target: u32) -> u32;
-    pub fn g1_race_take_log(member: *mut Member, cards: *mut u32, cards_length: usize, count: *mut u32) -> u32;
+    pub fn g1_race_take_log(
+        member: *mut Member,
+        cards: *mut u32,
+        cards_length: usize,
+        count: *mut u32,
+    ) -> u32;
     pub fn g1_race_refine(member: *mut Member, card: u32) -> u32;
     pub fn g1_race_close(
         racers: *mut Member,

@@ -3,16 +3,19 @@ use crate::library::NULL;
 use crate::Refusal;
 use std::sync::atomic::{AtomicU64, Ordering};
 
-/// How many regions, cards a region and slots a card a heap has.
+/// How many regions a heap has, how many cards a region, and slots a card.
 #[repr(C)]
 #[derive(Clone, Copy, Debug, PartialEq, Eq)]
 pub struct Counts {
+    /// Regions of the heap: 1 to 256.
     pub regions: u32,
+    /// Cards of a region: 1 to 65,536.
     pub cards: u32,
+    /// Slots of a card: 1 to 64.
     pub slots: u32,
 }
 
-/// Which heap a number belongs to.
+/// Which heap a number belongs to. A race over a heap has the heap's.
 #[derive(Clone, Copy, Debug, PartialEq, Eq, PartialOrd, Ord, Hash)]
 pub struct Home(u64);
 
@@ -34,6 +37,7 @@ macro_rules! number {
         }
 
         impl $name {
+            /// Its number, from 0 in the order of the heap.
             pub fn number(self) -> u32 {
                 self.number
             }
@@ -53,6 +57,41 @@ number!(
     /// A region of one heap.
     Region
 );
+
+/// The numbers of the heap that a type is over, and its `Debug`.
+macro_rules! numbers_of {
+    ($name:ident, $($field:ident).+) => {
+        impl $name {
+            /// The counts of its heap.
+            pub fn counts(&self) -> Counts {
+                self.$($field).+.counts
+            }
+
+            /// The slot of this number, if the heap has it.
+            pub fn slot(&self, number: u32) -> Option<Slot> {
+                self.$($field).+.slot(number)
+            }
+
+            /// The card of this number, if the heap has it.
+            pub fn card(&self, number: u32) -> Option<Card> {
+                self.$($field).+.card(number)
+            }
+
+            /// The region of this number, if the heap has it.
+            pub fn region(&self, number: u32) -> Option<Region> {
+                self.$($field).+.region(number)
+            }
+        }
+
+        impl std::fmt::Debug for $name {
+            fn fmt(&self, f: &mut std::fmt::Formatter<'_>) -> std::fmt::Result {
+                let mut shown = f.debug_struct(stringify!($name));
+                shown.field("counts", &self.counts()).finish_non_exhaustive()
+            }
+        }
+    };
+}
+pub(crate) use numbers_of;
 
 /// The numbers that a heap has.
 #[derive(Clone, Copy, Debug)]
@@ -96,7 +135,7 @@ impl Numbers {
         written.map(|&number| Card { number, home }).collect()
     }
 
-    /// Refuses a number of another heap.
+    /// Refuses what is of another heap.
     pub fn has(&self, home: Home) -> Result<(), Refusal> {
         if home == self.home {
             Ok(())

@@ -1,5 +1,5 @@
 //! error[E0599]
-use g1::{Counts, Heap};
+use ninkoda::{Counts, Heap};
 
 fn main() {
     let heap = Heap::open(

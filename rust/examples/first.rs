@@ -1,8 +1,8 @@
 //! Stores a reference into region 1, and asks at a pause which cards have to be scanned.
-use g1::{Counts, Drained, Heap, Kind, Refusal, LOG};
+use ninkoda::{Counts, Drained, Heap, Kind, Refusal, LOG};
 
 fn main() -> Result<(), Refusal> {
-    // 4 regions of 2 cards of 4 slots; a card is hot from 4 refinements on, and the ring holds 1,024 hot cards
+    // a card is hot from 4 refinements on, and the ring holds 1,024 hot cards
     let counts = Counts {
         regions: 4,
         cards: 2,
@@ -23,7 +23,11 @@ fn main() -> Result<(), Refusal> {
 
     let region = heap.region(1).expect("a region");
     match heap.drain(region)? {
-        Drained::Cards { members, .. } => members.iter().for_each(|card| println!("scan card {}", card.number())),
+        Drained::Cards { members, .. } => {
+            for card in members {
+                println!("scan card {}", card.number());
+            }
+        }
         Drained::Short { .. } => println!("out of memory: drain again"),
     }
     Ok(())

@@ -1,5 +1,5 @@
 //! error[E0451]
-use g1::{Counts, Heap, Slot};
+use ninkoda::{Counts, Heap, Slot};
 
 fn main() {
     let mut heap = Heap::open(

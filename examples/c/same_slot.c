@@ -1,0 +1,189 @@
+// Threads that store to the same few slots at once, with no lock: `same_slot [CYCLES]`.
+//
+// The runtime keeps its references in memory of its own. Two stores to one slot may reach memory in
+// one order and the library in the other, so each store tells the library again until it was told
+// what memory holds. Meanwhile a sweeper refines all cards over and over. Each race is stopped for
+// its pause after some milliseconds, in all threads at once, so that their last stores race too. Then
+// the library's target of each slot is compared with memory, and each drain with a scan of it.
+#define _POSIX_C_SOURCE 200809L
+#include "g1.h"
+
+#include <pthread.h>
+#include <stdatomic.h>
+#include <stdio.h>
+#include <stdlib.h>
+#include <time.h>
+
+enum {
+    REGIONS = 8,
+    CARDS = 2,
+    SLOTS = 4,
+    ALL_CARDS = REGIONS * CARDS,
+    ALL_SLOTS = ALL_CARDS * SLOTS,
+    CONTESTED = 8, // slots that threads store to
+    RACERS = 8
+};
+
+// The runtime's memory.
+static _Atomic uint32_t memory[ALL_SLOTS];
+
+static atomic_int is_over;
+
+// A member of a race in a thread: its handle stands here only while the thread does not run.
+struct seat {
+    struct g1_member member;
+    uint64_t state;
+    unsigned long stores, repeats;
+    unsigned wrong;
+};
+
+static uint32_t below(uint64_t *state, uint32_t most) {
+    *state ^= *state << 13;
+    *state ^= *state >> 7;
+    *state ^= *state << 17;
+    return (uint32_t)((*state >> 33) % most);
+}
+
+// Tells the library of a store. A full log is let go: its cards stay dirty.
+static unsigned tell(struct g1_member *racer, uint32_t slot, uint32_t target) {
+    uint32_t log[G1_LOG], count;
+    uint32_t kind = g1_race_store(racer, slot, target);
+    if (kind == G1_LOG_FULL) {
+        g1_race_take_log(racer, log, G1_LOG, &count);
+        kind = g1_race_store(racer, slot, target);
+    }
+    return kind > G1_STORED_LOGGED;
+}
+
+// Stores to memory, and tells the library until it was told what memory holds.
+static void store(struct seat *seat, uint32_t slot, uint32_t target) {
+    uint32_t told;
+    atomic_store(&memory[slot], target);
+    do {
+        told = target;
+        seat->wrong += tell(&seat->member, slot, told);
+        target = atomic_load(&memory[slot]);
+        seat->repeats += target != told;
+    } while (target != told);
+}
+
+static void *mutate(void *place) {
+    struct seat seat = *(struct seat *)place;
+    for (; !atomic_load(&is_over); seat.stores++) {
+        uint32_t slot = below(&seat.state, CONTESTED) * (ALL_SLOTS / CONTESTED);
+        uint32_t target = below(&seat.state, 8) == 0 ? G1_NULL : below(&seat.state, ALL_SLOTS);
+        store(&seat, slot, target);
+    }
+    *(struct seat *)place = seat;
+    return NULL;
+}
+
+static void *refine(void *place) {
+    struct seat seat = *(struct seat *)place;
+    while (!atomic_load(&is_over)) {
+        for (uint32_t card = 0; card < ALL_CARDS; card++) {
+            seat.wrong += g1_race_refine(&seat.member, card) != G1_DONE;
+        }
+    }
+    *(struct seat *)place = seat;
+    return NULL;
+}
+
+// Runs a race for some milliseconds.
+static void run(struct seat *racers, struct seat *sweeper) {
+    struct timespec some = {0, 2000000};
+    pthread_t threads[RACERS], sweeping;
+    atomic_store(&is_over, 0);
+    pthread_create(&sweeping, NULL, refine, sweeper);
+    for (int i = 0; i < RACERS; i++) {
+        pthread_create(&threads[i], NULL, mutate, &racers[i]);
+    }
+    nanosleep(&some, NULL);
+    atomic_store(&is_over, 1);
+    for (int i = 0; i < RACERS; i++) {
+        pthread_join(threads[i], NULL);
+    }
+    pthread_join(sweeping, NULL);
+}
+
+static uint32_t region_of(uint32_t slot) {
+    return slot / (CARDS * SLOTS);
+}
+
+// How many slots refer to something else in the library than in memory.
+static unsigned differing(struct g1 *heap) {
+    unsigned wrong = 0;
+    for (uint32_t slot = 0; slot < ALL_SLOTS; slot++) {
+        uint32_t target;
+        wrong += g1_target(heap, slot, &target) != G1_DONE || target != atomic_load(&memory[slot]);
+    }
+    return wrong;
+}
+
+// How many references of memory into a region its drain misses.
+static unsigned missed(struct g1 *heap, uint32_t region) {
+    uint32_t cards[ALL_CARDS], refined[ALL_CARDS], count, refined_count;
+    unsigned char is_member[ALL_CARDS] = {0};
+    unsigned wrong = g1_drain(heap, region, cards, ALL_CARDS, &count, refined, ALL_CARDS, &refined_count) != G1_DONE;
+    for (uint32_t i = 0; i < count; i++) {
+        is_member[cards[i]] = 1;
+    }
+    for (uint32_t slot = 0; slot < ALL_SLOTS; slot++) {
+        uint32_t target = atomic_load(&memory[slot]);
+        int enters = target != G1_NULL && region_of(target) == region && region_of(slot) != region;
+        wrong += enters && !is_member[slot / SLOTS];
+    }
+    return wrong;
+}
+
+// Makes a core of the race, compares it with memory, and makes a race of it again.
+static unsigned pause_race(struct seat *racers, struct seat *sweeper) {
+    struct g1_member racing[RACERS];
+    struct g1_over over = {0};
+    struct g1 heap = {0};
+    unsigned wrong = 0;
+    for (int i = 0; i < RACERS; i++) {
+        racing[i] = racers[i].member;
+    }
+    wrong += g1_race_close(racing, RACERS, &sweeper->member, 1, &over) != G1_DONE;
+    wrong += g1_race_core(&over, &heap, 4, 64) != G1_DONE;
+    wrong += differing(&heap);
+    for (uint32_t region = 0; region < REGIONS; region++) {
+        wrong += missed(&heap, region);
+    }
+    wrong += g1_race_resume(&heap, racing, RACERS, &sweeper->member, 1) != G1_DONE;
+    for (int i = 0; i < RACERS; i++) {
+        racers[i].member = racing[i];
+    }
+    return wrong;
+}
+
+int main(int number, char **words) {
+    static struct seat racers[RACERS], sweeper;
+    struct g1_member racing[RACERS] = {{0}};
+    struct g1_counts counts = {REGIONS, CARDS, SLOTS};
+    unsigned long stores = 0, repeats = 0;
+    long cycles = number > 1 ? atol(words[1]) : 100;
+    unsigned wrong = g1_race_open(&counts, racing, RACERS, &sweeper.member, 1) != G1_DONE;
+    for (uint32_t slot = 0; slot < ALL_SLOTS; slot++) {
+        atomic_init(&memory[slot], G1_NULL);
+    }
+    for (unsigned i = 0; i < RACERS; i++) {
+        racers[i].member = racing[i];
+        racers[i].state = 88172645463325252u + i * 1000003u;
+    }
+    for (long cycle = 0; cycle < cycles; cycle++) {
+        run(racers, &sweeper);
+        wrong += pause_race(racers, &sweeper);
+    }
+    for (unsigned i = 0; i < RACERS; i++) {
+        stores += racers[i].stores;
+        repeats += racers[i].repeats;
+        wrong += racers[i].wrong + (g1_member_close(&racers[i].member) != G1_DONE);
+    }
+    wrong += sweeper.wrong + (g1_member_close(&sweeper.member) != G1_DONE);
+    printf("%ld cycles of %d threads: %lu stores to %d slots, %lu told again, %u wrong\n", cycles, RACERS, stores, CONTESTED, repeats, wrong);
+    int holds = wrong == 0 && stores > 0;
+    printf("%d passed, %d failed\n", holds, !holds);
+    return !holds;
+}

@@ -1,0 +1,186 @@
+//! What calls answer.
+use crate::{library, Card, Slot};
+use std::error::Error;
+use std::fmt;
+
+/// Why a call was refused. Nothing has changed then.
+#[derive(Clone, Copy, Debug, PartialEq, Eq)]
+pub enum Refusal {
+    /// Memory was refused.
+    NoMemory,
+    /// The counts of a heap are outside their limits.
+    BadLayout,
+    /// The hot limit or the size of the ring is outside its limits.
+    BadSettings,
+    /// More than [`LOG`](crate::LOG) cards at once.
+    TooManyCards,
+    /// References were to be moved from a region to itself.
+    SameRegion,
+    /// A racer's log is full: take it, and store again.
+    LogFull,
+    /// Not as many racers or sweepers as a race may have.
+    BadMembers,
+    /// A racer or a sweeper was not returned to the race that was to be closed.
+    MembersOut,
+    /// A race has another owner, so it has not ended.
+    NotEnded,
+    /// A slot, card, region, racer or sweeper of another heap was passed.
+    OtherHeap,
+    /// A code that these types rule out, such as that the heap is closed.
+    Unexpected(u32),
+}
+
+impl Refusal {
+    pub(crate) fn of(word: u32) -> Refusal {
+        match word {
+            library::NO_MEMORY => Refusal::NoMemory,
+            library::BAD_LAYOUT => Refusal::BadLayout,
+            library::BAD_SETTINGS => Refusal::BadSettings,
+            library::TOO_MANY_CARDS => Refusal::TooManyCards,
+            library::SAME_REGION => Refusal::SameRegion,
+            library::LOG_FULL => Refusal::LogFull,
+            library::BAD_MEMBERS => Refusal::BadMembers,
+            library::NOT_ENDED => Refusal::NotEnded,
+            word => Refusal::Unexpected(word),
+        }
+    }
+}
+
+impl fmt::Display for Refusal {
+    fn fmt(&self, f: &mut fmt::Formatter<'_>) -> fmt::Result {
+        f.write_str(match self {
+            Refusal::NoMemory => "no memory",
+            Refusal::BadLayout => "counts outside the limits of a heap",
+            Refusal::BadSettings => "a setting outside its limits",
+            Refusal::TooManyCards => "more cards than a queue has",
+            Refusal::SameRegion => "the same region twice",
+            Refusal::LogFull => "the log is full",
+            Refusal::BadMembers => "a race of too few or too many members",
+            Refusal::MembersOut => "a member was not returned to its race",
+            Refusal::NotEnded => "a race that has another owner",
+            Refusal::OtherHeap => "a number or a member of another heap",
+            Refusal::Unexpected(word) => return write!(f, "an unexpected code: {word}"),
+        })
+    }
+}
+
+impl Error for Refusal {}
+
+/// A refused call that was to take a value: the value comes back as it was.
+#[derive(Debug)]
+pub struct Refused<T> {
+    /// What the call was to take.
+    pub value: T,
+    /// Why it was refused.
+    pub refusal: Refusal,
+}
+
+impl<T> From<Refused<T>> for Refusal {
+    /// Drops the value.
+    fn from(refused: Refused<T>) -> Refusal {
+        refused.refusal
+    }
+}
+
+impl<T> fmt::Display for Refused<T> {
+    fn fmt(&self, f: &mut fmt::Formatter<'_>) -> fmt::Result {
+        self.refusal.fmt(f)
+    }
+}
+
+impl<T: fmt::Debug> Error for Refused<T> {}
+
+/// How much is pending and recorded.
+#[repr(C)]
+#[derive(Clone, Copy, Debug, Default, PartialEq, Eq)]
+pub struct Totals {
+    /// Cards that are pending.
+    pub pending: u32,
+    /// Pairs of a card and a region into which it is recorded to refer.
+    pub recorded: u32,
+}
+
+/// What a store was.
+#[derive(Clone, Copy, Debug, PartialEq, Eq)]
+pub enum Kind {
+    /// The target is null.
+    Null,
+    /// The slot and its target are in one region.
+    SameRegion,
+    /// The slot's card was pending already.
+    Dirty,
+    /// The card was clean, and is pending now. It belongs into the dirty card queue of the thread
+    /// that stored; a [`Racer`](crate::race::Racer) has put it into its log.
+    Logged(Card),
+}
+
+impl Kind {
+    /// The kind of a word, for a store to this card.
+    pub(crate) fn of(word: u32, card: Card) -> Result<Kind, Refusal> {
+        match word {
+            library::STORED_NULL => Ok(Kind::Null),
+            library::STORED_SAME_REGION => Ok(Kind::SameRegion),
+            library::STORED_DIRTY => Ok(Kind::Dirty),
+            library::STORED_LOGGED => Ok(Kind::Logged(card)),
+            word => Err(Refusal::of(word)),
+        }
+    }
+}
+
+/// What a refinement did.
+#[derive(Clone, Debug, PartialEq, Eq)]
+pub struct Refined {
+    /// The cards that were refined, in order.
+    pub cards: Vec<Card>,
+    /// How many cards were found hot.
+    pub hot: u32,
+    /// How many cards were not dirty.
+    pub skipped: u32,
+    /// Memory was refused midway: hand the same cards in again.
+    pub is_short: bool,
+}
+
+/// What a drain did.
+#[derive(Clone, Debug, PartialEq, Eq)]
+pub enum Drained {
+    /// All that was pending is refined.
+    Cards {
+        /// The remembered set of the region, ascending.
+        members: Vec<Card>,
+        /// The cards that were refined, in order.
+        refined: Vec<Card>,
+    },
+    /// Memory was refused midway: drain again.
+    Short {
+        /// The cards that were refined, in order; the others are pending as before.
+        refined: Vec<Card>,
+    },
+}
+
+/// What a clear did.
+#[derive(Clone, Copy, Debug, PartialEq, Eq)]
+pub enum Cleared {
+    /// The set is empty.
+    Cleared,
+    /// Refused: cards are pending, as many as this says. Drain first.
+    Pending(u32),
+    /// Refused: this is the least slot outside the region that refers into it.
+    StillReferenced(Slot),
+}
+
+/// What a redirect did.
+#[derive(Clone, Debug, PartialEq, Eq)]
+pub enum Redirected {
+    /// The references have moved.
+    Slots {
+        /// How many slots changed.
+        moved: u32,
+        /// The cards that were refined, in order.
+        refined: Vec<Card>,
+    },
+    /// Memory was refused midway, and no slot has changed: redirect again.
+    Short {
+        /// The cards that were refined, in order; the others are pending as before.
+        refined: Vec<Card>,
+    },
+}
