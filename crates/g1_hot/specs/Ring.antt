@@ -1,5 +1,6 @@
 -- What contracts see of the refinement counts and the hot card ring, and the rule of hotness.
-use Rattle.std.specs.Prelude.{ℕ, List, [], ◌∷◌, ◌++◌, ◌+◌, ◌≤◌, ◌<◌, All, length, drop, min, nat_lt, slice_index, slice_set, if◌then◌else◌, replicate, refl}
+use Rattle.std.specs.Prelude.{ℕ, List, [], ◌∷◌, ◌++◌, ◌+◌, ◌≤◌, ◌<◌, All, length, drop, min, nat_lt}
+use Rattle.std.specs.Prelude.{slice_index, slice_set, if◌then◌else◌, replicate, refl}
 use Rattle.std.specs.Coded.{Coded, code_by, coded×, coded_ℕ, coded_list}
 use Rattle.circular_buffer.specs.Buffer.{Buffer}
 use Rattle.g1_layout.specs.Shape.{Shape, card_count}
@@ -14,14 +15,24 @@ pub record Ring : Type 0 where
 
 -- a ring is stored as the tuple of its fields
 abbrev pub ring_code : Coded Ring
-ring_code = code_by (List ℕ × (List ℕ × (ℕ × ℕ))) (coded× (coded_list coded_ℕ) (coded× (coded_list coded_ℕ) (coded× coded_ℕ coded_ℕ)))
-    (λ r. (r.counts, (r.cards, (r.limit, r.capacity)))) (λ p. record { counts = p.0; cards = p.1.0; limit = p.1.1.0; capacity = p.1.1.1 }) (λ _. refl)
+ring_code =
+    code_by (List ℕ × (List ℕ × (ℕ × ℕ)))
+    (coded× (coded_list coded_ℕ) (coded× (coded_list coded_ℕ) (coded× coded_ℕ coded_ℕ)))
+    (λ r. (r.counts, (r.cards, (r.limit, r.capacity))))
+    (λ p. record { counts = p.0; cards = p.1.0; limit = p.1.1.0; capacity = p.1.1.1 })
+    (λ _. refl)
 
 -- what the fields stand for
 abbrev pub ring_of : List ℕ → Buffer ℕ → ℕ → Ring
-ring_of counts buffer limit = record { counts = counts; cards = buffer.items; limit = limit; capacity = buffer.capacity }
+ring_of counts buffer limit = record {
+  counts = counts;
+  cards = buffer.items;
+  limit = limit;
+  capacity = buffer.capacity;
+}
 
--- A card is hot where its count has reached the limit. A hot card enters the ring, and pushes the oldest out where there is no room.
+-- A card is hot where its count has reached the limit. A hot card enters the ring, and pushes the
+-- oldest out where there is no room.
 abbrev pub answer : Ring → ℕ → Offer
 answer ring card =
     if nat_lt (slice_index ring.counts card) ring.limit then Cold
@@ -39,19 +50,39 @@ cards_after cards card Kept = cards ++ card ∷ []
 cards_after cards card (Out oldest) = drop 1 cards ++ card ∷ []
 
 abbrev pub offered : Ring → ℕ → Ring
-offered ring card = record { counts = counted ring card; cards = cards_after ring.cards card (answer ring card); limit = ring.limit; capacity = ring.capacity }
+offered ring card = record {
+  counts = counted ring card;
+  cards = cards_after ring.cards card (answer ring card);
+  limit = ring.limit;
+  capacity = ring.capacity;
+}
 
 -- the oldest card has left the ring
 abbrev pub popped : Ring → Ring
-popped ring = record { counts = ring.counts; cards = drop 1 ring.cards; limit = ring.limit; capacity = ring.capacity }
+popped ring = record {
+  counts = ring.counts;
+  cards = drop 1 ring.cards;
+  limit = ring.limit;
+  capacity = ring.capacity;
+}
 
 -- every count is 0
 abbrev pub reset : Ring → Ring
-reset ring = record { counts = replicate (length ring.counts) 0; cards = ring.cards; limit = ring.limit; capacity = ring.capacity }
+reset ring = record {
+  counts = replicate (length ring.counts) 0;
+  cards = ring.cards;
+  limit = ring.limit;
+  capacity = ring.capacity;
+}
 
 -- no card of the layout was refined, and the ring is empty
 abbrev pub new_ring : Shape → ℕ → ℕ → Ring
-new_ring layout limit capacity = record { counts = replicate (card_count layout) 0; cards = []; limit = limit; capacity = capacity }
+new_ring layout limit capacity = record {
+  counts = replicate (card_count layout) 0;
+  cards = [];
+  limit = limit;
+  capacity = capacity;
+}
 
 -- what every ring keeps
 pub record IsRing (ring : Ring) : Type 0 where

@@ -1,5 +1,6 @@
 //! The refinement counts and the hot ring.
-ghost use Rattle.std.specs.Prelude.{◌≡◌, false, replicate, ◌<◌, ◌≤◌, ◌==◌, ◌↔◌, Contains, IfOk, IsTrue, length, slice_get};
+ghost use Rattle.std.specs.Prelude.{◌≡◌, false, replicate, ◌<◌, ◌≤◌, ◌==◌, ◌↔◌, Contains, IfOk};
+ghost use Rattle.std.specs.Prelude.{IsTrue, length, slice_get};
 ghost use Rattle.g1_hot.specs.Ring.{answer, offered, popped, reset, new_ring, IsRing};
 
 use crate::offer::Offer;

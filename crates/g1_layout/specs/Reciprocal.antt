@@ -1,4 +1,5 @@
--- What a count's reciprocal is: its multiplier, which is the first number above the scaled-up reciprocal.
+-- What a count's reciprocal is: its multiplier, which is the first number above the scaled-up
+-- reciprocal.
 use Rattle.std.specs.Prelude.{◌≡◌, ℕ, ◌+◌, ◌*◌, ◌/◌, ◌<◌, ◌^◌}
 
 abbrev pub multiplier_of : ℕ → ℕ → ℕ

@@ -11,7 +11,9 @@ pub record Shape : Type 0 where
 -- a shape is stored as the tuple of its counts
 abbrev pub shape_code : Coded Shape
 shape_code =
-    code_by (ℕ × (ℕ × ℕ)) (coded× coded_ℕ (coded× coded_ℕ coded_ℕ)) (λ l. (l.regions, (l.cards, l.slots))) (λ p. record { regions = p.0; cards = p.1.0; slots = p.1.1 }) (λ _. refl)
+    code_by (ℕ × (ℕ × ℕ)) (coded× coded_ℕ (coded× coded_ℕ coded_ℕ))
+    (λ l. (l.regions, (l.cards, l.slots)))
+    (λ p. record { regions = p.0; cards = p.1.0; slots = p.1.1 }) (λ _. refl)
 
 -- the limits of every heap
 pub record IsShape (l : Shape) : Type 0 where

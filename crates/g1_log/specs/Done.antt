@@ -1,4 +1,5 @@
--- What contracts see of the completed buffers of one thread: the cards of each, oldest buffer first.
+-- What contracts see of the completed buffers of one thread: the cards of each, oldest buffer
+-- first.
 use Rattle.std.specs.Prelude.{ℕ, List, [], ◌∷◌, ◌++◌, ◌≤◌, drop, length, refl}
 use Rattle.std.specs.Coded.{Coded, code_by, coded×, coded_ℕ, coded_list}
 
@@ -8,7 +9,10 @@ pub record Completed : Type 0 where
 
 -- completed buffers are stored as the pair of their limit and their list
 abbrev pub completed_code : Coded Completed
-completed_code = code_by (ℕ × List (List ℕ)) (coded× coded_ℕ (coded_list (coded_list coded_ℕ))) (λ d. (d.limit, d.buffers)) (λ p. record { limit = p.0; buffers = p.1 }) (λ _. refl)
+completed_code =
+    code_by (ℕ × List (List ℕ)) (coded× coded_ℕ (coded_list (coded_list coded_ℕ)))
+    (λ d. (d.limit, d.buffers))
+    (λ p. record { limit = p.0; buffers = p.1 }) (λ _. refl)
 
 -- what completed buffers keep: the limit is within its limits, and there are no more buffers
 pub record IsCompleted (d : Completed) : Type 0 where

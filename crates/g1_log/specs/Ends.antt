@@ -1,5 +1,6 @@
 -- The line and its ends, as contracts speak of them.
-use Rattle.std.specs.Prelude.{◌≡◌, ◌≤◌, ◌==◌, Option, Some, None, ℕ, ◌+◌, List, [], ◌∷◌, ◌++◌, length, sum_by}
+use Rattle.std.specs.Prelude.{◌≡◌, ◌≤◌, ◌==◌, Option, Some, None, ℕ, ◌+◌, List, [], ◌∷◌, ◌++◌}
+use Rattle.std.specs.Prelude.{length, sum_by}
 use Rattle.std.specs.List.{All}
 use Rattle.atomic_table.specs.Seated.{TableId}
 use Rattle.crossbeam_queue.specs.Fifo.{Held}
@@ -11,7 +12,8 @@ use Rattle.g1_log.specs.declared.ends.Settled.{Settled}
 use Rattle.g1_log.specs.declared.buffer.Buffer.{Buffer}
 use Rattle.g1_log.specs.declared.parcel.Parcel.{Parcel}
 use Rattle.g1_log.specs.declared.view.View.{View}
-use Rattle.g1_log.specs.Line.{one_if, put_by, taken_by, put_weight, taken_weight, Rises, whole, SeenBy}
+use Rattle.g1_log.specs.Line.{one_if, put_by, taken_by, put_weight, taken_weight, Rises, whole}
+use Rattle.g1_log.specs.Line.{SeenBy}
 
 -- which line it is
 abbrev pub line_home : Line → TableId
@@ -71,7 +73,8 @@ pub record IsSameTaker (s t : Taker) : Type 0 where
   pub home : taker_home s ≡ taker_home t
   pub rights : taker_rights s ≡ taker_rights t
 
--- there was a state by the rule of the line, with this view in it, in which the queue held n parcels
+-- there was a state by the rule of the line, with this view in it, in which the queue held n
+-- parcels
 abbrev pub WasOfLength : ℕ → View → Type 0
 WasOfLength n v = Held n (SeenBy v)
 
@@ -110,10 +113,12 @@ put_count senders = sum_by (λ s. length (put_of s)) senders
 abbrev pub taken_count : List Taker → ℕ
 taken_count takers = sum_by (λ t. length (taken_of t)) takers
 
--- what these senders have put is what these takers have taken and what is left, each parcel once: so it is however parcels are weighed
+-- what these senders have put is what these takers have taken and what is left, each parcel once:
+-- so it is however parcels are weighed
 abbrev pub EachTakenOrLeft : List Sender → List Taker → List Parcel → Type 0
 EachTakenOrLeft senders takers left =
-    (h : Parcel → ℕ) → sum_by (λ s. put_weight h (sender_view s)) senders ≡ sum_by (λ t. taken_weight h (taker_view t)) takers + sum_by h left
+    (h : Parcel → ℕ) → sum_by (λ s. put_weight h (sender_view s)) senders
+    ≡ sum_by (λ t. taken_weight h (taker_view t)) takers + sum_by h left
 
 -- no two of these senders have one number
 abbrev pub AreNumberedApart : List Sender → Type 0

@@ -1,5 +1,7 @@
--- The rule of the line of completed buffers. A state is what the queue holds, oldest first, and a view for each pass.
-use Rattle.std.specs.Prelude.{◌≡◌, ℕ, ◌+◌, ◌-◌, ◌<◌, ◌≤◌, Bool, true, false, ◌&&◌, ◌==◌, nat_lt, not, cond, List, [], ◌∷◌, ◌++◌, sum_by}
+-- The rule of the line of completed buffers. A state is what the queue holds, oldest first, and a
+-- view for each pass.
+use Rattle.std.specs.Prelude.{◌≡◌, ℕ, ◌+◌, ◌-◌, ◌<◌, ◌≤◌, Bool, true, false, ◌&&◌, ◌==◌, nat_lt}
+use Rattle.std.specs.Prelude.{not, cond, List, [], ◌∷◌, ◌++◌, sum_by}
 use Rattle.std.specs.List.{All}
 use mathlib.Core.Option.{some}
 use lib.ListN.{get_elem?}
@@ -21,7 +23,8 @@ abbrev pub numbered : ℕ → ℕ → List Buffer → List Parcel
 numbered i k [] = []
 numbered i k (b ∷ bs) = parcel i k b ∷ numbered i (k + 1) bs
 
--- what the buffers that a view has put weigh, each as the parcel of its sender with its place as its number
+-- what the buffers that a view has put weigh, each as the parcel of its sender with its place as
+-- its number
 abbrev pub put_weight : (Parcel → ℕ) → View → ℕ
 put_weight h v = sum_by (λ s. sum_by h (numbered s.number 0 s.buffers)) v.sent
 
@@ -33,16 +36,20 @@ taken_weight h v = sum_by (sum_by h) v.taken
 abbrev pub one_if : Bool → ℕ
 one_if b = cond b 1 0
 
--- how often a view has sender number i: as a sender of that number, or as one that may still give it out
+-- how often a view has sender number i: as a sender of that number, or as one that may still give
+-- it out
 abbrev pub holding : ℕ → View → ℕ
-holding i v = one_if (v.makes && not (nat_lt i v.made)) + sum_by (λ (s : Sent). one_if (s.number == i)) v.sent
+holding i v =
+    one_if (v.makes && not (nat_lt i v.made)) + sum_by (λ (s : Sent). one_if (s.number == i)) v.sent
 
--- the numbers of each sender rise: each parcel's number is below those of the later parcels of its sender
+-- the numbers of each sender rise: each parcel's number is below those of the later parcels of its
+-- sender
 abbrev pub Rises : List Parcel → Type 0
 Rises [] = Unit {0}
 Rises (p ∷ ps) = All (λ q. q.sender ≡ p.sender → p.number < q.number) ps × Rises ps
 
--- all rights of a line. They are shares: each sender and each taker has at least one, so who has all of them has all senders and takers
+-- all rights of a line. They are shares: each sender and each taker has at least one, so who has
+-- all of them has all senders and takers
 abbrev pub whole : ℕ
 whole = 20
 
@@ -50,25 +57,39 @@ whole = 20
 pub record Fits (items : List Parcel) (v : View) : Type 0 where
   -- a view with no right has put and taken nothing
   pub idle : v.rights ≡ 0 → (v.sent ≡ []) × (v.taken ≡ [])
-  -- the numbers of a sender rise in each list of parcels that were taken, and go on to rise in the queue
+  -- the numbers of a sender rise in each list of parcels that were taken, and go on to rise in the
+  -- queue
   pub rises : All (λ l. Rises (l ++ items)) v.taken
   -- a view that has ended the line has all rights, and knows what the queue holds
   pub settled : v.ended ≡ true → (v.rights ≡ whole) × (v.rest ≡ items)
 
--- The rule of the line: each parcel that was put stands once, with its buffer, in the queue or in a taker's list, nothing else stands there, and the numbers of each sender rise
+-- The rule of the line: each parcel that was put stands once, with its buffer, in the queue or in a
+-- taker's list, nothing else stands there, and the numbers of each sender rise
 pub record IsDelivered (items : List Parcel) (views : List View) : Type 0 where
   pub rights : sum_by (λ v. v.rights) views ≡ whole
   -- no sender number is in two views
   pub numbers : (i : ℕ) → sum_by (holding i) views ≤ 1
-  -- what was put is what was taken and what the queue holds, however parcels are weighed: each once, and nothing else
-  pub balance : (h : Parcel → ℕ) → sum_by (put_weight h) views ≡ sum_by (taken_weight h) views + sum_by h items
+  -- what was put is what was taken and what the queue holds, however parcels are weighed: each
+  -- once, and nothing else
+  pub balance : (h : Parcel → ℕ)
+      → sum_by (put_weight h) views ≡ sum_by (taken_weight h) views + sum_by h items
   -- the numbers of a sender rise in the queue
   pub rises : Rises items
   pub each : (port : ℕ) (v : View) → get_elem? views port ≡ some v → Fits items v
 
 -- a view by its fields
-abbrev pub view_of : Bool → ℕ → Bool → ℕ → List Sent → List (List Parcel) → Bool → List Parcel → View
-view_of f r m n s t e l = record { fresh = f; rights = r; makes = m; made = n; sent = s; taken = t; ended = e; rest = l }
+abbrev pub view_of : Bool → ℕ → Bool → ℕ → List Sent → List (List Parcel) → Bool → List Parcel
+    → View
+view_of f r m n s t e l = record {
+  fresh = f;
+  rights = r;
+  makes = m;
+  made = n;
+  sent = s;
+  taken = t;
+  ended = e;
+  rest = l;
+}
 
 -- a pass that came by itself has no right
 abbrev pub newcomer : View
@@ -89,7 +110,8 @@ IsLineState items views = IsDelivered items (read views)
 
 -- there is a state by the rule of the line in which one view is v and the queue holds these parcels
 abbrev pub SeenBy : View → List Parcel → Type 0
-SeenBy v items = (views : List View) × (port : ℕ) × IsDelivered items views × (get_elem? views port ≡ some v)
+SeenBy v items =
+    (views : List View) × (port : ℕ) × IsDelivered items views × (get_elem? views port ≡ some v)
 
 -- the buffers and the parcels of a view with one list
 abbrev pub buffers_of : List Sent → List Buffer
@@ -126,11 +148,14 @@ pub record IsTakerView (v : View) : Type 0 where
 
 -- the view after a put of sender i
 abbrev pub after_put : ℕ → View → Parcel → View
-after_put i v x = view_of v.fresh v.rights v.makes v.made (sent i (put_by v ++ x.buffer ∷ []) ∷ []) v.taken v.ended v.rest
+after_put i v x =
+    view_of v.fresh v.rights v.makes v.made
+    (sent i (put_by v ++ x.buffer ∷ []) ∷ []) v.taken v.ended v.rest
 
 -- the view after a take
 abbrev pub after_take : View → Parcel → View
-after_take v x = view_of v.fresh v.rights v.makes v.made v.sent ((taken_by v ++ x ∷ []) ∷ []) v.ended v.rest
+after_take v x =
+    view_of v.fresh v.rights v.makes v.made v.sent ((taken_by v ++ x ∷ []) ∷ []) v.ended v.rest
 
 -- the view of the pass that makes the ends, with these rights left and this many senders made
 abbrev pub maker : ℕ → ℕ → View
@@ -152,13 +177,16 @@ new_taker = view_of false 1 false 0 [] ([] ∷ []) false []
 
 -- two views as one
 abbrev pub joined : View → View → View
-joined v u = view_of false (v.rights + u.rights) false 0 (v.sent ++ u.sent) (v.taken ++ u.taken) false []
+joined v u =
+    view_of false (v.rights + u.rights) false 0 (v.sent ++ u.sent) (v.taken ++ u.taken) false []
 
 -- the view of a pass that was joined into another
 abbrev pub spent : View
 spent = view_of false 0 false 0 [] [] false []
 
--- What a view with all rights knows of what the queue holds: it is what this view has put and not taken, however parcels are weighed, and the numbers of a sender rise in it, also after those of each list that was taken. No two of its senders have one number
+-- What a view with all rights knows of what the queue holds: it is what this view has put and not
+-- taken, however parcels are weighed, and the numbers of a sender rise in it, also after those of
+-- each list that was taken. No two of its senders have one number
 pub record IsLeft (v : View) (items : List Parcel) : Type 0 where
   pub balance : (h : Parcel → ℕ) → put_weight h v ≡ taken_weight h v + sum_by h items
   pub rises : Rises items

@@ -1,5 +1,6 @@
 -- What contracts see of a log: its cards, oldest first.
-use Rattle.std.specs.Prelude.{ℕ, List, [], ◌∷◌, ◌++◌, ◌+◌, ◌≤◌, ◌<◌, Option, Some, None, length, nat_lt, if◌then◌else◌, refl}
+use Rattle.std.specs.Prelude.{ℕ, List, [], ◌∷◌, ◌++◌, ◌+◌, ◌≤◌, ◌<◌, Option, Some, None, length}
+use Rattle.std.specs.Prelude.{nat_lt, if◌then◌else◌, refl}
 use Rattle.std.specs.Coded.{Coded, code_by, coded×, coded_ℕ, coded_list}
 
 pub record Cards : Type 0 where
@@ -8,7 +9,9 @@ pub record Cards : Type 0 where
 
 -- a log is stored as the pair of its size and its cards
 abbrev pub cards_code : Coded Cards
-cards_code = code_by (ℕ × List ℕ) (coded× coded_ℕ (coded_list coded_ℕ)) (λ l. (l.size, l.cards)) (λ p. record { size = p.0; cards = p.1 }) (λ _. refl)
+cards_code =
+    code_by (ℕ × List ℕ) (coded× coded_ℕ (coded_list coded_ℕ)) (λ l. (l.size, l.cards))
+    (λ p. record { size = p.0; cards = p.1 }) (λ _. refl)
 
 -- what every log keeps: its size is within the limits, and it is not full
 pub record IsLog (l : Cards) : Type 0 where
@@ -18,7 +21,10 @@ pub record IsLog (l : Cards) : Type 0 where
 
 -- the log after a push, and the buffer that it hands out where that filled it
 abbrev pub pushed : Cards → ℕ → Cards
-pushed l card = record { size = l.size; cards = if nat_lt (length l.cards + 1) l.size then l.cards ++ card ∷ [] else [] }
+pushed l card = record {
+  size = l.size;
+  cards = if nat_lt (length l.cards + 1) l.size then l.cards ++ card ∷ [] else [];
+}
 
 abbrev pub handed : Cards → ℕ → Option (List ℕ)
 handed l card = if nat_lt (length l.cards + 1) l.size then None else Some (l.cards ++ card ∷ [])

@@ -1,5 +1,6 @@
 //! The completed buffers of one thread.
-ghost use Rattle.std.specs.Prelude.{◌≡◌, ◌≤◌, ◌↔◌, [], length, drop, slice_get, Err, IsTrue, IsSomeAnd, IfErr, OnOk};
+ghost use Rattle.std.specs.Prelude.{◌≡◌, ◌≤◌, ◌↔◌, [], length, drop, slice_get, Err, IsTrue};
+ghost use Rattle.std.specs.Prelude.{IsSomeAnd, IfErr, OnOk};
 ghost use Rattle.std.specs.Option.{option_copied};
 ghost use Rattle.g1_log.specs.Done.{Completed, IsCompleted, added, oldest_cut};
 

@@ -39,6 +39,7 @@ pub struct Settled {
     pub(crate) sent: u64,
     pub(crate) left: u64,
     ghost of: { IsPassOf queue pass } by { Prim.hlevel props },
-    ghost knows: { IfSome ahead (λ x. ((view pass).ended ≡ true) × ((view pass).fresh ≡ false)) } by { Prim.hlevel props },
+    ghost knows: { IfSome ahead (λ x.
+        ((view pass).ended ≡ true) × ((view pass).fresh ≡ false)) } by { Prim.hlevel props },
     ghost counts: { left ≤ sent },
 }

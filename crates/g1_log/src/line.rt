@@ -1,5 +1,7 @@
 //! The queue of completed buffers between threads.
-ghost use Rattle.std.specs.Prelude.{◌≡◌, false, ◌∷◌, ◌++◌, [], ◌+◌, ◌-◌, ◌<◌, ◌≤◌, ◌^◌, ◌⊎◌, length, map, fold, sum_by, MatchResult, MatchOption, IfOk, OnOk, IsTrue};
+ghost use Rattle.std.specs.Prelude.{◌≡◌, false, ◌∷◌, ◌++◌, [], ◌+◌, ◌-◌, ◌<◌, ◌≤◌, ◌^◌, ◌⊎◌};
+ghost use Rattle.std.specs.Prelude.{length, map, fold, sum_by, MatchResult, MatchOption, IfOk};
+ghost use Rattle.std.specs.Prelude.{OnOk, IsTrue};
 ghost use Rattle.std.specs.List.{All};
 ghost use Rattle.crossbeam_queue.specs.Passes.{view, IsPassOf, IsSamePass, ruled_capacity};
 ghost use Rattle.g1_log.specs.Line.{maker, newcomer, joined, whole};
@@ -37,7 +39,12 @@ pub struct Line {
 const MOST_PUT: u64 = 1 << 58;
 
 impl Line {
-    ghost use Rattle.g1_log.specs.Ends.{IsSenderOf, IsTakerOf, IsSameSender, IsSameTaker, put_of, taken_of, capacity_of, WasFull, WasEmpty, AreNewSenders, IsNewTaker, sender_rights, taker_rights, AreAll, sender_view, taker_view, put_count, taken_count, EachTakenOrLeft, AreNumberedApart, RiseInto, left_of, sent_of, left_count};
+    ghost use Rattle.g1_log.specs.Ends.{IsSenderOf, IsTakerOf, IsSameSender, IsSameTaker, put_of};
+    ghost use Rattle.g1_log.specs.Ends.{taken_of, capacity_of, WasFull, WasEmpty, AreNewSenders};
+    ghost use Rattle.g1_log.specs.Ends.{IsNewTaker, sender_rights, taker_rights, AreAll};
+    ghost use Rattle.g1_log.specs.Ends.{sender_view, taker_view, put_count, taken_count};
+    ghost use Rattle.g1_log.specs.Ends.{EachTakenOrLeft, AreNumberedApart, RiseInto, left_of};
+    ghost use Rattle.g1_log.specs.Ends.{sent_of, left_count};
 
     /// Makes an empty queue of at most `capacity` buffers, with its senders, numbered from 0, and
     /// its takers.
@@ -233,7 +240,8 @@ impl Line {
     // Joins the senders into the pass, and counts what they have put.
     fn gather_senders(&self, pass: &mut Pass<Parcel, View>, senders: Vec<Sender>) -> u64
         requires pass { IsPassOf self.now.queue pass.old × (view pass.old ≡ newcomer) }
-        requires senders { All (IsSenderOf self.now) senders.items × (length senders.items ≤ whole) }
+        requires senders { All (IsSenderOf self.now) senders.items
+            × (length senders.items ≤ whole) }
         ensures pass { IsSamePass pass.old pass.new }
         ensures view { view pass.new ≡ fold joined newcomer (map sender_view senders.items) }
         ensures count { result ≡ put_count senders.items }

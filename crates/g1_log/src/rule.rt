@@ -1,7 +1,9 @@
 //! The rule of the queue of completed buffers, and what its steps tell. These types are for the
 //! proofs alone.
 ghost use Rattle.std.specs.Prelude.{◌≡◌, ◌∷◌};
-ghost use Rattle.g1_log.specs.Line.{IsLineState, newcomer, keeper, sender_made, new_sender, taker_made, new_taker, joined, spent, SeenBy, after_put, after_take, IsLeft, drained};
+ghost use Rattle.g1_log.specs.Line.{IsLineState, newcomer, keeper, sender_made, new_sender};
+ghost use Rattle.g1_log.specs.Line.{taker_made, new_taker, joined, spent, SeenBy, after_put};
+ghost use Rattle.g1_log.specs.Line.{after_take, IsLeft, drained};
 
 use crate::parcel::Parcel;
 use crate::view::View;

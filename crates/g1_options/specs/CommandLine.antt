@@ -1,7 +1,9 @@
--- What the words of a command line say of the options, over what `clap` makes of words (its `specs/Walk.antt`).
+-- What the words of a command line say of the options, over what `clap` makes of words (its
+-- `specs/Walk.antt`).
 use Rattle.std.specs.Prelude.{◌≡◌, ℕ, List, [], ◌∷◌, Some, true, false, codes, pos}
 use Rattle.std.specs.Str.Parse.{digits_value, without_leading_plus}
-use Rattle.clap.specs.Words.{App, Row, Rule, Text, new_app, new_rule, one_of, subcommand_of, with_rule, with_subcommand}
+use Rattle.clap.specs.Words.{App, Row, Rule, Text, new_app, new_rule, one_of, subcommand_of}
+use Rattle.clap.specs.Words.{with_rule, with_subcommand}
 use Rattle.clap.specs.Simple.{on_top}
 use Rattle.clap.specs.declared.builder.command.Command.{Command}
 use Rattle.clap.specs.declared.builder.command.Command.TheViews.{out-Command}
@@ -53,15 +55,24 @@ race_app = with_threads (new_app (codes "race"))
 
 -- the program, which tells its version and needs a subcommand
 abbrev pub line_top : App
-line_top = on_top (λ s. record s { has_version = true; arg_required_else_help = true; subcommand_required = true }) (new_app (codes "g1replay"))
+line_top =
+    on_top (λ s. record s {
+      has_version = true;
+      arg_required_else_help = true;
+      subcommand_required = true;
+    }) (new_app (codes "g1replay"))
 
 -- the whole command line
 abbrev pub line_app : App
-line_app = with_subcommand (with_subcommand (with_subcommand line_top run_app.top) crew_app.top) race_app.top
+line_app =
+    with_subcommand
+    (with_subcommand (with_subcommand line_top run_app.top) crew_app.top) race_app.top
 
 -- the number that stands for the option of this name, as given or by default
 abbrev pub IsRead : List Row → Text → ℕ → Type 0
-IsRead rows name n = (text : Text) × (one_of name rows ≡ Some text) × (digits_value 10 (without_leading_plus text) ≡ n)
+IsRead rows name n =
+    (text : Text) × (one_of name rows ≡ Some text)
+    × (digits_value 10 (without_leading_plus text) ≡ n)
 
 -- each setting of the core has the number that stands for its own name
 pub record AreSettingsRead (rows : List Row) (s : Settings) : Type 0 where
@@ -85,7 +96,9 @@ mode_name Race = codes "race"
 
 -- the options of a subcommand with threads
 abbrev pub AreThreaded : List Row → Options → Type 0
-AreThreaded rows o = AreRead rows o × IsRead rows (codes "refiners") o.refiners × IsRead rows (codes "rounds") o.rounds
+AreThreaded rows o =
+    AreRead rows o × IsRead rows (codes "refiners") o.refiners
+    × IsRead rows (codes "rounds") o.rounds
 
 -- the options of each subcommand: what only other ones have is as by default
 abbrev pub AreFor : Mode → List Row → Options → Type 0
@@ -95,4 +108,6 @@ AreFor Race rows o = AreThreaded rows o
 
 -- the words ask for this subcommand and give these options
 abbrev pub IsLine : List Text → Mode → Options → Type 0
-IsLine words mode o = (rows : List Row) × (subcommand_of line_app words ≡ Some (mode_name mode, rows)) × AreFor mode rows o
+IsLine words mode o =
+    (rows : List Row) × (subcommand_of line_app words ≡ Some (mode_name mode, rows))
+    × AreFor mode rows o

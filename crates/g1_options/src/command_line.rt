@@ -1,8 +1,12 @@
 //! What a command line means.
-ghost use Rattle.std.specs.Prelude.{◌≡◌, ◌≤◌, List, [], Some, true, IfSome, IfOk, IfErr, OnOk, map, string_bytes};
-ghost use Rattle.clap.specs.Words.{Row, app_of, fault_of, found_of, kind_of, new_app, rows_of, subcommand_rows_of, takes};
+ghost use Rattle.std.specs.Prelude.{◌≡◌, ◌≤◌, List, [], Some, true, IfSome, IfOk, IfErr, OnOk, map};
+ghost use Rattle.std.specs.Prelude.{string_bytes};
+ghost use Rattle.clap.specs.Words.{Row, app_of, fault_of, found_of, kind_of, new_app, rows_of};
+ghost use Rattle.clap.specs.Words.{subcommand_rows_of, takes};
 ghost use Rattle.g1_options.specs.Settings.{AreWithin};
-ghost use Rattle.g1_options.specs.CommandLine.{AreFor, AreSettingsRead, AreThreaded, IsLine, IsLocal, IsRead, line_app, line_top, mode_name, with_shared, with_threads};
+ghost use Rattle.g1_options.specs.CommandLine.{AreFor, AreSettingsRead, AreThreaded, IsLine};
+ghost use Rattle.g1_options.specs.CommandLine.{IsLocal, IsRead, line_app, line_top, mode_name};
+ghost use Rattle.g1_options.specs.CommandLine.{with_shared, with_threads};
 ghost use Rattle.g1_trace.specs.declared.mode.Mode.TheVariants.{Run as RunMode};
 
 use crate::options::Options;
@@ -142,7 +146,8 @@ pub fn read_options(alloc: Global, words: &[&str]) -> Result<(Mode, Options), Li
     ensures taken { OnOk result (fault_of line_app (map (λ w. w.now) words.now) ≡ []) }
 
     // A command line that the parser takes is refused only with no text, as if memory was refused.
-    ensures refused { IfErr result (λ f. takes line_app (map (λ w. w.now) words.now) ≡ true → string_bytes f.text ≡ []) }
+    ensures refused { IfErr result (λ f.
+        takes line_app (map (λ w. w.now) words.now) ≡ true → string_bytes f.text ≡ []) }
 {
     let Ok(command) = line(alloc) else {
         return Err(LineFault::silent(alloc));

@@ -101,7 +101,8 @@ pub(crate) static ROUNDS: Setting = Setting {
 impl Setting {
     /// The argument that the command line has for this option.
     pub(crate) fn argument<'a>(&self, alloc: Global) -> Arg<'a>
-        ensures rule { rule_of result ≡ option_rule self.now.name.now self.now.least self.now.most self.now.default.now }
+        ensures rule { rule_of result
+            ≡ option_rule self.now.name.now self.now.least self.now.most self.now.default.now }
         ensures local { result.global ≡ false }
     {
         Arg::new(alloc, self.name)
