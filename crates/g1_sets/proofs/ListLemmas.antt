@@ -5,7 +5,7 @@ use Rattle.std.specs.Cmp.{nat_eq_equiv}
 use Rattle.std.specs.List.{IsDistinct, list_any}
 use Rattle.std.proofs.lemmas.Bool.{cases_eq, eqb-true, true≢false}
 use Rattle.std.proofs.lemmas.List.{get_or-set_same, get_or-set_other, length-replicate}
-use Rattle.std.proofs.lemmas.List.Elements.{Contains-append_left, Contains-push, Contains-push_cases, Contains-get_or, All-contains, All-push}
+use Rattle.std.proofs.lemmas.List.Elements.{Contains-append_left, Contains-append_right, Contains-append_cases, Contains-push, Contains-push_cases, Contains-get_or, All-contains, All-push}
 use Rattle.std.proofs.lemmas.Map.Keys.{IsDistinct-push}
 use Rattle.std.proofs.lemmas.Map.Views.{Contains-from_any, list_any-from_Contains}
 use Rattle.g1_layout.specs.Shape.{Shape, card_count}
@@ -95,6 +95,20 @@ joins_more card regions old now new region so_far long at apart =
         | inr ne ↦ apart r ne ∙ so_far.others r (λ h. never (Contains-append_left regions (region ∷ []) r h))
       ];
     }
+
+-- one region first, and then the others
+pub joins_first : (card region : ℕ) (others : List ℕ) (old mid new : List (List ℕ)) → Joins card (region ∷ []) old mid → Joins card others mid new → Joins card (region ∷ others) old new
+joins_first card region others old mid new first later = record {
+  count = later.count ∙ first.count;
+  joined = λ r h. elim (has_cases others r) [
+    | inl named ↦ later.joined r named ∙ elim (has_cases (region ∷ []) r) [
+      | inl is ↦ ap (λ cs. with_card cs card) (first.joined r is) ∙ with_card-again (list_at old r) card
+      | inr ne ↦ ap (λ cs. with_card cs card) (first.others r ne)
+    ]
+    | inr never ↦ later.others r never ∙ first.joined r (elim (Contains-append_cases (region ∷ []) others r h) [ inl is ↦ is | inr named ↦ absurd (never named) ])
+  ];
+  others = λ r never. later.others r (λ h. never (Contains-append_right (region ∷ []) others r h)) ∙ first.others r (λ h. never (Contains-append_left (region ∷ []) others r h));
+}
 
 -- what the lists contain afterwards
 module _ (card : ℕ) (regions : List ℕ) (old new : List (List ℕ)) (joins : Joins card regions old new) where

@@ -1,6 +1,6 @@
 -- A write of one region's set, seen in the lists and in the room of all.
 use Rattle.std.proofs.Common.{◌≡◌, inr, ℕ, ◌<◌, ◌≤◌, ◌+◌, List, [], ◌∷◌, ◌++◌, length, get_or, take, drop, refl, sym, ap, ◌∙◌, subst, arith}
-use Rattle.std.specs.Prelude.{All, Contains, sum_by, slice_set, slice_index}
+use Rattle.std.specs.Prelude.{All, Contains, sum_by, slice_set, slice_index, Result, Ok, Err, OnErr}
 use Rattle.std.proofs.Math.Seq.{map-set_same, take-append_seam}
 use Rattle.std.proofs.lemmas.List.{length-map, length-set, get_or-map, get_or-set_same, map-set, take_more}
 use Rattle.std.proofs.lemmas.List.Sums.{sum_by_push, sum_by-take-le}
@@ -20,6 +20,11 @@ pub within : (regions : List ℕ) (i region n before now : ℕ) → i < length r
 within regions i region n before now lt read at same all =
     let less : get_or regions i region < before = all i region lt in
     omega (arith, less, read, at, same)
+
+-- what holds at all holds on an error
+pub on_err : {A B : Type 0} (P : Type 0) (r : Result A B) → P → OnErr r P
+on_err P (Ok _) holds = tt
+on_err P (Err _) holds = holds
 
 -- what a slice of a whole vector leaves in it
 pub whole : {X : Type 0} (new old : List X) (len : ℕ) → length new ≡ len → take len (new ++ drop (length new) old) ≡ new

@@ -1,5 +1,5 @@
 //! The set of one region, and the sets of all.
-ghost use Rattle.std.specs.Prelude.{◌≡◌, ◌<◌, ◌≤◌, ◌+◌, ◌^◌, length, slice_index, slice_set, sum_by, All, OnOk};
+ghost use Rattle.std.specs.Prelude.{◌≡◌, ◌<◌, ◌≤◌, ◌+◌, ◌^◌, ◌∷◌, [], ℕ, List, length, slice_index, slice_set, sum_by, All, OnOk, OnErr};
 ghost use Rattle.indexmap.specs.IndexSet.{spare};
 ghost use Rattle.g1_sets.specs.Members.{lists_of, rooms_of, HaveRoom};
 ghost use Rattle.g1_sets.specs.Pairs.{list_at, with_card, with_cards, Joins};
@@ -26,12 +26,25 @@ fn make_room(members: &mut Members) -> Result<(), NoMemory>
 }
 
 // Inserts the card into a set with room.
+#[inline(always)]
 fn insert(members: &mut Members, card: Card)
     requires { 0 < spare members.old }
     ensures cards { members.new.keys ≡ with_card members.old.keys card }
     ensures room { spare members.old ≤ spare members.new + 1 }
 {
     members.insert(card).unwrap();
+}
+
+// Inserts the card, with a growth where there is no room. Nothing has changed if it is refused.
+#[inline(always)]
+fn insert_growing(members: &mut Members, card: Card) -> Result<(), NoMemory>
+    ensures cards { OnOk result (members.new.keys ≡ with_card members.old.keys card) }
+    ensures err { OnErr result (members.new.keys ≡ members.old.keys) }
+{
+    let Ok(_) = members.insert(card) else {
+        return Err(NoMemory);
+    };
+    Ok(())
 }
 
 // Inserts the cards into a set with room for all of them.
@@ -44,12 +57,59 @@ fn insert_cards(members: &mut Members, cards: &[Card])
     }
 }
 
-// Makes room for one card more in each of the regions that are not in the card's row.
-pub(crate) fn make_rooms(
+// Inserts the card into the sets of the regions, and the regions into its row. The first set grows
+// as it takes the card, and the others before, so that nothing has changed if a growth is refused.
+pub(crate) fn join(
     sets: &mut [Members],
-    row: &RegionSet,
+    row: &mut RegionSet,
+    card: Card,
     regions: &[Region],
 ) -> Result<(), NoMemory>
+    requires limit { length sets.old ≤ 256 }
+    requires within { All (λ region. region < length sets.old) regions.now }
+    requires row { IsRowOf (lists_of sets.old) card row.old }
+    ensures joins { OnOk result (Joins card regions.now (lists_of sets.old) (lists_of sets.new)) }
+    ensures row { OnOk result (IsRowOf (lists_of sets.new) card row.new) }
+    ensures err { OnErr result (lists_of sets.new ≡ lists_of sets.old) }
+    ensures err_row { OnErr result (row.new ≡ row.old) }
+{
+    let Some((first, others)) = regions.split_first() else {
+        return Ok(());
+    };
+    make_rooms(sets, row, others)?;
+    insert_first(sets, row, card, *first)?;
+    insert_into(sets, row, card, others);
+    Ok(())
+}
+
+// Inserts the card into the set of a region and the region into its row, if it is not there. Where
+// a region of the row or one with room was enough, it still is.
+#[inline(always)]
+fn insert_first(
+    sets: &mut [Members],
+    row: &mut RegionSet,
+    card: Card,
+    region: Region,
+) -> Result<(), NoMemory>
+    requires limit { length sets.old ≤ 256 }
+    requires within { region < length sets.old }
+    requires row { IsRowOf (lists_of sets.old) card row.old }
+    ensures joins { OnOk result (Joins card (region ∷ []) (lists_of sets.old) (lists_of sets.new)) }
+    ensures row { OnOk result (IsRowOf (lists_of sets.new) card row.new) }
+    ensures room { OnOk result ((regions : List ℕ) → HaveRoom row.old (rooms_of sets.old) regions → HaveRoom row.new (rooms_of sets.new) regions) }
+    ensures err { OnErr result (lists_of sets.new ≡ lists_of sets.old) }
+    ensures err_row { OnErr result (row.new ≡ row.old) }
+{
+    if row.contains(region) {
+        return Ok(());
+    }
+    insert_growing(&mut sets[region.number() as usize], card)?;
+    row.insert(region);
+    Ok(())
+}
+
+// Makes room for one card more in each of the regions that are not in the card's row.
+fn make_rooms(sets: &mut [Members], row: &RegionSet, regions: &[Region]) -> Result<(), NoMemory>
     requires limit { length sets.old ≤ 256 }
     requires within { All (λ region. region < length sets.old) regions.now }
     ensures cards { lists_of sets.new ≡ lists_of sets.old }
@@ -64,7 +124,7 @@ pub(crate) fn make_rooms(
 }
 
 // Inserts the card into the sets of the regions, and the regions into its row.
-pub(crate) fn insert_into(sets: &mut [Members], row: &mut RegionSet, card: Card, regions: &[Region])
+fn insert_into(sets: &mut [Members], row: &mut RegionSet, card: Card, regions: &[Region])
     requires limit { length sets.old ≤ 256 }
     requires within { All (λ region. region < length sets.old) regions.now }
     requires row { IsRowOf (lists_of sets.old) card row.old }

@@ -7,7 +7,7 @@ ghost use Rattle.g1_sets.specs.Members.{lists_of};
 ghost use Rattle.g1_sets.specs.Pairs.{list_at, of_card, of_region, with_cards, without, new_pairs, HasOnlyOutside, AreCardsOf, AreTied, Joins};
 
 use crate::ascending::ascending;
-use crate::members::{Members, insert_into, insert_many, make_room_for, make_rooms, total};
+use crate::members::{Members, insert_many, join, make_room_for, total};
 use crate::rows::{add_region, remove_region};
 use g1_layout::{Card, Layout, NoMemory, Region, RegionSet};
 use indexmap::IndexSet;
@@ -95,12 +95,8 @@ impl Sets {
         ensures err { OnErr result (self.new ≡ self.old) }
     {
         let _ = self.layout.counts();
-        let at = card.number() as usize;
-        let mut row = self.rows[at];
-        let sets = self.sets.as_mut_slice();
-        make_rooms(sets, &row, regions)?;
-        insert_into(sets, &mut row, card, regions);
-        self.rows[at] = row;
+        let row = &mut self.rows[card.number() as usize];
+        join(self.sets.as_mut_slice(), row, card, regions)?;
         Ok(())
     }
 
