@@ -1,4 +1,5 @@
--- What contracts see of a book: its machine, how many mutators there are, its entries, and how many it may have.
+-- What contracts see of a book: its machine, how many mutators there are, its entries, and how many
+-- it may have.
 use Rattle.std.specs.Prelude.{◌≡◌, ◌≤◌, ℕ, List, [], ◌∷◌, ◌++◌, length, Option, Some, None, refl}
 use Rattle.std.specs.Coded.{Coded, code_by, coded×, coded_ℕ, coded_list}
 use Rattle.g1_layout.specs.Shape.{Shape, IsShape}
@@ -18,8 +19,12 @@ pub record History : Type 0 where
 
 -- a history is stored as the tuple of its fields
 abbrev pub history_code : Coded Entry → Coded History
-history_code entry = code_by (Machine × (ℕ × (List Entry × ℕ))) (coded× machine_code (coded× coded_ℕ (coded× (coded_list entry) coded_ℕ)))
-    (λ h. (h.machine, (h.mutators, (h.entries, h.limit)))) (λ p. record { machine = p.0; mutators = p.1.0; entries = p.1.1.0; limit = p.1.1.1 }) (λ _. refl)
+history_code entry =
+    code_by (Machine × (ℕ × (List Entry × ℕ)))
+    (coded× machine_code (coded× coded_ℕ (coded× (coded_list entry) coded_ℕ)))
+    (λ h. (h.machine, (h.mutators, (h.entries, h.limit))))
+    (λ p. record { machine = p.0; mutators = p.1.0; entries = p.1.1.0; limit = p.1.1.1 })
+    (λ _. refl)
 
 abbrev pub table_in : History → Table
 table_in h = h.machine.state.table
@@ -35,10 +40,15 @@ pub record Terms : Type 0 where
   pub limit : ℕ
 
 abbrev pub terms_of : History → Terms
-terms_of h = record { layout = layout_in h; settings = h.machine.settings; mutators = h.mutators; limit = h.limit }
+terms_of h = record {
+  layout = layout_in h;
+  settings = h.machine.settings;
+  mutators = h.mutators;
+  limit = h.limit;
+}
 
--- What every book keeps: its entries are a permitted run from the opening table, which ends in the machine's table,
--- and there is room for them.
+-- What every book keeps: its entries are a permitted run from the opening table, which ends in the
+-- machine's table, and there is room for them.
 pub record IsHistory (h : History) : Type 0 where
   pub shape : IsShape (layout_in h)
   pub run : IsPermitted (opening (layout_in h)) h.entries
@@ -50,16 +60,23 @@ pub record IsHistory (h : History) : Type 0 where
 
 -- no call yet, over a new machine
 abbrev pub opened : Shape → Settings → ℕ → ℕ → History
-opened layout settings mutators limit = record { machine = new_machine layout settings; mutators = mutators; entries = []; limit = limit }
+opened layout settings mutators limit = record {
+  machine = new_machine layout settings;
+  mutators = mutators;
+  entries = [];
+  limit = limit;
+}
 
--- The call was made and entered, once: the entry is a step of the plain table, and the count of reads has not fallen.
+-- The call was made and entered, once: the entry is a step of the plain table, and the count of
+-- reads has not fallen.
 pub record IsEntered (old : History) (e : Entry) (new : History) : Type 0 where
   pub entries : new.entries ≡ old.entries ++ e ∷ []
   pub step : IsStep (table_in old) e (table_in new)
   pub terms : terms_of new ≡ terms_of old
   pub reads : old.machine.reads ≤ new.machine.reads
 
--- A drain of the region that is not short answers exactly the cards that references and history say.
+-- A drain of the region that is not short answers exactly the cards that references and history
+-- say.
 abbrev pub AnswersExactly : History → ℕ → Drained → Type 0
 AnswersExactly h region (Cards cards refined) = IsExact (layout_in h) h.entries region cards
 AnswersExactly h region (Short refined) = Unit {0}

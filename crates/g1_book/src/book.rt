@@ -31,9 +31,19 @@ impl Model for Book {
 
     ghost coded = { history_code entry.the_row.coded };
 
-    ghost view = { λ a. record { machine = a.core; mutators = a.mutators; entries = a.entries.items; limit = a.limit } };
+    ghost view = { λ a. record {
+      machine = a.core;
+      mutators = a.mutators;
+      entries = a.entries.items;
+      limit = a.limit;
+    } };
 
-    ghost invariant = { λ a. IsHistory (record { machine = a.core; mutators = a.mutators; entries = a.entries.items; limit = a.limit }) };
+    ghost invariant = { λ a. IsHistory (record {
+      machine = a.core;
+      mutators = a.mutators;
+      entries = a.entries.items;
+      limit = a.limit;
+    }) };
 }
 
 impl Book {

@@ -1,5 +1,6 @@
 //! Drains and clears that are entered in the history.
-ghost use Rattle.std.specs.Prelude.{◌≡◌, ◌≢◌, ◌≤◌, ◌<◌, ◌+◌, ◌*◌, ◌↔◌, length, IfOk, OnErr, vec_len, vec_capacity};
+ghost use Rattle.std.specs.Prelude.{◌≡◌, ◌≢◌, ◌≤◌, ◌<◌, ◌+◌, ◌*◌, ◌↔◌, length, IfOk, OnErr};
+ghost use Rattle.std.specs.Prelude.{vec_len, vec_capacity};
 ghost use Rattle.std.specs.FinSet as set;
 ghost use Rattle.g1_core.specs.Calls.{drain_cards, drain_reply, drain_refined};
 
@@ -29,10 +30,13 @@ impl Book {
     /// is given back.
     pub fn drain(&mut self, caller: u32, region: Region) -> Result<Drained, Refusal>
         requires { region < (layout_in self.old).regions }
-        ensures entered { IfOk result (λ answer. IsEntered self.old (drain_entry caller region answer) self.new) }
+        ensures entered { IfOk result (λ answer.
+            IsEntered self.old (drain_entry caller region answer) self.new) }
         ensures exact { IfOk result (λ answer. AnswersExactly self.old region answer) }
-        ensures drained { IfOk result (λ answer. IsDrainOf self.old.machine region answer self.new.machine) }
-        ensures full { (result ≡ Err Refusal.BookFull) ↔ (length self.old.entries ≡ self.old.limit) }
+        ensures drained { IfOk result (λ answer.
+            IsDrainOf self.old.machine region answer self.new.machine) }
+        ensures full { (result ≡ Err Refusal.BookFull)
+            ↔ (length self.old.entries ≡ self.old.limit) }
         ensures err { OnErr result (self.new ≡ self.old) }
     {
         make_room(&mut self.entries, self.limit)?;
@@ -63,12 +67,17 @@ impl Book {
     /// refused. Either changes nothing. The entry holds no list.
     pub fn clear(&mut self, caller: u32, region: Region) -> Result<ClearReply, Refusal>
         requires { region < (layout_in self.old).regions }
-        ensures entered { IfOk result (λ answer. IsEntered self.old (clear_entry caller region answer) self.new) }
+        ensures entered { IfOk result (λ answer.
+            IsEntered self.old (clear_entry caller region answer) self.new) }
         ensures ring { self.new.machine.state.ring ≡ self.old.machine.state.ring }
-        ensures unread { 1 ≤ set.len (table_in self.old).pending → self.new.machine.reads ≡ self.old.machine.reads }
-        ensures reads { self.new.machine.reads ≤ self.old.machine.reads + member_count (table_in self.old) region * (layout_in self.old).slots }
-        ensures refused { IfOk result (λ answer. answer ≢ ClearReply.Cleared → IsOnlyRead self.old.machine self.new.machine) }
-        ensures full { (result ≡ Err Refusal.BookFull) ↔ (length self.old.entries ≡ self.old.limit) }
+        ensures unread { 1 ≤ set.len (table_in self.old).pending
+            → self.new.machine.reads ≡ self.old.machine.reads }
+        ensures reads { self.new.machine.reads ≤ self.old.machine.reads
+            + member_count (table_in self.old) region * (layout_in self.old).slots }
+        ensures refused { IfOk result (λ answer.
+            answer ≢ ClearReply.Cleared → IsOnlyRead self.old.machine self.new.machine) }
+        ensures full { (result ≡ Err Refusal.BookFull)
+            ↔ (length self.old.entries ≡ self.old.limit) }
         ensures err { OnErr result (self.new ≡ self.old) }
     {
         make_room(&mut self.entries, self.limit)?;

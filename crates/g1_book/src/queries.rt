@@ -22,10 +22,18 @@ impl Book {
     /// entry holds no list.
     pub fn target(&mut self, caller: u32, slot: Slot) -> Result<Option<Slot>, Refusal>
         requires { slot < slot_count (layout_in self.old) }
-        ensures entered { IfOk result (λ target. IsEntered self.old (target_entry caller slot target) self.new) }
+        ensures entered { IfOk result (λ target.
+            IsEntered self.old (target_entry caller slot target) self.new) }
         ensures target { IfOk result (λ target. target ≡ target_of (table_in self.old) slot) }
-        ensures machine { IfOk result (λ _. self.new.machine ≡ record { state = self.old.machine.state; settings = self.old.machine.settings; reads = min (self.old.machine.reads + 1) (2 ^ 64 - 1) }) }
-        ensures full { (result ≡ Err Refusal.BookFull) ↔ (length self.old.entries ≡ self.old.limit) }
+        ensures machine { IfOk result (λ _.
+            self.new.machine
+            ≡ record {
+              state = self.old.machine.state;
+              settings = self.old.machine.settings;
+              reads = min (self.old.machine.reads + 1) (2 ^ 64 - 1);
+            }) }
+        ensures full { (result ≡ Err Refusal.BookFull)
+            ↔ (length self.old.entries ≡ self.old.limit) }
         ensures err { OnErr result (self.new ≡ self.old) }
     {
         make_room(&mut self.entries, self.limit)?;
@@ -44,10 +52,13 @@ impl Book {
     /// entry holds no list.
     pub fn is_pending(&mut self, caller: u32, card: Card) -> Result<bool, Refusal>
         requires { card < card_count (layout_in self.old) }
-        ensures entered { IfOk result (λ answer. IsEntered self.old (pending_entry caller card answer) self.new) }
-        ensures pending { IfOk result (λ answer. answer ≡ set.contains (table_in self.old).pending card) }
+        ensures entered { IfOk result (λ answer.
+            IsEntered self.old (pending_entry caller card answer) self.new) }
+        ensures pending { IfOk result (λ answer.
+            answer ≡ set.contains (table_in self.old).pending card) }
         ensures machine { self.new.machine ≡ self.old.machine }
-        ensures full { (result ≡ Err Refusal.BookFull) ↔ (length self.old.entries ≡ self.old.limit) }
+        ensures full { (result ≡ Err Refusal.BookFull)
+            ↔ (length self.old.entries ≡ self.old.limit) }
         ensures err { OnErr result (self.new ≡ self.old) }
     {
         make_room(&mut self.entries, self.limit)?;
@@ -67,10 +78,12 @@ impl Book {
     /// that it needs.
     pub fn members(&mut self, caller: u32, region: Region) -> Result<CardList, Refusal>
         requires { region < (layout_in self.old).regions }
-        ensures entered { IfOk result (λ cards. IsEntered self.old (members_entry caller region cards) self.new) }
+        ensures entered { IfOk result (λ cards.
+            IsEntered self.old (members_entry caller region cards) self.new) }
         ensures members { IfOk result (λ cards. AreMembers (table_in self.old) region cards) }
         ensures machine { self.new.machine ≡ self.old.machine }
-        ensures full { (result ≡ Err Refusal.BookFull) ↔ (length self.old.entries ≡ self.old.limit) }
+        ensures full { (result ≡ Err Refusal.BookFull)
+            ↔ (length self.old.entries ≡ self.old.limit) }
         ensures err { OnErr result (self.new ≡ self.old) }
     {
         make_room(&mut self.entries, self.limit)?;
@@ -95,11 +108,15 @@ impl Book {
     /// refused. Either changes nothing. The time grows with the number of regions. The entry holds
     /// no list.
     pub fn status(&mut self, caller: u32) -> Result<Status, Refusal>
-        ensures entered { IfOk result (λ status. IsEntered self.old (status_entry caller status) self.new) }
-        ensures pending { IfOk result (λ status. status.pending ≡ set.len (table_in self.old).pending) }
-        ensures recorded { IfOk result (λ status. status.recorded ≡ set.len (table_in self.old).recorded) }
+        ensures entered { IfOk result (λ status.
+            IsEntered self.old (status_entry caller status) self.new) }
+        ensures pending { IfOk result (λ status.
+            status.pending ≡ set.len (table_in self.old).pending) }
+        ensures recorded { IfOk result (λ status.
+            status.recorded ≡ set.len (table_in self.old).recorded) }
         ensures machine { self.new.machine ≡ self.old.machine }
-        ensures full { (result ≡ Err Refusal.BookFull) ↔ (length self.old.entries ≡ self.old.limit) }
+        ensures full { (result ≡ Err Refusal.BookFull)
+            ↔ (length self.old.entries ≡ self.old.limit) }
         ensures err { OnErr result (self.new ≡ self.old) }
     {
         make_room(&mut self.entries, self.limit)?;

@@ -24,9 +24,12 @@ impl Book {
         requires from { from < (layout_in self.old).regions }
         requires to { to < (layout_in self.old).regions }
         requires apart { from ≢ to }
-        ensures entered { IfOk result (λ answer. IsEntered self.old (redirect_entry caller from to answer) self.new) }
-        ensures redirected { IfOk result (λ answer. IsRedirectOf self.old.machine from to answer self.new.machine) }
-        ensures full { (result ≡ Err Refusal.BookFull) ↔ (length self.old.entries ≡ self.old.limit) }
+        ensures entered { IfOk result (λ answer.
+            IsEntered self.old (redirect_entry caller from to answer) self.new) }
+        ensures redirected { IfOk result (λ answer.
+            IsRedirectOf self.old.machine from to answer self.new.machine) }
+        ensures full { (result ≡ Err Refusal.BookFull)
+            ↔ (length self.old.entries ≡ self.old.limit) }
         ensures err { OnErr result (self.new ≡ self.old) }
     {
         make_room(&mut self.entries, self.limit)?;

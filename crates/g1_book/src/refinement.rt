@@ -21,11 +21,17 @@ impl Book {
     /// room for the entry, for its list or for the reply's list was refused. Either changes
     /// nothing. The entry's list takes 4 bytes for each refined card.
     pub fn refine(&mut self, caller: u32, buffer: Option<&Buffer>) -> Result<RefineReply, Refusal>
-        ensures entered { IfOk result (λ reply. IsEntered self.old (refine_entry caller reply) self.new) }
-        ensures refined { IfOk result (λ reply. IsRefined self.old.machine.state (option_map (λ b. b.now) buffer.entry) reply self.new.machine.state) }
-        ensures reads { IfOk result (λ reply. AreCardsRead self.old.machine reply self.new.machine) }
-        ensures counts { IfOk result (λ reply. (reply.taken ≤ 1) × (length reply.refined + reply.skipped ≤ 256) × (reply.hot ≤ 256)) }
-        ensures full { (result ≡ Err Refusal.BookFull) ↔ (length self.old.entries ≡ self.old.limit) }
+        ensures entered { IfOk result (λ reply.
+            IsEntered self.old (refine_entry caller reply) self.new) }
+        ensures refined { IfOk result (λ reply.
+            IsRefined self.old.machine.state
+            (option_map (λ b. b.now) buffer.entry) reply self.new.machine.state) }
+        ensures reads { IfOk result (λ reply.
+            AreCardsRead self.old.machine reply self.new.machine) }
+        ensures counts { IfOk result (λ reply.
+            (reply.taken ≤ 1) × (length reply.refined + reply.skipped ≤ 256) × (reply.hot ≤ 256)) }
+        ensures full { (result ≡ Err Refusal.BookFull)
+            ↔ (length self.old.entries ≡ self.old.limit) }
         ensures err { OnErr result (self.new ≡ self.old) }
     {
         make_room(&mut self.entries, self.limit)?;

@@ -1,5 +1,6 @@
 //! Room for an entry and its lists, which is made before the call, and the entry in it.
-ghost use Rattle.std.specs.Prelude.{◌≡◌, ◌≤◌, ◌<◌, [], ◌∷◌, ◌++◌, length, OnOk, IfErr, vec_len, vec_capacity};
+ghost use Rattle.std.specs.Prelude.{◌≡◌, ◌≤◌, ◌<◌, [], ◌∷◌, ◌++◌, length, OnOk, IfErr, vec_len};
+ghost use Rattle.std.specs.Prelude.{vec_capacity};
 
 use crate::refusal::Refusal;
 use g1_core::{Call, CardList, Entry, Reply};
@@ -30,7 +31,8 @@ pub(crate) fn enter(
     refined: CardList,
 )
     requires room { vec_len entries.old < vec_capacity entries.old }
-    ensures { entries.new.items ≡ entries.old.items ++ record { caller = caller; call = call; reply = reply; refined = refined } ∷ [] }
+    ensures { entries.new.items ≡ entries.old.items
+        ++ record { caller = caller; call = call; reply = reply; refined = refined } ∷ [] }
 {
     entries.push_reserved(Entry {
         caller,

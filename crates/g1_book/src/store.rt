@@ -1,5 +1,6 @@
 //! Stores of references that are entered in the history.
-ghost use Rattle.std.specs.Prelude.{◌≡◌, ◌+◌, ◌<◌, ◌↔◌, [], ◌∷◌, ◌++◌, false, length, IfOk, OnErr, IfSome, vec_len, vec_capacity};
+ghost use Rattle.std.specs.Prelude.{◌≡◌, ◌+◌, ◌<◌, ◌↔◌, [], ◌∷◌, ◌++◌, false, length, IfOk, OnErr};
+ghost use Rattle.std.specs.Prelude.{IfSome, vec_len, vec_capacity};
 ghost use Rattle.g1_layout.specs.Shape.{slot_count, card_of};
 
 use crate::book::Book;
@@ -37,14 +38,28 @@ impl Book {
         requires caller { caller < self.old.mutators }
         requires slot { slot < slot_count (layout_in self.old) }
         requires target { IfSome target (λ place. place < slot_count (layout_in self.old)) }
-        ensures entered { IfOk result (λ answer. IsEntered self.old (store_entry caller slot target answer.0) self.new) }
-        ensures kind { IfOk result (λ answer. answer.0.kind ≡ kind_of (table_in self.old) slot target) }
+        ensures entered { IfOk result (λ answer.
+            IsEntered self.old (store_entry caller slot target answer.0) self.new) }
+        ensures kind { IfOk result (λ answer.
+            answer.0.kind ≡ kind_of (table_in self.old) slot target) }
         ensures fill { IfOk result (λ answer. answer.0.fill ≡ fill_of answer.1) }
         ensures plain { IfOk result (λ answer. (answer.0.refined ≡ []) × (answer.0.short ≡ false)) }
-        ensures machine { IfOk result (λ _. self.new.machine ≡ record { state = record { table = stored (table_in self.old) slot target; ring = self.old.machine.state.ring }; settings = self.old.machine.settings; reads = self.old.machine.reads }) }
-        ensures log { IfOk result (λ answer. log.new ≡ logged answer.0.kind log.old (card_of (layout_in self.old) slot)) }
-        ensures buffer { IfOk result (λ answer. answer.1 ≡ buffer_of answer.0.kind log.old (card_of (layout_in self.old) slot)) }
-        ensures full { (result ≡ Err Refusal.BookFull) ↔ (length self.old.entries ≡ self.old.limit) }
+        ensures machine { IfOk result (λ _.
+            self.new.machine
+            ≡ record {
+              state = record {
+                table = stored (table_in self.old) slot target;
+                ring = self.old.machine.state.ring;
+              };
+              settings = self.old.machine.settings;
+              reads = self.old.machine.reads;
+            }) }
+        ensures log { IfOk result (λ answer.
+            log.new ≡ logged answer.0.kind log.old (card_of (layout_in self.old) slot)) }
+        ensures buffer { IfOk result (λ answer.
+            answer.1 ≡ buffer_of answer.0.kind log.old (card_of (layout_in self.old) slot)) }
+        ensures full { (result ≡ Err Refusal.BookFull)
+            ↔ (length self.old.entries ≡ self.old.limit) }
         ensures err { OnErr result (self.new ≡ self.old) }
         ensures err_log { OnErr result (log.new ≡ log.old) }
     {
@@ -78,11 +93,16 @@ impl Book {
         requires room { length log.old.cards + 1 < log.old.size }
         requires slot { slot < slot_count (layout_in self.old) }
         requires target { IfSome target (λ place. place < slot_count (layout_in self.old)) }
-        ensures entered { IfOk result (λ reply. IsEntered self.old (store_entry caller slot target reply) self.new) }
-        ensures reply { IfOk result (λ reply. reply ≡ unfilled (kind_of (table_in self.old) slot target)) }
-        ensures machine { IfOk result (λ _. self.new.machine ≡ stored_machine self.old.machine slot target) }
-        ensures log { IfOk result (λ reply. log.new ≡ logged reply.kind log.old (card_of (layout_in self.old) slot)) }
-        ensures full { (result ≡ Err Refusal.BookFull) ↔ (length self.old.entries ≡ self.old.limit) }
+        ensures entered { IfOk result (λ reply.
+            IsEntered self.old (store_entry caller slot target reply) self.new) }
+        ensures reply { IfOk result (λ reply.
+            reply ≡ unfilled (kind_of (table_in self.old) slot target)) }
+        ensures machine { IfOk result (λ _.
+            self.new.machine ≡ stored_machine self.old.machine slot target) }
+        ensures log { IfOk result (λ reply.
+            log.new ≡ logged reply.kind log.old (card_of (layout_in self.old) slot)) }
+        ensures full { (result ≡ Err Refusal.BookFull)
+            ↔ (length self.old.entries ≡ self.old.limit) }
         ensures err { OnErr result ((self.new ≡ self.old) × (log.new ≡ log.old)) }
     {
         make_room(&mut self.entries, self.limit)?;
@@ -106,7 +126,13 @@ fn store_call(slot: Slot, target: &Option<Slot>) -> Call
 /// Enters a store with its reply, which refined nothing, in room that was made for it.
 fn enter_store(entries: &mut Vec<Entry>, alloc: Global, caller: u32, call: Call, reply: &StoreReply)
     requires room { vec_len entries.old < vec_capacity entries.old }
-    ensures { entries.new.items ≡ entries.old.items ++ record { caller = caller; call = call; reply = Reply.Stored reply.now.kind reply.now.fill reply.now.short; refined = [] } ∷ [] }
+    ensures { entries.new.items ≡ entries.old.items
+        ++ record {
+          caller = caller;
+          call = call;
+          reply = Reply.Stored reply.now.kind reply.now.fill reply.now.short;
+          refined = [];
+        } ∷ [] }
 {
     let answer = Reply::Stored {
         kind: reply.kind,

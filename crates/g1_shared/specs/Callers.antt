@@ -1,5 +1,6 @@
 -- A caller of a shared book as contracts see it, and what the steps do to it.
-use Rattle.std.specs.Prelude.{◌≡◌, ℕ, ◌+◌, ◌<◌, ◌≤◌, ◌⊎◌, Bool, true, false, List, [], ◌∷◌, ◌++◌, length, Option, Some, None, IfSome, IsSome}
+use Rattle.std.specs.Prelude.{◌≡◌, ℕ, ◌+◌, ◌<◌, ◌≤◌, ◌⊎◌, Bool, true, false, List, [], ◌∷◌, ◌++◌}
+use Rattle.std.specs.Prelude.{length, Option, Some, None, IfSome, IsSome}
 use Rattle.g1_layout.specs.declared.kind.Kind.{Kind}
 use Rattle.g1_log.specs.declared.line.Line.{Line}
 use Rattle.g1_log.specs.declared.ends.Taker.{Taker}
@@ -51,7 +52,11 @@ pub record Mark : Type 0 where
   pub taker : TakerMark
 
 abbrev pub mark_of : Standing → Mark
-mark_of c = record { number = c.counts.number; mutator = mutator_mark c.mutator; taker = taker_mark c.taker }
+mark_of c = record {
+  number = c.counts.number;
+  mutator = mutator_mark c.mutator;
+  taker = taker_mark c.taker;
+}
 
 -- The caller's ends are those of the line.
 abbrev pub IsMarkOf : Line → Mark → Type 0
@@ -62,29 +67,44 @@ IsCallerOf line c = IsMarkOf line (mark_of c)
 
 -- One entry more, or a refused call: then nothing is refined, and that is short.
 abbrev pub IsHelped : ℕ → List ℕ → Bool → ℕ → Type 0
-IsHelped made refined short now = (now ≡ made + 1) ⊎ ((now ≡ made) × (refined ≡ []) × (short ≡ true))
+IsHelped made refined short now =
+    (now ≡ made + 1) ⊎ ((now ≡ made) × (refined ≡ []) × (short ≡ true))
 
 -- What a store of a card does to its caller, by what became of the log.
 abbrev pub StoresAt : Standing → ℕ → Fill → List ℕ → Bool → Standing → Type 0
-StoresAt c card No refined short d = (d.counts.made ≡ c.counts.made + 1) × (put_list d ≡ put_list c) × (refined ≡ []) × (short ≡ false)
+StoresAt c card No refined short d =
+    (d.counts.made ≡ c.counts.made + 1) × (put_list d ≡ put_list c) × (refined ≡ [])
+    × (short ≡ false)
 StoresAt c card Full refined short d =
-    (d.counts.made ≡ c.counts.made + 1) × (put_list d ≡ put_list c ++ ((log_of c).cards ++ card ∷ []) ∷ []) × ((log_of d).cards ≡ []) × (refined ≡ []) × (short ≡ false)
-StoresAt c card Helped refined short d = IsHelped (c.counts.made + 1) refined short d.counts.made × (put_list d ≡ put_list c) × ((log_of d).cards ≡ [])
+    (d.counts.made ≡ c.counts.made + 1)
+    × (put_list d ≡ put_list c ++ ((log_of c).cards ++ card ∷ []) ∷ [])
+    × ((log_of d).cards ≡ []) × (refined ≡ []) × (short ≡ false)
+StoresAt c card Helped refined short d =
+    IsHelped (c.counts.made + 1) refined short d.counts.made × (put_list d ≡ put_list c)
+    × ((log_of d).cards ≡ [])
 
 -- What a flush does to its caller, by what became of the log.
 abbrev pub FlushesAt : Standing → Fill → List ℕ → Bool → Standing → Type 0
-FlushesAt c No refined short d = (d.counts ≡ c.counts) × (put_list d ≡ put_list c) × ((log_of c).cards ≡ []) × (refined ≡ []) × (short ≡ false)
-FlushesAt c Full refined short d = (d.counts ≡ c.counts) × (put_list d ≡ put_list c ++ (log_of c).cards ∷ []) × (refined ≡ []) × (short ≡ false)
-FlushesAt c Helped refined short d = IsHelped c.counts.made refined short d.counts.made × (put_list d ≡ put_list c)
+FlushesAt c No refined short d =
+    (d.counts ≡ c.counts) × (put_list d ≡ put_list c) × ((log_of c).cards ≡ []) × (refined ≡ [])
+    × (short ≡ false)
+FlushesAt c Full refined short d =
+    (d.counts ≡ c.counts) × (put_list d ≡ put_list c ++ (log_of c).cards ∷ []) × (refined ≡ [])
+    × (short ≡ false)
+FlushesAt c Helped refined short d =
+    IsHelped c.counts.made refined short d.counts.made × (put_list d ≡ put_list c)
 
 -- A refinement of a caller: its counts tell of the call.
 abbrev pub RefinesAt : Standing → RefineReply → Standing → Type 0
 RefinesAt c reply d = IsRefinement CountsDid c.counts c.taker reply d.taker d.counts
 
--- A round of a caller at a line, which begins at `start` completed buffers: its counts tell of the calls.
+-- A round of a caller at a line, which begins at `start` completed buffers: its counts tell of the
+-- calls.
 abbrev pub RoundsAt : Line → ℕ → Standing → RefineReply → Standing → Type 0
 RoundsAt line start c reply d =
-    (seen : ℕ) × (seen ≤ capacity_of line) × IsRound CountsDid c.counts (taken_list c) (round_size start seen) reply (taken_list d) d.counts
+    (seen : ℕ) × (seen ≤ capacity_of line)
+    × IsRound CountsDid c.counts (taken_list c) (round_size start seen) reply
+    (taken_list d) d.counts
 
 -- The list has grown by parcels, and no more entries were made than these.
 pub record MakesFor (made : ℕ) (old : List Parcel) (made' : ℕ) (new : List Parcel) : Type 0 where
@@ -113,8 +133,10 @@ called_once c = record { counts = one_call c.counts; mutator = c.mutator; taker 
 
 -- What a store of this kind and card does to a mutator's log, and the buffer that it hands out.
 abbrev pub HandsOutOf : Option Mutator → Kind → ℕ → Option Buffer → Option Mutator → Type 0
-HandsOutOf (Some m) kind card buffer (Some n) = (n.log ≡ logged kind m.log card) × (n.sender ≡ m.sender) × (buffer ≡ buffer_of kind m.log card)
+HandsOutOf (Some m) kind card buffer (Some n) =
+    (n.log ≡ logged kind m.log card) × (n.sender ≡ m.sender) × (buffer ≡ buffer_of kind m.log card)
 HandsOutOf _ kind card buffer _ = ⊥
 
 abbrev pub HandsOut : Standing → Kind → ℕ → Option Buffer → Standing → Type 0
-HandsOut c kind card buffer d = HandsOutOf c.mutator kind card buffer d.mutator × (d.taker ≡ c.taker)
+HandsOut c kind card buffer d =
+    HandsOutOf c.mutator kind card buffer d.mutator × (d.taker ≡ c.taker)

@@ -22,7 +22,10 @@ pub record Tally : Type 0 where
 
 -- a tally is stored as the tuple of its fields
 abbrev pub tally_code : Coded Tally
-tally_code = code_by (ℕ × (ℕ × ℕ)) (coded× coded_ℕ (coded× coded_ℕ coded_ℕ)) (λ t. (t.number, (t.made, t.stored))) (λ p. record { number = p.0; made = p.1.0; stored = p.1.1 }) (λ _. refl)
+tally_code =
+    code_by (ℕ × (ℕ × ℕ)) (coded× coded_ℕ (coded× coded_ℕ coded_ℕ))
+    (λ t. (t.number, (t.made, t.stored)))
+    (λ p. record { number = p.0; made = p.1.0; stored = p.1.1 }) (λ _. refl)
 
 -- one entry more, which is no store, or is one
 abbrev pub one_call : Tally → Tally
@@ -42,7 +45,8 @@ counted t (Refused refusal ∷ ms) = counted t ms
 abbrev pub CountsDid : Tally → List Made → Tally → Type 0
 CountsDid t calls u = u ≡ counted t calls
 
-pub counted_then : (t : Tally) (xs ys : List Made) → counted (counted t xs) ys ≡ counted t (xs ++ ys)
+pub counted_then : (t : Tally) (xs ys : List Made)
+    → counted (counted t xs) ys ≡ counted t (xs ++ ys)
 counted_then t [] ys = refl
 counted_then t (Stored slot target reply ∷ xs) ys = counted_then (one_store t) xs ys
 counted_then t (Refined buffer reply ∷ xs) ys = counted_then (one_call t) xs ys

@@ -1,6 +1,8 @@
 -- What the calls of a worker leave behind at a desk of a shared book.
-use Rattle.std.specs.Prelude.{◌≡◌, ℕ, Bool, cond, ◌+◌, ◌≤◌, List, [], ◌∷◌, ◌++◌, length, count_by, sum_by}
-use Rattle.std.proofs.Common.{refl, sym, ap, subst, ◌∙◌, arith, append-nil, append_assoc, length-append}
+use Rattle.std.specs.Prelude.{◌≡◌, ℕ, Bool, cond, ◌+◌, ◌≤◌, List, [], ◌∷◌, ◌++◌, length, count_by}
+use Rattle.std.specs.Prelude.{sum_by}
+use Rattle.std.proofs.Common.{refl, sym, ap, subst, ◌∙◌, arith, append-nil, append_assoc}
+use Rattle.std.proofs.Common.{length-append}
 use Rattle.std.proofs.lemmas.List.Sums.{sum_by-append}
 use Rattle.g1_shared.specs.Callers.{Standing, MakesFor, mark_of, log_in, taken_list}
 use Rattle.g1_steps.specs.Ask.{Ask, AskStore, AskFlush, AskWork, is_store_ask}
@@ -29,35 +31,43 @@ leaves_same AskFlush t u e h = ap (λ m. (log_in m).cards) e ∙ h
 leaves_same (AskStore slot target) t u e h = tt
 leaves_same AskWork t u e h = tt
 
-log_same : (s t u : Standing) (xs : List Ask) → u.mutator ≡ t.mutator → LeavesLog s xs t → LeavesLog s xs u
+log_same : (s t u : Standing) (xs : List Ask) → u.mutator ≡ t.mutator → LeavesLog s xs t
+    → LeavesLog s xs u
 log_same s t u [] e h = e ∙ h
 log_same s t u (a ∷ []) e h = leaves_same a t u e h
 log_same s t u (a ∷ b ∷ xs) e h = log_same s t u (b ∷ xs) e h
 
-log_behind : (s t u : Standing) (y : Ask) (ys : List Ask) → LeavesLog t (y ∷ ys) u → LeavesLog s (y ∷ ys) u
+log_behind : (s t u : Standing) (y : Ask) (ys : List Ask) → LeavesLog t (y ∷ ys) u
+    → LeavesLog s (y ∷ ys) u
 log_behind s t u y [] h = h
 log_behind s t u y (z ∷ ys) h = log_behind s t u z ys h
 
-log_after : (s t u : Standing) (xs : List Ask) (y : Ask) (ys : List Ask) → LeavesLog t (y ∷ ys) u → LeavesLog s (xs ++ y ∷ ys) u
+log_after : (s t u : Standing) (xs : List Ask) (y : Ask) (ys : List Ask) → LeavesLog t (y ∷ ys) u
+    → LeavesLog s (xs ++ y ∷ ys) u
 log_after s t u [] y ys h = log_behind s t u y ys h
 log_after s t u (x ∷ []) y ys h = log_behind s t u y ys h
 log_after s t u (x ∷ z ∷ xs) y ys h = log_after s t u (z ∷ xs) y ys h
 
-log_then : (s t u : Standing) (xs ys : List Ask) → LeavesLog s xs t → LeavesLog t ys u → LeavesLog s (xs ++ ys) u
-log_then s t u xs [] h k = subst (λ l. LeavesLog s l u) (sym (append-nil xs)) (log_same s t u xs k h)
+log_then : (s t u : Standing) (xs ys : List Ask) → LeavesLog s xs t → LeavesLog t ys u
+    → LeavesLog s (xs ++ ys) u
+log_then s t u xs [] h k =
+    subst (λ l. LeavesLog s l u) (sym (append-nil xs)) (log_same s t u xs k h)
 log_then s t u xs (y ∷ ys) h k = log_after s t u xs y ys k
 
--- A caller made these calls: it is the same caller, each store counts once, and each store makes at least one entry. At
--- most two are made for a store, one for a flush, and one for each parcel that its taker gained.
+-- A caller made these calls: it is the same caller, each store counts once, and each store makes at
+-- least one entry. At most two are made for a store, one for a flush, and one for each parcel that
+-- its taker gained.
 pub record CallerDid (limit : ℕ) (s : Standing) (asks : List Ask) (t : Standing) : Type 0 where
   pub mark : mark_of t ≡ mark_of s
   pub stored : t.counts.stored ≡ s.counts.stored + count_by is_store_ask asks
   pub least : s.counts.made + count_by is_store_ask asks ≤ t.counts.made
   pub log : LeavesLog s asks t
   pub most : t.counts.made ≤ s.counts.made + sum_by (most_for limit) asks
-  pub each : MakesFor (s.counts.made + sum_by (most_for 0) asks) (taken_list s) t.counts.made (taken_list t)
+  pub each : MakesFor (s.counts.made + sum_by (most_for 0) asks) (taken_list s)
+      t.counts.made (taken_list t)
 
-count_more : {X : Type 0} (p : X → Bool) (xs ys : List X) → count_by p (xs ++ ys) ≡ count_by p xs + count_by p ys
+count_more : {X : Type 0} (p : X → Bool) (xs ys : List X)
+    → count_by p (xs ++ ys) ≡ count_by p xs + count_by p ys
 count_more p xs ys = sum_by-append (λ x. cond (p x) 1 0) xs ys
 
 pub caller_did_none : (limit : ℕ) (s : Standing) → CallerDid limit s [] s
@@ -70,7 +80,8 @@ caller_did_none limit s = record {
   each = record { parcels = []; gained = sym (append-nil (taken_list s)); within = omega arith };
 }
 
-pub caller_did_then : (limit : ℕ) (s t u : Standing) (xs ys : List Ask) → CallerDid limit s xs t → CallerDid limit t ys u → CallerDid limit s (xs ++ ys) u
+pub caller_did_then : (limit : ℕ) (s t u : Standing) (xs ys : List Ask) → CallerDid limit s xs t
+    → CallerDid limit t ys u → CallerDid limit s (xs ++ ys) u
 caller_did_then limit s t u xs ys p q = record {
   mark = q.mark ∙ p.mark;
   stored = omega (arith, p.stored, q.stored, count_more is_store_ask xs ys);
@@ -79,8 +90,15 @@ caller_did_then limit s t u xs ys p q = record {
   most = omega (arith, p.most, q.most, sum_by-append (most_for limit) xs ys);
   each = record {
     parcels = p.each.parcels ++ q.each.parcels;
-    gained = q.each.gained ∙ ap (λ l. l ++ q.each.parcels) p.each.gained ∙ append_assoc (taken_list s) p.each.parcels q.each.parcels;
-    within = omega (arith, p.each.within, q.each.within, sum_by-append (most_for 0) xs ys, length-append p.each.parcels q.each.parcels);
+    gained = q.each.gained ∙ ap (λ l. l ++ q.each.parcels) p.each.gained
+        ∙ append_assoc (taken_list s) p.each.parcels q.each.parcels;
+    within = omega (
+      arith,
+      p.each.within,
+      q.each.within,
+      sum_by-append (most_for 0) xs ys,
+      length-append p.each.parcels q.each.parcels,
+    );
   };
 }
 
@@ -96,6 +114,8 @@ IsRefusedAt s AskWork t =
 abbrev pub DeskDid : ℕ → Standing → List Ask → ℕ → Standing → Type 0
 DeskDid limit s asks limit' t = (limit' ≡ limit) × CallerDid limit s asks t
 
-pub desk_did_then : (l m n : ℕ) (s t u : Standing) (xs ys : List Ask) → DeskDid l s xs m t → DeskDid m t ys n u → DeskDid l s (xs ++ ys) n u
+pub desk_did_then : (l m n : ℕ) (s t u : Standing) (xs ys : List Ask) → DeskDid l s xs m t
+    → DeskDid m t ys n u → DeskDid l s (xs ++ ys) n u
 desk_did_then l m n s t u xs ys p q =
-    let P : ℕ → Type 0 = λ k. CallerDid k t ys u in (q.0 ∙ p.0, caller_did_then l s t u xs ys p.1 (subst P p.0 q.1))
+    let P : ℕ → Type 0 = λ k. CallerDid k t ys u in
+    (q.0 ∙ p.0, caller_did_then l s t u xs ys p.1 (subst P p.0 q.1))

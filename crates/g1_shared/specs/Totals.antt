@@ -26,7 +26,12 @@ limit_of (Some limit) = limit
 
 -- what a shared core is opened with, and no call changes
 abbrev pub core_terms : Machine → ℕ → Option ℕ → Terms
-core_terms m mutators limit = record { layout = m.state.table.layout; settings = m.settings; mutators = mutators; limit = limit_of limit }
+core_terms m mutators limit = record {
+  layout = m.state.table.layout;
+  settings = m.settings;
+  mutators = mutators;
+  limit = limit_of limit;
+}
 
 -- a core with its totals
 pub record CountedMachine : Type 0 where
@@ -39,11 +44,17 @@ IsFull c = c.totals.made ≡ c.totals.limit
 
 -- The call is a step of the plain table, whoever made it.
 abbrev pub IsCoreStep : CountedMachine → (ℕ → Entry) → CountedMachine → Type 0
-IsCoreStep old entry new = (number : ℕ) → IsStep old.machine.state.table (entry number) new.machine.state.table
+IsCoreStep old entry new =
+    (number : ℕ) → IsStep old.machine.state.table (entry number) new.machine.state.table
 
 -- both are stored as the tuples of their fields
 abbrev pub totals_code : Coded Totals
-totals_code = code_by (ℕ × (ℕ × ℕ)) (coded× coded_ℕ (coded× coded_ℕ coded_ℕ)) (λ t. (t.made, (t.stored, t.limit))) (λ p. record { made = p.0; stored = p.1.0; limit = p.1.1 }) (λ _. refl)
+totals_code =
+    code_by (ℕ × (ℕ × ℕ)) (coded× coded_ℕ (coded× coded_ℕ coded_ℕ))
+    (λ t. (t.made, (t.stored, t.limit)))
+    (λ p. record { made = p.0; stored = p.1.0; limit = p.1.1 }) (λ _. refl)
 
 abbrev pub counted_machine_code : Coded CountedMachine
-counted_machine_code = code_by (Machine × Totals) (coded× machine_code totals_code) (λ c. (c.machine, c.totals)) (λ p. record { machine = p.0; totals = p.1 }) (λ _. refl)
+counted_machine_code =
+    code_by (Machine × Totals) (coded× machine_code totals_code) (λ c. (c.machine, c.totals))
+    (λ p. record { machine = p.0; totals = p.1 }) (λ _. refl)

@@ -28,7 +28,8 @@ impl<M: Frame, S: Ledger> Model for Counts<M, S> {
 
     ghost view = { λ c. record { number = c.number; made = c.made; stored = c.stored } };
 
-    ghost invariant = { λ c. (c.made_share.parts ≡ 1) × (c.made_share.amount ≡ c.made) × (c.stored_share.parts ≡ 1) × (c.stored_share.amount ≡ c.stored) };
+    ghost invariant = { λ c. (c.made_share.parts ≡ 1) × (c.made_share.amount ≡ c.made)
+        × (c.stored_share.parts ≡ 1) × (c.stored_share.amount ≡ c.stored) };
 }
 
 impl<M: Frame, S: Ledger> Counts<M, S> {

@@ -1,9 +1,12 @@
 //! A book with the totals of its calls and of its stores: what a shared book keeps under its lock.
-ghost use Rattle.std.specs.Prelude.{◌≡◌, ◌≢◌, ◌+◌, ◌-◌, ◌*◌, ◌<◌, ◌≤◌, ◌^◌, ◌↔◌, [], false, length, min, count_by, IfOk, OnErr, OnOk, IfSome, option_map};
+ghost use Rattle.std.specs.Prelude.{◌≡◌, ◌≢◌, ◌+◌, ◌-◌, ◌*◌, ◌<◌, ◌≤◌, ◌^◌, ◌↔◌, [], false, length};
+ghost use Rattle.std.specs.Prelude.{min, count_by, IfOk, OnErr, OnOk, IfSome, option_map};
 ghost use Rattle.std.specs.FinSet as set;
 ghost use Rattle.g1_layout.specs.Shape.{slot_count, card_count, card_of};
 ghost use Rattle.g1_core.specs.Barrier.{logged, buffer_of, fill_of, unfilled, stored_machine};
-ghost use Rattle.g1_core.specs.Calls.{store_entry, refine_entry, target_entry, pending_entry, members_entry, status_entry, drain_entry, clear_entry, redirect_entry};
+ghost use Rattle.g1_core.specs.Calls.{store_entry, refine_entry, target_entry, pending_entry};
+ghost use Rattle.g1_core.specs.Calls.{members_entry, status_entry, drain_entry, clear_entry};
+ghost use Rattle.g1_core.specs.Calls.{redirect_entry};
 ghost use Rattle.g1_core.specs.Clearing.{member_count};
 ghost use Rattle.g1_core.specs.Machine.{IsOnlyRead};
 ghost use Rattle.g1_core.specs.Pause.{IsDrainOf};
@@ -50,7 +53,8 @@ impl<M: Frame, S: Ledger> Model for Counted<M, S> {
 
     ghost view = { λ c. c.book };
 
-    ghost invariant = { λ c. (c.made.total ≡ length c.book.entries) × (c.stored.total ≡ count_by is_store c.book.entries) × (terms_of c.book ≡ M.terms) };
+    ghost invariant = { λ c. (c.made.total ≡ length c.book.entries)
+        × (c.stored.total ≡ count_by is_store c.book.entries) × (terms_of c.book ≡ M.terms) };
 }
 
 #[tactic(auto, using(crate::proofs::CountLemmas::stores_more))]
@@ -83,16 +87,23 @@ impl<M: Frame, S: Ledger> Counted<M, S> {
         requires caller { counts.old.number < M.terms.mutators }
         requires slot { slot < slot_count M.terms.layout }
         requires target { IfSome target (λ place. place < slot_count M.terms.layout) }
-        ensures entered { IfOk result (λ answer. IsEntered self.old (store_entry counts.old.number slot target answer.0) self.new) }
-        ensures kind { IfOk result (λ answer. answer.0.kind ≡ kind_of (table_in self.old) slot target) }
-        ensures machine { IfOk result (λ _. self.new.machine ≡ stored_machine self.old.machine slot target) }
+        ensures entered { IfOk result (λ answer.
+            IsEntered self.old (store_entry counts.old.number slot target answer.0) self.new) }
+        ensures kind { IfOk result (λ answer.
+            answer.0.kind ≡ kind_of (table_in self.old) slot target) }
+        ensures machine { IfOk result (λ _.
+            self.new.machine ≡ stored_machine self.old.machine slot target) }
         ensures fill { IfOk result (λ answer. answer.0.fill ≡ fill_of answer.1) }
         ensures plain { IfOk result (λ answer. (answer.0.refined ≡ []) × (answer.0.short ≡ false)) }
-        ensures log { IfOk result (λ answer. log.new ≡ logged answer.0.kind log.old (card_of M.terms.layout slot)) }
-        ensures buffer { IfOk result (λ answer. answer.1 ≡ buffer_of answer.0.kind log.old (card_of M.terms.layout slot)) }
+        ensures log { IfOk result (λ answer.
+            log.new ≡ logged answer.0.kind log.old (card_of M.terms.layout slot)) }
+        ensures buffer { IfOk result (λ answer.
+            answer.1 ≡ buffer_of answer.0.kind log.old (card_of M.terms.layout slot)) }
         ensures counts { OnOk result (counts.new ≡ one_store counts.old) }
-        ensures full { (result ≡ Err Refusal.BookFull) ↔ (length self.old.entries ≡ self.old.limit) }
-        ensures err { OnErr result ((self.new ≡ self.old) × (counts.new ≡ counts.old) × (log.new ≡ log.old)) }
+        ensures full { (result ≡ Err Refusal.BookFull)
+            ↔ (length self.old.entries ≡ self.old.limit) }
+        ensures err { OnErr result ((self.new ≡ self.old) × (counts.new ≡ counts.old)
+            × (log.new ≡ log.old)) }
     {
         let answer = self.book.store(counts.number(), log, slot, target)?;
         let _entries = self.book.entries();
@@ -117,12 +128,16 @@ impl<M: Frame, S: Ledger> Counted<M, S> {
         requires room { length log.old.cards + 1 < log.old.size }
         requires slot { slot < slot_count M.terms.layout }
         requires target { IfSome target (λ place. place < slot_count M.terms.layout) }
-        ensures entered { IfOk result (λ reply. IsEntered self.old (store_entry counts.old.number slot target reply) self.new) }
+        ensures entered { IfOk result (λ reply.
+            IsEntered self.old (store_entry counts.old.number slot target reply) self.new) }
         ensures reply { IfOk result (λ reply. reply ≡ unfilled reply.kind) }
-        ensures log { IfOk result (λ reply. log.new ≡ logged reply.kind log.old (card_of M.terms.layout slot)) }
+        ensures log { IfOk result (λ reply.
+            log.new ≡ logged reply.kind log.old (card_of M.terms.layout slot)) }
         ensures counts { OnOk result (counts.new ≡ one_store counts.old) }
-        ensures full { (result ≡ Err Refusal.BookFull) ↔ (length self.old.entries ≡ self.old.limit) }
-        ensures err { OnErr result ((self.new ≡ self.old) × (counts.new ≡ counts.old) × (log.new ≡ log.old)) }
+        ensures full { (result ≡ Err Refusal.BookFull)
+            ↔ (length self.old.entries ≡ self.old.limit) }
+        ensures err { OnErr result ((self.new ≡ self.old) × (counts.new ≡ counts.old)
+            × (log.new ≡ log.old)) }
     {
         let reply = self
             .book
@@ -143,12 +158,18 @@ impl<M: Frame, S: Ledger> Counted<M, S> {
         counts: &mut Counts<M, S>,
         buffer: Option<&Buffer>,
     ) -> Result<RefineReply, Refusal>
-        ensures entered { IfOk result (λ reply. IsEntered self.old (refine_entry counts.old.number reply) self.new) }
-        ensures refined { IfOk result (λ reply. IsRefined self.old.machine.state (option_map (λ b. b.now) buffer.entry) reply self.new.machine.state) }
-        ensures reads { IfOk result (λ reply. AreCardsRead self.old.machine reply self.new.machine) }
-        ensures numbers { IfOk result (λ reply. (reply.taken ≤ 1) × (length reply.refined + reply.skipped ≤ 256) × (reply.hot ≤ 256)) }
+        ensures entered { IfOk result (λ reply.
+            IsEntered self.old (refine_entry counts.old.number reply) self.new) }
+        ensures refined { IfOk result (λ reply.
+            IsRefined self.old.machine.state
+            (option_map (λ b. b.now) buffer.entry) reply self.new.machine.state) }
+        ensures reads { IfOk result (λ reply.
+            AreCardsRead self.old.machine reply self.new.machine) }
+        ensures numbers { IfOk result (λ reply.
+            (reply.taken ≤ 1) × (length reply.refined + reply.skipped ≤ 256) × (reply.hot ≤ 256)) }
         ensures counts { OnOk result (counts.new ≡ one_call counts.old) }
-        ensures full { (result ≡ Err Refusal.BookFull) ↔ (length self.old.entries ≡ self.old.limit) }
+        ensures full { (result ≡ Err Refusal.BookFull)
+            ↔ (length self.old.entries ≡ self.old.limit) }
         ensures err { OnErr result ((self.new ≡ self.old) × (counts.new ≡ counts.old)) }
     {
         let reply = self.book.refine(counts.number(), buffer)?;
@@ -170,14 +191,20 @@ impl<M: Frame, S: Ledger> Counted<M, S> {
         requires caller { caller.old.counts.number < M.terms.mutators }
         requires slot { slot < slot_count M.terms.layout }
         requires target { IfSome target (λ place. place < slot_count M.terms.layout) }
-        ensures entered { IfOk result (λ answer. IsEntered self.old (store_entry caller.old.counts.number slot target answer.0) self.new) }
-        ensures kind { IfOk result (λ answer. answer.0.kind ≡ kind_of (table_in self.old) slot target) }
+        ensures entered { IfOk result (λ answer.
+            IsEntered self.old
+            (store_entry caller.old.counts.number slot target answer.0) self.new) }
+        ensures kind { IfOk result (λ answer.
+            answer.0.kind ≡ kind_of (table_in self.old) slot target) }
         ensures fill { IfOk result (λ answer. answer.0.fill ≡ fill_of answer.1) }
         ensures plain { IfOk result (λ answer. (answer.0.refined ≡ []) × (answer.0.short ≡ false)) }
-        ensures machine { IfOk result (λ _. self.new.machine ≡ stored_machine self.old.machine slot target) }
-        ensures buffer { IfOk result (λ answer. HandsOut caller.old answer.0.kind (card_of M.terms.layout slot) answer.1 caller.new) }
+        ensures machine { IfOk result (λ _.
+            self.new.machine ≡ stored_machine self.old.machine slot target) }
+        ensures buffer { IfOk result (λ answer.
+            HandsOut caller.old answer.0.kind (card_of M.terms.layout slot) answer.1 caller.new) }
         ensures counts { OnOk result (caller.new.counts ≡ one_store caller.old.counts) }
-        ensures full { (result ≡ Err Refusal.BookFull) ↔ (length self.old.entries ≡ self.old.limit) }
+        ensures full { (result ≡ Err Refusal.BookFull)
+            ↔ (length self.old.entries ≡ self.old.limit) }
         ensures err { OnErr result ((self.new ≡ self.old) × (caller.new ≡ caller.old)) }
     {
         let Some(mutator) = &mut caller.mutator else {
@@ -197,16 +224,23 @@ impl<M: Frame, S: Ledger> Counted<M, S> {
         requires caller { counts.old.number < M.terms.mutators }
         requires slot { slot < slot_count M.terms.layout }
         requires target { IfSome target (λ place. place < slot_count M.terms.layout) }
-        ensures entered { IfOk result (λ answer. IsEntered self.old (store_entry counts.old.number slot target answer.0) self.new) }
-        ensures kind { IfOk result (λ answer. answer.0.kind ≡ kind_of (table_in self.old) slot target) }
+        ensures entered { IfOk result (λ answer.
+            IsEntered self.old (store_entry counts.old.number slot target answer.0) self.new) }
+        ensures kind { IfOk result (λ answer.
+            answer.0.kind ≡ kind_of (table_in self.old) slot target) }
         ensures fill { IfOk result (λ answer. answer.0.fill ≡ fill_of answer.1) }
         ensures plain { IfOk result (λ answer. (answer.0.refined ≡ []) × (answer.0.short ≡ false)) }
-        ensures machine { IfOk result (λ _. self.new.machine ≡ stored_machine self.old.machine slot target) }
-        ensures buffer { IfOk result (λ answer. (mutator.new.log ≡ logged answer.0.kind mutator.old.log (card_of M.terms.layout slot)) × (answer.1 ≡ buffer_of answer.0.kind mutator.old.log (card_of M.terms.layout slot))) }
+        ensures machine { IfOk result (λ _.
+            self.new.machine ≡ stored_machine self.old.machine slot target) }
+        ensures buffer { IfOk result (λ answer.
+            (mutator.new.log ≡ logged answer.0.kind mutator.old.log (card_of M.terms.layout slot))
+            × (answer.1 ≡ buffer_of answer.0.kind mutator.old.log (card_of M.terms.layout slot))) }
         ensures sender { mutator.new.sender ≡ mutator.old.sender }
         ensures counts { OnOk result (counts.new ≡ one_store counts.old) }
-        ensures full { (result ≡ Err Refusal.BookFull) ↔ (length self.old.entries ≡ self.old.limit) }
-        ensures err { OnErr result ((self.new ≡ self.old) × (counts.new ≡ counts.old) × (mutator.new.log ≡ mutator.old.log)) }
+        ensures full { (result ≡ Err Refusal.BookFull)
+            ↔ (length self.old.entries ≡ self.old.limit) }
+        ensures err { OnErr result ((self.new ≡ self.old) × (counts.new ≡ counts.old)
+            × (mutator.new.log ≡ mutator.old.log)) }
     {
         self.store_by(counts, &mut mutator.log, slot, target)
     }
@@ -217,12 +251,18 @@ impl<M: Frame, S: Ledger> Counted<M, S> {
         caller: &mut Caller<M, S>,
         buffer: Option<&Buffer>,
     ) -> Result<RefineReply, Refusal>
-        ensures entered { IfOk result (λ reply. IsEntered self.old (refine_entry caller.old.counts.number reply) self.new) }
-        ensures refined { IfOk result (λ reply. IsRefined self.old.machine.state (option_map (λ b. b.now) buffer.entry) reply self.new.machine.state) }
-        ensures reads { IfOk result (λ reply. AreCardsRead self.old.machine reply self.new.machine) }
-        ensures counts { IfOk result (λ reply. (reply.taken ≤ 1) × (length reply.refined + reply.skipped ≤ 256) × (reply.hot ≤ 256)) }
+        ensures entered { IfOk result (λ reply.
+            IsEntered self.old (refine_entry caller.old.counts.number reply) self.new) }
+        ensures refined { IfOk result (λ reply.
+            IsRefined self.old.machine.state
+            (option_map (λ b. b.now) buffer.entry) reply self.new.machine.state) }
+        ensures reads { IfOk result (λ reply.
+            AreCardsRead self.old.machine reply self.new.machine) }
+        ensures counts { IfOk result (λ reply.
+            (reply.taken ≤ 1) × (length reply.refined + reply.skipped ≤ 256) × (reply.hot ≤ 256)) }
         ensures made { OnOk result (caller.new ≡ called_once caller.old) }
-        ensures full { (result ≡ Err Refusal.BookFull) ↔ (length self.old.entries ≡ self.old.limit) }
+        ensures full { (result ≡ Err Refusal.BookFull)
+            ↔ (length self.old.entries ≡ self.old.limit) }
         ensures err { OnErr result ((self.new ≡ self.old) × (caller.new ≡ caller.old)) }
     {
         self.refine_by(&mut caller.counts, buffer)
@@ -231,11 +271,15 @@ impl<M: Frame, S: Ledger> Counted<M, S> {
     /// Returns what a slot refers to, as `Book::target` does, for this caller.
     pub fn target(&mut self, caller: &mut Caller<M, S>, slot: Slot) -> Result<Option<Slot>, Refusal>
         requires { slot < slot_count M.terms.layout }
-        ensures entered { IfOk result (λ target. IsEntered self.old (target_entry caller.old.counts.number slot target) self.new) }
+        ensures entered { IfOk result (λ target.
+            IsEntered self.old (target_entry caller.old.counts.number slot target) self.new) }
         ensures target { IfOk result (λ target. target ≡ target_of (table_in self.old) slot) }
-        ensures machine { IfOk result (λ _. self.new.machine ≡ record self.old.machine { reads = min (self.old.machine.reads + 1) (2 ^ 64 - 1) }) }
+        ensures machine { IfOk result (λ _.
+            self.new.machine
+            ≡ record self.old.machine { reads = min (self.old.machine.reads + 1) (2 ^ 64 - 1) }) }
         ensures made { OnOk result (caller.new ≡ called_once caller.old) }
-        ensures full { (result ≡ Err Refusal.BookFull) ↔ (length self.old.entries ≡ self.old.limit) }
+        ensures full { (result ≡ Err Refusal.BookFull)
+            ↔ (length self.old.entries ≡ self.old.limit) }
         ensures err { OnErr result ((self.new ≡ self.old) × (caller.new ≡ caller.old)) }
     {
         let target = self.book.target(caller.counts.number(), slot)?;
@@ -247,11 +291,14 @@ impl<M: Frame, S: Ledger> Counted<M, S> {
     /// Returns whether a card is pending, as `Book::is_pending` does, for this caller.
     pub fn is_pending(&mut self, caller: &mut Caller<M, S>, card: Card) -> Result<bool, Refusal>
         requires { card < card_count M.terms.layout }
-        ensures entered { IfOk result (λ answer. IsEntered self.old (pending_entry caller.old.counts.number card answer) self.new) }
-        ensures pending { IfOk result (λ answer. answer ≡ set.contains (table_in self.old).pending card) }
+        ensures entered { IfOk result (λ answer.
+            IsEntered self.old (pending_entry caller.old.counts.number card answer) self.new) }
+        ensures pending { IfOk result (λ answer.
+            answer ≡ set.contains (table_in self.old).pending card) }
         ensures machine { self.new.machine ≡ self.old.machine }
         ensures made { OnOk result (caller.new ≡ called_once caller.old) }
-        ensures full { (result ≡ Err Refusal.BookFull) ↔ (length self.old.entries ≡ self.old.limit) }
+        ensures full { (result ≡ Err Refusal.BookFull)
+            ↔ (length self.old.entries ≡ self.old.limit) }
         ensures err { OnErr result ((self.new ≡ self.old) × (caller.new ≡ caller.old)) }
     {
         let answer = self.book.is_pending(caller.counts.number(), card)?;
@@ -267,11 +314,13 @@ impl<M: Frame, S: Ledger> Counted<M, S> {
         region: Region,
     ) -> Result<CardList, Refusal>
         requires { region < M.terms.layout.regions }
-        ensures entered { IfOk result (λ cards. IsEntered self.old (members_entry caller.old.counts.number region cards) self.new) }
+        ensures entered { IfOk result (λ cards.
+            IsEntered self.old (members_entry caller.old.counts.number region cards) self.new) }
         ensures members { IfOk result (λ cards. AreMembers (table_in self.old) region cards) }
         ensures machine { self.new.machine ≡ self.old.machine }
         ensures made { OnOk result (caller.new ≡ called_once caller.old) }
-        ensures full { (result ≡ Err Refusal.BookFull) ↔ (length self.old.entries ≡ self.old.limit) }
+        ensures full { (result ≡ Err Refusal.BookFull)
+            ↔ (length self.old.entries ≡ self.old.limit) }
         ensures err { OnErr result ((self.new ≡ self.old) × (caller.new ≡ caller.old)) }
     {
         let cards = self.book.members(caller.counts.number(), region)?;
@@ -282,11 +331,15 @@ impl<M: Frame, S: Ledger> Counted<M, S> {
 
     /// Returns how much is pending and recorded, as `Book::status` does, for this caller.
     pub fn status(&mut self, caller: &mut Caller<M, S>) -> Result<Status, Refusal>
-        ensures entered { IfOk result (λ status. IsEntered self.old (status_entry caller.old.counts.number status) self.new) }
-        ensures counts { IfOk result (λ status. (status.pending ≡ set.len (table_in self.old).pending) × (status.recorded ≡ set.len (table_in self.old).recorded)) }
+        ensures entered { IfOk result (λ status.
+            IsEntered self.old (status_entry caller.old.counts.number status) self.new) }
+        ensures counts { IfOk result (λ status.
+            (status.pending ≡ set.len (table_in self.old).pending)
+            × (status.recorded ≡ set.len (table_in self.old).recorded)) }
         ensures machine { self.new.machine ≡ self.old.machine }
         ensures made { OnOk result (caller.new ≡ called_once caller.old) }
-        ensures full { (result ≡ Err Refusal.BookFull) ↔ (length self.old.entries ≡ self.old.limit) }
+        ensures full { (result ≡ Err Refusal.BookFull)
+            ↔ (length self.old.entries ≡ self.old.limit) }
         ensures err { OnErr result ((self.new ≡ self.old) × (caller.new ≡ caller.old)) }
     {
         let status = self.book.status(caller.counts.number())?;
@@ -298,11 +351,14 @@ impl<M: Frame, S: Ledger> Counted<M, S> {
     /// Drains a region, as `Book::drain` does, for this caller. The list of a whole drain is exact.
     pub fn drain(&mut self, caller: &mut Caller<M, S>, region: Region) -> Result<Drained, Refusal>
         requires { region < M.terms.layout.regions }
-        ensures entered { IfOk result (λ answer. IsEntered self.old (drain_entry caller.old.counts.number region answer) self.new) }
+        ensures entered { IfOk result (λ answer.
+            IsEntered self.old (drain_entry caller.old.counts.number region answer) self.new) }
         ensures exact { IfOk result (λ answer. AnswersExactly self.old region answer) }
-        ensures drained { IfOk result (λ answer. IsDrainOf self.old.machine region answer self.new.machine) }
+        ensures drained { IfOk result (λ answer.
+            IsDrainOf self.old.machine region answer self.new.machine) }
         ensures made { OnOk result (caller.new ≡ called_once caller.old) }
-        ensures full { (result ≡ Err Refusal.BookFull) ↔ (length self.old.entries ≡ self.old.limit) }
+        ensures full { (result ≡ Err Refusal.BookFull)
+            ↔ (length self.old.entries ≡ self.old.limit) }
         ensures err { OnErr result ((self.new ≡ self.old) × (caller.new ≡ caller.old)) }
     {
         let answer = self.book.drain(caller.counts.number(), region)?;
@@ -318,13 +374,18 @@ impl<M: Frame, S: Ledger> Counted<M, S> {
         region: Region,
     ) -> Result<ClearReply, Refusal>
         requires { region < M.terms.layout.regions }
-        ensures entered { IfOk result (λ answer. IsEntered self.old (clear_entry caller.old.counts.number region answer) self.new) }
-        ensures refused { IfOk result (λ answer. answer ≢ ClearReply.Cleared → IsOnlyRead self.old.machine self.new.machine) }
+        ensures entered { IfOk result (λ answer.
+            IsEntered self.old (clear_entry caller.old.counts.number region answer) self.new) }
+        ensures refused { IfOk result (λ answer.
+            answer ≢ ClearReply.Cleared → IsOnlyRead self.old.machine self.new.machine) }
         ensures ring { self.new.machine.state.ring ≡ self.old.machine.state.ring }
-        ensures unread { 1 ≤ set.len (table_in self.old).pending → self.new.machine.reads ≡ self.old.machine.reads }
-        ensures reads { self.new.machine.reads ≤ self.old.machine.reads + member_count (table_in self.old) region * M.terms.layout.slots }
+        ensures unread { 1 ≤ set.len (table_in self.old).pending
+            → self.new.machine.reads ≡ self.old.machine.reads }
+        ensures reads { self.new.machine.reads ≤ self.old.machine.reads
+            + member_count (table_in self.old) region * M.terms.layout.slots }
         ensures made { OnOk result (caller.new ≡ called_once caller.old) }
-        ensures full { (result ≡ Err Refusal.BookFull) ↔ (length self.old.entries ≡ self.old.limit) }
+        ensures full { (result ≡ Err Refusal.BookFull)
+            ↔ (length self.old.entries ≡ self.old.limit) }
         ensures err { OnErr result ((self.new ≡ self.old) × (caller.new ≡ caller.old)) }
     {
         let answer = self.book.clear(caller.counts.number(), region)?;
@@ -343,10 +404,13 @@ impl<M: Frame, S: Ledger> Counted<M, S> {
         requires from { from < M.terms.layout.regions }
         requires to { to < M.terms.layout.regions }
         requires apart { from ≢ to }
-        ensures entered { IfOk result (λ answer. IsEntered self.old (redirect_entry caller.old.counts.number from to answer) self.new) }
-        ensures redirected { IfOk result (λ answer. IsRedirectOf self.old.machine from to answer self.new.machine) }
+        ensures entered { IfOk result (λ answer.
+            IsEntered self.old (redirect_entry caller.old.counts.number from to answer) self.new) }
+        ensures redirected { IfOk result (λ answer.
+            IsRedirectOf self.old.machine from to answer self.new.machine) }
         ensures made { OnOk result (caller.new ≡ called_once caller.old) }
-        ensures full { (result ≡ Err Refusal.BookFull) ↔ (length self.old.entries ≡ self.old.limit) }
+        ensures full { (result ≡ Err Refusal.BookFull)
+            ↔ (length self.old.entries ≡ self.old.limit) }
         ensures err { OnErr result ((self.new ≡ self.old) × (caller.new ≡ caller.old)) }
     {
         let answer = self.book.redirect(caller.counts.number(), from, to)?;

@@ -1,6 +1,7 @@
 //! A core with the totals of its calls and of its stores: what is under the lock of a shared core.
 //! Its calls are in [`calls`].
-ghost use Rattle.std.specs.Prelude.{◌≡◌, ◌+◌, ◌<◌, ◌≤◌, ◌↔◌, [], false, length, IfOk, OnErr, OnOk, IfSome, option_map};
+ghost use Rattle.std.specs.Prelude.{◌≡◌, ◌+◌, ◌<◌, ◌≤◌, ◌↔◌, [], false, length, IfOk, OnErr, OnOk};
+ghost use Rattle.std.specs.Prelude.{IfSome, option_map};
 ghost use Rattle.g1_layout.specs.Shape.{slot_count, card_of};
 ghost use Rattle.g1_core.specs.Barrier.{logged, buffer_of, fill_of, stored_machine};
 ghost use Rattle.g1_core.specs.Calls.{store_entry, refine_entry};

@@ -1,5 +1,6 @@
 //! What makes the calls of a shared machinery under its lock.
-ghost use Rattle.std.specs.Prelude.{◌≡◌, ◌≢◌, ◌+◌, ◌<◌, ◌≤◌, [], false, length, IfOk, OnErr, OnOk, IfSome, IsNone};
+ghost use Rattle.std.specs.Prelude.{◌≡◌, ◌≢◌, ◌+◌, ◌<◌, ◌≤◌, [], false, length, IfOk, OnErr, OnOk};
+ghost use Rattle.std.specs.Prelude.{IfSome, IsNone};
 ghost use Rattle.g1_layout.specs.Shape.{slot_count, card_count, card_of};
 ghost use Rattle.g1_core.specs.Barrier.{logged, buffer_of, fill_of, unfilled};
 ghost use Rattle.g1_shared.specs.Counts.{one_call, one_store};

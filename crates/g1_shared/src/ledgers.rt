@@ -19,7 +19,12 @@ pub trait Frame: Ledger {
 }
 
 impl Frame for Brand {
-    ghost terms = { record { layout = record { regions = 0; cards = 0; slots = 0 }; settings = record { log = 0; limit = 0; hot = 0; ring = 0; start = 0 }; mutators = 0; limit = 0 } };
+    ghost terms = { record {
+      layout = record { regions = 0; cards = 0; slots = 0 };
+      settings = record { log = 0; limit = 0; hot = 0; ring = 0; start = 0 };
+      mutators = 0;
+      limit = 0;
+    } };
 }
 
 /// One more in a total and in a share of it, whose amount is kept as a number too.

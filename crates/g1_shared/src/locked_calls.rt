@@ -33,7 +33,8 @@ impl<'a, R: Wait, M: Frame, S: Ledger, K: Keeper<M, S>> Calls for LockedCalls<'a
 
     ghost may_store = { λ s. nat_lt s.counts.now.number M.terms.mutators };
 
-    ghost did = { λ s ms t. (t.counts.ghost_name ≡ s.counts.ghost_name) × (t.counts.now ≡ counted s.counts.now ms) };
+    ghost did = { λ s ms t. (t.counts.ghost_name ≡ s.counts.ghost_name)
+        × (t.counts.now ≡ counted s.counts.now ms) };
 
     fn store(
         &mut self,
@@ -68,7 +69,12 @@ impl<'a, R: Wait, M: Frame, S: Ledger, K: Keeper<M, S>> Calls for LockedCalls<'a
 
     ghost none = { λ s. (refl, refl) };
 
-    ghost then = { λ s t u xs ys h k. (k.0 ∙ h.0, k.1 ∙ ap (λ n. counted n ys) h.1 ∙ counted_then s.counts.now xs ys) };
+    ghost then = { λ s t u xs ys h k.
+        (k.0 ∙ h.0, k.1 ∙ ap (λ n. counted n ys) h.1 ∙ counted_then s.counts.now xs ys) };
 
-    ghost stays = { λ s t ms h. (refl, ap (λ n. nat_lt n M.terms.mutators) (ap (λ t. t.number) h.1 ∙ counted_number s.counts.now ms)) };
+    ghost stays = { λ s t ms h. (
+      refl,
+      ap (λ n. nat_lt n M.terms.mutators)
+          (ap (λ t. t.number) h.1 ∙ counted_number s.counts.now ms),
+    ) };
 }

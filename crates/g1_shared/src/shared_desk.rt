@@ -62,20 +62,23 @@ impl<'a, R, M: Frame, S: Ledger, K: Keeper<M, S>> SharedDesk<'a, R, M, S, K> {
 
 #[tactic(auto, using(crate::proofs::CountLemmas::makes_none, crate::proofs::CountLemmas::makes_lost))]
 impl<'a, R: Wait, M: Frame, S: Ledger, K: Keeper<M, S>> Desk for SharedDesk<'a, R, M, S, K> {
-    ghost did = { λ s asks t. DeskDid (capacity_of s.shared.now) s.caller asks (capacity_of t.shared.now) t.caller };
+    ghost did = { λ s asks t. DeskDid (capacity_of s.shared.now) s.caller asks
+        (capacity_of t.shared.now) t.caller };
 
     ghost slots = { λ s. slot_count M.terms.layout };
 
     ghost may_store = { λ s. nat_lt s.caller.counts.number M.terms.mutators };
 
     ghost stored = { λ s slot target reply t.
-        StoresAt s.caller (card_of M.terms.layout slot) reply.fill reply.refined reply.short t.caller
+        StoresAt s.caller
+        (card_of M.terms.layout slot) reply.fill reply.refined reply.short t.caller
         × (log_of t.caller ≡ logged reply.kind (log_of s.caller) (card_of M.terms.layout slot)) };
 
     ghost flushed = { λ s reply t. FlushesAt s.caller reply.fill reply.refined reply.short t.caller
         × (reply.cards ≡ length (log_of s.caller).cards) };
 
-    ghost worked = { λ s reply t. RoundsAt s.shared.now M.terms.settings.start s.caller reply t.caller };
+    ghost worked = { λ s reply t.
+        RoundsAt s.shared.now M.terms.settings.start s.caller reply t.caller };
 
     ghost refused = { λ s ask why t. IsRefusedAt s.caller ask t.caller };
 
@@ -93,5 +96,6 @@ impl<'a, R: Wait, M: Frame, S: Ledger, K: Keeper<M, S>> Desk for SharedDesk<'a, 
 
     ghost none = { λ s. (refl, caller_did_none (capacity_of s.shared.now) s.caller) };
 
-    ghost then = { λ s t u. desk_did_then (capacity_of s.shared.now) (capacity_of t.shared.now) (capacity_of u.shared.now) s.caller t.caller u.caller };
+    ghost then = { λ s t u. desk_did_then (capacity_of s.shared.now) (capacity_of t.shared.now)
+        (capacity_of u.shared.now) s.caller t.caller u.caller };
 }

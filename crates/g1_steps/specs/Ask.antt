@@ -1,5 +1,6 @@
 -- What a worker asks of its desk.
-use Rattle.std.specs.Prelude.{◌≡◌, ℕ, ◌<◌, Bool, true, false, List, map, replicate, All, Option, IfSome}
+use Rattle.std.specs.Prelude.{◌≡◌, ℕ, ◌<◌, Bool, true, false, List, map, replicate, All, Option}
+use Rattle.std.specs.Prelude.{IfSome}
 use Rattle.g1_steps.specs.declared.desk.Step.{Step}
 use Rattle.g1_steps.specs.declared.desk.Step.TheVariants.{Store, Flush}
 use Rattle.g1_steps.specs.declared.desk.Script.{Script}
@@ -26,9 +27,11 @@ is_store_ask (AskStore slot target) = true
 is_store_ask AskFlush = false
 is_store_ask AskWork = false
 
--- A step that a desk takes, where the heap has `slots` slots and `may` is whether its caller may store.
+-- A step that a desk takes, where the heap has `slots` slots and `may` is whether its caller may
+-- store.
 abbrev pub StepFits : ℕ → Bool → Step → Type 0
-StepFits slots may (Store slot target) = (may ≡ true) × (slot < slots) × IfSome target (λ place. place < slots)
+StepFits slots may (Store slot target) =
+    (may ≡ true) × (slot < slots) × IfSome target (λ place. place < slots)
 StepFits slots may Flush = may ≡ true
 
 -- A script that a desk takes.

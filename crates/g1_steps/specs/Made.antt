@@ -30,7 +30,8 @@ refines buffer (Err refusal) = Refused refusal
 -- the entries that calls make
 abbrev pub entries_of : ℕ → List Made → List Entry
 entries_of caller [] = []
-entries_of caller (Stored slot target reply ∷ ms) = store_entry caller slot target reply ∷ entries_of caller ms
+entries_of caller (Stored slot target reply ∷ ms) =
+    store_entry caller slot target reply ∷ entries_of caller ms
 entries_of caller (Refined buffer reply ∷ ms) = refine_entry caller reply ∷ entries_of caller ms
 entries_of caller (Refused refusal ∷ ms) = entries_of caller ms
 
@@ -40,8 +41,10 @@ AreCalls call old [] new = new ≡ old
 AreCalls call old (m ∷ []) new = call old m new
 AreCalls {S} call old (m ∷ n ∷ ms) new = (mid : S) × call old m mid × AreCalls call mid (n ∷ ms) new
 
-pub calls_then : {S : Type 0} (call : S → Made → S → Type 0) (old mid new : S) (xs ys : List Made) → AreCalls call old xs mid → AreCalls call mid ys new → AreCalls call old (xs ++ ys) new
+pub calls_then : {S : Type 0} (call : S → Made → S → Type 0) (old mid new : S) (xs ys : List Made)
+    → AreCalls call old xs mid → AreCalls call mid ys new → AreCalls call old (xs ++ ys) new
 calls_then call old mid new [] ys h k = subst (λ b. AreCalls call b ys new) h k
 calls_then call old mid new (x ∷ []) [] h k = subst (call old x) (sym k) h
 calls_then call old mid new (x ∷ []) (y ∷ ys) h k = (mid, h, k)
-calls_then call old mid new (x ∷ z ∷ xs) ys h k = (h.0, h.1, calls_then call h.0 mid new (z ∷ xs) ys h.2 k)
+calls_then call old mid new (x ∷ z ∷ xs) ys h k =
+    (h.0, h.1, calls_then call h.0 mid new (z ∷ xs) ys h.2 k)

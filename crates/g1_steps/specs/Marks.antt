@@ -17,7 +17,13 @@ pub record TakerMark : Type 0 where
 
 abbrev pub mutator_mark : Option Mutator → Option MutatorMark
 mutator_mark None = None
-mutator_mark (Some m) = Some (record { log = m.log.size; line = sender_home m.sender; number = number_of m.sender; rights = sender_rights m.sender })
+mutator_mark (Some m) =
+    Some (record {
+      log = m.log.size;
+      line = sender_home m.sender;
+      number = number_of m.sender;
+      rights = sender_rights m.sender;
+    })
 
 abbrev pub taker_mark : Taker → TakerMark
 taker_mark t = record { line = taker_home t; rights = taker_rights t }

@@ -12,4 +12,5 @@ pub record IsNewMutator (line : Line) (size k : ℕ) (m : Mutator) : Type 0 wher
 -- mutators as they begin, numbered from k on
 abbrev pub AreNewMutators : Line → ℕ → ℕ → List Mutator → Type 0
 AreNewMutators line size k [] = Unit {0}
-AreNewMutators line size k (m ∷ ms) = IsNewMutator line size k m × AreNewMutators line size (k + 1) ms
+AreNewMutators line size k (m ∷ ms) =
+    IsNewMutator line size k m × AreNewMutators line size (k + 1) ms

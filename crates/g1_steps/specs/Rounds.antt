@@ -1,5 +1,7 @@
 -- What a round of refinements does: its calls, what they add up to, and where it ends.
-use Rattle.std.specs.Prelude.{◌≡◌, ◌≤◌, ◌+◌, ◌-◌, ◌/◌, ◌⊎◌, ℕ, Bool, true, false, List, [], ◌∷◌, ◌++◌, length, map, sum_by, All, nat_lt, not, if◌then◌else◌, Option, Some, None, IsSome}
+use Rattle.std.specs.Prelude.{◌≡◌, ◌≤◌, ◌+◌, ◌-◌, ◌/◌, ◌⊎◌, ℕ, Bool, true, false, List, [], ◌∷◌}
+use Rattle.std.specs.Prelude.{◌++◌, length, map, sum_by, All, nat_lt, not, if◌then◌else◌, Option}
+use Rattle.std.specs.Prelude.{Some, None, IsSome}
 use Rattle.std.specs.List.{flat_map}
 use Rattle.g1_log.specs.declared.ends.Taker.{Taker}
 use Rattle.g1_log.specs.declared.parcel.Parcel.{Parcel}
@@ -11,7 +13,8 @@ use Rattle.g1_steps.specs.declared.steps.refiner.Sums.{Sums}
 use Rattle.g1_steps.specs.Made.{Made, Refined, Refused}
 use Rattle.g1_steps.specs.Steps.{GainsAtMost, FoundEmpty}
 
--- how many calls a round makes at most, where it begins at `start` completed buffers and sees `seen`
+-- how many calls a round makes at most, where it begins at `start` completed buffers and sees
+-- `seen`
 abbrev pub round_size : ℕ → ℕ → ℕ
 round_size start seen = if nat_lt seen start then 0 else seen - start / 4
 
@@ -48,13 +51,18 @@ pub record IsSumOf (replies : List RefineReply) (reply : RefineReply) : Type 0 w
   pub skipped : reply.skipped ≡ sum_by (λ r. r.skipped) replies
   pub whole : reply.short ≡ false → All (λ r. r.short ≡ false) replies
 
--- The next call was refused: room for its cards, before a buffer was taken, or the call itself, whose buffer is given up.
+-- The next call was refused: room for its cards, before a buffer was taken, or the call itself,
+-- whose buffer is given up.
 abbrev pub IsRefused : {S : Type 0} → (S → List Made → S → Type 0) → S → Refusal → S → Type 0
-IsRefused did old refusal new = ((refusal ≡ NoMemory) × (new ≡ old)) ⊎ did old (Refused refusal ∷ []) new
+IsRefused did old refusal new =
+    ((refusal ≡ NoMemory) × (new ≡ old)) ⊎ did old (Refused refusal ∷ []) new
 
--- A round of one caller that makes at most `most` calls: refinements of what its taker took, one after the other, with these sums.
--- Fewer are made only where the last one was short, the line was empty, or the next was refused; then one parcel more may be given up.
-pub record IsRound {S : Type 0} (did : S → List Made → S → Type 0) (old : S) (before : List Parcel) (most : ℕ) (reply : RefineReply) (after : List Parcel) (new : S) : Type 0 where
+-- A round of one caller that makes at most `most` calls: refinements of what its taker took, one
+-- after the other, with these sums. Fewer are made only where the last one was short, the line was
+-- empty, or the next was refused; then one parcel more may be given up.
+pub record IsRound {S : Type 0} (did : S → List Made → S
+    → Type 0) (old : S) (before : List Parcel) (most : ℕ) (reply : RefineReply)
+    (after : List Parcel) (new : S) : Type 0 where
   pub turns : List Turn
   pub refused : Option Refusal
   pub made : did old (round_calls turns refused) new
@@ -75,17 +83,32 @@ pub record Progress (S : Type 0) : Type 0 where
   pub taken : List Parcel
 
 abbrev pub so_far : Sums → RefineReply
-so_far s = record { taken = s.taken; refined = s.refined.items; hot = s.hot; skipped = s.skipped; left = 0; short = s.short }
+so_far s = record {
+  taken = s.taken;
+  refined = s.refined.items;
+  hot = s.hot;
+  skipped = s.skipped;
+  left = 0;
+  short = s.short;
+}
 
 abbrev pub progress : {S : Type 0} → S → Sums → Taker → Progress S
 progress state sums taker = record { state = state; sum = so_far sums; taken = taken_of taker }
 
 -- the sums with one more call
 abbrev pub added : RefineReply → RefineReply → RefineReply
-added sum reply = record { taken = sum.taken + reply.taken; refined = sum.refined ++ reply.refined; hot = sum.hot + reply.hot; skipped = sum.skipped + reply.skipped; left = 0; short = reply.short }
+added sum reply = record {
+  taken = sum.taken + reply.taken;
+  refined = sum.refined ++ reply.refined;
+  hot = sum.hot + reply.hot;
+  skipped = sum.skipped + reply.skipped;
+  left = 0;
+  short = reply.short;
+}
 
 -- One more call of a round was made. The round goes on where it was whole.
-pub record IsNextCall {S : Type 0} (did : S → List Made → S → Type 0) (old : Progress S) (more : Bool) (new : Progress S) : Type 0 where
+pub record IsNextCall {S : Type 0} (did : S → List Made → S
+    → Type 0) (old : Progress S) (more : Bool) (new : Progress S) : Type 0 where
   pub parcel : Parcel
   pub reply : RefineReply
   pub made : did old.state (Refined (Some parcel.buffer) reply ∷ []) new.state
@@ -100,5 +123,6 @@ pub record IsNoCall {S : Type 0} (old : Progress S) (more : Bool) (new : Progres
   pub same : new ≡ old
   pub empty : FoundEmpty new.taken
 
-abbrev pub IsNextOf : {S : Type 0} → (S → List Made → S → Type 0) → Progress S → Bool → Progress S → Type 0
+abbrev pub IsNextOf : {S : Type 0} → (S → List Made → S → Type 0) → Progress S → Bool → Progress S
+    → Type 0
 IsNextOf did old more new = IsNextCall did old more new ⊎ IsNoCall old more new

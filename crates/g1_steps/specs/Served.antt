@@ -25,9 +25,11 @@ IsHelp [] = Unit {0}
 IsHelp (Refined buffer reply ∷ []) = Unit {0}
 IsHelp _ = ⊥
 
--- Just these calls are made for what was asked: a store makes its call, and one more where it helped; a flush one where it helped.
+-- Just these calls are made for what was asked: a store makes its call, and one more where it
+-- helped; a flush one where it helped.
 abbrev pub Serves : Ask → List Made → Type 0
-Serves (AskStore slot target) (Stored slot' target' reply ∷ help) = (slot' ≡ slot) × (target' ≡ target) × IsHelp help
+Serves (AskStore slot target) (Stored slot' target' reply ∷ help) =
+    (slot' ≡ slot) × (target' ≡ target) × IsHelp help
 Serves (AskStore slot target) _ = ⊥
 Serves AskFlush help = IsHelp help
 Serves AskWork calls = AreRefinements calls
@@ -43,21 +45,37 @@ IsRefusedFor did old AskWork why new = IsRefused did old why new
 -- The same of all that was asked, one after the other.
 abbrev pub ServesAll : List Ask → List Made → Type 0
 ServesAll [] calls = calls ≡ []
-ServesAll (ask ∷ asks) calls = (front : List Made) × (back : List Made) × (calls ≡ front ++ back) × Serves ask front × ServesAll asks back
+ServesAll (ask ∷ asks) calls =
+    (front : List Made) × (back : List Made) × (calls ≡ front ++ back) × Serves ask front
+    × ServesAll asks back
 
 -- A worker made the calls that serve what it asked for; refused ones may stand among them.
-pub record HasServed {S : Type 0} (did : S → List Made → S → Type 0) (old : S) (asks : List Ask) (new : S) : Type 0 where
+pub record HasServed {S : Type 0} (did : S → List Made → S
+    → Type 0) (old : S) (asks : List Ask) (new : S) : Type 0 where
   pub calls : List Made
   pub made : did old calls new
   pub serves : ServesAll asks (filter was_made calls)
 
-pub serves_then : (xs ys : List Ask) (ms ns : List Made) → ServesAll xs ms → ServesAll ys ns → ServesAll (xs ++ ys) (ms ++ ns)
+pub serves_then : (xs ys : List Ask) (ms ns : List Made) → ServesAll xs ms → ServesAll ys ns
+    → ServesAll (xs ++ ys) (ms ++ ns)
 serves_then [] ys ms ns p q = subst (λ l. ServesAll ys (l ++ ns)) (sym p) q
-serves_then (x ∷ xs) ys ms ns p q = (p.0, p.1 ++ ns, ap (λ l. l ++ ns) p.2 ∙ append_assoc p.0 p.1 ns, p.3, serves_then xs ys p.1 ns p.4 q)
+serves_then (x ∷ xs) ys ms ns p q = (
+  p.0,
+  p.1
+      ++ ns,
+  ap (λ l. l ++ ns) p.2 ∙ append_assoc p.0 p.1 ns,
+  p.3,
+  serves_then xs ys p.1 ns p.4 q,
+)
 
-pub served_then : {S : Type 0} (did : S → List Made → S → Type 0) → ((s t u : S) (xs ys : List Made) → did s xs t → did t ys u → did s (xs ++ ys) u) → (s t u : S) (xs ys : List Ask) → HasServed did s xs t → HasServed did t ys u → HasServed did s (xs ++ ys) u
+pub served_then : {S : Type 0} (did : S → List Made → S → Type 0)
+    → ((s t u : S) (xs ys : List Made) → did s xs t → did t ys u → did s (xs ++ ys) u)
+    → (s t u : S) (xs ys : List Ask) → HasServed did s xs t → HasServed did t ys u
+    → HasServed did s (xs ++ ys) u
 served_then did then s t u xs ys p q = record {
   calls = p.calls ++ q.calls;
   made = then s t u p.calls q.calls p.made q.made;
-  serves = subst (ServesAll (xs ++ ys)) (sym (filter-append was_made p.calls q.calls)) (serves_then xs ys (filter was_made p.calls) (filter was_made q.calls) p.serves q.serves);
+  serves = subst (ServesAll (xs
+      ++ ys)) (sym (filter-append was_made p.calls q.calls))
+      (serves_then xs ys (filter was_made p.calls) (filter was_made q.calls) p.serves q.serves);
 }

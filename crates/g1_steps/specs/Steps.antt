@@ -1,5 +1,7 @@
--- What the steps of a caller do: the calls that they make, what becomes of a completed buffer, and what was taken from the line.
-use Rattle.std.specs.Prelude.{◌≡◌, ◌≢◌, ◌≤◌, ◌^◌, ◌⊎◌, ℕ, true, false, List, [], ◌∷◌, ◌++◌, length, Option, Some, None, Result, Ok, Err, IsSome}
+-- What the steps of a caller do: the calls that they make, what becomes of a completed buffer, and
+-- what was taken from the line.
+use Rattle.std.specs.Prelude.{◌≡◌, ◌≢◌, ◌≤◌, ◌^◌, ◌⊎◌, ℕ, true, false, List, [], ◌∷◌, ◌++◌, length}
+use Rattle.std.specs.Prelude.{Option, Some, None, Result, Ok, Err, IsSome}
 use Rattle.g1_layout.specs.declared.kind.Kind.TheVariants.{Logged}
 use Rattle.g1_log.specs.declared.line.Line.{Line}
 use Rattle.g1_log.specs.declared.ends.Sender.{Sender}
@@ -17,7 +19,8 @@ use Rattle.g1_steps.specs.declared.steps.mutator.Mutator.{Mutator}
 use Rattle.g1_steps.specs.declared.steps.mutator.Passed.{Passed}
 use Rattle.g1_steps.specs.Made.{Made, Stored, Refined, refines}
 
--- What became of a buffer that left its log: the line took it, or its mutator helped: refined it by a call with this result.
+-- What became of a buffer that left its log: the line took it, or its mutator helped: refined it by
+-- a call with this result.
 abbrev pub Help : Type 0
 Help = Option (Result RefineReply Refusal)
 
@@ -32,7 +35,8 @@ passed (Some (Ok reply)) = record { fill = Helped; refined = reply.refined; shor
 passed (Some (Err _)) = record { fill = Helped; refined = []; short = true }
 
 -- A buffer of these cards was passed on.
-pub record IsPassed {S : Type 0} (did : S → List Made → S → Type 0) (old : S) (cards : List ℕ) (p : Passed) (new : S) : Type 0 where
+pub record IsPassed {S : Type 0} (did : S → List Made → S
+    → Type 0) (old : S) (cards : List ℕ) (p : Passed) (new : S) : Type 0 where
   pub help : Help
   pub made : did old (help_calls cards help) new
   pub answer : p ≡ passed help
@@ -40,12 +44,27 @@ pub record IsPassed {S : Type 0} (did : S → List Made → S → Type 0) (old :
 -- the answer of a store whose own answer was the first
 abbrev pub store_answer : StoreReply → Help → StoreReply
 store_answer first None = first
-store_answer first (Some (Ok reply)) = record { kind = first.kind; fill = Helped; refined = reply.refined; short = reply.short }
-store_answer first (Some (Err _)) = record { kind = first.kind; fill = Helped; refined = []; short = true }
+store_answer first (Some (Ok reply)) = record {
+  kind = first.kind;
+  fill = Helped;
+  refined = reply.refined;
+  short = reply.short;
+}
+store_answer first (Some (Err _)) = record {
+  kind = first.kind;
+  fill = Helped;
+  refined = [];
+  short = true;
+}
 
 -- the answer of a flush of `cards` cards
 abbrev pub flush_answer : ℕ → Help → FlushReply
-flush_answer cards help = record { cards = cards; fill = (passed help).fill; refined = (passed help).refined; short = (passed help).short }
+flush_answer cards help = record {
+  cards = cards;
+  fill = (passed help).fill;
+  refined = (passed help).refined;
+  short = (passed help).short;
+}
 
 -- the answer of a flush of an empty log
 abbrev pub nothing_flushed : FlushReply
@@ -56,7 +75,9 @@ abbrev pub filled : StoreReply
 filled = record { kind = Logged; fill = Full; refined = []; short = false }
 
 -- A store by one caller: its own call, and that of a help where it filled a log of these cards.
-pub record IsStored {S : Type 0} (did : S → List Made → S → Type 0) (old : S) (slot : ℕ) (target : Option ℕ) (cards : List ℕ) (reply : StoreReply) (new : S) : Type 0 where
+pub record IsStored {S : Type 0} (did : S → List Made → S
+    → Type 0) (old : S) (slot : ℕ) (target : Option ℕ) (cards : List ℕ) (reply : StoreReply)
+    (new : S) : Type 0 where
   pub first : StoreReply
   pub help : Help
   pub made : did old (Stored slot target first ∷ help_calls cards help) new
@@ -67,14 +88,17 @@ pub record IsStored {S : Type 0} (did : S → List Made → S → Type 0) (old :
   pub helps : IsSome help → first.fill ≡ Full
 
 -- A flush of a log with these cards: nothing where there are none.
-pub record IsFlushPassed {S : Type 0} (did : S → List Made → S → Type 0) (old : S) (cards : List ℕ) (reply : FlushReply) (new : S) : Type 0 where
+pub record IsFlushPassed {S : Type 0} (did : S → List Made → S
+    → Type 0) (old : S) (cards : List ℕ) (reply : FlushReply) (new : S) : Type 0 where
   pub some : 1 ≤ length cards
   pub help : Help
   pub made : did old (help_calls cards help) new
   pub answer : reply ≡ flush_answer (length cards) help
 
-abbrev pub IsFlushed : {S : Type 0} → (S → List Made → S → Type 0) → S → List ℕ → FlushReply → S → Type 0
-IsFlushed did old cards reply new = ((cards ≡ []) × (reply ≡ nothing_flushed) × (new ≡ old)) ⊎ IsFlushPassed did old cards reply new
+abbrev pub IsFlushed : {S : Type 0} → (S → List Made → S → Type 0) → S → List ℕ → FlushReply → S
+    → Type 0
+IsFlushed did old cards reply new =
+    ((cards ≡ []) × (reply ≡ nothing_flushed) × (new ≡ old)) ⊎ IsFlushPassed did old cards reply new
 
 -- A sender's list gains a buffer of these cards where the line took it, and stays otherwise.
 abbrev pub PutsBy : Fill → List ℕ → List Buffer → List Buffer → Type 0
@@ -82,11 +106,13 @@ PutsBy Full cards old new = new ≡ old ++ cards ∷ []
 PutsBy No cards old new = new ≡ old
 PutsBy Helped cards old new = new ≡ old
 
--- The line may refuse a buffer of the sender: it was full at some moment, or the sender has put as many as it may.
+-- The line may refuse a buffer of the sender: it was full at some moment, or the sender has put as
+-- many as it may.
 abbrev pub MayRefuse : Line → Sender → Type 0
 MayRefuse line sender = (length (put_of sender) ≡ 2 ^ 58) ⊎ WasFull line sender
 
--- What a take gave: the parcel that the taker's list gained, or none, where the queue was empty at some moment.
+-- What a take gave: the parcel that the taker's list gained, or none, where the queue was empty at
+-- some moment.
 abbrev pub IsTake : Taker → Option Parcel → Taker → Type 0
 IsTake old None new = (taken_of new ≡ taken_of old) × WasEmpty old
 IsTake old (Some x) new = taken_of new ≡ taken_of old ++ x ∷ []
@@ -98,10 +124,19 @@ buffer_in (Some x) = Some x.buffer
 
 -- the answer of a refinement as it was called: how many buffers the line has is no part of it
 abbrev pub called : RefineReply → RefineReply
-called reply = record { taken = reply.taken; refined = reply.refined; hot = reply.hot; skipped = reply.skipped; left = 0; short = reply.short }
+called reply = record {
+  taken = reply.taken;
+  refined = reply.refined;
+  hot = reply.hot;
+  skipped = reply.skipped;
+  left = 0;
+  short = reply.short;
+}
 
 -- A refinement of what the line gave.
-pub record IsRefinement {S : Type 0} (did : S → List Made → S → Type 0) (old : S) (before : Taker) (reply : RefineReply) (after : Taker) (new : S) : Type 0 where
+pub record IsRefinement {S : Type 0} (did : S → List Made → S
+    → Type 0) (old : S) (before : Taker) (reply : RefineReply) (after : Taker)
+    (new : S) : Type 0 where
   pub parcel : Option Parcel
   pub take : IsTake before parcel after
   pub made : did old (Refined (buffer_in parcel) (called reply) ∷ []) new
@@ -118,7 +153,8 @@ pub record FoundEmpty (taken : List Parcel) : Type 0 where
   pub has : taken_of taker ≡ taken
   pub empty : WasEmpty taker
 
--- A taker emptied a line of at most `most` parcels: it took as many as that, or fewer, and then it found the queue empty.
+-- A taker emptied a line of at most `most` parcels: it took as many as that, or fewer, and then it
+-- found the queue empty.
 pub record Empties (old : List Parcel) (most : ℕ) (new : List Parcel) : Type 0 where
   pub parcels : List Parcel
   pub gained : new ≡ old ++ parcels

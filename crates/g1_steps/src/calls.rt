@@ -1,5 +1,6 @@
 //! The calls that the steps of a caller make.
-ghost use Rattle.std.specs.Prelude.{◌≡◌, ◌<◌, ◌≤◌, ◌+◌, ℕ, Bool, [], ◌∷◌, ◌++◌, List, true, false, length, IfOk, OnErr, IfSome, IsNone, option_map};
+ghost use Rattle.std.specs.Prelude.{◌≡◌, ◌<◌, ◌≤◌, ◌+◌, ℕ, Bool, [], ◌∷◌, ◌++◌, List, true, false};
+ghost use Rattle.std.specs.Prelude.{length, IfOk, OnErr, IfSome, IsNone, option_map};
 ghost use Rattle.g1_layout.specs.Shape.{Shape, slot_count, card_of};
 ghost use Rattle.g1_core.specs.Barrier.{logged, buffer_of, fill_of, unfilled};
 ghost use Rattle.g1_steps.specs.Made.{Made, stores, stores_with_room, refines};
@@ -44,8 +45,10 @@ pub trait Calls {
         ensures made { did self.old (stores slot target result ∷ []) self.new }
         ensures fill { IfOk result (λ answer. answer.0.fill ≡ fill_of answer.1) }
         ensures plain { IfOk result (λ answer. (answer.0.refined ≡ []) × (answer.0.short ≡ false)) }
-        ensures log { IfOk result (λ answer. log.new ≡ logged answer.0.kind log.old (card_of (layout self.old) slot)) }
-        ensures buffer { IfOk result (λ answer. answer.1 ≡ buffer_of answer.0.kind log.old (card_of (layout self.old) slot)) }
+        ensures log { IfOk result (λ answer.
+            log.new ≡ logged answer.0.kind log.old (card_of (layout self.old) slot)) }
+        ensures buffer { IfOk result (λ answer.
+            answer.1 ≡ buffer_of answer.0.kind log.old (card_of (layout self.old) slot)) }
         ensures err_log { OnErr result (log.new ≡ log.old) };
 
     /// Stores as `store` does, with a log that one more card does not fill (`Log::has_room`): no
@@ -62,7 +65,8 @@ pub trait Calls {
         requires target { IfSome target (λ place. place < slot_count (layout self.old)) }
         ensures made { did self.old (stores_with_room slot target result ∷ []) self.new }
         ensures reply { IfOk result (λ reply. reply ≡ unfilled reply.kind) }
-        ensures log { IfOk result (λ reply. log.new ≡ logged reply.kind log.old (card_of (layout self.old) slot)) }
+        ensures log { IfOk result (λ reply.
+            log.new ≡ logged reply.kind log.old (card_of (layout self.old) slot)) }
         ensures err_log { OnErr result (log.new ≡ log.old) };
 
     /// Refines a buffer: its cards take their turns, oldest first. `None` refines nothing, and is a
@@ -71,8 +75,10 @@ pub trait Calls {
     /// `taken` is 1 if the buffer was wholly done, and `left` is always 0. At most 256 cards are
     /// refined or skipped, and at most 256 are hot.
     fn refine(&mut self, buffer: Option<&Buffer>) -> Result<RefineReply, Refusal>
-        ensures made { did self.old (refines (option_map (λ b. b.now) buffer.entry) result ∷ []) self.new }
-        ensures counts { IfOk result (λ reply. (reply.taken ≤ 1) × (length reply.refined + reply.skipped ≤ 256) × (reply.hot ≤ 256)) }
+        ensures made { did self.old (refines (option_map (λ b. b.now) buffer.entry) result
+            ∷ []) self.new }
+        ensures counts { IfOk result (λ reply.
+            (reply.taken ≤ 1) × (length reply.refined + reply.skipped ≤ 256) × (reply.hot ≤ 256)) }
         ensures left { IfOk result (λ reply. reply.left ≡ 0) }
         ensures idle { IfOk result (λ reply. IsNone buffer.entry → reply.taken ≡ 0) };
 
@@ -81,7 +87,9 @@ pub trait Calls {
 
     ghost none: { (s : Self) → did s [] s };
 
-    ghost then: { (s t u : Self) (xs ys : List Made) → did s xs t → did t ys u → did s (xs ++ ys) u };
+    ghost then: { (s t u : Self) (xs ys : List Made) → did s xs t → did t ys u
+        → did s (xs ++ ys) u };
 
-    ghost stays: { (s t : Self) (ms : List Made) → did s ms t → (layout t ≡ layout s) × (may_store t ≡ may_store s) };
+    ghost stays: { (s t : Self) (ms : List Made) → did s ms t
+        → (layout t ≡ layout s) × (may_store t ≡ may_store s) };
 }

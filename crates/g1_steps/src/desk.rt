@@ -1,5 +1,6 @@
 //! What workers do, and where they make their calls.
-ghost use Rattle.std.specs.Prelude.{◌≡◌, ℕ, ◌<◌, [], ◌∷◌, ◌++◌, List, Bool, true, IfSome, IfOk, IfErr, OnErr, OnOk, Option};
+ghost use Rattle.std.specs.Prelude.{◌≡◌, ℕ, ◌<◌, [], ◌∷◌, ◌++◌, List, Bool, true, IfSome, IfOk};
+ghost use Rattle.std.specs.Prelude.{IfErr, OnErr, OnOk, Option};
 ghost use Rattle.g1_core.specs.declared.reply.StoreReply.{StoreReply as Stored};
 ghost use Rattle.g1_core.specs.declared.reply.RefineReply.{RefineReply as Worked};
 ghost use Rattle.g1_book.specs.declared.refusal.Refusal.{Refusal as Why};
@@ -67,9 +68,11 @@ pub trait Desk {
         requires target { IfSome target (λ place. place < slots self.old) }
         ensures ok { OnOk result (did self.old (AskStore slot target ∷ []) self.new) }
         ensures reply { IfOk result (λ reply. stored self.old slot target reply self.new) }
-        ensures refusal { IfErr result (λ why. refused self.old (AskStore slot target) why self.new) }
+        ensures refusal { IfErr result (λ why.
+            refused self.old (AskStore slot target) why self.new) }
         ensures err { OnErr result (did self.old [] self.new) }
-        ensures same { (slots self.new ≡ slots self.old) × (may_store self.new ≡ may_store self.old) };
+        ensures same { (slots self.new ≡ slots self.old)
+            × (may_store self.new ≡ may_store self.old) };
 
     /// Empties the caller's log. A refused flush counts as no call.
     fn flush(&mut self) -> Result<FlushReply, Refusal>
@@ -78,7 +81,8 @@ pub trait Desk {
         ensures reply { IfOk result (λ reply. flushed self.old reply self.new) }
         ensures refusal { IfErr result (λ why. refused self.old AskFlush why self.new) }
         ensures err { OnErr result (did self.old [] self.new) }
-        ensures same { (slots self.new ≡ slots self.old) × (may_store self.new ≡ may_store self.old) };
+        ensures same { (slots self.new ≡ slots self.old)
+            × (may_store self.new ≡ may_store self.old) };
 
     /// Makes a round of refinement. A refused round counts as no call.
     fn work(&mut self) -> Result<RefineReply, Refusal>
@@ -86,9 +90,11 @@ pub trait Desk {
         ensures reply { IfOk result (λ reply. worked self.old reply self.new) }
         ensures refusal { IfErr result (λ why. refused self.old AskWork why self.new) }
         ensures err { OnErr result (did self.old [] self.new) }
-        ensures same { (slots self.new ≡ slots self.old) × (may_store self.new ≡ may_store self.old) };
+        ensures same { (slots self.new ≡ slots self.old)
+            × (may_store self.new ≡ may_store self.old) };
 
     ghost none: { (s : Self) → did s [] s };
 
-    ghost then: { (s t u : Self) (xs ys : List Ask) → did s xs t → did t ys u → did s (xs ++ ys) u };
+    ghost then: { (s t u : Self) (xs ys : List Ask) → did s xs t → did t ys u
+        → did s (xs ++ ys) u };
 }

@@ -1,5 +1,6 @@
 //! A crew: workers in threads of their own.
-ghost use Rattle.std.specs.Prelude.{◌≡◌, ℕ, ◌<◌, ◌≤◌, [], map, IfOk, IfErr, All, vec_len, vec_capacity};
+ghost use Rattle.std.specs.Prelude.{◌≡◌, ℕ, ◌<◌, ◌≤◌, [], map, IfOk, IfErr, All, vec_len};
+ghost use Rattle.std.specs.Prelude.{vec_capacity};
 ghost use Rattle.std.specs.List.{AllZip};
 ghost use Rattle.g1_steps.specs.Ask.{asks_in, ScriptFits};
 ghost use Rattle.g1_steps.specs.Ran.{Ran};
@@ -60,7 +61,8 @@ struct Begun<D>(Snapshot<Job<D>>);
 type Running<D> = PromisedHandle<Job<D>, Begun<D>>;
 
 impl<D: Desk> Promise<Job<D>> for Begun<D> {
-    ghost kept_by = { λ p r. (r.script ≡ p.0.value.script) × Ran D.did (asks_in p.0.value.script) p.0.value.desk r.outcome r.desk };
+    ghost kept_by = { λ p r. (r.script ≡ p.0.value.script)
+        × Ran D.did (asks_in p.0.value.script) p.0.value.desk r.outcome r.desk };
 }
 
 /// Starts a thread for each job, or gives back those that were started.
@@ -69,7 +71,8 @@ fn start_all<'s, E, D: Desk + Send + Drop + 's>(
     jobs: Vec<Job<D>>,
     room: Vec<Running<D>>,
 ) -> Result<Vec<Running<D>>, Vec<Running<D>>>
-    requires fits { All (λ job. ScriptFits (D.slots job.desk) (D.may_store job.desk) job.script) jobs.items }
+    requires fits { All (λ job. ScriptFits (D.slots job.desk) (D.may_store job.desk) job.script)
+        jobs.items }
     requires empty { room.items ≡ [] }
     requires room { vec_len jobs ≤ vec_capacity room }
     ensures ok { IfOk result (λ all. map (λ h. h.promise.0.value) all.items ≡ jobs.items) }
@@ -99,7 +102,9 @@ fn join_all<D: Desk + Drop, R: Threads>(
 ) -> Vec<Job<D>>
     requires empty { room.items ≡ [] }
     requires room { vec_len running ≤ vec_capacity room }
-    ensures { AllZip (λ a b. (b.script ≡ a.script) × Ran D.did (asks_in a.script) a.desk b.outcome b.desk) (map (λ h. h.promise.0.value) running.items) result.items }
+    ensures { AllZip (λ a b. (b.script ≡ a.script)
+        × Ran D.did (asks_in a.script) a.desk b.outcome b.desk)
+        (map (λ h. h.promise.0.value) running.items) result.items }
 {
     let mut done = room;
     for handle in running {
@@ -119,8 +124,11 @@ pub fn run_crew<D: Desk + Send + Drop, R: Threads + Wait + Sync>(
     alloc: Global,
     jobs: Vec<Job<D>>,
 ) -> Result<Vec<Job<D>>, NotStarted>
-    requires { All (λ job. ScriptFits (D.slots job.desk) (D.may_store job.desk) job.script) jobs.items }
-    ensures { IfOk result (λ done. AllZip (λ a b. (b.script ≡ a.script) × Ran D.did (asks_in a.script) a.desk b.outcome b.desk) jobs.items done.items) }
+    requires { All
+        (λ job. ScriptFits (D.slots job.desk) (D.may_store job.desk) job.script) jobs.items }
+    ensures { IfOk result (λ done.
+        AllZip (λ a b. (b.script ≡ a.script)
+        × Ran D.did (asks_in a.script) a.desk b.outcome b.desk) jobs.items done.items) }
 {
     let Ok(running) = Vec::with_capacity(alloc, jobs.len()) else {
         return Err(NotStarted);
@@ -132,10 +140,15 @@ pub fn run_crew<D: Desk + Send + Drop, R: Threads + Wait + Sync>(
         thread::scope_env(),
         rt,
         |scope| -> Result<Vec<Job<D>>, NotStarted>
-            requires fits { All (λ job. ScriptFits (D.slots job.desk) (D.may_store job.desk) job.script) jobs.items }
+            requires fits { All
+                (λ job. ScriptFits (D.slots job.desk) (D.may_store job.desk) job.script)
+                jobs.items }
             requires empty { (running.items ≡ []) × (done.items ≡ []) }
-            requires room { (vec_len jobs ≤ vec_capacity running) × (vec_len jobs ≤ vec_capacity done) }
-            ensures { IfOk result (λ done. AllZip (λ a b. (b.script ≡ a.script) × Ran D.did (asks_in a.script) a.desk b.outcome b.desk) jobs.items done.items) }
+            requires room { (vec_len jobs ≤ vec_capacity running)
+                × (vec_len jobs ≤ vec_capacity done) }
+            ensures { IfOk result (λ done.
+                AllZip (λ a b. (b.script ≡ a.script)
+                × Ran D.did (asks_in a.script) a.desk b.outcome b.desk) jobs.items done.items) }
         {
             match start_all(scope, jobs, running) {
                 Ok(running) => Ok(join_all(rt, running, done)),

@@ -39,7 +39,8 @@ impl Calls for LentBook<'_> {
 
     ghost may_store = { λ s. nat_lt s.caller s.book.now.mutators };
 
-    ghost did = { λ s ms t. (t.book.ghost_name ≡ s.book.ghost_name) × (t.caller ≡ s.caller) × AreCalls (IsBookCall s.caller) s.book.now ms t.book.now };
+    ghost did = { λ s ms t. (t.book.ghost_name ≡ s.book.ghost_name) × (t.caller ≡ s.caller)
+        × AreCalls (IsBookCall s.caller) s.book.now ms t.book.now };
 
     fn store(
         &mut self,
@@ -70,7 +71,14 @@ impl Calls for LentBook<'_> {
 
     ghost none = { λ s. (refl, refl, refl) };
 
-    ghost then = { λ s t u xs ys h k. (k.0 ∙ h.0, k.1 ∙ h.1, calls_then (IsBookCall s.caller) s.book.now t.book.now u.book.now xs ys h.2 (subst (λ n. AreCalls (IsBookCall n) t.book.now ys u.book.now) h.1 k.2)) };
+    ghost then = { λ s t u xs ys h k. (
+      k.0 ∙ h.0,
+      k.1 ∙ h.1,
+      calls_then
+          (IsBookCall s.caller) s.book.now t.book.now u.book.now xs ys h.2
+          (subst (λ n. AreCalls (IsBookCall n) t.book.now ys u.book.now) h.1 k.2),
+    ) };
 
-    ghost stays = { λ s t ms h. let same = book_calls_stay s.caller s.book.now t.book.now ms h.2 in (ap (λ (k : Terms). k.layout) same, λ i. nat_lt (h.1 i) (same i).mutators) };
+    ghost stays = { λ s t ms h. let same = book_calls_stay s.caller s.book.now t.book.now ms h.2 in
+        (ap (λ (k : Terms). k.layout) same, λ i. nat_lt (h.1 i) (same i).mutators) };
 }

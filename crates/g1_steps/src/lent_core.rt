@@ -36,7 +36,8 @@ impl Calls for LentCore<'_> {
 
     ghost may_store = { λ s. true };
 
-    ghost did = { λ s ms t. (t.core.ghost_name ≡ s.core.ghost_name) × AreCalls IsCoreCall s.core.now ms t.core.now };
+    ghost did = { λ s ms t. (t.core.ghost_name ≡ s.core.ghost_name)
+        × AreCalls IsCoreCall s.core.now ms t.core.now };
 
     fn store(
         &mut self,
@@ -69,7 +70,8 @@ impl Calls for LentCore<'_> {
 
     ghost none = { λ s. (refl, refl) };
 
-    ghost then = { λ s t u xs ys h k. (k.0 ∙ h.0, calls_then IsCoreCall s.core.now t.core.now u.core.now xs ys h.1 k.1) };
+    ghost then = { λ s t u xs ys h k.
+        (k.0 ∙ h.0, calls_then IsCoreCall s.core.now t.core.now u.core.now xs ys h.1 k.1) };
 
     ghost stays = { λ s t ms h. (core_calls_stay s.core.now t.core.now ms h.1, refl) };
 }

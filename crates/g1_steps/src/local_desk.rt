@@ -30,7 +30,8 @@ pub struct LocalDesk<'a, R, C> {
     mutator: Mutator,
     taker: Taker,
     start: usize,
-    ghost of: { IsSenderOf line.now mutator.sender × IsTakerOf line.now taker } by { Prim.hlevel props },
+    ghost of: { IsSenderOf line.now mutator.sender
+        × IsTakerOf line.now taker } by { Prim.hlevel props },
 }
 
 impl<'a, R, C> LocalDesk<'a, R, C> {
@@ -66,7 +67,8 @@ impl<'a, R, C> LocalDesk<'a, R, C> {
         ensures calls { result.0 ≡ self.entry.calls }
         ensures mutator { result.1 ≡ self.entry.mutator }
         ensures taker { result.2 ≡ self.entry.taker }
-        ensures of { IsSenderOf self.entry.line.now result.1.sender × IsTakerOf self.entry.line.now result.2 }
+        ensures of { IsSenderOf self.entry.line.now result.1.sender
+            × IsTakerOf self.entry.line.now result.2 }
     {
         let LocalDesk {
             rt: _,
@@ -90,12 +92,14 @@ impl<'a, R: Wait, C: Calls> Desk for LocalDesk<'a, R, C> {
     ghost may_store = { λ s. C.may_store s.calls };
 
     ghost stored = { λ s slot target reply t.
-        IsStored C.did s.calls slot target (s.mutator.log.cards ++ card_of (C.layout s.calls) slot ∷ []) reply t.calls };
+        IsStored C.did s.calls slot target (s.mutator.log.cards ++ card_of (C.layout s.calls) slot
+        ∷ []) reply t.calls };
 
     ghost flushed = { λ s reply t. IsFlushed C.did s.calls s.mutator.log.cards reply t.calls };
 
     ghost worked = { λ s reply t. (seen : ℕ) × (seen ≤ capacity_of s.line.now)
-        × IsRound C.did s.calls (taken_of s.taker) (round_size s.start seen) reply (taken_of t.taker) t.calls };
+        × IsRound C.did s.calls (taken_of s.taker) (round_size s.start seen) reply
+        (taken_of t.taker) t.calls };
 
     ghost refused = { λ s ask why t. IsRefusedFor C.did s.calls ask why t.calls };
 
@@ -121,7 +125,13 @@ impl<'a, R: Wait, C: Calls> Desk for LocalDesk<'a, R, C> {
         Ok(reply)
     }
 
-    ghost none = { λ s. (record { calls = []; made = C.none s.calls; serves = refl }, refl, refl, refl) };
+    ghost none = { λ s.
+        (record { calls = []; made = C.none s.calls; serves = refl }, refl, refl, refl) };
 
-    ghost then = { λ s t u xs ys p q. (served_then C.did C.then s.calls t.calls u.calls xs ys p.0 q.0, q.1 ∙ p.1, q.2 ∙ p.2, q.3 ∙ p.3) };
+    ghost then = { λ s t u xs ys p q. (
+      served_then C.did C.then s.calls t.calls u.calls xs ys p.0 q.0,
+      q.1 ∙ p.1,
+      q.2 ∙ p.2,
+      q.3 ∙ p.3,
+    ) };
 }

@@ -26,8 +26,10 @@ pub fn open_line(
     requires mutators { (1 ≤ mutators) × (mutators ≤ 8) }
     requires takers { (1 ≤ takers) × (takers ≤ 12) }
     ensures capacity { IfOk result (λ made. capacity_of made.0 ≡ config.limit) }
-    ensures mutators { IfOk result (λ made. (vec_len made.1 ≡ mutators) × AreNewMutators made.0 config.log 0 made.1.items) }
-    ensures takers { IfOk result (λ made. (vec_len made.2 ≡ takers) × All (IsNewTaker made.0) made.2.items) }
+    ensures mutators { IfOk result (λ made.
+        (vec_len made.1 ≡ mutators) × AreNewMutators made.0 config.log 0 made.1.items) }
+    ensures takers { IfOk result (λ made.
+        (vec_len made.2 ≡ takers) × All (IsNewTaker made.0) made.2.items) }
 {
     let room = Vec::with_capacity(alloc, mutators as usize)?;
     let (line, senders, takers) = Line::new(alloc, config.limit(), mutators, takers)?;

@@ -27,7 +27,8 @@ fn make<D: Desk>(desk: &mut D, step: Step) -> Result<(), Refusal>
     requires { StepFits (D.slots desk.old) (D.may_store desk.old) step }
     ensures ok { OnOk result (D.did desk.old (ask_of step ∷ []) desk.new) }
     ensures err { OnErr result (D.did desk.old [] desk.new) }
-    ensures same { (D.slots desk.new ≡ D.slots desk.old) × (D.may_store desk.new ≡ D.may_store desk.old) }
+    ensures same { (D.slots desk.new ≡ D.slots desk.old)
+        × (D.may_store desk.new ≡ D.may_store desk.old) }
 {
     match step {
         Step::Store(slot, target) => {

@@ -1,9 +1,12 @@
 //! The calls of a counted core: each is the core's, and counts once.
-ghost use Rattle.std.specs.Prelude.{◌≡◌, ◌≢◌, ◌+◌, ◌-◌, ◌*◌, ◌<◌, ◌≤◌, ◌^◌, ◌↔◌, [], false, length, min, All, IfOk, OnErr, OnOk, IfSome, IsNone, option_map};
+ghost use Rattle.std.specs.Prelude.{◌≡◌, ◌≢◌, ◌+◌, ◌-◌, ◌*◌, ◌<◌, ◌≤◌, ◌^◌, ◌↔◌, [], false, length};
+ghost use Rattle.std.specs.Prelude.{min, All, IfOk, OnErr, OnOk, IfSome, IsNone, option_map};
 ghost use Rattle.std.specs.FinSet as set;
 ghost use Rattle.g1_layout.specs.Shape.{slot_count, card_count, card_of};
 ghost use Rattle.g1_core.specs.Barrier.{logged, buffer_of, fill_of, unfilled, stored_machine};
-ghost use Rattle.g1_core.specs.Calls.{store_entry, refine_entry, target_entry, pending_entry, members_entry, status_entry, drain_cards, drain_entry, clear_entry, redirect_entry};
+ghost use Rattle.g1_core.specs.Calls.{store_entry, refine_entry, target_entry, pending_entry};
+ghost use Rattle.g1_core.specs.Calls.{members_entry, status_entry, drain_cards, drain_entry};
+ghost use Rattle.g1_core.specs.Calls.{clear_entry, redirect_entry};
 ghost use Rattle.g1_core.specs.Clearing.{member_count};
 ghost use Rattle.g1_core.specs.Machine.{IsLater, IsOnlyRead};
 ghost use Rattle.g1_core.specs.Pause.{IsDrainOf};

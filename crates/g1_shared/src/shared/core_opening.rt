@@ -1,5 +1,6 @@
 //! How a core is shared without a history, and how it comes back.
-ghost use Rattle.std.specs.Prelude.{◌≡◌, ℕ, ◌+◌, ◌<◌, ◌≤◌, length, sum_by, slice_index_or, IfOk, IfErr, vec_len};
+ghost use Rattle.std.specs.Prelude.{◌≡◌, ℕ, ◌+◌, ◌<◌, ◌≤◌, length, sum_by, slice_index_or, IfOk};
+ghost use Rattle.std.specs.Prelude.{IfErr, vec_len};
 ghost use Rattle.g1_log.specs.Ends.{capacity_of};
 ghost use Rattle.g1_shared.specs.Callers.{Standing, IsNewCaller};
 ghost use Rattle.g1_shared.specs.Totals.{core_terms};

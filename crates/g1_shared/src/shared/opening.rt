@@ -1,5 +1,7 @@
 //! How a book is shared, and how it is given back.
-ghost use Rattle.std.specs.Prelude.{◌≡◌, ℕ, ◌+◌, ◌-◌, ◌<◌, ◌≤◌, [], length, count_by, sum_by, slice_index_or, IfOk, IfErr, IfSome, IsSome, vec_len, vec_capacity};
+ghost use Rattle.std.specs.Prelude.{◌≡◌, ℕ, ◌+◌, ◌-◌, ◌<◌, ◌≤◌, [], length, count_by, sum_by};
+ghost use Rattle.std.specs.Prelude.{slice_index_or, IfOk, IfErr, IfSome, IsSome, vec_len};
+ghost use Rattle.std.specs.Prelude.{vec_capacity};
 ghost use Rattle.std.specs.List.{All};
 ghost use Rattle.std.specs.Vec.Iter.{into_iter_items, into_iter_len};
 ghost use Rattle.g1_log.specs.Ends.{capacity_of, IsNewTaker};
@@ -40,12 +42,16 @@ impl<M: Frame, S: Ledger> Shared<M, S, Counted<M, S>> {
         callers: u32,
     ) -> Result<(Shared<M, S>, Vec<Caller<M, S>>), (Book, NoMemory)>
         requires made { (made.name ≡ M.name) × (made.parts ≡ M.parts) × (made.parts ≡ callers) }
-        requires stored { (stored.name ≡ S.name) × (stored.parts ≡ S.parts) × (stored.parts ≡ callers) }
+        requires stored { (stored.name ≡ S.name) × (stored.parts ≡ S.parts)
+            × (stored.parts ≡ callers) }
         requires terms { terms_of book ≡ M.terms }
         requires empty { book.entries ≡ [] }
         requires callers { (M.terms.mutators ≤ callers) × (callers ≤ 12) }
         ensures callers { IfOk result (λ opened. vec_len opened.1 ≡ callers) }
-        ensures each { IfOk result (λ opened. (k : ℕ) (d : Standing) → k < callers → IsNewCaller opened.0 M.terms.settings.log M.terms.mutators k (slice_index_or opened.1.items k d)) }
+        ensures each { IfOk result (λ opened.
+            (k : ℕ) (d : Standing) → k < callers
+            → IsNewCaller opened.0 M.terms.settings.log M.terms.mutators k
+            (slice_index_or opened.1.items k d)) }
         ensures capacity { IfOk result (λ opened. capacity_of opened.0 ≡ M.terms.settings.limit) }
         ensures err { IfErr result (λ refused. refused.0 ≡ book) }
     {
@@ -84,7 +90,8 @@ impl<M: Frame, S: Ledger> Shared<M, S, Counted<M, S>> {
         requires made { vec_len callers ≡ M.parts }
         requires stored { vec_len callers ≡ S.parts }
         ensures made { length result.entries ≡ sum_by (λ caller. caller.counts.made) callers.items }
-        ensures stored { count_by is_store result.entries ≡ sum_by (λ caller. caller.counts.stored) callers.items }
+        ensures stored { count_by is_store result.entries
+            ≡ sum_by (λ caller. caller.counts.stored) callers.items }
         ensures terms { terms_of result ≡ M.terms }
     {
         let (counted, mut made, mut stored) = self.give_up(callers);
@@ -98,8 +105,10 @@ impl<M: Frame, S: Ledger, K: Keeper<M, S>> Shared<M, S, K> {
         requires some { 0 < vec_len callers }
         requires made { vec_len callers ≡ M.parts }
         requires stored { vec_len callers ≡ S.parts }
-        ensures made { (result.1.parts ≡ M.parts) × (result.1.amount ≡ sum_by (λ caller. caller.counts.made) callers.items) }
-        ensures stored { (result.2.parts ≡ S.parts) × (result.2.amount ≡ sum_by (λ caller. caller.counts.stored) callers.items) }
+        ensures made { (result.1.parts ≡ M.parts)
+            × (result.1.amount ≡ sum_by (λ caller. caller.counts.made) callers.items) }
+        ensures stored { (result.2.parts ≡ S.parts)
+            × (result.2.amount ≡ sum_by (λ caller. caller.counts.stored) callers.items) }
     {
         let Shared {
             counted,
@@ -132,11 +141,13 @@ pub(crate) fn callers_of<M: Frame, S: Ledger>(
 ) -> Vec<Caller<M, S>>
     requires made { (shares.0.parts ≡ count) × (shares.0.amount ≡ 0) }
     requires stored { (shares.1.parts ≡ count) × (shares.1.amount ≡ 0) }
-    requires mutators { (vec_len ends.0 ≡ M.terms.mutators) × AreNewMutators line.now config.now.log 0 ends.0.items }
+    requires mutators { (vec_len ends.0 ≡ M.terms.mutators)
+        × AreNewMutators line.now config.now.log 0 ends.0.items }
     requires takers { (vec_len ends.1 ≡ count) × All (IsNewTaker line.now) ends.1.items }
     requires room { (vec_len room ≡ 0) × (count ≤ vec_capacity room) }
     ensures len { vec_len result ≡ count }
-    ensures each { (k : ℕ) (d : Standing) → k < count → IsNewCaller line.now config.now.log M.terms.mutators k (slice_index_or result.items k d) }
+    ensures each { (k : ℕ) (d : Standing) → k < count
+        → IsNewCaller line.now config.now.log M.terms.mutators k (slice_index_or result.items k d) }
 {
     let mut all = room;
     let (mut made, mut stored) = shares;
@@ -159,7 +170,8 @@ fn next_mutator(
     mutators: &mut IntoIter<Mutator>,
 ) -> Option<Mutator>
     requires { AreNewMutators line.now config.now.log number (into_iter_items mutators.old) }
-    ensures rest { AreNewMutators line.now config.now.log (number + 1) (into_iter_items mutators.new) }
+    ensures rest { AreNewMutators line.now config.now.log (number + 1)
+        (into_iter_items mutators.new) }
     ensures len { into_iter_len mutators.new ≡ into_iter_len mutators.old - 1 }
     ensures some { 0 < into_iter_len mutators.old → IsSome result }
     ensures next { IfSome result (IsNewMutator line.now config.now.log number) }

@@ -1,5 +1,6 @@
 //! The steps of a caller over the locked book, and the pause.
-ghost use Rattle.std.specs.Prelude.{◌≡◌, ℕ, ◌+◌, ◌*◌, ◌<◌, ◌≤◌, ◌↔◌, ◌++◌, ◌∷◌, [], length, IfOk, OnErr, OnOk, IfSome, IsNone, All, slice_index_or, true, false};
+ghost use Rattle.std.specs.Prelude.{◌≡◌, ℕ, ◌+◌, ◌*◌, ◌<◌, ◌≤◌, ◌↔◌, ◌++◌, ◌∷◌, [], length, IfOk};
+ghost use Rattle.std.specs.Prelude.{OnErr, OnOk, IfSome, IsNone, All, slice_index_or, true, false};
 ghost use Rattle.g1_layout.specs.Shape.{slot_count, card_of};
 ghost use Rattle.g1_log.specs.declared.parcel.Parcel.{Parcel as P};
 ghost use Rattle.g1_log.specs.Ends.{capacity_of, taken_of, IsTakerOf, IsSameTaker};
@@ -7,7 +8,8 @@ ghost use Rattle.g1_steps.specs.Steps.{GainsAtMost, Empties, MayRefuse};
 ghost use Rattle.g1_steps.specs.Rounds.{IsRound, round_size};
 ghost use Rattle.g1_core.specs.Barrier.{logged, buffer_of};
 ghost use Rattle.g1_shared.specs.Counts.{CountsDid};
-ghost use Rattle.g1_shared.specs.Callers.{Standing, mark_of, IsCallerOf, log_of, taken_list, StoresAt, FlushesAt, RefinesAt, RoundsAt, IsPaused};
+ghost use Rattle.g1_shared.specs.Callers.{Standing, mark_of, IsCallerOf, log_of, taken_list};
+ghost use Rattle.g1_shared.specs.Callers.{StoresAt, FlushesAt, RefinesAt, RoundsAt, IsPaused};
 
 use crate::caller::{Caller, Counts};
 use crate::keeper::Keeper;
@@ -43,11 +45,18 @@ impl<M: Frame, S: Ledger, K: Keeper<M, S>> Shared<M, S, K> {
         ensures mark { mark_of caller.new ≡ mark_of caller.old }
         ensures stored { OnOk result (caller.new.counts.stored ≡ caller.old.counts.stored + 1) }
         ensures taker { caller.new.taker ≡ caller.old.taker }
-        ensures log { IfOk result (λ reply. log_of caller.new ≡ logged reply.kind (log_of caller.old) (card_of M.terms.layout slot)) }
-        ensures fill { IfOk result (λ reply. (reply.fill ≡ Fill.No) ↔ IsNone (buffer_of reply.kind (log_of caller.old) (card_of M.terms.layout slot))) }
+        ensures log { IfOk result (λ reply.
+            log_of caller.new
+            ≡ logged reply.kind (log_of caller.old) (card_of M.terms.layout slot)) }
+        ensures fill { IfOk result (λ reply.
+            (reply.fill ≡ Fill.No)
+            ↔ IsNone (buffer_of reply.kind (log_of caller.old) (card_of M.terms.layout slot))) }
         ensures helped { IfOk result (λ reply.
-            reply.fill ≡ Fill.Helped → IfSome caller.old.mutator (λ m. MayRefuse self.now m.sender)) }
-        ensures ok { IfOk result (λ reply. StoresAt caller.old (card_of M.terms.layout slot) reply.fill reply.refined reply.short caller.new) }
+            reply.fill ≡ Fill.Helped
+            → IfSome caller.old.mutator (λ m. MayRefuse self.now m.sender)) }
+        ensures ok { IfOk result (λ reply.
+            StoresAt caller.old (card_of M.terms.layout slot)
+            reply.fill reply.refined reply.short caller.new) }
         ensures err { OnErr result (caller.new ≡ caller.old) }
     {
         let Some(mutator) = &mut caller.mutator else {
@@ -70,7 +79,8 @@ impl<M: Frame, S: Ledger, K: Keeper<M, S>> Shared<M, S, K> {
         ensures mark { mark_of caller.new ≡ mark_of caller.old }
         ensures stored { caller.new.counts.stored ≡ caller.old.counts.stored }
         ensures taker { caller.new.taker ≡ caller.old.taker }
-        ensures helped { result.fill ≡ Fill.Helped → IfSome caller.old.mutator (λ m. MayRefuse self.now m.sender) }
+        ensures helped { result.fill ≡ Fill.Helped
+            → IfSome caller.old.mutator (λ m. MayRefuse self.now m.sender) }
         ensures some { result.fill ≡ Fill.Full → 1 ≤ result.cards }
         ensures flushed { FlushesAt caller.old result.fill result.refined result.short caller.new }
         ensures cards { result.cards ≡ length (log_of caller.old).cards }
@@ -100,8 +110,11 @@ impl<M: Frame, S: Ledger, K: Keeper<M, S>> Shared<M, S, K> {
         ensures mutator { caller.new.mutator ≡ caller.old.mutator }
         ensures ok { OnOk result (caller.new.counts.made ≡ caller.old.counts.made + 1) }
         ensures err { OnErr result (caller.new.counts ≡ caller.old.counts) }
-        ensures numbers { IfOk result (λ reply. (reply.taken ≤ 1) × (length reply.refined + reply.skipped ≤ 256) × (reply.hot ≤ 256) × (reply.left ≤ capacity_of self.now)) }
-        ensures taken { IfOk result (λ reply. reply.taken ≡ 1 → (x : P) × (taken_list caller.new ≡ taken_list caller.old ++ x ∷ [])) }
+        ensures numbers { IfOk result (λ reply.
+            (reply.taken ≤ 1) × (length reply.refined + reply.skipped ≤ 256) × (reply.hot ≤ 256)
+            × (reply.left ≤ capacity_of self.now)) }
+        ensures taken { IfOk result (λ reply.
+            reply.taken ≡ 1 → (x : P) × (taken_list caller.new ≡ taken_list caller.old ++ x ∷ [])) }
         ensures refined { IfOk result (λ reply. RefinesAt caller.old reply caller.new) }
         ensures gained { GainsAtMost (taken_list caller.old) 1 (taken_list caller.new) }
     {
@@ -123,11 +136,17 @@ impl<M: Frame, S: Ledger, K: Keeper<M, S>> Shared<M, S, K> {
         ensures mark { mark_of caller.new ≡ mark_of caller.old }
         ensures stored { caller.new.counts.stored ≡ caller.old.counts.stored }
         ensures mutator { caller.new.mutator ≡ caller.old.mutator }
-        ensures round { IfOk result (λ reply. RoundsAt self.now M.terms.settings.start caller.old reply caller.new) }
-        ensures given_up { OnErr result (GainsAtMost (taken_list caller.old) 1 (taken_list caller.new)) }
-        ensures made { (caller.old.counts.made ≤ caller.new.counts.made) × (caller.new.counts.made ≤ caller.old.counts.made + capacity_of self.now) }
+        ensures round { IfOk result (λ reply.
+            RoundsAt self.now M.terms.settings.start caller.old reply caller.new) }
+        ensures given_up { OnErr result
+            (GainsAtMost (taken_list caller.old) 1 (taken_list caller.new)) }
+        ensures made { (caller.old.counts.made ≤ caller.new.counts.made)
+            × (caller.new.counts.made ≤ caller.old.counts.made + capacity_of self.now) }
         ensures err { OnErr result (caller.new.counts ≡ caller.old.counts) }
-        ensures numbers { IfOk result (λ reply. (reply.taken ≤ capacity_of self.now) × (length reply.refined + reply.skipped ≤ 256 * capacity_of self.now) × (reply.hot ≤ 256 * capacity_of self.now) × (reply.left ≤ capacity_of self.now)) }
+        ensures numbers { IfOk result (λ reply.
+            (reply.taken ≤ capacity_of self.now)
+            × (length reply.refined + reply.skipped ≤ 256 * capacity_of self.now)
+            × (reply.hot ≤ 256 * capacity_of self.now) × (reply.left ≤ capacity_of self.now)) }
     {
         self.work_by(rt, &mut caller.counts, &mut caller.taker)
     }
@@ -140,14 +159,20 @@ impl<M: Frame, S: Ledger, K: Keeper<M, S>> Shared<M, S, K> {
         taker: &mut Taker,
     ) -> Result<RefineReply, Refusal>
         requires taker { IsTakerOf self.now taker.old }
-        ensures kept { (counts.new.number ≡ counts.old.number) × (counts.new.stored ≡ counts.old.stored) }
+        ensures kept { (counts.new.number ≡ counts.old.number)
+            × (counts.new.stored ≡ counts.old.stored) }
         ensures round { IfOk result (λ reply. (seen : ℕ) × (seen ≤ capacity_of self.now)
-            × IsRound CountsDid counts.old (taken_of taker.old) (round_size M.terms.settings.start seen) reply (taken_of taker.new) counts.new) }
+            × IsRound CountsDid counts.old (taken_of taker.old)
+            (round_size M.terms.settings.start seen) reply (taken_of taker.new) counts.new) }
         ensures given_up { OnErr result (GainsAtMost (taken_of taker.old) 1 (taken_of taker.new)) }
-        ensures made { (counts.old.made ≤ counts.new.made) × (counts.new.made ≤ counts.old.made + capacity_of self.now) }
+        ensures made { (counts.old.made ≤ counts.new.made)
+            × (counts.new.made ≤ counts.old.made + capacity_of self.now) }
         ensures same { IsSameTaker taker.new taker.old }
         ensures err { OnErr result (counts.new ≡ counts.old) }
-        ensures numbers { IfOk result (λ reply. (reply.taken ≤ capacity_of self.now) × (length reply.refined + reply.skipped ≤ 256 * capacity_of self.now) × (reply.hot ≤ 256 * capacity_of self.now) × (reply.left ≤ capacity_of self.now)) }
+        ensures numbers { IfOk result (λ reply.
+            (reply.taken ≤ capacity_of self.now)
+            × (length reply.refined + reply.skipped ≤ 256 * capacity_of self.now)
+            × (reply.hot ≤ 256 * capacity_of self.now) × (reply.left ≤ capacity_of self.now)) }
     {
         let mut calls = LockedCalls {
             rt,
@@ -170,7 +195,8 @@ impl<M: Frame, S: Ledger, K: Keeper<M, S>> Shared<M, S, K> {
         ensures paused { (k : ℕ) (d : Standing) → k < length callers.old
             → IsPaused (slice_index_or callers.old k d) (slice_index_or callers.new k d) }
         ensures first { (d : Standing) → 0 < length callers.old
-            → Empties (taken_list (slice_index_or callers.old 0 d)) (capacity_of self.now) (taken_list (slice_index_or callers.new 0 d)) }
+            → Empties (taken_list (slice_index_or callers.old 0 d)) (capacity_of self.now)
+            (taken_list (slice_index_or callers.new 0 d)) }
         ensures others { (k : ℕ) (d : Standing) → 1 ≤ k → k < length callers.old
             → (slice_index_or callers.new k d).taker ≡ (slice_index_or callers.old k d).taker }
     {

@@ -1,6 +1,7 @@
 //! What a mutator does: stores, whose filled log goes into the queue of completed buffers, and
 //! flushes.
-ghost use Rattle.std.specs.Prelude.{◌≡◌, ◌≢◌, ◌<◌, ◌↔◌, ◌∷◌, ◌++◌, [], true, length, IfOk, IfSome, IfErr, OnErr, IsNone};
+ghost use Rattle.std.specs.Prelude.{◌≡◌, ◌≢◌, ◌<◌, ◌↔◌, ◌∷◌, ◌++◌, [], true, length, IfOk, IfSome};
+ghost use Rattle.std.specs.Prelude.{IfErr, OnErr, IsNone};
 ghost use Rattle.g1_layout.specs.Shape.{slot_count, card_of};
 ghost use Rattle.g1_log.specs.Ends.{IsSenderOf, put_of, IsSameSender};
 ghost use Rattle.g1_core.specs.Barrier.{logged, buffer_of};
@@ -66,15 +67,24 @@ impl Mutator {
         requires slot { slot < slot_count (C.layout calls.old) }
         requires target { IfSome target (λ place. place < slot_count (C.layout calls.old)) }
         requires line { IsSenderOf line.now self.old.sender }
-        ensures stored { IfOk result (λ reply. IsStored C.did calls.old slot target (self.old.log.cards ++ card_of (C.layout calls.old) slot ∷ []) reply calls.new) }
-        ensures log { IfOk result (λ reply. self.new.log ≡ logged reply.kind self.old.log (card_of (C.layout calls.old) slot)) }
-        ensures fill { IfOk result (λ reply. (reply.fill ≡ Fill.No) ↔ IsNone (buffer_of reply.kind self.old.log (card_of (C.layout calls.old) slot))) }
-        ensures put { IfOk result (λ reply. PutsBy reply.fill (self.old.log.cards ++ card_of (C.layout calls.old) slot ∷ []) (put_of self.old.sender) (put_of self.new.sender)) }
-        ensures helped { IfOk result (λ reply. reply.fill ≡ Fill.Helped → MayRefuse line.now self.old.sender) }
+        ensures stored { IfOk result (λ reply.
+            IsStored C.did calls.old slot target (self.old.log.cards
+            ++ card_of (C.layout calls.old) slot ∷ []) reply calls.new) }
+        ensures log { IfOk result (λ reply.
+            self.new.log ≡ logged reply.kind self.old.log (card_of (C.layout calls.old) slot)) }
+        ensures fill { IfOk result (λ reply.
+            (reply.fill ≡ Fill.No)
+            ↔ IsNone (buffer_of reply.kind self.old.log (card_of (C.layout calls.old) slot))) }
+        ensures put { IfOk result (λ reply.
+            PutsBy reply.fill (self.old.log.cards ++ card_of (C.layout calls.old) slot
+            ∷ []) (put_of self.old.sender) (put_of self.new.sender)) }
+        ensures helped { IfOk result (λ reply.
+            reply.fill ≡ Fill.Helped → MayRefuse line.now self.old.sender) }
         ensures empty { IfOk result (λ reply. reply.fill ≢ Fill.No → self.new.log.cards ≡ []) }
         ensures same { IsSameSender self.new.sender self.old.sender }
         ensures err { IfErr result (λ refusal. C.did calls.old (Refused refusal ∷ []) calls.new) }
-        ensures err_ends { OnErr result ((self.new.log ≡ self.old.log) × (self.new.sender ≡ self.old.sender)) }
+        ensures err_ends { OnErr result ((self.new.log ≡ self.old.log)
+            × (self.new.sender ≡ self.old.sender)) }
     {
         if self.log.has_room() {
             let reply = calls.store_with_room(&mut self.log, slot, target)?;
@@ -98,15 +108,24 @@ impl Mutator {
         requires slot { slot < slot_count (C.layout calls.old) }
         requires target { IfSome target (λ place. place < slot_count (C.layout calls.old)) }
         requires line { IsSenderOf line.now self.old.sender }
-        ensures stored { IfOk result (λ reply. IsStored C.did calls.old slot target (self.old.log.cards ++ card_of (C.layout calls.old) slot ∷ []) reply calls.new) }
-        ensures log { IfOk result (λ reply. self.new.log ≡ logged reply.kind self.old.log (card_of (C.layout calls.old) slot)) }
-        ensures fill { IfOk result (λ reply. (reply.fill ≡ Fill.No) ↔ IsNone (buffer_of reply.kind self.old.log (card_of (C.layout calls.old) slot))) }
-        ensures put { IfOk result (λ reply. PutsBy reply.fill (self.old.log.cards ++ card_of (C.layout calls.old) slot ∷ []) (put_of self.old.sender) (put_of self.new.sender)) }
-        ensures helped { IfOk result (λ reply. reply.fill ≡ Fill.Helped → MayRefuse line.now self.old.sender) }
+        ensures stored { IfOk result (λ reply.
+            IsStored C.did calls.old slot target (self.old.log.cards
+            ++ card_of (C.layout calls.old) slot ∷ []) reply calls.new) }
+        ensures log { IfOk result (λ reply.
+            self.new.log ≡ logged reply.kind self.old.log (card_of (C.layout calls.old) slot)) }
+        ensures fill { IfOk result (λ reply.
+            (reply.fill ≡ Fill.No)
+            ↔ IsNone (buffer_of reply.kind self.old.log (card_of (C.layout calls.old) slot))) }
+        ensures put { IfOk result (λ reply.
+            PutsBy reply.fill (self.old.log.cards ++ card_of (C.layout calls.old) slot
+            ∷ []) (put_of self.old.sender) (put_of self.new.sender)) }
+        ensures helped { IfOk result (λ reply.
+            reply.fill ≡ Fill.Helped → MayRefuse line.now self.old.sender) }
         ensures empty { IfOk result (λ reply. reply.fill ≢ Fill.No → self.new.log.cards ≡ []) }
         ensures same { IsSameSender self.new.sender self.old.sender }
         ensures err { IfErr result (λ refusal. C.did calls.old (Refused refusal ∷ []) calls.new) }
-        ensures err_ends { OnErr result ((self.new.log ≡ self.old.log) × (self.new.sender ≡ self.old.sender)) }
+        ensures err_ends { OnErr result ((self.new.log ≡ self.old.log)
+            × (self.new.sender ≡ self.old.sender)) }
     {
         let (first, filled) = calls.store(&mut self.log, slot, target)?;
         let Some(buffer) = filled else {
@@ -132,7 +151,8 @@ impl Mutator {
         ensures flushed { IsFlushed C.did calls.old self.old.log.cards result calls.new }
         ensures cards { result.cards ≡ length self.old.log.cards }
         ensures log { self.new.log ≡ record self.old.log { cards = [] } }
-        ensures put { PutsBy result.fill self.old.log.cards (put_of self.old.sender) (put_of self.new.sender) }
+        ensures put { PutsBy result.fill self.old.log.cards (put_of self.old.sender)
+            (put_of self.new.sender) }
         ensures helped { result.fill ≡ Fill.Helped → MayRefuse line.now self.old.sender }
         ensures same { IsSameSender self.new.sender self.old.sender }
     {

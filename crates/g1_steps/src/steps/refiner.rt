@@ -1,6 +1,7 @@
 //! What a refinement thread does: it takes completed buffers from the queue and refines them, one
 //! or a round of them.
-ghost use Rattle.std.specs.Prelude.{◌≡◌, ◌<◌, ◌≤◌, ◌+◌, ◌^◌, ◌*◌, ◌++◌, ◌∷◌, ℕ, [], true, false, length, vec_len, vec_capacity, IfOk, IfErr, OnErr};
+ghost use Rattle.std.specs.Prelude.{◌≡◌, ◌<◌, ◌≤◌, ◌+◌, ◌^◌, ◌*◌, ◌++◌, ◌∷◌, ℕ, [], true, false};
+ghost use Rattle.std.specs.Prelude.{length, vec_len, vec_capacity, IfOk, IfErr, OnErr};
 ghost use Rattle.g1_log.specs.declared.parcel.Parcel.{Parcel as P};
 ghost use Rattle.g1_log.specs.Ends.{IsTakerOf, IsSameTaker, taken_of, capacity_of};
 ghost use Rattle.g1_steps.specs.Made.{Refused};
@@ -37,10 +38,13 @@ pub fn refine<C: Calls, R: Wait>(
     calls: &mut C,
 ) -> Result<RefineReply, Refusal>
     requires taker { IsTakerOf line.now taker.old }
-    ensures refined { IfOk result (λ reply. IsRefinement C.did calls.old taker.old reply taker.new calls.new) }
-    ensures counts { IfOk result (λ reply. (reply.taken ≤ 1) × (length reply.refined + reply.skipped ≤ 256) × (reply.hot ≤ 256)) }
+    ensures refined { IfOk result (λ reply.
+        IsRefinement C.did calls.old taker.old reply taker.new calls.new) }
+    ensures counts { IfOk result (λ reply.
+        (reply.taken ≤ 1) × (length reply.refined + reply.skipped ≤ 256) × (reply.hot ≤ 256)) }
     ensures left { IfOk result (λ reply. reply.left ≤ capacity_of line.now) }
-    ensures one { IfOk result (λ reply. reply.taken ≡ 1 → (x : P) × (taken_of taker.new ≡ taken_of taker.old ++ x ∷ [])) }
+    ensures one { IfOk result (λ reply.
+        reply.taken ≡ 1 → (x : P) × (taken_of taker.new ≡ taken_of taker.old ++ x ∷ [])) }
     ensures same { IsSameTaker taker.new taker.old }
     ensures err { IfErr result (λ refusal. C.did calls.old (Refused refusal ∷ []) calls.new) }
     ensures given_up { OnErr result (GainsAtMost (taken_of taker.old) 1 (taken_of taker.new)) }
@@ -65,10 +69,13 @@ fn refine_oldest<C: Calls, R: Wait>(
     calls: &mut C,
 ) -> Result<RefineReply, Refusal>
     requires taker { IsTakerOf line.now taker.old }
-    ensures refined { IfOk result (λ reply. IsRefinement C.did calls.old taker.old reply taker.new calls.new) }
-    ensures counts { IfOk result (λ reply. (reply.taken ≤ 1) × (length reply.refined + reply.skipped ≤ 256) × (reply.hot ≤ 256)) }
+    ensures refined { IfOk result (λ reply.
+        IsRefinement C.did calls.old taker.old reply taker.new calls.new) }
+    ensures counts { IfOk result (λ reply.
+        (reply.taken ≤ 1) × (length reply.refined + reply.skipped ≤ 256) × (reply.hot ≤ 256)) }
     ensures left { IfOk result (λ reply. reply.left ≤ capacity_of line.now) }
-    ensures one { IfOk result (λ reply. reply.taken ≡ 1 → (x : P) × (taken_of taker.new ≡ taken_of taker.old ++ x ∷ [])) }
+    ensures one { IfOk result (λ reply.
+        reply.taken ≡ 1 → (x : P) × (taken_of taker.new ≡ taken_of taker.old ++ x ∷ [])) }
     ensures same { IsSameTaker taker.new taker.old }
     ensures err { IfErr result (λ refusal. C.did calls.old (Refused refusal ∷ []) calls.new) }
     ensures given_up { OnErr result (GainsAtMost (taken_of taker.old) 1 (taken_of taker.new)) }
@@ -101,8 +108,14 @@ pub fn work<C: Calls, R: Wait>(
     start: usize,
 ) -> Result<RefineReply, Refusal>
     requires taker { IsTakerOf line.now taker.old }
-    ensures round { IfOk result (λ reply. (seen : ℕ) × (seen ≤ capacity_of line.now) × IsRound C.did calls.old (taken_of taker.old) (round_size start seen) reply (taken_of taker.new) calls.new) }
-    ensures counts { IfOk result (λ reply. (reply.taken ≤ capacity_of line.now) × (length reply.refined + reply.skipped ≤ 256 * capacity_of line.now) × (reply.hot ≤ 256 * capacity_of line.now)) }
+    ensures round { IfOk result (λ reply.
+        (seen : ℕ) × (seen ≤ capacity_of line.now)
+        × IsRound C.did calls.old (taken_of taker.old) (round_size start seen) reply
+        (taken_of taker.new) calls.new) }
+    ensures counts { IfOk result (λ reply.
+        (reply.taken ≤ capacity_of line.now)
+        × (length reply.refined + reply.skipped ≤ 256 * capacity_of line.now)
+        × (reply.hot ≤ 256 * capacity_of line.now)) }
     ensures left { IfOk result (λ reply. reply.left ≤ capacity_of line.now) }
     ensures same { IsSameTaker taker.new taker.old }
     ensures err { IfErr result (λ refusal. IsRefused C.did calls.old refusal calls.new) }
@@ -135,8 +148,12 @@ fn run_round<C: Calls, R: Wait>(
     requires taker { IsTakerOf line.now taker.old }
     requires seen { seen ≤ capacity_of line.now }
     requires count { count ≤ 1024 }
-    ensures round { IfOk result (λ sums. IsRound C.did calls.old (taken_of taker.old) count (so_far sums) (taken_of taker.new) calls.new) }
-    ensures counts { IfOk result (λ sums. (sums.taken ≤ count) × (length sums.refined.items + sums.skipped ≤ 256 * count) × (sums.hot ≤ 256 * count)) }
+    ensures round { IfOk result (λ sums.
+        IsRound C.did calls.old (taken_of taker.old) count (so_far sums)
+        (taken_of taker.new) calls.new) }
+    ensures counts { IfOk result (λ sums.
+        (sums.taken ≤ count) × (length sums.refined.items + sums.skipped ≤ 256 * count)
+        × (sums.hot ≤ 256 * count)) }
     ensures left { IfOk result (λ sums. sums.left ≤ capacity_of line.now) }
     ensures same { IsSameTaker taker.new taker.old }
     ensures err { IfErr result (λ refusal. IsRefused C.did calls.old refusal calls.new) }
@@ -171,9 +188,14 @@ fn next_of_round<C: Calls, R: Wait>(
     sums: &mut Sums,
 ) -> Result<bool, Refusal>
     requires taker { IsTakerOf line.now taker.old }
-    requires few { (sums.old.taken < 2 ^ 20) × (sums.old.hot < 2 ^ 20) × (sums.old.skipped < 2 ^ 20) }
-    ensures next { IfOk result (λ more. IsNextOf C.did (progress calls.old sums.old taker.old) more (progress calls.new sums.new taker.new)) }
-    ensures few { (sums.new.taken ≤ sums.old.taken + 1) × (length sums.new.refined.items + sums.new.skipped ≤ length sums.old.refined.items + sums.old.skipped + 256) × (sums.new.hot ≤ sums.old.hot + 256) }
+    requires few { (sums.old.taken < 2 ^ 20) × (sums.old.hot < 2 ^ 20)
+        × (sums.old.skipped < 2 ^ 20) }
+    ensures next { IfOk result (λ more.
+        IsNextOf C.did (progress calls.old sums.old taker.old) more
+        (progress calls.new sums.new taker.new)) }
+    ensures few { (sums.new.taken ≤ sums.old.taken + 1)
+        × (length sums.new.refined.items + sums.new.skipped ≤ length sums.old.refined.items
+        + sums.old.skipped + 256) × (sums.new.hot ≤ sums.old.hot + 256) }
     ensures left { sums.old.left ≤ capacity_of line.now → sums.new.left ≤ capacity_of line.now }
     ensures same { IsSameTaker taker.new taker.old }
     ensures err { IfErr result (λ refusal. IsRefused C.did calls.old refusal calls.new) }
@@ -228,9 +250,12 @@ impl Sums {
     /// Adds the reply of a call, in room that was made for it, and how many buffers the queue had
     /// after its take.
     fn add(&mut self, reply: &RefineReply, left: u32)
-        requires few { (self.old.taken < 2 ^ 20) × (self.old.hot < 2 ^ 20) × (self.old.skipped < 2 ^ 20) }
-        requires counts { (reply.now.taken ≤ 1) × (length reply.now.refined + reply.now.skipped ≤ 256) × (reply.now.hot ≤ 256) }
-        requires room { vec_len self.old.refined + length reply.now.refined ≤ vec_capacity self.old.refined }
+        requires few { (self.old.taken < 2 ^ 20) × (self.old.hot < 2 ^ 20)
+            × (self.old.skipped < 2 ^ 20) }
+        requires counts { (reply.now.taken ≤ 1)
+            × (length reply.now.refined + reply.now.skipped ≤ 256) × (reply.now.hot ≤ 256) }
+        requires room { vec_len self.old.refined + length reply.now.refined
+            ≤ vec_capacity self.old.refined }
         ensures sums { so_far self.new ≡ added (so_far self.old) reply.now }
         ensures left { self.new.left ≡ left }
     {

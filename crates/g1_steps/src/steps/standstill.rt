@@ -1,6 +1,7 @@
 //! What a pause does once the mutators are stopped: it empties their logs and the queue of
 //! completed buffers.
-ghost use Rattle.std.specs.Prelude.{◌≡◌, ℕ, ◌<◌, ◌++◌, ◌∷◌, [], length, slice_index_or, MatchOption};
+ghost use Rattle.std.specs.Prelude.{◌≡◌, ℕ, ◌<◌, ◌++◌, ◌∷◌, [], length, slice_index_or};
+ghost use Rattle.std.specs.Prelude.{MatchOption};
 ghost use Rattle.g1_log.specs.Ends.{IsTakerOf, IsSameTaker, taken_of, capacity_of, WasEmpty};
 ghost use Rattle.g1_steps.specs.Steps.{Empties, IsStopped};
 ghost use Rattle.g1_steps.specs.declared.steps.mutator.Mutator.{Mutator as M};
@@ -47,7 +48,8 @@ pub fn empty_line<R: Wait>(rt: &R, line: &Line, taker: &mut Taker)
 // A take, of which the loop above needs no more.
 fn take<R: Wait>(rt: &R, line: &Line, taker: &mut Taker) -> Option<Parcel>
     requires taker { IsTakerOf line.now taker.old }
-    ensures taken { MatchOption result ((taken_of taker.new ≡ taken_of taker.old) × WasEmpty taker.old)
+    ensures taken { MatchOption result ((taken_of taker.new ≡ taken_of taker.old)
+        × WasEmpty taker.old)
         (λ x. taken_of taker.new ≡ taken_of taker.old ++ x ∷ []) }
     ensures same { IsSameTaker taker.new taker.old }
 {
