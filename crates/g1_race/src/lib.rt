@@ -28,6 +28,7 @@
 //! right after a race misses no card.
 #![tactic(auto)]
 
+mod address;
 mod begin;
 mod bits;
 mod clear;
