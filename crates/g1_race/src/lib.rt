@@ -34,6 +34,7 @@ mod bits;
 mod clear;
 mod drain;
 mod ended;
+mod exchange;
 mod forget;
 mod geometry;
 mod into_core;
@@ -55,6 +56,7 @@ mod resume;
 mod stopped;
 mod sweeper;
 mod wipe;
+mod word;
 
 pub use ended::Closed;
 pub use g1_race_words::{Shape, View};

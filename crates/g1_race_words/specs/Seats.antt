@@ -50,6 +50,15 @@ pub record IsPaused (table_id : TableId) (heap : Shape) (seat : Seat (Unit {0}) 
   pub view : seat.me ≡ (iced (start heap seat.me.0.began_words) heap.members, [])
   pub begun : IsBegun (start heap seat.me.0.began_words)
 
+-- at some moment of the race, with the seat's view so, the slot had the word
+pub record IsFound (view : View) (slot word : ℕ) : Type 0 where
+  pub words : List ℕ
+  pub views : List View
+  pub id : ℕ
+  pub raced : Raced (beginning (start_of view)) words views
+  pub mine : get_elem? views id ≡ some view
+  pub there : get_elem? words slot ≡ some word
+
 -- a seat with all the weight learns the words, and what they are to the beginning of the race; where
 -- it was frozen, they are those that it knew
 pub record Freezes (before after : Me (Unit {0}) View) : Type 0 where

@@ -7,9 +7,9 @@
 //! Neither type shows what is inside, so a thread makes no step but by a call of this crate, and
 //! each call is one step that tells the seat what it did:
 //!
-//! - A racer writes a slot ([`RaceTable::write`]), looks at the mark of the slot's card
-//!   ([`RaceTable::look`]) and swaps it to dirty ([`RaceTable::dirty`]): the racer claims the card
-//!   where the swap found it clean.
+//! - A racer writes a slot ([`RaceTable::write`]), or exchanges its word for another one
+//!   ([`RaceTable::exchange`]), looks at the mark of the slot's card ([`RaceTable::look`]) and swaps
+//!   it to dirty ([`RaceTable::dirty`]): the racer claims the card where the swap found it clean.
 //! - A sweeper swaps a mark to clean ([`RaceTable::clean`]) and reads the card's slots
 //!   ([`RaceTable::read`]).
 //! - A sweeper looks for the bit of a pair ([`RaceTable::seek`]) and sets it
@@ -22,7 +22,7 @@
 //! - It may give shares of what it knows to readers ([`RaceTable::split_reader`]), each of which
 //!   reads words ([`RaceTable::see`]). They join it again before a word changes.
 //!
-//! So of steps on a slot's word or a mark there are just the first five kinds while mutators run.
+//! So of steps on a slot's word or a mark there are just the first six kinds while mutators run.
 //! Each is one atomic instruction, waits for nobody and takes no memory.
 #![tactic(auto)]
 
