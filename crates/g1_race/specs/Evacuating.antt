@@ -15,6 +15,7 @@ use Rattle.g1_race.specs.Over.{Halt}
 pub record IsSameRace (old new : Halt) : Type 0 where
   pub layout : new.layout ≡ old.layout
   pub shape : new.shape ≡ old.shape
+  pub address : new.address ≡ old.address
   pub logs : new.logs ≡ old.logs
   pub sweepers : new.sweepers ≡ old.sweepers
 
@@ -22,6 +23,7 @@ pub record IsSameRace (old new : Halt) : Type 0 where
 pub record IsRefinedRace (old new : Halt) : Type 0 where
   pub layout : new.layout ≡ old.layout
   pub shape : new.shape ≡ old.shape
+  pub address : new.address ≡ old.address
   pub logs : new.logs ≡ replicate (length old.logs) []
   pub sweepers : new.sweepers ≡ old.sweepers
 

@@ -1,5 +1,6 @@
 -- What is left of a race at a pause or at its end, as a table, and what a core asks of it.
 use Rattle.std.specs.Prelude.{◌≡◌, ℕ, ◌-◌, ◌==◌, if◌then◌else◌, List, map, take, drop, Bool, Option, Some, None}
+use denote.RawPtr.{Ptr}
 use Rattle.g1_layout.specs.Shape as layout
 use Rattle.g1_layout.specs.Shape.{slot_count}
 use Rattle.g1_core.specs.Table.{Table}
@@ -44,12 +45,13 @@ pub record IsEnded (heap : Shape) (layout : layout.Shape) (words : List ℕ) : T
   pub laid : heap ≡ shape_of layout heap.members
   pub begun : IsBegun (start heap words)
 
--- a race at a pause: its layout, also in plain numbers, the words of its table, the racers' logs,
--- and how many sweepers there are
+-- a race at a pause: its layout, also in plain numbers, the words of its table and where they lie,
+-- the racers' logs, and how many sweepers there are
 pub record Halt : Type 0 where
   pub layout : layout.Shape
   pub shape : Shape
   pub words : List ℕ
+  pub address : Ptr
   pub logs : List (List ℕ)
   pub sweepers : ℕ
 

@@ -8,6 +8,7 @@ ghost use Rattle.g1_layout.specs.Shape.{slot_count, card_count};
 ghost use Rattle.g1_race.specs.Over.{refs_of, marks_of, table_of};
 
 use crate::pairs::has_bit;
+use crate::word::refers_to;
 use g1_layout::{Card, Layout, Region, Slot};
 use g1_race_words::Shape;
 use std::alloc::Global;
@@ -90,10 +91,7 @@ impl Closed {
         ensures within { IfSome result (λ place. place < slot_count self.now.layout) }
     {
         let word = self.words.word(slot);
-        if word == 0 {
-            return None;
-        }
-        self.layout.slot(word as u32 - 1)
+        refers_to(self.layout, word)
     }
 
     // As `marked`, by the number of the card.

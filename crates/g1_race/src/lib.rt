@@ -38,11 +38,13 @@
 //! right after a race misses no card.
 #![tactic(auto)]
 
+mod address;
 mod begin;
 mod bits;
 mod clear;
 mod drain;
 mod ended;
+mod exchange;
 mod forget;
 mod geometry;
 mod into_core;
@@ -64,6 +66,7 @@ mod resume;
 mod stopped;
 mod sweeper;
 mod wipe;
+mod word;
 
 pub use ended::Closed;
 pub use g1_race_words::{Shape, View};

@@ -4,7 +4,7 @@ ghost use Rattle.g1_race.specs.Over.{halted, ended_of};
 ghost use Rattle.g1_core.specs.Adoption.{IsPairOf};
 ghost use Rattle.std.specs.Prelude.{◌≡◌, ℕ, ◌+◌, ◌<◌, ◌≤◌, ◌↔◌, ◌++◌, reverse, [], ◌∷◌, All, Contains, map, vec_len, vec_capacity};
 ghost use Rattle.g1_race.specs.Race.{IsOver, IsKnown, collected};
-ghost use Rattle.g1_race.specs.Members.{race_id, race_layout, race_shape, race_begun, racer_race, sweeper_race, racer_view, sweeper_view, racer_log, RacerOf, SweeperOf};
+ghost use Rattle.g1_race.specs.Members.{race_id, race_layout, race_shape, race_words, race_begun, racer_race, sweeper_race, racer_view, sweeper_view, racer_log, RacerOf, SweeperOf};
 
 use crate::paused::Paused;
 use crate::race::{Race, Racer, Sweeper};
@@ -35,6 +35,7 @@ impl Race {
         requires sweepers { All (λ w. sweeper_race w ≡ race_id self) sweepers.items }
         ensures layout { result.layout ≡ race_layout self }
         ensures shape { result.shape ≡ race_shape self }
+        ensures words { result.address ≡ race_words self }
         ensures within { (x : ℕ × ℕ) → Contains (ended_of result).pairs x →
             IsPairOf (race_layout self) x }
         ensures cover { IsCovered (halted result) }

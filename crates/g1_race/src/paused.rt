@@ -7,8 +7,8 @@ use std::marker::Model;
 
 /// A race at a pause: no thread takes part in it.
 ///
-/// Its model is a table: the layout and the words of slots, marks and pairs, with the racers' logs
-/// and the number of sweepers. Each slot that refers into another region has its card dirty or its
+/// Its model is a table: the layout and the words of slots, marks and pairs, and where they lie, with
+/// the racers' logs and the number of sweepers. Each slot that refers into another region has its card dirty or its
 /// pair recorded.
 #[derive(Drop)]
 pub struct Paused {
@@ -28,7 +28,7 @@ impl Model for Paused {
 
     ghost Value = { Halt };
 
-    ghost view = { λ a. record { layout = a.race.layout; shape = a.race.shape; words = a.seat.me.0.began_words; logs = reverse (map (λ l. l.items) a.race.logs.items); sweepers = a.count } };
+    ghost view = { λ a. record { layout = a.race.layout; shape = a.race.shape; words = a.seat.me.0.began_words; address = a.race.table.address; logs = reverse (map (λ l. l.items) a.race.logs.items); sweepers = a.count } };
 
     ghost invariant = { λ a. IsPaused a.race.table.table_id a.race.shape a.seat × (vec_len a.race.logs + a.count ≡ a.race.shape.members) × (vec_len a.racers ≡ 0) × (vec_len a.sweepers ≡ 0) × (vec_len a.race.logs ≤ vec_capacity a.racers) × (a.count ≤ vec_capacity a.sweepers) };
 }

@@ -2,7 +2,7 @@
 ghost use Rattle.std.specs.Prelude.{◌≡◌, ◌+◌, ◌≤◌, All, vec_len, vec_capacity};
 ghost use Rattle.g1_race_words.specs.Rule.{start_of};
 ghost use Rattle.g1_race_words.specs.Readers.{IsLent};
-ghost use Rattle.g1_race.specs.Members.{race_id, race_layout};
+ghost use Rattle.g1_race.specs.Members.{race_id, race_layout, race_words};
 ghost use Rattle.g1_race.specs.Over.{halted};
 ghost use Rattle.g1_race.specs.Reading.{IsReaderOf, Known, known, table_read};
 
@@ -59,6 +59,7 @@ impl Reading {
     pub fn race(&self) -> &Race
         ensures race { race_id result.now ≡ (self.now.table_id, self.now.pause.shape) }
         ensures layout { race_layout result.now ≡ self.now.pause.layout }
+        ensures words { race_words result.now ≡ self.now.pause.address }
         ensures table { (reader : Known) → IsReaderOf self.now reader →
             table_read result.now reader ≡ halted self.now.pause }
     {

@@ -29,6 +29,7 @@ impl Model for Reading {
         layout = a.race.layout;
         shape = a.race.shape;
         words = a.seat.me.0.began_words;
+        address = a.race.table.address;
         logs = reverse (map (λ l. l.items) a.race.logs.items);
         sweepers = a.count;
       };

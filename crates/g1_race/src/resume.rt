@@ -6,7 +6,7 @@ ghost use Rattle.g1_race.specs.Race.{shape_of};
 ghost use Rattle.g1_race.specs.Over.{halted, start_at};
 ghost use Rattle.g1_race.specs.Drain.{began};
 ghost use Rattle.g1_race.specs.Resumed.{IsSame};
-ghost use Rattle.g1_race.specs.Members.{race_id, race_layout, race_shape, racer_log, AreFreshRacers, AreFreshSweepers, HaveBegunWith, IsNewRacer, IsNewSweeper};
+ghost use Rattle.g1_race.specs.Members.{race_id, race_layout, race_shape, race_words, racer_log, AreFreshRacers, AreFreshSweepers, HaveBegunWith, IsNewRacer, IsNewSweeper};
 
 use crate::paused::Paused;
 use crate::race::{Race, Racer, Sweeper};
@@ -27,6 +27,7 @@ impl Paused {
     pub fn resume(self) -> (Race, Vec<Racer>, Vec<Sweeper>)
         ensures layout { race_layout result.0 ≡ self.layout }
         ensures shape { race_shape result.0 ≡ self.shape }
+        ensures words { race_words result.0 ≡ self.address }
         ensures members { vec_len result.1 + vec_len result.2 ≡ (race_shape result.0).members }
         ensures began { began self.layout (beginning (start_at self)) ≡ halted self }
         ensures racers { (vec_len result.1 ≡ length self.logs)

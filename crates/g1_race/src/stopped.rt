@@ -19,7 +19,7 @@ ghost use Rattle.g1_race_words.specs.Readers.{IsReading};
 use crate::drain::set_bit;
 use crate::paused::Paused;
 use crate::race::Race;
-use crate::racer::word_of;
+use crate::word::{refers_to, word_of};
 use g1_layout::{Card, Kind, Layout, Slot};
 use g1_race_words::Place;
 
@@ -87,10 +87,7 @@ pub(crate) fn target_of(race: &Race, seat: &mut Place, slot: Slot) -> Option<Slo
     ensures seat { (seat.new.table_id ≡ seat.old.table_id) × (seat.new.me ≡ seat.old.me) }
 {
     let word = see(race, seat, slot.number() as usize);
-    if word == 0 {
-        return None;
-    }
-    race.layout.slot(word as u32 - 1)
+    refers_to(race.layout, word)
 }
 
 // Whether the card is dirty.
@@ -137,7 +134,7 @@ pub(crate) fn dirty(race: &Race, seat: &mut Place, card: usize)
 }
 
 // Whether a reference of the slot to the target crosses regions.
-fn crosses(layout: Layout, slot: &Slot, target: &Option<Slot>) -> bool
+pub(crate) fn crosses(layout: Layout, slot: &Slot, target: &Option<Slot>) -> bool
     requires slot { slot.now < slot_count layout }
     requires target { IfSome target.now (λ place. place < slot_count layout) }
     ensures { result ≡ crosses (shape_of layout 0) slot.now (word_of target.now) }

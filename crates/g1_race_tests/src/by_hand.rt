@@ -1,6 +1,6 @@
 //! Races of two racers and one sweeper.
 use crate::small::Seen::{Has, Marked, Target};
-use crate::small::Step::{First, FirstLog, Refine, Second, SecondLog};
+use crate::small::Step::{First, FirstLog, FirstSwap, Refine, Second, SecondExchange, SecondLog};
 use crate::small::{Small, see};
 use g1_layout::Kind::{AlreadyDirty, Logged, Null, SameRegion};
 use std::test::Fail;
@@ -78,6 +78,47 @@ fn only_a_reference_across_regions_is_logged(rt: HostRuntime) -> Result<(), Fail
         Target(31, Some(0)),
         Marked(7, true),
         Has(7, 0, false),
+    ];
+    see(&rt, &closed, &seen);
+    Ok(())
+}
+
+#[test]
+fn a_swap_returns_what_it_overwrites(rt: HostRuntime) -> Result<(), Fail> {
+    let steps = [
+        FirstSwap(0, Some(8), (Logged, None)),
+        Second(0, Some(5), SameRegion),
+        FirstSwap(0, Some(31), (AlreadyDirty, Some(5))),
+        Second(0, None, Null),
+        FirstSwap(0, Some(6), (SameRegion, None)),
+        FirstSwap(0, None, (Null, Some(6))),
+        FirstLog(&[0]),
+    ];
+    let closed = Small::open(rt.alloc())?.close_after(&rt, rt.alloc(), &steps)?;
+    let seen = [Target(0, None), Marked(0, true)];
+    see(&rt, &closed, &seen);
+    Ok(())
+}
+
+#[test]
+fn an_exchange_stores_only_over_what_is_expected(rt: HostRuntime) -> Result<(), Fail> {
+    let steps = [
+        SecondExchange(0, Some(8), Some(16), Err(None)),
+        First(0, Some(8), Logged),
+        SecondExchange(0, None, Some(16), Err(Some(8))),
+        SecondExchange(0, Some(8), Some(16), Ok(AlreadyDirty)),
+        SecondExchange(12, None, Some(0), Ok(Logged)),
+        SecondExchange(12, Some(0), Some(9), Ok(SameRegion)),
+        SecondExchange(12, Some(9), None, Ok(Null)),
+        FirstLog(&[0]),
+        SecondLog(&[3]),
+    ];
+    let closed = Small::open(rt.alloc())?.close_after(&rt, rt.alloc(), &steps)?;
+    let seen = [
+        Target(0, Some(16)),
+        Target(12, None),
+        Marked(0, true),
+        Marked(3, true),
     ];
     see(&rt, &closed, &seen);
     Ok(())

@@ -18,6 +18,11 @@ pub(crate) enum Step<'a> {
     First(u32, Option<u32>, Kind),
     /// One by the second racer.
     Second(u32, Option<u32>, Kind),
+    /// A store by the first racer that returns what the slot referred to: its kind and that place.
+    FirstSwap(u32, Option<u32>, (Kind, Option<u32>)),
+    /// A store by the second racer into a slot that refers to the first place: its kind, or the
+    /// place that the slot refers to instead.
+    SecondExchange(u32, Option<u32>, Option<u32>, Result<Kind, Option<u32>>),
     /// The cards that the first racer has logged, which it gives up.
     FirstLog(&'a [u32]),
     /// Those of the second racer.
@@ -121,6 +126,13 @@ impl Small {
             Step::Second(from, to, kind) => {
                 store(rt, &self.race, &mut self.second, from, to, kind);
             }
+            Step::FirstSwap(from, to, answer) => {
+                swap(rt, &self.race, &mut self.first, from, to, answer);
+            }
+            Step::SecondExchange(from, expected, to, answer) => {
+                let found = exchange(rt, &self.race, &mut self.second, from, expected, to);
+                assert!(rt; found == answer);
+            }
             Step::FirstLog(cards) => {
                 assert!(rt; are(self.first.take_log().as_slice(), cards));
             }
@@ -175,6 +187,46 @@ fn store(rt: &impl Abort, race: &Race, racer: &mut Racer, from: u32, to: Option<
     let to = place(rt, race, to);
     assert!(rt; racer.has_room());
     assert_eq!(rt; racer.store(race, from, to), kind);
+}
+
+fn swap(
+    rt: &impl Abort,
+    race: &Race,
+    racer: &mut Racer,
+    from: u32,
+    to: Option<u32>,
+    answer: (Kind, Option<u32>),
+)
+    requires { racer_race racer.old ≡ race_id race.now }
+    ensures { racer_race racer.new ≡ racer_race racer.old }
+{
+    let from = race.layout().slot(from).expect(rt, "slot");
+    let to = place(rt, race, to);
+    assert!(rt; racer.has_room());
+    let (kind, old) = racer.swap(race, from, to);
+    assert_eq!(rt; kind, answer.0);
+    assert!(rt; number_of(old) == answer.1);
+}
+
+fn exchange(
+    rt: &impl Abort,
+    race: &Race,
+    racer: &mut Racer,
+    from: u32,
+    expected: Option<u32>,
+    to: Option<u32>,
+) -> Result<Kind, Option<u32>>
+    requires { racer_race racer.old ≡ race_id race.now }
+    ensures { racer_race racer.new ≡ racer_race racer.old }
+{
+    let from = race.layout().slot(from).expect(rt, "slot");
+    let expected = place(rt, race, expected);
+    let to = place(rt, race, to);
+    assert!(rt; racer.has_room());
+    match racer.compare_exchange(race, from, expected, to) {
+        Ok(kind) => Ok(kind),
+        Err(found) => Err(number_of(found)),
+    }
 }
 
 // The place of this number.

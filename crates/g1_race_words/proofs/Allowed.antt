@@ -1,15 +1,18 @@
 -- Each kind of step is allowed, as a call on the table asks for it.
-use Rattle.std.proofs.Common.{inl, inr, ◌≡◌, ℕ, ◌-◌, ◌*◌, ◌%◌, ◌^◌, ◌<◌, ◌≤◌, bit_or, List, [], ◌∷◌, set, get_or, true, false, Some, None, refl, sym, ap, ◌∙◌, subst, arith}
+use Rattle.std.proofs.Common.{inl, inr, ◌≡◌, ℕ, ◌-◌, ◌*◌, ◌%◌, ◌^◌, ◌<◌, ◌≤◌, ◌==◌, bit_or, cond, List, [], ◌∷◌, set, get_or, Bool, true, false, Some, None, refl, sym, ap, ◌∙◌, subst, arith}
+use mathlib.Core.Option.{some}
+use lib.ListN.{get_elem?}
+use prog.Atomic.{either}
 use Rattle.atomic_table.specs.Table.{State, Me, keeps, Allows, Splits, Joins, Enters}
 use Rattle.g1_race_words.specs.declared.view.Shape.{Shape}
 use Rattle.g1_race_words.specs.declared.view.View.{View}
 use Rattle.g1_race_words.specs.Begin.{Start}
-use Rattle.g1_race_words.specs.Rule.{History, mark_word, bit_word, bit_place, In, IsShape, IsPair, AtRest, IsBlank, IsBegun, Going, start}
-use Rattle.g1_race_words.specs.Steps.{iced, thawed, put, blank, wrote, looked, owed_card, dirtied, cleaned, read, sought, recorded, lighter, new_racer, new_sweeper, both, nothing}
+use Rattle.g1_race_words.specs.Rule.{History, Raced, beginning, mark_word, bit_word, bit_place, In, IsShape, IsPair, AtRest, IsBlank, IsBegun, Going, start}
+use Rattle.g1_race_words.specs.Steps.{iced, thawed, put, blank, wrote, exchanged, looked, owed_card, dirtied, cleaned, read, sought, recorded, lighter, new_racer, new_sweeper, both, nothing}
 use Rattle.g1_race_words.proofs.PairBits.{with_pair}
-use Rattle.g1_race_words.proofs.Plain.{set_read, read_at}
+use Rattle.g1_race_words.proofs.Plain.{set_read, set_there, read_at}
 use Rattle.g1_race_words.proofs.Tallies.{number_given, number_dropped}
-use Rattle.g1_race_words.specs.Seats.{Freezes, Sits}
+use Rattle.g1_race_words.specs.Seats.{Freezes, IsFound, Sits}
 use Rattle.g1_race_words.proofs.Writing.{raced_wrote}
 use Rattle.g1_race_words.proofs.Marking.{raced_looked, raced_dirtied, raced_cleaned}
 use Rattle.g1_race_words.proofs.Reading.{raced_read}
@@ -34,10 +37,35 @@ module _ {S : Type 0} where
   abbrev Rule : Shape → State S View → Type 0
   Rule k s = Going k s.words s.views
 
+  -- what a step finds at a slot
+  found_there : (k : Shape) (id p : ℕ) (v : View) (s : State S View) (h : Rule k s) → get_elem? s.views id ≡ some v → v.weight ≡ 1 → p < k.slots → IsFound v p (get_or s.words p 0)
+  found_there k id p v s h at one lt = record {
+    words = s.words;
+    views = s.views;
+    id = id;
+    raced = subst (λ (b : Start). Raced (beginning b) s.words s.views) (sym (h.agreed id v at (omega (arith, one))).0) h.raced;
+    mine = at;
+    there = read_at s.words p (omega (arith, h.raced.sized));
+  }
+
+  going_write : (k : Shape) (id p n : ℕ) (v : View) (mine : History) → Sits k v → v.owed ≡ None → v.histories ≡ mine ∷ [] → p < k.slots → n ≤ k.slots
+      → (s : State S View) → Rule k s → get_elem? s.views id ≡ some v → Going k (set s.words p n) (set s.views id (wrote v p n))
+  going_write k id p n v mine sits free one lt bound s h at =
+      going_step k s.words s.views h (set s.words p n) id v (wrote v p n) at (omega (arith, sits.weight)) sits.going refl refl refl refl (raced_wrote (begun k s.words s.views h) s.words s.views id v p n mine sits free one lt bound at h.raced)
+
   pub allows_write : (k : Shape) (slots id p n : ℕ) (me : Me S View) (mine : History) → Sits k me.0 → me.0.owed ≡ None → me.0.histories ≡ mine ∷ [] → p < k.slots → n ≤ k.slots
-      → Allows (Rule k) slots id me p (λ _. n) (λ _ after. after ≡ (wrote me.0 p n, me.1))
+      → Allows (Rule k) slots id me p (λ _. n) (λ m after. (after ≡ (wrote me.0 p n, me.1)) × IsFound me.0 p m)
   allows_write k slots id p n me mine sits free one lt bound s h len at fits =
-      (wrote me.0 p n, keeps, tt, going_step k s.words s.views h (set s.words p n) id me.0 (wrote me.0 p n) at (omega (arith, sits.weight)) sits.going refl refl refl refl (raced_wrote (begun k s.words s.views h) s.words s.views id me.0 p n mine sits free one lt bound at h.raced), refl)
+      (wrote me.0 p n, keeps, tt, going_write k id p n me.0 mine sits free one lt bound s h at, (refl, found_there k id p me.0 s h at sits.weight lt))
+
+  pub allows_exchange : (k : Shape) (slots id p old n : ℕ) (me : Me S View) (mine : History) → Sits k me.0 → me.0.owed ≡ None → me.0.histories ≡ mine ∷ [] → p < k.slots → n ≤ k.slots
+      → Allows (Rule k) slots id me p (λ m. either (m == old) n m) (λ m after. (after ≡ (exchanged me.0 p old n m, me.1)) × IsFound me.0 p m)
+  allows_exchange k slots id p old n me mine sits free one lt bound s h len at fits =
+      let m = get_or s.words p 0 in (exchanged me.0 p old n m, keeps, tt, pick (m == old), (refl, found_there k id p me.0 s h at sits.weight lt))
+    where
+      pick : (b : Bool) → Going k (set s.words p (either b n (get_or s.words p 0))) (set s.views id (cond b (wrote me.0 p n) me.0))
+      pick true = going_write k id p n me.0 mine sits free one lt bound s h at
+      pick false = subst (λ (x : List ℕ × List View). Going k x.0 x.1) (λ i. (sym (set_read s.words p) i, sym (set_there s.views id me.0 at) i)) h
 
   pub allows_look : (k : Shape) (slots id c : ℕ) (me : Me S View) → Sits k me.0 → me.0.owed ≡ Some c → c < k.cards
       → Allows (Rule k) slots id me (mark_word k c) (λ n. n) (λ n after. after ≡ (looked me.0 n, me.1))

@@ -1,17 +1,18 @@
 -- What the calls of a step ask, of the table and the seat inside.
-use Rattle.std.proofs.Common.{◌≡◌, ℕ, ◌-◌, ◌*◌, ◌%◌, ◌^◌, ◌<◌, ◌≤◌, bit_or, [], ◌∷◌, set, None, refl, sym, ap, subst, arith}
+use Rattle.std.proofs.Common.{◌≡◌, ℕ, ◌-◌, ◌*◌, ◌%◌, ◌^◌, ◌<◌, ◌≤◌, ◌==◌, bit_or, [], ◌∷◌, set, None, refl, sym, ap, subst, arith}
+use prog.Atomic.{either}
 use Rattle.atomic_table.specs.Table.{State, Me, Allows, Splits, Joins}
 use Rattle.atomic_table.specs.Seated.{TableId}
 use Rattle.atomic_table.specs.declared.shared.Seat.{Seat}
 use Rattle.g1_race_words.specs.declared.view.Shape.{Shape}
 use Rattle.g1_race_words.specs.declared.view.View.{View}
 use Rattle.g1_race_words.specs.Rule.{AtRest, Going, History, IsBegun, IsBlank, IsShape, bit_place, flag, start, word_count}
-use Rattle.g1_race_words.specs.Steps.{both, chair, cleaned, dirtied, iced, lighter, looked, new_racer, new_sweeper, nothing, owed_card, put, raised, read, recorded, sought, spotted, thawed, wrote}
-use Rattle.g1_race_words.specs.Seats.{Freezes, HoldsBit, IsChair, IsMark, IsPaused, OwesFlag, OwesMark, Sits, Words}
+use Rattle.g1_race_words.specs.Steps.{both, chair, cleaned, dirtied, exchanged, iced, lighter, looked, new_racer, new_sweeper, nothing, owed_card, put, raised, read, recorded, sought, spotted, thawed, wrote}
+use Rattle.g1_race_words.specs.Seats.{Freezes, HoldsBit, IsChair, IsFound, IsMark, IsPaused, OwesFlag, OwesMark, Sits, Words}
 use Rattle.g1_race_words.proofs.PairBits.{word_below}
 use Rattle.g1_race_words.proofs.Flags.{flag_below}
 use Rattle.g1_race_words.proofs.Flagging.{allows_raise, allows_spot}
-use Rattle.g1_race_words.proofs.Allowed.{Knows, allows_clean, allows_dirty, allows_freeze, allows_look, allows_read, allows_record, allows_seek, allows_set, allows_thaw, allows_write, joins_member, splits_racer, splits_sweeper}
+use Rattle.g1_race_words.proofs.Allowed.{Knows, allows_clean, allows_dirty, allows_exchange, allows_freeze, allows_look, allows_read, allows_record, allows_seek, allows_set, allows_thaw, allows_write, joins_member, splits_racer, splits_sweeper}
 
 -- what is so of the models is so of what is inside
 pub inside : (P : Words → Seat (Unit {0}) View → Type 0) (t w : Words) (s q : Seat (Unit {0}) View) → t ≡ w → s ≡ q → P w q → P t s
@@ -25,8 +26,12 @@ module _ (z : TableId) (k : Shape) (fits : z.words ≡ word_count k) (shaped : I
   Owed word f then = (s.table_id ≡ z) × (word < z.words) × Allows (Rule k) z.slots s.id s.me word f then
 
   pub write_owed : (p n : ℕ) → Sits k s.me.0 × ((h : History) × (s.me.0.histories ≡ h ∷ [])) → s.me.0.owed ≡ None → p < k.slots → n ≤ k.slots
-      → Owed p (λ _. n) (λ _ after. after ≡ (wrote s.me.0 p n, s.me.1))
+      → Owed p (λ _. n) (λ m after. (after ≡ (wrote s.me.0 p n, s.me.1)) × IsFound s.me.0 p m)
   write_owed p n racer free lt bound = (table, omega (arith, fits, lt), allows_write k z.slots s.id p n s.me racer.1.0 racer.0 free racer.1.1 lt bound)
+
+  pub exchange_owed : (p old n : ℕ) → Sits k s.me.0 × ((h : History) × (s.me.0.histories ≡ h ∷ [])) → s.me.0.owed ≡ None → p < k.slots → n ≤ k.slots
+      → Owed p (λ m. either (m == old) n m) (λ m after. (after ≡ (exchanged s.me.0 p old n m, s.me.1)) × IsFound s.me.0 p m)
+  exchange_owed p old n racer free lt bound = (table, omega (arith, fits, lt), allows_exchange k z.slots s.id p old n s.me racer.1.0 racer.0 free racer.1.1 lt bound)
 
   pub look_owed : (word : ℕ) → Sits k s.me.0 → OwesMark k s.me.0 word → Owed word (λ n. n) (λ n after. after ≡ (looked s.me.0 n, s.me.1))
   look_owed word sits (c, owes, lt, is) = subst (λ (w : ℕ). Owed w (λ n. n) (λ n after. after ≡ (looked s.me.0 n, s.me.1))) (sym is)

@@ -1,5 +1,6 @@
 -- What a seat at the words of a race must be for a step, and what the step at a pause tells it.
 use Rattle.std.specs.Prelude.{◌≡◌, ℕ, ◌<◌, List, [], ◌∷◌, Some, true, false}
+use denote.RawPtr.{Ptr}
 use mathlib.Core.Option.{some}
 use lib.ListN.{get_elem?}
 use Rattle.atomic_table.specs.Table.{Me}
@@ -11,10 +12,11 @@ use Rattle.g1_race_words.specs.Begin.{Start}
 use Rattle.g1_race_words.specs.Rule.{IsBegun, IsPair, Raced, beginning, bit_word, flag, mark_word, start, start_of}
 use Rattle.g1_race_words.specs.Steps.{chair, iced}
 
--- the words of a race: which table they are, and the shape of its heap
+-- the words of a race: which table they are, the shape of its heap, and where the first one lies
 pub record Words : Type 0 where
   pub table_id : TableId
   pub shape : Shape
+  pub address : Ptr
 
 -- a member's seat while mutators run: it is of this race, and has one member's weight
 pub record Sits (heap : Shape) (view : View) : Type 0 where
@@ -47,6 +49,15 @@ pub record IsPaused (table_id : TableId) (heap : Shape) (seat : Seat (Unit {0}) 
   pub table : seat.table_id ≡ table_id
   pub view : seat.me ≡ (iced (start heap seat.me.0.began_words) heap.members, [])
   pub begun : IsBegun (start heap seat.me.0.began_words)
+
+-- at some moment of the race, with the seat's view so, the slot had the word
+pub record IsFound (view : View) (slot word : ℕ) : Type 0 where
+  pub words : List ℕ
+  pub views : List View
+  pub id : ℕ
+  pub raced : Raced (beginning (start_of view)) words views
+  pub mine : get_elem? views id ≡ some view
+  pub there : get_elem? words slot ≡ some word
 
 -- a seat with all the weight learns the words, and what they are to the beginning of the race; where
 -- it was frozen, they are those that it knew

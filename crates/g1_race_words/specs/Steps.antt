@@ -35,6 +35,10 @@ gained slot word (history ∷ histories) = (history.0, (slot, word) ∷ history.
 abbrev pub wrote : View → ℕ → ℕ → View
 wrote view slot word = record view { histories = gained slot word view.histories; owed = if crosses view.shape slot word then Some (card_of view.shape slot) else None }
 
+-- a racer finds a word at the slot, and writes another one where it is the one that it expects
+abbrev pub exchanged : View → ℕ → ℕ → ℕ → ℕ → View
+exchanged view slot expected word found = if found == expected then wrote view slot word else view
+
 -- a racer finds this at the mark of the card that it owes
 abbrev pub looked : View → ℕ → View
 looked view word = record view { owed = if word == 1 then None else view.owed }

@@ -7,9 +7,10 @@
 //! Neither type shows what is inside, so a thread makes a step only by a call of this crate. Each
 //! call is one step, and tells the seat what it did:
 //!
-//! - A racer writes a slot ([`RaceTable::write`]), reads the mark of the slot's card
-//!   ([`RaceTable::look`]) and swaps it to dirty ([`RaceTable::dirty`]). If the swap found the mark
-//!   clean, the racer has claimed the card.
+//! - A racer writes a slot ([`RaceTable::write`]), or exchanges its word for another one
+//!   ([`RaceTable::exchange`]), reads the mark of the slot's card ([`RaceTable::look`]) and swaps it
+//!   to dirty ([`RaceTable::dirty`]). If the swap found the mark clean, the racer has claimed the
+//!   card.
 //! - A sweeper swaps a mark to clean ([`RaceTable::clean`]) and reads the card's slots
 //!   ([`RaceTable::read`]).
 //! - A sweeper reads the bit of a pair ([`RaceTable::seek`]) and sets it ([`RaceTable::record`]).
@@ -22,8 +23,9 @@
 //! - That seat may give shares of what it knows to readers ([`RaceTable::split_reader`]), each of
 //!   which reads words ([`RaceTable::see`]). They join it again before a word changes.
 //!
-//! So while mutators run, five kinds of step alone touch a slot's word or a mark: write, look,
-//! dirty, clean and read. Each of them is one atomic instruction, takes no memory and never waits.
+//! So while mutators run, six kinds of step alone touch a slot's word or a mark: write, exchange,
+//! look, dirty, clean and read. Each of them is one atomic instruction, takes no memory and never
+//! waits.
 #![tactic(auto)]
 
 mod pausing;

@@ -1,8 +1,8 @@
 //! The steps of a racer.
 ghost use Rattle.std.specs.Prelude.{◌≡◌, ℕ, ◌-◌, ◌<◌, ◌≤◌, [], ◌∷◌, None};
 ghost use Rattle.g1_race_words.specs.Rule.{History, bit_place, flag};
-ghost use Rattle.g1_race_words.specs.Steps.{wrote, looked, spotted, raised, owed_card, dirtied};
-ghost use Rattle.g1_race_words.specs.Seats.{Sits, OwesMark, OwesFlag};
+ghost use Rattle.g1_race_words.specs.Steps.{wrote, exchanged, looked, spotted, raised, owed_card, dirtied};
+ghost use Rattle.g1_race_words.specs.Seats.{Sits, IsFound, OwesMark, OwesFlag};
 
 use crate::table::{Place, RaceTable};
 use crate::view::View;
@@ -13,9 +13,23 @@ pub(crate) struct Writes;
 impl Play<(), View> for Writes {
     ghost use Rattle.std.specs.Prelude.{◌≡◌};
     ghost use Rattle.g1_race_words.specs.Steps.{wrote};
+    ghost use Rattle.g1_race_words.specs.Seats.{IsFound};
 
     ghost then = { λ step before found after.
-        after ≡ (wrote before.0 step.word step.first, before.1) };
+        (after ≡ (wrote before.0 step.word step.first, before.1))
+        × IsFound before.0 step.word found };
+}
+
+pub(crate) struct Exchanges;
+
+impl Play<(), View> for Exchanges {
+    ghost use Rattle.std.specs.Prelude.{◌≡◌};
+    ghost use Rattle.g1_race_words.specs.Steps.{exchanged};
+    ghost use Rattle.g1_race_words.specs.Seats.{IsFound};
+
+    ghost then = { λ step before found after.
+        (after ≡ (exchanged before.0 step.word step.first step.second found, before.1))
+        × IsFound before.0 step.word found };
 }
 
 pub(crate) struct Looks;
@@ -58,8 +72,8 @@ impl Play<(), View> for Dirties {
 impl RaceTable {
     /// Writes a slot, for a racer that owes no card. `word` is 0 for null, or the number of the
     /// target slot plus 1. If the reference crosses regions, the racer owes the slot's card from
-    /// then on.
-    pub fn write(&self, seat: &mut Place, slot: usize, word: u64)
+    /// then on. Returns the slot's word as it was.
+    pub fn write(&self, seat: &mut Place, slot: usize, word: u64) -> u64
         requires table { seat.old.table_id ≡ self.now.table_id }
         requires racer { Sits self.now.shape seat.old.me.0
             × ((h : History) × (seat.old.me.0.histories ≡ h ∷ [])) }
@@ -68,10 +82,28 @@ impl RaceTable {
         requires word { word ≤ self.now.shape.slots }
         ensures table { seat.new.table_id ≡ seat.old.table_id }
         ensures view { seat.new.me ≡ (wrote seat.old.me.0 slot word, seat.old.me.1) }
+        ensures found { IsFound seat.old.me.0 slot result }
+    {
+        self.table.shared.swap::<Writes>(&mut seat.seat, slot, word)
+    }
+
+    /// As [`RaceTable::write`] where the slot has the word that is expected; else nothing changes.
+    /// Returns the slot's word as it was.
+    pub fn exchange(&self, seat: &mut Place, slot: usize, expected: u64, word: u64) -> u64
+        requires table { seat.old.table_id ≡ self.now.table_id }
+        requires racer { Sits self.now.shape seat.old.me.0
+            × ((h : History) × (seat.old.me.0.histories ≡ h ∷ [])) }
+        requires free { seat.old.me.0.owed ≡ None }
+        requires slot { slot < self.now.shape.slots }
+        requires word { word ≤ self.now.shape.slots }
+        ensures table { seat.new.table_id ≡ seat.old.table_id }
+        ensures view { seat.new.me
+            ≡ (exchanged seat.old.me.0 slot expected word result, seat.old.me.1) }
+        ensures found { IsFound seat.old.me.0 slot result }
     {
         self.table
             .shared
-            .store::<Writes>(&mut seat.seat, slot, word);
+            .compare_exchange::<Exchanges>(&mut seat.seat, slot, expected, word)
     }
 
     /// Reads the mark of the card that a racer owes, and returns it. If the mark is dirty, the

@@ -10,11 +10,12 @@ use crate::view::{Shape, View};
 use atomic_table::{Closed, Seat, Table};
 use std::alloc::{AllocError, Global};
 use std::marker::Model;
+use table_words::words_of;
 
 /// The words of a race: one for each slot, one for each card's mark, a row of bits for each region,
 /// and a row of flags, one for each eight cards. Threads share it by `&`.
 ///
-/// Its model has the identity of the table and the shape of its heap.
+/// Its model has the identity of the table, the shape of its heap, and the address of the words.
 #[derive(Drop)]
 pub struct RaceTable {
     pub(crate) table: Table<(), View, Shape, RaceRule, Global>,
@@ -27,7 +28,11 @@ impl Model for RaceTable {
 
     ghost Value = { Words };
 
-    ghost view = { λ a. record { table_id = a.table.shared.table_id; shape = a.table.shared.key } };
+    ghost view = { λ a. record {
+      table_id = a.table.shared.table_id;
+      shape = a.table.shared.key;
+      address = a.table.shared.words;
+    } };
 
     ghost invariant = { λ a. (a.table.shared.table_id.words ≡ word_count a.table.shared.key)
         × (a.table.shared.table_id.slots ≡ 0)
@@ -69,6 +74,16 @@ impl RaceTable {
         let zeros = vec![in alloc; 0u64; shape.slots + shape.cards + shape.bits + shape.row]?;
         let (table, seat) = Table::of_words(alloc, &zeros, &shape)?;
         Ok((RaceTable { table }, Place { seat }))
+    }
+
+    /// Returns the address of the first word, which the others follow, 8 bytes each. It stays the
+    /// same for as long as the table lasts. Constant time.
+    ///
+    /// Whoever reads there does so by atomic loads of whole words, and writes nothing.
+    pub fn words(&self) -> *const u64
+        ensures { result ≡ self.now.address }
+    {
+        words_of(&self.table.shared)
     }
 
     /// Ends the race at a pause, and returns the words as the seat knew them.

@@ -1,14 +1,13 @@
-use Rattle.std.proofs.Common.{◌≡◌, ◌≢◌, ◌+◌, ◌-◌, ◌<◌, ◌≤◌, ℕ, List, Option, Some, None, ap, sym, ◌∙◌, subst, arith}
+use Rattle.std.proofs.Common.{◌≡◌, ◌<◌, ◌≤◌, ℕ, ◌+◌, List, Option, ap, sym, ◌∙◌, subst, arith}
 use mathlib.Core.Option.{some}
 use lib.ListN.{get_elem?}
-use Rattle.std.specs.Option.{SomeIff}
 use Rattle.g1_layout.specs.Shape.{slot_count}
 use Rattle.g1_race_words.specs.declared.view.Shape.{Shape}
 use Rattle.g1_layout.specs.Shape as layout
 use Rattle.g1_race.specs.Race.{shape_of}
-use Rattle.g1_race.specs.Over.{Ended, ended, target_of}
+use Rattle.g1_race.specs.Over.{Ended, ended}
 use Rattle.g1_race_words.proofs.Places.{at_take}
-use Rattle.g1_race.proofs.Ends.{refs_here, target_some}
+use Rattle.g1_race.proofs.Ends.{refs_here}
 use Rattle.g1_race.proofs.ended.Closed.target_at.Goals as goal
 
 -- the slot's word, in the table
@@ -18,21 +17,20 @@ at_word l k words e slot n is laid lt at =
     let same : slot_count l ≡ slot_count e.layout = ap (λ (x : Ended). slot_count x.layout) is in
     subst (λ (x : Ended). get_elem? x.words slot ≡ some n) is (at_take words (k.slots + k.cards) slot n (omega arith) at)
 
--- the answer for a word that is not 0
-found : (t : Option ℕ) (n count : ℕ) → n ≢ 0 → n ≤ count → SomeIff t (n - 1 < count) (n - 1) → target_of n ≡ t
-found None n count ne le h = absurd (h (omega arith))
-found (Some x) n count ne le h = target_some n ne ∙ ap Some (sym h.1)
-
-pub returns-then-word-eq0-clause-refers : goal.returns-then-word-eq0-clause-refers
-returns-then-word-eq0-clause-refers c =
-    let e = c.args.self.now in
-    refs_here e c.args.slot c.word-word.result c.requires (at_word c.self.inside.layout c.self.inside.shape _ e c.args.slot c.word-word.result c.self.view_is c.self.invariant.0.laid c.requires c.word-word.ensures) ∙ ap (λ (n : ℕ). some (target_of n)) c.if-word-eq0.true
-
 pub returns-clause-refers : goal.returns-clause-refers
 returns-clause-refers c =
+    let e = c.args.self.now in
+    refs_here e c.args.slot c.word-word.result c.requires (at_word c.self.inside.layout c.self.inside.shape _ e c.args.slot c.word-word.result c.self.view_is c.self.invariant.0.laid c.requires c.word-word.ensures) ∙ ap (λ (t : Option ℕ). some t) (sym c.refers_to.ensures.target)
+
+pub refers_to-requires-clause-word : goal.refers_to-requires-clause-word
+refers_to-requires-clause-word c =
     let inner = c.self.invariant.0 in
     let slots : c.self.inside.shape.slots ≡ slot_count c.self.inside.layout = ap (λ (k : Shape). k.slots) inner.laid in
     let count : slot_count c.self.inside.layout ≡ slot_count c.args.self.now.layout = ap (λ (x : Ended). slot_count x.layout) c.self.view_is in
-    let fits : c.word-word.result ≤ slot_count c.self.inside.layout = subst (λ (n : ℕ). c.word-word.result ≤ n) slots (inner.begun.bounded c.args.slot c.word-word.result (subst (λ (n : ℕ). c.args.slot < n) (sym (slots ∙ count)) c.requires) c.word-word.ensures) in
-    let e = c.args.self.now in
-    refs_here e c.args.slot c.word-word.result c.requires (at_word c.self.inside.layout c.self.inside.shape _ e c.args.slot c.word-word.result c.self.view_is inner.laid c.requires c.word-word.ensures) ∙ ap (λ (t : Option ℕ). some t) (found c.slot.result c.word-word.result _ c.if-word-eq0.false fits c.slot.ensures)
+    subst (λ (n : ℕ). c.word-word.result ≤ n) slots (inner.begun.bounded c.args.slot c.word-word.result (subst (λ (n : ℕ). c.args.slot < n) (sym (slots ∙ count)) c.requires) c.word-word.ensures)
+
+pub refers_to-requires-clause-low : goal.refers_to-requires-clause-low
+refers_to-requires-clause-low c =
+    let inner = c.self.invariant.0 in
+    let slots : c.self.inside.shape.slots ≡ slot_count c.self.inside.layout = ap (λ (k : Shape). k.slots) inner.laid in
+    omega (arith, slots, inner.begun.shaped.3)

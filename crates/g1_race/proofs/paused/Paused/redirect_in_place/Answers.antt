@@ -37,6 +37,7 @@ returns-clause-race c =
     record {
       layout = ap (λ (h : Halt). h.layout) c.self.view_is;
       shape = ap (λ (h : Halt). h.shape) c.self.view_is;
+      address = ap (λ (h : Halt). h.address) c.self.view_is;
       logs = logs ∙ ap (λ (h : Halt). replicate {A = List ℕ} (length h.logs) []) c.self.view_is;
       sweepers = ap (λ (h : Halt). h.sweepers) c.self.view_is;
     }

@@ -4,8 +4,8 @@ use Rattle.g1_race_words.specs.Seats.{Sits}
 use Rattle.g1_race_words.proofs.Calls.{inside, write_owed}
 use Rattle.g1_race_words.proofs.table.RaceTable.write.Goals as goal
 
-pub store-requires : goal.store-requires
-store-requires c =
+pub swap-requires : goal.swap-requires
+swap-requires c =
     let t = c.self.inside.table.shared in
     let i = c.self.invariant in
     let r = c.requires in

@@ -1,0 +1,32 @@
+//! A slot's word, and what it refers to.
+ghost use Rattle.std.specs.Prelude.{◌≡◌, ◌+◌, ◌<◌, ◌≤◌, ◌^◌, IfSome};
+ghost use Rattle.g1_layout.specs.Shape.{slot_count};
+ghost use Rattle.g1_race.specs.Race.{word_of};
+ghost use Rattle.g1_race.specs.Over.{target_of};
+
+use g1_layout::{Layout, Slot};
+
+// The word of a slot with this target.
+pub(crate) fn word_of(target: Option<Slot>) -> u64
+    requires { IfSome target (λ t. t < 2 ^ 32) }
+    ensures { result ≡ word_of target }
+{
+    match target {
+        Some(target) => target.number() as u64 + 1,
+        None => 0,
+    }
+}
+
+// What a slot with this word refers to.
+pub(crate) fn refers_to(layout: Layout, word: u64) -> Option<Slot>
+    requires word { word ≤ slot_count layout }
+    requires low { slot_count layout < 2 ^ 32 }
+    ensures target { result ≡ target_of word }
+    ensures within { IfSome result (λ place. place < slot_count layout) }
+    ensures back { word_of result ≡ word }
+{
+    if word == 0 {
+        return None;
+    }
+    layout.slot(word as u32 - 1)
+}
