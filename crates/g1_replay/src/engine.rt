@@ -27,24 +27,24 @@ use std::sync::Wait;
 fn play_line<T: Wait, P: Player, R: BufRead, W: Write>(
     rt: &T,
     source: &mut Source,
-    layout: Layout,
+    layout: &Layout,
     dialect: Dialect,
     input: &mut R,
     player: &mut P,
     output: &mut W,
 ) -> Result<bool, Stop>
-    requires { P.takes player.old layout dialect }
-    ensures followed { Follows P.did P.full dialect layout source.old.number source.new.number player.old player.new (R.remaining input.old) (R.remaining input.new) (W.contents output.old) (W.contents output.new) result }
+    requires { P.takes player.old layout.now dialect }
+    ensures followed { Follows P.did P.full dialect layout.now source.old.number source.new.number player.old player.new (R.remaining input.old) (R.remaining input.new) (W.contents output.old) (W.contents output.new) result }
     ensures more { result ≡ Ok true → source.old.reads < source.new.reads }
     ensures limit { result ≡ Ok true → source.new.reads ≤ 2 ^ 40 }
     ensures stops { IfErr result (λ stop. IsReadStop stop ⊎ P.stops stop) }
-    ensures takes { OnOk result (P.takes player.new layout dialect) }
+    ensures takes { OnOk result (P.takes player.new layout.now dialect) }
 {
     match read_next(source, layout, dialect, input)? {
         Next::End => Ok(false),
         Next::Blank => Ok(true),
         Next::Do(command) => {
-            player.play(rt, layout, dialect, command, output)?;
+            player.play(rt, *layout, dialect, command, output)?;
             Ok(true)
         }
     }
@@ -65,7 +65,7 @@ pub(crate) fn play_lines<T: Wait, P: Player, R: BufRead, W: Write>(
     ensures stops { IfErr result (λ stop. IsReadStop stop ⊎ P.stops stop) }
     ensures takes { OnOk result (P.takes player.new layout dialect) }
 {
-    'lines: while play_line(rt, source, layout, dialect, input, player, output)? {}
+    'lines: while play_line(rt, source, &layout, dialect, input, player, output)? {}
     Ok(())
 }
 

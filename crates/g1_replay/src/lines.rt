@@ -73,9 +73,9 @@ fn part_of(shown: &[u8], room: usize) -> (Part, usize, usize)
     }
 }
 
-/// Keeps what the reader shows of a line that was begun. Returns how much of the line that is, and
-/// how many of the bytes it uses up.
-pub fn keep_part(shown: &[u8], line: &mut ArrayVec<u8, 64>) -> (Part, usize)
+// Keeps what the reader shows of a line that was begun. Returns how much of the line that is, and
+// how many of the bytes it uses up.
+fn keep_part(shown: &[u8], line: &mut ArrayVec<u8, 64>) -> (Part, usize)
     requires { length line.old.items ≤ 64 }
     ensures kept { IsKept shown.now result.0 result.1 line.old.items line.new.items }
     ensures within { result.1 ≤ length shown.now }
