@@ -1,5 +1,5 @@
 -- What the calls of a worker leave behind at a desk of a shared book.
-use Rattle.std.specs.Prelude.{◌≡◌, ℕ, Bool, cond, ◌+◌, ◌≤◌, List, [], ◌∷◌, ◌++◌, length, count_by, sum_by}
+use Rattle.std.specs.Prelude.{◌≡◌, ℕ, Bool, cond, ◌+◌, ◌≤◌, List, [], ◌∷◌, ◌++◌, count_by, sum_by}
 use Rattle.std.proofs.Common.{refl, sym, ap, subst, ◌∙◌, arith, append-nil, append_assoc, length-append}
 use Rattle.std.proofs.lemmas.List.Sums.{sum_by-append}
 use Rattle.g1_shared.specs.Callers.{Standing, MakesFor, mark_of, log_in, taken_list}

@@ -7,6 +7,7 @@ ghost use Rattle.g1_steps.specs.Steps.{GainsAtMost, Empties, MayRefuse};
 ghost use Rattle.g1_steps.specs.Rounds.{IsRound, round_size};
 ghost use Rattle.g1_core.specs.Barrier.{logged, buffer_of};
 ghost use Rattle.g1_shared.specs.Counts.{CountsDid};
+ghost use Rattle.g1_shared.specs.Kinds.{IsKindAt};
 ghost use Rattle.g1_shared.specs.Callers.{Standing, mark_of, IsCallerOf, log_of, taken_list, StoresAt, FlushesAt, RefinesAt, RoundsAt, IsPaused};
 
 use crate::caller::{Caller, Counts};
@@ -43,6 +44,7 @@ impl<M: Frame, S: Ledger, K: Keeper<M, S>> Shared<M, S, K> {
         ensures mark { mark_of caller.new ≡ mark_of caller.old }
         ensures stored { OnOk result (caller.new.counts.stored ≡ caller.old.counts.stored + 1) }
         ensures taker { caller.new.taker ≡ caller.old.taker }
+        ensures kind { IfOk result (λ reply. IsKindAt M.terms.layout slot target reply.kind) }
         ensures log { IfOk result (λ reply. log_of caller.new ≡ logged reply.kind (log_of caller.old) (card_of M.terms.layout slot)) }
         ensures fill { IfOk result (λ reply. (reply.fill ≡ Fill.No) ↔ IsNone (buffer_of reply.kind (log_of caller.old) (card_of M.terms.layout slot))) }
         ensures helped { IfOk result (λ reply.
