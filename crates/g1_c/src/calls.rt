@@ -1,8 +1,8 @@
 //! Opening and closing a handle.
-ghost use Rattle.std.specs.Prelude.{◌≡◌, ◌<◌, Some, None, IsSome};
+ghost use Rattle.std.specs.Prelude.{◌≡◌, ◌↔◌, ◌<◌, Some, None, IsSome};
 ghost use Rattle.g1_core.specs.Machine.{Machine, new_machine};
 ghost use Rattle.g1_handles.specs.Codes.{layout_of, settings_of, IsRefusal};
-ghost use Rattle.g1_handles.specs.Refusals.{IsOpenRefused};
+ghost use Rattle.g1_handles.specs.Refusals.{IsOpenRefused, SaysNotOpen};
 
 use core::mem::replace_with;
 use g1_handles::calls::{Counts, close_in, new_core, open_in};
@@ -47,7 +47,8 @@ pub extern "C" fn g1_open(
 pub extern "C" fn g1_close(alloc: Global, handle: &mut Handle) -> u32
     ensures closed { handle.new.value ≡ None }
     ensures done { IsSome handle.old.value → result ≡ 0 }
-    ensures refused { 0 < result → handle.old.value ≡ None }
+    ensures refused { (0 < result) ↔ (handle.old.value ≡ None) }
+    ensures why { 0 < result → IsRefusal result (SaysNotOpen handle.old.value) }
 {
     replace_with(handle, alloc, close_in)
 }

@@ -1,8 +1,9 @@
 //! Queries: what a slot refers to, whether a card is pending, and how much is pending and recorded.
 ghost use Rattle.std.specs.Prelude.{◌≡◌, ◌<◌, ◌≤◌, ◌==◌, IfSome, IsSome};
 ghost use Rattle.g1_layout.specs.Shape.{slot_count, card_count};
-ghost use Rattle.g1_handles.specs.Codes.{Between, OfOpen, reference_of};
+ghost use Rattle.g1_handles.specs.Codes.{Between, IsRefusal, OfOpen, reference_of};
 ghost use Rattle.g1_handles.specs.Queries.{RefersTo, IsToldPending, HasStatus};
+ghost use Rattle.g1_handles.specs.Refusals.{IsPendingRefused, IsTargetRefused, SaysNotOpen};
 
 use core::mem::replace_with;
 use g1_handles::code::{DONE, NULL};
@@ -30,6 +31,7 @@ pub extern "C" fn g1_target(alloc: Global, handle: &mut Handle, slot: u32, targe
     ensures target { result ≡ 0 → Between handle.old.value handle.new.value (λ old new. RefersTo old slot (reference_of target.new) new) }
     ensures null { 0 < result → target.new ≡ 4294967295 }
     ensures answered { IfSome handle.old.value (λ old. slot < slot_count old.state.table.layout → result ≡ 0) }
+    ensures why { 0 < result → IsRefusal result (IsTargetRefused handle.old.value slot) }
     ensures refused { 0 < result → handle.new.value ≡ handle.old.value }
 {
     *target = NULL;
@@ -48,6 +50,7 @@ pub extern "C" fn g1_target(alloc: Global, handle: &mut Handle, slot: u32, targe
 pub extern "C" fn g1_is_pending(alloc: Global, handle: &mut Handle, card: u32) -> u32
     ensures pending { result ≤ 1 → OfOpen handle.old.value (λ machine. IsToldPending machine card (result == 1)) }
     ensures answered { IfSome handle.old.value (λ machine. card < card_count machine.state.table.layout → result ≤ 1) }
+    ensures why { 1 < result → IsRefusal result (IsPendingRefused handle.old.value card) }
     ensures same { handle.new.value ≡ handle.old.value }
 {
     replace_with(handle, (alloc, card), is_pending_in)
@@ -61,6 +64,7 @@ pub extern "C" fn g1_status(alloc: Global, handle: &mut Handle, totals: &mut Tot
     ensures totals { result ≡ 0 → OfOpen handle.old.value (λ machine. HasStatus machine (record { pending = totals.new.pending; recorded = totals.new.recorded })) }
     ensures none { 0 < result → (totals.new.pending ≡ 0) × (totals.new.recorded ≡ 0) }
     ensures answered { IsSome handle.old.value → result ≡ 0 }
+    ensures why { 0 < result → IsRefusal result (SaysNotOpen handle.old.value) }
     ensures same { handle.new.value ≡ handle.old.value }
 {
     *totals = Totals {

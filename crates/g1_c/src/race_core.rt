@@ -1,9 +1,9 @@
 //! A race that is over becomes a core.
-ghost use Rattle.std.specs.Prelude.{◌≡◌, ◌≢◌, ◌<◌, None, Some, IsSome};
+ghost use Rattle.std.specs.Prelude.{◌≡◌, ◌↔◌, ◌≢◌, ◌<◌, None, Some, IsSome};
 ghost use Rattle.g1_race.specs.Over.{Ended, core_of};
 ghost use Rattle.g1_handles.specs.Codes.{settings_of, IsRefusal};
 ghost use Rattle.g1_handles.specs.Racing.{IsStill, Leaves};
-ghost use Rattle.g1_handles.specs.Refusals.{IsCoreRefused};
+ghost use Rattle.g1_handles.specs.Refusals.{IsCoreRefused, SaysNoRemains};
 
 use core::mem::replace_with;
 use g1_handles::code::DONE;
@@ -49,7 +49,8 @@ pub extern "C" fn g1_race_core(
 pub extern "C" fn g1_over_close(alloc: Global, over: &mut OverHandle) -> u32
     ensures closed { over.new.value ≡ None }
     ensures done { IsSome over.old.value → result ≡ 0 }
-    ensures refused { 0 < result → over.old.value ≡ None }
+    ensures refused { (0 < result) ↔ (over.old.value ≡ None) }
+    ensures why { 0 < result → IsRefusal result (SaysNoRemains over.old.value) }
 {
     replace_with(over, alloc, close_in)
 }

@@ -1,6 +1,8 @@
 //! The log of a racer.
-ghost use Rattle.std.specs.Prelude.{◌≡◌, ◌<◌, ◌≤◌, length, take};
+ghost use Rattle.std.specs.Prelude.{◌≡◌, ◌⊎◌, ◌<◌, ◌≤◌, length, take};
 ghost use Rattle.g1_handles.specs.Racing.{OfRacer, IfRacer, TakesLog};
+ghost use Rattle.g1_handles.specs.Codes.{IsRefusal};
+ghost use Rattle.g1_handles.specs.Refusals.{IsLogRefused};
 
 use core::mem::replace_with;
 use g1_handles::code::{DONE, Refusal};
@@ -25,6 +27,8 @@ pub extern "C" fn g1_race_take_log(
     ensures log { result ≡ 0 → OfRacer member.old.value (λ a. OfRacer member.new.value (λ b. TakesLog a (take count.new cards.new) b)) }
     ensures taken { IfRacer member.old.value (λ a. 256 ≤ length cards.old → result ≡ 0) }
     ensures none { 0 < result → count.new ≡ 0 }
+    ensures why { 0 < result → IsRefusal result (λ refusal. IsLogRefused member.old.value refusal
+        ⊎ ((refusal ≡ Refusal.NoRoom) × (length cards.old < 256))) }
     ensures refused { 0 < result → member.new.value ≡ member.old.value }
 {
     *count = 0;

@@ -1,9 +1,9 @@
 //! How a race begins, and how a member's handle is closed without its race.
-ghost use Rattle.std.specs.Prelude.{◌≡◌, ◌<◌, None, IsSome};
+ghost use Rattle.std.specs.Prelude.{◌≡◌, ◌↔◌, ◌<◌, None, IsSome};
 ghost use Rattle.g1_core.specs.Table.{opening};
 ghost use Rattle.g1_handles.specs.Codes.{layout_of, IsRefusal};
 ghost use Rattle.g1_handles.specs.Racing.{held, AreClosed, IsBegunFor};
-ghost use Rattle.g1_handles.specs.Refusals.{IsRaceRefused};
+ghost use Rattle.g1_handles.specs.Refusals.{IsRaceRefused, SaysNoMember};
 
 use core::mem::replace_with;
 use g1_handles::calls::Counts;
@@ -44,7 +44,8 @@ pub extern "C" fn g1_race_open(
 pub extern "C" fn g1_member_close(alloc: Global, member: &mut MemberHandle) -> u32
     ensures closed { member.new.value ≡ None }
     ensures done { IsSome member.old.value → result ≡ 0 }
-    ensures refused { 0 < result → member.old.value ≡ None }
+    ensures refused { (0 < result) ↔ (member.old.value ≡ None) }
+    ensures why { 0 < result → IsRefusal result (SaysNoMember member.old.value) }
 {
     replace_with(member, alloc, close_in)
 }

@@ -2,8 +2,9 @@
 ghost use Rattle.std.specs.Prelude.{◌≡◌, ◌<◌, ◌≤◌};
 ghost use Rattle.arrayvec.specs.ArrayVec.{array_vec_len};
 ghost use Rattle.g1_race.specs.Members.{race_layout};
-ghost use Rattle.g1_handles.specs.Codes.{IsStoreOf};
+ghost use Rattle.g1_handles.specs.Codes.{IsRefusal, IsStoreOf};
 ghost use Rattle.g1_handles.specs.Racing.{OfRacer, IfRacer, StoresWord, racer_race_of};
+ghost use Rattle.g1_handles.specs.Refusals.{IsRaceStoreRefused};
 
 use core::mem::replace_with;
 use g1_handles::member_handle::MemberHandle;
@@ -28,6 +29,8 @@ pub extern "C" fn g1_race_store(
 ) -> u32
     ensures stored { result ≤ 3 → OfRacer member.old.value (λ a. OfRacer member.new.value (λ b. StoresWord a slot target result b)) }
     ensures taken { IfRacer member.old.value (λ a. array_vec_len a.racer.log < 256 → IsStoreOf (race_layout (racer_race_of a)) slot target → result ≤ 3) }
+    ensures why { 3 < result →
+        IsRefusal result (IsRaceStoreRefused member.old.value slot target) }
     ensures refused { 3 < result → member.new.value ≡ member.old.value }
 {
     replace_with(member, (alloc, slot, target), store_in)

@@ -1,8 +1,10 @@
 -- Why a call is refused: each refusal that it may answer, with what is so where it comes.
 use Rattle.std.specs.Prelude.{◌≡◌, ◌⊎◌, ◌+◌, ◌<◌, ◌≤◌, ℕ, List, length, All, Any, Option, None, IsSome}
-use Rattle.g1_layout.specs.Shape.{Shape, IsShape, card_count}
+use Rattle.arrayvec.specs.ArrayVec.{array_vec_len}
+use Rattle.g1_layout.specs.Shape.{Shape, IsShape, slot_count, card_count}
 use Rattle.g1_core.specs.Settings.{Settings, AreSettings}
 use Rattle.g1_core.specs.Machine.{Machine}
+use Rattle.g1_race.specs.Members.{race_layout}
 use Rattle.g1_handles.specs.declared.code.Refusal.{Refusal}
 use Rattle.g1_handles.specs.declared.code.Refusal.TheVariants as refusal
 use Rattle.g1_handles.specs.declared.member.Member.{Member}
@@ -10,8 +12,8 @@ use Rattle.g1_handles.specs.declared.member.Role.{Role}
 use Rattle.g1_handles.specs.declared.member.Role.TheVariants as roles
 use Rattle.g1_handles.specs.declared.member_handle.MemberHandle.{MemberHandle}
 use Rattle.g1_handles.specs.declared.over_handle.Remains.{Remains}
-use Rattle.g1_handles.specs.Codes.{OfOpen}
-use Rattle.g1_handles.specs.Racing.{held, AreClosed, AreCounts, HasRole, IsAmong, IsKept, KeepsMembers}
+use Rattle.g1_handles.specs.Codes.{OfOpen, IsStoreOf}
+use Rattle.g1_handles.specs.Racing.{held, racer_race_of, sweeper_race_of, AreClosed, AreCounts, HasRole, IsAmong, IsKept, KeepsMembers, OfRacer, OfSweeper}
 
 -- the handle is closed
 abbrev pub SaysNotOpen : Option Machine → Refusal → Type 0
@@ -40,6 +42,57 @@ SaysFewer given room r = (r ≡ refusal.NoRoom) × (room < given)
 -- more were given than a log has cards
 abbrev pub SaysTooMany : ℕ → Refusal → Type 0
 SaysTooMany given r = (r ≡ refusal.TooManyCards) × (256 < given)
+
+-- the heap lacks the slot, or the place of the target
+abbrev pub SaysNoPlace : Shape → ℕ → ℕ → Refusal → Type 0
+SaysNoPlace l slot target r = (r ≡ refusal.NoSlot) × (IsStoreOf l slot target → ⊥)
+
+-- the member's handle is closed
+abbrev pub SaysNoMember : Option Member → Refusal → Type 0
+SaysNoMember m r = (r ≡ refusal.NotOpen) × (m ≡ None)
+
+-- nothing lies behind the handle that a close fills
+abbrev pub SaysNoRemains : Option Remains → Refusal → Type 0
+SaysNoRemains over r = (r ≡ refusal.NotOpen) × (over ≡ None)
+
+-- the handle is that of a member with this role, which is not the one that is asked for
+abbrev pub SaysOtherRole : Role → Option Member → Refusal → Type 0
+SaysOtherRole role m r = (r ≡ refusal.OtherRole) × HasRole role m
+
+-- a store of the target into the slot, which takes no memory
+abbrev pub IsStoreRefused : Option Machine → ℕ → ℕ → Refusal → Type 0
+IsStoreRefused handle slot target r =
+    SaysNotOpen handle r ⊎ OfOpen handle (λ m. SaysNoPlace m.state.table.layout slot target r)
+
+-- the question for the target of the slot
+abbrev pub IsTargetRefused : Option Machine → ℕ → Refusal → Type 0
+IsTargetRefused handle slot r =
+    SaysNotOpen handle r
+    ⊎ ((r ≡ refusal.NoSlot) × OfOpen handle (λ m. slot_count m.state.table.layout ≤ slot))
+
+-- the question whether the card is pending
+abbrev pub IsPendingRefused : Option Machine → ℕ → Refusal → Type 0
+IsPendingRefused handle card r =
+    SaysNotOpen handle r
+    ⊎ ((r ≡ refusal.NoCard) × OfOpen handle (λ m. card_count m.state.table.layout ≤ card))
+
+-- a store of the target into the slot by the racer of a handle
+abbrev pub IsRaceStoreRefused : Option Member → ℕ → ℕ → Refusal → Type 0
+IsRaceStoreRefused m slot target r =
+    SaysNoMember m r ⊎ SaysOtherRole roles.Sweeper m r
+    ⊎ ((r ≡ refusal.LogFull) × OfRacer m (λ a. 256 ≤ array_vec_len a.racer.log))
+    ⊎ OfRacer m (λ a. SaysNoPlace (race_layout (racer_race_of a)) slot target r)
+
+-- the log of the racer of a handle
+abbrev pub IsLogRefused : Option Member → Refusal → Type 0
+IsLogRefused m r = SaysNoMember m r ⊎ SaysOtherRole roles.Sweeper m r
+
+-- the refinement of the card by the sweeper of a handle, which takes no memory
+abbrev pub IsSweepRefused : Option Member → ℕ → Refusal → Type 0
+IsSweepRefused m card r =
+    SaysNoMember m r ⊎ SaysOtherRole roles.Racer m r
+    ⊎ ((r ≡ refusal.NoCard)
+    × OfSweeper m (λ b. card_count (race_layout (sweeper_race_of b)) ≤ card))
 
 -- a heap of these counts with these settings
 abbrev pub IsNewRefused : Shape → Settings → Refusal → Type 0
@@ -104,7 +157,7 @@ IsResumeRefused handle racers sweepers r = SaysNotOpen handle r ⊎ AreSeatsRefu
 -- a handle in a close, for a member of this role and of a race with this many members
 abbrev pub IsMemberRefused : Role → ℕ → Option Member → Refusal → Type 0
 IsMemberRefused role members m r =
-    ((r ≡ refusal.NotOpen) × (m ≡ None))
+    SaysNoMember m r
     ⊎ ((r ≡ refusal.OtherRole) × (HasRole role m → ⊥))
     ⊎ ((r ≡ refusal.BadMembers) × (IsAmong role members m → ⊥))
 

@@ -1,9 +1,9 @@
 //! Opening and closing a handle.
-ghost use Rattle.std.specs.Prelude.{◌≡◌, ◌<◌, Some, None, IfOk, IfErr, OnOk, OnErr, SomeIff, IsSome, IsTrue};
+ghost use Rattle.std.specs.Prelude.{◌≡◌, ◌↔◌, ◌<◌, Some, None, IfOk, IfErr, OnOk, OnErr, SomeIff, IsSome, IsTrue};
 ghost use Rattle.g1_core.specs.Machine.{Machine, new_machine};
 ghost use Rattle.g1_core.specs.Settings.{AreSettings};
-ghost use Rattle.g1_handles.specs.Codes.{layout_of, settings_of};
-ghost use Rattle.g1_handles.specs.Refusals.{IsNewRefused};
+ghost use Rattle.g1_handles.specs.Codes.{layout_of, settings_of, IsRefusal};
+ghost use Rattle.g1_handles.specs.Refusals.{IsNewRefused, SaysNotOpen};
 
 use crate::code::{DONE, Refusal};
 use crate::handle::Handle;
@@ -91,7 +91,8 @@ pub fn open_in(handle: Handle, core: Box<Core>) -> (Handle, Result<(), Refusal>)
 pub fn close_in(handle: Handle, alloc: Global) -> (Handle, u32)
     ensures closed { result.0.value ≡ None }
     ensures done { IsSome handle.value → result.1 ≡ 0 }
-    ensures refused { 0 < result.1 → handle.value ≡ None }
+    ensures refused { (0 < result.1) ↔ (handle.value ≡ None) }
+    ensures why { 0 < result.1 → IsRefusal result.1 (SaysNotOpen handle.value) }
 {
     let Some(core) = handle.into_raw_box() else {
         return (Handle::closed(alloc), Refusal::NotOpen.word());

@@ -1,8 +1,9 @@
 //! Queries: what a slot refers to, whether a card is pending, and how much is pending and recorded.
-ghost use Rattle.std.specs.Prelude.{◌≡◌, ◌<◌, ◌≤◌, ◌==◌, IfOk, OnErr, IfSome, IsSome};
+ghost use Rattle.std.specs.Prelude.{◌≡◌, ◌<◌, ◌≤◌, ◌==◌, IfOk, IfErr, OnErr, IfSome, IsSome};
 ghost use Rattle.g1_layout.specs.Shape.{slot_count, card_count};
-ghost use Rattle.g1_handles.specs.Codes.{Between, OfOpen, reference_of};
+ghost use Rattle.g1_handles.specs.Codes.{Between, IsRefusal, OfOpen, reference_of};
 ghost use Rattle.g1_handles.specs.Queries.{RefersTo, IsToldPending, HasStatus};
+ghost use Rattle.g1_handles.specs.Refusals.{IsPendingRefused, IsTargetRefused, SaysNotOpen};
 
 use crate::code::{NULL, Refusal};
 use crate::handle::Handle;
@@ -16,6 +17,7 @@ use std::alloc::Global;
 pub fn target_in(handle: Handle, words: (Global, u32)) -> (Handle, Result<u32, Refusal>)
     ensures target { IfOk result.1 (λ word. Between handle.value result.0.value (λ old new. RefersTo old words.1 (reference_of word) new)) }
     ensures answered { OnErr result.1 (IfSome handle.value (λ old. slot_count old.state.table.layout ≤ words.1)) }
+    ensures why { IfErr result.1 (IsTargetRefused handle.value words.1) }
     ensures refused { OnErr result.1 (result.0.value ≡ handle.value) }
 {
     let Some(core) = handle.into_raw_box() else {
@@ -29,6 +31,7 @@ pub fn target_in(handle: Handle, words: (Global, u32)) -> (Handle, Result<u32, R
 fn target_one(core: &mut Core, slot: u32) -> Result<u32, Refusal>
     ensures target { IfOk result (λ word. RefersTo core.old slot (reference_of word) core.new) }
     ensures answered { OnErr result (slot_count core.old.state.table.layout ≤ slot) }
+    ensures why { IfErr result (λ refusal. refusal ≡ Refusal.NoSlot) }
     ensures refused { OnErr result (core.new ≡ core.old) }
 {
     let layout = core.layout();
@@ -55,6 +58,7 @@ fn word_of(layout: Layout, target: Option<Slot>) -> u32
 pub fn is_pending_in(handle: Handle, words: (Global, u32)) -> (Handle, u32)
     ensures pending { result.1 ≤ 1 → OfOpen handle.value (λ machine. IsToldPending machine words.1 (result.1 == 1)) }
     ensures answered { IfSome handle.value (λ machine. words.1 < card_count machine.state.table.layout → result.1 ≤ 1) }
+    ensures why { 1 < result.1 → IsRefusal result.1 (IsPendingRefused handle.value words.1) }
     ensures same { result.0.value ≡ handle.value }
 {
     let Some(core) = handle.into_raw_box() else {
@@ -68,6 +72,8 @@ pub fn is_pending_in(handle: Handle, words: (Global, u32)) -> (Handle, u32)
 fn is_pending_one(core: &Core, card: u32) -> u32
     ensures pending { result ≤ 1 → IsToldPending core.now card (result == 1) }
     ensures answered { card < card_count core.now.state.table.layout → result ≤ 1 }
+    ensures why { 1 < result → IsRefusal result (λ refusal.
+        (refusal ≡ Refusal.NoCard) × (card_count core.now.state.table.layout ≤ card)) }
 {
     let Some(card) = core.layout().card(card) else {
         return Refusal::NoCard.word();
@@ -80,6 +86,7 @@ fn is_pending_one(core: &Core, card: u32) -> u32
 pub fn status_in(handle: Handle, alloc: Global) -> (Handle, Result<Status, Refusal>)
     ensures status { IfOk result.1 (λ status. OfOpen handle.value (λ machine. HasStatus machine status)) }
     ensures answered { OnErr result.1 (IsSome handle.value → ⊥) }
+    ensures why { IfErr result.1 (SaysNotOpen handle.value) }
     ensures same { result.0.value ≡ handle.value }
 {
     let Some(core) = handle.into_raw_box() else {

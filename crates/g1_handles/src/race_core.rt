@@ -1,9 +1,9 @@
 //! A race that is over becomes a core.
-ghost use Rattle.std.specs.Prelude.{◌≡◌, ◌≢◌, ◌<◌, None, Some, IsSome, IfOk, OnOk, OnErr, IfErr};
+ghost use Rattle.std.specs.Prelude.{◌≡◌, ◌↔◌, ◌≢◌, ◌<◌, None, Some, IsSome, IfOk, OnOk, OnErr, IfErr};
 ghost use Rattle.g1_race.specs.Over.{Ended, core_of};
-ghost use Rattle.g1_handles.specs.Codes.{settings_of};
+ghost use Rattle.g1_handles.specs.Codes.{settings_of, IsRefusal};
 ghost use Rattle.g1_handles.specs.Racing.{IsStill, Leaves};
-ghost use Rattle.g1_handles.specs.Refusals.{IsCoreRefused};
+ghost use Rattle.g1_handles.specs.Refusals.{IsCoreRefused, SaysNoRemains};
 
 use crate::calls::{config, is_closed, open_in};
 use crate::code::{DONE, Refusal};
@@ -104,7 +104,8 @@ fn ended_in(remains: Remains, _nothing: ()) -> (Remains, ())
 pub fn close_in(over: OverHandle, alloc: Global) -> (OverHandle, u32)
     ensures closed { result.0.value ≡ None }
     ensures done { IsSome over.value → result.1 ≡ 0 }
-    ensures refused { 0 < result.1 → over.value ≡ None }
+    ensures refused { (0 < result.1) ↔ (over.value ≡ None) }
+    ensures why { 0 < result.1 → IsRefusal result.1 (SaysNoRemains over.value) }
 {
     let Some(remains) = over.into_raw_box() else {
         return (OverHandle::closed(alloc), Refusal::NotOpen.word());

@@ -1,9 +1,9 @@
 //! How a race begins, and how a member's handle is closed without its race.
-ghost use Rattle.std.specs.Prelude.{◌≡◌, ◌<◌, None, IsSome, IfErr, OnOk, OnErr};
+ghost use Rattle.std.specs.Prelude.{◌≡◌, ◌↔◌, ◌<◌, None, IsSome, IfErr, OnOk, OnErr};
 ghost use Rattle.g1_core.specs.Table.{opening};
-ghost use Rattle.g1_handles.specs.Codes.{layout_of};
+ghost use Rattle.g1_handles.specs.Codes.{layout_of, IsRefusal};
 ghost use Rattle.g1_handles.specs.Racing.{held, AreClosed, IsBegunFor};
-ghost use Rattle.g1_handles.specs.Refusals.{IsRaceRefused};
+ghost use Rattle.g1_handles.specs.Refusals.{IsRaceRefused, SaysNoMember};
 
 use crate::calls::Counts;
 use crate::code::{DONE, Refusal};
@@ -63,7 +63,8 @@ pub fn open_race(
 pub fn close_in(member: MemberHandle, alloc: Global) -> (MemberHandle, u32)
     ensures closed { result.0.value ≡ None }
     ensures done { IsSome member.value → result.1 ≡ 0 }
-    ensures refused { 0 < result.1 → member.value ≡ None }
+    ensures refused { (0 < result.1) ↔ (member.value ≡ None) }
+    ensures why { 0 < result.1 → IsRefusal result.1 (SaysNoMember member.value) }
 {
     let Some(member) = member.into_raw_box() else {
         return (MemberHandle::closed(alloc), Refusal::NotOpen.word());

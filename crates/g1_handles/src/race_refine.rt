@@ -1,8 +1,10 @@
 //! Concurrent refinement in a race.
-ghost use Rattle.std.specs.Prelude.{◌≡◌, ◌<◌, Some};
+ghost use Rattle.std.specs.Prelude.{◌≡◌, ◌<◌, ◌≤◌, Some};
 ghost use Rattle.g1_layout.specs.Shape.{card_count};
 ghost use Rattle.g1_race.specs.Members.{race_layout};
 ghost use Rattle.g1_handles.specs.Racing.{OfSweeper, IfSweeper, Sweeps, sweeper_race_of};
+ghost use Rattle.g1_handles.specs.Codes.{IsRefusal};
+ghost use Rattle.g1_handles.specs.Refusals.{IsSweepRefused};
 
 use crate::code::{DONE, Refusal};
 use crate::member::{Member, Sweeping};
@@ -15,6 +17,7 @@ use std::alloc::Global;
 pub fn refine_in(member: MemberHandle, words: (Global, u32)) -> (MemberHandle, u32)
     ensures refined { result.1 ≡ 0 → OfSweeper member.value (λ a. OfSweeper result.0.value (λ b. Sweeps a words.1 b)) }
     ensures taken { IfSweeper member.value (λ a. words.1 < card_count (race_layout (sweeper_race_of a)) → result.1 ≡ 0) }
+    ensures why { 0 < result.1 → IsRefusal result.1 (IsSweepRefused member.value words.1) }
     ensures refused { 0 < result.1 → result.0.value ≡ member.value }
 {
     let Some(member) = member.into_raw_box() else {
@@ -28,6 +31,7 @@ pub fn refine_in(member: MemberHandle, words: (Global, u32)) -> (MemberHandle, u
 fn refine_of(member: &mut Member, card: u32) -> u32
     ensures refined { result ≡ 0 → OfSweeper (Some member.old) (λ a. OfSweeper (Some member.new) (λ b. Sweeps a card b)) }
     ensures taken { IfSweeper (Some member.old) (λ a. card < card_count (race_layout (sweeper_race_of a)) → result ≡ 0) }
+    ensures why { 0 < result → IsRefusal result (IsSweepRefused (Some member.old) card) }
     ensures refused { 0 < result → member.new ≡ member.old }
 {
     let Member::Sweeper(sweeping) = member else {
@@ -39,6 +43,8 @@ fn refine_of(member: &mut Member, card: u32) -> u32
 fn refine_by(sweeping: &mut Sweeping, card: u32) -> u32
     ensures refined { result ≡ 0 → Sweeps sweeping.old card sweeping.new }
     ensures taken { card < card_count (race_layout (sweeper_race_of sweeping.old)) → result ≡ 0 }
+    ensures why { 0 < result → IsRefusal result (λ refusal. (refusal ≡ Refusal.NoCard)
+        × (card_count (race_layout (sweeper_race_of sweeping.old)) ≤ card)) }
     ensures refused { 0 < result → sweeping.new ≡ sweeping.old }
 {
     let Some(card) = sweeping.race.layout().card(card) else {

@@ -2,7 +2,8 @@
 ghost use Rattle.std.specs.Prelude.{◌≡◌, ◌<◌, ◌≤◌, IfSome, IfNone};
 ghost use Rattle.g1_layout.specs.Shape.{slot_count};
 ghost use Rattle.g1_core.specs.Run.{kind_of};
-ghost use Rattle.g1_handles.specs.Codes.{kind_word, reference_of, IsStoreOf, Between, stored_machine};
+ghost use Rattle.g1_handles.specs.Codes.{kind_word, reference_of, IsRefusal, IsStoreOf, Between, stored_machine};
+ghost use Rattle.g1_handles.specs.Refusals.{IsStoreRefused, SaysNoPlace};
 
 use crate::code::{NULL, Refusal, kind_word};
 use crate::handle::Handle;
@@ -19,6 +20,8 @@ pub fn store_in(handle: Handle, words: (Global, u32, u32)) -> (Handle, u32)
     ensures kind { result.1 ≤ 3 → Between handle.value result.0.value (λ old new. result.1 ≡ kind_word (kind_of old.state.table words.1 (reference_of words.2))) }
     ensures machine { result.1 ≤ 3 → Between handle.value result.0.value (λ old new. new ≡ stored_machine old words.1 (reference_of words.2)) }
     ensures taken { IfSome handle.value (λ old. IsStoreOf old.state.table.layout words.1 words.2 → result.1 ≤ 3) }
+    ensures why { 3 < result.1 →
+        IsRefusal result.1 (IsStoreRefused handle.value words.1 words.2) }
     ensures refused { 3 < result.1 → result.0.value ≡ handle.value }
 {
     let Some(core) = handle.into_raw_box() else {
@@ -33,6 +36,8 @@ fn store_one(core: &mut Core, slot: u32, target: u32) -> u32
     ensures kind { result ≤ 3 → result ≡ kind_word (kind_of core.old.state.table slot (reference_of target)) }
     ensures machine { result ≤ 3 → core.new ≡ stored_machine core.old slot (reference_of target) }
     ensures taken { IsStoreOf core.old.state.table.layout slot target → result ≤ 3 }
+    ensures why { 3 < result →
+        IsRefusal result (SaysNoPlace core.old.state.table.layout slot target) }
     ensures refused { 3 < result → core.new ≡ core.old }
 {
     let layout = core.layout();

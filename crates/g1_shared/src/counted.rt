@@ -14,6 +14,7 @@ ghost use Rattle.g1_core.specs.Redirect.{IsRedirectOf};
 ghost use Rattle.g1_core.specs.Refinement.{IsRefined, AreCardsRead};
 ghost use Rattle.g1_core.specs.Run.{kind_of};
 ghost use Rattle.g1_core.specs.Table.{target_of, AreMembers};
+ghost use Rattle.g1_shared.specs.Kinds.{IsKindAt};
 ghost use Rattle.g1_shared.specs.Counts.{one_call, one_store, is_store};
 ghost use Rattle.g1_shared.specs.Callers.{called_once, HandsOut};
 ghost use Rattle.g1_book.specs.History.{IsEntered, AnswersExactly, table_in, terms_of};
@@ -91,6 +92,8 @@ impl<M: Frame, S: Ledger> Counted<M, S> {
             IsEntered self.old (store_entry counts.old.number slot target answer.0) self.new) }
         ensures kind { IfOk result (λ answer.
             answer.0.kind ≡ kind_of (table_in self.old) slot target) }
+        ensures fits { IfOk result (λ answer.
+            IsKindAt M.terms.layout slot target answer.0.kind) }
         ensures machine { IfOk result (λ _.
             self.new.machine ≡ stored_machine self.old.machine slot target) }
         ensures fill { IfOk result (λ answer. answer.0.fill ≡ fill_of answer.1) }
@@ -130,6 +133,7 @@ impl<M: Frame, S: Ledger> Counted<M, S> {
         requires target { IfSome target (λ place. place < slot_count M.terms.layout) }
         ensures entered { IfOk result (λ reply.
             IsEntered self.old (store_entry counts.old.number slot target reply) self.new) }
+        ensures fits { IfOk result (λ reply. IsKindAt M.terms.layout slot target reply.kind) }
         ensures reply { IfOk result (λ reply. reply ≡ unfilled reply.kind) }
         ensures log { IfOk result (λ reply.
             log.new ≡ logged reply.kind log.old (card_of M.terms.layout slot)) }

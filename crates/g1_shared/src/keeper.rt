@@ -5,6 +5,7 @@ ghost use Rattle.g1_layout.specs.Shape.{slot_count, card_count, card_of};
 ghost use Rattle.g1_core.specs.Barrier.{logged, buffer_of, fill_of, unfilled};
 ghost use Rattle.g1_shared.specs.Counts.{one_call, one_store};
 ghost use Rattle.g1_shared.specs.Callers.{called_once};
+ghost use Rattle.g1_shared.specs.Kinds.{IsKindAt};
 
 use crate::caller::{Caller, Counts};
 use crate::counted::Counted;
@@ -33,6 +34,8 @@ pub trait Keeper<M: Frame, S: Ledger>: Drop {
         requires caller { counts.old.number < M.terms.mutators }
         requires slot { slot < slot_count M.terms.layout }
         requires target { IfSome target (λ place. place < slot_count M.terms.layout) }
+        ensures fits { IfOk result (λ answer.
+            IsKindAt M.terms.layout slot target answer.0.kind) }
         ensures fill { IfOk result (λ answer. answer.0.fill ≡ fill_of answer.1) }
         ensures plain { IfOk result (λ answer. (answer.0.refined ≡ []) × (answer.0.short ≡ false)) }
         ensures log { IfOk result (λ answer.
@@ -55,6 +58,7 @@ pub trait Keeper<M: Frame, S: Ledger>: Drop {
         requires room { length log.old.cards + 1 < log.old.size }
         requires slot { slot < slot_count M.terms.layout }
         requires target { IfSome target (λ place. place < slot_count M.terms.layout) }
+        ensures fits { IfOk result (λ reply. IsKindAt M.terms.layout slot target reply.kind) }
         ensures reply { IfOk result (λ reply. reply ≡ unfilled reply.kind) }
         ensures log { IfOk result (λ reply.
             log.new ≡ logged reply.kind log.old (card_of M.terms.layout slot)) }

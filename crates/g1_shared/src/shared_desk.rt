@@ -6,6 +6,7 @@ ghost use Rattle.g1_core.specs.Barrier.{logged};
 ghost use Rattle.g1_log.specs.Ends.{capacity_of};
 ghost use Rattle.g1_shared.specs.Callers.{IsCallerOf, log_of, StoresAt, FlushesAt, RoundsAt};
 ghost use Rattle.g1_shared.specs.Did.{IsRefusedAt};
+ghost use Rattle.g1_shared.specs.Kinds.{IsKindAt};
 ghost use Rattle.g1_shared.specs.Did.{DeskDid, caller_did_none, desk_did_then};
 
 use crate::caller::Caller;
@@ -72,7 +73,8 @@ impl<'a, R: Wait, M: Frame, S: Ledger, K: Keeper<M, S>> Desk for SharedDesk<'a, 
     ghost stored = { λ s slot target reply t.
         StoresAt s.caller
         (card_of M.terms.layout slot) reply.fill reply.refined reply.short t.caller
-        × (log_of t.caller ≡ logged reply.kind (log_of s.caller) (card_of M.terms.layout slot)) };
+        × (log_of t.caller ≡ logged reply.kind (log_of s.caller) (card_of M.terms.layout slot))
+        × IsKindAt M.terms.layout slot target reply.kind };
 
     ghost flushed = { λ s reply t. FlushesAt s.caller reply.fill reply.refined reply.short t.caller
         × (reply.cards ≡ length (log_of s.caller).cards) };

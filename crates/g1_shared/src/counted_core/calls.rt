@@ -16,6 +16,7 @@ ghost use Rattle.g1_core.specs.Run.{kind_of};
 ghost use Rattle.g1_core.specs.Table.{target_of, AreMembers};
 ghost use Rattle.g1_shared.specs.Counts.{one_call, one_store};
 ghost use Rattle.g1_shared.specs.Callers.{called_once};
+ghost use Rattle.g1_shared.specs.Kinds.{IsKindAt};
 ghost use Rattle.g1_shared.specs.Totals.{with_call, with_store, IsCoreStep, IsFull};
 
 use crate::caller::{Caller, Counts};
@@ -45,6 +46,8 @@ impl<M: Frame, S: Ledger> Keeper<M, S> for CountedCore<M, S> {
             answer.0.kind ≡ kind_of self.old.machine.state.table slot target) }
         ensures machine { OnOk result (self.new.machine
             ≡ stored_machine self.old.machine slot target) }
+        ensures fits { IfOk result (λ answer.
+            IsKindAt M.terms.layout slot target answer.0.kind) }
         ensures fill { IfOk result (λ answer. answer.0.fill ≡ fill_of answer.1) }
         ensures plain { IfOk result (λ answer. (answer.0.refined ≡ []) × (answer.0.short ≡ false)) }
         ensures log { IfOk result (λ answer.
@@ -81,6 +84,7 @@ impl<M: Frame, S: Ledger> Keeper<M, S> for CountedCore<M, S> {
         requires room { length log.old.cards + 1 < log.old.size }
         requires slot { slot < slot_count M.terms.layout }
         requires target { IfSome target (λ place. place < slot_count M.terms.layout) }
+        ensures fits { IfOk result (λ reply. IsKindAt M.terms.layout slot target reply.kind) }
         ensures reply { IfOk result (λ reply. reply ≡ unfilled reply.kind) }
         ensures kind { IfOk result (λ reply.
             reply.kind ≡ kind_of self.old.machine.state.table slot target) }

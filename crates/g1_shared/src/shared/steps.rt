@@ -8,6 +8,7 @@ ghost use Rattle.g1_steps.specs.Steps.{GainsAtMost, Empties, MayRefuse};
 ghost use Rattle.g1_steps.specs.Rounds.{IsRound, round_size};
 ghost use Rattle.g1_core.specs.Barrier.{logged, buffer_of};
 ghost use Rattle.g1_shared.specs.Counts.{CountsDid};
+ghost use Rattle.g1_shared.specs.Kinds.{IsKindAt};
 ghost use Rattle.g1_shared.specs.Callers.{Standing, mark_of, IsCallerOf, log_of, taken_list};
 ghost use Rattle.g1_shared.specs.Callers.{StoresAt, FlushesAt, RefinesAt, RoundsAt, IsPaused};
 
@@ -45,6 +46,7 @@ impl<M: Frame, S: Ledger, K: Keeper<M, S>> Shared<M, S, K> {
         ensures mark { mark_of caller.new ≡ mark_of caller.old }
         ensures stored { OnOk result (caller.new.counts.stored ≡ caller.old.counts.stored + 1) }
         ensures taker { caller.new.taker ≡ caller.old.taker }
+        ensures kind { IfOk result (λ reply. IsKindAt M.terms.layout slot target reply.kind) }
         ensures log { IfOk result (λ reply.
             log_of caller.new
             ≡ logged reply.kind (log_of caller.old) (card_of M.terms.layout slot)) }

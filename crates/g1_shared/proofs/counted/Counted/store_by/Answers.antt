@@ -1,6 +1,7 @@
 use Rattle.std.proofs.Common.{refl}
 use Rattle.g1_core.specs.Calls.{store_entry}
 use Rattle.g1_shared.proofs.CallLemmas.{same_counted, store_counted, total_fits, entered_of, store_tallied, full_as, if_refused, on_refused}
+use Rattle.g1_shared.proofs.KindLemmas.{kind_at}
 use Rattle.g1_shared.proofs.counted.Counted.store_by.Goals as goal
 
 pub invariant_of-self : goal.invariant_of-self
@@ -43,3 +44,10 @@ returns-clause-counts g c = store_tallied _ _ _ _ _ _ c.counts.view_is c.raise.e
 
 pub returns-clause-full : goal.returns-clause-full
 returns-clause-full g c = full_as _ _ _ c.self.view_is c.in_ok-answer.ensures.full
+
+-- the kind is that of a store at the book's table
+pub returns-in_err-answer-clause-fits : goal.returns-in_err-answer-clause-fits
+returns-in_err-answer-clause-fits g c = if_refused _ _ c.from_residual.ensures.0
+
+pub returns-clause-fits : goal.returns-clause-fits
+returns-clause-fits g c = kind_at _ _ _ c.self.inside.book _ _ _ c.self.invariant c.in_ok-answer.ensures.kind

@@ -1,6 +1,8 @@
-use Rattle.std.proofs.Common.{refl}
+use Rattle.std.proofs.Common.{refl, ap}
+use Rattle.g1_core.specs.declared.reply.StoreReply.{StoreReply}
 use Rattle.g1_core.specs.Calls.{store_entry}
 use Rattle.g1_shared.proofs.CallLemmas.{same_counted, store_counted, total_fits, entered_of, store_tallied, full_as, if_refused, on_refused}
+use Rattle.g1_shared.proofs.KindLemmas.{kind_at}
 use Rattle.g1_shared.proofs.counted.Counted.store_with_room_by.Goals as goal
 
 pub invariant_of-self : goal.invariant_of-self
@@ -37,3 +39,11 @@ returns-clause-counts g c = store_tallied _ _ _ _ _ _ c.counts.view_is c.raise.e
 
 pub returns-clause-full : goal.returns-clause-full
 returns-clause-full g c = full_as _ _ _ c.self.view_is c.in_ok-reply.ensures.full
+
+-- the kind is that of a store at the book's table
+pub returns-in_err-reply-clause-fits : goal.returns-in_err-reply-clause-fits
+returns-in_err-reply-clause-fits g c = if_refused _ _ c.from_residual.ensures.0
+
+pub returns-clause-fits : goal.returns-clause-fits
+returns-clause-fits g c =
+    kind_at _ _ _ c.self.inside.book _ _ _ c.self.invariant (ap (λ (x : StoreReply). x.kind) c.in_ok-reply.ensures.reply)

@@ -6,3 +6,7 @@ use Rattle.g1_shared.proofs.counted_core.calls.CountedCoreKeeper.store_by.Goals 
 
 pub returns-clause-step : goal.returns-clause-step
 returns-clause-step g c = subst (λ (was : CountedMachine). (number : ℕ) → IsStep was.machine.state.table (store_entry number c.args.slot c.args.target c.store-answer.result.0) c.store-answer.new.self.state.table) c.self.view_is c.store-answer.ensures.step
+
+-- the kind is that of a store at the core's table
+pub returns-clause-fits : goal.returns-clause-fits
+returns-clause-fits g c = (c.self.inside.core.state.table, c.self.invariant.0, c.store-answer.ensures.kind)

@@ -1,0 +1,32 @@
+-- What is known of the kind of a store under a lock.
+use Rattle.std.proofs.Common.{◌≡◌, ℕ, List, ◌∷◌, Option, Some, None, refl, sym, ap, subst, ◌∙◌}
+use Rattle.std.specs.Prelude.{Result, Ok, Err, IfOk}
+use Rattle.g1_layout.specs.Shape.{Shape}
+use Rattle.g1_layout.specs.declared.kind.Kind.{Kind}
+use Rattle.g1_core.specs.declared.reply.StoreReply.{StoreReply}
+use Rattle.g1_core.specs.Run.{kind_of}
+use Rattle.g1_book.specs.declared.refusal.Refusal.{Refusal}
+use Rattle.g1_book.specs.History.{History, Terms, table_in}
+use Rattle.g1_steps.specs.Made.{Made, Stored}
+use Rattle.g1_steps.specs.Steps.{Help, IsStored, help_calls, store_answer}
+use Rattle.g1_shared.specs.Kinds.{IsKindAt, HaveKinds}
+use Rattle.g1_shared.proofs.CallLemmas.{AreCounted}
+
+-- the kind of a store at a counted book
+pub kind_at : (terms : Terms) (made stored : ℕ) (h : History) (slot : ℕ) (target : Option ℕ) (kind : Kind)
+    → AreCounted terms made stored h → kind ≡ kind_of (table_in h) slot target → IsKindAt terms.layout slot target kind
+kind_at terms made stored h slot target kind was is = (table_in h, ap (λ (t : Terms). t.layout) was.2, is)
+
+answer_kind : (first : StoreReply) (help : Help) → (store_answer first help).kind ≡ first.kind
+answer_kind first None = refl
+answer_kind first (Some (Ok reply)) = refl
+answer_kind first (Some (Err refusal)) = refl
+
+-- a store's reply has the kind of its own call
+pub store_kind : {S : Type 0} (did : S → List Made → S → Type 0) (layout : Shape) (old new : S) (slot : ℕ) (target : Option ℕ) (cards : List ℕ) (r : Result StoreReply Refusal)
+    → ((ms : List Made) → did old ms new → HaveKinds layout ms) → IfOk r (λ reply. IsStored did old slot target cards reply new)
+    → IfOk r (λ reply. IsKindAt layout slot target reply.kind)
+store_kind did layout old new slot target cards (Err refusal) told h = tt
+store_kind did layout old new slot target cards (Ok reply) told h =
+    let same : reply.kind ≡ h.first.kind = ap (λ (x : StoreReply). x.kind) h.answer ∙ answer_kind h.first h.help in
+    subst (IsKindAt layout slot target) (sym same) (told (Stored slot target h.first ∷ help_calls cards h.help) h.made).0
