@@ -52,7 +52,11 @@ fn play<R: Wait + Print + Eprint + AllocGlobal>(rt: &R) -> Result<(), Failure> {
     history::play(rt)?;
     callers::play(rt)?;
     shared::play(rt)?;
-    told(rt, "a core that is shared", shared_core::asked_and_ended(rt))?;
+    told(
+        rt,
+        "a core that is shared",
+        shared_core::asked_and_ended(rt),
+    )?;
     told(rt, "a race", race::untouched(rt))?;
     told(rt, "a drain at a pause", pause::drained(rt))?;
     told(rt, "a redirect at a pause", pause::redirected(rt))?;
