@@ -1,8 +1,8 @@
 // Calls of the library that C can get wrong, and random calls beside a plain table of references: `checks [CALLS]`.
 //
 // The table here is a C array that each store and each redirect writes. At each drain every slot is scanned: a card that refers into
-// the region from outside has to be answered, each answer lies outside the region and referred into it since its set was last cleared,
-// and they ascend.
+// the region from outside has to be listed, each listed card lies outside the region and referred into it since its set was last
+// cleared, and they ascend.
 #include "g1.h"
 
 #include <stdio.h>
@@ -367,7 +367,7 @@ static int enters(uint32_t slot, uint32_t region) {
     return table[slot] != G1_NULL && region_of(table[slot]) == region && region_of(slot) != region;
 }
 
-// What a drain of the region answered, beside a scan of all slots.
+// What a drain of the region returned, beside a scan of all slots.
 static int is_exact(uint32_t region) {
     memset(scan, 0, sizeof scan);
     for (uint32_t i = 0; i < count; i++) {
@@ -384,7 +384,7 @@ static int is_exact(uint32_t region) {
     return 1;
 }
 
-// The members of a region, just after a drain of it that was exact: those that the drain answered.
+// The members of a region, just after a drain of it that was exact: those that the drain returned.
 static int has_same_members(struct g1 *handle, uint32_t region) {
     uint32_t drained = count;
     if (members(handle, region, ALL_CARDS) != G1_DONE || count != drained) {

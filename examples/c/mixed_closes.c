@@ -50,7 +50,7 @@ static int is_sweeper(int choice) {
     return choice % MEMBERS >= EACH;
 }
 
-// What the close of these choices answers, of which the first are given as racers.
+// What the close of these choices returns, of which the first are given as racers.
 static uint32_t expected(const int *chosen, int racers, int all) {
     for (int i = 0; i < all; i++) {
         if (chosen[i] == CLOSED) {
@@ -86,7 +86,7 @@ static int is_refused(const int *chosen, int racers, int all) {
     return is_same && answer == expected(chosen, racers, all);
 }
 
-// Every choice of members for so many racers and sweepers, but for those that would close a race.
+// Every choice of members for these numbers of racers and sweepers, but for those that would close a race.
 static void mix(int racers, int sweepers) {
     int chosen[MEMBERS] = {0}, all = racers + sweepers, at;
     unsigned refused = 0, wrong = 0, whole = 0;

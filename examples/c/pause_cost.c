@@ -36,7 +36,7 @@ static double lap(void) {
     return (passed < own ? passed : own) * 1e6;
 }
 
-// A race over a new heap of so many regions.
+// A race over a new heap with this number of regions.
 static void open_race(uint32_t count) {
     struct g1_counts counts = {count, CARDS, SLOTS};
     regions = count;

@@ -29,7 +29,7 @@ struct log {
     uint32_t count;
 };
 
-// A member of a race in a thread: its handle stands here only while the thread does not run.
+// A member of a race in a thread: its handle is here only while the thread does not run.
 struct seat {
     struct g1_member member;
     uint64_t state;
@@ -132,7 +132,7 @@ static uint32_t region_of(uint32_t slot) {
     return slot / (CARDS * SLOTS);
 }
 
-// How many slots outside the region refer into it from cards that were not answered.
+// How many slots outside the region refer into it from cards that were not listed.
 static unsigned missed_in(struct g1 *heap, uint32_t region, const uint32_t *cards, uint32_t count) {
     static unsigned char is_member[ALL_CARDS];
     unsigned missed = 0;

@@ -1,4 +1,4 @@
-// What each call of a race answers where it is refused, and that it has changed nothing then.
+// What each call of a race returns where it is refused, and that it has changed nothing then.
 #include "g1.h"
 
 #include <stdio.h>

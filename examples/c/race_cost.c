@@ -33,7 +33,7 @@ struct seat {
     unsigned wrong;
 };
 
-// Makes each store of a round, and counts those that were not answered as expected.
+// Makes each store of a round, and counts those whose reply was not as expected.
 typedef unsigned round_of(struct seat *seat, uint32_t expected);
 
 static _Atomic uint64_t words[ALL_SLOTS], marks[ALL_CARDS];
@@ -61,7 +61,7 @@ __attribute__((noinline)) static unsigned exchanges(struct seat *seat, uint32_t 
     return sum == UINT64_MAX && expected == 0;
 }
 
-// Looks at a store that was not answered as expected: where the log was full, takes it and stores again.
+// Looks at a store whose reply was not as expected: where the log was full, takes it and stores again.
 __attribute__((noinline)) static unsigned is_wrong(struct g1_member *racer, uint32_t slot, uint32_t target, uint32_t kind, uint32_t expected) {
     uint32_t cards[G1_LOG], count;
     if (kind != G1_LOG_FULL || g1_race_take_log(racer, cards, G1_LOG, &count) != G1_DONE) {

@@ -29,7 +29,7 @@ static _Atomic uint32_t memory[ALL_SLOTS];
 
 static atomic_int is_over;
 
-// A member of a race in a thread: its handle stands here only while the thread does not run.
+// A member of a race in a thread: its handle is here only while the thread does not run.
 struct seat {
     struct g1_member member;
     uint64_t state;

@@ -165,7 +165,7 @@ fn scan(heap: &mut Heap, slots: &[Slot], region: u32) -> Result<BTreeSet<u32>, R
     Ok(cards)
 }
 
-/// Drains each region. Answers how many cards there were, and how many were missed or wrong.
+/// Drains each region. Returns how many cards there were, and how many were missed or wrong.
 fn drains(heap: &mut Heap, slots: &[Slot]) -> Result<(usize, usize), Box<dyn Error>> {
     let (mut all, mut wrong) = (0, 0);
     for number in 0..COUNTS.regions {

@@ -1,9 +1,9 @@
 //! Replays a trace as `g1replay run` does, and prints what that prints: `replay OPTION NUMBER ..`.
 //!
 //! The trace comes from standard input. The options are those of `g1replay run` but for
-//! `--history`: the library keeps none. The mutators' dirty card queues and the line of completed
-//! buffers are this program's, as they are a runtime's. A trace that g1replay refuses is not
-//! answered line by line: the program ends with status 1 at its fault.
+//! `--history`: the library keeps none. The mutators' dirty card queues and the queue of completed
+//! buffers are this program's, as they are a runtime's. At a fault of the trace, which g1replay
+//! prints, the program ends with status 1.
 use ninkoda::{Card, Cleared, Counts, Drained, Heap, Kind, Redirected, Region};
 use std::collections::VecDeque;
 use std::error::Error;

@@ -123,7 +123,7 @@ fn refine_buffers(shared: &Mutex<Shared>) -> Result<(), Refusal> {
     }
 }
 
-/// Runs all threads, and answers how many of them were refused a call.
+/// Runs all threads, and returns how many of them were refused a call.
 fn run(shared: &Mutex<Shared>, stores: u32) -> usize {
     thread::scope(|scope| {
         let refiner = scope.spawn(|| refine_buffers(shared));

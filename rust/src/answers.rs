@@ -1,4 +1,4 @@
-//! What calls answer.
+//! What calls return.
 use crate::{library, Card, Slot};
 use std::error::Error;
 use std::fmt;

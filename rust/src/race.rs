@@ -90,8 +90,8 @@ numbers_of!(Racer, seat.numbers);
 numbers_of!(Sweeper, seat.numbers);
 numbers_of!(Closed, numbers);
 
-/// Closed handles for so many racers and sweepers: at most one more than a race has, which is
-/// refused like any greater number.
+/// Closed handles for these numbers of racers and sweepers: at most one more than a race has, which
+/// is refused like any greater number.
 fn closed_handles(racers: usize, sweepers: usize) -> (Vec<Member>, Vec<Member>) {
     let closed = |count| vec![Member { member: null_mut() }; count];
     (
@@ -209,7 +209,7 @@ impl Race {
         let (mut over, numbers) = (Over { race }, self.numbers);
         // SAFETY: the arrays have as many handles as the lengths say, and `over` is closed.
         let word = unsafe { g1_race_close(some, racing.len(), few, sweeping.len(), &mut over) };
-        // What the library closed is closed here too, whatever it answers.
+        // What the library closed is closed here too, whatever it returns.
         let seats = self.racers.iter_mut().chain(&mut self.sweepers);
         for (seat, handle) in seats.zip(racing.into_iter().chain(sweeping)) {
             seat.handle = handle;

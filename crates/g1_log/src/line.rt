@@ -28,7 +28,7 @@ use std::sync::Wait;
 /// - the numbers of one sender rise in the queue and in each taker's list, and those taken are
 ///   below those in the queue.
 ///
-/// The rules are in docs/PROFILE.md, The line of completed buffers.
+/// The rules are in docs/PROFILE.md, The queue of completed buffers.
 #[derive(Drop)]
 pub struct Line {
     queue: Queue,

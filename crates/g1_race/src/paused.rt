@@ -7,9 +7,9 @@ use std::marker::Model;
 
 /// A race at a pause: no thread takes part in it.
 ///
-/// Its model is a table: the layout and the words of slots, marks and pairs, and where they lie, with
-/// the racers' logs and the number of sweepers. Each slot that refers into another region has its card dirty or its
-/// pair recorded.
+/// Its model is a table: the layout and the words of slots, marks and pairs, and where they lie,
+/// with the racers' logs and the number of sweepers. Each slot that refers into another region has
+/// its card dirty or its pair recorded.
 #[derive(Drop)]
 pub struct Paused {
     pub(crate) race: Race,

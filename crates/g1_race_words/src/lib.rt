@@ -7,10 +7,10 @@
 //! Neither type shows what is inside, so a thread makes a step only by a call of this crate. Each
 //! call is one step, and tells the seat what it did:
 //!
-//! - A racer writes a slot ([`RaceTable::write`]), or exchanges its word for another one
-//!   ([`RaceTable::exchange`]), reads the mark of the slot's card ([`RaceTable::look`]) and swaps it
-//!   to dirty ([`RaceTable::dirty`]). If the swap found the mark clean, the racer has claimed the
-//!   card.
+//! - A racer writes a slot ([`RaceTable::write`]), or exchanges its word for another one if it has
+//!   the word that is expected ([`RaceTable::exchange`]). It reads the mark of the slot's card
+//!   ([`RaceTable::look`]) and swaps it to dirty ([`RaceTable::dirty`]). If the swap found the mark
+//!   clean, the racer has claimed the card.
 //! - A sweeper swaps a mark to clean ([`RaceTable::clean`]) and reads the card's slots
 //!   ([`RaceTable::read`]).
 //! - A sweeper reads the bit of a pair ([`RaceTable::seek`]) and sets it ([`RaceTable::record`]).
