@@ -385,8 +385,9 @@ uint32_t g1_redirect(struct g1 *handle, uint32_t from, uint32_t to, uint32_t *mo
  *     local back into the row before the race is closed. A copy that was left behind is not to be
  *     used.
  *   - The runtime orders the stores to one slot, around both its own store and the call, or makes
- *     each by the loop below. Of two that race, the library may see the other one last than memory
- *     does, and then a drain can miss what memory holds. Stores to different slots need no order.
+ *     each by the loop below. If two of them race, the library may keep a different value than
+ *     memory does, and then a drain can miss what memory holds. Stores to different slots need no
+ *     order.
  *   - Of two closes that are under way at once, in two threads, no race has members in both. (A
  *     close that is given members of several races is refused: it counts the owners of each race,
  *     and another close with members of the same races would disturb the counts.)
@@ -401,9 +402,9 @@ uint32_t g1_redirect(struct g1 *handle, uint32_t from, uint32_t to, uint32_t *mo
  *         target = atomic_load(&memory[slot]);
  *     } while (target != told);
  *
- * Once no thread is inside it, what the library was told last of each slot is what memory holds.
- * For the thread that told it last read memory after that, and found what it had told. The thread
- * that wrote memory last told the library after its write, so no later than by that last call; the
+ * Once no thread is inside it, what the library was told last of each slot is what memory holds:
+ * the thread that told it last read memory after that, and found what it had told. The thread that
+ * wrote memory last told the library after its write, so no later than by that last call, and the
  * read after that call found its write. A thread goes round again only if another one has stored to
  * the slot meanwhile; how often is not bounded.
  */

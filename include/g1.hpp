@@ -7,8 +7,8 @@
 //   - A code is a g1_code and not a plain number; only the stores return a kind or a code. The
 //     compiler warns where a code is thrown away that has to be looked at. Nothing throws.
 //   - An array is any container with std::data and std::size, of std::uint32_t (of g1_reference
-//     for several stores), and may be empty. What a call wants to be large enough has to have that
-//     size before the call: nothing here grows it.
+//     for several stores), and may be empty. One that a call writes has its size before the call:
+//     nothing here grows it.
 //
 // The namespace has a name of its own because `g1` is a struct of g1.h.
 #ifndef G1_HPP
