@@ -1,6 +1,7 @@
-/* Preloaded into a program, this library refuses one of its growths: of the calls of malloc and realloc that ask for memory,
- * the one whose number, from 1, stands in REFUSED_GROWTH (none, if that is not set). At the program's end it writes into the
- * file REFUSED_GROWTH_REPORT how many growths were asked for, and how many blocks were not given back. */
+/* Preloaded into a program, this library refuses one of its growths: of the calls of malloc and
+ * realloc that ask for memory, the one whose number, from 1, is in REFUSED_GROWTH (none, if that is
+ * not set). At the program's end it writes into the file REFUSED_GROWTH_REPORT how many growths were
+ * asked for, and how many blocks were not given back. */
 #define _GNU_SOURCE
 #include <dlfcn.h>
 #include <errno.h>
