@@ -267,7 +267,7 @@ uint32_t g1_refine(struct g1 *handle, const uint32_t *cards, size_t cards_length
  *
  * Returns:
  *   - G1_DONE.
- *   - G1_SHORT: just the cards in `refined` were refined, and the others are pending as before.
+ *   - G1_SHORT: only the cards in `refined` were refined, and the others are pending as before.
  *     `count` is 0. Drain again.
  *   - G1_NOT_OPEN, G1_NO_MEMORY, G1_NO_REGION or G1_NO_ROOM: nothing has changed, and both counts
  *     are 0.
@@ -351,7 +351,7 @@ uint32_t g1_clear(struct g1 *handle, uint32_t region, uint32_t *detail);
  *
  * Returns:
  *   - G1_DONE.
- *   - G1_SHORT: just the cards in `refined` were refined, and no slot has changed. `moved` is 0.
+ *   - G1_SHORT: only the cards in `refined` were refined, and no slot has changed. `moved` is 0.
  *     Redirect again.
  *   - G1_NOT_OPEN, G1_NO_MEMORY, G1_NO_REGION for either region, G1_SAME_REGION or G1_NO_ROOM:
  *     nothing has changed, and both counts are 0.
