@@ -1,6 +1,7 @@
 //! What no clause says: that the calls succeed, with answers and entries worked by hand.
 //!
-//! The heap has 4 regions of 2 cards of 4 slots: card `c` has the slots from `4 * c` on, region `r` those from `8 * r` on.
+//! The heap has 4 regions of 2 cards of 4 slots: card `c` has the slots from `4 * c` on, region `r`
+//! those from `8 * r` on.
 ghost use Rattle.std.specs.Prelude.{◌≡◌, ◌≤◌, ◌<◌, [], IfOk};
 ghost use Rattle.g1_layout.specs.Shape.{slot_count, card_count};
 ghost use Rattle.g1_log.specs.Ends.{IsSenderOf, IsTakerOf};
@@ -26,7 +27,8 @@ mod lent;
 mod shared;
 mod steps;
 
-/// A new book for two mutators, with logs of `log` cards, a line of `limit` buffers and room for `history` entries.
+/// A new book for two mutators, with logs of `log` cards, a line of `limit` buffers and room for
+/// `history` entries.
 pub(crate) fn book(
     rt: &impl Abort,
     alloc: Global,
@@ -111,7 +113,8 @@ pub(crate) fn store(
 // The caller of the questions that a test asks for itself.
 const ASKER: u32 = 9;
 
-/// How much is pending and recorded, by a question of the test itself. A refused one is asked again.
+/// How much is pending and recorded, by a question of the test itself. A refused one is asked
+/// again.
 pub(crate) fn counts(book: &mut Book) -> Result<Status, Refusal> {
     match book.status(ASKER) {
         Ok(status) => Ok(status),
@@ -217,7 +220,8 @@ pub(crate) fn assert_last(rt: &impl Abort, book: &Book, first: usize, wanted: &[
     }
 }
 
-/// Checks that the history is `stores` stores, and that none of their cards was refined: then they are pending.
+/// Checks that the history is `stores` stores, and that none of their cards was refined: then they
+/// are pending.
 pub(crate) fn assert_stores(rt: &impl Abort, book: &Book, stores: usize) {
     let entries = book.entries();
     assert_eq!(rt; entries.len(), stores);
@@ -227,7 +231,8 @@ pub(crate) fn assert_stores(rt: &impl Abort, book: &Book, stores: usize) {
     }
 }
 
-/// Checks that five stores are followed by the calls of one round, each of which has refined one of the cards.
+/// Checks that five stores are followed by the calls of one round, each of which has refined one of
+/// the cards.
 pub(crate) fn assert_rounds(rt: &impl Abort, book: &Book, cards: &[u32]) {
     let entries = book.entries();
     assert_eq!(rt; entries.len(), cards.len().saturating_add(5));

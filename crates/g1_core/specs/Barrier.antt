@@ -32,6 +32,12 @@ fill_of (Some _) = Full
 abbrev pub unfilled : Kind → StoreReply
 unfilled kind = record { kind = kind; fill = No; refined = []; short = false }
 
--- the machine after a store: the table gets its reference and, where it is logged, its pending card; nothing else changes
+-- the machine after a store: the table gets its reference and, where it is logged, its pending
+-- card; nothing else changes
 abbrev pub stored_machine : Machine → ℕ → Option ℕ → Machine
-stored_machine m slot target = record { state = record { table = stored m.state.table slot target; ring = m.state.ring }; settings = m.settings; reads = m.reads }
+stored_machine m slot target =
+    record {
+      state = record { table = stored m.state.table slot target; ring = m.state.ring };
+      settings = m.settings;
+      reads = m.reads;
+    }

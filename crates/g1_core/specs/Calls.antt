@@ -14,22 +14,38 @@ use Rattle.g1_core.specs.declared.entry.Reply.TheVariants as reply
 use Rattle.g1_core.specs.declared.entry.Entry.{Entry}
 
 abbrev pub store_entry : ℕ → ℕ → Option ℕ → StoreReply → Entry
-store_entry caller slot target answer = record { caller = caller; call = call.Store slot target; reply = reply.Stored answer.kind answer.fill answer.short; refined = answer.refined }
+store_entry caller slot target answer =
+    record {
+      caller = caller;
+      call = call.Store slot target;
+      reply = reply.Stored answer.kind answer.fill answer.short;
+      refined = answer.refined;
+    }
 
 abbrev pub refine_entry : ℕ → RefineReply → Entry
-refine_entry caller answer = record { caller = caller; call = call.Refine; reply = reply.Refined answer.taken answer.hot answer.skipped answer.left answer.short; refined = answer.refined }
+refine_entry caller answer =
+    record {
+      caller = caller;
+      call = call.Refine;
+      reply = reply.Refined answer.taken answer.hot answer.skipped answer.left answer.short;
+      refined = answer.refined;
+    }
 
 abbrev pub target_entry : ℕ → ℕ → Option ℕ → Entry
-target_entry caller slot target = record { caller = caller; call = call.Target slot; reply = reply.Target target; refined = [] }
+target_entry caller slot target =
+    record { caller = caller; call = call.Target slot; reply = reply.Target target; refined = [] }
 
 abbrev pub pending_entry : ℕ → ℕ → Bool → Entry
-pending_entry caller card answer = record { caller = caller; call = call.Pending card; reply = reply.Pending answer; refined = [] }
+pending_entry caller card answer =
+    record { caller = caller; call = call.Pending card; reply = reply.Pending answer; refined = [] }
 
 abbrev pub members_entry : ℕ → ℕ → List ℕ → Entry
-members_entry caller region cards = record { caller = caller; call = call.Members region; reply = reply.Cards cards; refined = [] }
+members_entry caller region cards =
+    record { caller = caller; call = call.Members region; reply = reply.Cards cards; refined = [] }
 
 abbrev pub status_entry : ℕ → Status → Entry
-status_entry caller status = record { caller = caller; call = call.Status; reply = reply.Status status; refined = [] }
+status_entry caller status =
+    record { caller = caller; call = call.Status; reply = reply.Status status; refined = [] }
 
 abbrev pub drain_reply : Drained → Reply
 drain_reply (drained.Cards cards refined) = reply.Cards cards
@@ -45,10 +61,17 @@ drain_refined (drained.Cards cards refined) = refined
 drain_refined (drained.Short refined) = refined
 
 abbrev pub drain_entry : ℕ → ℕ → Drained → Entry
-drain_entry caller region answer = record { caller = caller; call = call.Drain region; reply = drain_reply answer; refined = drain_refined answer }
+drain_entry caller region answer =
+    record {
+      caller = caller;
+      call = call.Drain region;
+      reply = drain_reply answer;
+      refined = drain_refined answer;
+    }
 
 abbrev pub clear_entry : ℕ → ℕ → ClearReply → Entry
-clear_entry caller region answer = record { caller = caller; call = call.Clear region; reply = reply.Clear answer; refined = [] }
+clear_entry caller region answer =
+    record { caller = caller; call = call.Clear region; reply = reply.Clear answer; refined = [] }
 
 abbrev pub redirect_reply : Redirected → Reply
 redirect_reply (redirected.Moved slots refined) = reply.Moved slots
@@ -59,4 +82,10 @@ redirect_refined (redirected.Moved slots refined) = refined
 redirect_refined (redirected.Short refined) = refined
 
 abbrev pub redirect_entry : ℕ → ℕ → ℕ → Redirected → Entry
-redirect_entry caller from to answer = record { caller = caller; call = call.Redirect from to; reply = redirect_reply answer; refined = redirect_refined answer }
+redirect_entry caller from to answer =
+    record {
+      caller = caller;
+      call = call.Redirect from to;
+      reply = redirect_reply answer;
+      refined = redirect_refined answer;
+    }

@@ -1,5 +1,6 @@
 -- What a drain does.
-use Rattle.std.specs.Prelude.{◌≡◌, ◌≤◌, ◌<◌, ◌+◌, ◌*◌, ◌⊎◌, ◌↔◌, ℕ, true, List, [], ◌∷◌, ◌++◌, length, Contains}
+use Rattle.std.specs.Prelude.{◌≡◌, ◌≤◌, ◌<◌, ◌+◌, ◌*◌, ◌⊎◌, ◌↔◌, ℕ, true, List, [], ◌∷◌, ◌++◌}
+use Rattle.std.specs.Prelude.{length, Contains}
 use Rattle.std.specs.List.Sorted.{IsStrictlyIncreasing}
 use Rattle.std.specs.FinSet as set
 use Rattle.g1_heap.specs.Cells.{reads_after}
@@ -12,14 +13,16 @@ use Rattle.g1_core.specs.Turns.{is_dirty}
 
 -- the ring with other cards in it
 abbrev pub with_cards : Ring → List ℕ → Ring
-with_cards ring cards = record { counts = ring.counts; cards = cards; limit = ring.limit; capacity = ring.capacity }
+with_cards ring cards =
+    record { counts = ring.counts; cards = cards; limit = ring.limit; capacity = ring.capacity }
 
 -- the dirty cards below a bound, ascending
 pub record AreDirtyBelow (s : State) (bound : ℕ) (cards : List ℕ) : Type 0 where
   pub ascending : IsStrictlyIncreasing cards
   pub just : (card : ℕ) → Contains cards card ↔ ((card < bound) × (is_dirty s card ≡ true))
 
--- The order of a drain: the cards of the ring, oldest first, and once none is left in it the dirty cards, ascending.
+-- The order of a drain: the cards of the ring, oldest first, and once none is left in it the dirty
+-- cards, ascending.
 pub record IsDrainOrder (s : State) (cards left : List ℕ) : Type 0 where
   pub held : List ℕ
   pub dirty : List ℕ
@@ -37,7 +40,8 @@ pub record Drains (old : Machine) (cards : List ℕ) (tried : ℕ) (new : Machin
   pub settings : new.settings ≡ old.settings
   pub reads : new.reads ≡ reads_after old.reads (tried * old.state.table.layout.slots)
 
--- A short drain refined some cards in the order of a drain, and read these and at most one card more. The counts stay.
+-- A short drain refined some cards in the order of a drain, and read these and at most one card
+-- more. The counts stay.
 pub record IsShortDrain (old : Machine) (cards : List ℕ) (new : Machine) : Type 0 where
   pub order : IsDrainOrder old.state cards new.state.ring.cards
   pub tried : ℕ
@@ -45,7 +49,8 @@ pub record IsShortDrain (old : Machine) (cards : List ℕ) (new : Machine) : Typ
   pub most : tried ≤ length cards + 1
   pub drains : Drains old cards tried new
 
--- A whole drain refined all that was pending in that order, and read no other card. Nothing is pending, and every count is 0.
+-- A whole drain refined all that was pending in that order, and read no other card. Nothing is
+-- pending, and every count is 0.
 pub record IsWholeDrain (old : Machine) (cards : List ℕ) (new : Machine) : Type 0 where
   pub order : IsDrainOrder old.state cards []
   pub refines : AreRefinable old.state.table cards
@@ -56,7 +61,8 @@ pub record IsWholeDrain (old : Machine) (cards : List ℕ) (new : Machine) : Typ
   pub reads : new.reads ≡ reads_after old.reads (length cards * old.state.table.layout.slots)
 
 abbrev pub IsDrainOf : Machine → ℕ → Drained → Machine → Type 0
-IsDrainOf old region (Cards cards refined) new = IsWholeDrain old refined new × AreMembers new.state.table region cards
+IsDrainOf old region (Cards cards refined) new =
+    IsWholeDrain old refined new × AreMembers new.state.table region cards
 IsDrainOf old region (Short refined) new = IsShortDrain old refined new
 
 -- A card that was pending was refined, and left this ring.
@@ -74,8 +80,10 @@ pub record IsCardRead (old : Machine) (new : Machine) : Type 0 where
   pub settings : new.settings ≡ old.settings
   pub reads : new.reads ≡ reads_after old.reads old.state.table.layout.slots
 
--- The dirty cards below a bound were refined and listed after these, and those from there on are as they were.
-pub record IsDirtyDrained (old : Machine) (before after : List ℕ) (bound : ℕ) (new : Machine) : Type 0 where
+-- The dirty cards below a bound were refined and listed after these, and those from there on are as
+-- they were.
+pub record IsDirtyDrained (old : Machine) (before after : List ℕ) (bound : ℕ)
+    (new : Machine) : Type 0 where
   pub gone : List ℕ
   pub listed : after ≡ before ++ gone
   pub drains : Drains old gone (length gone) new
@@ -106,4 +114,9 @@ pub record IsAllDrained (old : Machine) (cards : List ℕ) (new : Machine) : Typ
 
 -- every count is 0
 abbrev pub reset_machine : Machine → Machine
-reset_machine m = record { state = record { table = m.state.table; ring = reset m.state.ring }; settings = m.settings; reads = m.reads }
+reset_machine m =
+    record {
+      state = record { table = m.state.table; ring = reset m.state.ring };
+      settings = m.settings;
+      reads = m.reads;
+    }

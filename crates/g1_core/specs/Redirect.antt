@@ -1,5 +1,6 @@
 -- What a redirect changes.
-use Rattle.std.specs.Prelude.{◌≡◌, ◌≢◌, ◌≤◌, ◌↔◌, ℕ, ◌+◌, ◌*◌, List, [], Option, Some, None, Contains, length, if◌then◌else◌, fold, slice_set, slice_index_or}
+use Rattle.std.specs.Prelude.{◌≡◌, ◌≢◌, ◌≤◌, ◌↔◌, ℕ, ◌+◌, ◌*◌, List, [], Option, Some, None}
+use Rattle.std.specs.Prelude.{Contains, length, if◌then◌else◌, fold, slice_set, slice_index_or}
 use Rattle.std.specs.List.{filter_map, flat_map, range_with_len}
 use Rattle.g1_layout.specs.Shape.{Shape, region_of_card, same_offset}
 use Rattle.g1_hot.specs.Ring.{reset}
@@ -14,11 +15,14 @@ use Rattle.g1_core.specs.Clearing.{member_count}
 -- the change of a slot that refers to this, if it lies outside the region and refers into it
 abbrev pub change_at : Shape → ℕ → ℕ → ℕ → Option ℕ → Option Change
 change_at l from to slot None = None
-change_at l from to slot (Some place) = if enters l from (slot, Some place) then Some (record { slot = slot; place = same_offset l place to }) else None
+change_at l from to slot (Some place) =
+    if enters l from (slot, Some place)
+    then Some (record { slot = slot; place = same_offset l place to }) else None
 
 -- the changes of some slots, in their order
 abbrev pub changes_of : Shape → List (Option ℕ) → ℕ → ℕ → List ℕ → List Change
-changes_of l refs from to slots = filter_map (λ slot. change_at l from to slot (slice_index_or refs slot None)) slots
+changes_of l refs from to slots =
+    filter_map (λ slot. change_at l from to slot (slice_index_or refs slot None)) slots
 
 -- the slots of a card, and of some cards
 abbrev pub slots_of : Shape → ℕ → List ℕ
@@ -29,41 +33,54 @@ slots_on l cards = flat_map (slots_of l) cards
 
 -- what the slots refer to once the changes are made
 abbrev pub changed : List (Option ℕ) → List Change → List (Option ℕ)
-changed refs changes = fold (λ now change. slice_set now change.slot (Some change.place)) refs changes
+changed refs changes =
+    fold (λ now change. slice_set now change.slot (Some change.place)) refs changes
 
 -- The list has those cards of the others that have a slot to change and lie outside the region.
 abbrev pub AreGaining : Shape → List (Option ℕ) → ℕ → ℕ → List ℕ → List ℕ → Type 0
-AreGaining l refs from to cards gaining = (card : ℕ) → Contains gaining card ↔ (Contains cards card × (1 ≤ length (changes_of l refs from to (slots_of l card))) × (region_of_card l card ≢ to))
+AreGaining l refs from to cards gaining =
+    (card : ℕ) → Contains gaining card
+    ↔ (Contains cards card × (1 ≤ length (changes_of l refs from to (slots_of l card)))
+    × (region_of_card l card ≢ to))
 
 -- All references into the region were moved, where nothing was pending; the ring stays.
 pub record IsMoved (old : Machine) (from to slots : ℕ) (new : Machine) : Type 0 where
   pub state : new.state ≡ record { table = moved from to old.state.table; ring = old.state.ring }
   pub settings : new.settings ≡ old.settings
   pub grown : old.reads ≤ new.reads
-  pub reads : new.reads ≤ old.reads + member_count old.state.table from * old.state.table.layout.slots
+  pub reads : new.reads ≤ old.reads + member_count old.state.table from
+      * old.state.table.layout.slots
 
 -- Only the members of the region were read.
 pub record AreMembersRead (old : Machine) (from : ℕ) (new : Machine) : Type 0 where
   pub state : new.state ≡ old.state
   pub settings : new.settings ≡ old.settings
   pub grown : old.reads ≤ new.reads
-  pub reads : new.reads ≤ old.reads + member_count old.state.table from * old.state.table.layout.slots
+  pub reads : new.reads ≤ old.reads + member_count old.state.table from
+      * old.state.table.layout.slots
 
--- A whole redirect refined all that was pending, in the order of a drain, and then moved the references. Every count is 0.
-pub record IsWholeRedirect (old : Machine) (from to : ℕ) (cards : List ℕ) (new : Machine) : Type 0 where
+-- A whole redirect refined all that was pending, in the order of a drain, and then moved the
+-- references. Every count is 0.
+pub record IsWholeRedirect (old : Machine) (from to : ℕ) (cards : List ℕ)
+    (new : Machine) : Type 0 where
   pub order : IsDrainOrder old.state cards []
   pub table : new.state.table ≡ moved from to (refined cards old.state.table)
   pub ring : new.state.ring ≡ reset (with_cards old.state.ring [])
   pub settings : new.settings ≡ old.settings
-  pub reads : new.reads ≤ old.reads + (length cards + member_count (refined cards old.state.table) from) * old.state.table.layout.slots
+  pub reads : new.reads ≤ old.reads
+      + (length cards + member_count (refined cards old.state.table) from)
+      * old.state.table.layout.slots
 
 -- A short redirect only refined some cards, in the order of a drain. The counts stay.
-pub record IsShortRedirect (old : Machine) (from : ℕ) (cards : List ℕ) (new : Machine) : Type 0 where
+pub record IsShortRedirect (old : Machine) (from : ℕ) (cards : List ℕ)
+    (new : Machine) : Type 0 where
   pub order : IsDrainOrder old.state cards new.state.ring.cards
   pub table : new.state.table ≡ refined cards old.state.table
   pub ring : new.state.ring ≡ with_cards old.state.ring new.state.ring.cards
   pub settings : new.settings ≡ old.settings
-  pub reads : new.reads ≤ old.reads + (length cards + member_count (refined cards old.state.table) from + 1) * old.state.table.layout.slots
+  pub reads : new.reads ≤ old.reads
+      + (length cards + member_count (refined cards old.state.table) from + 1)
+      * old.state.table.layout.slots
 
 abbrev pub IsRedirectOf : Machine → ℕ → ℕ → Redirected → Machine → Type 0
 IsRedirectOf old from to (Moved slots cards) new = IsWholeRedirect old from to cards new

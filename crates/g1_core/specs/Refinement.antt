@@ -1,5 +1,6 @@
 -- What a refinement of a lent buffer does.
-use Rattle.std.specs.Prelude.{◌≡◌, ◌≤◌, ◌+◌, ◌*◌, ℕ, false, List, [], Option, Some, None, length, take, if◌then◌else◌}
+use Rattle.std.specs.Prelude.{◌≡◌, ◌≤◌, ◌+◌, ◌*◌, ℕ, false, List, [], Option, Some, None, length}
+use Rattle.std.specs.Prelude.{take, if◌then◌else◌}
 use Rattle.g1_heap.specs.Cells.{reads_after}
 use Rattle.g1_core.specs.declared.reply.RefineReply.{RefineReply}
 use Rattle.g1_core.specs.Machine.{State, Machine}
@@ -7,10 +8,12 @@ use Rattle.g1_core.specs.Turns.{Round, turns, start}
 
 -- the round that a reply tells
 abbrev pub round_of : State → RefineReply → Round
-round_of s reply = record { state = s; refined = reply.refined; hot = reply.hot; skipped = reply.skipped }
+round_of s reply =
+    record { state = s; refined = reply.refined; hot = reply.hot; skipped = reply.skipped }
 
 -- The cards of a buffer had their turns, all of them or, where the reply is short, the first ones.
-pub record IsTurned (old : State) (cards : List ℕ) (reply : RefineReply) (new : State) : Type 0 where
+pub record IsTurned (old : State) (cards : List ℕ) (reply : RefineReply)
+    (new : State) : Type 0 where
   pub many : ℕ
   pub within : many ≤ length cards
   pub whole : reply.short ≡ false → many ≡ length cards
@@ -31,7 +34,8 @@ abbrev pub IsRefined : State → Option (List ℕ) → RefineReply → State →
 IsRefined old None reply new = IsIdle reply × (new ≡ old)
 IsRefined old (Some cards) reply new = IsTurned old cards reply new
 
--- The slots of each refined card were read, and where the reply is short those of at most one card more.
+-- The slots of each refined card were read, and where the reply is short those of at most one card
+-- more.
 pub record AreCardsRead (old : Machine) (reply : RefineReply) (new : Machine) : Type 0 where
   pub tried : ℕ
   pub each : length reply.refined ≤ tried

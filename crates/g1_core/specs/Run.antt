@@ -1,22 +1,27 @@
 -- The step of the plain table that each entry of a history is, and permitted runs.
-use Rattle.std.specs.Prelude.{◌≡◌, ◌≢◌, ℕ, List, [], ◌∷◌, Option, Some, None, length, take, drop, All, Contains, fold, if◌then◌else◌, ◌==◌, not, slice_set, ◌<◌, ◌≤◌, IfSome}
+use Rattle.std.specs.Prelude.{◌≡◌, ◌≢◌, ℕ, List, [], ◌∷◌, Option, Some, None, length, take, drop}
+use Rattle.std.specs.Prelude.{All, Contains, fold, if◌then◌else◌, ◌==◌, not, slice_set, ◌<◌, ◌≤◌}
+use Rattle.std.specs.Prelude.{IfSome}
 use Rattle.std.specs.List.Sorted.{IsStrictlyIncreasing}
 use Rattle.std.specs.FinSet as set
 use Rattle.g1_layout.specs.declared.kind.Kind.{Kind}
 use Rattle.g1_layout.specs.declared.kind.Kind.TheVariants.{SameRegion, Null, AlreadyDirty, Logged}
 use Rattle.g1_core.specs.declared.entry.Call.{Call}
-use Rattle.g1_core.specs.declared.entry.Call.TheVariants.{Store, Refine, Target, Pending, Members, Status, Drain, Clear, Redirect}
+use Rattle.g1_core.specs.declared.entry.Call.TheVariants.{Store, Refine, Target, Pending, Members}
+use Rattle.g1_core.specs.declared.entry.Call.TheVariants.{Status, Drain, Clear, Redirect}
 use Rattle.g1_core.specs.declared.entry.Reply.{Reply}
 use Rattle.g1_core.specs.declared.entry.Reply.TheVariants as reply
 use Rattle.g1_core.specs.declared.entry.Entry.{Entry}
 use Rattle.g1_core.specs.declared.reply.ClearReply.TheVariants as clear_reply
 use Rattle.g1_layout.specs.Shape.{Shape, slot_count, card_count, card_of, region_of, region_of_card}
 use Rattle.g1_layout.specs.Sets.{CardSet}
-use Rattle.g1_core.specs.Table.{Table, opening, target_of, Holds, Enters, AreMembers, AreRefinable, refined, moved, moved_count}
+use Rattle.g1_core.specs.Table.{Table, opening, target_of, Holds, Enters, AreMembers, AreRefinable}
+use Rattle.g1_core.specs.Table.{refined, moved, moved_count}
 
 -- a whole drain of the region, which answered these cards
 abbrev pub drained : ℕ → ℕ → List ℕ → List ℕ → Entry
-drained caller region cards refined = record { caller = caller; call = Drain region; reply = reply.Cards cards; refined = refined }
+drained caller region cards refined =
+    record { caller = caller; call = Drain region; reply = reply.Cards cards; refined = refined }
 
 -- the kind of a store
 abbrev pub kind_of : Table → ℕ → Option ℕ → Kind
@@ -46,9 +51,16 @@ abbrev pub written : Call → Table → Table
 written (Store slot target) t = stored t slot target
 written _ t = t
 
--- What a call does after it refined: a granted clear forgets the pairs at the region, and a redirect moves references.
+-- What a call does after it refined: a granted clear forgets the pairs at the region, and a
+-- redirect moves references.
 abbrev pub settled : Call → Reply → Table → Table
-settled (Clear region) (reply.Clear clear_reply.Cleared) t = record { layout = t.layout; refs = t.refs; pending = t.pending; recorded = set.retain t.recorded (λ pair. not (pair.1 == region)) }
+settled (Clear region) (reply.Clear clear_reply.Cleared) t =
+    record {
+      layout = t.layout;
+      refs = t.refs;
+      pending = t.pending;
+      recorded = set.retain t.recorded (λ pair. not (pair.1 == region));
+    }
 settled (Redirect from to) (reply.Moved _) t = moved from to t
 settled _ _ t = t
 
@@ -60,31 +72,44 @@ pub record IsFirstInto (t : Table) (region slot : ℕ) : Type 0 where
   pub enters : Enters t slot region
   pub least : (other : ℕ) → Enters t other region → slot ≤ other
 
--- Whether the reply answers the call: from the table before, with these cards refined, and to the table after.
+-- Whether the reply answers the call: from the table before, with these cards refined, and to the
+-- table after.
 abbrev pub Answers : Table → Call → Reply → List ℕ → Table → Type 0
 -- only a logged store may refine
-Answers t (Store slot target) (reply.Stored kind _ _) cards after = (kind ≡ kind_of t slot target) × (kind ≢ Logged → cards ≡ [])
+Answers t (Store slot target) (reply.Stored kind _ _) cards after =
+    (kind ≡ kind_of t slot target) × (kind ≢ Logged → cards ≡ [])
 Answers t Refine (reply.Refined _ _ _ _ _) cards after = Unit {0}
-Answers t (Target slot) (reply.Target target) cards after = (cards ≡ []) × (target ≡ target_of t slot)
-Answers t (Pending card) (reply.Pending answer) cards after = (cards ≡ []) × (answer ≡ set.contains t.pending card)
-Answers t (Members region) (reply.Cards members) cards after = (cards ≡ []) × AreMembers t region members
-Answers t Status (reply.Status status) cards after = (cards ≡ []) × (status.pending ≡ set.len t.pending) × (status.recorded ≡ set.len t.recorded)
--- a whole drain leaves nothing pending and answers the members of the region; a short one only refines
-Answers t (Drain region) (reply.Cards members) cards after = (after.pending ≡ set.empty) × AreMembers after region members
+Answers t (Target slot) (reply.Target target) cards after =
+    (cards ≡ []) × (target ≡ target_of t slot)
+Answers t (Pending card) (reply.Pending answer) cards after =
+    (cards ≡ []) × (answer ≡ set.contains t.pending card)
+Answers t (Members region) (reply.Cards members) cards after =
+    (cards ≡ []) × AreMembers t region members
+Answers t Status (reply.Status status) cards after =
+    (cards ≡ []) × (status.pending ≡ set.len t.pending) × (status.recorded ≡ set.len t.recorded)
+-- a whole drain leaves nothing pending and answers the members of the region; a short one only
+-- refines
+Answers t (Drain region) (reply.Cards members) cards after =
+    (after.pending ≡ set.empty) × AreMembers after region members
 Answers t (Drain region) reply.Short cards after = Unit {0}
 -- a clear is refused while a card is pending or a slot outside still refers into the region
-Answers t (Clear region) (reply.Clear (clear_reply.Pending n)) cards after = (cards ≡ []) × (n ≡ set.len t.pending) × (1 ≤ n)
-Answers t (Clear region) (reply.Clear (clear_reply.StillReferenced slot)) cards after = (cards ≡ []) × (t.pending ≡ set.empty) × IsFirstInto t region slot
-Answers t (Clear region) (reply.Clear clear_reply.Cleared) cards after = (cards ≡ []) × (t.pending ≡ set.empty) × ((slot : ℕ) → Enters t slot region → ⊥)
+Answers t (Clear region) (reply.Clear (clear_reply.Pending n)) cards after =
+    (cards ≡ []) × (n ≡ set.len t.pending) × (1 ≤ n)
+Answers t (Clear region) (reply.Clear (clear_reply.StillReferenced slot)) cards after =
+    (cards ≡ []) × (t.pending ≡ set.empty) × IsFirstInto t region slot
+Answers t (Clear region) (reply.Clear clear_reply.Cleared) cards after =
+    (cards ≡ []) × (t.pending ≡ set.empty) × ((slot : ℕ) → Enters t slot region → ⊥)
 -- a redirect refines all that is pending and answers how many slots it changed, or only refines
-Answers t (Redirect from to) (reply.Moved slots) cards after = (after.pending ≡ set.empty) × (slots ≡ moved_count from t)
+Answers t (Redirect from to) (reply.Moved slots) cards after =
+    (after.pending ≡ set.empty) × (slots ≡ moved_count from t)
 Answers t (Redirect from to) reply.Short cards after = Unit {0}
 -- no call has another kind of reply
 Answers t _ _ cards after = ⊥
 
 -- The numbers of a call are of the layout, and a redirect goes from one region to another.
 abbrev pub IsCallOf : Shape → Call → Type 0
-IsCallOf l (Store slot target) = (slot < slot_count l) × IfSome target (λ place. place < slot_count l)
+IsCallOf l (Store slot target) =
+    (slot < slot_count l) × IfSome target (λ place. place < slot_count l)
 IsCallOf l Refine = Unit {0}
 IsCallOf l (Target slot) = slot < slot_count l
 IsCallOf l (Pending card) = card < card_count l
@@ -114,7 +139,8 @@ abbrev pub IsPermitted : Table → List Entry → Type 0
 IsPermitted t [] = Unit {0}
 IsPermitted t (e ∷ entries) = IsAllowed t e × IsPermitted (table_after t e) entries
 
--- The call, with this reply, clears the set of the region: a granted clear, or a redirect that moved.
+-- The call, with this reply, clears the set of the region: a granted clear, or a redirect that
+-- moved.
 abbrev pub ClearsBy : Call → Reply → ℕ → Type 0
 ClearsBy (Clear of) (reply.Clear clear_reply.Cleared) region = of ≡ region
 ClearsBy (Redirect from _) (reply.Moved _) region = from ≡ region
@@ -130,9 +156,10 @@ pub record HeldSince (layout : Shape) (entries : List Entry) (card region : ℕ)
   pub since : All (λ e. Clears region e → ⊥) (drop moment entries)
   pub held : Holds (table_of layout (take moment entries)) card region
 
--- What a drain of the region answers after these entries: ascending, every card that holds into it now,
--- and only cards that held into it since its set was last cleared.
-pub record IsExact (layout : Shape) (entries : List Entry) (region : ℕ) (cards : List ℕ) : Type 0 where
+-- What a drain of the region answers after these entries: ascending, every card that holds into it
+-- now, and only cards that held into it since its set was last cleared.
+pub record IsExact (layout : Shape) (entries : List Entry) (region : ℕ)
+    (cards : List ℕ) : Type 0 where
   pub ascending : IsStrictlyIncreasing cards
   pub outside : (card : ℕ) → Contains cards card → region_of_card layout card ≢ region
   pub every : (card : ℕ) → Holds (table_of layout entries) card region → Contains cards card

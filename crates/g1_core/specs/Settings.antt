@@ -24,9 +24,24 @@ pub record AreSettings (s : Settings) : Type 0 where
 
 -- what they are where nobody chooses
 abbrev pub default_settings : Settings
-default_settings = record { log = LOG.default; limit = LIMIT.default; hot = HOT.default; ring = RING.default; start = START.default }
+default_settings =
+    record {
+      log = LOG.default;
+      limit = LIMIT.default;
+      hot = HOT.default;
+      ring = RING.default;
+      start = START.default;
+    }
 
 -- settings are stored as the tuple of their numbers
 abbrev pub settings_code : Coded Settings
-settings_code = code_by (ℕ × (ℕ × (ℕ × (ℕ × ℕ)))) (coded× coded_ℕ (coded× coded_ℕ (coded× coded_ℕ (coded× coded_ℕ coded_ℕ))))
-    (λ s. (s.log, (s.limit, (s.hot, (s.ring, s.start))))) (λ p. record { log = p.0; limit = p.1.0; hot = p.1.1.0; ring = p.1.1.1.0; start = p.1.1.1.1 }) (λ _. refl)
+settings_code =
+    code_by (ℕ × (ℕ × (ℕ × (ℕ × ℕ))))
+    (coded× coded_ℕ (coded× coded_ℕ (coded× coded_ℕ (coded× coded_ℕ coded_ℕ))))
+    (λ s. (s.log, (s.limit, (s.hot, (s.ring, s.start))))) (λ p. record {
+      log = p.0;
+      limit = p.1.0;
+      hot = p.1.1.0;
+      ring = p.1.1.1.0;
+      start = p.1.1.1.1;
+    }) (λ _. refl)

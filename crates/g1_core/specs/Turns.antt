@@ -1,5 +1,6 @@
 -- The turn of a card in refinement, and a round of turns.
-use Rattle.std.specs.Prelude.{ℕ, Bool, List, [], ◌∷◌, ◌++◌, Option, Some, None, if◌then◌else◌, not, ◌&&◌, fold, ◌+◌}
+use Rattle.std.specs.Prelude.{ℕ, Bool, List, [], ◌∷◌, ◌++◌, Option, Some, None, if◌then◌else◌, not}
+use Rattle.std.specs.Prelude.{◌&&◌, fold, ◌+◌}
 use Rattle.std.specs.FinSet as set
 use Rattle.g1_hot.specs.declared.offer.Offer.{Offer}
 use Rattle.g1_hot.specs.declared.offer.Offer.TheVariants.{Cold, Kept, Out}
@@ -16,7 +17,8 @@ is_dirty s card = set.contains s.table.pending card && not (set.contains (set_of
 abbrev pub offer_to : State → ℕ → Option Offer
 offer_to s card = if is_dirty s card then Some (answer s.ring card) else None
 
--- the card that is refined: a cold one itself, or the oldest one that a hot card pushed out of the ring
+-- the card that is refined: a cold one itself, or the oldest one that a hot card pushed out of the
+-- ring
 abbrev pub refined_by : ℕ → Option Offer → List ℕ
 refined_by card None = []
 refined_by card (Some Cold) = card ∷ []
@@ -38,7 +40,8 @@ ring_after ring card None = ring
 ring_after ring card (Some _) = offered ring card
 
 abbrev pub state_after : State → ℕ → Option Offer → State
-state_after s card offer = record { table = refined (refined_by card offer) s.table; ring = ring_after s.ring card offer }
+state_after s card offer =
+    record { table = refined (refined_by card offer) s.table; ring = ring_after s.ring card offer }
 
 -- a round of turns so far
 pub record Round : Type 0 where

@@ -1,5 +1,6 @@
 //! Adoption: makes a core of a table that exists already, and lists the pairs of a core's table.
-ghost use Rattle.std.specs.Prelude.{◌≡◌, ◌<◌, ◌^◌, ◌↔◌, ◌⊎◌, ℕ, All, Contains, IfSome, IfOk, OnOk, length, replicate};
+ghost use Rattle.std.specs.Prelude.{◌≡◌, ◌<◌, ◌^◌, ◌↔◌, ◌⊎◌, ℕ, All, Contains, IfSome, IfOk, OnOk};
+ghost use Rattle.std.specs.Prelude.{length, replicate};
 ghost use Rattle.std.specs.FinSet as set;
 ghost use Rattle.g1_layout.specs.Shape.{slot_count, card_count};
 ghost use Rattle.g1_sets.specs.Pairs.{list_at, AreTied};
@@ -38,11 +39,13 @@ impl Core {
         pairs: &[(Card, Region)],
     ) -> Result<Core, NoMemory>
         requires slots { length refs.now ≡ slot_count layout }
-        requires places { All (λ target. IfSome target (λ place. place < slot_count layout)) refs.now }
+        requires places { All (λ target. IfSome target (λ place. place < slot_count layout))
+            refs.now }
         requires cards { length marked.now ≡ card_count layout }
         requires pairs { All (IsPairOf layout) pairs.now }
         requires cover { IsCovered (table_with layout refs.now marked.now pairs.now) }
-        ensures { IfOk result (λ core. core ≡ adopted_machine layout config refs.now marked.now pairs.now) }
+        ensures { IfOk result (λ core.
+            core ≡ adopted_machine layout config refs.now marked.now pairs.now) }
     {
         let mut heap = Heap::new(alloc, layout)?;
         let mut sets = Sets::new(alloc, layout)?;
@@ -66,8 +69,10 @@ impl Core {
     ///
     /// Returns `NoMemory` if the room for the list was refused.
     pub fn pairs(&self) -> Result<Vec<(Card, Region)>, NoMemory>
-        ensures recorded { IfOk result (λ pairs. set.from_list pairs.items ≡ self.now.state.table.recorded) }
-        ensures within { IfOk result (λ pairs. All (IsPairOf self.now.state.table.layout) pairs.items) }
+        ensures recorded { IfOk result (λ pairs.
+            set.from_list pairs.items ≡ self.now.state.table.recorded) }
+        ensures within { IfOk result (λ pairs.
+            All (IsPairOf self.now.state.table.layout) pairs.items) }
     {
         let pairs = all_pairs(self.alloc, self.heap.layout(), &self.sets)?;
         Ok(pairs)
@@ -98,7 +103,9 @@ fn all_pairs(alloc: Global, layout: Layout, sets: &Sets) -> Result<Vec<(Card, Re
 // Adds the pairs at a region.
 fn add_pairs(pairs: &mut Vec<(Card, Region)>, sets: &Sets, region: Region) -> Result<(), NoMemory>
     requires { region < sets.now.layout.regions }
-    ensures pairs { OnOk result ((x : ℕ × ℕ) → Contains pairs.new.items x ↔ (Contains pairs.old.items x ⊎ ((x.1 ≡ region) × Contains (list_at sets.now.lists region) x.0))) }
+    ensures pairs { OnOk result ((x : ℕ × ℕ) → Contains pairs.new.items x
+        ↔ (Contains pairs.old.items x
+        ⊎ ((x.1 ≡ region) × Contains (list_at sets.now.lists region) x.0))) }
 {
     for index in 0..sets.len(region) {
         pairs.push((sets.at(region, index), region))?;
@@ -123,8 +130,14 @@ fn record_pairs(sets: &mut Sets, pairs: &[(Card, Region)]) -> Result<(), NoMemor
 // Writes every slot.
 fn set_references(heap: &mut Heap, refs: &[Option<Slot>])
     requires slots { length refs.now ≡ slot_count heap.old.layout }
-    requires places { All (λ target. IfSome target (λ place. place < slot_count heap.old.layout)) refs.now }
-    ensures { heap.new ≡ record { layout = heap.old.layout; refs = refs.now; marks = heap.old.marks; reads = heap.old.reads } }
+    requires places { All (λ target. IfSome target (λ place. place < slot_count heap.old.layout))
+        refs.now }
+    ensures { heap.new ≡ record {
+      layout = heap.old.layout;
+      refs = refs.now;
+      marks = heap.old.marks;
+      reads = heap.old.reads;
+    } }
 {
     let layout = heap.layout();
     let (_, _, _) = layout.counts();
@@ -140,7 +153,12 @@ fn set_references(heap: &mut Heap, refs: &[Option<Slot>])
 fn mark_cards(heap: &mut Heap, marked: &[bool]) -> u32
     requires clean { heap.old.marks ≡ replicate (card_count heap.old.layout) Clean }
     requires cards { length marked.now ≡ card_count heap.old.layout }
-    ensures heap { heap.new ≡ record { layout = heap.old.layout; refs = heap.old.refs; marks = marks_for marked.now; reads = heap.old.reads } }
+    ensures heap { heap.new ≡ record {
+      layout = heap.old.layout;
+      refs = heap.old.refs;
+      marks = marks_for marked.now;
+      reads = heap.old.reads;
+    } }
     ensures pending { result ≡ set.len (pending_of heap.new.marks) }
 {
     let layout = heap.layout();

@@ -20,9 +20,11 @@ impl Core {
     /// What kind of store it is, and the card that a logged one dirties.
     fn kind(&self, slot: Slot, target: &Option<Slot>) -> (Kind, Option<Card>)
         requires slot { slot < slot_count self.now.state.table.layout }
-        requires target { IfSome target.now (λ place. place < slot_count self.now.state.table.layout) }
+        requires target { IfSome target.now (λ place.
+            place < slot_count self.now.state.table.layout) }
         ensures kind { result.0 ≡ kind_of self.now.state.table slot target.now }
-        ensures some { IfSome result.1 (λ card. (result.0 ≡ Kind.Logged) × (card ≡ card_of self.now.state.table.layout slot)) }
+        ensures some { IfSome result.1 (λ card.
+            (result.0 ≡ Kind.Logged) × (card ≡ card_of self.now.state.table.layout slot)) }
         ensures none { IsNone result.1 → result.0 ≢ Kind.Logged }
         ensures within { IfSome result.1 (λ card. card < card_count self.now.state.table.layout) }
     {
@@ -63,10 +65,22 @@ impl Core {
         ensures kind { result.0.kind ≡ kind_of self.old.state.table slot target }
         ensures plain { (result.0.refined ≡ []) × (result.0.short ≡ false) }
         ensures fill { result.0.fill ≡ fill_of result.1 }
-        ensures machine { self.new ≡ record { state = record { table = stored self.old.state.table slot target; ring = self.old.state.ring }; settings = self.old.settings; reads = self.old.reads } }
-        ensures log { log.new ≡ logged result.0.kind log.old (card_of self.old.state.table.layout slot) }
-        ensures buffer { result.1 ≡ buffer_of result.0.kind log.old (card_of self.old.state.table.layout slot) }
-        ensures step { (caller : ℕ) → IsStep self.old.state.table (store_entry caller slot target result.0) self.new.state.table }
+        ensures machine { self.new
+            ≡ record {
+              state = record {
+                table = stored self.old.state.table slot target;
+                ring = self.old.state.ring;
+              };
+              settings = self.old.settings;
+              reads = self.old.reads;
+            } }
+        ensures log { log.new ≡ logged result.0.kind log.old
+            (card_of self.old.state.table.layout slot) }
+        ensures buffer { result.1
+            ≡ buffer_of result.0.kind log.old (card_of self.old.state.table.layout slot) }
+        ensures step { (caller : ℕ)
+            → IsStep self.old.state.table (store_entry caller slot target result.0)
+            self.new.state.table }
         ensures cover { IsCovered self.new.state.table }
         ensures later { IsLater self.old self.new }
     {
@@ -90,8 +104,11 @@ impl Core {
         requires target { IfSome target (λ place. place < slot_count self.old.state.table.layout) }
         ensures reply { result ≡ unfilled (kind_of self.old.state.table slot target) }
         ensures machine { self.new ≡ stored_machine self.old slot target }
-        ensures log { log.new ≡ logged result.kind log.old (card_of self.old.state.table.layout slot) }
-        ensures step { (caller : ℕ) → IsStep self.old.state.table (store_entry caller slot target result) self.new.state.table }
+        ensures log { log.new ≡ logged result.kind log.old
+            (card_of self.old.state.table.layout slot) }
+        ensures step { (caller : ℕ)
+            → IsStep self.old.state.table (store_entry caller slot target result)
+            self.new.state.table }
         ensures cover { IsCovered self.new.state.table }
         ensures later { IsLater self.old self.new }
     {
@@ -109,7 +126,8 @@ impl Core {
         requires slot { slot < slot_count self.old.state.table.layout }
         requires target { IfSome target (λ place. place < slot_count self.old.state.table.layout) }
         ensures kind { result.0 ≡ kind_of self.old.state.table slot target }
-        ensures some { IfSome result.1 (λ card. (result.0 ≡ Kind.Logged) × (card ≡ card_of self.old.state.table.layout slot)) }
+        ensures some { IfSome result.1 (λ card.
+            (result.0 ≡ Kind.Logged) × (card ≡ card_of self.old.state.table.layout slot)) }
         ensures none { IsNone result.1 → result.0 ≢ Kind.Logged }
         ensures machine { self.new ≡ stored_machine self.old slot target }
         ensures cover { IsCovered self.new.state.table }

@@ -1,5 +1,6 @@
 //! The clear: a region's remembered set is emptied once no reference enters the region.
-ghost use Rattle.std.specs.Prelude.{◌≡◌, ◌≢◌, ◌≤◌, ◌<◌, ◌+◌, ◌-◌, ◌*◌, ℕ, [], ◌∷◌, None, IfSome, IfNone, All, Contains, length};
+ghost use Rattle.std.specs.Prelude.{◌≡◌, ◌≢◌, ◌≤◌, ◌<◌, ◌+◌, ◌-◌, ◌*◌, ℕ, [], ◌∷◌, None, IfSome};
+ghost use Rattle.std.specs.Prelude.{IfNone, All, Contains, length};
 ghost use Rattle.std.specs.FinSet as set;
 ghost use Rattle.g1_layout.specs.Shape.{card_count, card_of};
 ghost use Rattle.g1_layout.specs.Sets.{PairSet};
@@ -33,11 +34,15 @@ impl Core {
     /// nothing is pending.
     pub fn clear(&mut self, region: Region) -> ClearReply
         requires { region < self.old.state.table.layout.regions }
-        ensures step { (caller : ℕ) → IsStep self.old.state.table (clear_entry caller region result) self.new.state.table }
+        ensures step { (caller : ℕ)
+            → IsStep self.old.state.table (clear_entry caller region result) self.new.state.table }
         ensures refused { result ≢ ClearReply.Cleared → IsOnlyRead self.old self.new }
         ensures ring { self.new.state.ring ≡ self.old.state.ring }
-        ensures unread { 1 ≤ set.len self.old.state.table.pending → self.new.reads ≡ self.old.reads }
-        ensures reads { self.new.reads ≤ self.old.reads + member_count self.old.state.table region * self.old.state.table.layout.slots }
+        ensures unread { 1 ≤ set.len self.old.state.table.pending
+            → self.new.reads ≡ self.old.reads }
+        ensures reads { self.new.reads
+            ≤ self.old.reads + member_count self.old.state.table region
+            * self.old.state.table.layout.slots }
         ensures cover { IsCovered self.new.state.table }
         ensures later { IsLater self.old self.new }
     {
@@ -58,9 +63,11 @@ impl Core {
 fn least_entering(heap: &mut Heap, sets: &Sets, region: Region) -> Option<Slot>
     requires region { region < heap.old.layout.regions }
     requires layouts { sets.now.layout ≡ heap.old.layout }
-    ensures least { IsLeastOn (table_from heap.old sets.now.pairs) (list_at sets.now.lists region) region result }
+    ensures least { IsLeastOn (table_from heap.old sets.now.pairs)
+        (list_at sets.now.lists region) region result }
     ensures tied { AreTied sets.now }
-    ensures heap { AreRead heap.old heap.new (length (list_at sets.now.lists region) * heap.old.layout.slots) }
+    ensures heap { AreRead heap.old heap.new
+        (length (list_at sets.now.lists region) * heap.old.layout.slots) }
 {
     let layout = heap.layout();
     let members = sets.members(region);
@@ -91,8 +98,10 @@ fn least_after(heap: &mut Heap, cards: &[Card], first: Card, region: Region) -> 
     requires cards { All (λ card. card < card_count heap.old.layout) cards.now }
     requires region { region < heap.old.layout.regions }
     requires first { Contains cards.now first }
-    requires none { (pairs : PairSet) → IsLeastOn (table_from heap.old pairs) (first ∷ []) region None }
-    ensures least { (pairs : PairSet) → IsLeastOn (table_from heap.old pairs) cards.now region result }
+    requires none { (pairs : PairSet)
+        → IsLeastOn (table_from heap.old pairs) (first ∷ []) region None }
+    ensures least { (pairs : PairSet)
+        → IsLeastOn (table_from heap.old pairs) cards.now region result }
     ensures heap { AreRead heap.old heap.new ((length cards.now - 1) * heap.old.layout.slots) }
 {
     let layout = heap.layout();
@@ -113,7 +122,8 @@ fn least_after(heap: &mut Heap, cards: &[Card], first: Card, region: Region) -> 
 fn entering_on(heap: &mut Heap, card: Card, region: Region) -> Option<Slot>
     requires card { card < card_count heap.old.layout }
     requires region { region < heap.old.layout.regions }
-    ensures least { (pairs : PairSet) → IsLeastOn (table_from heap.old pairs) (card ∷ []) region result }
+    ensures least { (pairs : PairSet)
+        → IsLeastOn (table_from heap.old pairs) (card ∷ []) region result }
     ensures on { IfSome result (λ slot. card_of heap.old.layout slot ≡ card) }
     ensures heap { AreRead heap.old heap.new heap.old.layout.slots }
 {

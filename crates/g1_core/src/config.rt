@@ -42,11 +42,29 @@ impl Model for Config {
 
     ghost Value = { Settings };
 
-    ghost view = { λ a. record { log = a.log; limit = a.limit; hot = a.hot; ring = a.ring; start = a.start } };
+    ghost view = { λ a. record {
+      log = a.log;
+      limit = a.limit;
+      hot = a.hot;
+      ring = a.ring;
+      start = a.start;
+    } };
 
-    ghost invariant = { λ a. AreSettings (record { log = a.log; limit = a.limit; hot = a.hot; ring = a.ring; start = a.start }) };
+    ghost invariant = { λ a. AreSettings (record {
+      log = a.log;
+      limit = a.limit;
+      hot = a.hot;
+      ring = a.ring;
+      start = a.start;
+    }) };
 
-    ghost inverse = { λ s. record { log = s.log; limit = s.limit; hot = s.hot; ring = s.ring; start = s.start } };
+    ghost inverse = { λ s. record {
+      log = s.log;
+      limit = s.limit;
+      hot = s.hot;
+      ring = s.ring;
+      start = s.start;
+    } };
 }
 
 impl Config {
@@ -92,7 +110,13 @@ impl Config {
     ///
     /// Returns `None` exactly if one of them is outside its limits.
     pub fn new(log: usize, limit: usize, hot: u32, ring: usize, start: usize) -> Option<Config>
-        ensures { let s : Settings = record { log = log; limit = limit; hot = hot; ring = ring; start = start } in SomeIff result (AreSettings s) s }
+        ensures { let s : Settings = record {
+          log = log;
+          limit = limit;
+          hot = hot;
+          ring = ring;
+          start = start;
+        } in SomeIff result (AreSettings s) s }
     {
         let within = Config::LOG.contain(log)
             && Config::LIMIT.contain(limit)

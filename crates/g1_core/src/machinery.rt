@@ -109,7 +109,8 @@ pub(crate) fn refine_card(
     requires card { card < card_count heap.old.layout }
     requires layouts { sets.old.layout ≡ heap.old.layout }
     requires some { 1 ≤ pending.old }
-    ensures cleaned { OnOk result (heap.new ≡ with_mark (with_reads heap.old heap.old.layout.slots) card Clean) }
+    ensures cleaned { OnOk result
+        (heap.new ≡ with_mark (with_reads heap.old heap.old.layout.slots) card Clean) }
     ensures pairs { OnOk result (sets.new.pairs ≡ gained heap.old sets.old.pairs card) }
     ensures layout { sets.new.layout ≡ sets.old.layout }
     ensures less { OnOk result (pending.new + 1 ≡ pending.old) }

@@ -1,5 +1,7 @@
 //! The pause: what is still pending is refined, and then a remembered set is relied on.
-ghost use Rattle.std.specs.Prelude.{◌≡◌, ◌<◌, ◌≤◌, ◌+◌, ◌*◌, ◌++◌, ◌∷◌, [], ℕ, true, false, length, slice_index, slice_get, IfOk, OnOk, OnErr, IfSome, IfNone, Some, nat_lt, vec_len, vec_capacity, All};
+ghost use Rattle.std.specs.Prelude.{◌≡◌, ◌<◌, ◌≤◌, ◌+◌, ◌*◌, ◌++◌, ◌∷◌, [], ℕ, true, false, length};
+ghost use Rattle.std.specs.Prelude.{slice_index, slice_get, IfOk, OnOk, OnErr, IfSome, IfNone};
+ghost use Rattle.std.specs.Prelude.{Some, nat_lt, vec_len, vec_capacity, All};
 ghost use Rattle.std.specs.FinSet as set;
 ghost use Rattle.g1_layout.specs.Shape.{card_count};
 
@@ -16,13 +18,16 @@ impl Core {
     ghost use Rattle.g1_core.specs.Run.{IsStep};
     ghost use Rattle.g1_core.specs.Turns.{is_dirty};
     ghost use Rattle.g1_core.specs.Calls.{drain_cards, drain_entry};
-    ghost use Rattle.g1_core.specs.Pause.{Drains, IsDrainOf, IsShortDrain, IsDrainOrder, IsRingDrained, IsCardDrained, IsCardRead, IsDirtyDrained, IsDirtyStopped, IsAllDrained, reset_machine};
+    ghost use Rattle.g1_core.specs.Pause.{Drains, IsDrainOf, IsShortDrain, IsDrainOrder};
+    ghost use Rattle.g1_core.specs.Pause.{IsRingDrained, IsCardDrained, IsCardRead, IsDirtyDrained};
+    ghost use Rattle.g1_core.specs.Pause.{IsDirtyStopped, IsAllDrained, reset_machine};
 
     /// Refines the oldest card of the ring, which leaves it; nothing is counted.
     fn drain_oldest(&mut self) -> Result<Card, NoMemory>
         requires { 0 < length self.old.state.ring.cards }
         ensures card { IfOk result (λ card. slice_get self.old.state.ring.cards 0 ≡ Some card) }
-        ensures ok { IfOk result (λ card. IsCardDrained self.old card (popped self.old.state.ring) self.new) }
+        ensures ok { IfOk result (λ card.
+            IsCardDrained self.old card (popped self.old.state.ring) self.new) }
         ensures err { OnErr result (IsCardRead self.old self.new) }
     {
         let Some(card) = self.hot.oldest() else {
@@ -58,10 +63,13 @@ impl Core {
     /// The first dirty card at or after a number.
     fn next_dirty(&self, from: u32) -> Option<Card>
         requires { from ≤ card_count self.now.state.table.layout }
-        ensures none { IfNone result ((card : ℕ) → from ≤ card → is_dirty self.now.state card ≡ false) }
+        ensures none { IfNone result ((card : ℕ) → from ≤ card
+            → is_dirty self.now.state card ≡ false) }
         ensures dirty { IfSome result (λ card. is_dirty self.now.state card ≡ true) }
-        ensures within { IfSome result (λ card. (from ≤ card) × (card < card_count self.now.state.table.layout)) }
-        ensures first { IfSome result (λ card. (earlier : ℕ) → from ≤ earlier → earlier < card → is_dirty self.now.state earlier ≡ false) }
+        ensures within { IfSome result (λ card.
+            (from ≤ card) × (card < card_count self.now.state.table.layout)) }
+        ensures first { IfSome result (λ card. (earlier : ℕ) → from ≤ earlier → earlier < card
+            → is_dirty self.now.state earlier ≡ false) }
     {
         if self.pending == 0 {
             return None;
@@ -73,10 +81,13 @@ impl Core {
     fn drain_ring(&mut self, refined: &mut Vec<Card>) -> Result<(), NoMemory>
         requires empty { refined.old.items ≡ [] }
         requires room { set.len self.old.state.table.pending ≤ vec_capacity refined.old }
-        ensures ok { OnOk result (IsRingDrained self.old refined.new.items (length refined.new.items) self.new) }
+        ensures ok { OnOk result (IsRingDrained self.old refined.new.items
+            (length refined.new.items) self.new) }
         ensures whole { OnOk result (self.new.state.ring.cards ≡ []) }
-        ensures err { OnErr result (IsRingDrained self.old refined.new.items (length refined.new.items + 1) self.new) }
-        ensures room { vec_len refined.new + set.len self.new.state.table.pending ≤ vec_capacity refined.new }
+        ensures err { OnErr result
+            (IsRingDrained self.old refined.new.items (length refined.new.items + 1) self.new) }
+        ensures room { vec_len refined.new + set.len self.new.state.table.pending
+            ≤ vec_capacity refined.new }
     {
         let _reads = self.reads();
         while self.has_held() {
@@ -88,10 +99,13 @@ impl Core {
 
     /// Refines the dirty cards, ascending, and lists them after those that are there.
     fn drain_dirty(&mut self, refined: &mut Vec<Card>) -> Result<(), NoMemory>
-        requires room { vec_len refined.old + set.len self.old.state.table.pending ≤ vec_capacity refined.old }
-        ensures ok { OnOk result ((bound : ℕ) × IsDirtyDrained self.old refined.old.items refined.new.items bound self.new) }
+        requires room { vec_len refined.old + set.len self.old.state.table.pending
+            ≤ vec_capacity refined.old }
+        ensures ok { OnOk result ((bound : ℕ)
+            × IsDirtyDrained self.old refined.old.items refined.new.items bound self.new) }
         ensures whole { OnOk result ((card : ℕ) → is_dirty self.new.state card ≡ false) }
-        ensures err { OnErr result (IsDirtyStopped self.old refined.old.items refined.new.items self.new) }
+        ensures err { OnErr result
+            (IsDirtyStopped self.old refined.old.items refined.new.items self.new) }
     {
         let _reads = self.reads();
         let _layout = self.layout();
@@ -107,7 +121,8 @@ impl Core {
     /// An empty list with room for every pending card.
     pub(crate) fn room_for_pending(&self) -> Result<Vec<Card>, NoMemory>
         ensures empty { IfOk result (λ room. room.items ≡ []) }
-        ensures room { IfOk result (λ room. set.len self.now.state.table.pending ≤ vec_capacity room) }
+        ensures room { IfOk result (λ room.
+            set.len self.now.state.table.pending ≤ vec_capacity room) }
     {
         let room = Vec::with_capacity(self.alloc, self.pending as usize)?;
         Ok(room)
@@ -149,8 +164,10 @@ impl Core {
     pub fn drain(&mut self, region: Region) -> Result<Drained, NoMemory>
         requires { region < self.old.state.table.layout.regions }
         ensures drained { IfOk result (λ answer. IsDrainOf self.old region answer self.new) }
-        ensures within { IfOk result (λ answer. All (λ card. card < card_count self.old.state.table.layout) (drain_cards answer)) }
-        ensures step { IfOk result (λ answer. (caller : ℕ) → IsStep self.old.state.table (drain_entry caller region answer) self.new.state.table) }
+        ensures within { IfOk result (λ answer.
+            All (λ card. card < card_count self.old.state.table.layout) (drain_cards answer)) }
+        ensures step { IfOk result (λ answer. (caller : ℕ)
+            → IsStep self.old.state.table (drain_entry caller region answer) self.new.state.table) }
         ensures err { OnErr result (self.new ≡ self.old) }
         ensures cover { IsCovered self.new.state.table }
         ensures later { IsLater self.old self.new }

@@ -52,8 +52,13 @@ impl Core {
         requires { slot < slot_count self.old.state.table.layout }
         ensures target { result ≡ target_of self.old.state.table slot }
         ensures within { IfSome result (λ place. place < slot_count self.old.state.table.layout) }
-        ensures machine { self.new ≡ record { state = self.old.state; settings = self.old.settings; reads = reads_after self.old.reads 1 } }
-        ensures step { (caller : ℕ) → IsStep self.old.state.table (target_entry caller slot result) self.new.state.table }
+        ensures machine { self.new ≡ record {
+          state = self.old.state;
+          settings = self.old.settings;
+          reads = reads_after self.old.reads 1;
+        } }
+        ensures step { (caller : ℕ)
+            → IsStep self.old.state.table (target_entry caller slot result) self.new.state.table }
         ensures later { IsLater self.old self.new }
     {
         let _reads = self.reads();
@@ -64,7 +69,8 @@ impl Core {
     pub fn is_pending(&self, card: Card) -> bool
         requires { card < card_count self.now.state.table.layout }
         ensures pending { result ≡ set.contains self.now.state.table.pending card }
-        ensures step { (caller : ℕ) → IsStep self.now.state.table (pending_entry caller card result) self.now.state.table }
+        ensures step { (caller : ℕ)
+            → IsStep self.now.state.table (pending_entry caller card result) self.now.state.table }
     {
         match self.heap.mark(card) {
             Mark::Clean => return false,
@@ -81,8 +87,11 @@ impl Core {
     pub fn members(&self, region: Region) -> Result<CardList, NoMemory>
         requires { region < self.now.state.table.layout.regions }
         ensures members { IfOk result (λ cards. AreMembers self.now.state.table region cards) }
-        ensures within { IfOk result (λ cards. All (λ card. card < card_count self.now.state.table.layout) cards) }
-        ensures step { IfOk result (λ cards. (caller : ℕ) → IsStep self.now.state.table (members_entry caller region cards) self.now.state.table) }
+        ensures within { IfOk result (λ cards.
+            All (λ card. card < card_count self.now.state.table.layout) cards) }
+        ensures step { IfOk result (λ cards. (caller : ℕ)
+            → IsStep self.now.state.table (members_entry caller region cards)
+            self.now.state.table) }
     {
         let cards = self.sets.cards(region)?;
         Ok(CardList::of(cards))
@@ -93,7 +102,8 @@ impl Core {
     pub fn status(&self) -> Status
         ensures pending { result.pending ≡ set.len self.now.state.table.pending }
         ensures recorded { result.recorded ≡ set.len self.now.state.table.recorded }
-        ensures step { (caller : ℕ) → IsStep self.now.state.table (status_entry caller result) self.now.state.table }
+        ensures step { (caller : ℕ)
+            → IsStep self.now.state.table (status_entry caller result) self.now.state.table }
     {
         Status {
             pending: self.pending,

@@ -1,6 +1,7 @@
 //! The redirect: the references into a region are moved to another one, and its remembered set is
 //! emptied.
-ghost use Rattle.std.specs.Prelude.{◌≡◌, ◌≢◌, ◌≤◌, ◌<◌, ◌+◌, ◌*◌, ◌++◌, ℕ, All, IfOk, OnOk, OnErr, length};
+ghost use Rattle.std.specs.Prelude.{◌≡◌, ◌≢◌, ◌≤◌, ◌<◌, ◌+◌, ◌*◌, ◌++◌, ℕ, All, IfOk, OnOk, OnErr};
+ghost use Rattle.std.specs.Prelude.{length};
 ghost use Rattle.std.specs.FinSet as set;
 ghost use Rattle.g1_layout.specs.Shape.{slot_count, card_count};
 ghost use Rattle.g1_heap.specs.Cells.{Cells};
@@ -41,7 +42,9 @@ fn add_changes_on(
     requires card { card < card_count heap.old.layout }
     requires from { from < heap.old.layout.regions }
     requires to { to < heap.old.layout.regions }
-    ensures changes { OnOk result (changes.new.items ≡ changes.old.items ++ changes_of heap.old.layout heap.old.refs from to (slots_of heap.old.layout card)) }
+    ensures changes { OnOk result
+        (changes.new.items ≡ changes.old.items ++ changes_of heap.old.layout heap.old.refs from to
+        (slots_of heap.old.layout card)) }
     ensures heap { AreRead heap.old heap.new heap.old.layout.slots }
 {
     let layout = heap.layout();
@@ -71,11 +74,17 @@ fn changes_into(
     requires from { from < heap.old.layout.regions }
     requires to { to < heap.old.layout.regions }
     requires layouts { sets.now.layout ≡ heap.old.layout }
-    ensures references { IfOk result (λ changes. changes.references.items ≡ changes_of heap.old.layout heap.old.refs from to (slots_on heap.old.layout (list_at sets.now.lists from))) }
-    ensures cards { IfOk result (λ changes. AreGaining heap.old.layout heap.old.refs from to (list_at sets.now.lists from) changes.cards.items) }
-    ensures within { IfOk result (λ changes. All (λ card. card < card_count heap.old.layout) changes.cards.items) }
+    ensures references { IfOk result (λ changes.
+        changes.references.items ≡ changes_of heap.old.layout heap.old.refs from to
+        (slots_on heap.old.layout (list_at sets.now.lists from))) }
+    ensures cards { IfOk result (λ changes.
+        AreGaining heap.old.layout heap.old.refs from to
+        (list_at sets.now.lists from) changes.cards.items) }
+    ensures within { IfOk result (λ changes.
+        All (λ card. card < card_count heap.old.layout) changes.cards.items) }
     ensures tied { AreTied sets.now }
-    ensures heap { AreRead heap.old heap.new (length (list_at sets.now.lists from) * heap.old.layout.slots) }
+    ensures heap { AreRead heap.old heap.new
+        (length (list_at sets.now.lists from) * heap.old.layout.slots) }
 {
     let layout = heap.layout();
     let members = sets.len(from);
@@ -96,7 +105,12 @@ fn changes_into(
 fn make_changes(heap: &mut Heap, changes: &[Change])
     requires slots { All (λ change. change.slot < slot_count heap.old.layout) changes.now }
     requires places { All (λ change. change.place < slot_count heap.old.layout) changes.now }
-    ensures { heap.new ≡ record { layout = heap.old.layout; refs = changed heap.old.refs changes.now; marks = heap.old.marks; reads = heap.old.reads } }
+    ensures { heap.new ≡ record {
+      layout = heap.old.layout;
+      refs = changed heap.old.refs changes.now;
+      marks = heap.old.marks;
+      reads = heap.old.reads;
+    } }
 {
     for change in changes {
         heap.set(change.slot, Some(change.place));
@@ -149,7 +163,9 @@ impl Core {
         requires to { to < self.old.state.table.layout.regions }
         requires apart { from ≢ to }
         ensures redirected { IfOk result (λ answer. IsRedirectOf self.old from to answer self.new) }
-        ensures step { IfOk result (λ answer. (caller : ℕ) → IsStep self.old.state.table (redirect_entry caller from to answer) self.new.state.table) }
+        ensures step { IfOk result (λ answer. (caller : ℕ)
+            → IsStep self.old.state.table (redirect_entry caller from to answer)
+            self.new.state.table) }
         ensures err { OnErr result (self.new ≡ self.old) }
         ensures cover { IsCovered self.new.state.table }
         ensures later { IsLater self.old self.new }

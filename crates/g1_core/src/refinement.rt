@@ -1,6 +1,8 @@
 //! Refinement: the cards of a completed buffer take their turns, and the regions that each refers
 //! into are recorded.
-ghost use Rattle.std.specs.Prelude.{◌≡◌, ◌<◌, ◌≤◌, ◌+◌, ◌*◌, ◌++◌, ◌↔◌, [], ℕ, false, IfOk, OnErr, IsTrue, length, slice_index_or, vec_len, vec_capacity, option_map, if◌then◌else◌};
+ghost use Rattle.std.specs.Prelude.{◌≡◌, ◌<◌, ◌≤◌, ◌+◌, ◌*◌, ◌++◌, ◌↔◌, [], ℕ, false, IfOk, OnErr};
+ghost use Rattle.std.specs.Prelude.{IsTrue, length, slice_index_or, vec_len, vec_capacity};
+ghost use Rattle.std.specs.Prelude.{option_map, if◌then◌else◌};
 ghost use Rattle.g1_layout.specs.Shape.{card_count};
 ghost use Rattle.g1_heap.specs.declared.mark.Mark.TheVariants.{Clean, Dirty};
 ghost use Rattle.g1_core.specs.Turns.{refined_by, hot_by, skipped_by};
@@ -41,8 +43,10 @@ impl Core {
     /// more. Takes memory for the list, with room for each card of the buffer, and for what the
     /// remembered sets gain.
     pub fn refine(&mut self, buffer: Option<&Buffer>) -> Result<RefineReply, NoMemory>
-        ensures turned { IfOk result (λ reply. IsRefined self.old.state (option_map (λ b. b.now) buffer.entry) reply self.new.state) }
-        ensures step { IfOk result (λ reply. (caller : ℕ) → IsStep self.old.state.table (refine_entry caller reply) self.new.state.table) }
+        ensures turned { IfOk result (λ reply.
+            IsRefined self.old.state (option_map (λ b. b.now) buffer.entry) reply self.new.state) }
+        ensures step { IfOk result (λ reply. (caller : ℕ)
+            → IsStep self.old.state.table (refine_entry caller reply) self.new.state.table) }
         ensures cover { IsCovered self.new.state.table }
         ensures reads { IfOk result (λ reply. AreCardsRead self.old reply self.new) }
         ensures err { OnErr result (self.new ≡ self.old) }
@@ -62,7 +66,8 @@ impl Core {
     /// none.
     fn turn_all(&mut self, cards: &[Card]) -> Result<RefineReply, NoMemory>
         requires few { length cards.now ≤ 256 }
-        ensures turned { IfOk result (λ reply. IsTurned self.old.state cards.now reply self.new.state) }
+        ensures turned { IfOk result (λ reply.
+            IsTurned self.old.state cards.now reply self.new.state) }
         ensures reads { IfOk result (λ reply. AreCardsRead self.old reply self.new) }
         ensures err { OnErr result (self.new ≡ self.old) }
         ensures settings { self.new.settings ≡ self.old.settings }
@@ -82,10 +87,14 @@ impl Core {
     /// comes first.
     fn turn(&mut self, card: Card) -> Result<Option<Offer>, NoMemory>
         ensures offer { IfOk result (λ offer. offer ≡ offer_to self.old.state card) }
-        ensures state { IfOk result (λ offer. self.new.state ≡ state_after self.old.state card offer) }
-        ensures reads { IfOk result (λ offer. self.new.reads ≡ reads_after self.old.reads (length (refined_by card offer) * self.old.state.table.layout.slots)) }
+        ensures state { IfOk result (λ offer.
+            self.new.state ≡ state_after self.old.state card offer) }
+        ensures reads { IfOk result (λ offer.
+            self.new.reads ≡ reads_after self.old.reads
+            (length (refined_by card offer) * self.old.state.table.layout.slots)) }
         ensures err { OnErr result (self.new.state ≡ self.old.state) }
-        ensures tried { OnErr result (self.new.reads ≡ reads_after self.old.reads self.old.state.table.layout.slots) }
+        ensures tried { OnErr result
+            (self.new.reads ≡ reads_after self.old.reads self.old.state.table.layout.slots) }
         ensures settings { self.new.settings ≡ self.old.settings }
     {
         let _reads = self.reads();
@@ -192,7 +201,9 @@ impl Tally {
         ensures refined { self.new.refined.items ≡ self.old.refined.items ++ refined_by card offer }
         ensures hot { self.new.hot ≡ self.old.hot + hot_by offer }
         ensures skipped { self.new.skipped ≡ self.old.skipped + skipped_by offer }
-        ensures counts { (self.new.hot ≤ self.old.hot + 1) × (self.new.skipped ≤ self.old.skipped + 1) × (vec_len self.new.refined ≤ vec_len self.old.refined + 1) }
+        ensures counts { (self.new.hot ≤ self.old.hot + 1)
+            × (self.new.skipped ≤ self.old.skipped + 1)
+            × (vec_len self.new.refined ≤ vec_len self.old.refined + 1) }
         ensures capacity { vec_capacity self.new.refined ≡ vec_capacity self.old.refined }
     {
         let Some(offer) = offer else {

@@ -25,7 +25,8 @@ fn a_stale_set_is_cleared(rt: HostRuntime) -> Result<(), Fail> {
     play(&rt, rt.alloc(), 2, 1, &steps)
 }
 
-// The set of region 1 gets card 5, and then cards 0 and 1: neither the first member nor the least has the least slot.
+// The set of region 1 gets card 5, and then cards 0 and 1: neither the first member nor the least
+// has the least slot.
 #[test]
 fn the_least_slot_is_named(rt: HostRuntime) -> Result<(), Fail> {
     let steps = [

@@ -1,8 +1,9 @@
-//! Tests of `g1_core` through its public calls: stores, refinements, drains, clears and redirects played by hand, and the limits of the
-//! settings.
+//! Tests of `g1_core` through its public calls: stores, refinements, drains, clears and redirects
+//! played by hand, and the limits of the settings.
 //!
-//! A test of a core is a list of steps, each with the answer that it must get (`steps`). The heap has 4 regions of 2 cards of 4 slots:
-//! card `c` has the slots from `4 * c` on, region `r` those from `8 * r` on.
+//! A test of a core is a list of steps, each with the answer that it must get (`steps`). The heap
+//! has 4 regions of 2 cards of 4 slots: card `c` has the slots from `4 * c` on, region `r` those
+//! from `8 * r` on.
 #![tactic(auto)]
 
 #[cfg(test)]

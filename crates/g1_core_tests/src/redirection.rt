@@ -22,7 +22,8 @@ fn two_slots_of_one_card_are_moved(rt: HostRuntime) -> Result<(), Fail> {
     play(&rt, rt.alloc(), 4, 4, &steps)
 }
 
-// The slot lies inside the region that its reference is moved to, so its card is recorded for neither.
+// The slot lies inside the region that its reference is moved to, so its card is recorded for
+// neither.
 #[test]
 fn a_slot_inside_the_target_region_is_moved(rt: HostRuntime) -> Result<(), Fail> {
     let steps = [
@@ -50,7 +51,8 @@ fn own_slots_and_stale_members_stay(rt: HostRuntime) -> Result<(), Fail> {
     play(&rt, rt.alloc(), 4, 4, &steps)
 }
 
-// Card 5 is held when the redirect begins, and cards 0 and 1 are dirty. Card 0 is cold again afterwards, at hot limit 1.
+// Card 5 is held when the redirect begins, and cards 0 and 1 are dirty. Card 0 is cold again
+// afterwards, at hot limit 1.
 #[test]
 fn a_redirect_refines_what_is_pending(rt: HostRuntime) -> Result<(), Fail> {
     let steps = [

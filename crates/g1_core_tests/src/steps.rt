@@ -15,7 +15,8 @@ const SLOTS_A_CARD: u64 = 4;
 pub(crate) enum Step<'a> {
     /// A store of a place or null into a slot: its kind, and what becomes of the log.
     Store(u32, Option<u32>, Kind, Fill),
-    /// A refinement of a buffer of cards: which are refined in which order, how many are hot, how many skipped.
+    /// A refinement of a buffer of cards: which are refined in which order, how many are hot, how
+    /// many skipped.
     Refine(&'a [u32], &'a [u32], u32, u32),
     /// A refinement of no buffer, which changes nothing.
     RefineNone,
@@ -23,7 +24,8 @@ pub(crate) enum Step<'a> {
     Drain(u32, &'a [u32], &'a [u32]),
     /// A clear of a region.
     Clear(u32, Cleared),
-    /// A redirect from one region to another: how many slots change, and which cards are refined in which order.
+    /// A redirect from one region to another: how many slots change, and which cards are refined in
+    /// which order.
     Redirect(u32, u32, u32, &'a [u32]),
     /// The recorded cards of a region.
     Members(u32, &'a [u32]),
@@ -43,7 +45,8 @@ pub(crate) enum Cleared {
     StillReferenced(u32),
 }
 
-/// Takes the steps on a new core with this hot limit and ring, whose stores share a log of two cards.
+/// Takes the steps on a new core with this hot limit and ring, whose stores share a log of two
+/// cards.
 pub(crate) fn play(
     rt: &impl Abort,
     alloc: Global,

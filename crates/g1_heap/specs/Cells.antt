@@ -1,6 +1,9 @@
--- What contracts see of a heap: what each slot refers to, the mark of each card, and how many slots were read.
-use Rattle.std.specs.Prelude.{◌≡◌, ◌≢◌, ◌≤◌, ◌<◌, ◌+◌, ◌-◌, ◌^◌, ℕ, List, Option, Some, None, IfSome, All, length, min, slice_index_or, slice_set, replicate}
-use Rattle.g1_layout.specs.Shape.{Shape, IsShape, slot_count, card_count, card_of, region_of, region_of_card}
+-- What contracts see of a heap: what each slot refers to, the mark of each card, and how many slots
+-- were read.
+use Rattle.std.specs.Prelude.{◌≡◌, ◌≢◌, ◌≤◌, ◌<◌, ◌+◌, ◌-◌, ◌^◌, ℕ, List, Option, Some, None}
+use Rattle.std.specs.Prelude.{IfSome, All, length, min, slice_index_or, slice_set, replicate}
+use Rattle.g1_layout.specs.Shape.{Shape, IsShape, slot_count, card_count, card_of, region_of}
+use Rattle.g1_layout.specs.Shape.{region_of_card}
 use Rattle.g1_heap.specs.declared.mark.Mark.{Mark}
 use Rattle.g1_heap.specs.declared.mark.Mark.TheVariants.{Clean, Dirty}
 
@@ -19,15 +22,33 @@ pub record AreCells (c : Cells) : Type 0 where
 
 -- all slots null, all cards clean, nothing read
 abbrev pub new_cells : Shape → Cells
-new_cells l = record { layout = l; refs = replicate (slot_count l) None; marks = replicate (card_count l) Clean; reads = 0 }
+new_cells l =
+    record {
+      layout = l;
+      refs = replicate (slot_count l) None;
+      marks = replicate (card_count l) Clean;
+      reads = 0;
+    }
 
 -- a slot is written
 abbrev pub with_ref : Cells → ℕ → Option ℕ → Cells
-with_ref c slot target = record { layout = c.layout; refs = slice_set c.refs slot target; marks = c.marks; reads = c.reads }
+with_ref c slot target =
+    record {
+      layout = c.layout;
+      refs = slice_set c.refs slot target;
+      marks = c.marks;
+      reads = c.reads;
+    }
 
 -- a card is marked
 abbrev pub with_mark : Cells → ℕ → Mark → Cells
-with_mark c card mark = record { layout = c.layout; refs = c.refs; marks = slice_set c.marks card mark; reads = c.reads }
+with_mark c card mark =
+    record {
+      layout = c.layout;
+      refs = c.refs;
+      marks = slice_set c.marks card mark;
+      reads = c.reads;
+    }
 
 -- the reads after some more, which stop at the greatest number
 abbrev pub reads_after : ℕ → ℕ → ℕ
@@ -35,9 +56,11 @@ reads_after reads more = min (reads + more) (2 ^ 64 - 1)
 
 -- some more slots are read
 abbrev pub with_reads : Cells → ℕ → Cells
-with_reads c more = record { layout = c.layout; refs = c.refs; marks = c.marks; reads = reads_after c.reads more }
+with_reads c more =
+    record { layout = c.layout; refs = c.refs; marks = c.marks; reads = reads_after c.reads more }
 
--- A card holds into a region where it doesn't lie in the region, and one of its slots refers to a place in it.
+-- A card holds into a region where it doesn't lie in the region, and one of its slots refers to a
+-- place in it.
 pub record HoldsIn (l : Shape) (refs : List (Option ℕ)) (card region : ℕ) : Type 0 where
   pub slot : ℕ
   pub place : ℕ
@@ -55,4 +78,5 @@ pub record IsFirstDirty (marks : List Mark) (from card : ℕ) : Type 0 where
   pub within : card < length marks
   pub not_before : from ≤ card
   pub dirty : slice_index_or marks card Clean ≡ Dirty
-  pub first : (earlier : ℕ) → from ≤ earlier → earlier < card → slice_index_or marks earlier Clean ≢ Dirty
+  pub first : (earlier : ℕ) → from ≤ earlier → earlier < card
+      → slice_index_or marks earlier Clean ≢ Dirty

@@ -5,10 +5,14 @@ use Rattle.g1_heap.specs.Listing.{RefersInto}
 
 -- no slot from one offset of the card up to another refers into the region
 abbrev pub HasNoneInto : Shape → List (Option ℕ) → ℕ → ℕ → ℕ → ℕ → Type 0
-HasNoneInto l refs card region from end = (k : ℕ) → from ≤ k → k < end → RefersInto l (slice_index_or refs (slot_at l card k) None) region → ⊥
+HasNoneInto l refs card region from end =
+    (k : ℕ) → from ≤ k → k < end → RefersInto l (slice_index_or refs (slot_at l card k) None) region
+    → ⊥
 
--- the slot at the offset refers to the place, which lies in the region, and no slot before it from the first offset on does
-pub record IsNextInto (l : Shape) (refs : List (Option ℕ)) (card region from offset place : ℕ) : Type 0 where
+-- the slot at the offset refers to the place, which lies in the region, and no slot before it from
+-- the first offset on does
+pub record IsNextInto (l : Shape) (refs : List (Option ℕ)) (card region from offset place : ℕ)
+    : Type 0 where
   pub not_before : from ≤ offset
   pub within : offset < l.slots
   pub refers : slice_index_or refs (slot_at l card offset) None ≡ Some place

@@ -1,5 +1,6 @@
 -- How a heap is kept: a word a slot and a byte a card, and what they stand for.
-use Rattle.std.specs.Prelude.{◌≡◌, ℕ, zero, suc, List, Option, Some, None, length, if◌then◌else◌, nat_lt}
+use Rattle.std.specs.Prelude.{◌≡◌, ℕ, zero, suc, List, Option, Some, None, length, if◌then◌else◌}
+use Rattle.std.specs.Prelude.{nat_lt}
 use Rattle.g1_layout.specs.Shape.{Shape, IsShape, slot_count, card_count}
 use Rattle.g1_heap.specs.declared.mark.Mark.{Mark}
 use Rattle.g1_heap.specs.declared.mark.Mark.TheVariants.{Clean, Dirty, Held}

@@ -11,8 +11,10 @@ pub(crate) fn first_between(row: &[u32], from: usize, low: u32, size: u32) -> us
     requires range { from ≤ length row.now }
     requires places { low + size ≤ NULL }
     ensures range { (from ≤ result) × (result ≤ length row.now) }
-    ensures before { (k : ℕ) → from ≤ k → k < result → low ≤ slice_index row.now k → slice_index row.now k < low + size → ⊥ }
-    ensures found { result < length row.now → (low ≤ slice_index row.now result) × (slice_index row.now result < low + size) }
+    ensures before { (k : ℕ) → from ≤ k → k < result → low ≤ slice_index row.now k
+        → slice_index row.now k < low + size → ⊥ }
+    ensures found { result < length row.now
+        → (low ≤ slice_index row.now result) × (slice_index row.now result < low + size) }
 {
     let mut at = from;
     while at < row.len() {

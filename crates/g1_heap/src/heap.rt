@@ -1,8 +1,10 @@
 //! The slots and the card table.
 
-ghost use Rattle.std.specs.Prelude.{◌≡◌, ◌<◌, ◌≤◌, ◌↔◌, ℕ, All, None, Contains, IfSome, IfOk, MatchOption, slice_index_or};
+ghost use Rattle.std.specs.Prelude.{◌≡◌, ◌<◌, ◌≤◌, ◌↔◌, ℕ, All, None, Contains, IfSome, IfOk};
+ghost use Rattle.std.specs.Prelude.{MatchOption, slice_index_or};
 ghost use Rattle.g1_layout.specs.Shape.{slot_count, card_count};
-ghost use Rattle.g1_heap.specs.Cells.{AreCells, with_ref, with_mark, with_reads, new_cells, HoldsIn, HasNoDirty, IsFirstDirty};
+ghost use Rattle.g1_heap.specs.Cells.{AreCells, with_ref, with_mark, with_reads, new_cells};
+ghost use Rattle.g1_heap.specs.Cells.{HoldsIn, HasNoDirty, IsFirstDirty};
 ghost use Rattle.g1_layout.specs.Regions.{HasRegion};
 ghost use Rattle.g1_heap.specs.Targets.{AreTargets, AreNewTargets};
 ghost use Rattle.g1_heap.specs.Entering.{HasNoneInto, IsNextInto, looked_at};
@@ -39,7 +41,12 @@ impl Model for Heap {
 
     ghost Value = { Cells };
 
-    ghost view = { λ a. record { layout = a.layout; refs = map (ref_of a.layout) a.words.items; marks = map mark_of a.bytes.items; reads = a.reads } };
+    ghost view = { λ a. record {
+      layout = a.layout;
+      refs = map (ref_of a.layout) a.words.items;
+      marks = map mark_of a.bytes.items;
+      reads = a.reads;
+    } };
 
     ghost invariant = { λ a. AreStored a.layout a.words.items a.bytes.items };
 }
@@ -105,7 +112,8 @@ impl Heap {
     pub fn targets(&mut self, card: Card) -> ArrayVec<Region, 64>
         requires { card < card_count self.old.layout }
         ensures regions { AreTargets self.old.layout self.old.refs card result.items }
-        ensures holds { (region : ℕ) → Contains result.items region ↔ HoldsIn self.old.layout self.old.refs card region }
+        ensures holds { (region : ℕ) → Contains result.items region
+            ↔ HoldsIn self.old.layout self.old.refs card region }
         ensures within { All (λ region. region < self.old.layout.regions) result.items }
         ensures reads { self.new ≡ with_reads self.old self.old.layout.slots }
     {
@@ -129,8 +137,10 @@ impl Heap {
         targets: &mut ArrayVec<Region, 64>,
     )
         requires { card < card_count self.old.layout }
-        ensures regions { AreNewTargets self.old.layout self.old.refs card known.now targets.new.items }
-        ensures holds { (region : ℕ) → Contains targets.new.items region ↔ (HoldsIn self.old.layout self.old.refs card region × ¬ HasRegion known.now region) }
+        ensures regions { AreNewTargets self.old.layout self.old.refs card known.now
+            targets.new.items }
+        ensures holds { (region : ℕ) → Contains targets.new.items region
+            ↔ (HoldsIn self.old.layout self.old.refs card region × ¬ HasRegion known.now region) }
         ensures within { All (λ region. region < self.old.layout.regions) targets.new.items }
         ensures reads { self.new ≡ with_reads self.old self.old.layout.slots }
     {
@@ -152,7 +162,9 @@ impl Heap {
         requires card { card < card_count self.old.layout }
         requires from { from ≤ self.old.layout.slots }
         requires region { region < self.old.layout.regions }
-        ensures next { MatchOption result (HasNoneInto self.old.layout self.old.refs card region from self.old.layout.slots) (λ found. IsNextInto self.old.layout self.old.refs card region from found.0 found.1) }
+        ensures next { MatchOption result
+            (HasNoneInto self.old.layout self.old.refs card region from self.old.layout.slots)
+            (λ found. IsNextInto self.old.layout self.old.refs card region from found.0 found.1) }
         ensures reads { self.new ≡ with_reads self.old (looked_at self.old.layout from result) }
     {
         let layout = self.layout;
@@ -194,7 +206,8 @@ impl Heap {
     /// last card. The call reads no slot. It skips cards that are not dirty many at a time.
     pub fn next_dirty(&self, from: u32) -> Option<Card>
         requires { from ≤ card_count self.now.layout }
-        ensures { MatchOption result (HasNoDirty self.now.marks from) (λ card. IsFirstDirty self.now.marks from card) }
+        ensures { MatchOption result (HasNoDirty self.now.marks from) (λ card.
+            IsFirstDirty self.now.marks from card) }
     {
         let skipped = clean_before(&self.bytes[from as usize..])?;
         self.layout.card(from + skipped as u32)

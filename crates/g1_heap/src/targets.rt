@@ -27,7 +27,9 @@ fn add_each(
     requires within { end ≤ length row.now }
     requires few { length row.now ≤ 64 }
     requires room { array_vec_len targets.old ≤ from }
-    ensures listed { (known : Regions) → IsListedUpTo layout.now row.now known from seen.old targets.old.items → IsListedUpTo layout.now row.now known end seen.new targets.new.items }
+    ensures listed { (known : Regions)
+        → IsListedUpTo layout.now row.now known from seen.old targets.old.items
+        → IsListedUpTo layout.now row.now known end seen.new targets.new.items }
     ensures room { array_vec_len targets.new ≤ end }
 {
     let (_, _, _) = layout.counts();
@@ -55,7 +57,8 @@ pub(crate) fn add_targets(
     requires empty { targets.old.items ≡ [] }
     requires card { card < card_count layout.now }
     requires slots { length words.now ≡ slot_count layout.now }
-    ensures { AreNewTargets layout.now (map (ref_of layout.now) words.now) card known.now targets.new.items }
+    ensures { AreNewTargets layout.now (map (ref_of layout.now) words.now) card known.now
+        targets.new.items }
 {
     let (_, _, slots) = layout.counts();
     let first = layout.first_slot(card).number() as usize;

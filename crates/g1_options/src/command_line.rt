@@ -72,8 +72,8 @@ Exit status:
   4  a read of standard input failed: 'read failed' is printed
   5  a write to standard output failed";
 
-const CREW_ABOUT: &str =
-    "Reads a trace on standard input, runs each mutator in a thread of its own, then drains each region";
+const CREW_ABOUT: &str = "\
+Reads a trace on standard input, runs each mutator in a thread of its own, then drains each region";
 
 const CREW_AFTER_HELP: &str = "\
 Each option takes one decimal whole number, and may be given once. Behind its header the trace has

@@ -88,7 +88,8 @@ fn a_slot_gives_what_was_stored_last(rt: HostRuntime) {
     assert_equal(&rt, heap.layout().counts(), (3, 2, 4));
 }
 
-// Card 1 of region 0 has the slots 4 to 7: they refer into region 2, its own region, region 1 and region 2.
+// Card 1 of region 0 has the slots 4 to 7: they refer into region 2, its own region, region 1 and
+// region 2.
 #[test]
 fn a_card_that_refers_into_two_regions_is_read_once(rt: HostRuntime) {
     let references = [(4, 17), (5, 3), (6, 8), (7, 23), (0, 9)];
@@ -140,7 +141,8 @@ fn assert_numbered(rt: &impl Abort, regions: &[Region], numbers: &[u32]) {
     }
 }
 
-// One reference on a card of nulls, at each slot in turn: in a whole group of slots, and behind the last one.
+// One reference on a card of nulls, at each slot in turn: in a whole group of slots, and behind the
+// last one.
 #[test]
 fn one_reference_is_found_wherever_it_stands(rt: HostRuntime) {
     for slots in [1, 7, 8, 12, 64] {
@@ -152,7 +154,8 @@ fn one_reference_is_found_wherever_it_stands(rt: HostRuntime) {
     }
 }
 
-// Stores the reference to this place of region 2 into a slot of card 1, finds it there alone, and takes it out again.
+// Stores the reference to this place of region 2 into a slot of card 1, finds it there alone, and
+// takes it out again.
 fn assert_found(rt: &impl Abort, heap: &mut Heap, slot: u32, offset: u32, place: u32)
     requires { offset < 64 }
 {
@@ -178,7 +181,8 @@ fn next_into(
     Some((offset, place.number()))
 }
 
-// Card 1 refers to the first and the last place of region 1, beside the last of region 0 and the first of region 2.
+// Card 1 refers to the first and the last place of region 1, beside the last of region 0 and the
+// first of region 2.
 #[test]
 fn the_next_slot_into_a_region_is_not_that_into_its_neighbours(rt: HostRuntime) {
     let references = [(12, 23), (14, 24), (15, 48), (23, 47)];

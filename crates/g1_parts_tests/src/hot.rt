@@ -1,5 +1,5 @@
-//! What no clause says: that the rule of hotness, in counts and cards written out, is the one that is meant, and that
-//! the calls succeed.
+//! What no clause says: that the rule of hotness, in counts and cards written out, is the one that
+//! is meant, and that the calls succeed.
 ghost use Rattle.std.specs.Prelude.{◌≡◌, ◌≤◌, length};
 ghost use Rattle.g1_layout.specs.Shape.{card_count};
 
@@ -9,7 +9,8 @@ use g1_layout::{Card, Layout};
 use std::alloc::Global;
 use std::process::Abort;
 
-/// A ring beside the layout whose cards it counts: 17 regions of 256 cards, more than a ring can hold.
+/// A ring beside the layout whose cards it counts: 17 regions of 256 cards, more than a ring can
+/// hold.
 #[derive(Drop)]
 struct Fixture {
     layout: Layout,
@@ -32,7 +33,8 @@ impl Fixture {
         self.layout.card(number).expect(rt, "a card of the layout")
     }
 
-    /// Offers the card of this number, which does not stand in the ring, after asking what the answer would be.
+    /// Offers the card of this number, which does not stand in the ring, after asking what the
+    /// answer would be.
     fn offer(&mut self, rt: &impl Abort, number: u32) -> Offer {
         let card = self.layout.card(number).expect(rt, "a card of the layout");
         assert!(rt; !self.hot.contains(card), "card {number}");
@@ -57,7 +59,8 @@ impl Fixture {
         assert_equal(rt, self.hot.pop_oldest(), Some(card));
     }
 
-    /// Offers the cards from 0 on, as many as this, to a ring that has room for them and finds each of them hot.
+    /// Offers the cards from 0 on, as many as this, to a ring that has room for them and finds each
+    /// of them hot.
     fn fill(&mut self, rt: &impl Abort, cards: u32) {
         for number in 0..cards {
             self.assert_offers(rt, &[(number, Offer::Kept)]);

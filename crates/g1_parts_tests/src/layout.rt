@@ -71,7 +71,8 @@ fn large_counts_of((regions, cards, slots): (u32, u32, u32)) -> Option<(u32, u32
     Some(Layout::large(regions, cards, slots)?.counts())
 }
 
-// The numbers of a slot, a card and a region, where the heap of 4 regions of 2 cards of 4 slots has them.
+// The numbers of a slot, a card and a region, where the heap of 4 regions of 2 cards of 4 slots has
+// them.
 fn numbers_of(slot: u32, card: u32, region: u32) -> [Option<u32>; 3] {
     let mut numbers = [None; 3];
     let Some(layout) = Layout::new(4, 2, 4) else {

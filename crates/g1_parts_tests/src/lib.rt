@@ -1,5 +1,5 @@
-//! Tests of the parts that a core is made of, a module for each crate, through their public calls: `g1_layout`, `g1_heap`, `g1_hot`,
-//! `g1_log` and `g1_sets`.
+//! Tests of the parts that a core is made of, a module for each crate, through their public calls:
+//! `g1_layout`, `g1_heap`, `g1_hot`, `g1_log` and `g1_sets`.
 #![tactic(auto)]
 
 #[cfg(test)]

@@ -1,4 +1,5 @@
-//! What a proof does not show: that calls succeed, with the cards in the order that was worked out by hand.
+//! What a proof does not show: that calls succeed, with the cards in the order that was worked out
+//! by hand.
 ghost use Rattle.std.specs.Prelude.{◌≡◌};
 
 use crate::checks::{assert_ascending, assert_equal, assert_numbered};
@@ -72,7 +73,8 @@ impl Numbered {
         }
     }
 
-    // How many cards there are in all, and those of some regions: a walk gives the first, and `cards` the second, sorted.
+    // How many cards there are in all, and those of some regions: a walk gives the first, and
+    // `cards` the second, sorted.
     fn assert_sets(&self, rt: &impl Abort, total: u32, wanted: &[Wanted<'_>]) {
         assert_equal(rt, self.sets.total(), total);
         for (region, inserted, sorted) in wanted {

@@ -41,7 +41,8 @@ fn eight_mutators(rt: &impl Abort) -> Options {
     }
 }
 
-/// Where each slot is stored to once, the drains after stores by threads answer what those of the stores one by one do.
+/// Where each slot is stored to once, the drains after stores by threads answer what those of the
+/// stores one by one do.
 fn drains_as_one_by_one<R: Abort + Threads + Wait + Sync + AllocGlobal>(
     rt: &R,
     mode: Mode,

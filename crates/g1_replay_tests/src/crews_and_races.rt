@@ -70,7 +70,8 @@ fn races_have_stores_alone(rt: HostRuntime) -> Result<(), Fail> {
     Ok(())
 }
 
-/// After 23 bytes, the whole first two lines, and after 25, in the middle of the third, nothing is run.
+/// After 23 bytes, the whole first two lines, and after 25, in the middle of the third, nothing is
+/// run.
 #[test]
 fn a_read_that_fails(rt: HostRuntime) -> Result<(), Fail> {
     for mode in [Mode::Crew, Mode::Race] {
@@ -85,7 +86,8 @@ fn a_read_that_fails(rt: HostRuntime) -> Result<(), Fail> {
     Ok(())
 }
 
-/// Of the two lines a beginning is written, and nothing after a failed write; a write that takes no byte is one.
+/// Of the two lines a beginning is written, and nothing after a failed write; a write that takes no
+/// byte is one.
 #[test]
 fn writes_that_fail(rt: HostRuntime) -> Result<(), Fail> {
     let whole = b"stores 0\ndrained\n".as_slice();

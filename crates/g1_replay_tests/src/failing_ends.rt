@@ -30,7 +30,8 @@ fn byte_by_byte(rt: HostRuntime) -> Result<(), Fail> {
     Ok(())
 }
 
-/// The trace up to each of its bytes, behind which a read fails: what its whole lines print comes before.
+/// The trace up to each of its bytes, behind which a read fails: what its whole lines print comes
+/// before.
 #[test]
 fn reads_that_fail(rt: HostRuntime) -> Result<(), Fail> {
     for room in 0..=TRACE.len() {

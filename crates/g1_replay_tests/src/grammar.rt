@@ -1,5 +1,5 @@
-//! Lines that were read by hand, on a heap of 4 regions, 8 cards and 32 slots, with two mutators: what a line prints, where it stands,
-//! shows what it was read as.
+//! Lines that were read by hand, on a heap of 4 regions, 8 cards and 32 slots, with two mutators:
+//! what a line prints, where it stands, shows what it was read as.
 use crate::played::{is_played, two_mutators};
 use g1_replay::{End, Mode, TraceFault};
 use std::process::Abort;
@@ -187,7 +187,8 @@ static FAULTY: [(&str, &[&str]); 8] = [
             "redirect 1 1 1",
         ],
     ),
-    // Over all words, before any number is held against its limit; `null` in the place of a target alone.
+    // Over all words, before any number is held against its limit; `null` in the place of a target
+    // alone.
     (
         "not a number",
         &[

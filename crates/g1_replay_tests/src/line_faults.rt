@@ -94,8 +94,9 @@ For more information, try '--help'.
     }
 }
 
-/// With ample memory this repeats other tests. Where one growth is refused (`rt try --test --fail-alloc N`), it shows that
-/// no text is left then, and that no half of a text or of the options is given.
+/// With ample memory this repeats other tests. Where one growth is refused (`rt try --test
+/// --fail-alloc N`), it shows that no text is left then, and that no half of a text or of the
+/// options is given.
 #[test]
 fn a_refused_growth_leaves_no_text(rt: HostRuntime) {
     let not_in_range = "\

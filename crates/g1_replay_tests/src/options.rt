@@ -152,7 +152,8 @@ fn is_outside(
     let (least, most) = (limits.least.0, limits.most.0);
     let word = format!(in rt.alloc(); "{name}={value}")?;
     let text = format!(in rt.alloc();
-        "error: invalid value '{value}' for '{name} <{unit}>': {value} is not in {least}..={most}\n\n\
+        "error: invalid value '{value}' for '{name} <{unit}>': {value} is not in {least}..={most}\n\
+         \n\
          For more information, try '--help'.\n"
     )?;
     is_refused(rt, &["g1replay", subcommand, word.as_str()], text.as_str());

@@ -8,7 +8,8 @@ use std::io::{BufReader, Read};
 use std::sync::Wait;
 use std::test::Fail;
 
-/// What comes of a trace whose second line begins with `count` times this byte and then has `rest`, through a buffer of 7 bytes.
+/// What comes of a trace whose second line begins with `count` times this byte and then has `rest`,
+/// through a buffer of 7 bytes.
 fn play_line<R: Wait + AllocGlobal>(
     rt: &R,
     byte: u8,
@@ -24,7 +25,8 @@ fn play_line<R: Wait + AllocGlobal>(
     Ok((output, end))
 }
 
-/// 64 bytes are a line, 65 are too many, blank or a remark though they be, and whatever comes behind them.
+/// 64 bytes are a line, 65 are too many, blank or a remark though they be, and whatever comes
+/// behind them.
 #[test]
 fn long_lines(rt: HostRuntime) -> Result<(), Fail> {
     let status = b"status pending 0 recorded 0\n".as_slice();
@@ -69,7 +71,8 @@ fn long_line_before_a_failing_read(rt: HostRuntime) -> Result<(), Fail> {
     Ok(())
 }
 
-/// Nothing behind the line that ends the replay is read: neither behind a fault nor behind a call that is refused.
+/// Nothing behind the line that ends the replay is read: neither behind a fault nor behind a call
+/// that is refused.
 #[test]
 fn lines_one_by_one(rt: HostRuntime) {
     let rows: [(&[u8], &[u8], &[u8]); 5] = [

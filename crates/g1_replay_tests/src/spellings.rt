@@ -1,5 +1,6 @@
-//! Lines of stores on a heap of 4 regions, 8 cards and 32 slots, with two mutators, spelled plainly and otherwise, and cut by the
-//! reader's buffer at each of their bytes: what they print is what the grammar says.
+//! Lines of stores on a heap of 4 regions, 8 cards and 32 slots, with two mutators, spelled plainly
+//! and otherwise, and cut by the reader's buffer at each of their bytes: what they print is what
+//! the grammar says.
 use crate::played::{is_played, two_mutators};
 use g1_replay::{End, Mode, run};
 use std::io::BufReader;
@@ -8,7 +9,8 @@ use std::sync::Wait;
 use std::test::Fail;
 use std::thread::Threads;
 
-/// Few bytes behind a line and many, and what they print where the mutator 1 has logged one card and slot 7 refers so.
+/// Few bytes behind a line and many, and what they print where the mutator 1 has logged one card
+/// and slot 7 refers so.
 const FEW: &str = "flush 1\n";
 
 const MANY: &str = "flush 1\nflush 0\ntarget 7\n# and so many bytes behind it\n";
@@ -139,8 +141,8 @@ fn lines_that_are_nearly_plain(rt: HostRuntime) -> Result<(), Fail> {
 fn lines_across_two_reads(rt: HostRuntime) -> Result<(), Fail> {
     let alloc = rt.alloc();
     let trace =
-        "heap 4 2 4\nstore 0 0 8\nstore  1 4 16\nstore 1 4 null\nstore 0 9 10\nstore 1 31 00\ntarget 0\n\
-                 target 31\nflush 1\nflush 0\n";
+        "heap 4 2 4\nstore 0 0 8\nstore  1 4 16\nstore 1 4 null\nstore 0 9 10\nstore 1 31 00\n\
+                 target 0\ntarget 31\nflush 1\nflush 0\n";
     let wanted =
         "logged\nlogged\nnull\nsame region\nlogged\nslot 8\nslot 0\nflushed 2\nflushed 1\n";
     for capacity in 1..160 {

@@ -4,7 +4,8 @@ ghost use Rattle.std.specs.Prelude.{Some};
 use std::io;
 use std::io::{ErrorKind, Read, Write};
 
-/// A reader that gives one byte a read, fails once when it has given some bytes, and counts its reads.
+/// A reader that gives one byte a read, fails once when it has given some bytes, and counts its
+/// reads.
 #[derive(Drop)]
 pub(crate) struct Fragile<'a> {
     pub bytes: &'a [u8],
@@ -39,7 +40,8 @@ impl<'a> Read for Fragile<'a> {
     }
 }
 
-/// A writer that takes one byte a write, and when it has taken some bytes fails, or takes no more; it counts the writes after that.
+/// A writer that takes one byte a write, and when it has taken some bytes fails, or takes no more;
+/// it counts the writes after that.
 #[derive(Drop)]
 pub(crate) struct Narrow {
     pub bytes: Vec<u8>,

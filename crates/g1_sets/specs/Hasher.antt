@@ -3,7 +3,9 @@ use Rattle.std.specs.Prelude.{ℕ, ◌+◌, ◌*◌, ◌%◌, ◌^◌, List, sli
 
 -- the first four bytes as a number, the lowest first
 abbrev pub first_four : List ℕ → ℕ
-first_four bytes = slice_index bytes 0 + 256 * slice_index bytes 1 + 65536 * slice_index bytes 2 + 16777216 * slice_index bytes 3
+first_four bytes =
+    slice_index bytes 0 + 256 * slice_index bytes 1 + 65536 * slice_index bytes 2
+    + 16777216 * slice_index bytes 3
 
 -- the state after some bytes are written
 abbrev pub after_write : ℕ → List ℕ → ℕ

@@ -14,4 +14,5 @@ rooms_of sets = map spare sets
 
 -- Each of the regions is in the card's row, or has room for one card more.
 abbrev pub HaveRoom : RegionSet → List ℕ → List ℕ → Type 0
-HaveRoom row rooms regions = All (λ region. HasRegion row region ⊎ 0 < slice_index rooms region) regions
+HaveRoom row rooms regions =
+    All (λ region. HasRegion row region ⊎ 0 < slice_index rooms region) regions

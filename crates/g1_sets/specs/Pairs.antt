@@ -1,6 +1,8 @@
--- What contracts see of the remembered sets: the recorded pairs (card, region), and the cards of each
--- region in the order of their insertion.
-use Rattle.std.specs.Prelude.{◌≡◌, ◌≢◌, ◌↔◌, ◌<◌, ℕ, ◌+◌, ◌==◌, not, List, [], ◌∷◌, ◌++◌, map, length, fold, slice_index_or, nat_eq, if◌then◌else◌, replicate, Contains, IsTrue, All, refl}
+-- What contracts see of the remembered sets: the recorded pairs (card, region), and the cards of
+-- each region in the order of their insertion.
+use Rattle.std.specs.Prelude.{◌≡◌, ◌≢◌, ◌↔◌, ◌<◌, ℕ, ◌+◌, ◌==◌, not, List, [], ◌∷◌, ◌++◌, map}
+use Rattle.std.specs.Prelude.{length, fold, slice_index_or, nat_eq, if◌then◌else◌, replicate}
+use Rattle.std.specs.Prelude.{Contains, IsTrue, All, refl}
 use Rattle.std.specs.Coded.{Coded, code_by, coded×, coded_list, coded_ℕ}
 use Rattle.std.specs.FinSet as set
 use Rattle.std.specs.List.{IsDistinct, list_any}
@@ -16,7 +18,10 @@ pub record Pairs : Type 0 where
 -- the sets are stored as the tuple of their fields
 abbrev pub pairs_code : Coded Pairs
 pairs_code =
-    code_by (Shape × (PairSet × List (List ℕ))) (coded× shape_code (coded× (set.code (coded× coded_ℕ coded_ℕ)) (coded_list (coded_list coded_ℕ)))) (λ s. (s.layout, (s.pairs, s.lists))) (λ p. record { layout = p.0; pairs = p.1.0; lists = p.1.1 }) (λ _. refl)
+    code_by (Shape × (PairSet × List (List ℕ)))
+    (coded× shape_code (coded× (set.code (coded× coded_ℕ coded_ℕ))
+    (coded_list (coded_list coded_ℕ)))) (λ s. (s.layout, (s.pairs, s.lists))) (λ p.
+    record { layout = p.0; pairs = p.1.0; lists = p.1.1 }) (λ _. refl)
 
 -- the cards of a region in the order of their insertion
 abbrev pub list_at : List (List ℕ) → ℕ → List ℕ
@@ -51,11 +56,13 @@ pub record AreLists (l : Shape) (lists : List (List ℕ)) : Type 0 where
 -- What all sets keep: a list has just the cards that have a pair at its region.
 pub record AreTied (s : Pairs) : Type 0 where
   pub lists : AreLists s.layout s.lists
-  pub members : (card region : ℕ) → Contains (list_at s.lists region) card ↔ IsTrue (set.contains s.pairs (card, region))
+  pub members : (card region : ℕ) → Contains (list_at s.lists region) card
+      ↔ IsTrue (set.contains s.pairs (card, region))
 
 -- each recorded card lies outside its region
 abbrev pub HasOnlyOutside : Shape → PairSet → Type 0
-HasOnlyOutside l pairs = (card region : ℕ) → IsTrue (set.contains pairs (card, region)) → region_of_card l card ≢ region
+HasOnlyOutside l pairs =
+    (card region : ℕ) → IsTrue (set.contains pairs (card, region)) → region_of_card l card ≢ region
 
 -- no pair is recorded
 abbrev pub new_pairs : Shape → Pairs
@@ -72,8 +79,10 @@ with_cards cards more = fold with_card cards more
 -- The card is inserted into the lists of the regions, and the other lists stay.
 pub record Joins (card : ℕ) (regions : List ℕ) (old new : List (List ℕ)) : Type 0 where
   pub count : length new ≡ length old
-  pub joined : (region : ℕ) → Contains regions region → list_at new region ≡ with_card (list_at old region) card
-  pub others : (region : ℕ) → (Contains regions region → ⊥) → list_at new region ≡ list_at old region
+  pub joined : (region : ℕ) → Contains regions region
+      → list_at new region ≡ with_card (list_at old region) card
+  pub others : (region : ℕ) → (Contains regions region → ⊥)
+      → list_at new region ≡ list_at old region
 
 -- the cards with a recorded pair at the region, ascending, each once
 pub record AreCardsOf (pairs : PairSet) (region : ℕ) (cards : List ℕ) : Type 0 where

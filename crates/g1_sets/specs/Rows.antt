@@ -21,8 +21,12 @@ pub record AreSets (l : Shape) (lists : List (List ℕ)) (rows : List RegionSet)
 
 -- the rows of some cards gained a region
 abbrev pub RowsGain : List ℕ → ℕ → List RegionSet → List RegionSet → Type 0
-RowsGain cards region old new = (card r : ℕ) → HasRegion (row_at new card) r ↔ (HasRegion (row_at old card) r ⊎ (Contains cards card × (r ≡ region)))
+RowsGain cards region old new =
+    (card r : ℕ) → HasRegion (row_at new card) r
+    ↔ (HasRegion (row_at old card) r ⊎ (Contains cards card × (r ≡ region)))
 
 -- the rows of some cards lost a region
 abbrev pub RowsLose : List ℕ → ℕ → List RegionSet → List RegionSet → Type 0
-RowsLose cards region old new = (card r : ℕ) → HasRegion (row_at new card) r ↔ (HasRegion (row_at old card) r × ¬ (Contains cards card × (r ≡ region)))
+RowsLose cards region old new =
+    (card r : ℕ) → HasRegion (row_at new card) r
+    ↔ (HasRegion (row_at old card) r × ¬ (Contains cards card × (r ≡ region)))

@@ -1,5 +1,6 @@
 //! The set of one region, and the sets of all.
-ghost use Rattle.std.specs.Prelude.{◌≡◌, ◌<◌, ◌≤◌, ◌+◌, ◌^◌, ◌∷◌, [], ℕ, List, length, slice_index, slice_set, sum_by, All, OnOk, OnErr};
+ghost use Rattle.std.specs.Prelude.{◌≡◌, ◌<◌, ◌≤◌, ◌+◌, ◌^◌, ◌∷◌, [], ℕ, List, length, slice_index};
+ghost use Rattle.std.specs.Prelude.{slice_set, sum_by, All, OnOk, OnErr};
 ghost use Rattle.indexmap.specs.IndexSet.{spare};
 ghost use Rattle.g1_sets.specs.Members.{lists_of, rooms_of, HaveRoom};
 ghost use Rattle.g1_sets.specs.Pairs.{list_at, with_card, with_cards, Joins};
@@ -96,7 +97,8 @@ fn insert_first(
     requires row { IsRowOf (lists_of sets.old) card row.old }
     ensures joins { OnOk result (Joins card (region ∷ []) (lists_of sets.old) (lists_of sets.new)) }
     ensures row { OnOk result (IsRowOf (lists_of sets.new) card row.new) }
-    ensures room { OnOk result ((regions : List ℕ) → HaveRoom row.old (rooms_of sets.old) regions → HaveRoom row.new (rooms_of sets.new) regions) }
+    ensures room { OnOk result ((regions : List ℕ) → HaveRoom row.old (rooms_of sets.old) regions
+        → HaveRoom row.new (rooms_of sets.new) regions) }
     ensures err { OnErr result (lists_of sets.new ≡ lists_of sets.old) }
     ensures err_row { OnErr result (row.new ≡ row.old) }
 {
@@ -158,7 +160,8 @@ pub(crate) fn make_room_for(
 pub(crate) fn insert_many(sets: &mut [Members], region: Region, cards: &[Card])
     requires within { region < length sets.old }
     requires room { length cards.now ≤ slice_index (rooms_of sets.old) region }
-    ensures { lists_of sets.new ≡ slice_set (lists_of sets.old) region (with_cards (list_at (lists_of sets.old) region) cards.now) }
+    ensures { lists_of sets.new ≡ slice_set (lists_of sets.old) region
+        (with_cards (list_at (lists_of sets.old) region) cards.now) }
 {
     insert_cards(&mut sets[region.number() as usize], cards);
 }

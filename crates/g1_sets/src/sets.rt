@@ -1,10 +1,12 @@
 //! The sets of all regions, and what is recorded in them.
-ghost use Rattle.std.specs.Prelude.{◌≡◌, ◌↔◌, ◌<◌, ℕ, length, min, replicate, [], Some, slice_get, slice_set, All, IsTrue, IfOk, OnOk, OnErr};
+ghost use Rattle.std.specs.Prelude.{◌≡◌, ◌↔◌, ◌<◌, ℕ, length, min, replicate, [], Some, slice_get};
+ghost use Rattle.std.specs.Prelude.{slice_set, All, IsTrue, IfOk, OnOk, OnErr};
 ghost use Rattle.std.specs.FinSet as set;
 ghost use Rattle.g1_layout.specs.Shape.{IsWithinProfile, card_count};
 ghost use Rattle.g1_layout.specs.Regions.{HasRegion};
 ghost use Rattle.g1_sets.specs.Members.{lists_of};
-ghost use Rattle.g1_sets.specs.Pairs.{list_at, of_card, of_region, with_cards, without, new_pairs, HasOnlyOutside, AreCardsOf, AreTied, Joins};
+ghost use Rattle.g1_sets.specs.Pairs.{list_at, of_card, of_region, with_cards, without, new_pairs};
+ghost use Rattle.g1_sets.specs.Pairs.{HasOnlyOutside, AreCardsOf, AreTied, Joins};
 
 use crate::ascending::ascending;
 use crate::members::{Members, insert_many, join, make_room_for, total};
@@ -37,7 +39,11 @@ impl Model for Sets {
 
     ghost coded = { pairs_code };
 
-    ghost view = { λ a. record { layout = a.layout; pairs = pairs_of (lists_of a.sets.items); lists = lists_of a.sets.items } };
+    ghost view = { λ a. record {
+      layout = a.layout;
+      pairs = pairs_of (lists_of a.sets.items);
+      lists = lists_of a.sets.items;
+    } };
 
     ghost invariant = { λ a. AreSets a.layout (lists_of a.sets.items) a.rows.items };
 }
@@ -75,7 +81,8 @@ impl Sets {
     /// The regions for which the card is recorded. Constant time.
     pub fn regions_of(&self, card: Card) -> &RegionSet
         requires { card < card_count self.now.layout }
-        ensures { (region : ℕ) → HasRegion result.now region ↔ IsTrue (set.contains self.now.pairs (card, region)) }
+        ensures { (region : ℕ) → HasRegion result.now region
+            ↔ IsTrue (set.contains self.now.pairs (card, region)) }
     {
         &self.rows[card.number() as usize]
     }
@@ -90,7 +97,8 @@ impl Sets {
         requires card { card < card_count self.old.layout }
         requires regions { All (λ region. region < self.old.layout.regions) regions.now }
         ensures layout { OnOk result (self.new.layout ≡ self.old.layout) }
-        ensures pairs { OnOk result (self.new.pairs ≡ set.union self.old.pairs (of_card card regions.now)) }
+        ensures pairs { OnOk result
+            (self.new.pairs ≡ set.union self.old.pairs (of_card card regions.now)) }
         ensures lists { OnOk result (Joins card regions.now self.old.lists self.new.lists) }
         ensures err { OnErr result (self.new ≡ self.old) }
     {
@@ -109,8 +117,11 @@ impl Sets {
         requires cards { All (λ card. card < card_count self.old.layout) cards.now }
         requires region { region < self.old.layout.regions }
         ensures layout { OnOk result (self.new.layout ≡ self.old.layout) }
-        ensures pairs { OnOk result (self.new.pairs ≡ set.union self.old.pairs (of_region cards.now region)) }
-        ensures lists { OnOk result (self.new.lists ≡ slice_set self.old.lists region (with_cards (list_at self.old.lists region) cards.now)) }
+        ensures pairs { OnOk result
+            (self.new.pairs ≡ set.union self.old.pairs (of_region cards.now region)) }
+        ensures lists { OnOk result
+            (self.new.lists ≡ slice_set self.old.lists region
+            (with_cards (list_at self.old.lists region) cards.now)) }
         ensures err { OnErr result (self.new ≡ self.old) }
     {
         let _ = self.layout.counts();
@@ -149,7 +160,8 @@ impl Sets {
     /// `u32`.
     pub fn total(&self) -> u32
         ensures total { result ≡ min (set.len self.now.pairs) 4294967295 }
-        ensures outside { HasOnlyOutside self.now.layout self.now.pairs → result ≡ set.len self.now.pairs }
+        ensures outside { HasOnlyOutside self.now.layout self.now.pairs
+            → result ≡ set.len self.now.pairs }
         ensures profile { IsWithinProfile self.now.layout → result ≡ set.len self.now.pairs }
     {
         let _ = self.layout.counts();

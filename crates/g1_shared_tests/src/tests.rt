@@ -1,4 +1,5 @@
-//! Two mutators and a refinement thread at a shared core: up to a pause, and on until no call more may be made.
+//! Two mutators and a refinement thread at a shared core: up to a pause, and on until no call more
+//! may be made.
 ghost use Rattle.std.specs.Prelude.{◌≡◌, ◌<◌, Some, All, IfOk};
 ghost use Rattle.g1_layout.specs.Shape.{slot_count};
 ghost use Rattle.g1_shared.specs.Callers.{IsCallerOf, mark_of};
@@ -244,8 +245,8 @@ fn play<M: Frame + Send + Sync, S: Ledger + Send + Sync, R: Threads + Wait + Abo
     Ok(shared.finish(callers))
 }
 
-/// The callers make 50 calls, of which 40 are stores, before the pause; the pause has four drains. Then six calls more are
-/// made, whoever makes them, and all others are refused.
+/// The callers make 50 calls, of which 40 are stores, before the pause; the pause has four drains.
+/// Then six calls more are made, whoever makes them, and all others are refused.
 #[test]
 fn a_shared_core_stops_at_its_limit(rt: HostRuntime) -> Result<(), Fail> {
     let layout = Layout::new(4, 2, 4).expect(&rt, "a layout within the limits");

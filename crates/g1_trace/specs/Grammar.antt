@@ -1,9 +1,11 @@
 -- What a line of a trace means: the header, or a command.
-use Rattle.std.specs.Prelude.{◌≢◌, ℕ, ◌<◌, ◌*◌, List, [], ◌∷◌, ◌==◌, nat_lt, ◌&&◌, if◌then◌else◌, Bool, true, false, Result, Ok, Err, Option, Some, None, IfSome, codes}
+use Rattle.std.specs.Prelude.{◌≢◌, ℕ, ◌<◌, ◌*◌, List, [], ◌∷◌, ◌==◌, nat_lt, ◌&&◌, if◌then◌else◌}
+use Rattle.std.specs.Prelude.{Bool, true, false, Result, Ok, Err, Option, Some, None, IfSome, codes}
 use Rattle.std.specs.Str.{bytes_eq}
 use Rattle.g1_layout.specs.Shape.{Shape, slot_count, card_count}
 use Rattle.g1_core.specs.declared.entry.Call.{Call}
-use Rattle.g1_core.specs.declared.entry.Call.TheVariants.{Target, Pending, Members, Status, Drain, Clear, Redirect}
+use Rattle.g1_core.specs.declared.entry.Call.TheVariants.{Target, Pending, Members, Status, Drain}
+use Rattle.g1_core.specs.declared.entry.Call.TheVariants.{Clear, Redirect}
 use Rattle.g1_trace.specs.declared.command.Command.{Command}
 use Rattle.g1_trace.specs.declared.command.Command.TheVariants as command
 use Rattle.g1_trace.specs.declared.command.Command.TheVariants.{Store, Flush, Refine, Work}
@@ -11,9 +13,11 @@ use Rattle.g1_trace.specs.declared.mode.Mode.{Mode}
 use Rattle.g1_trace.specs.declared.mode.Mode.TheVariants.{Run, Crew, Race}
 use Rattle.g1_trace.specs.declared.dialect.Dialect.{Dialect}
 use Rattle.g1_trace.specs.declared.fault.TraceFault.{TraceFault}
-use Rattle.g1_trace.specs.declared.fault.TraceFault.TheVariants.{NoHeader, NoCommand, BadHeap, Twice}
+use Rattle.g1_trace.specs.declared.fault.TraceFault.TheVariants.{NoHeader, NoCommand, BadHeap}
+use Rattle.g1_trace.specs.declared.fault.TraceFault.TheVariants.{Twice}
 use Rattle.g1_trace.specs.Words.{words_from, is_remark_word, ◌>>=◌}
-use Rattle.g1_trace.specs.Places.{read_none, read_one, read_two, read_three, mutator_place, slot_place, target_place, card_place, region_place, number_place}
+use Rattle.g1_trace.specs.Places.{read_none, read_one, read_two, read_three, mutator_place}
+use Rattle.g1_trace.specs.Places.{slot_place, target_place, card_place, region_place, number_place}
 
 -- two regions, which differ
 abbrev pub redirect_of : ℕ → ℕ → Result Call TraceFault
@@ -35,20 +39,28 @@ has_stores_alone Race = true
 unfoldable pub read_call : Shape → List ℕ → List (List ℕ) → Result Call TraceFault
 read_call l name words =
     if bytes_eq name (codes "target") then (read_one (slot_place l) words >>= λ v. Ok (Target v))
-    else if bytes_eq name (codes "pending") then (read_one (card_place l) words >>= λ v. Ok (Pending v))
-    else if bytes_eq name (codes "members") then (read_one (region_place l) words >>= λ v. Ok (Members v))
+    else if bytes_eq name (codes "pending")
+    then (read_one (card_place l) words >>= λ v. Ok (Pending v))
+    else if bytes_eq name (codes "members")
+    then (read_one (region_place l) words >>= λ v. Ok (Members v))
     else if bytes_eq name (codes "status") then (read_none words >>= λ _. Ok Status)
-    else if bytes_eq name (codes "drain") then (read_one (region_place l) words >>= λ v. Ok (Drain v))
-    else if bytes_eq name (codes "clear") then (read_one (region_place l) words >>= λ v. Ok (Clear v))
-    else if bytes_eq name (codes "redirect") then (read_two (region_place l) (region_place l) words >>= λ v. redirect_of v.0 v.1)
+    else if bytes_eq name (codes "drain")
+    then (read_one (region_place l) words >>= λ v. Ok (Drain v))
+    else if bytes_eq name (codes "clear")
+    then (read_one (region_place l) words >>= λ v. Ok (Clear v))
+    else if bytes_eq name (codes "redirect")
+    then (read_two (region_place l) (region_place l) words >>= λ v. redirect_of v.0 v.1)
     else Err NoCommand
 
 -- the commands
 unfoldable pub read_named : Shape → Dialect → List ℕ → List (List ℕ) → Result Command TraceFault
 read_named l d name words =
-    if bytes_eq name (codes "store") then (read_three (mutator_place d.mutators) (slot_place l) (target_place l) words >>= λ v. Ok (Store v.0 v.1 v.2))
+    if bytes_eq name (codes "store")
+    then (read_three (mutator_place d.mutators) (slot_place l) (target_place l) words >>= λ v.
+    Ok (Store v.0 v.1 v.2))
     else if has_stores_alone d.mode then Err NoCommand
-    else if bytes_eq name (codes "flush") then (read_one (mutator_place d.mutators) words >>= λ v. Ok (Flush v))
+    else if bytes_eq name (codes "flush")
+    then (read_one (mutator_place d.mutators) words >>= λ v. Ok (Flush v))
     else if is_script d.mode then Err NoCommand
     else if bytes_eq name (codes "refine") then (read_none words >>= λ _. Ok Refine)
     else if bytes_eq name (codes "work") then (read_none words >>= λ _. Ok Work)
@@ -66,15 +78,19 @@ read_command l d line = command_words l d (words_from [] line)
 
 -- the counts of a heap are within their limits
 abbrev pub is_heap : ℕ → ℕ → ℕ → Bool
-is_heap r c s = nat_lt 0 r && nat_lt r 257 && nat_lt 0 c && nat_lt c 257 && nat_lt 0 s && nat_lt s 65 && nat_lt (r * c * s) 1048577
+is_heap r c s =
+    nat_lt 0 r && nat_lt r 257 && nat_lt 0 c && nat_lt c 257 && nat_lt 0 s && nat_lt s 65 && nat_lt
+    (r * c * s) 1048577
 
 abbrev pub heap_of : ℕ → ℕ → ℕ → Result Shape TraceFault
-heap_of r c s = if is_heap r c s then Ok (record { regions = r; cards = c; slots = s }) else Err BadHeap
+heap_of r c s =
+    if is_heap r c s then Ok (record { regions = r; cards = c; slots = s }) else Err BadHeap
 
 -- the header: `heap` and three counts
 unfoldable pub read_opening : List ℕ → List (List ℕ) → Result Shape TraceFault
 read_opening name words =
-    if bytes_eq name (codes "heap") then (read_three number_place number_place number_place words >>= λ v. heap_of v.0 v.1 v.2)
+    if bytes_eq name (codes "heap")
+    then (read_three number_place number_place number_place words >>= λ v. heap_of v.0 v.1 v.2)
     else Err NoHeader
 
 -- a line before the header is empty, a remark or the header
@@ -100,7 +116,8 @@ IsCallOf l _ = ⊥
 
 -- the command's numbers are those of mutators and of the heap
 abbrev pub IsCommandOf : Shape → ℕ → Command → Type 0
-IsCommandOf l m (Store mutator slot target) = (mutator < m) × (slot < slot_count l) × IfSome target (λ t. t < slot_count l)
+IsCommandOf l m (Store mutator slot target) =
+    (mutator < m) × (slot < slot_count l) × IfSome target (λ t. t < slot_count l)
 IsCommandOf l m (Flush mutator) = mutator < m
 IsCommandOf l m Refine = Unit {0}
 IsCommandOf l m Work = Unit {0}

@@ -1,9 +1,11 @@
 -- What may stand in the places behind the first word of a line.
-use Rattle.std.specs.Prelude.{ℕ, List, [], ◌∷◌, nat_lt, if◌then◌else◌, Result, Ok, Err, Option, Some, None, codes}
+use Rattle.std.specs.Prelude.{ℕ, List, [], ◌∷◌, nat_lt, if◌then◌else◌, Result, Ok, Err, Option}
+use Rattle.std.specs.Prelude.{Some, None, codes}
 use Rattle.std.specs.Str.{bytes_eq}
 use Rattle.g1_layout.specs.Shape.{Shape, slot_count, card_count}
 use Rattle.g1_trace.specs.declared.fault.TraceFault.{TraceFault}
-use Rattle.g1_trace.specs.declared.fault.TraceFault.TheVariants.{Words, NoMutator, NoSlot, NoCard, NoRegion}
+use Rattle.g1_trace.specs.declared.fault.TraceFault.TheVariants.{Words, NoMutator, NoSlot, NoCard}
+use Rattle.g1_trace.specs.declared.fault.TraceFault.TheVariants.{NoRegion}
 use Rattle.g1_trace.specs.Words.{read_number, ◌>>=◌}
 
 -- how a word in a place is read, and which of the values fit there
@@ -69,7 +71,8 @@ read_two p q (a ∷ b ∷ []) = do
   Ok (v, w)
 read_two p q _ = Err Words
 
-abbrev pub read_three : {V W U : Type 0} → Place V → Place W → Place U → List (List ℕ) → Result (V × W × U) TraceFault
+abbrev pub read_three : {V W U : Type 0} → Place V → Place W → Place U → List (List ℕ)
+    → Result (V × W × U) TraceFault
 read_three p q r (a ∷ b ∷ c ∷ []) = do
   x ← p.read a
   y ← q.read b

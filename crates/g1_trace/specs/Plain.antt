@@ -22,7 +22,8 @@ pub record IsTargetBefore (bytes : List ℕ) (target : Option ℕ) (rest : List 
   pub read : read_target word ≡ Ok target
 
 -- The first `count` bytes are a line, its line feed among them, that asks for this.
-pub record IsLineBefore (l : Shape) (d : Dialect) (bytes : List ℕ) (command : Command) (count : ℕ) : Type 0 where
+pub record IsLineBefore (l : Shape) (d : Dialect) (bytes : List ℕ) (command : Command)
+    (count : ℕ) : Type 0 where
   pub line : List ℕ
   pub front : take count bytes ≡ line ++ 10 ∷ []
   pub part : IsPart line

@@ -1,5 +1,6 @@
 -- The output lines, each with its line feed: by their numbers, then by what the calls answer.
-use Rattle.std.specs.Prelude.{ℕ, Bool, true, false, List, [], ◌∷◌, ◌++◌, Option, Some, None, codes, decimal, length, if◌then◌else◌, ◌==◌, ◌&&◌, not}
+use Rattle.std.specs.Prelude.{ℕ, Bool, true, false, List, [], ◌∷◌, ◌++◌, Option, Some, None, codes}
+use Rattle.std.specs.Prelude.{decimal, length, if◌then◌else◌, ◌==◌, ◌&&◌, not}
 use Rattle.g1_layout.specs.declared.kind.Kind.{Kind}
 use Rattle.g1_layout.specs.declared.kind.Kind.TheVariants.{SameRegion, Null, AlreadyDirty, Logged}
 use Rattle.g1_core.specs.declared.reply.Fill.{Fill}
@@ -14,7 +15,10 @@ use Rattle.g1_core.specs.declared.entry.Reply.TheVariants as reply
 use Rattle.g1_core.specs.declared.reply.ClearReply.{ClearReply}
 use Rattle.g1_core.specs.declared.reply.ClearReply.TheVariants as clear_reply
 use Rattle.g1_trace.specs.declared.fault.TraceFault.{TraceFault}
-use Rattle.g1_trace.specs.declared.fault.TraceFault.TheVariants.{TooLong, Cut, NoHeader, NoCommand, Words, NotNumber, BadHeap, NoMutator, NoSlot, NoCard, NoRegion, Twice}
+use Rattle.g1_trace.specs.declared.fault.TraceFault.TheVariants.{TooLong, Cut, NoHeader, NoCommand}
+use Rattle.g1_trace.specs.declared.fault.TraceFault.TheVariants.{Words, NotNumber, BadHeap}
+use Rattle.g1_trace.specs.declared.fault.TraceFault.TheVariants.{NoMutator, NoSlot, NoCard}
+use Rattle.g1_trace.specs.declared.fault.TraceFault.TheVariants.{NoRegion, Twice}
 
 -- words and the number behind them
 abbrev pub counted : List ℕ → ℕ → List ℕ
@@ -48,17 +52,23 @@ flushed_end Full _ short = ending short
 flushed_end Helped helped short = counted (codes " helped ") helped ++ ending short
 
 abbrev pub flushed_line : (cards : ℕ) → Fill → (helped : ℕ) → (short : Bool) → List ℕ
-flushed_line cards fill helped short = counted (codes "flushed ") cards ++ flushed_end fill helped short
+flushed_line cards fill helped short =
+    counted (codes "flushed ") cards ++ flushed_end fill helped short
 
 abbrev pub turned_text : (refined hot skipped : ℕ) → List ℕ
-turned_text refined hot skipped = counted (codes "refined ") refined ++ counted (codes " hot ") hot ++ counted (codes " skipped ") skipped
+turned_text refined hot skipped =
+    counted (codes "refined ") refined ++ counted (codes " hot ") hot
+    ++ counted (codes " skipped ") skipped
 
 abbrev pub refined_line : (taken refined hot skipped : ℕ) → (short : Bool) → List ℕ
-refined_line taken refined hot skipped short = if (taken == 0) && not short then codes "idle\n" else turned_text refined hot skipped ++ ending short
+refined_line taken refined hot skipped short =
+    if (taken == 0) && not short then codes "idle\n"
+    else turned_text refined hot skipped ++ ending short
 
 abbrev pub worked_line : (taken refined hot skipped left : ℕ) → (short : Bool) → List ℕ
 worked_line taken refined hot skipped left short =
-    counted (codes "worked ") taken ++ (codes " " ++ turned_text refined hot skipped) ++ counted (codes " left ") left ++ ending short
+    counted (codes "worked ") taken ++ (codes " " ++ turned_text refined hot skipped)
+    ++ counted (codes " left ") left ++ ending short
 
 abbrev pub target_text : Option ℕ → List ℕ
 target_text None = codes "null\n"
@@ -72,7 +82,8 @@ abbrev pub members_text : List ℕ → List ℕ
 members_text cards = codes "cards" ++ list_text cards ++ codes "\n"
 
 abbrev pub status_line : (pending recorded : ℕ) → List ℕ
-status_line pending recorded = counted (codes "status pending ") pending ++ counted (codes " recorded ") recorded ++ codes "\n"
+status_line pending recorded =
+    counted (codes "status pending ") pending ++ counted (codes " recorded ") recorded ++ codes "\n"
 
 abbrev pub drained_line : List ℕ → List ℕ
 drained_line cards = codes "drained" ++ list_text cards ++ codes "\n"
@@ -104,7 +115,8 @@ clear_text clear_reply.Cleared = codes "cleared\n"
 clear_text (clear_reply.Pending cards) = still_pending_line cards
 clear_text (clear_reply.StillReferenced slot) = still_referenced_line slot
 
--- The line of a call by its reply: a question, a drain, a clear or a redirect. Nothing for another, or for a reply that no such call has.
+-- The line of a call by its reply: a question, a drain, a clear or a redirect. Nothing for another,
+-- or for a reply that no such call has.
 abbrev pub call_line : Call → Reply → List ℕ
 call_line (call.Target slot) (reply.Target target) = target_text target
 call_line (call.Pending card) (reply.Pending answer) = pending_text answer
@@ -132,7 +144,8 @@ fault_text NoRegion = codes "no such region"
 fault_text Twice = codes "same region twice"
 
 abbrev pub fault_line : (number : ℕ) → TraceFault → List ℕ
-fault_line number fault = counted (codes "line ") number ++ codes ": " ++ fault_text fault ++ codes "\n"
+fault_line number fault =
+    counted (codes "line ") number ++ codes ": " ++ fault_text fault ++ codes "\n"
 
 -- how many stores there were
 abbrev pub stores_text : ℕ → List ℕ

@@ -3,7 +3,8 @@
 ghost use Rattle.std.specs.Prelude.{◌≡◌, ℕ, [], IfOk, IfSome};
 ghost use Rattle.g1_trace.specs.Words.{words_from};
 ghost use Rattle.g1_layout.specs.Shape.{IsShape};
-ghost use Rattle.g1_trace.specs.Grammar.{has_stores_alone, is_script, read_call, read_named, read_command, redirect_of, IsCallOf, IsCommandOf};
+ghost use Rattle.g1_trace.specs.Grammar.{has_stores_alone, is_script, read_call, read_named};
+ghost use Rattle.g1_trace.specs.Grammar.{read_command, redirect_of, IsCallOf, IsCommandOf};
 
 use crate::command::Command;
 use crate::dialect::Dialect;

@@ -1,6 +1,7 @@
 //! The text of a list of cards. A short list is written in one block with its line, a longer one in
 //! many.
-ghost use Rattle.std.specs.Prelude.{◌≡◌, ℕ, List, [], ◌++◌, ◌+◌, ◌-◌, ◌*◌, ◌<◌, ◌≤◌, length, drop, MatchResult, codes};
+ghost use Rattle.std.specs.Prelude.{◌≡◌, ℕ, List, [], ◌++◌, ◌+◌, ◌-◌, ◌*◌, ◌<◌, ◌≤◌, length, drop};
+ghost use Rattle.std.specs.Prelude.{MatchResult, codes};
 ghost use Rattle.std.specs.Io.KnownBytes.{Appends};
 ghost use Rattle.g1_trace.specs.Bytes.{Puts};
 ghost use Rattle.g1_trace.specs.Text.{list_text};
@@ -78,7 +79,8 @@ pub fn put_cards<W: Write>(
     words: &[u8],
     cards: &CardList,
 ) -> Result<(), WriteFailed>
-    ensures { Puts (W.contents output.old) (W.contents output.new) result (words.now ++ list_text cards.now ++ codes "\n") }
+    ensures { Puts (W.contents output.old) (W.contents output.new) result
+        (words.now ++ list_text cards.now ++ codes "\n") }
 {
     let cards = cards.as_slice();
     if words.len() <= SHORT_WORDS && cards.len() <= SHORT_CARDS {
@@ -94,7 +96,8 @@ pub fn put_cards<W: Write>(
 fn put_short<W: Write>(output: &mut W, words: &[u8], cards: &[Card]) -> Result<(), WriteFailed>
     requires words { length words.now ≤ SHORT_WORDS }
     requires cards { length cards.now ≤ SHORT_CARDS }
-    ensures { Puts (W.contents output.old) (W.contents output.new) result (words.now ++ list_text cards.now ++ codes "\n") }
+    ensures { Puts (W.contents output.old) (W.contents output.new) result
+        (words.now ++ list_text cards.now ++ codes "\n") }
 {
     let mut line = [0u8; SHORT_BYTES];
     let end = ending_at_end(&mut line, false);

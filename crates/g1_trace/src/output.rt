@@ -2,7 +2,8 @@
 //!
 //! A write that fails, or that takes no byte, is a failed write. Nothing is tried again, and a
 //! beginning of the text stays written (docs/TRACES.md, Ends).
-ghost use Rattle.std.specs.Prelude.{◌≡◌, ℕ, List, [], ◌++◌, ◌+◌, ◌<◌, ◌≤◌, length, take, drop, MatchResult, decimal, IfOk, OnErr, if◌then◌else◌};
+ghost use Rattle.std.specs.Prelude.{◌≡◌, ℕ, List, [], ◌++◌, ◌+◌, ◌<◌, ◌≤◌, length, take, drop};
+ghost use Rattle.std.specs.Prelude.{MatchResult, decimal, IfOk, OnErr, if◌then◌else◌};
 ghost use Rattle.std.specs.Io.KnownBytes.{Appends};
 ghost use Rattle.g1_trace.specs.Bytes.{Puts};
 ghost use Rattle.g1_trace.specs.Text.{counted, ending};
@@ -33,7 +34,8 @@ pub fn put<W: Write>(output: &mut W, bytes: &[u8]) -> Result<(), WriteFailed>
 #[inline(always)]
 fn write_some<W: Write>(output: &mut W, bytes: &[u8]) -> Result<usize, WriteFailed>
     ensures count { IfOk result (λ n. (0 < n) × (n ≤ length bytes.now)) }
-    ensures written { IfOk result (λ n. Appends (W.contents output.old) (W.contents output.new) (take n bytes.now)) }
+    ensures written { IfOk result (λ n.
+        Appends (W.contents output.old) (W.contents output.new) (take n bytes.now)) }
     ensures failed { OnErr result (Appends (W.contents output.old) (W.contents output.new) []) }
 {
     match output.write(bytes) {
@@ -53,7 +55,8 @@ pub fn put_either<W: Write>(
     yes: &[u8],
     no: &[u8],
 ) -> Result<(), WriteFailed>
-    ensures { Puts (W.contents output.old) (W.contents output.new) result (if choice then yes.now else no.now) }
+    ensures { Puts (W.contents output.old) (W.contents output.new) result
+        (if choice then yes.now else no.now) }
 {
     // Two calls, so that each copies a text of known length.
     if choice {
@@ -120,7 +123,8 @@ pub(crate) fn put_between<W: Write>(
     number: u64,
     behind: &[u8],
 ) -> Result<(), WriteFailed>
-    ensures { Puts (W.contents output.old) (W.contents output.new) result (counted before.now number ++ behind.now) }
+    ensures { Puts (W.contents output.old) (W.contents output.new) result
+        (counted before.now number ++ behind.now) }
 {
     put(output, before)?;
     put_number(output, number)?;

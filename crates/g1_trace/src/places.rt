@@ -6,9 +6,12 @@
 
 ghost use Rattle.std.specs.Prelude.{◌≡◌, ◌<◌, ℕ, [], min, IfOk, IfSome};
 ghost use Rattle.g1_layout.specs.Shape.{IsShape, slot_count, card_count};
-ghost use Rattle.g1_trace.specs.declared.fault.TraceFault.TheVariants.{NoMutator, NoSlot, NoCard, NoRegion};
+ghost use Rattle.g1_trace.specs.declared.fault.TraceFault.TheVariants.{NoMutator, NoSlot, NoCard};
+ghost use Rattle.g1_trace.specs.declared.fault.TraceFault.TheVariants.{NoRegion};
 ghost use Rattle.g1_trace.specs.Words.{words_from, read_number};
-ghost use Rattle.g1_trace.specs.Places.{fit_below, fit_target, read_target, read_none, read_one, read_two, read_three, mutator_place, slot_place, card_place, region_place, target_place, number_place};
+ghost use Rattle.g1_trace.specs.Places.{fit_below, fit_target, read_target, read_none, read_one};
+ghost use Rattle.g1_trace.specs.Places.{read_two, read_three, mutator_place, slot_place};
+ghost use Rattle.g1_trace.specs.Places.{card_place, region_place, target_place, number_place};
 
 use crate::fault::TraceFault;
 use crate::words::{is, is_blank, one_word, three_words, two_words};
@@ -160,7 +163,8 @@ pub fn one_region(layout: Layout, words: &[u8]) -> Result<Region, TraceFault>
 #[tactic(auto, using(crate::proofs::PlaceLemmas::not_two))]
 pub fn two_regions(layout: Layout, words: &[u8]) -> Result<(Region, Region), TraceFault>
     requires { IsShape layout }
-    ensures read { result ≡ read_two (region_place layout) (region_place layout) (words_from [] words.now) }
+    ensures read { result ≡ read_two (region_place layout) (region_place layout)
+        (words_from [] words.now) }
     ensures valid { IfOk result (λ p. (p.0 < layout.regions) × (p.1 < layout.regions)) }
 {
     let Some(((_, first), (_, second))) = two_words(words) else {
@@ -181,8 +185,10 @@ pub fn store_places(
     words: &[u8],
 ) -> Result<(u32, Slot, Option<Slot>), TraceFault>
     requires { IsShape layout }
-    ensures read { result ≡ read_three (mutator_place mutators) (slot_place layout) (target_place layout) (words_from [] words.now) }
-    ensures valid { IfOk result (λ p. (p.0 < mutators) × (p.1 < slot_count layout) × IfSome p.2 (λ t. t < slot_count layout)) }
+    ensures read { result ≡ read_three (mutator_place mutators) (slot_place layout)
+        (target_place layout) (words_from [] words.now) }
+    ensures valid { IfOk result (λ p. (p.0 < mutators) × (p.1 < slot_count layout)
+        × IfSome p.2 (λ t. t < slot_count layout)) }
 {
     let Some(((_, first), (_, second), (word, third))) = three_words(words) else {
         return Err(TraceFault::Words);

@@ -1,8 +1,10 @@
 //! The words of a line, and the numbers that words are.
 
-ghost use Rattle.std.specs.Prelude.{◌≡◌, ◌≢◌, List, [], ◌∷◌, ◌≤◌, ◌<◌, length, take, drop, slice_index, true, false, Ok, IfSome, IsNone};
+ghost use Rattle.std.specs.Prelude.{◌≡◌, ◌≢◌, List, [], ◌∷◌, ◌≤◌, ◌<◌, length, take, drop};
+ghost use Rattle.std.specs.Prelude.{slice_index, true, false, Ok, IfSome, IsNone};
 ghost use Rattle.std.specs.Str.{bytes_eq};
-ghost use Rattle.g1_trace.specs.Words.{words_from, with_word, read_digits, read_number, is_remark_word};
+ghost use Rattle.g1_trace.specs.Words.{words_from, with_word, read_digits, read_number};
+ghost use Rattle.g1_trace.specs.Words.{is_remark_word};
 
 use crate::fault::TraceFault;
 
@@ -26,7 +28,8 @@ fn spaces(bytes: &[u8]) -> usize
 // How many bytes the bytes begin with that are no space.
 fn word_len(bytes: &[u8]) -> usize
     ensures bound { result ≤ length bytes.now }
-    ensures word { words_from [] bytes.now ≡ with_word (take result bytes.now) (words_from [] (drop result bytes.now)) }
+    ensures word { words_from [] bytes.now
+        ≡ with_word (take result bytes.now) (words_from [] (drop result bytes.now)) }
     ensures some { 0 < length bytes.now → slice_index bytes.now 0 ≢ 32 → 0 < result }
 {
     for (i, byte) in bytes.iter().enumerate() {
@@ -84,7 +87,8 @@ pub fn leading_digits(bytes: &[u8]) -> (usize, u64)
     ensures bound { result.0 ≤ length bytes.now }
     ensures few { result.0 ≤ 10 }
     ensures value { read_digits 0 (take result.0 bytes.now) ≡ Ok result.1 }
-    ensures word { words_from [] bytes.now ≡ words_from (take result.0 bytes.now) (drop result.0 bytes.now) }
+    ensures word { words_from [] bytes.now
+        ≡ words_from (take result.0 bytes.now) (drop result.0 bytes.now) }
 {
     let mut value = 0u64;
     for (i, byte) in bytes.iter().enumerate() {
@@ -169,7 +173,8 @@ pub fn three_words(
         (&[u8], Result<u64, TraceFault>),
     ),
 >
-    ensures some { IfSome result (λ w. words_from [] line.now ≡ w.0.0.now ∷ w.1.0.now ∷ w.2.0.now ∷ []) }
+    ensures some { IfSome result (λ w.
+        words_from [] line.now ≡ w.0.0.now ∷ w.1.0.now ∷ w.2.0.now ∷ []) }
     ensures first { IfSome result (λ w. w.0.1 ≡ read_number w.0.0.now) }
     ensures second { IfSome result (λ w. w.1.1 ≡ read_number w.1.0.now) }
     ensures third { IfSome result (λ w. w.2.1 ≡ read_number w.2.0.now) }

@@ -1,4 +1,5 @@
-//! Books whose slots, cards and regions are named by number, each call of which is made again where it was refused.
+//! Books whose slots, cards and regions are named by number, each call of which is made again where
+//! it was refused.
 ghost use Rattle.std.specs.Prelude.{◌≡◌, [], IfOk};
 ghost use Rattle.g1_book.specs.History.{opened};
 
@@ -11,8 +12,8 @@ use g1_core::{ClearReply, Config};
 use g1_layout::NoMemory;
 use g1_log::Log;
 
-/// The settings of the books: logs of `log` cards, and a line of `limit` buffers. No card is found hot, and a round
-/// of refinement begins at five buffers.
+/// The settings of the books: logs of `log` cards, and a line of `limit` buffers. No card is found
+/// hot, and a round of refinement begins at five buffers.
 pub(crate) fn settings(log: usize, limit: usize) -> Result<Config, Failure> {
     Config::new(log, limit, 255, 4, 5).ok_or(Failure::Wrong)
 }
@@ -55,7 +56,8 @@ pub(crate) enum Ask<'a> {
 }
 
 impl Ask<'_> {
-    /// The name of the call of a book, and of that of a shared book, which asks for no store and no refinement.
+    /// The name of the call of a book, and of that of a shared book, which asks for no store and no
+    /// refinement.
     pub(crate) fn names(&self) -> (&'static str, &'static str) {
         match self {
             Ask::Store(..) => ("Book::store", "no call"),
@@ -92,8 +94,8 @@ pub(crate) enum Answer<'a> {
     Moved(u32),
 }
 
-/// The references, pending cards and count of recorded pairs of a book before a call. Each pending card has one pair to
-/// record.
+/// The references, pending cards and count of recorded pairs of a book before a call. Each pending
+/// card has one pair to record.
 #[derive(Clone, Copy)]
 pub(crate) struct Before<'a> {
     pub(crate) references: &'a [(u32, u32)],
@@ -109,8 +111,9 @@ pub(crate) struct Kept {
 }
 
 impl Kept {
-    /// Makes a call that refines these cards in this order. A refused one leaves entries, log and table as they were, and a
-    /// short one is entered and has refined the cards that it lists. Either is made again, and takes up where it stopped.
+    /// Makes a call that refines these cards in this order. A refused one leaves entries, log and
+    /// table as they were, and a short one is entered and has refined the cards that it lists.
+    /// Either is made again, and takes up where it stopped.
     pub(crate) fn made(
         &mut self,
         rt: &impl Eprint,
@@ -128,7 +131,8 @@ impl Kept {
         check(rt, again.is_none(), "a call of a book was refused twice")
     }
 
-    /// Drains each region, whatever is pending, and compares its set. A refused or short drain is made again.
+    /// Drains each region, whatever is pending, and compares its set. A refused or short drain is
+    /// made again.
     pub(crate) fn has_sets(&mut self, rt: &impl Eprint, sets: &[&[u32]; 4]) -> Result<(), Failure> {
         for (of, set) in (0..4).zip(sets) {
             let (ask, answer) = (Ask::Drain(of), Answer::Cards(set));
@@ -140,8 +144,8 @@ impl Kept {
         Ok(())
     }
 
-    // Makes the call once. Answers `None` where it was whole, and else how many cards were refined, which are the first ones of
-    // the order, if there is one.
+    // Makes the call once. Answers `None` where it was whole, and else how many cards were refined,
+    // which are the first ones of the order, if there is one.
     fn attempt(
         &mut self,
         rt: &impl Eprint,
@@ -259,7 +263,8 @@ impl Kept {
     }
 }
 
-/// Whether the entry is that of the call of this name. Answers `None` where the call was whole, and else how many cards it refined.
+/// Whether the entry is that of the call of this name. Answers `None` where the call was whole, and
+/// else how many cards it refined.
 pub(crate) fn entered(
     rt: &impl Eprint,
     call: &str,
@@ -309,7 +314,8 @@ fn is_answer(reply: &Reply, answer: Answer<'_>, refined: &Numbers) -> bool {
             *taken == 1
                 && *hot == 0
                 && *left == 0
-                && matches!(answer, Answer::Refined(cards) if cards == refined.len().saturating_add(*skipped as usize))
+                && matches!(answer, Answer::Refined(cards)
+                    if cards == refined.len().saturating_add(*skipped as usize))
         }
         Reply::Target(place) => {
             matches!(answer, Answer::Target(wanted) if number_of(*place) == wanted)
@@ -319,7 +325,8 @@ fn is_answer(reply: &Reply, answer: Answer<'_>, refined: &Numbers) -> bool {
             matches!(answer, Answer::Cards(wanted) if are_numbered(cards.as_slice(), wanted))
         }
         Reply::Status(status) => {
-            matches!(answer, Answer::Status(pending, recorded) if status.pending == pending && status.recorded == recorded)
+            matches!(answer, Answer::Status(pending, recorded)
+                if status.pending == pending && status.recorded == recorded)
         }
         Reply::Clear(ClearReply::Cleared) => matches!(answer, Answer::Cleared),
         Reply::Moved(slots) => matches!(answer, Answer::Moved(wanted) if *slots == wanted),

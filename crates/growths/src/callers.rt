@@ -1,6 +1,8 @@
-//! The steps of a caller at a book that is lent: opening the line and the calls of each step take memory.
+//! The steps of a caller at a book that is lent: opening the line and the calls of each step take
+//! memory.
 //!
-//! The heap has 4 regions of 2 cards of 4 slots: card `c` has the slots from `4 * c` on, region `r` those from `8 * r` on.
+//! The heap has 4 regions of 2 cards of 4 slots: card `c` has the slots from `4 * c` on, region `r`
+//! those from `8 * r` on.
 ghost use Rattle.std.specs.Prelude.{◌≡◌, ◌<◌, IfOk, IfSome, vec_len};
 ghost use Rattle.std.specs.List.{All};
 ghost use Rattle.std.specs.Vec.Iter.{into_iter_items};
@@ -88,7 +90,8 @@ fn new_line<R: Eprint + AllocGlobal>(
     config: Config,
 ) -> Result<(Line, Vec<Mutator>, Vec<Taker>), Failure>
     ensures mutators { IfOk result (λ made. AreNewMutators made.0 config.log 0 made.1.items) }
-    ensures takers { IfOk result (λ made. (vec_len made.2 ≡ 3) × All (IsNewTaker made.0) made.2.items) }
+    ensures takers { IfOk result (λ made.
+        (vec_len made.2 ≡ 3) × All (IsNewTaker made.0) made.2.items) }
 {
     match open_line(rt.alloc(), config, 2, 3) {
         Ok(made) => Ok(made),
@@ -197,7 +200,8 @@ impl Ends<'_> {
         check(rt, is, "how many cards were flushed")
     }
 
-    // Refines the oldest buffer. A refused refinement gives up the buffer that it took, and enters nothing.
+    // Refines the oldest buffer. A refused refinement gives up the buffer that it took, and enters
+    // nothing.
     fn refined<R: Wait + Eprint>(
         &mut self,
         rt: &R,

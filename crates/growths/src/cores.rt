@@ -57,8 +57,8 @@ pub(crate) enum PauseCall {
     Redirect(u32, u32),
 }
 
-/// Makes the call. Answers the cards that were refined and, where it was whole, the drained set, or how many slots a redirect
-/// changed.
+/// Makes the call. Answers the cards that were refined and, where it was whole, the drained set, or
+/// how many slots a redirect changed.
 pub(crate) fn pause(
     core: &mut Core,
     call: PauseCall,
@@ -97,7 +97,8 @@ pub(crate) fn members(core: &Core, of: u32) -> Result<Numbers, Failure> {
     numbers_of(cards.as_slice())
 }
 
-/// What each slot refers to, which cards are pending, how many pairs are recorded, and how many slots were read.
+/// What each slot refers to, which cards are pending, how many pairs are recorded, and how many
+/// slots were read.
 #[derive(Drop)]
 pub(crate) struct State {
     references: ArrayVec<Option<u32>, 32>,
@@ -131,7 +132,8 @@ pub(crate) fn state_of(core: &mut Core) -> Result<State, Failure> {
     })
 }
 
-/// Whether just these slots refer, each to its place, just these cards are pending, and `recorded` pairs are recorded.
+/// Whether just these slots refer, each to its place, just these cards are pending, and `recorded`
+/// pairs are recorded.
 pub(crate) fn is_seen(
     rt: &impl Eprint,
     core: &mut Core,
@@ -149,7 +151,8 @@ pub(crate) fn is_seen(
     check(rt, now.recorded == recorded, "how many pairs are recorded")
 }
 
-/// Whether just these cards were refined since, each of which had one pair to record, and all else is as it was.
+/// Whether just these cards were refined since, each of which had one pair to record, and all else
+/// is as it was.
 pub(crate) fn is_left(
     rt: &impl Eprint,
     core: &mut Core,

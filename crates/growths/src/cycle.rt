@@ -1,6 +1,7 @@
 //! The cycle: making a core of a closed race and a race of a core take memory.
 //!
-//! The heap has 4 regions of 2 cards of 4 slots: card `c` has the slots from `4 * c` on, region `r` those from `8 * r` on.
+//! The heap has 4 regions of 2 cards of 4 slots: card `c` has the slots from `4 * c` on, region `r`
+//! those from `8 * r` on.
 ghost use Rattle.std.specs.Prelude.{◌≡◌, IfOk};
 ghost use Rattle.g1_race.specs.Members.{race_shape, AreFreshRacers, AreFreshSweepers};
 
@@ -33,7 +34,8 @@ pub(crate) fn core_to_race<R: Eprint + AllocGlobal>(rt: &R) -> Result<(), Failur
     are_drained(rt, &mut core, 2)
 }
 
-// Makes a core of the race, whose first cards were refined. A refused one gives the race back as it was, and is tried again.
+// Makes a core of the race, whose first cards were refined. A refused one gives the race back as it
+// was, and is tried again.
 fn core_of<R: Eprint + AllocGlobal>(rt: &R, closed: Closed, done: u32) -> Result<Core, Failure> {
     let config = Config::default();
     match closed.into_core(rt.alloc(), config) {
@@ -49,7 +51,8 @@ fn core_of<R: Eprint + AllocGlobal>(rt: &R, closed: Closed, done: u32) -> Result
     }
 }
 
-// Whether the core has the references, the first cards recorded and the others pending, and drains what the race stored.
+// Whether the core has the references, the first cards recorded and the others pending, and drains
+// what the race stored.
 fn are_drained(rt: &impl Eprint, core: &mut Core, done: u32) -> Result<(), Failure> {
     let pending = rest(&[0, 1, 2], done as usize);
     let steps = [
@@ -63,7 +66,8 @@ fn are_drained(rt: &impl Eprint, core: &mut Core, done: u32) -> Result<(), Failu
     take(rt, core, &steps)
 }
 
-// Makes a race of one racer and one sweeper of the core. A refused one gives the core back as it was, and is tried again.
+// Makes a race of one racer and one sweeper of the core. A refused one gives the core back as it
+// was, and is tried again.
 fn resumed<R: Eprint + AllocGlobal>(
     rt: &R,
     mut core: Core,

@@ -1,6 +1,7 @@
 //! The book: opening it, each of its calls, and the entry of each call take memory.
 //!
-//! The heap has 4 regions of 2 cards of 4 slots: card `c` has the slots from `4 * c` on, region `r` those from `8 * r` on.
+//! The heap has 4 regions of 2 cards of 4 slots: card `c` has the slots from `4 * c` on, region `r`
+//! those from `8 * r` on.
 
 use crate::books::{Answer, Ask, Before, Kept, new_book, settings};
 use crate::outcome::{Failure, check, told};

@@ -13,7 +13,8 @@ fn cards_of(turn: u32) -> [u32; 2] {
     [turn % 8, turn / 8 % 8]
 }
 
-/// Buffers up to the limit: a refused one comes back and is added again. Then all leave in their order.
+/// Buffers up to the limit: a refused one comes back and is added again. Then all leave in their
+/// order.
 pub(crate) fn completed<R: Eprint + AllocGlobal>(rt: &R) -> Result<(), Failure> {
     let layout = small()?;
     let mut done = Done::new(rt.alloc(), LIMIT as usize);

@@ -1,6 +1,7 @@
 //! The core: making it, refinement, drains, redirects and lists of members take memory.
 //!
-//! The heap has 4 regions of 2 cards of 4 slots: card `c` has the slots from `4 * c` on, region `r` those from `8 * r` on.
+//! The heap has 4 regions of 2 cards of 4 slots: card `c` has the slots from `4 * c` on, region `r`
+//! those from `8 * r` on.
 
 use crate::cores::PauseCall::{Drain, Redirect};
 use crate::cores::new_core;
@@ -8,7 +9,8 @@ use crate::cores::steps::Step::{self, Members, Pause, PauseWithCounts, Refine, S
 use crate::cores::steps::take;
 use crate::outcome::{Failure, check, told};
 
-/// A scenario on a new core, whose cards are hot after `hot` refinements, with a ring of `ring` cards.
+/// A scenario on a new core, whose cards are hot after `hot` refinements, with a ring of `ring`
+/// cards.
 struct Scenario {
     name: &'static str,
     hot: u32,
@@ -19,7 +21,8 @@ struct Scenario {
 // Cards 0, 1 and 2 hold into regions 3, 2 and 3.
 const REFERENCES: [(u32, u32); 3] = [(0, 24), (4, 16), (8, 24)];
 
-// Card 7 lies in the region that the references are moved to, and slot 12 in the one that they leave.
+// Card 7 lies in the region that the references are moved to, and slot 12 in the one that they
+// leave.
 const ENTERING: [(u32, u32); 5] = [(0, 9), (4, 8), (12, 9), (21, 15), (28, 10)];
 
 const MOVED: [(u32, u32); 5] = [(0, 25), (4, 24), (12, 9), (21, 31), (28, 26)];
@@ -47,8 +50,8 @@ static SCENARIOS: [Scenario; 8] = [
             Pause(Drain(3), &[], &[0, 2]),
         ],
     },
-    // Every card is hot, and the ring holds one: each card pushes out the one before. Where that one's record is refused,
-    // the card does not enter the ring.
+    // Every card is hot, and the ring holds one: each card pushes out the one before. Where that
+    // one's record is refused, the card does not enter the ring.
     Scenario {
         name: "a refinement of hot cards",
         hot: 0,
@@ -87,7 +90,8 @@ static SCENARIOS: [Scenario; 8] = [
             Pause(Drain(2), &[], &[1]),
         ],
     },
-    // Cards that were refined once are hot the next time. A short drain leaves it so, and a whole one sets the counts to 0.
+    // Cards that were refined once are hot the next time. A short drain leaves it so, and a whole
+    // one sets the counts to 0.
     Scenario {
         name: "the counts of a short drain",
         hot: 1,

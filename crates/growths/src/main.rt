@@ -1,13 +1,14 @@
-//! Makes every call that takes memory, and looks at what it leaves where a growth is refused (docs/TESTING.md, Refused
-//! growths).
+//! Makes every call that takes memory, and looks at what it leaves where a growth is refused
+//! (docs/TESTING.md, Refused growths).
 //!
-//! A growth is one call of `malloc` or `realloc`. Run as it is, the program meets no refusal; `scripts/check-growths` runs it
-//! once for each of its growths, with that one refused. The call that needed it answers `NoMemory`, or a short reply: the
-//! scenario says so on standard error, compares what was left with what the call's contract says, and makes the call
-//! again. So every run prints the same lines and ends with status 0.
+//! A growth is one call of `malloc` or `realloc`. Run as it is, the program meets no refusal;
+//! `scripts/check-growths` runs it once for each of its growths, with that one refused. The call
+//! that needed it answers `NoMemory`, or a short reply: the scenario says so on standard error,
+//! compares what was left with what the call's contract says, and makes the call again. So every
+//! run prints the same lines and ends with status 0.
 //!
-//! There is a file for each layer. A layer of few scenarios has a function for each, which `play` calls here; one of many has a
-//! `play` of its own, over a table with a line for each.
+//! There is a file for each layer. A layer of few scenarios has a function for each, which `play`
+//! calls here; one of many has a `play` of its own, over a table with a line for each.
 #![tactic(auto)]
 
 mod books;

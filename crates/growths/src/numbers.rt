@@ -1,4 +1,5 @@
-//! Slots, cards and regions by their numbers, and lists of cards and references compared with numbers.
+//! Slots, cards and regions by their numbers, and lists of cards and references compared with
+//! numbers.
 ghost use Rattle.std.specs.Prelude.{◌≡◌, ◌<◌, IfOk};
 ghost use Rattle.g1_layout.specs.Shape.{slot_count, card_count};
 
@@ -7,8 +8,8 @@ use arrayvec::ArrayVec;
 use g1_layout::{Card, Layout, Region, Slot};
 use g1_log::Buffer;
 
-/// The heap of most scenarios, of 4 regions of 2 cards of 4 slots: card `c` has the slots from `4 * c` on, region `r` those
-/// from `8 * r` on.
+/// The heap of most scenarios, of 4 regions of 2 cards of 4 slots: card `c` has the slots from `4 *
+/// c` on, region `r` those from `8 * r` on.
 pub(crate) fn small() -> Result<Layout, Failure> {
     Layout::new(4, 2, 4).ok_or(Failure::Wrong)
 }

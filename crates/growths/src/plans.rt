@@ -15,8 +15,8 @@ pub(crate) enum Step {
     Work(&'static [u32]),
 }
 
-/// Steps at a new book and a new line, for logs of `log` cards and a line of `limit` buffers, and the set of each region in the
-/// end.
+/// Steps at a new book and a new line, for logs of `log` cards and a line of `limit` buffers, and
+/// the set of each region in the end.
 pub(crate) struct Plan {
     pub(crate) log: usize,
     pub(crate) limit: usize,
@@ -74,7 +74,8 @@ pub(crate) const TAKE: Plan = Plan {
     sets: [&[7], &[], &[1], &[0, 2]],
 };
 
-/// Six buffers, of which a round leaves one. A refused round gives up one buffer at most, whose card a drain finds.
+/// Six buffers, of which a round leaves one. A refused round gives up one buffer at most, whose
+/// card a drain finds.
 pub(crate) const ROUND: Plan = Plan {
     log: 1,
     limit: 10,

@@ -1,8 +1,10 @@
 //! The race: opening it takes memory, and refinement takes none.
 //!
-//! The heap has 4 regions of 2 cards of 4 slots: card `c` has the slots from `4 * c` on, region `r` those from `8 * r` on.
+//! The heap has 4 regions of 2 cards of 4 slots: card `c` has the slots from `4 * c` on, region `r`
+//! those from `8 * r` on.
 ghost use Rattle.std.specs.Prelude.{◌≡◌, ◌<◌, [], IfOk, vec_len, vec_capacity};
-ghost use Rattle.g1_race.specs.Members.{race_id, race_shape, racer_race, sweeper_race, AreFreshRacers, AreFreshSweepers};
+ghost use Rattle.g1_race.specs.Members.{race_id, race_shape, racer_race, sweeper_race};
+ghost use Rattle.g1_race.specs.Members.{AreFreshRacers, AreFreshSweepers};
 
 use crate::numbers::{card, number_of, region, slot, small};
 use crate::outcome::{Failure, check, refused};
@@ -85,7 +87,8 @@ fn closed(
     requires members { (race_shape race).members ≡ 2 }
     requires racers { (racers.items ≡ []) × (vec_len racers ≡ 0) × (0 < vec_capacity racers) }
     requires racer { racer_race racer ≡ race_id race }
-    requires sweepers { (sweepers.items ≡ []) × (vec_len sweepers ≡ 0) × (0 < vec_capacity sweepers) }
+    requires sweepers { (sweepers.items ≡ []) × (vec_len sweepers ≡ 0)
+        × (0 < vec_capacity sweepers) }
     requires sweeper { sweeper_race sweeper ≡ race_id race }
 {
     racers.push_reserved(racer);
@@ -130,8 +133,8 @@ fn refined(race: &Race, sweeper: &mut Sweeper, cards: u32) -> Result<(), Failure
     Ok(())
 }
 
-/// Whether the slots refer where they were stored to, the first cards are clean and recorded, and the others dirty and not
-/// recorded.
+/// Whether the slots refer where they were stored to, the first cards are clean and recorded, and
+/// the others dirty and not recorded.
 pub(crate) fn are_refined(rt: &impl Eprint, closed: &Closed, done: u32) -> Result<(), Failure> {
     for (number, (from, to)) in (0..3).zip(REFERENCES) {
         let from = slot(&closed.layout(), from)?;

@@ -6,8 +6,8 @@ use crate::outcome::{Failure, check, refused, told};
 use g1_layout::{Card, Layout, NoMemory};
 use g1_sets::Sets;
 
-// How many regions of how many cards the heap of a list has, and how many cards the list. The bits for
-// the cards of the last heap, of more than 65,536 cards, are a growth of their own.
+// How many regions of how many cards the heap of a list has, and how many cards the list. The bits
+// for the cards of the last heap, of more than 65,536 cards, are a growth of their own.
 static LISTS: [(&str, u32, u32, u32); 3] = [
     ("a list of few cards", 4, 4, 6),
     ("a list of many cards", 8, 128, 600),
@@ -46,7 +46,8 @@ impl Numbered {
         Ok(Numbered { layout, sets })
     }
 
-    // Whether the region's set has just these cards and then `count` from 0 on, in the order of insertion.
+    // Whether the region's set has just these cards and then `count` from 0 on, in the order of
+    // insertion.
     fn has_just(&self, region: u32, first: &[u32], count: u32) -> Result<bool, Failure> {
         let region = numbers::region(&self.layout, region)?;
         for index in 0..self.sets.len(region) {
@@ -82,7 +83,8 @@ impl Numbered {
     }
 }
 
-// What the second region has before the first has a card, so that their sets grow at different cards.
+// What the second region has before the first has a card, so that their sets grow at different
+// cards.
 static EARLIER: [u32; 3] = [60, 61, 62];
 
 // Cards 0 to 39 go into two sets. Where either cannot grow, neither has the card.
@@ -125,8 +127,9 @@ fn recorded_together<R: Eprint + AllocGlobal>(rt: &R) -> Result<(), Failure> {
     check(rt, sets.sets.total() == 40, "another set has a card")
 }
 
-// The first region's set has `members` cards, from its neighbour's first card on; they were recorded from
-// the last to the first. A set of few cards is sorted, and the cards of any other are listed by bits.
+// The first region's set has `members` cards, from its neighbour's first card on; they were
+// recorded from the last to the first. A set of few cards is sorted, and the cards of any other are
+// listed by bits.
 fn listed<R: Eprint + AllocGlobal>(
     rt: &R,
     regions: u32,

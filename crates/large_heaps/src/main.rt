@@ -1,9 +1,11 @@
-//! Takes a large heap through what a runtime does: stores across all regions with their refinement, and
-//! a pause that drains, redirects and clears. Each answer is compared with a scan of every slot.
+//! Takes a large heap through what a runtime does: stores across all regions with their refinement,
+//! and a pause that drains, redirects and clears. Each answer is compared with a scan of every
+//! slot.
 //!
-//! `large_heaps core REGIONS CARDS SLOTS` does so with a core, `large_heaps race ..` with a race that
-//! becomes a core and a race again. Any heap that `Layout::large` grants will do. `scripts/check-large`
-//! runs the program on heaps of a real size, and compares the bytes that it says with what it had.
+//! `large_heaps core REGIONS CARDS SLOTS` does so with a core, `large_heaps race ..` with a race
+//! that becomes a core and a race again. Any heap that `Layout::large` grants will do.
+//! `scripts/check-large` runs the program on heaps of a real size, and compares the bytes that it
+//! says with what it had.
 //!
 //! - [`plan`]: what the command line asks for, and the reference that each card gets.
 //! - [`stores`]: the stores and refinements of a core.

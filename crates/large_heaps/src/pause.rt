@@ -31,7 +31,8 @@ pub fn pause(rt: &impl Print, core: &mut Core) -> Result<()> {
     Ok(())
 }
 
-// Drains a region, and compares its answer with a scan. Answers how many slots refer into the region.
+// Drains a region, and compares its answer with a scan. Answers how many slots refer into the
+// region.
 fn drained(core: &mut Core, number: u32) -> Result<u64> {
     let region = core.layout().region(number).context("no such region")?;
     let cards = cards_of(core.drain(region)?)?;

@@ -39,8 +39,8 @@ fn number_of(word: &String) -> Option<u32> {
     word.as_str().parse::<u32>().ok()
 }
 
-/// The slot of a card that is stored to, and the place that it then refers to, in another region: the
-/// cards of a region in turn refer into all the others.
+/// The slot of a card that is stored to, and the place that it then refers to, in another region:
+/// the cards of a region in turn refer into all the others.
 pub fn reference_of(layout: &Layout, card: Card) -> Option<(Slot, Slot)>
     requires { card < card_count layout.now }
     ensures slot { IfSome result (λ r. r.0 < slot_count layout.now) }

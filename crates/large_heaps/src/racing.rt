@@ -70,7 +70,8 @@ fn closed(
     requires members { (race_shape race).members ≡ 2 }
     requires racers { (racers.items ≡ []) × (vec_len racers ≡ 0) × (0 < vec_capacity racers) }
     requires racer { racer_race racer ≡ race_id race }
-    requires sweepers { (sweepers.items ≡ []) × (vec_len sweepers ≡ 0) × (0 < vec_capacity sweepers) }
+    requires sweepers { (sweepers.items ≡ []) × (vec_len sweepers ≡ 0)
+        × (0 < vec_capacity sweepers) }
     requires sweeper { sweeper_race sweeper ≡ race_id race }
 {
     racers.push_reserved(racer);

@@ -25,8 +25,8 @@ fn count_on(core: &mut Core, card: u32, region: Region) -> u64 {
     count
 }
 
-/// Compares the answer of a drain with the scan: it lists just the cards outside the region with a slot
-/// that refers into it, ascending. Answers how many slots refer into the region.
+/// Compares the answer of a drain with the scan: it lists just the cards outside the region with a
+/// slot that refers into it, ascending. Answers how many slots refer into the region.
 pub fn compare(core: &mut Core, region: Region, answer: &[Card]) -> Result<u64> {
     let layout = core.layout();
     let mut listed = 0usize;

@@ -92,8 +92,8 @@ fn ask(rt: &impl Abort, book: &mut Book) -> Result<(), Refusal> {
     Ok(())
 }
 
-/// A drain refines what is pending and answers the set. A clear is refused while a card is pending, then while a slot
-/// refers into the region, and granted once none does.
+/// A drain refines what is pending and answers the set. A clear is refused while a card is pending,
+/// then while a slot refers into the region, and granted once none does.
 #[test]
 fn drains_and_clears_are_entered(rt: HostRuntime) -> Result<(), Fail> {
     let mut book = book(&rt, rt.alloc(), 2, 4, 10)?;
@@ -151,7 +151,8 @@ fn assert_drains_and_clears(rt: &impl Abort, book: &Book) {
     assert_entries(rt, book, &wanted);
 }
 
-/// A reference to slot 9 moves to slot 17, at the same offset of region 2, and its card is recorded there.
+/// A reference to slot 9 moves to slot 17, at the same offset of region 2, and its card is recorded
+/// there.
 #[test]
 fn a_redirect_is_entered(rt: HostRuntime) -> Result<(), Fail> {
     let mut book = book(&rt, rt.alloc(), 2, 4, 10)?;

@@ -1,6 +1,7 @@
 //! The calls of a book by plain numbers, which lie in the heap or end the test.
 //!
-//! They promise nothing: what a call ensures ends at its return, so that a test of many calls carries few facts.
+//! They promise nothing: what a call ensures ends at its return, so that a test of many calls
+//! carries few facts.
 use super::*;
 
 /// The number of a slot, if there is one.

@@ -1,4 +1,5 @@
-//! Desks, workers and a crew: that their calls succeed and that jobs run beside each other, with answers worked by hand.
+//! Desks, workers and a crew: that their calls succeed and that jobs run beside each other, with
+//! answers worked by hand.
 ghost use Rattle.std.specs.Prelude.{◌<◌, true, All, IfOk};
 ghost use Rattle.g1_layout.specs.Shape.{slot_count};
 ghost use Rattle.g1_steps.specs.Ask.{StepFits};
@@ -17,7 +18,8 @@ fn slot_in(rt: &impl Abort, layout: Layout, number: u32) -> Slot
     layout.slot(number).expect(rt, "a slot of the heap")
 }
 
-/// A step as a test writes it: a store from a slot into which a reference to another goes, or a flush.
+/// A step as a test writes it: a store from a slot into which a reference to another goes, or a
+/// flush.
 type Wish = Option<(u32, u32)>;
 
 /// The step that is wished for.

@@ -1,5 +1,5 @@
-//! What no clause says of the steps at a lent book: that a line takes what is put and gives it back, and what the steps answer, worked
-//! by hand.
+//! What no clause says of the steps at a lent book: that a line takes what is put and gives it
+//! back, and what the steps answer, worked by hand.
 ghost use Rattle.std.proofs.Props.{props};
 ghost use Rattle.g1_log.specs.Ends.{IsSenderOf, IsTakerOf};
 

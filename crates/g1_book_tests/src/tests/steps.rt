@@ -32,7 +32,8 @@ pub(crate) trait Calls {
     ) -> Result<Redirected, Refusal>;
 }
 
-/// What a refinement or a round answers: buffers taken, cards refined, hot and skipped, buffers left, and whether it is short.
+/// What a refinement or a round answers: buffers taken, cards refined, hot and skipped, buffers
+/// left, and whether it is short.
 #[derive(Clone, Copy)]
 pub(crate) struct Round<'a> {
     pub(crate) taken: u32,
@@ -58,11 +59,13 @@ pub(crate) fn whole(taken: u32, refined: &[u32], left: u32) -> Round<'_> {
 /// A call with numbers for its arguments, and its answer.
 #[derive(Clone, Copy)]
 pub(crate) enum Step<'a> {
-    /// A logged store of a place into a slot: what becomes of the log, and which cards a help refines.
+    /// A logged store of a place into a slot: what becomes of the log, and which cards a help
+    /// refines.
     Store(u32, u32, Fill, &'a [u32]),
     /// A logged store whose help the full history refuses.
     StoreShort(u32, u32),
-    /// So many logged stores into slot 24, from the first slot of card 0, of card 1, and so on, each of which completes a buffer.
+    /// So many logged stores into slot 24, from the first slot of card 0, of card 1, and so on,
+    /// each of which completes a buffer.
     Completed(u32),
     /// A flush: of how many cards, what becomes of the log, and which cards a help refines.
     Flush(u32, Fill, &'a [u32]),
@@ -188,7 +191,8 @@ fn assert_short(rt: &impl Abort, reply: &StoreReply) {
     assert_cards(rt, &reply.refined, &[]);
 }
 
-/// Checks a flush: how many cards, what became of the log, and which cards a help refined. It is not short.
+/// Checks a flush: how many cards, what became of the log, and which cards a help refined. It is
+/// not short.
 pub(crate) fn assert_flushed(
     rt: &impl Abort,
     reply: &FlushReply,

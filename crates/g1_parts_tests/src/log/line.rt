@@ -1,5 +1,6 @@
 ghost use Rattle.std.specs.Prelude.{◌≡◌, ◌≤◌};
-ghost use Rattle.g1_log.specs.Ends.{IsSenderOf, IsTakerOf, IsSameSender, IsSameTaker, sender_rights, taker_rights};
+ghost use Rattle.g1_log.specs.Ends.{IsSenderOf, IsTakerOf, IsSameSender, IsSameTaker};
+ghost use Rattle.g1_log.specs.Ends.{sender_rights, taker_rights};
 
 use crate::checks::{assert_ascending, assert_equal};
 use crate::samples::buffer;
@@ -18,7 +19,8 @@ fn first_card(buffer: &Buffer) -> u32 {
     }
 }
 
-// Puts the buffer of this card. Where that does not succeed, answers the card of the buffer that comes back.
+// Puts the buffer of this card. Where that does not succeed, answers the card of the buffer that
+// comes back.
 fn put<R: Abort + Wait>(rt: &R, line: &Line, sender: &mut Sender, card: u32) -> Option<u32>
     requires { IsSenderOf line.now sender.old }
     ensures { IsSameSender sender.new sender.old }
@@ -164,7 +166,8 @@ fn take_eight<R: Abort + Wait>(rt: &R, line: &Line, mut taker: Taker, first: u32
     }
 }
 
-// Eight senders put twelve buffers each, and twelve takers take eight each: every card comes out once, under its sender.
+// Eight senders put twelve buffers each, and twelve takers take eight each: every card comes out
+// once, under its sender.
 #[test]
 fn as_many_senders_and_takers_as_a_line_has(rt: HostRuntime) {
     let (line, senders, takers) = Line::new(rt.alloc(), 96, 8, 12).expect(&rt, "memory");
@@ -228,18 +231,22 @@ fn put_both<R: Abort + Threads + Wait + Sync>(
     second: Sender,
 ) -> (Put, Put)
     requires { IsSenderOf line.now first × IsSenderOf line.now second }
-    ensures first { IsSenderOf line.now result.0.0 × (sender_rights result.0.0 ≡ sender_rights first) }
-    ensures second { IsSenderOf line.now result.1.0 × (sender_rights result.1.0 ≡ sender_rights second) }
+    ensures first { IsSenderOf line.now result.0.0
+        × (sender_rights result.0.0 ≡ sender_rights first) }
+    ensures second { IsSenderOf line.now result.1.0
+        × (sender_rights result.1.0 ≡ sender_rights second) }
 {
     thread::join(
         rt,
         move || -> Put
             requires { IsSenderOf line.now first }
-            ensures { IsSenderOf line.entry.now result.0 × (sender_rights result.0 ≡ sender_rights first) }
+            ensures { IsSenderOf line.entry.now result.0
+                × (sender_rights result.0 ≡ sender_rights first) }
         { put_cards(rt, alloc, line, first) },
         move || -> Put
             requires { IsSenderOf line.now second }
-            ensures { IsSenderOf line.entry.now result.0 × (sender_rights result.0 ≡ sender_rights second) }
+            ensures { IsSenderOf line.entry.now result.0
+                × (sender_rights result.0 ≡ sender_rights second) }
         { put_cards(rt, alloc, line, second) },
     )
 }
@@ -254,17 +261,20 @@ fn take_both<R: Abort + Threads + Wait + Sync>(
 ) -> (Took, Took)
     requires { IsTakerOf line.now one × IsTakerOf line.now other }
     ensures first { IsTakerOf line.now result.0.0 × (taker_rights result.0.0 ≡ taker_rights one) }
-    ensures second { IsTakerOf line.now result.1.0 × (taker_rights result.1.0 ≡ taker_rights other) }
+    ensures second { IsTakerOf line.now result.1.0
+        × (taker_rights result.1.0 ≡ taker_rights other) }
 {
     thread::join(
         rt,
         move || -> Took
             requires { IsTakerOf line.now one }
-            ensures { IsTakerOf line.entry.now result.0 × (taker_rights result.0 ≡ taker_rights one) }
+            ensures { IsTakerOf line.entry.now result.0
+                × (taker_rights result.0 ≡ taker_rights one) }
         { take_labels(rt, alloc, line, one) },
         move || -> Took
             requires { IsTakerOf line.now other }
-            ensures { IsTakerOf line.entry.now result.0 × (taker_rights result.0 ≡ taker_rights other) }
+            ensures { IsTakerOf line.entry.now result.0
+                × (taker_rights result.0 ≡ taker_rights other) }
         { take_labels(rt, alloc, line, other) },
     )
 }
@@ -338,13 +348,17 @@ fn run_in_threads<R: Abort + Threads + Wait + Sync>(rt: &R, alloc: Global) -> Ra
         rt,
         move || -> (Put, Put)
             requires { IsSenderOf shared.now first × IsSenderOf shared.now second }
-            ensures first { IsSenderOf shared.entry.now result.0.0 × (sender_rights result.0.0 ≡ sender_rights first) }
-            ensures second { IsSenderOf shared.entry.now result.1.0 × (sender_rights result.1.0 ≡ sender_rights second) }
+            ensures first { IsSenderOf shared.entry.now result.0.0
+                × (sender_rights result.0.0 ≡ sender_rights first) }
+            ensures second { IsSenderOf shared.entry.now result.1.0
+                × (sender_rights result.1.0 ≡ sender_rights second) }
         { put_both(rt, alloc, shared, first, second) },
         move || -> (Took, Took)
             requires { IsTakerOf shared.now one × IsTakerOf shared.now other }
-            ensures first { IsTakerOf shared.entry.now result.0.0 × (taker_rights result.0.0 ≡ taker_rights one) }
-            ensures second { IsTakerOf shared.entry.now result.1.0 × (taker_rights result.1.0 ≡ taker_rights other) }
+            ensures first { IsTakerOf shared.entry.now result.0.0
+                × (taker_rights result.0.0 ≡ taker_rights one) }
+            ensures second { IsTakerOf shared.entry.now result.1.0
+                × (taker_rights result.1.0 ≡ taker_rights other) }
         { take_both(rt, alloc, shared, one, other) },
     );
     let ((first, put), (second, put_too)) = puts;
@@ -372,7 +386,8 @@ fn labels_left<R: Abort + Wait>(rt: &R, alloc: Global, mut settled: Settled) -> 
     left
 }
 
-// Each taker finds the numbers of each sender rising, and each card that was put comes out once, under its sender.
+// Each taker finds the numbers of each sender rising, and each card that was put comes out once,
+// under its sender.
 #[test]
 fn line_in_threads(rt: HostRuntime) {
     let ran = run_in_threads(&rt, rt.alloc());

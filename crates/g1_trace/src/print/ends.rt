@@ -1,6 +1,7 @@
 //! The lines of a fault and of the other ends (docs/TRACES.md, Faults, Ends).
 ghost use Rattle.g1_trace.specs.Bytes.{Puts};
-ghost use Rattle.g1_trace.specs.Text.{fault_line, fault_text, no_memory_line, book_full_line, no_thread_line, read_failed_line};
+ghost use Rattle.g1_trace.specs.Text.{fault_line, fault_text, no_memory_line, book_full_line};
+ghost use Rattle.g1_trace.specs.Text.{no_thread_line, read_failed_line};
 ghost use Rattle.std.specs.Prelude.{◌≡◌};
 
 use crate::fault::TraceFault;
@@ -35,7 +36,8 @@ pub fn put_fault<W: Write>(
     number: u64,
     fault: TraceFault,
 ) -> Result<(), WriteFailed>
-    ensures { Puts (W.contents output.old) (W.contents output.new) result (fault_line number fault) }
+    ensures { Puts (W.contents output.old) (W.contents output.new) result
+        (fault_line number fault) }
 {
     put_between(output, b"line ", number, b": ")?;
     put(output, fault.text().as_bytes())?;

@@ -21,7 +21,9 @@ pub fn put_refine_reply<W: Write>(output: &mut W, reply: &RefineReply) -> Result
 
 // The line of a refinement that took a buffer, or was short.
 fn put_refined<W: Write>(output: &mut W, reply: &RefineReply) -> Result<(), WriteFailed>
-    ensures { Puts (W.contents output.old) (W.contents output.new) result (turned_text (length reply.now.refined) reply.now.hot reply.now.skipped ++ ending reply.now.short) }
+    ensures { Puts (W.contents output.old) (W.contents output.new) result
+        (turned_text (length reply.now.refined) reply.now.hot reply.now.skipped
+        ++ ending reply.now.short) }
 {
     let mut line = [0u8; 128];
     let end = ending_at_end(&mut line, reply.short);
@@ -48,7 +50,9 @@ pub fn put_work_reply<W: Write>(output: &mut W, reply: &RefineReply) -> Result<(
 fn turns_before(block: &mut [u8], start: usize, words: &[u8], reply: &RefineReply) -> usize
     requires room { length words.now + 74 ≤ start }
     requires within { start ≤ length block.old }
-    ensures text { drop result block.new ≡ counted words.now (length reply.now.refined) ++ counted (codes " hot ") reply.now.hot ++ counted (codes " skipped ") reply.now.skipped ++ drop start block.old }
+    ensures text { drop result block.new
+        ≡ counted words.now (length reply.now.refined) ++ counted (codes " hot ") reply.now.hot
+        ++ counted (codes " skipped ") reply.now.skipped ++ drop start block.old }
     ensures room { start ≤ result + length words.now + 74 }
     ensures within { result ≤ length block.new }
 {

@@ -1,6 +1,7 @@
 //! The lines of a store and of a flush.
 ghost use Rattle.g1_trace.specs.Bytes.{Puts};
-ghost use Rattle.g1_trace.specs.Text.{store_text, flushed_line, stored_line, stores_text, counted, ending};
+ghost use Rattle.g1_trace.specs.Text.{store_text, flushed_line, stored_line, stores_text, counted};
+ghost use Rattle.g1_trace.specs.Text.{ending};
 ghost use Rattle.std.specs.Prelude.{◌++◌, codes, length};
 
 use crate::output::{WriteFailed, counted_before, ending_at_end, put, put_between, put_either};
@@ -28,7 +29,8 @@ pub fn put_store_reply<W: Write>(output: &mut W, reply: &StoreReply) -> Result<(
 
 // The line of a store that logged its card.
 fn put_logged<W: Write>(output: &mut W, reply: &StoreReply) -> Result<(), WriteFailed>
-    ensures { Puts (W.contents output.old) (W.contents output.new) result (stored_line Kind.Logged reply.now.fill (length reply.now.refined) reply.now.short) }
+    ensures { Puts (W.contents output.old) (W.contents output.new) result
+        (stored_line Kind.Logged reply.now.fill (length reply.now.refined) reply.now.short) }
 {
     match reply.fill {
         Fill::No => put_either(output, reply.short, b"logged short\n", b"logged\n"),
@@ -52,7 +54,8 @@ pub fn put_flushed<W: Write>(
     refined: &CardList,
     short: bool,
 ) -> Result<(), WriteFailed>
-    ensures { Puts (W.contents output.old) (W.contents output.new) result (flushed_line cards fill (length refined.now) short) }
+    ensures { Puts (W.contents output.old) (W.contents output.new) result
+        (flushed_line cards fill (length refined.now) short) }
 {
     let mut line = [0u8; 80];
     let ending = ending_at_end(&mut line, short);
@@ -66,7 +69,8 @@ pub fn put_flushed<W: Write>(
 
 // The line of a store whose mutator helped.
 fn put_helped<W: Write>(output: &mut W, refined: &CardList, short: bool) -> Result<(), WriteFailed>
-    ensures { Puts (W.contents output.old) (W.contents output.new) result (counted (codes "logged helped ") (length refined.now) ++ ending short) }
+    ensures { Puts (W.contents output.old) (W.contents output.new) result
+        (counted (codes "logged helped ") (length refined.now) ++ ending short) }
 {
     let mut line = [0u8; 64];
     let end = ending_at_end(&mut line, short);

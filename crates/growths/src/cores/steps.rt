@@ -1,4 +1,5 @@
-//! Steps of a core: where a call was refused or is short, what it left is compared, and it is made again.
+//! Steps of a core: where a call was refused or is short, what it left is compared, and it is made
+//! again.
 
 use crate::cores::PauseCall::{self, Drain, Redirect};
 use crate::cores::{is_left, is_seen, members, pause, refine, state_of, store};
@@ -11,9 +12,11 @@ use g1_core::{Core, RefineReply};
 pub(crate) enum Step<'a> {
     /// Stores of these references.
     Store(&'a [(u32, u32)]),
-    /// A refinement of a buffer of cards: which are refined in which order, and how many are found hot.
+    /// A refinement of a buffer of cards: which are refined in which order, and how many are found
+    /// hot.
     Refine(&'a [u32], &'a [u32], u32),
-    /// A call that refines all that is pending: which cards are refined in which order, and the numbers that it finds.
+    /// A call that refines all that is pending: which cards are refined in which order, and the
+    /// numbers that it finds.
     Pause(PauseCall, &'a [u32], &'a [u32]),
     /// A drain that looks at the counts where it was refused or is short.
     PauseWithCounts,
@@ -40,7 +43,8 @@ pub(crate) fn take(rt: &impl Eprint, core: &mut Core, steps: &[Step]) -> Result<
     Ok(())
 }
 
-// Card 0 is still hot after a short drain: it waits in the ring then, and comes first in the drain that is made again.
+// Card 0 is still hot after a short drain: it waits in the ring then, and comes first in the drain
+// that is made again.
 fn paused_with_counts(rt: &impl Eprint, core: &mut Core) -> Result<(), Failure> {
     let Some(done) = attempt(rt, core, Drain(1), &[0, 1, 2], &[0])? else {
         return Ok(());
@@ -70,8 +74,8 @@ fn has_members(rt: &impl Eprint, core: &mut Core, of: u32, cards: &[u32]) -> Res
     check(rt, now.as_slice() == cards, "the members of a region")
 }
 
-// Refines a buffer of these cards, of which the ones in the order are refined and `hot` found hot; where that was refused or
-// is short, it is made again.
+// Refines a buffer of these cards, of which the ones in the order are refined and `hot` found hot;
+// where that was refused or is short, it is made again.
 fn refined(
     rt: &impl Eprint,
     core: &mut Core,
@@ -125,8 +129,8 @@ pub(crate) fn rest(numbers: &[u32], first: usize) -> &[u32] {
     numbers.get(first..).unwrap_or(&[])
 }
 
-// Makes a call that refines these cards in this order and finds these numbers; where it was refused or is short, it is made
-// again, and takes up where it stopped.
+// Makes a call that refines these cards in this order and finds these numbers; where it was refused
+// or is short, it is made again, and takes up where it stopped.
 fn paused(
     rt: &impl Eprint,
     core: &mut Core,
@@ -141,7 +145,8 @@ fn paused(
     check(rt, again.is_none(), "a pause was refused twice")
 }
 
-// Makes such a call once. Answers `None` where it was whole, and else how many cards were refined, which are the first ones.
+// Makes such a call once. Answers `None` where it was whole, and else how many cards were refined,
+// which are the first ones.
 fn attempt(
     rt: &impl Eprint,
     core: &mut Core,

@@ -70,7 +70,8 @@ impl<M: Frame, S: Ledger> SharedCaller<'_, M, S> {
         Ok(self.shared.store(rt, &mut self.caller, from, Some(to))?)
     }
 
-    // Whether from `least` to `most` calls were entered since, and as many entries as calls are in the history.
+    // Whether from `least` to `most` calls were entered since, and as many entries as calls are in
+    // the history.
     fn has_made<R: Wait + Eprint>(
         &self,
         rt: &R,
@@ -129,7 +130,8 @@ impl<M: Frame, S: Ledger> SharedCaller<'_, M, S> {
         self.has_made(rt, before, if is_refused { 0 } else { 1 }, 1)
     }
 
-    // Refines the oldest buffer. A refused refinement gives up the buffer that it took, and enters nothing.
+    // Refines the oldest buffer. A refused refinement gives up the buffer that it took, and enters
+    // nothing.
     fn refined<R: Wait + Eprint>(
         &mut self,
         rt: &R,
@@ -171,8 +173,8 @@ impl<M: Frame, S: Ledger> SharedCaller<'_, M, S> {
 
 /// The calls that are one call under the lock.
 impl<M: Frame, S: Ledger> SharedCaller<'_, M, S> {
-    // Makes a call that refines these cards in this order. A refused one leaves the caller's counts, and a short one is
-    // entered; either is made again, and takes up where it stopped.
+    // Makes a call that refines these cards in this order. A refused one leaves the caller's
+    // counts, and a short one is entered; either is made again, and takes up where it stopped.
     fn made<R: Wait + Eprint>(
         &mut self,
         rt: &R,
@@ -188,7 +190,8 @@ impl<M: Frame, S: Ledger> SharedCaller<'_, M, S> {
         check(rt, again.is_none(), "a call was refused twice")
     }
 
-    // Makes the call once. Answers `None` where it was whole, and else how many cards were refined, which are the first ones.
+    // Makes the call once. Answers `None` where it was whole, and else how many cards were refined,
+    // which are the first ones.
     fn attempt<R: Wait + Eprint>(
         &mut self,
         rt: &R,

@@ -1,6 +1,7 @@
 //! What the calls of a local desk and its workers answer, worked by hand.
 //!
-//! The heap has 4 regions of 2 cards of 4 slots: card `c` has the slots from `4 * c` on, region `r` those from `8 * r` on.
+//! The heap has 4 regions of 2 cards of 4 slots: card `c` has the slots from `4 * c` on, region `r`
+//! those from `8 * r` on.
 ghost use Rattle.std.specs.Prelude.{◌≡◌, ◌≤◌, true, nat_lt, IfOk};
 ghost use Rattle.g1_log.specs.Ends.{IsSenderOf, IsTakerOf};
 ghost use Rattle.g1_book.specs.History.{layout_in};
@@ -40,7 +41,8 @@ fn desk_at<'a, R>(
     LocalDesk::new(rt, line, LentBook::new(book, 0), mutator, taker, start)
 }
 
-/// A store whose log is flushed leaves one completed buffer in the line, where a round begins at five.
+/// A store whose log is flushed leaves one completed buffer in the line, where a round begins at
+/// five.
 #[test]
 fn a_desk_stores_flushes_and_begins_no_round(rt: HostRuntime) -> Result<(), Fail> {
     let mut book = plain_book(&rt, rt.alloc(), 10)?;
@@ -98,7 +100,8 @@ fn worked<R: Abort + Wait>(
     Ok((made, refiner(&mut desk, 3)))
 }
 
-/// Checks how a script and the rounds after it end at a new book with room for `history` entries, and how many it has then.
+/// Checks how a script and the rounds after it end at a new book with room for `history` entries,
+/// and how many it has then.
 fn assert_worked<R: Abort + Wait>(
     rt: &R,
     alloc: Global,
@@ -116,7 +119,8 @@ fn assert_worked<R: Abort + Wait>(
     Ok(())
 }
 
-/// Stores of the cards 0, 1, 2 and so on into region 3, each of which is logged. A flush is a call without an entry.
+/// Stores of the cards 0, 1, 2 and so on into region 3, each of which is logged. A flush is a call
+/// without an entry.
 #[test]
 fn a_full_book_ends_a_script(rt: HostRuntime) -> Result<(), Fail> {
     let full = Refusal::BookFull;
@@ -145,8 +149,8 @@ fn a_full_book_ends_a_script(rt: HostRuntime) -> Result<(), Fail> {
     Ok(())
 }
 
-/// Five buffers of one card begin a round of four calls, and leave one. A book that is full at the first of them ends the
-/// rounds, and at a later one only that round.
+/// Five buffers of one card begin a round of four calls, and leave one. A book that is full at the
+/// first of them ends the rounds, and at a later one only that round.
 #[test]
 fn a_full_book_ends_a_round(rt: HostRuntime) -> Result<(), Fail> {
     let wishes = [

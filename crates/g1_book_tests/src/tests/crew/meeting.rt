@@ -109,7 +109,8 @@ fn both<'a>(
     first: &'a AtomicBool,
     second: &'a AtomicBool,
 ) -> Result<Vec<Job<Meeting<'a>>>, AllocError>
-    ensures { IfOk result (λ jobs. All (λ job. ScriptFits (slot_count job.desk.layout) true job.script) jobs.items) }
+    ensures { IfOk result (λ jobs.
+        All (λ job. ScriptFits (slot_count job.desk.layout) true job.script) jobs.items) }
 {
     let one = job(rt, alloc, first, second)?;
     let other = job(rt, alloc, second, first)?;
@@ -149,7 +150,8 @@ fn both_again<'a>(
     first: &'a AtomicBool,
     second: &'a AtomicBool,
 ) -> Result<Vec<Job<Meeting<'a>>>, AllocError>
-    ensures { IfOk result (λ jobs. All (λ job. ScriptFits (slot_count job.desk.layout) true job.script) jobs.items) }
+    ensures { IfOk result (λ jobs.
+        All (λ job. ScriptFits (slot_count job.desk.layout) true job.script) jobs.items) }
 {
     match both(rt, alloc, first, second) {
         Ok(jobs) => Ok(jobs),
@@ -157,8 +159,8 @@ fn both_again<'a>(
     }
 }
 
-/// With memory enough the first crew runs. Under `rt try --test --fail-alloc N` room for its threads or jobs is refused: it
-/// is not started, and the next one runs.
+/// With memory enough the first crew runs. Under `rt try --test --fail-alloc N` room for its
+/// threads or jobs is refused: it is not started, and the next one runs.
 fn run_both_again<R: Threads + Wait + Sync + Abort>(
     rt: &R,
     alloc: Global,

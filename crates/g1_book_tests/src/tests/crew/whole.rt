@@ -68,7 +68,9 @@ fn job_of<'a, R: Abort, M: Frame, S: Ledger>(
     requires of { IsCallerOf shared.now caller }
     requires mutators { M.terms.mutators ≡ 8 }
     requires layout { M.terms.layout ≡ layout }
-    ensures { IfOk result (λ job. ScriptFits (slot_count M.terms.layout) (nat_lt job.desk.caller.counts.number M.terms.mutators) job.script) }
+    ensures { IfOk result (λ job.
+        ScriptFits (slot_count M.terms.layout)
+        (nat_lt job.desk.caller.counts.number M.terms.mutators) job.script) }
 {
     let script = script_of(rt, alloc, layout, caller.number())?;
     Ok(Job {
@@ -89,7 +91,9 @@ fn jobs_of<'a, R: Abort, M: Frame, S: Ledger>(
     requires of { All (IsCallerOf shared.now) callers.items }
     requires mutators { M.terms.mutators ≡ 8 }
     requires layout { M.terms.layout ≡ layout }
-    ensures fits { IfOk result (λ jobs. All (λ job. ScriptFits (slot_count M.terms.layout) (nat_lt job.desk.caller.counts.number M.terms.mutators) job.script) jobs.items) }
+    ensures fits { IfOk result (λ jobs.
+        All (λ job. ScriptFits (slot_count M.terms.layout)
+        (nat_lt job.desk.caller.counts.number M.terms.mutators) job.script) jobs.items) }
     ensures len { IfOk result (λ jobs. vec_len jobs ≡ vec_len callers) }
 {
     let mut jobs = Vec::with_capacity(alloc, callers.len())?;
@@ -99,8 +103,8 @@ fn jobs_of<'a, R: Abort, M: Frame, S: Ledger>(
     Ok(jobs)
 }
 
-/// The callers once their jobs are done, each with as many calls as its script has. Beside them how many of their calls
-/// were entered.
+/// The callers once their jobs are done, each with as many calls as its script has. Beside them how
+/// many of their calls were entered.
 fn callers_of<'a, R: Abort, M: Frame, S: Ledger>(
     rt: &R,
     jobs: Vec<Job<SharedDesk<'a, R, M, S>>>,
@@ -164,8 +168,8 @@ fn assert_once(rt: &impl Abort, list: &CardList, number: u32) {
     assert_eq!(rt; times, 1, "card {number} in {list:?}");
 }
 
-/// Checks a drain of the region against all slots: it answers no card twice, and each card that holds a reference into the
-/// region from outside.
+/// Checks a drain of the region against all slots: it answers no card twice, and each card that
+/// holds a reference into the region from outside.
 fn assert_drained(rt: &impl Abort, book: &mut Book, of: u32) -> Result<(), Refusal> {
     let into = region(rt, book, of);
     let Drained::Cards { cards, .. } = book.drain(0, into)? else {
@@ -202,8 +206,9 @@ fn stores_in(book: &Book) -> usize {
         .count()
 }
 
-/// Every call is made and entered, and the drains find every reference, whatever the threads did in what order. Cards
-/// stay in logs of two and in a line of four buffers only while they are 16 or fewer, so some of the 64 were refined.
+/// Every call is made and entered, and the drains find every reference, whatever the threads did in
+/// what order. Cards stay in logs of two and in a line of four buffers only while they are 16 or
+/// fewer, so some of the 64 were refined.
 #[test]
 fn a_crew_makes_all_calls_and_loses_no_reference(rt: HostRuntime) -> Result<(), Fail> {
     let layout = Layout::new(REGIONS, 4, 8).expect(&rt, "a layout within the limits");

@@ -5,7 +5,8 @@ use crate::tests::steps::{Ask, whole};
 use g1_core::Fill::{Full, Helped, No};
 use std::test::Fail;
 
-/// Into a line of one buffer a second log does not go: its mutator refines it, as a call of its own.
+/// Into a line of one buffer a second log does not go: its mutator refines it, as a call of its
+/// own.
 #[test]
 fn a_full_line_makes_the_mutator_help(rt: HostRuntime) -> Result<(), Fail> {
     let mut book = book(&rt, rt.alloc(), 1, 1, 20)?;
@@ -37,7 +38,8 @@ fn a_help_refines_the_log_that_was_filled(rt: HostRuntime) -> Result<(), Fail> {
     Ok(play(&rt, rt.alloc(), &mut book, &steps)?)
 }
 
-/// A flush goes the way of a filled log: into the line, or where that is full, it helps. Only a help is an entry.
+/// A flush goes the way of a filled log: into the line, or where that is full, it helps. Only a
+/// help is an entry.
 #[test]
 fn a_flush_puts_or_helps(rt: HostRuntime) -> Result<(), Fail> {
     let mut book = book(&rt, rt.alloc(), 4, 1, 20)?;
@@ -62,7 +64,8 @@ fn a_flush_puts_or_helps(rt: HostRuntime) -> Result<(), Fail> {
     Ok(())
 }
 
-/// A help that the full history refuses makes the reply short; the store stands, and its card stays pending.
+/// A help that the full history refuses makes the reply short; the store stands, and its card stays
+/// pending.
 #[test]
 fn a_refused_help_is_short(rt: HostRuntime) -> Result<(), Fail> {
     let mut book = book(&rt, rt.alloc(), 1, 1, 2)?;

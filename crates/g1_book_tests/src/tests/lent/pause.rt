@@ -54,7 +54,8 @@ fn stop_all<R: Abort + Wait>(rt: &R, line: &Line, taker: &mut Taker, mutators: &
     }
 }
 
-/// A pause empties the logs of all mutators and the line, without an entry, and a drain then finds each card by its mark.
+/// A pause empties the logs of all mutators and the line, without an entry, and a drain then finds
+/// each card by its mark.
 #[test]
 fn a_pause_empties_logs_and_line(rt: HostRuntime) -> Result<(), Fail> {
     let mut book = book(&rt, rt.alloc(), 2, 4, 20)?;

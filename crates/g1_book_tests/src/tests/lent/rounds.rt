@@ -5,7 +5,8 @@ use crate::tests::steps::{Ask, Round, whole};
 use g1_core::Fill::Full;
 use std::test::Fail;
 
-/// A round leaves one of five buffers: a quarter of 5, rounded down. Each buffer that it takes is a call.
+/// A round leaves one of five buffers: a quarter of 5, rounded down. Each buffer that it takes is a
+/// call.
 #[test]
 fn a_round_leaves_a_quarter(rt: HostRuntime) -> Result<(), Fail> {
     let mut book = book(&rt, rt.alloc(), 1, 10, 20)?;
@@ -24,7 +25,8 @@ fn no_round_begins_below_the_threshold(rt: HostRuntime) -> Result<(), Fail> {
     Ok(())
 }
 
-/// A card that a drain refined and a store logged again stands in two buffers: the younger one's turn skips it.
+/// A card that a drain refined and a store logged again stands in two buffers: the younger one's
+/// turn skips it.
 #[test]
 fn a_stale_card_is_skipped(rt: HostRuntime) -> Result<(), Fail> {
     let mut book = book(&rt, rt.alloc(), 1, 10, 20)?;
@@ -45,8 +47,9 @@ fn a_stale_card_is_skipped(rt: HostRuntime) -> Result<(), Fail> {
     Ok(())
 }
 
-/// At hot limit 0 with a ring of one card. The drain has refined the cards of the first two buffers, which stay in the line. Then
-/// card 0 goes into the ring; card 1 pushes it out; card 0 is clean by then, and card 1 held: both are skipped.
+/// At hot limit 0 with a ring of one card. The drain has refined the cards of the first two
+/// buffers, which stay in the line. Then card 0 goes into the ring; card 1 pushes it out; card 0 is
+/// clean by then, and card 1 held: both are skipped.
 #[test]
 fn a_round_adds_up_hot_and_skipped_cards(rt: HostRuntime) -> Result<(), Fail> {
     let layout = Layout::new(4, 2, 4).expect(&rt, "a layout within the limits");
@@ -67,8 +70,8 @@ fn a_round_adds_up_hot_and_skipped_cards(rt: HostRuntime) -> Result<(), Fail> {
     Ok(play(&rt, rt.alloc(), &mut book, &steps)?)
 }
 
-/// Seven entries have room for two calls of the round. The third is refused, and its buffer given up: the reply is short, and what
-/// is left is what the second call saw.
+/// Seven entries have room for two calls of the round. The third is refused, and its buffer given
+/// up: the reply is short, and what is left is what the second call saw.
 #[test]
 fn a_round_is_short_where_the_history_is_full(rt: HostRuntime) -> Result<(), Fail> {
     let mut book = book(&rt, rt.alloc(), 1, 10, 7)?;
@@ -82,8 +85,8 @@ fn a_round_is_short_where_the_history_is_full(rt: HostRuntime) -> Result<(), Fai
     Ok(())
 }
 
-/// Where the first call of a round is refused, that is the answer. Each refused call gives up the buffer that it took, as the rounds
-/// between them see, which are too small to make a call.
+/// Where the first call of a round is refused, that is the answer. Each refused call gives up the
+/// buffer that it took, as the rounds between them see, which are too small to make a call.
 #[test]
 fn a_full_history_refuses_a_round(rt: HostRuntime) -> Result<(), Fail> {
     let mut book = book(&rt, rt.alloc(), 1, 10, 5)?;

@@ -24,8 +24,8 @@ fn write_read_back(rt: HostRuntime) -> Result<(), Fail> {
     Ok(())
 }
 
-/// A drain refines a card whose buffer stays in the line. The buffer of the next store of the card comes after it: so the
-/// first refines the card, and the second skips it.
+/// A drain refines a card whose buffer stays in the line. The buffer of the next store of the card
+/// comes after it: so the first refines the card, and the second skips it.
 #[test]
 fn stale_is_skipped(rt: HostRuntime) -> Result<(), Fail> {
     let book = book(&rt, rt.alloc(), 1, 10, 10)?;
@@ -57,7 +57,8 @@ fn stale_is_skipped(rt: HostRuntime) -> Result<(), Fail> {
     Ok(())
 }
 
-/// With five buffers in the line a round begins, and ends where one is left. Each buffer that it takes is a call.
+/// With five buffers in the line a round begins, and ends where one is left. Each buffer that it
+/// takes is a call.
 #[test]
 fn shared_work(rt: HostRuntime) -> Result<(), Fail> {
     let book = book(&rt, rt.alloc(), 1, 10, 10)?;
@@ -118,8 +119,8 @@ fn three_callers_fill_a_shared_book(rt: HostRuntime) -> Result<(), Fail> {
     Ok(())
 }
 
-/// A refused call gives up the buffer that it took, as the rounds beside it see, which are too small to make a call. The card
-/// of the buffer stays pending.
+/// A refused call gives up the buffer that it took, as the rounds beside it see, which are too
+/// small to make a call. The card of the buffer stays pending.
 #[test]
 fn a_refused_refinement_gives_up_its_buffer(rt: HostRuntime) -> Result<(), Fail> {
     let book = book(&rt, rt.alloc(), 1, 10, 1)?;

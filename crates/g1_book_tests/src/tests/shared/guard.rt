@@ -6,7 +6,8 @@ use super::*;
 use crate::tests::steps::assert_stored;
 use std::test::Fail;
 
-/// A store and two questions under one lock, and how many calls and stores the caller has made after each.
+/// A store and two questions under one lock, and how many calls and stores the caller has made
+/// after each.
 fn under_one_lock<M: Frame, S: Ledger, R: Wait + Abort>(
     rt: &R,
     made: Blank,

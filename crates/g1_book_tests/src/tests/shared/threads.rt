@@ -10,8 +10,8 @@ use std::test::Fail;
 use std::thread;
 use std::thread::Threads;
 
-/// What a caller was answered: the entries that its calls have to be, what became of its log at its first flush, and
-/// whether a call was refused.
+/// What a caller was answered: the entries that its calls have to be, what became of its log at its
+/// first flush, and whether a call was refused.
 #[derive(Drop)]
 struct Record {
     entries: Vec<Entry>,
@@ -269,8 +269,9 @@ fn assert_all_recorded(rt: &impl Abort, book: &Book, records: &[Record]) {
     }
 }
 
-/// Each caller's entries are the replies that it was given, in its order, whatever the others do between them. A flush that
-/// helps nobody is none, and what is left in the line does not stand in an entry.
+/// Each caller's entries are the replies that it was given, in its order, whatever the others do
+/// between them. A flush that helps nobody is none, and what is left in the line does not stand in
+/// an entry.
 #[test]
 fn replies_are_entries(rt: HostRuntime) -> Result<(), Fail> {
     let layout = Layout::new(4, 2, 4).expect(&rt, "a layout within the limits");
