@@ -1,4 +1,5 @@
-# For the check-* scripts, which source it: counts what passed, says what did not, and ends with the line that .ci/run adds up.
+# For the check-* scripts, which source it: counts what passed, says what did not, and ends with the
+# line that .ci/run adds up.
 passed=0
 failed=0
 

@@ -39,7 +39,8 @@ final class FieldSites {
         return site.offset;
     }
 
-    // The field stands in the site's class or in one above it. A class below may have another field of the name.
+    // The field stands in the site's class or in one above it. A class below may have another field
+    // of the name.
     private static int offset(Site site, Class<?> holder) {
         Class<?> at = holder;
         while (!at.getName().equals(site.owner)) {

@@ -11,8 +11,9 @@ import jdk.internal.misc.Unsafe;
  * The heap of the trace: which slots each object of the program has.
  *
  * <p>A slot is one word of the object as the virtual machine lays it out, as wide as a reference; words of the header and of
- * other values are slots too. An object gets its slots when the record first meets it, behind the objects before it. It crosses
- * the end of a region only where it is larger than a region, and it then begins one. No slot is given back.
+ * other values are slots too. An object gets its slots when the record first meets it, behind the
+ * objects before it. It crosses the end of a region only where it is larger than a region, and it
+ * then begins one. No slot is given back.
  */
 final class ObjectLayout {
     static final int WORD_BYTES = Unsafe.ARRAY_OBJECT_INDEX_SCALE;

@@ -1,7 +1,8 @@
 package ninkoda.recorder;
 
 /**
- * The threads that do the recorder's work at the moment, and not the program's: what they store is not recorded.
+ * The threads that do the recorder's work at the moment, and not the program's: what they store is
+ * not recorded.
  *
  * <p>It calls nothing that is instrumented itself.
  */

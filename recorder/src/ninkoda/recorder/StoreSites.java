@@ -12,7 +12,8 @@ final class StoreSites extends MethodVisitor {
     private static final String UNSAFE = "jdk/internal/misc/Unsafe";
     private static final String OBJECT = "Ljava/lang/Object;";
 
-    // A constructor may not hand on `this` before its call of super(). The sites before that call wait for it.
+    // A constructor may not hand on `this` before its call of super(). The sites before that call
+    // wait for it.
     private boolean beforeSuper;
     private int unfinishedObjects;
     private final List<Integer> waiting = new ArrayList<>();

@@ -6,7 +6,8 @@ import jdk.internal.misc.Unsafe;
  * What instrumented code calls at each store of a reference.
  *
  * <p>One lock stands around the record, so its stores have one order. A store is recorded after it was made, with what the
- * slot then holds: where threads race for a slot, the last line of the trace about it is what it holds.
+ * slot then holds: where threads race for a slot, the last line of the trace about it is what it
+ * holds.
  */
 public final class Stores {
     private static final Unsafe UNSAFE = Unsafe.getUnsafe();
@@ -132,7 +133,8 @@ public final class Stores {
         }
     }
 
-    // The other threads wait with their next store, so that the record is compared with objects that stand still.
+    // The other threads wait with their next store, so that the record is compared with objects
+    // that stand still.
     private static void write() {
         if (recording != null) {
             recording.write();
