@@ -3,6 +3,7 @@ use Rattle.std.proofs.Common.{◌≡◌, ℕ, ◌+◌, ◌-◌, ◌/◌, ◌≤�
 use Rattle.std.specs.Prelude.{count_by, Result, Ok, Err, IfOk, OnErr}
 use Rattle.std.proofs.lemmas.List.{length-map}
 use Rattle.std.proofs.lemmas.List.Sums.{sum_by-append}
+use Rattle.g1_layout.specs.Shape.{Shape}
 use Rattle.g1_log.specs.declared.parcel.Parcel.{Parcel}
 use Rattle.g1_log.specs.declared.ends.Taker.{Taker}
 use Rattle.g1_log.specs.Ends.{taken_of}
@@ -60,14 +61,14 @@ round_as did tells old new was now before most reply after told h = record {
 }
 
 -- a round makes no more entries than its taker gains parcels
-pub round_makes : (t : Tally) (before : List Parcel) (most : ℕ) (reply : RefineReply) (after : List Parcel) (u : Tally) → IsRound CountsDid t before most reply after u → MakesFor t.made before u.made after
-round_makes t before most reply after u h =
+pub round_makes : (layout : Shape) (t : Tally) (before : List Parcel) (most : ℕ) (reply : RefineReply) (after : List Parcel) (u : Tally) → IsRound (CountsDid layout) t before most reply after u → MakesFor t.made before u.made after
+round_makes layout t before most reply after u h =
     let all = map (λ (x : Turn). x.parcel) h.turns in
     let worked = round_counted t h.turns h.refused in
     record {
       parcels = all ++ h.taken.parcels;
       gained = h.taken.gained ∙ append_assoc before all h.taken.parcels;
-      within = omega (arith, ap (λ (c : Tally). c.made) h.made, worked.made, length-append all h.taken.parcels, length-map h.turns (λ (x : Turn). x.parcel));
+      within = omega (arith, ap (λ (c : Tally). c.made) h.made.0, worked.made, length-append all h.taken.parcels, length-map h.turns (λ (x : Turn). x.parcel));
     }
 
 -- where none was made, its taker may have gained parcels or not

@@ -6,6 +6,7 @@ use Rattle.g1_log.specs.declared.parcel.Parcel.{Parcel}
 use Rattle.g1_log.specs.Ends.{capacity_of}
 use Rattle.g1_core.specs.declared.reply.RefineReply.{RefineReply}
 use Rattle.g1_book.specs.declared.refusal.Refusal.{Refusal}
+use Rattle.g1_book.specs.History.{Terms}
 use Rattle.g1_steps.specs.Made.{Made}
 use Rattle.g1_steps.specs.Rounds.{IsRound, round_size}
 use Rattle.g1_steps.specs.Ask.{AskWork}
@@ -20,12 +21,12 @@ rounds_as did tells old new was now before reply after start named seen same tol
     subst (λ n. IsRound tells was before (round_size n seen) reply after now) same (round_as did tells old new was now before (round_size start seen) reply after told h)
 
 -- what a desk tells of it
-pub desk_worked : (r : Result RefineReply Refusal) (line : Line) (start : ℕ) (s t : Standing) → mark_of t ≡ mark_of s → t.counts.stored ≡ s.counts.stored
-    → (s.counts.made ≤ t.counts.made) × (t.counts.made ≤ s.counts.made + capacity_of line) → IfOk r (λ reply. RoundsAt line start s reply t)
+pub desk_worked : (r : Result RefineReply Refusal) (line : Line) (terms : Terms) (s t : Standing) → mark_of t ≡ mark_of s → t.counts.stored ≡ s.counts.stored
+    → (s.counts.made ≤ t.counts.made) × (t.counts.made ≤ s.counts.made + capacity_of line) → IfOk r (λ reply. RoundsAt terms line s reply t)
     → OnOk r (DeskDid (capacity_of line) s (AskWork ∷ []) (capacity_of line) t)
-desk_worked (Err refusal) line start s t mark stored made round = tt
-desk_worked (Ok reply) line start s t mark stored made round =
-    let makes = round_makes s.counts (taken_list s) _ reply (taken_list t) t.counts round.2 in (
+desk_worked (Err refusal) line terms s t mark stored made round = tt
+desk_worked (Ok reply) line terms s t mark stored made round =
+    let makes = round_makes terms.layout s.counts (taken_list s) _ reply (taken_list t) t.counts round.2 in (
       refl,
       record {
         mark = mark;

@@ -1,6 +1,7 @@
 -- A caller of a shared book as contracts see it, and what the steps do to it.
 use Rattle.std.specs.Prelude.{◌≡◌, ℕ, ◌+◌, ◌<◌, ◌≤◌, ◌⊎◌, Bool, true, false, List, [], ◌∷◌, ◌++◌}
 use Rattle.std.specs.Prelude.{length, Option, Some, None, IfSome, IsSome}
+use Rattle.g1_layout.specs.Shape.{Shape}
 use Rattle.g1_layout.specs.declared.kind.Kind.{Kind}
 use Rattle.g1_log.specs.declared.line.Line.{Line}
 use Rattle.g1_log.specs.declared.ends.Taker.{Taker}
@@ -13,6 +14,7 @@ use Rattle.g1_core.specs.declared.reply.RefineReply.{RefineReply}
 use Rattle.g1_core.specs.declared.reply.Fill.{Fill}
 use Rattle.g1_core.specs.declared.reply.Fill.TheVariants.{No, Full, Helped}
 use Rattle.g1_steps.specs.declared.steps.mutator.Mutator.{Mutator}
+use Rattle.g1_book.specs.History.{Terms}
 use Rattle.g1_shared.specs.Counts.{Tally, one_call, CountsDid}
 use Rattle.g1_steps.specs.Steps.{IsRefinement}
 use Rattle.g1_steps.specs.Rounds.{IsRound, round_size}
@@ -94,17 +96,18 @@ FlushesAt c Full refined short d =
 FlushesAt c Helped refined short d =
     IsHelped c.counts.made refined short d.counts.made × (put_list d ≡ put_list c)
 
--- A refinement of a caller: its counts tell of the call.
-abbrev pub RefinesAt : Standing → RefineReply → Standing → Type 0
-RefinesAt c reply d = IsRefinement CountsDid c.counts c.taker reply d.taker d.counts
+-- A refinement of a caller: its counts tell of the call, and the reply is one of that buffer.
+abbrev pub RefinesAt : Shape → Standing → RefineReply → Standing → Type 0
+RefinesAt layout c reply d =
+    IsRefinement (CountsDid layout) c.counts c.taker reply d.taker d.counts
 
--- A round of a caller at a line, which begins at `start` completed buffers: its counts tell of the
--- calls.
-abbrev pub RoundsAt : Line → ℕ → Standing → RefineReply → Standing → Type 0
-RoundsAt line start c reply d =
+-- A round of a caller at a line, on these terms: its counts tell of the calls, and the replies are
+-- those of the buffers.
+abbrev pub RoundsAt : Terms → Line → Standing → RefineReply → Standing → Type 0
+RoundsAt terms line c reply d =
     (seen : ℕ) × (seen ≤ capacity_of line)
-    × IsRound CountsDid c.counts (taken_list c) (round_size start seen) reply
-    (taken_list d) d.counts
+    × IsRound (CountsDid terms.layout) c.counts (taken_list c)
+    (round_size terms.settings.start seen) reply (taken_list d) d.counts
 
 -- The list has grown by parcels, and no more entries were made than these.
 pub record MakesFor (made : ℕ) (old : List Parcel) (made' : ℕ) (new : List Parcel) : Type 0 where

@@ -1,10 +1,12 @@
 -- What is counted of a caller: its entries, and the stores among them.
 use Rattle.std.specs.Prelude.{◌≡◌, ℕ, ◌+◌, Bool, true, false, List, [], ◌∷◌, ◌++◌, refl}
 use Rattle.std.specs.Coded.{Coded, code_by, coded×, coded_ℕ}
+use Rattle.g1_layout.specs.Shape.{Shape}
 use Rattle.g1_core.specs.declared.entry.Entry.{Entry}
 use Rattle.g1_core.specs.declared.entry.Call.{Call}
 use Rattle.g1_core.specs.declared.entry.Call.TheVariants.{Store}
 use Rattle.g1_steps.specs.Made.{Made, Stored, Refined, Refused}
+use Rattle.g1_shared.specs.Answers.{AreAnswersAt}
 
 abbrev pub stores_by : Call → Bool
 stores_by (Store slot target) = true
@@ -41,9 +43,9 @@ counted t (Stored slot target reply ∷ ms) = counted (one_store t) ms
 counted t (Refined buffer reply ∷ ms) = counted (one_call t) ms
 counted t (Refused refusal ∷ ms) = counted t ms
 
--- the counts tell of the calls that were made
-abbrev pub CountsDid : Tally → List Made → Tally → Type 0
-CountsDid t calls u = u ≡ counted t calls
+-- the counts tell of the calls that were made, and the heap which answers these can have
+abbrev pub CountsDid : Shape → Tally → List Made → Tally → Type 0
+CountsDid layout t calls u = (u ≡ counted t calls) × AreAnswersAt layout calls
 
 pub counted_then : (t : Tally) (xs ys : List Made)
     → counted (counted t xs) ys ≡ counted t (xs ++ ys)

@@ -1,5 +1,5 @@
+pub mod Answers
 pub mod Callers
 pub mod Counts
 pub mod Did
-pub mod Kinds
 pub mod Totals

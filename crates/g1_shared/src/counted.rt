@@ -14,7 +14,7 @@ ghost use Rattle.g1_core.specs.Redirect.{IsRedirectOf};
 ghost use Rattle.g1_core.specs.Refinement.{IsRefined, AreCardsRead};
 ghost use Rattle.g1_core.specs.Run.{kind_of};
 ghost use Rattle.g1_core.specs.Table.{target_of, AreMembers};
-ghost use Rattle.g1_shared.specs.Kinds.{IsKindAt};
+ghost use Rattle.g1_shared.specs.Answers.{IsKindAt, IsReplyAt};
 ghost use Rattle.g1_shared.specs.Counts.{one_call, one_store, is_store};
 ghost use Rattle.g1_shared.specs.Callers.{called_once, HandsOut};
 ghost use Rattle.g1_book.specs.History.{IsEntered, AnswersExactly, table_in, terms_of};
@@ -171,6 +171,8 @@ impl<M: Frame, S: Ledger> Counted<M, S> {
             AreCardsRead self.old.machine reply self.new.machine) }
         ensures numbers { IfOk result (λ reply.
             (reply.taken ≤ 1) × (length reply.refined + reply.skipped ≤ 256) × (reply.hot ≤ 256)) }
+        ensures answer { IfOk result (λ reply.
+            IsReplyAt M.terms.layout (option_map (λ b. b.now) buffer.entry) reply) }
         ensures counts { OnOk result (counts.new ≡ one_call counts.old) }
         ensures full { (result ≡ Err Refusal.BookFull)
             ↔ (length self.old.entries ≡ self.old.limit) }

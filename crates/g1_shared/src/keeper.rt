@@ -1,11 +1,11 @@
 //! What makes the calls of a shared machinery under its lock.
 ghost use Rattle.std.specs.Prelude.{◌≡◌, ◌≢◌, ◌+◌, ◌<◌, ◌≤◌, [], false, length, IfOk, OnErr, OnOk};
-ghost use Rattle.std.specs.Prelude.{IfSome, IsNone};
+ghost use Rattle.std.specs.Prelude.{IfSome, IsNone, option_map};
 ghost use Rattle.g1_layout.specs.Shape.{slot_count, card_count, card_of};
 ghost use Rattle.g1_core.specs.Barrier.{logged, buffer_of, fill_of, unfilled};
 ghost use Rattle.g1_shared.specs.Counts.{one_call, one_store};
 ghost use Rattle.g1_shared.specs.Callers.{called_once};
-ghost use Rattle.g1_shared.specs.Kinds.{IsKindAt};
+ghost use Rattle.g1_shared.specs.Answers.{IsKindAt, IsReplyAt};
 
 use crate::caller::{Caller, Counts};
 use crate::counted::Counted;
@@ -75,6 +75,8 @@ pub trait Keeper<M: Frame, S: Ledger>: Drop {
             (reply.taken ≤ 1) × (length reply.refined + reply.skipped ≤ 256) × (reply.hot ≤ 256)) }
         ensures left { IfOk result (λ reply. reply.left ≡ 0) }
         ensures idle { IfOk result (λ reply. IsNone buffer.entry → reply.taken ≡ 0) }
+        ensures answer { IfOk result (λ reply.
+            IsReplyAt M.terms.layout (option_map (λ b. b.now) buffer.entry) reply) }
         ensures counts { OnOk result (counts.new ≡ one_call counts.old) }
         ensures err { OnErr result (counts.new ≡ counts.old) };
 

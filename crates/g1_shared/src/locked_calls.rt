@@ -2,7 +2,7 @@
 ghost use Rattle.std.specs.Prelude.{◌≡◌, refl, nat_lt};
 ghost use Rattle.std.proofs.Common.{◌∙◌, ap};
 ghost use Rattle.g1_shared.specs.Counts.{counted, counted_then, counted_number};
-ghost use Rattle.g1_shared.specs.Kinds.{HaveKinds, kinds_then};
+ghost use Rattle.g1_shared.specs.Answers.{AreAnswersAt, answers_then};
 
 use crate::caller::Counts;
 use crate::keeper::Keeper;
@@ -19,8 +19,8 @@ use std::sync::{Mutex, Wait};
 /// A counted book or core under its lock, which each call takes and leaves, and the counts of the
 /// caller.
 ///
-/// Only the counts say anything of the calls that were made, and the kinds of the stores what slot
-/// and target tell: no clause can say what was under the lock at that moment.
+/// Only the counts say anything of the calls that were made, and their answers what slot and
+/// target, or the buffer, tell: no clause can say what was under the lock at that moment.
 #[derive(Drop)]
 pub(crate) struct LockedCalls<'a, R, M: Frame, S: Ledger, K: Keeper<M, S>> {
     pub(crate) rt: &'a R,
@@ -36,7 +36,7 @@ impl<'a, R: Wait, M: Frame, S: Ledger, K: Keeper<M, S>> Calls for LockedCalls<'a
 
     ghost did = { λ s ms t. (t.counts.ghost_name ≡ s.counts.ghost_name)
         × (t.counts.now ≡ counted s.counts.now ms)
-        × HaveKinds M.terms.layout ms };
+        × AreAnswersAt M.terms.layout ms };
 
     fn store(
         &mut self,
@@ -74,7 +74,7 @@ impl<'a, R: Wait, M: Frame, S: Ledger, K: Keeper<M, S>> Calls for LockedCalls<'a
     ghost then = { λ s t u xs ys h k. (
       k.0 ∙ h.0,
       k.1 ∙ ap (λ n. counted n ys) h.1 ∙ counted_then s.counts.now xs ys,
-      kinds_then M.terms.layout xs ys h.2 k.2,
+      answers_then M.terms.layout xs ys h.2 k.2,
     ) };
 
     ghost stays = { λ s t ms h. (

@@ -6,7 +6,7 @@ ghost use Rattle.g1_core.specs.Barrier.{logged};
 ghost use Rattle.g1_log.specs.Ends.{capacity_of};
 ghost use Rattle.g1_shared.specs.Callers.{IsCallerOf, log_of, StoresAt, FlushesAt, RoundsAt};
 ghost use Rattle.g1_shared.specs.Did.{IsRefusedAt};
-ghost use Rattle.g1_shared.specs.Kinds.{IsKindAt};
+ghost use Rattle.g1_shared.specs.Answers.{IsKindAt};
 ghost use Rattle.g1_shared.specs.Did.{DeskDid, caller_did_none, desk_did_then};
 
 use crate::caller::Caller;
@@ -80,7 +80,7 @@ impl<'a, R: Wait, M: Frame, S: Ledger, K: Keeper<M, S>> Desk for SharedDesk<'a, 
         × (reply.cards ≡ length (log_of s.caller).cards) };
 
     ghost worked = { λ s reply t.
-        RoundsAt s.shared.now M.terms.settings.start s.caller reply t.caller };
+        RoundsAt M.terms s.shared.now s.caller reply t.caller };
 
     ghost refused = { λ s ask why t. IsRefusedAt s.caller ask t.caller };
 

@@ -16,7 +16,7 @@ ghost use Rattle.g1_core.specs.Run.{kind_of};
 ghost use Rattle.g1_core.specs.Table.{target_of, AreMembers};
 ghost use Rattle.g1_shared.specs.Counts.{one_call, one_store};
 ghost use Rattle.g1_shared.specs.Callers.{called_once};
-ghost use Rattle.g1_shared.specs.Kinds.{IsKindAt};
+ghost use Rattle.g1_shared.specs.Answers.{IsKindAt, IsReplyAt};
 ghost use Rattle.g1_shared.specs.Totals.{with_call, with_store, IsCoreStep, IsFull};
 
 use crate::caller::{Caller, Counts};
@@ -120,6 +120,8 @@ impl<M: Frame, S: Ledger> Keeper<M, S> for CountedCore<M, S> {
             (reply.taken ≤ 1) × (length reply.refined + reply.skipped ≤ 256) × (reply.hot ≤ 256)) }
         ensures left { IfOk result (λ reply. reply.left ≡ 0) }
         ensures idle { IfOk result (λ reply. IsNone buffer.entry → reply.taken ≡ 0) }
+        ensures answer { IfOk result (λ reply.
+            IsReplyAt M.terms.layout (option_map (λ b. b.now) buffer.entry) reply) }
         ensures step { IfOk result (λ reply.
             IsCoreStep self.old (λ number. refine_entry number reply) self.new) }
         ensures later { OnOk result (IsLater self.old.machine self.new.machine) }

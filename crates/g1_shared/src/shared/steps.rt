@@ -8,7 +8,7 @@ ghost use Rattle.g1_steps.specs.Steps.{GainsAtMost, Empties, MayRefuse};
 ghost use Rattle.g1_steps.specs.Rounds.{IsRound, round_size};
 ghost use Rattle.g1_core.specs.Barrier.{logged, buffer_of};
 ghost use Rattle.g1_shared.specs.Counts.{CountsDid};
-ghost use Rattle.g1_shared.specs.Kinds.{IsKindAt};
+ghost use Rattle.g1_shared.specs.Answers.{IsKindAt};
 ghost use Rattle.g1_shared.specs.Callers.{Standing, mark_of, IsCallerOf, log_of, taken_list};
 ghost use Rattle.g1_shared.specs.Callers.{StoresAt, FlushesAt, RefinesAt, RoundsAt, IsPaused};
 
@@ -117,7 +117,8 @@ impl<M: Frame, S: Ledger, K: Keeper<M, S>> Shared<M, S, K> {
             × (reply.left ≤ capacity_of self.now)) }
         ensures taken { IfOk result (λ reply.
             reply.taken ≡ 1 → (x : P) × (taken_list caller.new ≡ taken_list caller.old ++ x ∷ [])) }
-        ensures refined { IfOk result (λ reply. RefinesAt caller.old reply caller.new) }
+        ensures refined { IfOk result (λ reply.
+            RefinesAt M.terms.layout caller.old reply caller.new) }
         ensures gained { GainsAtMost (taken_list caller.old) 1 (taken_list caller.new) }
     {
         let mut calls = LockedCalls {
@@ -139,7 +140,7 @@ impl<M: Frame, S: Ledger, K: Keeper<M, S>> Shared<M, S, K> {
         ensures stored { caller.new.counts.stored ≡ caller.old.counts.stored }
         ensures mutator { caller.new.mutator ≡ caller.old.mutator }
         ensures round { IfOk result (λ reply.
-            RoundsAt self.now M.terms.settings.start caller.old reply caller.new) }
+            RoundsAt M.terms self.now caller.old reply caller.new) }
         ensures given_up { OnErr result
             (GainsAtMost (taken_list caller.old) 1 (taken_list caller.new)) }
         ensures made { (caller.old.counts.made ≤ caller.new.counts.made)
@@ -164,7 +165,7 @@ impl<M: Frame, S: Ledger, K: Keeper<M, S>> Shared<M, S, K> {
         ensures kept { (counts.new.number ≡ counts.old.number)
             × (counts.new.stored ≡ counts.old.stored) }
         ensures round { IfOk result (λ reply. (seen : ℕ) × (seen ≤ capacity_of self.now)
-            × IsRound CountsDid counts.old (taken_of taker.old)
+            × IsRound (CountsDid M.terms.layout) counts.old (taken_of taker.old)
             (round_size M.terms.settings.start seen) reply (taken_of taker.new) counts.new) }
         ensures given_up { OnErr result (GainsAtMost (taken_of taker.old) 1 (taken_of taker.new)) }
         ensures made { (counts.old.made ≤ counts.new.made)

@@ -1,5 +1,6 @@
-use Rattle.std.proofs.Common.{refl}
+use Rattle.std.proofs.Common.{refl, ap}
 use Rattle.g1_core.specs.Calls.{refine_entry}
+use Rattle.g1_book.specs.History.{Terms}
 use Rattle.g1_shared.proofs.CallLemmas.{same_counted, call_counted, total_fits, entered_of, call_tallied, refined_as, read_as, full_as, if_refused, on_refused, err_refused}
 use Rattle.g1_shared.proofs.counted.Counted.refine_by.Goals as goal
 
@@ -28,6 +29,9 @@ returns-in_err-reply-clause-reads g c = if_refused _ _ c.from_residual.ensures.0
 pub returns-in_err-reply-clause-numbers : goal.returns-in_err-reply-clause-numbers
 returns-in_err-reply-clause-numbers g c = if_refused _ _ c.from_residual.ensures.0
 
+pub returns-in_err-reply-clause-answer : goal.returns-in_err-reply-clause-answer
+returns-in_err-reply-clause-answer g c = if_refused _ _ c.from_residual.ensures.0
+
 pub returns-in_err-reply-clause-counts : goal.returns-in_err-reply-clause-counts
 returns-in_err-reply-clause-counts g c = on_refused _ _ c.from_residual.ensures.0
 
@@ -40,6 +44,10 @@ returns-clause-entered g c = entered_of _ _ _ _ _ (λ n. refine_entry n c.in_ok-
 
 pub returns-clause-refined : goal.returns-clause-refined
 returns-clause-refined g c = refined_as c.self.inside.book c.args.self.now c.refine.new.self _ _ c.self.view_is c.in_ok-reply.ensures.refined
+
+pub returns-clause-answer : goal.returns-clause-answer
+returns-clause-answer g c =
+    (c.self.inside.book.machine.state, c.refine.new.self.machine.state, ap (λ (t : Terms). t.layout) c.self.invariant.2, c.in_ok-reply.ensures.refined)
 
 pub returns-clause-reads : goal.returns-clause-reads
 returns-clause-reads g c = read_as c.self.inside.book c.args.self.now c.refine.new.self _ c.self.view_is c.in_ok-reply.ensures.reads

@@ -15,3 +15,8 @@ returns-clause-numbers g c =
     let few = c.cards_in-few.ensures.few in
     let cards = c.cards_in-few.ensures.cards in
     (omega arith, omega arith, omega arith)
+
+-- the reply is one of the core's state
+pub returns-clause-answer : goal.returns-clause-answer
+returns-clause-answer g c =
+    (c.self.inside.core.state, c.refine.new.self.state, c.self.invariant.0, c.in-Ok.ensures.turned)
