@@ -4,10 +4,10 @@
 //! of two runs under callgrind, by the difference of their numbers of calls: making the heap and recording its references is the
 //! same in both. `measure` in this folder prints the table.
 //!
-//! With five words it makes rounds of stores by one thread or several, and also prints how many nanoseconds the threads spent in
-//! the loops of stores, added up. `measure-threads` prints the tables.
+//! With five words it makes rounds of stores, or of refinements in a race, by one thread or several, and also prints how many
+//! nanoseconds the threads spent in their loops, added up. `measure-threads` prints the tables.
 //!
-//! With the word `paused` and four numbers it makes rounds of a race and a pause in place, and prints what each call took.
+//! With the word `paused` and five numbers it makes rounds of a race and a pause in place, and prints what each call took.
 //! `measure-pauses` prints the table.
 //!
 //! - [`plan`]: the six words.
@@ -39,7 +39,7 @@ use workload::Workload;
 
 const USAGE: &str = "usage: g1bench CALL TIMES REGIONS CARDS SLOTS REFERENCES
        g1bench BARRIER TARGET THREADS ROUNDS STORES
-       g1bench paused REGIONS CARDS SLOTS DIRTY
+       g1bench paused REGIONS CARDS SLOTS DIRTY APART
 ";
 
 fn main(rt: HostRuntime) -> ExitCode {

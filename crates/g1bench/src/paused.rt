@@ -20,14 +20,24 @@ const ROUNDS: u32 = 10;
 pub struct Pauses {
     /// The heap.
     pub layout: Layout,
-    /// How many cards are dirty at each pause.
-    pub dirty: u32,
+    /// Which cards are dirty at each pause.
+    pub dirty: Dirty,
 }
 
-/// The run of these words: `paused`, the three counts of a heap, and the number of dirty cards.
-/// `None` where one of them is missing or is none, or where the heap has fewer cards.
+/// The first card, and further ones at this distance from one to the next.
+#[derive(Clone, Copy, Debug)]
+pub struct Dirty {
+    /// How many cards.
+    pub count: u32,
+    /// Their distance: 1 where they lie side by side.
+    pub apart: u32,
+}
+
+/// The run of these words: `paused`, the three counts of a heap, the number of dirty cards, and how
+/// far apart they lie. `None` where one of them is missing or is none, or where the heap has fewer
+/// cards.
 pub fn read_pauses(words: &[String]) -> Option<Pauses> {
-    let [name, regions, cards, slots, dirty] = words else {
+    let [name, regions, cards, slots, dirty, apart] = words else {
         return None;
     };
     let layout = Layout::large(
@@ -35,20 +45,25 @@ pub fn read_pauses(words: &[String]) -> Option<Pauses> {
         cards.as_str().parse::<u32>().ok()?,
         slots.as_str().parse::<u32>().ok()?,
     )?;
-    let dirty = dirty.as_str().parse::<u32>().ok()?;
-    if name.as_str() != "paused" || dirty > layout.card_count() {
+    let count = dirty.as_str().parse::<u32>().ok()?;
+    let apart = apart.as_str().parse::<u32>().ok()?;
+    let reach = count.checked_mul(apart)?;
+    if name.as_str() != "paused" || apart == 0 || reach > layout.card_count() {
         return None;
     }
+    let dirty = Dirty { count, apart };
     Some(Pauses { layout, dirty })
 }
 
-// What the calls took, in nanoseconds: the stores and the refinements of all dirty cards, a pause,
-// a drain that refines them, one that finds nothing dirty, and a resume.
+// What the calls took, in nanoseconds: a resume, the first stores to all dirty cards, which set the
+// flags of these, their concurrent refinement, the stores to them after it, a pause, a drain that
+// refines them, and one that finds nothing dirty.
 #[derive(Clone, Copy, Debug, Drop)]
 struct Times {
     resume: u64,
     stores: u64,
     refinements: u64,
+    again: u64,
     pause: u64,
     drain: u64,
     idle: u64,
@@ -61,6 +76,7 @@ impl Times {
             resume: self.resume.min(other.resume),
             stores: self.stores.min(other.stores),
             refinements: self.refinements.min(other.refinements),
+            again: self.again.min(other.again),
             pause: self.pause.min(other.pause),
             drain: self.drain.min(other.drain),
             idle: self.idle.min(other.idle),
@@ -80,8 +96,14 @@ pub fn print_pauses<R: Threads + Sync + Clock + Print + Eprint>(
         return ExitCode::from(3);
     };
     let Ok(()) = println!(rt;
-        "resume {}\nstores {}\nrefinements {}\npause {}\ndrain {}\nidle {}\nchecksum {listed}",
-        times.resume, times.stores, times.refinements, times.pause, times.drain, times.idle
+        "resume {}\nfirst {}\nrefined {}\nagain {}\npause {}\ndrain {}\nidle {}\nchecksum {listed}",
+        times.resume,
+        times.stores,
+        times.refinements,
+        times.again,
+        times.pause,
+        times.drain,
+        times.idle
     ) else {
         return ExitCode::from(5);
     };
@@ -110,7 +132,7 @@ fn round<R: Threads + Sync + Clock>(
     rt: &R,
     alloc: Global,
     paused: Paused,
-    dirty: u32,
+    dirty: Dirty,
 ) -> Result<(Paused, Times, u64), NoMemory> {
     let began = now(rt);
     let (race, racers, sweepers) = paused.resume();
@@ -133,7 +155,7 @@ fn race_on<R: Threads + Sync + Clock>(
     race: Race,
     racers: Vec<Racer>,
     sweepers: Vec<Sweeper>,
-    dirty: u32,
+    dirty: Dirty,
 ) -> (Paused, Times)
     requires count { vec_len racers + vec_len sweepers ≡ (race_shape race).members }
     requires racers { All (λ r. racer_race r ≡ race_id race) racers.items }
@@ -145,7 +167,9 @@ fn race_on<R: Threads + Sync + Clock>(
     let began = now(rt);
     let sweepers = refine_all(rt, &race, sweepers, dirty);
     let refinements = since(rt, began);
+    let began = now(rt);
     let racers = store_all(rt, &race, racers, dirty);
+    let again = since(rt, began);
     let began = now(rt);
     let paused = race.pause(racers, sweepers);
     let pause = since(rt, began);
@@ -153,6 +177,7 @@ fn race_on<R: Threads + Sync + Clock>(
         resume: 0,
         stores,
         refinements,
+        again,
         pause,
         drain: 0,
         idle: 0,
@@ -192,7 +217,7 @@ fn store_all<R: Threads + Sync>(
     rt: &R,
     race: &Race,
     mut racers: Vec<Racer>,
-    dirty: u32,
+    dirty: Dirty,
 ) -> Vec<Racer>
     requires racers { All (λ r. racer_race r ≡ race_id race.now) racers.items }
     ensures all { All (λ r. racer_race r ≡ race_id race.now) result.items }
@@ -212,7 +237,7 @@ fn refine_all<R: Threads + Sync>(
     rt: &R,
     race: &Race,
     mut sweepers: Vec<Sweeper>,
-    dirty: u32,
+    dirty: Dirty,
 ) -> Vec<Sweeper>
     requires sweepers { All (λ s. sweeper_race s ≡ race_id race.now) sweepers.items }
     ensures all { All (λ s. sweeper_race s ≡ race_id race.now) result.items }
@@ -228,13 +253,14 @@ fn refine_all<R: Threads + Sync>(
 }
 
 // Stores a reference to the first place of the next region into the first slot of each card.
-fn store_each(race: &Race, racer: &mut Racer, dirty: u32)
+fn store_each(race: &Race, racer: &mut Racer, dirty: Dirty)
     requires { racer_race racer.old ≡ race_id race.now }
     ensures { racer_race racer.new ≡ racer_race racer.old }
 {
     let layout = race.layout();
     let (regions, cards, slots) = layout.counts();
-    for card in 0..dirty {
+    for nth in 0..dirty.count {
+        let card = nth.wrapping_mul(dirty.apart);
         let region = (card / cards).wrapping_add(1) % regions;
         let place = layout.slot(region.wrapping_mul(cards).wrapping_mul(slots));
         let Some(slot) = layout.slot(card.wrapping_mul(slots)) else {
@@ -248,13 +274,13 @@ fn store_each(race: &Race, racer: &mut Racer, dirty: u32)
 }
 
 // Refines each of these cards.
-fn refine_each(race: &Race, sweeper: &mut Sweeper, dirty: u32)
+fn refine_each(race: &Race, sweeper: &mut Sweeper, dirty: Dirty)
     requires { sweeper_race sweeper.old ≡ race_id race.now }
     ensures { sweeper_race sweeper.new ≡ sweeper_race sweeper.old }
 {
     let layout = race.layout();
-    for card in 0..dirty {
-        if let Some(card) = layout.card(card) {
+    for nth in 0..dirty.count {
+        if let Some(card) = layout.card(nth.wrapping_mul(dirty.apart)) {
             let _refined = sweeper.refine(race, card).is_ok();
         }
     }

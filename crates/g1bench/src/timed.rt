@@ -1,4 +1,4 @@
-//! Rounds of stores by the clock, in one thread or several.
+//! Rounds of stores, or of refinements, by the clock, in one thread or several.
 ghost use Rattle.std.specs.Prelude.{◌≡◌, ◌<◌, ◌≤◌, IfSome};
 
 use crate::list::Target;
@@ -26,6 +26,8 @@ pub enum Barrier {
     Unrecorded,
     /// In a race.
     Raced,
+    /// In a race too, each once, and no time counts them. Then sweepers refine their cards, in rounds.
+    Swept,
 }
 
 /// One run.
@@ -74,18 +76,17 @@ pub fn read_timed(words: &[String]) -> Option<Timed>
     Some(timed)
 }
 
-// A run whose stores are logged has one round, since a card that is dirty is not logged again. At a
-// book, whose history ends, nothing is logged; and where no thread shares anything, there is one.
+// A card that is dirty is not logged again: so a run whose stores are logged has one round, but for
+// a race, whose further rounds find each card dirty. At a book, whose history ends, nothing is
+// logged; and where no thread shares anything, there is one.
 fn is_possible(timed: &Timed) -> bool {
-    if timed.logs() && timed.rounds > 1 {
-        return false;
-    }
+    let is_logged_once = !timed.logs() || timed.rounds <= 1;
     match timed.barrier {
-        Barrier::Raced | Barrier::Unrecorded => true,
+        Barrier::Raced | Barrier::Swept => true,
+        Barrier::Unrecorded => is_logged_once,
         Barrier::Locked => !timed.logs(),
         Barrier::Book => timed.threads == 1 && !timed.logs(),
-        Barrier::Core => timed.threads == 1,
-        Barrier::Walk => timed.threads == 1,
+        Barrier::Core | Barrier::Walk => timed.threads == 1 && is_logged_once,
     }
 }
 
@@ -97,6 +98,7 @@ fn barrier_of(word: &str) -> Option<Barrier> {
         "locked" => Some(Barrier::Locked),
         "unrecorded" => Some(Barrier::Unrecorded),
         "raced" => Some(Barrier::Raced),
+        "swept" => Some(Barrier::Swept),
         _ => None,
     }
 }
@@ -110,7 +112,7 @@ fn target_of(word: &str) -> Option<Target> {
     }
 }
 
-/// Makes the run, and prints how long the loops of stores took in all threads together, and the checksum.
+/// Makes the run, and prints how long the loops took in all threads together, and the checksum.
 pub fn print_time<R: Threads + Wait + Sync + Clock + Print + Eprint>(
     rt: &R,
     alloc: Global,
@@ -148,5 +150,6 @@ fn run<R: Threads + Wait + Sync + Clock>(
         Barrier::Book => alone::book(rt, alloc, timed, meter),
         Barrier::Locked | Barrier::Unrecorded => locked::lock(rt, alloc, timed, meter),
         Barrier::Raced => raced::race(rt, alloc, timed, meter),
+        Barrier::Swept => raced::sweep(rt, alloc, timed, meter),
     }
 }
