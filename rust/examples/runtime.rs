@@ -11,6 +11,8 @@ use std::sync::mpsc::{channel, Receiver, Sender};
 use std::sync::{Mutex, PoisonError};
 use std::thread::{scope, Scope};
 
+type Result<T, E = Box<dyn Error>> = std::result::Result<T, E>;
+
 const COUNTS: Counts = Counts {
     regions: 64,
     cards: 32,
@@ -23,7 +25,7 @@ const REFINERS: usize = 2;
 /// Fields of an object.
 const FIELDS: u32 = 2;
 /// The height of a mutator's tree.
-const HEIGHT: u32 = 9;
+const HEIGHT: u32 = 10;
 /// The heights of trees that are replaced there.
 const CHANGE: u32 = 4;
 /// Regions that a pause evacuates.
@@ -153,21 +155,29 @@ impl Mutator<'_> {
 
     /// The write barrier. Another mutator may store to the field at once, so this one tells the
     /// library again until it has told it what memory holds.
-    fn store(&self, racer: &mut Racer, slot: u32, mut target: u32) -> Result<(), Refusal> {
+    fn store(&self, racer: &mut Racer, slot: u32, target: u32) -> Result<(), Refusal> {
         self.runtime.set_field(slot, target);
-        let place = racer.slot(slot).expect("a slot of the heap");
+        let mut told = target;
         loop {
-            let told = target;
-            let target_place = racer.slot(told);
-            if let Err(Refusal::LogFull) = racer.store(place, target_place) {
-                self.hand_on(racer)?;
-                racer.store(place, target_place)?;
-            }
-            target = self.runtime.field(slot);
-            if target == told {
+            self.tell(racer, slot, told)?;
+            let held = self.runtime.field(slot);
+            if held == told {
                 return Ok(());
             }
+            told = held;
         }
+    }
+
+    /// Tells the library what a field holds.
+    fn tell(&self, racer: &mut Racer, slot: u32, target: u32) -> Result<(), Refusal> {
+        let slot = racer.slot(slot).expect("a slot of the heap");
+        let target = racer.slot(target);
+        let mut stored = racer.store(slot, target);
+        if stored == Err(Refusal::LogFull) {
+            self.hand_on(racer)?;
+            stored = racer.store(slot, target);
+        }
+        stored.map(drop)
     }
 
     fn grow(&mut self, racer: &mut Racer, height: u32) -> Result<u32, Refusal> {
@@ -196,8 +206,8 @@ impl Mutator<'_> {
     fn change(&mut self, racer: &mut Racer) -> Result<(), Refusal> {
         let height = self.numbers.below(CHANGE);
         let target = match self.numbers.below(4) {
-            0 => self.grow(racer, height)?,
-            1 if height == 0 => NULL,
+            0 | 1 => self.grow(racer, height)?,
+            2 if height == 0 => NULL,
             _ => {
                 let owner = self.numbers.below(MUTATORS as u32) as usize;
                 self.runtime.field(self.pick(owner, height))
@@ -211,11 +221,10 @@ impl Mutator<'_> {
     fn race(&mut self, racer: &mut Racer) -> Result<(), Refusal> {
         self.top = 0; // its region may have been freed
         let (taken, freed) = (&self.runtime.taken, self.runtime.freed.load(SeqCst));
-        for changes in 1_u64.. {
-            if taken.load(SeqCst) - freed >= DUE {
-                break;
-            }
+        let mut changes = 0_u64;
+        while taken.load(SeqCst) - freed < DUE {
             self.change(racer)?;
+            changes += 1;
             if changes % 64 == 0 {
                 self.hand_on(racer)?; // between two pauses a log seldom fills
             }
@@ -224,7 +233,7 @@ impl Mutator<'_> {
     }
 }
 
-/// A pause of a race.
+/// A pause, with the heap that the race became.
 struct Pause<'a> {
     runtime: &'a Runtime,
     heap: Heap,
@@ -235,7 +244,7 @@ struct Pause<'a> {
 }
 
 impl Pause<'_> {
-    fn drain(&mut self, number: u32) -> Result<(), Box<dyn Error>> {
+    fn drain(&mut self, number: u32) -> Result<()> {
         let region = self.heap.region(number).ok_or("no such region")?;
         let Drained::Cards { members, .. } = self.heap.drain(region)? else {
             return Err("a drain is short".into());
@@ -316,7 +325,7 @@ impl Pause<'_> {
     }
 
     /// Evacuates the set, and frees it. Returns how much was wrong.
-    fn collect(&mut self) -> Result<usize, Box<dyn Error>> {
+    fn collect(&mut self) -> Result<usize> {
         let runtime = self.runtime;
         runtime.set().try_for_each(|region| self.drain(region))?;
         let mut wrong = self.scan_all()?;
@@ -425,7 +434,7 @@ impl Threads {
         runtime: &'scope Runtime,
         race: &mut Race,
         queue: Sender<Work>,
-    ) -> Result<Threads, Box<dyn Error>> {
+    ) -> Result<Threads> {
         let mut mutators = Vec::new();
         for number in 0..MUTATORS {
             let mut mutator = Mutator {
@@ -449,7 +458,7 @@ impl Threads {
     }
 
     /// Runs a race until all mutators have stopped for a pause, and takes its members back.
-    fn run(&self, race: &mut Race) -> Result<(), Box<dyn Error>> {
+    fn run(&self, race: &mut Race) -> Result<()> {
         for refiner in &self.refiners {
             let sweeper = race.take_sweeper().ok_or("no sweeper is left")?;
             refiner.give.send(sweeper)?;
@@ -472,35 +481,42 @@ impl Threads {
     }
 }
 
-fn main() -> Result<(), Box<dyn Error>> {
-    let pauses = std::env::args()
-        .nth(1)
-        .map_or(Ok(100), |word| word.parse())?;
-    let (logs, queue) = channel();
-    let runtime = Runtime::new(queue);
+/// Runs races, each up to its pause, until something is wrong. Returns how much was.
+fn run(runtime: &Runtime, logs: Sender<Work>, pauses: u32) -> Result<usize> {
     let mut race = Race::open(COUNTS, MUTATORS, REFINERS)?;
-    let wrong = scope(|scope| -> Result<usize, Box<dyn Error>> {
-        let threads = Threads::start(scope, &runtime, &mut race, logs)?;
+    scope(|scope| {
+        let threads = Threads::start(scope, runtime, &mut race, logs)?;
         let mut wrong = 0;
         for _ in 0..pauses {
             threads.run(&mut race)?;
             let mut pause = Pause {
-                runtime: &runtime,
+                runtime,
                 heap: race.close()?.into_heap(4, 64)?,
                 drained: vec![0; (SLOTS / COUNTS.slots) as usize],
                 survivors: 0,
             };
-            wrong += pause.collect()?;
+            wrong = pause.collect()?;
             race = Race::resume(pause.heap, MUTATORS, REFINERS)?;
+            if wrong > 0 {
+                break;
+            }
         }
         Ok(wrong)
-    })?;
+    })
+}
+
+fn main() -> Result<()> {
+    let mut words = std::env::args().skip(1).map(|word| word.parse());
+    let pauses = words.next().unwrap_or(Ok(100))?;
+    let (logs, queue) = channel();
+    let runtime = Runtime::new(queue);
+    let wrong = run(&runtime, logs, pauses)?;
     let refined = runtime.refined.load(SeqCst);
     let freed = runtime.freed.load(SeqCst);
-    let live = Trace::of(&runtime).met.len();
     println!(
-        "{freed} regions evacuated, {refined} cards refined in races, {live} objects live, \
-         {wrong} wrong"
+        "{} pauses, {refined} cards refined in races, {} objects live at the end, {wrong} wrong",
+        freed / SET,
+        Trace::of(&runtime).met.len()
     );
     let holds = wrong == 0 && freed > COUNTS.regions && refined > 0;
     println!("{} passed, {} failed", u32::from(holds), u32::from(!holds));
