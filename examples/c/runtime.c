@@ -1,0 +1,299 @@
+// A small runtime over the library, with an evacuation at each pause: `runtime [PAUSES]`.
+//
+// Mutators change trees of objects beside refinement threads. The heap is a ring of regions: new
+// objects fill one after the other, and a pause evacuates the oldest. References into these are
+// roots, or on drained cards: a scan of all fields checks that, and a full trace the evacuation.
+#define _POSIX_C_SOURCE 200809L
+#include "g1_refiner.h"
+
+#include <stdatomic.h>
+#include <stdio.h>
+#include <stdlib.h>
+#include <string.h>
+
+enum { REGIONS = 64, CARDS = 32, SLOTS = 16, REGION_SLOTS = CARDS * SLOTS };
+enum { ALL_CARDS = REGIONS * CARDS, ALL_SLOTS = ALL_CARDS * SLOTS };
+enum { MUTATORS = 4, SWEEPERS = 2, LOGS = 8 };
+enum {
+    FIELDS = 2,                    // of an object
+    HEIGHT = 10,                   // of a mutator's tree
+    CHANGE = 4,                    // heights of the trees that are replaced there
+    SET = 8,                       // regions that a pause evacuates, and at most fills
+    DUE = REGIONS - SET - MUTATORS // regions in use at a pause; each mutator may take one before it
+};
+
+#define FORWARDED UINT32_C(0x80000000) // marks a header that has the address of the copy
+#define MIX UINT64_C(6364136223846793005) // for the sum of a trace
+
+struct mutator {
+    size_t number;
+    struct g1_member racer;
+    uint32_t top; // where it allocates
+    uint64_t state;
+};
+
+// An object's address is the number of its first field. Fields are slots of the library, and hold
+// addresses or G1_NULL. A header has the object's value.
+static _Atomic uint32_t fields[ALL_SLOTS];
+static uint32_t headers[ALL_SLOTS / FIELDS];
+static uint32_t roots[MUTATORS]; // the mutators' trees
+static _Atomic uint32_t taken;   // regions that were taken since the start
+static uint32_t freed;           // regions of these that pauses freed
+static struct g1_refiner refiner;
+static struct g1_member racers[MUTATORS], sweepers[SWEEPERS]; // while no thread has them
+static pthread_barrier_t all_threads; // where a pause begins, and where it ends
+static int is_over;
+
+// Of a pause. A card has a bit for each region of the collection set whose drain returned it.
+static struct g1 heap;
+static uint32_t drained[ALL_CARDS], survivors;
+static uint32_t numbers[ALL_SLOTS / FIELDS], met[ALL_SLOTS / FIELDS], met_length, wrong;
+
+// Ends the program if a call was refused. Here that is for want of memory alone.
+static void done(uint32_t code) {
+    if (code != G1_DONE) {
+        fprintf(stderr, "-- %s\n", g1_code_text(code));
+        exit(1);
+    }
+}
+
+static uint32_t below(uint64_t *state, uint32_t most) {
+    *state ^= *state << 13;
+    *state ^= *state >> 7;
+    *state ^= *state << 17;
+    return (uint32_t)((*state >> 33) % most);
+}
+
+// A new object at the top of a region. Its fields are null, in the library too.
+static uint32_t allocate(uint32_t *top, uint32_t header) {
+    if (*top % REGION_SLOTS == 0) {
+        *top = atomic_fetch_add(&taken, 1) % REGIONS * REGION_SLOTS;
+    }
+    headers[*top / FIELDS] = header;
+    *top += FIELDS;
+    return *top - FIELDS;
+}
+
+// The write barrier. Another mutator may store to the field at once, so this one tells the library
+// again until it has told it what memory holds. A store with numbers of the heap is never refused.
+static void store(struct mutator *self, uint32_t slot, uint32_t target) {
+    uint32_t told;
+    atomic_store(&fields[slot], target);
+    do {
+        told = target;
+        g1_refiner_store(&refiner, &self->racer, slot, told);
+        target = atomic_load(&fields[slot]);
+    } while (target != told);
+}
+
+static uint32_t grow(struct mutator *self, uint32_t height) {
+    uint32_t object = allocate(&self->top, below(&self->state, FORWARDED));
+    for (uint32_t slot = object; height > 0 && slot < object + FIELDS; slot++) {
+        store(self, slot, grow(self, height - 1));
+    }
+    return object;
+}
+
+// A field of a mutator's tree, at random, that refers to a tree of this height.
+static uint32_t pick(struct mutator *self, size_t owner, uint32_t height) {
+    uint32_t slot = roots[owner] + below(&self->state, FIELDS);
+    for (uint32_t level = HEIGHT - 1; level > height; level--) {
+        slot = fields[slot] + below(&self->state, FIELDS);
+    }
+    return slot;
+}
+
+// Replaces a tree in the mutator's own by a new one, or by one that it then shares with another
+// mutator, or a leaf by null. Takes one region at most, and keeps no address.
+static void change(struct mutator *self) {
+    uint32_t height = below(&self->state, CHANGE), way = below(&self->state, 4);
+    uint32_t from = pick(self, below(&self->state, MUTATORS), height);
+    uint32_t target = way < 2 ? grow(self, height) : fields[from];
+    store(self, pick(self, self->number, height), way == 3 && height == 0 ? G1_NULL : target);
+}
+
+// Gives the racer back until a pause is over. Returns 0 at the end.
+static int stop(struct mutator *self) {
+    racers[self->number] = self->racer;
+    pthread_barrier_wait(&all_threads);
+    pthread_barrier_wait(&all_threads);
+    self->racer = racers[self->number];
+    self->top = 0; // its region may have been freed
+    return !is_over;
+}
+
+static void *mutate(void *place) {
+    size_t number = (size_t)(uintptr_t)place;
+    struct mutator self = {number, racers[number], 0, 88172645463325252u + number * 1000003u};
+    roots[number] = grow(&self, HEIGHT);
+    while (stop(&self)) {
+        for (unsigned long changes = 1; taken - freed < DUE; changes++) {
+            change(&self);
+            if (changes % 64 == 0) { // between two pauses a log seldom fills
+                done(g1_refiner_hand_on(&refiner, &self.racer));
+            }
+        }
+    }
+    return NULL;
+}
+
+// The bit of a place in the collection set, which is the oldest regions, and 0 of any other.
+static uint32_t bit_of(uint32_t place) {
+    uint32_t age = (place / REGION_SLOTS - freed) % REGIONS;
+    return place == G1_NULL || age >= SET ? 0 : UINT32_C(1) << age;
+}
+
+static void drain(uint32_t region) {
+    static uint32_t cards[ALL_CARDS], refined[ALL_CARDS];
+    uint32_t count, refined_count;
+    done(g1_drain(&heap, region, cards, ALL_CARDS, &count, refined, ALL_CARDS, &refined_count));
+    for (uint32_t i = 0; i < count; i++) {
+        drained[cards[i]] |= bit_of(region * REGION_SLOTS);
+    }
+}
+
+static void report(uint32_t slot, uint32_t target) {
+    fields[slot] = target;
+    g1_store(&heap, slot, target);
+}
+
+// The address of an object's copy. The object is copied when it is first met.
+static uint32_t evacuate(uint32_t object) {
+    uint32_t *header = &headers[object / FIELDS];
+    if ((*header & FORWARDED) == 0) {
+        uint32_t copy = allocate(&survivors, *header);
+        for (uint32_t field = 0; field < FIELDS; field++) {
+            report(copy + field, fields[object + field]);
+        }
+        *header = FORWARDED | copy;
+    }
+    return *header & ~FORWARDED;
+}
+
+static void scan(uint32_t first, uint32_t length) {
+    for (uint32_t slot = first; slot < first + length; slot++) {
+        if (bit_of(fields[slot]) != 0) {
+            report(slot, evacuate(fields[slot]));
+        }
+    }
+}
+
+// Copies what roots and objects outside the set refer to, and what the copies do. An object that
+// is dead, but not in the set, still keeps what it refers to.
+static void evacuate_set(void) {
+    uint32_t copy = survivors = taken % REGIONS * REGION_SLOTS;
+    for (uint32_t i = 0; i < MUTATORS; i++) {
+        roots[i] = bit_of(roots[i]) != 0 ? evacuate(roots[i]) : roots[i];
+    }
+    for (uint32_t card = 0; card < ALL_CARDS; card++) {
+        if (drained[card] != 0 && bit_of(card * SLOTS) == 0) {
+            scan(card * SLOTS, SLOTS);
+        }
+    }
+    for (; copy != survivors % ALL_SLOTS; copy = (copy + FIELDS) % ALL_SLOTS) {
+        scan(copy, FIELDS);
+    }
+}
+
+// The number of an object in the order in which a trace meets them, from 1 on, and 0 of null.
+static uint32_t number_of(uint32_t object) {
+    if (object != G1_NULL && numbers[object / FIELDS] == 0) {
+        met[met_length++] = object;
+        numbers[object / FIELDS] = met_length;
+    }
+    return object == G1_NULL ? 0 : numbers[object / FIELDS];
+}
+
+// A full trace from the roots: a sum over the values, and over what refers to what.
+static uint64_t trace(void) {
+    uint64_t sum = met_length = 0;
+    memset(numbers, 0, sizeof numbers);
+    for (uint32_t i = 0; i < MUTATORS; i++) {
+        sum = sum * MIX + number_of(roots[i]);
+    }
+    for (uint32_t i = 0; i < met_length; i++) {
+        sum = sum * MIX + headers[met[i] / FIELDS];
+        for (uint32_t slot = met[i]; slot < met[i] + FIELDS; slot++) {
+            sum = sum * MIX + number_of(fields[slot]);
+        }
+    }
+    return sum;
+}
+
+// Counts fields that the library holds otherwise, or that a drain missed.
+static void scan_all(void) {
+    for (uint32_t slot = 0; slot < ALL_SLOTS; slot++) {
+        uint32_t target;
+        done(g1_target(&heap, slot, &target));
+        wrong += target != fields[slot];
+        wrong += (bit_of(target) & ~bit_of(slot) & ~drained[slot / SLOTS]) != 0;
+    }
+}
+
+// Evacuates the set, and frees it.
+static void collect(void) {
+    uint32_t detail, first = freed % REGIONS;
+    memset(drained, 0, sizeof drained);
+    for (uint32_t i = 0; i < SET; i++) {
+        drain((first + i) % REGIONS);
+    }
+    scan_all();
+    uint64_t sum = trace();
+    evacuate_set();
+    for (uint32_t i = 0; i < SET * REGION_SLOTS; i++) { // what a freed slot holds bars clears
+        report((first * REGION_SLOTS + i) % ALL_SLOTS, G1_NULL);
+    }
+    scan_all();
+    wrong += trace() != sum;
+    for (uint32_t i = 0; i < SET && wrong == 0; i++) {
+        drain((first + i) % REGIONS); // nothing may be pending at a clear
+        done(g1_clear(&heap, (first + i) % REGIONS, &detail));
+    }
+    freed += SET;
+}
+
+// Runs this many races (1 or more), each up to its pause.
+static void run(unsigned long pauses) {
+    struct g1_over over = {0};
+    pthread_barrier_wait(&all_threads);
+    while (!is_over) {
+        g1_refiner_resume(&refiner, sweepers);
+        pthread_barrier_wait(&all_threads);
+        pthread_barrier_wait(&all_threads);
+        done(g1_refiner_pause(&refiner, G1_REFINE_QUEUED, sweepers));
+        done(g1_race_close(racers, MUTATORS, sweepers, SWEEPERS, &over));
+        done(g1_race_core(&over, &heap, 4, 64));
+        collect();
+        done(g1_race_resume(&heap, racers, MUTATORS, sweepers, SWEEPERS));
+        is_over = --pauses == 0 || wrong != 0;
+    }
+    pthread_barrier_wait(&all_threads);
+    done(g1_race_close(racers, MUTATORS, sweepers, SWEEPERS, &over));
+    done(g1_over_close(&over));
+}
+
+int main(int number, char **words) {
+    static struct g1_log logs[LOGS];
+    struct g1_counts counts = {REGIONS, CARDS, SLOTS};
+    pthread_t threads[MUTATORS];
+    memset(fields, 255, sizeof fields); // G1_NULL
+    done(g1_race_open(&counts, racers, MUTATORS, sweepers, SWEEPERS));
+    int failed = g1_refiner_open(&refiner, logs, LOGS, SWEEPERS) != 0 ||
+                 pthread_barrier_init(&all_threads, NULL, MUTATORS + 1) != 0;
+    for (uintptr_t i = 0; i < MUTATORS && !failed; i++) {
+        failed = pthread_create(&threads[i], NULL, mutate, (void *)i);
+    }
+    if (failed) {
+        return 1;
+    }
+    run(number > 1 ? strtoul(words[1], NULL, 10) : 100);
+    for (int i = 0; i < MUTATORS; i++) {
+        pthread_join(threads[i], NULL);
+    }
+    g1_refiner_close(&refiner);
+    printf("%u pauses, %lu cards refined in races, %u objects live at the end, %u wrong\n",
+           freed / SET, (unsigned long)refiner.refined, met_length, wrong);
+    int holds = wrong == 0 && freed > REGIONS && refiner.refined > 0;
+    printf("%d passed, %d failed\n", holds, !holds);
+    return !holds;
+}

@@ -1,0 +1,528 @@
+//! A small runtime over the crate, with an evacuation at each pause: `runtime [PAUSES]`.
+//!
+//! Mutators change trees of objects beside refinement threads. The heap is a ring of regions: new
+//! objects fill one after the other, and a pause evacuates the oldest. References into these are
+//! roots, or on drained cards: a scan of all fields checks that, and a full trace the evacuation.
+use ninkoda::race::{Race, Racer, Sweeper};
+use ninkoda::{Card, Cleared, Counts, Drained, Heap, Refusal};
+use std::error::Error;
+use std::sync::atomic::{AtomicU32, AtomicUsize, Ordering::SeqCst};
+use std::sync::mpsc::{channel, Receiver, Sender};
+use std::sync::{Mutex, PoisonError};
+use std::thread::{scope, Scope};
+
+type Result<T, E = Box<dyn Error>> = std::result::Result<T, E>;
+
+const COUNTS: Counts = Counts {
+    regions: 64,
+    cards: 32,
+    slots: 16,
+};
+const REGION: u32 = COUNTS.cards * COUNTS.slots;
+const SLOTS: u32 = COUNTS.regions * REGION;
+const MUTATORS: usize = 4;
+const REFINERS: usize = 2;
+/// Fields of an object.
+const FIELDS: u32 = 2;
+/// The height of a mutator's tree.
+const HEIGHT: u32 = 10;
+/// The heights of trees that are replaced there.
+const CHANGE: u32 = 4;
+/// Regions that a pause evacuates.
+const SET: u32 = 8;
+/// Regions in use when a pause is due. It may fill `SET` more, and before it each mutator one.
+const DUE: u32 = COUNTS.regions - SET - MUTATORS as u32;
+/// Null, in a field.
+const NULL: u32 = u32::MAX;
+/// Marks a header that has the address of the object's copy.
+const FORWARDED: u32 = 1 << 31;
+
+/// What all threads share. An object's address is the number of its first field. Fields are slots
+/// of the library, and hold addresses or [`NULL`]. A header has the object's value.
+struct Runtime {
+    fields: Vec<AtomicU32>,
+    headers: Vec<AtomicU32>,
+    /// The mutators' trees.
+    roots: [AtomicU32; MUTATORS],
+    /// Regions that were taken since the start.
+    taken: AtomicU32,
+    /// Regions of these that pauses freed.
+    freed: AtomicU32,
+    queue: Mutex<Receiver<Work>>,
+    /// Cards that were refined in races.
+    refined: AtomicUsize,
+}
+
+/// What a refinement thread takes from the queue.
+enum Work {
+    Refine(Vec<Card>),
+    Pause,
+}
+
+impl Runtime {
+    fn new(queue: Receiver<Work>) -> Runtime {
+        Runtime {
+            fields: (0..SLOTS).map(|_| AtomicU32::new(NULL)).collect(),
+            headers: (0..SLOTS / FIELDS).map(|_| AtomicU32::new(0)).collect(),
+            roots: Default::default(),
+            taken: AtomicU32::new(0),
+            freed: AtomicU32::new(0),
+            queue: Mutex::new(queue),
+            refined: AtomicUsize::new(0),
+        }
+    }
+
+    fn field(&self, slot: u32) -> u32 {
+        self.fields[slot as usize].load(SeqCst)
+    }
+
+    fn set_field(&self, slot: u32, target: u32) {
+        self.fields[slot as usize].store(target, SeqCst);
+    }
+
+    fn header(&self, object: u32) -> &AtomicU32 {
+        &self.headers[(object / FIELDS) as usize]
+    }
+
+    /// A new object at the top of a region. Its fields are null, in the library too.
+    fn allocate(&self, top: &mut u32, header: u32) -> u32 {
+        if *top % REGION == 0 {
+            *top = self.taken.fetch_add(1, SeqCst) % COUNTS.regions * REGION;
+        }
+        let object = *top;
+        *top += FIELDS;
+        self.header(object).store(header, SeqCst);
+        object
+    }
+
+    /// The numbers of the regions of the collection set, which are the oldest.
+    fn set(&self) -> impl Iterator<Item = u32> {
+        let freed = self.freed.load(SeqCst);
+        (freed..freed + SET).map(|region| region % COUNTS.regions)
+    }
+
+    /// The bit of a place in the collection set, and 0 of any other.
+    fn bit_of(&self, place: u32) -> u32 {
+        let age = (place / REGION).wrapping_sub(self.freed.load(SeqCst)) % COUNTS.regions;
+        if place == NULL || age >= SET {
+            0
+        } else {
+            1 << age
+        }
+    }
+
+    /// Refines the logs that come, until a pause.
+    fn refine(&self, sweeper: &mut Sweeper) -> Result<(), Refusal> {
+        let next = || {
+            let queue = self.queue.lock().unwrap_or_else(PoisonError::into_inner);
+            queue.recv()
+        };
+        while let Ok(Work::Refine(log)) = next() {
+            self.refined.fetch_add(log.len(), SeqCst);
+            log.into_iter().try_for_each(|card| sweeper.refine(card))?;
+        }
+        Ok(())
+    }
+}
+
+/// Numbers that look random.
+struct Numbers(u64);
+
+impl Numbers {
+    fn below(&mut self, most: u32) -> u32 {
+        self.0 ^= self.0 << 13;
+        self.0 ^= self.0 >> 7;
+        self.0 ^= self.0 << 17;
+        ((self.0 >> 33) % u64::from(most)) as u32
+    }
+}
+
+struct Mutator<'a> {
+    runtime: &'a Runtime,
+    logs: Sender<Work>,
+    number: usize,
+    numbers: Numbers,
+    /// Where it allocates.
+    top: u32,
+}
+
+impl Mutator<'_> {
+    fn hand_on(&self, racer: &mut Racer) -> Result<(), Refusal> {
+        // (with no receiver the program is at its end)
+        let _ = self.logs.send(Work::Refine(racer.take_log()?));
+        Ok(())
+    }
+
+    /// The write barrier. Another mutator may store to the field at once, so this one tells the
+    /// library again until it has told it what memory holds.
+    fn store(&self, racer: &mut Racer, slot: u32, target: u32) -> Result<(), Refusal> {
+        self.runtime.set_field(slot, target);
+        let mut told = target;
+        loop {
+            self.tell(racer, slot, told)?;
+            let held = self.runtime.field(slot);
+            if held == told {
+                return Ok(());
+            }
+            told = held;
+        }
+    }
+
+    /// Tells the library what a field holds.
+    fn tell(&self, racer: &mut Racer, slot: u32, target: u32) -> Result<(), Refusal> {
+        let slot = racer.slot(slot).expect("a slot of the heap");
+        let target = racer.slot(target);
+        let mut stored = racer.store(slot, target);
+        if stored == Err(Refusal::LogFull) {
+            self.hand_on(racer)?;
+            stored = racer.store(slot, target);
+        }
+        stored.map(drop)
+    }
+
+    fn grow(&mut self, racer: &mut Racer, height: u32) -> Result<u32, Refusal> {
+        let value = self.numbers.below(FORWARDED);
+        let object = self.runtime.allocate(&mut self.top, value);
+        if height > 0 {
+            for slot in object..object + FIELDS {
+                let target = self.grow(racer, height - 1)?;
+                self.store(racer, slot, target)?;
+            }
+        }
+        Ok(object)
+    }
+
+    /// A field of a mutator's tree, at random, that refers to a tree of this height.
+    fn pick(&mut self, owner: usize, height: u32) -> u32 {
+        let mut slot = self.runtime.roots[owner].load(SeqCst) + self.numbers.below(FIELDS);
+        for _ in height + 1..HEIGHT {
+            slot = self.runtime.field(slot) + self.numbers.below(FIELDS);
+        }
+        slot
+    }
+
+    /// Replaces a tree in the mutator's own by a new one, or by one that it then shares with
+    /// another mutator, or a leaf by null. Takes one region at most, and keeps no address.
+    fn change(&mut self, racer: &mut Racer) -> Result<(), Refusal> {
+        let height = self.numbers.below(CHANGE);
+        let target = match self.numbers.below(4) {
+            0 | 1 => self.grow(racer, height)?,
+            2 if height == 0 => NULL,
+            _ => {
+                let owner = self.numbers.below(MUTATORS as u32) as usize;
+                self.runtime.field(self.pick(owner, height))
+            }
+        };
+        let slot = self.pick(self.number, height);
+        self.store(racer, slot, target)
+    }
+
+    /// Runs in a race until a pause is due.
+    fn race(&mut self, racer: &mut Racer) -> Result<(), Refusal> {
+        self.top = 0; // its region may have been freed
+        let (taken, freed) = (&self.runtime.taken, self.runtime.freed.load(SeqCst));
+        let mut changes = 0_u64;
+        while taken.load(SeqCst) - freed < DUE {
+            self.change(racer)?;
+            changes += 1;
+            if changes % 64 == 0 {
+                self.hand_on(racer)?; // between two pauses a log seldom fills
+            }
+        }
+        Ok(())
+    }
+}
+
+/// A pause, with the heap that the race became.
+struct Pause<'a> {
+    runtime: &'a Runtime,
+    heap: Heap,
+    /// Of each card a bit for each region of the collection set whose drain returned it.
+    drained: Vec<u32>,
+    /// Where objects are copied to.
+    survivors: u32,
+}
+
+impl Pause<'_> {
+    fn drain(&mut self, number: u32) -> Result<()> {
+        let region = self.heap.region(number).ok_or("no such region")?;
+        let Drained::Cards { members, .. } = self.heap.drain(region)? else {
+            return Err("a drain is short".into());
+        };
+        for card in members {
+            self.drained[card.number() as usize] |= self.runtime.bit_of(number * REGION);
+        }
+        Ok(())
+    }
+
+    fn report(&mut self, slot: u32, target: u32) -> Result<(), Refusal> {
+        self.runtime.set_field(slot, target);
+        let slot = self.heap.slot(slot).expect("a slot of the heap");
+        self.heap.store(slot, self.heap.slot(target)).map(drop)
+    }
+
+    /// The address of an object's copy. The object is copied when it is first met.
+    fn evacuate(&mut self, object: u32) -> Result<u32, Refusal> {
+        let header = self.runtime.header(object);
+        let word = header.load(SeqCst);
+        if word & FORWARDED != 0 {
+            return Ok(word & !FORWARDED);
+        }
+        let copy = self.runtime.allocate(&mut self.survivors, word);
+        for field in 0..FIELDS {
+            self.report(copy + field, self.runtime.field(object + field))?;
+        }
+        header.store(FORWARDED | copy, SeqCst);
+        Ok(copy)
+    }
+
+    fn scan(&mut self, first: u32, length: u32) -> Result<(), Refusal> {
+        for slot in first..first + length {
+            let target = self.runtime.field(slot);
+            if self.runtime.bit_of(target) != 0 {
+                let copy = self.evacuate(target)?;
+                self.report(slot, copy)?;
+            }
+        }
+        Ok(())
+    }
+
+    /// Copies what roots and objects outside the set refer to, and what the copies do. An object
+    /// that is dead, but not in the set, still keeps what it refers to.
+    fn evacuate_set(&mut self) -> Result<(), Refusal> {
+        let mut copy = self.runtime.taken.load(SeqCst) % COUNTS.regions * REGION;
+        self.survivors = copy;
+        for root in &self.runtime.roots {
+            let object = root.load(SeqCst);
+            if self.runtime.bit_of(object) != 0 {
+                root.store(self.evacuate(object)?, SeqCst);
+            }
+        }
+        for card in 0..SLOTS / COUNTS.slots {
+            let first = card * COUNTS.slots;
+            if self.drained[card as usize] != 0 && self.runtime.bit_of(first) == 0 {
+                self.scan(first, COUNTS.slots)?;
+            }
+        }
+        while copy != self.survivors % SLOTS {
+            self.scan(copy, FIELDS)?;
+            copy = (copy + FIELDS) % SLOTS;
+        }
+        Ok(())
+    }
+
+    /// Counts fields that the library holds otherwise, or that a drain missed.
+    fn scan_all(&mut self) -> Result<usize, Refusal> {
+        let mut wrong = 0;
+        for slot in 0..SLOTS {
+            let target = self.runtime.field(slot);
+            let place = self.heap.slot(slot).expect("a slot of the heap");
+            wrong += usize::from(self.heap.target(place)? != self.heap.slot(target));
+            let drained = self.drained[(slot / COUNTS.slots) as usize] | self.runtime.bit_of(slot);
+            wrong += usize::from(self.runtime.bit_of(target) & !drained != 0);
+        }
+        Ok(wrong)
+    }
+
+    /// Evacuates the set, and frees it. Returns how much was wrong.
+    fn collect(&mut self) -> Result<usize> {
+        let runtime = self.runtime;
+        runtime.set().try_for_each(|region| self.drain(region))?;
+        let mut wrong = self.scan_all()?;
+        let before = Trace::of(runtime);
+        self.evacuate_set()?;
+        for region in runtime.set() {
+            // What a freed slot holds bars clears.
+            for slot in region * REGION..(region + 1) * REGION {
+                self.report(slot, NULL)?;
+            }
+        }
+        wrong += self.scan_all()? + usize::from(Trace::of(runtime).sum != before.sum);
+        for number in runtime.set() {
+            self.drain(number)?; // nothing may be pending at a clear
+            let region = self.heap.region(number).ok_or("no such region")?;
+            wrong += usize::from(self.heap.clear(region)? != Cleared::Cleared);
+        }
+        runtime.freed.fetch_add(SET, SeqCst);
+        Ok(wrong)
+    }
+}
+
+/// A full trace from the roots.
+struct Trace {
+    /// The objects in the order in which they are met.
+    met: Vec<u32>,
+    /// Of each object its number in that order, from 1 on.
+    numbers: Vec<usize>,
+    /// A sum over the values, and over what refers to what.
+    sum: u64,
+}
+
+impl Trace {
+    fn of(runtime: &Runtime) -> Trace {
+        let mut trace = Trace {
+            met: Vec::new(),
+            numbers: vec![0; runtime.headers.len()],
+            sum: 0,
+        };
+        for root in &runtime.roots {
+            trace.meet(root.load(SeqCst));
+        }
+        let mut done = 0;
+        while let Some(&object) = trace.met.get(done) {
+            trace.add(u64::from(runtime.header(object).load(SeqCst)));
+            (object..object + FIELDS).for_each(|slot| trace.meet(runtime.field(slot)));
+            done += 1;
+        }
+        trace
+    }
+
+    fn add(&mut self, word: u64) {
+        let product = self.sum.wrapping_mul(6_364_136_223_846_793_005);
+        self.sum = product.wrapping_add(word);
+    }
+
+    /// Adds the number of an object, and 0 for null.
+    fn meet(&mut self, object: u32) {
+        if object == NULL {
+            return self.add(0);
+        }
+        let number = &mut self.numbers[(object / FIELDS) as usize];
+        if *number == 0 {
+            self.met.push(object);
+            *number = self.met.len();
+        }
+        let number = *number as u64;
+        self.add(number);
+    }
+}
+
+/// A thread that works with each member that it is given, and then returns it.
+struct Worker<Member> {
+    give: Sender<Member>,
+    back: Receiver<Member>,
+}
+
+impl<'scope, Member: Send + 'scope> Worker<Member> {
+    fn start<Work>(scope: &'scope Scope<'scope, '_>, mut work: Work) -> Worker<Member>
+    where
+        Work: FnMut(&mut Member) -> Result<(), Refusal> + Send + 'scope,
+    {
+        let (give, members) = channel();
+        let (returns, back) = channel();
+        scope.spawn(move || {
+            for mut member in members {
+                work(&mut member).expect("nothing is refused here");
+                let _ = returns.send(member);
+            }
+        });
+        Worker { give, back }
+    }
+}
+
+/// All threads, with the sender of their queue.
+struct Threads {
+    mutators: Vec<Worker<Racer>>,
+    refiners: Vec<Worker<Sweeper>>,
+    queue: Sender<Work>,
+}
+
+impl Threads {
+    /// Gives each mutator a tree, and starts the threads.
+    fn start<'scope>(
+        scope: &'scope Scope<'scope, '_>,
+        runtime: &'scope Runtime,
+        race: &mut Race,
+        queue: Sender<Work>,
+    ) -> Result<Threads> {
+        let mut mutators = Vec::new();
+        for number in 0..MUTATORS {
+            let mut mutator = Mutator {
+                runtime,
+                logs: queue.clone(),
+                number,
+                numbers: Numbers(88_172_645_463_325_252 + number as u64 * 1_000_003),
+                top: 0,
+            };
+            let mut racer = race.take_racer().ok_or("no racer is left")?;
+            runtime.roots[number].store(mutator.grow(&mut racer, HEIGHT)?, SeqCst);
+            race.return_racer(racer)?;
+            mutators.push(Worker::start(scope, move |racer| mutator.race(racer)));
+        }
+        let refiner = |_| Worker::start(scope, |sweeper| runtime.refine(sweeper));
+        Ok(Threads {
+            mutators,
+            refiners: (0..REFINERS).map(refiner).collect(),
+            queue,
+        })
+    }
+
+    /// Runs a race until all mutators have stopped for a pause, and takes its members back.
+    fn run(&self, race: &mut Race) -> Result<()> {
+        for refiner in &self.refiners {
+            let sweeper = race.take_sweeper().ok_or("no sweeper is left")?;
+            refiner.give.send(sweeper)?;
+        }
+        for mutator in &self.mutators {
+            let racer = race.take_racer().ok_or("no racer is left")?;
+            mutator.give.send(racer)?;
+        }
+        for mutator in &self.mutators {
+            race.return_racer(mutator.back.recv()?)?;
+        }
+        // The queue has all that the mutators handed on, and behind it a word for each thread.
+        for _ in &self.refiners {
+            self.queue.send(Work::Pause)?;
+        }
+        for refiner in &self.refiners {
+            race.return_sweeper(refiner.back.recv()?)?;
+        }
+        Ok(())
+    }
+}
+
+/// Runs races, each up to its pause, until something is wrong. Returns how much was.
+fn run(runtime: &Runtime, logs: Sender<Work>, pauses: u32) -> Result<usize> {
+    let mut race = Race::open(COUNTS, MUTATORS, REFINERS)?;
+    scope(|scope| {
+        let threads = Threads::start(scope, runtime, &mut race, logs)?;
+        let mut wrong = 0;
+        for _ in 0..pauses {
+            threads.run(&mut race)?;
+            let mut pause = Pause {
+                runtime,
+                heap: race.close()?.into_heap(4, 64)?,
+                drained: vec![0; (SLOTS / COUNTS.slots) as usize],
+                survivors: 0,
+            };
+            wrong = pause.collect()?;
+            race = Race::resume(pause.heap, MUTATORS, REFINERS)?;
+            if wrong > 0 {
+                break;
+            }
+        }
+        Ok(wrong)
+    })
+}
+
+fn main() -> Result<()> {
+    let mut words = std::env::args().skip(1).map(|word| word.parse());
+    let pauses = words.next().unwrap_or(Ok(100))?;
+    let (logs, queue) = channel();
+    let runtime = Runtime::new(queue);
+    let wrong = run(&runtime, logs, pauses)?;
+    let refined = runtime.refined.load(SeqCst);
+    let freed = runtime.freed.load(SeqCst);
+    println!(
+        "{} pauses, {refined} cards refined in races, {} objects live at the end, {wrong} wrong",
+        freed / SET,
+        Trace::of(&runtime).met.len()
+    );
+    let holds = wrong == 0 && freed > COUNTS.regions && refined > 0;
+    println!("{} passed, {} failed", u32::from(holds), u32::from(!holds));
+    if holds {
+        Ok(())
+    } else {
+        Err("an evacuation went wrong".into())
+    }
+}
