@@ -427,7 +427,7 @@ struct g1_over {
  * Opens a race over a new heap, all of whose slots are null. It has as many racers and sweepers as
  * closed handles are passed. The race takes 8 bytes a slot, 8 bytes a card, a bit for each pair of
  * a card and a region and a bit for each card, and all of this twice while it begins. It also takes
- * about two kilobytes for each racer and one for each sweeper.
+ * about a kilobyte for the log of each racer.
  *
  * Returns:
  *   - G1_DONE: each handle is open.

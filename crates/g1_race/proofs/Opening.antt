@@ -1,6 +1,5 @@
 -- A race over nulls begins with the opening table.
-use Rattle.std.proofs.Common.{◌≡◌, ℕ, zero, suc, ◌+◌, ◌≤◌, arith, eqb, List, [], ◌∷◌, map, take, drop, Option, None, Result, Ok, Err, refl, ap, ◌∙◌, replicate, reverse, ◌++◌}
-use Rattle.std.proofs.lemmas.List.{reverse-append}
+use Rattle.std.proofs.Common.{◌≡◌, ℕ, zero, suc, ◌+◌, ◌≤◌, arith, eqb, List, [], ◌∷◌, map, take, drop, Option, None, Result, Ok, Err, refl, ap, ◌∙◌, replicate, ◌++◌}
 use Rattle.std.specs.Prelude.{IfOk}
 use Rattle.std.specs.FinSet as set
 use Rattle.g1_heap.specs.declared.mark.Mark.{Mark}
@@ -70,12 +69,3 @@ pub begins_null : (l : layout.Shape) (m : ℕ) → beginning (null_of (shape_of 
 begins_null l m =
     let k = shape_of l m in
     λ i. record { shape = k; words = front_zeros (k.slots + k.cards) (word_count k) (omega arith) i; pairs = no_pairs k (word_count k) k.cards i }
-
--- empty logs, the last first
-replicate_snoc : {A : Type 0} (n : ℕ) (x : A) → replicate n x ++ x ∷ [] ≡ x ∷ replicate n x
-replicate_snoc zero x = refl
-replicate_snoc (suc n) x = ap (λ l. x ∷ l) (replicate_snoc n x)
-
-pub reverse_same : {A : Type 0} (n : ℕ) (x : A) → reverse (replicate n x) ≡ replicate n x
-reverse_same zero x = refl
-reverse_same (suc n) x = reverse-append (x ∷ []) (replicate n x) ∙ (ap (λ l. l ++ x ∷ []) (reverse_same n x) ∙ replicate_snoc n x)

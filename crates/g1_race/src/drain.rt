@@ -1,10 +1,11 @@
 //! Refinement and drains at a pause.
-ghost use Rattle.std.specs.Prelude.{◌≡◌, ℕ, ◌+◌, ◌*◌, ◌<◌, ◌≤◌, [], ◌∷◌, IfOk, OnErr, List, length, map, replicate, vec_len, vec_capacity};
+ghost use Rattle.std.specs.Prelude.{◌≡◌, ℕ, ◌+◌, ◌*◌, ◌<◌, ◌≤◌, [], ◌∷◌, IfOk, OnErr, List, length, map, replicate, vec_len};
 ghost use Rattle.g1_layout.specs.Shape.{slot_count};
 ghost use Rattle.g1_core.specs.Run.{IsStep};
 ghost use Rattle.g1_core.specs.Calls.{drain_cards, drain_entry};
 ghost use Rattle.g1_race_words.specs.Rule.{IsOfCrossing};
 ghost use Rattle.g1_race_words.specs.Steps.{pair_at};
+ghost use Rattle.g1_race.specs.Members.{racer_log};
 ghost use Rattle.g1_race.specs.Over.{halted};
 ghost use Rattle.g1_race.specs.Refining.{Notes, IsRefined, AreRefined};
 ghost use Rattle.g1_race.specs.Evacuating.{IsRefinedRace, AreAllRefined, IsDrainedInto, IsWhole, IsExactAtPause};
@@ -16,9 +17,8 @@ use crate::next::{
     count_marked, count_members, list_marked, list_members, next_marked, write_members,
 };
 use crate::paused::Paused;
-use crate::race::Race;
+use crate::race::{Race, Racer};
 use crate::stopped::{put, see};
-use arrayvec::ArrayVec;
 use g1_core::{CardList, Drained};
 use g1_layout::{Card, NoMemory, Region};
 use g1_race_words::Place;
@@ -49,7 +49,7 @@ impl Paused {
         list_marked(&self.race, &mut self.seat, &mut refined);
         refine_cards(&self.race, &mut self.seat);
         list_members(&self.race, &mut self.seat, number, &mut cards);
-        clear_logs(&mut self.race.logs);
+        clear_logs(&mut self.racers);
         let refined = CardList::of(refined);
         let cards = CardList::of(cards);
         Ok(Drained::Cards { cards, refined })
@@ -64,7 +64,7 @@ impl Paused {
     {
         let number = region.number() as usize;
         refine_cards(&self.race, &mut self.seat);
-        clear_logs(&mut self.race.logs);
+        clear_logs(&mut self.racers);
         write_members(&self.race, &mut self.seat, number, cards)
     }
 
@@ -75,18 +75,17 @@ impl Paused {
         ensures refined { (cards : List ℕ) × AreAllRefined (halted self.old) cards (halted self.new) }
     {
         refine_cards(&self.race, &mut self.seat);
-        clear_logs(&mut self.race.logs);
+        clear_logs(&mut self.racers);
     }
 }
 
 // Empties the racers' logs, whose cards are all refined.
-pub(crate) fn clear_logs(logs: &mut Vec<ArrayVec<Card, 256>>)
-    ensures logs { map (λ l. l.items) logs.new.items ≡ replicate (length logs.old.items) [] }
-    ensures len { vec_len logs.new ≡ vec_len logs.old }
-    ensures capacity { vec_capacity logs.new ≡ vec_capacity logs.old }
+pub(crate) fn clear_logs(racers: &mut Vec<Racer>)
+    ensures logs { map racer_log racers.new.items ≡ replicate (length racers.old.items) [] }
+    ensures len { vec_len racers.new ≡ vec_len racers.old }
 {
-    for log in logs.iter_mut() {
-        log.clear();
+    for racer in racers.iter_mut() {
+        racer.log.clear();
     }
 }
 

@@ -1,15 +1,15 @@
 //! How a heap begins: at a pause.
-ghost use Rattle.std.specs.Prelude.{◌≡◌, ◌+◌, ◌≤◌, [], IfOk, replicate, map, vec_len, vec_capacity};
+ghost use Rattle.std.specs.Prelude.{◌≡◌, ◌+◌, ◌≤◌, [], IfOk, replicate, map, vec_len};
 ghost use Rattle.g1_core.specs.Table.{opening};
 ghost use Rattle.g1_race_words.specs.Rule.{IsShape, null_of};
 ghost use Rattle.g1_race.specs.Race.{shape_of};
 ghost use Rattle.g1_race.specs.Over.{halted, start_at};
-ghost use Rattle.g1_race.specs.Members.{race_layout, race_shape, AreFreshRacers, AreFreshSweepers, HaveBegun, HaveBegunWith};
+ghost use Rattle.g1_race.specs.Members.{race_layout, race_shape, racer_log, AreFreshRacers, AreFreshSweepers, HaveBegun, HaveBegunWith};
 
 use crate::paused::Paused;
 use crate::race::{Race, Racer, Sweeper};
 use arrayvec::ArrayVec;
-use g1_layout::{Card, Layout, NoMemory};
+use g1_layout::{Layout, NoMemory};
 use g1_race_words::{RaceTable, Shape};
 use std::alloc::Global;
 
@@ -18,9 +18,8 @@ impl Paused {
     /// its cards are all clean. A runtime opens as many as it may ever have threads.
     ///
     /// Takes 8 bytes a slot, 8 bytes a card, a bit for each pair of a card and a region, and a bit
-    /// for each card, and all of this twice while it begins. It also takes about two kilobytes for
-    /// each racer and one for each sweeper. Returns `NoMemory` if memory was refused: nothing is
-    /// left of the heap.
+    /// for each card, and all of this twice while it begins. It also takes about a kilobyte for the
+    /// log of each racer. Returns `NoMemory` if memory was refused: nothing is left of the heap.
     pub fn open(
         alloc: Global,
         layout: Layout,
@@ -38,22 +37,18 @@ impl Paused {
     {
         let shape = shape_of(layout, racers as usize + sweepers as usize);
         let (table, seat) = RaceTable::open(alloc, shape)?;
-        let logs = empty_logs(alloc, racers as usize, shape.members)?;
-        let racers = Vec::with_capacity(alloc, racers as usize)?;
-        let count = sweepers as usize;
-        let sweepers = Vec::with_capacity(alloc, count)?;
+        let racers = spent_racers(alloc, &table, racers as usize)?;
+        let sweepers = spent_sweepers(alloc, &table, sweepers as usize)?;
         let race = Race {
             table,
             layout,
             shape,
-            logs,
         };
         Ok(Paused {
             race,
             seat,
             racers,
             sweepers,
-            count,
         })
     }
 }
@@ -86,22 +81,30 @@ impl Race {
     }
 }
 
-// A list of `count` empty logs, with room for `room` logs.
-fn empty_logs(
-    alloc: Global,
-    count: usize,
-    room: usize,
-) -> Result<Vec<ArrayVec<Card, 256>>, NoMemory>
-    requires { count ≤ room }
-    ensures logs { IfOk result (λ logs. map (λ l. l.items) logs.items ≡ replicate count []) }
-    ensures len { IfOk result (λ logs. vec_len logs ≡ count) }
-    ensures capacity { IfOk result (λ logs. room ≤ vec_capacity logs) }
+// As many racers at a pause, whose logs are empty.
+fn spent_racers(alloc: Global, table: &RaceTable, count: usize) -> Result<Vec<Racer>, NoMemory>
+    ensures len { IfOk result (λ racers. vec_len racers ≡ count) }
+    ensures logs { IfOk result (λ racers. map racer_log racers.items ≡ replicate count []) }
 {
-    let mut logs = Vec::with_capacity(alloc, room)?;
+    let mut racers = Vec::with_capacity(alloc, count)?;
     for _i in 0..count {
-        logs.push(ArrayVec::new())?;
+        let seat = table.spent();
+        let log = ArrayVec::new();
+        racers.push(Racer { seat, log })?;
     }
-    Ok(logs)
+    Ok(racers)
+}
+
+// As many sweepers at a pause.
+fn spent_sweepers(alloc: Global, table: &RaceTable, count: usize) -> Result<Vec<Sweeper>, NoMemory>
+    ensures { IfOk result (λ sweepers. vec_len sweepers ≡ count) }
+{
+    let mut sweepers = Vec::with_capacity(alloc, count)?;
+    for _i in 0..count {
+        let seat = table.spent();
+        sweepers.push(Sweeper { seat })?;
+    }
+    Ok(sweepers)
 }
 
 // The layout in plain numbers.

@@ -57,13 +57,11 @@ impl Paused {
             seat,
             racers: _,
             sweepers: _,
-            count: _,
         } = self;
         let Race {
             table,
             layout,
             shape,
-            logs: _,
         } = race;
         Closed {
             words: table.close(seat),

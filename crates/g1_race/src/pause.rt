@@ -2,15 +2,14 @@
 ghost use Rattle.g1_core.specs.Table.{IsCovered};
 ghost use Rattle.g1_race.specs.Over.{halted, ended_of};
 ghost use Rattle.g1_core.specs.Adoption.{IsPairOf};
-ghost use Rattle.std.specs.Prelude.{◌≡◌, ℕ, ◌+◌, ◌<◌, ◌≤◌, ◌↔◌, ◌++◌, reverse, [], ◌∷◌, All, Contains, map, vec_len, vec_capacity};
+ghost use Rattle.std.specs.Prelude.{◌≡◌, ℕ, ◌+◌, ◌<◌, ◌≤◌, ◌↔◌, [], ◌∷◌, All, Contains, map, vec_len};
 ghost use Rattle.g1_race.specs.Race.{IsOver, IsKnown, collected};
 ghost use Rattle.g1_race.specs.Members.{race_id, race_layout, race_shape, race_words, race_begun, racer_race, sweeper_race, racer_view, sweeper_view, racer_log, RacerOf, SweeperOf};
 
 use crate::paused::Paused;
 use crate::race::{Race, Racer, Sweeper};
-use arrayvec::ArrayVec;
-use g1_layout::Card;
 use g1_race_words::{Place, RaceTable};
+use std::mem::replace;
 
 impl Race {
     /// Pauses the race in place: the table stays where it is. All its racers and sweepers must be
@@ -28,7 +27,7 @@ impl Race {
     /// - A slot that refers into another region has its card dirty or its pair recorded.
     ///
     /// Takes no memory and copies no word. The only steps that it makes are those that join the
-    /// seats, and one more. The logs are kept for the racers.
+    /// seats, and one more. Each log stays where it is, in its racer.
     pub fn pause(self, mut racers: Vec<Racer>, mut sweepers: Vec<Sweeper>) -> Paused
         requires racers { (vec_len racers + vec_len sweepers ≡ (race_shape self).members)
             × All (λ r. racer_race r ≡ race_id self) racers.items }
@@ -49,70 +48,60 @@ impl Race {
         ensures logs { result.logs ≡ map racer_log racers.items }
         ensures sweepers { result.sweepers ≡ vec_len sweepers }
     {
-        let Race {
-            table,
-            layout,
-            shape,
-            mut logs,
-        } = self;
-        let count = sweepers.len();
-        let mut seat = table.enter();
-        logs.clear();
-        join_racers(&table, &mut seat, &mut logs, &mut racers);
-        join_sweepers(&table, &mut seat, &mut sweepers);
-        table.freeze(&mut seat);
-        let race = Race {
-            table,
-            layout,
-            shape,
-            logs,
-        };
+        let mut seat = self.table.enter();
+        join_racers(&self.table, &mut seat, &mut racers);
+        join_sweepers(&self.table, &mut seat, &mut sweepers);
+        self.table.freeze(&mut seat);
         Paused {
-            race,
+            race: self,
             seat,
             racers,
             sweepers,
-            count,
         }
     }
 }
 
-// Joins the racers' seats to the registrar's, and keeps their logs, the last first.
-fn join_racers(
-    table: &RaceTable,
-    registrar: &mut Place,
-    logs: &mut Vec<ArrayVec<Card, 256>>,
-    racers: &mut Vec<Racer>,
-)
+// Joins the racers' seats to the registrar's, the last first. They keep their logs.
+fn join_racers(table: &RaceTable, registrar: &mut Place, racers: &mut Vec<Racer>)
+    requires some { 0 < table.now.shape.members }
     requires seat { registrar.old.table_id ≡ table.now.table_id }
     requires racers { All (RacerOf table.now.table_id table.now.shape) racers.old.items }
-    requires room { vec_len logs.old + vec_len racers.old ≤ vec_capacity logs.old }
-    ensures logs { map (λ l. l.items) logs.new.items ≡ map (λ l. l.items) logs.old.items ++ reverse (map racer_log racers.old.items) }
-    ensures len { vec_len logs.new ≡ vec_len logs.old + vec_len racers.old }
-    ensures capacity { vec_capacity logs.old ≤ vec_capacity logs.new }
     ensures seat { registrar.new.table_id ≡ registrar.old.table_id }
-    ensures view { registrar.new.me ≡ (collected (map racer_view racers.old.items) registrar.old.me.0, registrar.old.me.1) }
-    ensures empty { (racers.new.items ≡ []) × (vec_capacity racers.new ≡ vec_capacity racers.old) }
+    ensures view { registrar.new.me ≡ (
+      collected (map racer_view racers.old.items)
+          registrar.old.me.0,
+      registrar.old.me.1,
+    ) }
+    ensures len { vec_len racers.new ≡ vec_len racers.old }
+    ensures logs { map racer_log racers.new.items ≡ map racer_log racers.old.items }
 {
-    while let Some(racer) = racers.pop() {
-        let Racer { seat, log } = racer;
+    let mut left = racers.len();
+    while left > 0 {
+        left -= 1;
+        let racer = &mut racers[left];
+        let seat = replace(&mut racer.seat, table.spent());
         table.join(registrar, seat);
-        let Ok(()) = logs.push(log) else {
-            unreachable!()
-        };
     }
 }
 
-// Joins the sweepers' seats to the registrar's.
+// Joins the sweepers' seats to the registrar's, the last first.
 fn join_sweepers(table: &RaceTable, registrar: &mut Place, sweepers: &mut Vec<Sweeper>)
+    requires some { 0 < table.now.shape.members }
     requires seat { registrar.old.table_id ≡ table.now.table_id }
     requires sweepers { All (SweeperOf table.now.table_id table.now.shape) sweepers.old.items }
     ensures seat { registrar.new.table_id ≡ registrar.old.table_id }
-    ensures view { registrar.new.me ≡ (collected (map sweeper_view sweepers.old.items) registrar.old.me.0, registrar.old.me.1) }
-    ensures empty { (sweepers.new.items ≡ []) × (vec_capacity sweepers.new ≡ vec_capacity sweepers.old) }
+    ensures view { registrar.new.me ≡ (
+      collected (map sweeper_view sweepers.old.items)
+          registrar.old.me.0,
+      registrar.old.me.1,
+    ) }
+    ensures len { vec_len sweepers.new ≡ vec_len sweepers.old }
 {
-    while let Some(sweeper) = sweepers.pop() {
-        let Sweeper { seat } = sweeper;
+    let mut left = sweepers.len();
+    while left > 0 {
+        left -= 1;
+        let sweeper = &mut sweepers[left];
+        let seat = replace(&mut sweeper.seat, table.spent());
         table.join(registrar, seat);
     }
 }

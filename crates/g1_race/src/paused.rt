@@ -14,21 +14,28 @@ use std::marker::Model;
 pub struct Paused {
     pub(crate) race: Race,
     pub(crate) seat: Place,
-    // Empty, with room for all of them.
+    // Their seats are spent: this one has taken them in.
     pub(crate) racers: Vec<Racer>,
     pub(crate) sweepers: Vec<Sweeper>,
-    // How many sweepers there are.
-    pub(crate) count: usize,
 }
 
 impl Model for Paused {
-    ghost use Rattle.std.specs.Prelude.{◌≡◌, ◌+◌, ◌≤◌, [], map, reverse, vec_len, vec_capacity};
+    ghost use Rattle.std.specs.Prelude.{◌≡◌, ◌+◌, map, vec_len};
+    ghost use Rattle.g1_race.specs.Members.{racer_log};
     ghost use Rattle.g1_race.specs.Over.{Halt};
     ghost use Rattle.g1_race_words.specs.Seats.{IsPaused};
 
     ghost Value = { Halt };
 
-    ghost view = { λ a. record { layout = a.race.layout; shape = a.race.shape; words = a.seat.me.0.began_words; address = a.race.table.address; logs = reverse (map (λ l. l.items) a.race.logs.items); sweepers = a.count } };
+    ghost view = { λ a. record {
+      layout = a.race.layout;
+      shape = a.race.shape;
+      words = a.seat.me.0.began_words;
+      address = a.race.table.address;
+      logs = map racer_log a.racers.items;
+      sweepers = vec_len a.sweepers;
+    } };
 
-    ghost invariant = { λ a. IsPaused a.race.table.table_id a.race.shape a.seat × (vec_len a.race.logs + a.count ≡ a.race.shape.members) × (vec_len a.racers ≡ 0) × (vec_len a.sweepers ≡ 0) × (vec_len a.race.logs ≤ vec_capacity a.racers) × (a.count ≤ vec_capacity a.sweepers) };
+    ghost invariant = { λ a. IsPaused a.race.table.table_id a.race.shape a.seat
+        × (vec_len a.racers + vec_len a.sweepers ≡ a.race.shape.members) };
 }

@@ -2,7 +2,7 @@
 //!
 //! A racer or a sweeper has a seat at the table of words: a token of no bytes at run time, which
 //! carries what its thread knows, in the proofs alone ([`View`](crate::View)).
-ghost use Rattle.std.specs.Prelude.{◌≡◌, ◌+◌, ◌<◌, ◌≤◌, [], vec_capacity};
+ghost use Rattle.std.specs.Prelude.{◌≡◌, ◌+◌, ◌<◌, []};
 ghost use Rattle.g1_race_words.specs.Rule.{IsShape};
 ghost use Rattle.g1_race.specs.Race.{shape_of, IsRacing, IsSweeping};
 
@@ -21,13 +21,10 @@ pub struct Race {
     pub(crate) layout: Layout,
     // The layout in plain numbers, with the number of racers and sweepers.
     pub(crate) shape: Shape,
-    // Room for the log of each racer, for a pause.
-    pub(crate) logs: Vec<ArrayVec<Card, 256>>,
     ghost laid: { shape ≡ shape_of layout shape.members },
     ghost key_is: { table.shape ≡ shape },
     ghost shaped: { IsShape shape },
     ghost some: { 0 < shape.members },
-    ghost room: { shape.members ≤ vec_capacity logs },
 }
 
 /// A mutator's part in a race: its right to write slots and to dirty cards, and its dirty card
@@ -37,9 +34,10 @@ pub struct Race {
 /// found the card dirty or made it dirty.
 #[derive(Drop)]
 pub struct Racer {
+    // Spent at a pause: its shape is that of no race.
     pub(crate) seat: Place,
     pub(crate) log: ArrayVec<Card, 256>,
-    ghost racing: { IsRacing seat.me.0 },
+    ghost racing: { 0 < seat.me.0.shape.members → IsRacing seat.me.0 },
 }
 
 /// A refinement thread's part in a race: its right to clean cards, to read their slots and to
@@ -49,5 +47,5 @@ pub struct Racer {
 #[derive(Drop)]
 pub struct Sweeper {
     pub(crate) seat: Place,
-    ghost sweeping: { IsSweeping seat.me.0 },
+    ghost sweeping: { 0 < seat.me.0.shape.members → IsSweeping seat.me.0 },
 }

@@ -40,7 +40,6 @@ impl Paused {
             mut seat,
             racers,
             sweepers,
-            count: sweeping,
         } = self;
         seat_readers(&race.table, &mut seat, readers, count);
         Reading {
@@ -48,7 +47,6 @@ impl Paused {
             seat,
             racers,
             sweepers,
-            count: sweeping,
         }
     }
 }
@@ -83,7 +81,6 @@ impl Reading {
             mut seat,
             racers,
             sweepers,
-            count,
         } = self;
         join_readers(&race.table, &mut seat, readers);
         race.table.freeze(&mut seat);
@@ -92,7 +89,6 @@ impl Reading {
             seat,
             racers,
             sweepers,
-            count,
         }
     }
 }

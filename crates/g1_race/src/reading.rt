@@ -14,11 +14,11 @@ pub struct Reading {
     pub(crate) seat: Place,
     pub(crate) racers: Vec<Racer>,
     pub(crate) sweepers: Vec<Sweeper>,
-    pub(crate) count: usize,
 }
 
 impl Model for Reading {
-    ghost use Rattle.std.specs.Prelude.{◌≡◌, ◌+◌, ◌-◌, ◌≤◌, map, reverse, vec_len, vec_capacity};
+    ghost use Rattle.std.specs.Prelude.{◌≡◌, ◌+◌, ◌-◌, ◌≤◌, map, vec_len};
+    ghost use Rattle.g1_race.specs.Members.{racer_log};
     ghost use Rattle.g1_race.specs.Reading.{Readable};
     ghost use Rattle.g1_race_words.specs.Readers.{IsLent};
 
@@ -30,8 +30,8 @@ impl Model for Reading {
         shape = a.race.shape;
         words = a.seat.me.0.began_words;
         address = a.race.table.address;
-        logs = reverse (map (λ l. l.items) a.race.logs.items);
-        sweepers = a.count;
+        logs = map racer_log a.racers.items;
+        sweepers = vec_len a.sweepers;
       };
       table_id = a.race.table.table_id;
       readers = a.race.shape.members - a.seat.me.0.weight;
@@ -39,9 +39,7 @@ impl Model for Reading {
 
     ghost invariant = { λ a. IsLent a.race.table.table_id a.race.shape a.seat
         × (a.seat.me.0.weight ≤ a.race.shape.members)
-        × (vec_len a.race.logs + a.count ≡ a.race.shape.members)
-        × (vec_len a.racers ≡ 0) × (vec_len a.sweepers ≡ 0)
-        × (vec_len a.race.logs ≤ vec_capacity a.racers) × (a.count ≤ vec_capacity a.sweepers) };
+        × (vec_len a.racers + vec_len a.sweepers ≡ a.race.shape.members) };
 }
 
 /// What a thread of the collector reads with at a pause: its right to read the words. It has no

@@ -56,7 +56,7 @@ impl Paused {
         refine_cards(&self.race, &mut self.seat);
         let (from, to) = (from.number() as usize, to.number() as usize);
         let slots = move_references(&self.race, &mut self.seat, from, to);
-        clear_logs(&mut self.race.logs);
+        clear_logs(&mut self.racers);
         let refined = CardList::of(refined);
         Ok(Redirected::Moved { slots, refined })
     }
@@ -71,7 +71,7 @@ impl Paused {
         ensures redirected { IsRedirected (halted self.old) from to result (halted self.new) }
     {
         refine_cards(&self.race, &mut self.seat);
-        clear_logs(&mut self.race.logs);
+        clear_logs(&mut self.racers);
         let (from, to) = (from.number() as usize, to.number() as usize);
         move_references(&self.race, &mut self.seat, from, to)
     }

@@ -1,5 +1,5 @@
 //! How a race goes on after a pause, or begins from a core.
-ghost use Rattle.std.specs.Prelude.{◌≡◌, ◌+◌, ◌-◌, ◌<◌, ◌≤◌, [], All, IfOk, IfErr, length, map, reverse, vec_len, vec_capacity};
+ghost use Rattle.std.specs.Prelude.{◌≡◌, ◌+◌, ◌-◌, ◌<◌, ◌≤◌, [], All, IfOk, IfErr, length, map, vec_len};
 ghost use Rattle.g1_race_words.specs.Rule.{beginning, start_of};
 ghost use Rattle.g1_race_words.specs.Steps.{chair};
 ghost use Rattle.g1_race.specs.Race.{shape_of};
@@ -10,9 +10,8 @@ ghost use Rattle.g1_race.specs.Members.{race_id, race_layout, race_shape, race_w
 
 use crate::paused::Paused;
 use crate::race::{Race, Racer, Sweeper};
-use arrayvec::ArrayVec;
 use g1_core::Core;
-use g1_layout::{Card, NoMemory};
+use g1_layout::NoMemory;
 use g1_race_words::{Place, RaceTable};
 use std::alloc::Global;
 
@@ -41,23 +40,10 @@ impl Paused {
             mut seat,
             mut racers,
             mut sweepers,
-            count,
         } = self;
-        let Race {
-            table,
-            layout,
-            shape,
-            mut logs,
-        } = race;
-        table.thaw(&mut seat);
-        seat_racers(&table, &mut seat, &mut logs, &mut racers);
-        seat_sweepers(&table, &mut seat, &mut sweepers, count);
-        let race = Race {
-            table,
-            layout,
-            shape,
-            logs,
-        };
+        race.table.thaw(&mut seat);
+        seat_racers(&race.table, &mut seat, &mut racers);
+        seat_sweepers(&race.table, &mut seat, &mut sweepers);
         (race, racers, sweepers)
     }
 }
@@ -120,53 +106,50 @@ impl Race {
     }
 }
 
-// Splits off a seat for each racer, whose logs are these, the last first.
-fn seat_racers(
-    table: &RaceTable,
-    registrar: &mut Place,
-    logs: &mut Vec<ArrayVec<Card, 256>>,
-    racers: &mut Vec<Racer>,
-)
+// Splits off a seat for each racer. They keep their logs.
+fn seat_racers(table: &RaceTable, registrar: &mut Place, racers: &mut Vec<Racer>)
     requires seat { registrar.old.table_id ≡ table.now.table_id }
-    requires view { registrar.old.me ≡ (chair (start_of registrar.old.me.0) registrar.old.me.0.weight, []) }
+    requires view { registrar.old.me ≡ (
+      chair (start_of registrar.old.me.0)
+          registrar.old.me.0.weight,
+      [],
+    ) }
     requires shape { registrar.old.me.0.shape ≡ table.now.shape }
-    requires weight { vec_len logs.old ≤ registrar.old.me.0.weight }
-    requires empty { vec_len racers.old ≡ 0 }
-    requires room { vec_len logs.old ≤ vec_capacity racers.old }
+    requires weight { vec_len racers.old ≤ registrar.old.me.0.weight }
     ensures seat { registrar.new.table_id ≡ registrar.old.table_id }
-    ensures view { registrar.new.me ≡ (chair (start_of registrar.old.me.0) (registrar.old.me.0.weight - vec_len logs.old), []) }
-    ensures racers { (vec_len racers.new ≡ vec_len logs.old) × All (IsNewRacer table.now.table_id (start_of registrar.old.me.0)) racers.new.items }
-    ensures logs { map racer_log racers.new.items ≡ reverse (map (λ l. l.items) logs.old.items) }
-    ensures capacity { vec_capacity logs.new ≡ vec_capacity logs.old }
+    ensures view { registrar.new.me ≡ (
+      chair (start_of registrar.old.me.0)
+          (registrar.old.me.0.weight - vec_len racers.old),
+      [],
+    ) }
+    ensures racers { (vec_len racers.new ≡ vec_len racers.old)
+        × All (IsNewRacer table.now.table_id (start_of registrar.old.me.0)) racers.new.items }
+    ensures logs { map racer_log racers.new.items ≡ map racer_log racers.old.items }
 {
-    while let Some(log) = logs.pop() {
+    for i in 0..racers.len() {
         let seat = table.split_racer(registrar);
-        let Ok(()) = racers.push(Racer { seat, log }) else {
-            unreachable!()
-        };
+        let racer = &mut racers[i];
+        racer.seat = seat;
     }
 }
 
 // Splits off a seat for each sweeper.
-fn seat_sweepers(
-    table: &RaceTable,
-    registrar: &mut Place,
-    sweepers: &mut Vec<Sweeper>,
-    count: usize,
-)
+fn seat_sweepers(table: &RaceTable, registrar: &mut Place, sweepers: &mut Vec<Sweeper>)
     requires seat { registrar.old.table_id ≡ table.now.table_id }
-    requires view { registrar.old.me ≡ (chair (start_of registrar.old.me.0) registrar.old.me.0.weight, []) }
+    requires view { registrar.old.me ≡ (
+      chair (start_of registrar.old.me.0)
+          registrar.old.me.0.weight,
+      [],
+    ) }
     requires shape { registrar.old.me.0.shape ≡ table.now.shape }
-    requires weight { count ≤ registrar.old.me.0.weight }
-    requires empty { vec_len sweepers.old ≡ 0 }
-    requires room { count ≤ vec_capacity sweepers.old }
+    requires weight { vec_len sweepers.old ≤ registrar.old.me.0.weight }
     ensures seat { registrar.new.table_id ≡ registrar.old.table_id }
-    ensures sweepers { (vec_len sweepers.new ≡ count) × All (IsNewSweeper table.now.table_id (start_of registrar.old.me.0)) sweepers.new.items }
+    ensures sweepers { (vec_len sweepers.new ≡ vec_len sweepers.old)
+        × All (IsNewSweeper table.now.table_id (start_of registrar.old.me.0)) sweepers.new.items }
 {
-    for _i in 0..count {
+    for i in 0..sweepers.len() {
         let seat = table.split_sweeper(registrar);
-        let Ok(()) = sweepers.push(Sweeper { seat }) else {
-            unreachable!()
-        };
+        let sweeper = &mut sweepers[i];
+        sweeper.seat = seat;
     }
 }

@@ -1,7 +1,7 @@
 //! How seats are made, split and joined. No word changes.
 ghost use Rattle.std.specs.Prelude.{◌≡◌, []};
 ghost use Rattle.g1_race_words.specs.Rule.{AtRest, null_of};
-ghost use Rattle.g1_race_words.specs.Steps.{blank, both, lighter, new_racer, new_sweeper};
+ghost use Rattle.g1_race_words.specs.Steps.{blank, both, lighter, new_racer, new_sweeper, nothing};
 ghost use Rattle.g1_race_words.specs.Seats.{IsChair};
 
 use crate::table::{Place, RaceTable};
@@ -48,6 +48,15 @@ impl Play<(), View> for Comes {
     ghost then = { λ step before found after. after ≡ (blank (start_of before.0) 0 [], []) };
 }
 
+pub(crate) struct ComesSpent;
+
+impl Play<(), View> for ComesSpent {
+    ghost use Rattle.std.specs.Prelude.{◌≡◌, []};
+    ghost use Rattle.g1_race_words.specs.Steps.{nothing};
+
+    ghost then = { λ step before found after. after ≡ (nothing, []) };
+}
+
 impl RaceTable {
     /// Makes a new seat. Its weight is 0, and its view is blank.
     pub fn enter(&self) -> Place
@@ -55,6 +64,16 @@ impl RaceTable {
         ensures view { result.me ≡ (blank (null_of self.now.shape) 0 [], []) }
     {
         let (_, seat) = self.table.shared.load_new_seat::<Comes>(0);
+        Place { seat }
+    }
+
+    /// Makes a spent seat, such as a join leaves: it answers for nothing, and its shape is that of
+    /// no race. It stands in for the seat of a member that a pause has taken.
+    pub fn spent(&self) -> Place
+        ensures table { result.table_id ≡ self.now.table_id }
+        ensures view { result.me ≡ (nothing, []) }
+    {
+        let (_, seat) = self.table.shared.load_new_seat::<ComesSpent>(0);
         Place { seat }
     }
 

@@ -33,7 +33,7 @@ returns-clause-redirected c =
 
 pub returns-clause-race : goal.returns-clause-race
 returns-clause-race c =
-    let logs = emptied c.self.inside.race.logs.items c.clear_logs.new.logs.items c.clear_logs.ensures.logs in
+    let logs = emptied c.self.inside.racers.items c.clear_logs.new.racers.items c.clear_logs.ensures.logs in
     record {
       layout = ap (λ (h : Halt). h.layout) c.self.view_is;
       shape = ap (λ (h : Halt). h.shape) c.self.view_is;
