@@ -1,5 +1,5 @@
 -- The seat of a pause.
-use Rattle.std.proofs.Common.{◌≡◌, ◌≢◌, ◌⊎◌, ℕ, ◌<◌, ◌≤◌, List, [], set, length, length-set, true, sym, ap, ◌∙◌, subst, inl, inr, ⊎_elim, arith}
+use Rattle.std.proofs.Common.{◌≡◌, ◌≢◌, ◌⊎◌, ℕ, ◌<◌, List, [], set, length, length-set, true, sym, ap, ◌∙◌, subst, inl, inr, ⊎_elim, arith}
 use mathlib.Core.Option.{some}
 use native.Mathlib.Decide.{ℕ_discrete}
 use lib.ListN.{get_elem?}
@@ -9,7 +9,7 @@ use Rattle.atomic_table.specs.declared.shared.Seat.{Seat}
 use Rattle.g1_race_words.specs.declared.view.Shape.{Shape}
 use Rattle.g1_race_words.specs.declared.view.View.{View}
 use Rattle.g1_race.specs.declared.race.Race.{Race}
-use Rattle.g1_race_words.specs.Rule.{IsBegun, IsFlagged, IsMarked, HasBit, flag, mark_word, card_of, region_at, crosses, start}
+use Rattle.g1_race_words.specs.Rule.{IsWord, IsBegun, IsFlagged, IsMarked, HasBit, flag, mark_word, card_of, region_at, crosses, start}
 use Rattle.g1_race_words.specs.Steps.{iced}
 use Rattle.g1_race_words.specs.Seats.{IsPaused}
 use Rattle.atomic_table.specs.Seated.{TableId}
@@ -59,7 +59,7 @@ begun_marked k words c lt flagged h = record {
     pick d below (yes e) = inl (ap (λ (i : ℕ). get_elem? (set words (mark_word k c) 1) i) e ∙ set_here words (mark_word k c) 1 there_is)
     pick d below (no ne) = ⊎_elim (λ (m : get_elem? words (mark_word k d) ≡ some 1). inl (set_else words (mark_word k c) (mark_word k d) 1 ne ∙ m)) (λ (z : get_elem? words (mark_word k d) ≡ some 0). inr (set_else words (mark_word k c) (mark_word k d) 1 ne ∙ z)) (h.marks d below)
 
-pub begun_placed : (k : Shape) (words : List ℕ) (p n : ℕ) → p < k.slots → n ≤ k.slots → (crosses k p n ≡ true → HasBit k words (card_of k p, region_at k n) ⊎ IsMarked k words p) → IsBegun (start k words) → IsBegun (start k (set words p n))
+pub begun_placed : (k : Shape) (words : List ℕ) (p n : ℕ) → p < k.slots → IsWord k n → (crosses k p n ≡ true → HasBit k words (card_of k p, region_at k n) ⊎ IsMarked k words p) → IsBegun (start k words) → IsBegun (start k (set words p n))
 begun_placed k words p n lt fits marked h = record {
   shaped = h.shaped;
   sized = length-set words p n ∙ h.sized;

@@ -25,7 +25,8 @@ use Rattle.g1_core.specs.Run.{settled}
 use Rattle.g1_race.specs.Clearing.{Into, IsLeastInto, IsLeastOn, IsEmptied}
 use Rattle.g1_race_words.proofs.AtBeginning.{no_bit}
 use Rattle.g1_race_words.proofs.Places.{at_take, at_untake, reads_as}
-use Rattle.g1_race_words.proofs.PairBits.{card_below, card_in_row, crosses_some, crossing_pair, in_row}
+use Rattle.g1_race_words.proofs.Crossing.{crosses_reference}
+use Rattle.g1_race_words.proofs.PairBits.{card_below, card_in_row, crossing_pair, in_row}
 use Rattle.g1_race_words.proofs.Flags.{flag_card, word_in_row}
 use Rattle.g1_race.proofs.StoreCalls.{other_region}
 use Rattle.g1_race.proofs.Ends.{crosses_apart, recorded_set, set_recorded, word_back, word_refers}
@@ -162,7 +163,7 @@ module _ (k : Shape) (l : layout.Shape) (laid : k ≡ shape_of l k.members) wher
         n,
         omega (arith, lt, slots),
         (at_untake words (k.slots + k.cards) slot n word.2).1,
-        other_region k slot h.place n is (λ q. h.outside (ap (λ (s : ℕ). slot / s) (sym span) ∙ (q ∙ into))),
+        other_region k slot h.place n is word.4 (λ q. h.outside (ap (λ (s : ℕ). slot / s) (sym span) ∙ (q ∙ into))),
         ap (λ (m : ℕ). m / k.span) (let f : n - 1 ≡ h.place = omega (arith, is) in f) ∙ into,
       )
 
@@ -172,7 +173,7 @@ module _ (k : Shape) (l : layout.Shape) (laid : k ≡ shape_of l k.members) wher
       let slots : k.slots ≡ slot_count l = ap (λ (s : Shape). s.slots) laid in
       let lt : slot < k.slots = i.1 in record {
         place = i.0 - 1;
-        refers = word_refers (ended l k words) slot i.0 (omega (arith, lt, slots)) (at_take words (k.slots + k.cards) slot i.0 (omega (arith, lt)) i.2) (crosses_some k slot i.0 i.3);
+        refers = word_refers (ended l k words) slot i.0 (omega (arith, lt, slots)) (at_take words (k.slots + k.cards) slot i.0 (omega (arith, lt)) i.2) (crosses_reference k slot i.0 i.3);
         into = ap (λ (s : ℕ). (i.0 - 1) / s) (sym span) ∙ i.4;
         outside = λ q. crosses_apart k slot i.0 i.3 (ap (λ (s : ℕ). slot / s) span ∙ (q ∙ sym i.4));
       }

@@ -9,23 +9,23 @@ use Rattle.g1_core.specs.Table.{Table}
 use Rattle.g1_core.specs.Run.{kind_of, stored}
 use Rattle.g1_race_words.specs.declared.view.Shape.{Shape}
 use Rattle.g1_race_words.specs.Rule.{IsBegun, card_of, crosses, mark_word, start}
-use Rattle.g1_race.specs.Over.{ended, table_of}
-use Rattle.g1_race.specs.Race.{shape_of, word_of}
+use Rattle.g1_race.specs.Over.{ended, table_of, target_of}
+use Rattle.g1_race.specs.Race.{shape_of}
 use Rattle.g1_race.specs.Refining.{IsDirtied}
 use Rattle.g1_race_words.proofs.PairBits.{card_below}
 use Rattle.g1_race.proofs.FlagWords.{flag_ended}
 use Rattle.g1_race.proofs.PauseStores.{kind_clean, logged_store}
 
-module _ (k : Shape) (l : layout.Shape) (laid : k ≡ shape_of l k.members) (p : ℕ) (lt : p < k.slots) (target : Option ℕ) where
+module _ (k : Shape) (l : layout.Shape) (laid : k ≡ shape_of l k.members) (p : ℕ) (lt : p < k.slots) (target : Option ℕ) (n : ℕ) (back : target_of n ≡ target) where
   pub dirtied_here : (seen new : List ℕ) (card : ℕ) → card ≡ card_of k p → IsDirtied k seen new card → get_elem? new (mark_word k (card_of k p)) ≡ some 1
   dirtied_here seen new card is d =
       let low = card_below k p d.begun.shaped lt in
       ap (λ (ws : List ℕ). get_elem? ws (mark_word k (card_of k p))) (d.marked ∙ ap (λ (c : ℕ). set d.mid (mark_word k c) 1) is) ∙ set_here d.mid (mark_word k (card_of k p)) 1 (omega (arith, d.begun.sized, low))
 
-  pub dirtied_store : (t : Table) (words seen new after : List ℕ) (card : ℕ) → seen ≡ words → card ≡ card_of k p → IsDirtied k seen new card → table_of (ended l k words) ≡ t → crosses k p (word_of target) ≡ true → (get_elem? words (mark_word k (card_of k p)) ≡ some 1 → ⊥)
-      → after ≡ set new p (word_of target) → IsBegun (start k after) → (Logged ≡ kind_of t p target) × (table_of (ended l k after) ≡ stored t p target)
+  pub dirtied_store : (t : Table) (words seen new after : List ℕ) (card : ℕ) → seen ≡ words → card ≡ card_of k p → IsDirtied k seen new card → table_of (ended l k words) ≡ t → crosses k p n ≡ true → (get_elem? words (mark_word k (card_of k p)) ≡ some 1 → ⊥)
+      → after ≡ set new p n → IsBegun (start k after) → (Logged ≡ kind_of t p target) × (table_of (ended l k after) ≡ stored t p target)
   dirtied_store t words seen new after card same is d was cr clean e h' =
       let low = card_below k p d.begun.shaped lt in
       let mark : get_elem? words (mark_word k (card_of k p)) ≡ get_elem? d.mid (mark_word k (card_of k p)) = ap (λ (ws : List ℕ). get_elem? ws (mark_word k (card_of k p))) (sym same) ∙ sym (d.flagged.front (mark_word k (card_of k p)) (omega (arith, low))) in
-      logged_store k l laid p lt target t d.mid after (ap table_of (flag_ended k l seen d.mid card d.flagged) ∙ (ap (λ (ws : List ℕ). table_of (ended l k ws)) same ∙ was))
-      (e ∙ ap (λ (ws : List ℕ). set ws p (word_of target)) (d.marked ∙ ap (λ (c : ℕ). set d.mid (mark_word k c) 1) is)) d.begun h' (kind_clean k l laid p lt target d.mid cr (λ at. clean (mark ∙ at)))
+      logged_store k l laid p lt target n back t d.mid after (ap table_of (flag_ended k l seen d.mid card d.flagged) ∙ (ap (λ (ws : List ℕ). table_of (ended l k ws)) same ∙ was))
+      (e ∙ ap (λ (ws : List ℕ). set ws p n) (d.marked ∙ ap (λ (c : ℕ). set d.mid (mark_word k c) 1) is)) d.begun h' (kind_clean k l laid p lt target n back d.mid cr (λ at. clean (mark ∙ at)))

@@ -22,7 +22,8 @@ use Rattle.g1_race.specs.Clearing.{AreUnset}
 use Rattle.g1_race.specs.Evacuating.{forgotten}
 use Rattle.g1_race.specs.Telling.{is_member}
 use Rattle.g1_race_words.proofs.Places.{at_take, at_untake, reads_as}
-use Rattle.g1_race_words.proofs.PairBits.{bit_apart, crosses_some, card_below, crossing_pair}
+use Rattle.g1_race_words.proofs.Crossing.{crosses_reference}
+use Rattle.g1_race_words.proofs.PairBits.{bit_apart, card_below, crossing_pair}
 use Rattle.g1_race_words.proofs.Flags.{bit_below, flag_card}
 use Rattle.g1_race.proofs.Ends.{crosses_apart, recorded_set, region_of_quotient, set_recorded, word_refers}
 
@@ -241,6 +242,6 @@ module _ (k : Shape) (l : layout.Shape) (laid : k ≡ shape_of l k.members) (sha
       let span : k.span ≡ l.cards * l.slots = ap (λ (s : Shape). s.span) laid in
       let card : card_of k p ≡ layout.card_of l p = ap (λ (s : Shape). p / s.size) laid in
       closed p (n - 1) (record {
-        refers = word_refers (ended l k words) p n (omega (arith, lt, slots)) (at_take words (k.slots + k.cards) p n (omega (arith, lt)) at) (crosses_some k p n cr);
+        refers = word_refers (ended l k words) p n (omega (arith, lt, slots)) (at_take words (k.slots + k.cards) p n (omega (arith, lt)) at) (crosses_reference k p n cr);
         across = λ e. crosses_apart k p n cr (ap (λ (s : ℕ). p / s) span ∙ (e ∙ ap (λ (s : ℕ). (n - 1) / s) (sym span)));
       }) (sym (region_of_quotient l p) ∙ (ap (λ (c : ℕ). c / l.cards) (sym card) ∙ in_card l.cards region (card_of k p) le below))

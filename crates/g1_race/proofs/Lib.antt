@@ -29,3 +29,4 @@ pub mod Moving
 pub mod MovedTable
 pub mod Counting
 pub mod Blocks
+pub mod SlotWords

@@ -1,11 +1,11 @@
 -- A redirect at a pause as a step of the plain table.
-use Rattle.std.proofs.Common.{◌≡◌, ◌≢◌, ℕ, zero, suc, ◌+◌, ◌-◌, ◌*◌, ◌/◌, ◌%◌, ◌<◌, ◌≤◌, cond, eqb, map, take, Bool, true, false, List, length, get_or, Option, Some, None, refl, sym, ap, ◌∙◌, subst, inl, inr, ⊎_elim, arith, eq-eqb, ne_eqb}
+use Rattle.std.proofs.Common.{◌^◌, ◌≡◌, ◌≢◌, ℕ, zero, suc, ◌+◌, ◌-◌, ◌*◌, ◌/◌, ◌%◌, ◌<◌, ◌≤◌, cond, eqb, map, take, Bool, true, false, List, length, get_or, Option, Some, None, refl, sym, ap, ◌∙◌, subst, inl, inr, ⊎_elim, arith, eq-eqb, ne_eqb}
 use Rattle.std.specs.Prelude.{not, ◌&&◌, ◌||◌, count_by}
 use mathlib.Core.Option.{some}
 use lib.ListN.{get_elem?}
 use Rattle.std.specs.List.{enumerate_from, filter_map, range_with_len}
 use Rattle.std.specs.FinSet as set
-use Rattle.std.proofs.lemmas.Bool.{and_from, and_parts, cases_Bool, eqb-false, eqb-true, not-true, or_cases, or_left, or_right, true≢false}
+use Rattle.std.proofs.lemmas.Bool.{and_from, and_parts, cases_Bool, cases_lt, eqb-false, eqb-true, not-true, or_cases, or_left, or_right, true≢false}
 use Rattle.std.proofs.lemmas.List.{get_or_default, get_or-map, length-map, length-take}
 use Rattle.std.proofs.lemmas.List.FromFn.{fill_by_all, get_or-enumerate_from, length-enumerate_from}
 use Rattle.std.proofs.lemmas.List.Sums.{count_by_more_no, count_by_more_yes}
@@ -20,15 +20,17 @@ use Rattle.g1_race.specs.Evacuating.{AreAllRefined}
 use Rattle.g1_core.proofs.SetLemmas.{pair_total, pair_exact, listed, unlisted, Kept, from_kept, to_kept, same_bools}
 use Rattle.g1_core.proofs.TableLemmas.{slot_of}
 use Rattle.g1_race_words.specs.declared.view.Shape.{Shape}
-use Rattle.g1_race_words.specs.Rule.{IsBegun, IsPair, HasBit, card_of, crosses, front, mark_word, one_if, region_at, start, word_count}
+use Rattle.g1_race_words.specs.Rule.{IsReference, IsBegun, IsPair, HasBit, card_of, crosses, front, mark_word, one_if, region_at, start, word_count}
 use Rattle.g1_race.specs.Race.{shape_of}
 use Rattle.g1_race.specs.Over.{ended, refs_of, table_of, target_of}
 use Rattle.g1_race.specs.Moving.{AreMovedAway, Acquires, into_count, is_into, moved_word, word_after}
-use Rattle.g1_race.proofs.Ends.{crosses_apart, recorded_set, refs_here, set_recorded, target_some}
-use Rattle.g1_race_words.proofs.PairBits.{card_below, crosses_some, in_row}
+use Rattle.g1_race.proofs.Ends.{target_data, crosses_apart, recorded_set, refs_here, set_recorded, target_some}
+use Rattle.g1_race_words.proofs.Crossing.{crosses_reference}
+use Rattle.g1_race_words.proofs.PairBits.{card_below, in_row}
 use Rattle.g1_race.proofs.PauseTable.{pending_word, slots_are, table_is, word_pending}
 use Rattle.g1_race_words.proofs.Places.{at_take, at_untake, reads_as, take_all}
 use Rattle.g1_race_words.proofs.Plain.{false_is, read_at, true_is}
+use Rattle.g1_race.proofs.Moving.{moved_low}
 use Rattle.g1_race.proofs.StoreCalls.{other_region}
 
 module _ (k : Shape) (l : layout.Shape) (laid : k ≡ shape_of l k.members) where
@@ -41,22 +43,28 @@ module _ (k : Shape) (l : layout.Shape) (laid : k ≡ shape_of l k.members) wher
   enters_to region p n h =
       let b = and_parts (crosses k p n) (eqb (region_at k n) region) h in
       let into : region_at k n ≡ region = eqb-true (region_at k n) region b.1 in
-      subst (λ (o : Option ℕ). enters l region (p, o) ≡ true) (sym (target_some n (crosses_some k p n b.0)))
+      subst (λ (o : Option ℕ). enters l region (p, o) ≡ true) (sym (target_some n (crosses_reference k p n b.0)))
       (and_from (not (eqb (region_of l p) region)) (eqb (region_of l (n - 1)) region)
       (ap not (ne_eqb (region_of l p) region (λ e. crosses_apart k p n b.0 (ap (λ (s : ℕ). p / s) span_is ∙ (e ∙ sym into)))))
       (eq-eqb (region_of l (n - 1)) region (ap (λ (s : ℕ). (n - 1) / s) (sym span_is) ∙ into)))
+
+  enters_low : (region p n : ℕ) → enters l region (p, target_of n) ≡ true → n < 2 ^ 32
+  enters_low region p n h = elim (cases_lt n (2 ^ 32)) [
+    | inl low ↦ low
+    | inr high ↦ absurd (true≢false (sym h ∙ ap (λ (o : Option ℕ). enters l region (p, o)) (target_data n high)))
+  ]
 
   enters_from : (region p n : ℕ) → enters l region (p, target_of n) ≡ true → is_into k region p n ≡ true
   enters_from region p zero h = absurd (true≢false (sym h))
   enters_from region p (suc m) h =
       let n : ℕ = suc m in
-      let ne : suc m ≢ 0 = λ z. absurd (omega (arith, z)) in
-      let b = and_parts (not (eqb (region_of l p) region)) (eqb (region_of l (suc m - 1)) region) (subst (λ (o : Option ℕ). enters l region (p, o) ≡ true) (target_some (suc m) ne) h) in
+      let is : IsReference (suc m) = ((λ z. absurd (omega (arith, z))), enters_low region p (suc m) h) in
+      let b = and_parts (not (eqb (region_of l p) region)) (eqb (region_of l (suc m - 1)) region) (subst (λ (o : Option ℕ). enters l region (p, o) ≡ true) (target_some (suc m) is) h) in
       let into : region_of l (suc m - 1) ≡ region = eqb-true (region_of l (suc m - 1)) region b.1 in
       let away : region_of l p ≢ region = eqb-false (region_of l p) region (not-true (eqb (region_of l p) region) b.0) in
       let there : region_at k (suc m) ≡ region = ap (λ (s : ℕ). (suc m - 1) / s) span_is ∙ into in
       and_from (crosses k p (suc m)) (eqb (region_at k (suc m)) region)
-      (other_region k p (suc m - 1) (suc m) (let f : suc m ≡ suc m - 1 + 1 = omega arith in f) (λ e. away (ap (λ (s : ℕ). p / s) (sym span_is) ∙ (e ∙ there))))
+      (other_region k p (suc m - 1) (suc m) (let f : suc m ≡ suc m - 1 + 1 = omega arith in f) is.1 (λ e. away (ap (λ (s : ℕ). p / s) (sym span_is) ∙ (e ∙ there))))
       (eq-eqb (region_at k (suc m)) region there)
 
   enters_is : (region p n : ℕ) → is_into k region p n ≡ enters l region (p, target_of n)
@@ -66,16 +74,16 @@ module _ (k : Shape) (l : layout.Shape) (laid : k ≡ shape_of l k.members) wher
   stays_put from to p None e = refl
   stays_put from to p (Some place) e = ap (λ (b : Bool). cond b (Some (same_offset l place to)) (Some place)) e
 
-  after_target : (from to p n : ℕ) → target_of (word_after k from to p n) ≡ moved_target l from to (p, target_of n)
-  after_target from to p n = elim (cases_Bool (is_into k from p n)) [
+  after_target : (from to p n : ℕ) → moved_word k to n < 2 ^ 32 → target_of (word_after k from to p n) ≡ moved_target l from to (p, target_of n)
+  after_target from to p n small = elim (cases_Bool (is_into k from p n)) [
     | inl is ↦
-        let some_n = crosses_some k p n (and_parts (crosses k p n) (eqb (region_at k n) from) is).0 in
+        let some_n = crosses_reference k p n (and_parts (crosses k p n) (eqb (region_at k n) from) is).0 in
         let target : target_of n ≡ Some (n - 1) = target_some n some_n in
         let off : ℕ = (n - 1) % k.span in
         let base : ℕ = to * k.span in
         let less : base + off + 1 - 1 ≡ base + off = omega arith in
         ap target_of (true_is (is_into k from p n) (moved_word k to n) n is)
-        ∙ (target_some (moved_word k to n) (λ z. absurd (let z' : base + off + 1 ≡ 0 = z in omega arith))
+        ∙ (target_some (moved_word k to n) ((λ z. absurd (let z' : base + off + 1 ≡ 0 = z in omega arith)), small)
         ∙ (ap Some (less ∙ ap (λ (s : ℕ). to * s + (n - 1) % s) span_is)
         ∙ (sym (ap (λ (b : Bool). cond b (Some (same_offset l (n - 1) to)) (Some (n - 1))) (subst (λ (o : Option ℕ). enters l from (p, o) ≡ true) target (enters_to from p n is)))
         ∙ ap (λ (o : Option ℕ). moved_target l from to (p, o)) (sym target))))
@@ -122,7 +130,7 @@ module _ (k : Shape) (l : layout.Shape) (laid : k ≡ shape_of l k.members) wher
     new_refs : refs_of (ended l k new) ≡ map each (range_with_len 0 (slot_count l))
     new_refs = fill_by_all each (refs_of (ended l k new)) (slot_count l) None (refs_len new h) (λ p lt.
         let low : p < k.slots = omega (arith, lt, slots_are k l laid) in
-        ref_is new p (word_after k from to p (get_or old p 0)) low (word_now p low) ∙ (after_target from to p (get_or old p 0) ∙ ap (λ (o : Option ℕ). moved_target l from to (p, o)) (sym (ref_old p low))))
+        ref_is new p (word_after k from to p (get_or old p 0)) low (word_now p low) ∙ (after_target from to p (get_or old p 0) (moved_low k to (get_or old p 0) b.shaped within) ∙ ap (λ (o : Option ℕ). moved_target l from to (p, o)) (sym (ref_old p low))))
 
     listed_at : (p : ℕ) → p < slot_count l → get_or (enumerate_from 0 refs) p (0, None) ≡ (p, get_or refs p None)
     listed_at p lt = let first : 0 + p ≡ p = omega arith in get_or-enumerate_from 0 refs p (0, None) (omega (arith, lt, refs_len old b)) ∙ ap (λ (q : ℕ). (q, get_or refs p None)) first

@@ -1,5 +1,5 @@
 -- References that are moved from one region to another at a pause, as words.
-use Rattle.std.proofs.Common.{◌≡◌, ◌≢◌, ℕ, zero, suc, ◌+◌, ◌-◌, ◌*◌, ◌/◌, ◌%◌, ◌<◌, ◌≤◌, eqb, true, false, List, length, set, get_or, mod-lt, div-lt_iff_lt-mul, refl, sym, ap, ◌∙◌, subst, inl, inr, ⊎_elim, arith, eq-eqb}
+use Rattle.std.proofs.Common.{◌^◌, ◌≡◌, ◌≢◌, ℕ, zero, suc, ◌+◌, ◌-◌, ◌*◌, ◌/◌, ◌%◌, ◌<◌, ◌≤◌, eqb, true, false, List, length, set, get_or, mod-lt, div-lt_iff_lt-mul, refl, sym, ap, ◌∙◌, subst, inl, inr, ⊎_elim, arith, eq-eqb}
 use mathlib.Core.Option.{some, some-injective}
 use lib.ListN.{get_elem?}
 use Rattle.std.proofs.lemmas.Bool.{and_from, and_parts, cases_Bool, cases_lt, eqb-true, true≢false, false_from_ne_true}
@@ -32,8 +32,11 @@ moved_region k to n pos =
 pub moved_fits : (k : Shape) (to n : ℕ) → IsShape k → to < k.regions → moved_word k to n ≤ k.slots
 moved_fits k to n shaped lt = let a : ℕ = to * k.span in let r : ℕ = (n - 1) % k.span in let h : a + r < k.slots = slot_in k to r shaped lt (mod-lt (n - 1) shaped.2) in let goal : a + r + 1 ≤ k.slots = omega arith in goal
 
-pub moved_crosses : (k : Shape) (to p n : ℕ) → 0 < k.span → p / k.span ≢ to → crosses k p (moved_word k to n) ≡ true
-moved_crosses k to p n pos ne = other_region k p (to * k.span + (n - 1) % k.span) (moved_word k to n) refl (λ e. ne (e ∙ div-mul-add to k.span ((n - 1) % k.span) (mod-lt (n - 1) pos)))
+pub moved_low : (k : Shape) (to n : ℕ) → IsShape k → to < k.regions → moved_word k to n < 2 ^ 32
+moved_low k to n shaped lt = let fits : moved_word k to n ≤ k.slots = moved_fits k to n shaped lt in let few : k.slots < 2 ^ 32 = shaped.3 in omega (arith, fits, few)
+
+pub moved_crosses : (k : Shape) (to p n : ℕ) → IsShape k → to < k.regions → p / k.span ≢ to → crosses k p (moved_word k to n) ≡ true
+moved_crosses k to p n shaped lt ne = let pos = shaped.2 in other_region k p (to * k.span + (n - 1) % k.span) (moved_word k to n) refl (moved_low k to n shaped lt) (λ e. ne (e ∙ div-mul-add to k.span ((n - 1) % k.span) (mod-lt (n - 1) pos)))
 
 -- no moved reference refers into the region that it left
 pub not_into : (k : Shape) (from to p n : ℕ) → 0 < k.span → (from ≡ to → ⊥) → is_into k from p (word_after k from to p n) ≡ true → ⊥
@@ -64,7 +67,7 @@ module _ (k : Shape) (old mid : List ℕ) (from to p n : ℕ) (b : IsBegun (star
   bits_back x = bit_as k new mid x (λ y. sym (same_bits k mid p word (omega (arith, lt)) y))
 
   pub begun_moved : IsBegun (start k (set mid p (moved_word k to n)))
-  begun_moved = begun_placed k mid p word lt (moved_fits k to n b.shaped low) (λ cr. inl (subst (λ (r : ℕ). HasBit k mid (card_of k p, r)) (sym (moved_region k to n b.shaped.2)) (notes.has (card_of k p, to) (has (λ e. crosses_apart k p word cr (e ∙ sym (moved_region k to n b.shaped.2))))))) h
+  begun_moved = begun_placed k mid p word lt (inl (moved_fits k to n b.shaped low)) (λ cr. inl (subst (λ (r : ℕ). HasBit k mid (card_of k p, r)) (sym (moved_region k to n b.shaped.2)) (notes.has (card_of k p, to) (has (λ e. crosses_apart k p word cr (e ∙ sym (moved_region k to n b.shaped.2))))))) h
 
   same : (q : ℕ) → (p < k.slots) → q ≢ p → q < k.slots + k.cards → get_elem? new q ≡ get_elem? old q
   same q here ne below = set_else mid p q word ne ∙ notes.front q below

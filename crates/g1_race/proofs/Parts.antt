@@ -1,5 +1,5 @@
 -- What a closed race keeps is what a core is made of.
-use Rattle.std.proofs.Common.{◌≡◌, ℕ, ◌+◌, ◌<◌, eqb, List, take, drop, get_or, length, Bool, Option, Some, None, All, IfSome, sym, ◌∙◌, subst, arith}
+use Rattle.std.proofs.Common.{◌≤◌, ◌≡◌, ℕ, ◌+◌, ◌<◌, eqb, List, take, drop, get_or, length, Bool, Option, Some, None, All, IfSome, sym, ◌∙◌, subst, arith}
 use mathlib.Core.Option.{some}
 use lib.ListN.{get_elem?}
 use Rattle.std.proofs.lemmas.List.{length-map, length-take-le, length-drop}
@@ -10,6 +10,7 @@ use Rattle.g1_core.specs.Table.{IsCovered}
 use Rattle.g1_core.specs.Adoption.{table_with, IsPairOf}
 use Rattle.g1_race.specs.Race.{shape_of}
 use Rattle.g1_race.specs.Over.{Ended, ended, target_of, refs_of, marks_of, IsEnded}
+use Rattle.g1_race_words.proofs.Crossing.{low_word}
 use Rattle.g1_race.proofs.Ends.{target_back, begun_covered, pair_listed}
 use Rattle.g1_race_words.proofs.Places.{at_read, at_untake, at_unmap}
 
@@ -39,7 +40,7 @@ module _ (m : ℕ) (l : layout.Shape) (words : List ℕ) (h : IsEnded (shape_of 
     where
       fits : (t : Option ℕ) → ((n : ℕ) × (get_elem? (take (slot_count l) end.words) i ≡ some n) × (target_of n ≡ t)) → IfSome t (λ p. p < slot_count l)
       fits None x = tt
-      fits (Some p) x = let there = at_untake end.words (slot_count l) i x.0 x.1 in let le = h.begun.bounded i x.0 there.0 (at_untake words (slot_count l + card_count l) i x.0 there.1).1 in let is = target_back x.0 p x.2 in let goal : p < slot_count l = omega (arith, le, is) in goal
+      fits (Some p) x = let there = at_untake end.words (slot_count l) i x.0 x.1 in let is = target_back x.0 p x.2 in let le : x.0 ≤ slot_count l = low_word (shape_of l m) x.0 (h.begun.bounded i x.0 there.0 (at_untake words (slot_count l + card_count l) i x.0 there.1).1) is.1 in let goal : p < slot_count l = omega (arith, le, is.0) in goal
 
   ended_parts : ArePartsOf l (refs_of end) (marks_of end) end.pairs
   ended_parts = record {

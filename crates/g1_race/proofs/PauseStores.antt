@@ -1,5 +1,5 @@
 -- A store at a pause as a step of the plain table.
-use Rattle.std.proofs.Common.{◌≡◌, ◌≢◌, ℕ, ◌+◌, ◌-◌, ◌*◌, ◌/◌, ◌<◌, cond, Bool, true, false, List, set, take, map, get_or, Option, Some, None, refl, sym, ap, ◌∙◌, subst, inl, inr, arith, eq-eqb, ne_eqb}
+use Rattle.std.proofs.Common.{◌≤◌, ◌^◌, eqb, ◌≡◌, ◌≢◌, ℕ, ◌+◌, ◌-◌, ◌*◌, ◌/◌, ◌<◌, cond, Bool, true, false, List, set, take, map, get_or, Option, None, refl, sym, ap, ◌∙◌, subst, inl, inr, arith, eq-eqb, ne_eqb}
 use mathlib.Core.Option.{some}
 use lib.ListN.{get_elem?}
 use Rattle.std.specs.FinSet as fin
@@ -23,21 +23,18 @@ use Rattle.g1_core.proofs.RefinedLemmas.{refined_none}
 use Rattle.g1_core.proofs.StoreLemmas.{none_refinable}
 use Rattle.std.specs.Prelude.{IfSome}
 use Rattle.g1_race_words.specs.declared.view.Shape.{Shape}
-use Rattle.g1_race_words.specs.Rule.{IsBegun, IsShape, HasBit, card_of, crosses, mark_word, start}
-use Rattle.g1_race.specs.Race.{shape_of, word_of}
+use Rattle.g1_race_words.specs.Rule.{IsReference, IsBegun, IsShape, HasBit, card_of, crosses, mark_word, start}
+use Rattle.g1_race.specs.Race.{shape_of}
 use Rattle.g1_race.specs.Over.{ended, refs_of, table_of, target_of}
 use Rattle.g1_race.specs.Evacuating.{plain_reply}
 use Rattle.g1_race_words.proofs.CoverStores.{mark_apart}
 use Rattle.std.proofs.lemmas.Nat.{mul-add-lt}
 use Rattle.g1_race_words.proofs.Places.{at_take, reads_as}
-use Rattle.g1_race.proofs.Ends.{refs_here, crosses_apart, recorded_set, set_recorded, target_some}
+use Rattle.g1_race.proofs.Ends.{target_data, refs_here, crosses_apart, recorded_set, set_recorded, target_some}
+use Rattle.g1_race_words.proofs.Crossing.{crosses_reference}
 use Rattle.g1_race_words.proofs.PairBits.{bit_as, card_below, same_bits}
 use Rattle.g1_race.proofs.PauseTable.{pending_word, refs_same, slots_are, table_is, word_pending}
 use Rattle.g1_race.proofs.StoreCalls.{other_region}
-
-pub word_back : (t : Option ℕ) → target_of (word_of t) ≡ t
-word_back None = refl
-word_back (Some x) = target_some (x + 1) (λ e. absurd (omega (arith, e))) ∙ ap Some (let e : x + 1 - 1 ≡ x = omega arith in e)
 
 pub store_step : (t new : Table) (caller slot : ℕ) (target : Option ℕ) (kind : Kind) → slot < slot_count t.layout → IfSome target (λ place. place < slot_count t.layout) → kind ≡ kind_of t slot target → new ≡ stored t slot target → IsStep t (store_entry caller slot target (plain_reply kind)) new
 store_step t new caller slot target kind lt within is e = record { allowed = record { numbers = (lt, within); refines = none_refinable (stored t slot target); answers = (is, λ h. refl) }; after = e ∙ sym (refined_none (stored t slot target)) }
@@ -53,69 +50,65 @@ pub null_target : (k : Shape) (l : layout.Shape) (words : List ℕ) (p : ℕ) �
 null_target k l words p laid lt at = let slots : k.slots ≡ slot_count l = ap (λ (s : Shape). s.slots) laid in
     reads_as (refs_of (ended l k words)) p None None (refs_here (ended l k words) p 0 (omega (arith, lt, slots)) (at_take words (k.slots + k.cards) p 0 (omega (arith, lt)) at))
 
-module _ (k : Shape) (l : layout.Shape) (laid : k ≡ shape_of l k.members) (p : ℕ) (lt : p < k.slots) (target : Option ℕ) where
+module _ (k : Shape) (l : layout.Shape) (laid : k ≡ shape_of l k.members) (p : ℕ) (lt : p < k.slots) (target : Option ℕ) (n : ℕ) (back : target_of n ≡ target) where
   span_is : k.span ≡ l.cards * l.slots
   span_is = ap (λ (s : Shape). s.span) laid
 
   -- the kind of the store
 
-  pub kind_null : (t : Table) → word_of target ≡ 0 → kind_of t p target ≡ Null
-  kind_null t e = pick target e
-    where
-      pick : (o : Option ℕ) → word_of o ≡ 0 → kind_of t p o ≡ Null
-      pick None z = refl
-      pick (Some x) z = absurd (omega (arith, z))
+  pub kind_null : (t : Table) → n ≡ 0 → kind_of t p target ≡ Null
+  kind_null t e = ap (kind_of t p) (sym back ∙ ap target_of e)
 
-  pub kind_same : (words : List ℕ) → word_of target ≢ 0 → crosses k p (word_of target) ≡ false → kind_of (table_of (ended l k words)) p target ≡ SameRegion
-  kind_same words ne within = pick target ne within
-    where
-      pick : (o : Option ℕ) → word_of o ≢ 0 → crosses k p (word_of o) ≡ false → kind_of (table_of (ended l k words)) p o ≡ SameRegion
-      pick None some_word same = absurd (some_word refl)
-      pick (Some x) some_word same = elim (cases_eq (region_of l p) (region_of l x)) [
-        | inl e ↦ ap (λ (b : Bool). cond b SameRegion (cond (fin.contains (table_of (ended l k words)).pending (layout.card_of l p)) AlreadyDirty Logged)) (eq-eqb _ _ e)
-        | inr apart ↦ absurd (let yes_it : crosses k p (x + 1) ≡ true = other_region k p x (x + 1) refl (λ q. apart (ap (λ (s : ℕ). p / s) (sym span_is) ∙ (q ∙ ap (λ (s : ℕ). x / s) span_is))) in cc (yes_it, same))
-      ]
+  pub kind_data : (t : Table) → 2 ^ 32 ≤ n → kind_of t p target ≡ Null
+  kind_data t le = ap (kind_of t p) (sym back ∙ target_data n le)
 
-  pub kind_across : (words : List ℕ) → crosses k p (word_of target) ≡ true → kind_of (table_of (ended l k words)) p target ≡ cond (fin.contains (table_of (ended l k words)).pending (layout.card_of l p)) AlreadyDirty Logged
-  kind_across words cr = pick target cr
-    where
-      pick : (o : Option ℕ) → crosses k p (word_of o) ≡ true → kind_of (table_of (ended l k words)) p o ≡ cond (fin.contains (table_of (ended l k words)).pending (layout.card_of l p)) AlreadyDirty Logged
-      pick None c = absurd (cc (c))
-      pick (Some x) c = ap (λ (b : Bool). cond b SameRegion (cond (fin.contains (table_of (ended l k words)).pending (layout.card_of l p)) AlreadyDirty Logged))
-          (ne_eqb (region_of l p) (region_of l x) (λ e. crosses_apart k p (x + 1) c (ap (λ (s : ℕ). p / s) span_is ∙ (e ∙ (ap (λ (s : ℕ). x / s) (sym span_is) ∙ ap (λ (m : ℕ). m / k.span) (let f : x ≡ x + 1 - 1 = omega arith in f))))))
+  abbrev kind_at : List ℕ → Bool → Kind
+  kind_at words b = cond b SameRegion (cond (fin.contains (table_of (ended l k words)).pending (layout.card_of l p)) AlreadyDirty Logged)
+
+  kind_some : (words : List ℕ) → IsReference n → kind_of (table_of (ended l k words)) p target ≡ kind_at words (eqb (region_of l p) (region_of l (n - 1)))
+  kind_some words is = ap (kind_of (table_of (ended l k words)) p) (sym back ∙ target_some n is)
+
+  pub kind_same : (words : List ℕ) → IsReference n → crosses k p n ≡ false → kind_of (table_of (ended l k words)) p target ≡ SameRegion
+  kind_same words is within = kind_some words is ∙ elim (cases_eq (region_of l p) (region_of l (n - 1))) [
+    | inl e ↦ ap (kind_at words) (eq-eqb _ _ e)
+    | inr apart ↦ absurd (let yes_it : crosses k p n ≡ true = other_region k p (n - 1) n (let ne = is.0 in omega arith) is.1 (λ q. apart (ap (λ (s : ℕ). p / s) (sym span_is) ∙ (q ∙ ap (λ (s : ℕ). (n - 1) / s) span_is))) in cc (yes_it, within))
+  ]
+
+  pub kind_across : (words : List ℕ) → crosses k p n ≡ true → kind_of (table_of (ended l k words)) p target ≡ cond (fin.contains (table_of (ended l k words)).pending (layout.card_of l p)) AlreadyDirty Logged
+  kind_across words cr = kind_some words (crosses_reference k p n cr)
+      ∙ ap (kind_at words) (ne_eqb (region_of l p) (region_of l (n - 1)) (λ e. crosses_apart k p n cr (ap (λ (s : ℕ). p / s) span_is ∙ (e ∙ ap (λ (s : ℕ). (n - 1) / s) (sym span_is)))))
 
   -- the slot is written
 
-  pub written_refs : (words : List ℕ) → refs_of (ended l k (set words p (word_of target))) ≡ set (refs_of (ended l k words)) p target
+  pub written_refs : (words : List ℕ) → refs_of (ended l k (set words p n)) ≡ set (refs_of (ended l k words)) p target
   written_refs words =
       let front : List ℕ = take (k.slots + k.cards) words in
-      let n : ℕ = word_of target in
       ap (λ (ws : List ℕ). map target_of (take (slot_count l) ws)) (take-set-lt (k.slots + k.cards) words p n (omega (arith, lt)))
       ∙ (ap (map target_of) (take-set-lt (slot_count l) front p n (omega (arith, lt, slots_are k l laid)))
-      ∙ (map-set target_of (take (slot_count l) front) p n ∙ ap (λ (o : Option ℕ). set (map target_of (take (slot_count l) front)) p o) (word_back target)))
+      ∙ (map-set target_of (take (slot_count l) front) p n ∙ ap (λ (o : Option ℕ). set (map target_of (take (slot_count l) front)) p o) back))
 
   same_mark : (words : List ℕ) (n c : ℕ) → get_elem? (set words p n) (mark_word k c) ≡ get_elem? words (mark_word k c)
   same_mark words n c = set_else words p (mark_word k c) n (λ e. mark_apart k p c lt e)
 
-  module _ (words : List ℕ) (h : IsBegun (start k words)) (h' : IsBegun (start k (set words p (word_of target)))) where
+  module _ (words : List ℕ) (h : IsBegun (start k words)) (h' : IsBegun (start k (set words p n))) where
     abbrev t : Table
     t = table_of (ended l k words)
 
     abbrev new : List ℕ
-    new = set words p (word_of target)
+    new = set words p n
 
     -- no card becomes dirty
-    pub quiet_table : pending_after (kind_of (table_of (ended l k words)) p target) (table_of (ended l k words)).pending (layout.card_of l p) ≡ (table_of (ended l k words)).pending → table_of (ended l k (set words p (word_of target))) ≡ stored (table_of (ended l k words)) p target
+    pub quiet_table : pending_after (kind_of (table_of (ended l k words)) p target) (table_of (ended l k words)).pending (layout.card_of l p) ≡ (table_of (ended l k words)).pending → table_of (ended l k (set words p n)) ≡ stored (table_of (ended l k words)) p target
     quiet_table plain = table_is k l laid new (stored t p target) h' refl (written_refs words)
-        (λ c q. subst (λ (s : CardSet). fin.contains s c ≡ true) (sym plain) (let w = pending_word k l laid new c q in word_pending k l laid words c w.0 (sym (same_mark words (word_of target) c) ∙ w.1)))
-        (λ c q. let w = pending_word k l laid words c (subst (λ (s : CardSet). fin.contains s c ≡ true) plain q) in word_pending k l laid new c w.0 (same_mark words (word_of target) c ∙ w.1))
-        (λ x pair b. set_recorded k l words laid h x pair (bit_as k new words x (λ y. sym (same_bits k words p (word_of target) (omega (arith, lt)) y)) b))
-        (λ x r. let s = recorded_set k l words laid h x r in (s.0, bit_as k words new x (same_bits k words p (word_of target) (omega (arith, lt))) s.1))
+        (λ c q. subst (λ (s : CardSet). fin.contains s c ≡ true) (sym plain) (let w = pending_word k l laid new c q in word_pending k l laid words c w.0 (sym (same_mark words n c) ∙ w.1)))
+        (λ c q. let w = pending_word k l laid words c (subst (λ (s : CardSet). fin.contains s c ≡ true) plain q) in word_pending k l laid new c w.0 (same_mark words n c ∙ w.1))
+        (λ x pair b. set_recorded k l words laid h x pair (bit_as k new words x (λ y. sym (same_bits k words p n (omega (arith, lt)) y)) b))
+        (λ x r. let s = recorded_set k l words laid h x r in (s.0, bit_as k words new x (same_bits k words p n (omega (arith, lt))) s.1))
 
-    pub null_table : target ≡ None → table_of (ended l k (set words p (word_of target))) ≡ stored (table_of (ended l k words)) p target
+    pub null_table : target ≡ None → table_of (ended l k (set words p n)) ≡ stored (table_of (ended l k words)) p target
     null_table e = quiet_table (ap (λ (o : Option ℕ). pending_after (kind_of t p o) t.pending (layout.card_of l p)) e)
 
-    pub kind_table : (kind : Kind) → kind_of (table_of (ended l k words)) p target ≡ kind → (kind ≡ Logged → ⊥) → table_of (ended l k (set words p (word_of target))) ≡ stored (table_of (ended l k words)) p target
+    pub kind_table : (kind : Kind) → kind_of (table_of (ended l k words)) p target ≡ kind → (kind ≡ Logged → ⊥) → table_of (ended l k (set words p n)) ≡ stored (table_of (ended l k words)) p target
     kind_table kind is ne = quiet_table (ap (λ (x : Kind). pending_after x t.pending (layout.card_of l p)) is ∙ plain kind ne)
       where
         plain : (x : Kind) → (x ≡ Logged → ⊥) → pending_after x t.pending (layout.card_of l p) ≡ t.pending
@@ -125,7 +118,7 @@ module _ (k : Shape) (l : layout.Shape) (laid : k ≡ shape_of l k.members) (p :
         plain AlreadyDirty never = refl
 
   -- its card becomes dirty
-  module _ (words : List ℕ) (h : IsBegun (start k words)) (h' : IsBegun (start k (set (set words (mark_word k (card_of k p)) 1) p (word_of target)))) where
+  module _ (words : List ℕ) (h : IsBegun (start k words)) (h' : IsBegun (start k (set (set words (mark_word k (card_of k p)) 1) p n))) where
     abbrev card : ℕ
     card = card_of k p
 
@@ -133,7 +126,7 @@ module _ (k : Shape) (l : layout.Shape) (laid : k ≡ shape_of l k.members) (p :
     mid = set words (mark_word k card) 1
 
     abbrev last : List ℕ
-    last = set mid p (word_of target)
+    last = set mid p n
 
     abbrev was : Table
     was = table_of (ended l k words)
@@ -151,10 +144,10 @@ module _ (k : Shape) (l : layout.Shape) (laid : k ≡ shape_of l k.members) (p :
     refs_mid = refs_same k l laid words mid (λ q low. set_else words (mark_word k card) q 1 (λ e. let f : q ≡ k.slots + card = e in absurd (omega (arith, f, low))))
 
     bit_on : (x : ℕ × ℕ) → HasBit k words x → HasBit k last x
-    bit_on x b = bit_as k mid last x (same_bits k mid p (word_of target) (omega (arith, lt))) (bit_as k words mid x (same_bits k words (mark_word k card) 1 (omega (arith, below))) b)
+    bit_on x b = bit_as k mid last x (same_bits k mid p n (omega (arith, lt))) (bit_as k words mid x (same_bits k words (mark_word k card) 1 (omega (arith, below))) b)
 
     bit_off : (x : ℕ × ℕ) → HasBit k last x → HasBit k words x
-    bit_off x b = bit_as k mid words x (λ y. sym (same_bits k words (mark_word k card) 1 (omega (arith, below)) y)) (bit_as k last mid x (λ y. sym (same_bits k mid p (word_of target) (omega (arith, lt)) y)) b)
+    bit_off x b = bit_as k mid words x (λ y. sym (same_bits k words (mark_word k card) 1 (omega (arith, below)) y)) (bit_as k last mid x (λ y. sym (same_bits k mid p n (omega (arith, lt)) y)) b)
 
     pub logged_table : kind_of (table_of (ended l k words)) p target ≡ Logged → table_of (ended l k last) ≡ stored (table_of (ended l k words)) p target
     logged_table is = table_is k l laid last (stored was p target) h' refl (written_refs mid ∙ ap (λ (rs : List (Option ℕ)). set rs p target) refs_mid)
@@ -164,10 +157,10 @@ module _ (k : Shape) (l : layout.Shape) (laid : k ≡ shape_of l k.members) (p :
         (λ x r. let s = recorded_set k l words laid h x r in (s.0, bit_on x s.1))
       where
         same : (c : ℕ) → c ≢ card → get_elem? last (mark_word k c) ≡ get_elem? words (mark_word k c)
-        same c ne = same_mark mid (word_of target) c ∙ set_else words (mark_word k card) (mark_word k c) 1 (λ e. ne (omega (arith, e)))
+        same c ne = same_mark mid n c ∙ set_else words (mark_word k card) (mark_word k c) 1 (λ e. ne (omega (arith, e)))
 
         dirty : get_elem? last (mark_word k card) ≡ some 1
-        dirty = same_mark mid (word_of target) card ∙ here
+        dirty = same_mark mid n card ∙ here
 
         joined : (c : ℕ) → IsPending (table_of (ended l k last)) c → fin.contains (fin.insert was.pending (layout.card_of l p)) c ≡ true
         joined c q = fin.contains-insert nat_cmp_total was.pending (layout.card_of l p) c ∙ elim (cases_eq c card) [
@@ -189,19 +182,19 @@ module _ (k : Shape) (l : layout.Shape) (laid : k ≡ shape_of l k.members) (p :
   card_is : card_of k p ≡ layout.card_of l p
   card_is = ap (λ (s : Shape). p / s.size) laid
 
-  pub kind_dirty : (words : List ℕ) → IsBegun (start k words) → crosses k p (word_of target) ≡ true → get_elem? words (mark_word k (card_of k p)) ≡ some 1 → kind_of (table_of (ended l k words)) p target ≡ AlreadyDirty
+  pub kind_dirty : (words : List ℕ) → IsBegun (start k words) → crosses k p n ≡ true → get_elem? words (mark_word k (card_of k p)) ≡ some 1 → kind_of (table_of (ended l k words)) p target ≡ AlreadyDirty
   kind_dirty words h cr at = kind_across words cr ∙ ap (λ (b : Bool). cond b AlreadyDirty Logged) (subst (λ (c : ℕ). fin.contains (table_of (ended l k words)).pending c ≡ true) card_is (word_pending k l laid words (card_of k p) (card_below k p h.shaped lt) at))
 
-  pub kind_clean : (words : List ℕ) → crosses k p (word_of target) ≡ true → (get_elem? words (mark_word k (card_of k p)) ≡ some 1 → ⊥) → kind_of (table_of (ended l k words)) p target ≡ Logged
+  pub kind_clean : (words : List ℕ) → crosses k p n ≡ true → (get_elem? words (mark_word k (card_of k p)) ≡ some 1 → ⊥) → kind_of (table_of (ended l k words)) p target ≡ Logged
   kind_clean words cr clean = kind_across words cr ∙ ap (λ (b : Bool). cond b AlreadyDirty Logged) (false_from_ne_true _ (λ q. clean (pending_word k l laid words (card_of k p) (subst (λ (c : ℕ). fin.contains (table_of (ended l k words)).pending c ≡ true) (sym card_is) q)).1))
 
-  pub quiet_store : (t : Table) (words after : List ℕ) → table_of (ended l k words) ≡ t → after ≡ set words p (word_of target) → IsBegun (start k words) → IsBegun (start k after) → (kind : Kind) → kind_of (table_of (ended l k words)) p target ≡ kind → (kind ≡ Logged → ⊥) → (kind ≡ kind_of t p target) × (table_of (ended l k after) ≡ stored t p target)
+  pub quiet_store : (t : Table) (words after : List ℕ) → table_of (ended l k words) ≡ t → after ≡ set words p n → IsBegun (start k words) → IsBegun (start k after) → (kind : Kind) → kind_of (table_of (ended l k words)) p target ≡ kind → (kind ≡ Logged → ⊥) → (kind ≡ kind_of t p target) × (table_of (ended l k after) ≡ stored t p target)
   quiet_store t words after was is h h' kind kind_is plain = (
     sym kind_is ∙ ap (λ (x : Table). kind_of x p target) was,
     ap (λ (ws : List ℕ). table_of (ended l k ws)) is ∙ (kind_table words h (subst (λ (ws : List ℕ). IsBegun (start k ws)) is h') kind kind_is plain ∙ ap (λ (x : Table). stored x p target) was),
   )
 
-  pub logged_store : (t : Table) (words after : List ℕ) → table_of (ended l k words) ≡ t → after ≡ set (set words (mark_word k (card_of k p)) 1) p (word_of target) → IsBegun (start k words) → IsBegun (start k after) → kind_of (table_of (ended l k words)) p target ≡ Logged → (Logged ≡ kind_of t p target) × (table_of (ended l k after) ≡ stored t p target)
+  pub logged_store : (t : Table) (words after : List ℕ) → table_of (ended l k words) ≡ t → after ≡ set (set words (mark_word k (card_of k p)) 1) p n → IsBegun (start k words) → IsBegun (start k after) → kind_of (table_of (ended l k words)) p target ≡ Logged → (Logged ≡ kind_of t p target) × (table_of (ended l k after) ≡ stored t p target)
   logged_store t words after was is h h' kind_is = (
     sym kind_is ∙ ap (λ (x : Table). kind_of x p target) was,
     ap (λ (ws : List ℕ). table_of (ended l k ws)) is ∙ (logged_table words h (subst (λ (ws : List ℕ). IsBegun (start k ws)) is h') kind_is ∙ ap (λ (x : Table). stored x p target) was),

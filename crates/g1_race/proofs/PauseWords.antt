@@ -13,6 +13,7 @@ use Rattle.g1_race_words.specs.Steps.{pair_at}
 use Rattle.g1_race.specs.Refining.{Notes, IsRefined, AreRefined, card_pairs}
 use Rattle.g1_race_words.proofs.Plain.{in_left, in_right, in_either, read_at, true_is}
 use Rattle.g1_race_words.proofs.Places.{reads_as}
+use Rattle.g1_race_words.proofs.Crossing.{word_low}
 use Rattle.g1_race_words.proofs.PairBits.{SameBits, same_bits, bit_as, with_pair, bit_here, bits_stay, bits_back, card_below}
 use Rattle.g1_race_words.proofs.Flags.{are_flagged, bit_below, front_stays}
 use Rattle.g1_race_words.proofs.AtBeginning.{never_both}
@@ -111,7 +112,7 @@ found_there k words c h lt (suc i) le x there = ⊎_elim
     let at : get_elem? words p ≡ some n = read_at words p (let e : length words ≡ word_count k = h.sized in omega (arith, e, below)) in
     let is = one_pair (crosses k p n) (card_of k p, region_at k n) x b in
     let on : card_of k p ≡ c = div-mul-add c k.size i (omega (arith, le)) in
-    (sym (ap (λ (y : ℕ × ℕ). y.0) is.1) ∙ on, (p, n, at, (below, h.bounded p n below at, is.0), is.1)))
+    (sym (ap (λ (y : ℕ × ℕ). y.0) is.1) ∙ on, (p, n, at, (below, word_low k p n (h.bounded p n below at) is.0, is.0), is.1)))
     (in_either (card_pairs k words c i) (pair_at k (c * k.size + i) (get_or words (c * k.size + i) 0)) x there)
 
 -- a card that is cleaned, once the bits of its pairs are set

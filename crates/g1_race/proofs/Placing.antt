@@ -1,5 +1,5 @@
 -- A core's table is placed into the words of a heap of nulls.
-use Rattle.std.proofs.Common.{◌≡◌, ◌≢◌, ◌⊎◌, ℕ, zero, suc, ◌+◌, ◌-◌, ◌*◌, ◌/◌, ◌<◌, ◌≤◌, eqb, List, [], ◌∷◌, set, length, length-set, take, get_or, Bool, true, false, Option, None, Some, All, refl, sym, ap, ◌∙◌, subst, inl, inr, ⊎_elim, arith}
+use Rattle.std.proofs.Common.{◌^◌, ◌≡◌, ◌≢◌, ◌⊎◌, ℕ, zero, suc, ◌+◌, ◌-◌, ◌*◌, ◌/◌, ◌<◌, ◌≤◌, eqb, List, [], ◌∷◌, set, length, length-set, take, get_or, Bool, true, false, Option, None, Some, All, refl, sym, ap, ◌∙◌, subst, inl, inr, ⊎_elim, arith}
 use mathlib.Core.Option.{some, some-injective}
 use native.Mathlib.Decide.{ℕ_discrete}
 use lib.ListN.{get_elem?}
@@ -17,14 +17,15 @@ use Rattle.g1_core.specs.Adoption.{marks_for, IsPairOf}
 use Rattle.g1_core.proofs.SetLemmas.{same_cards, same_pairs, in_pairs, to_pairs}
 use Rattle.g1_core.proofs.AdoptionLemmas.{pending_flag}
 use Rattle.g1_race_words.specs.declared.view.Shape.{Shape}
-use Rattle.g1_race_words.specs.Rule.{In, IsShape, IsBegun, IsMarked, IsPair, IsOfCrossing, HasBit, card_of, crosses, flag, mark_word, region_at, start, one_if, word_count}
+use Rattle.g1_race_words.specs.Rule.{IsWord, In, IsShape, IsBegun, IsMarked, IsPair, IsOfCrossing, HasBit, card_of, crosses, flag, mark_word, region_at, start, one_if, word_count}
 use Rattle.g1_race.specs.Race.{shape_of, word_of}
 use Rattle.g1_race.specs.Over.{Ended, ended, target_of, refs_of, marks_of, table_of}
 use Rattle.g1_race.specs.Refining.{Notes}
 use Rattle.g1_race.specs.Resumed.{KeepsBits, AreMarked, ArePlaced, AreCovered}
 use Rattle.g1_race_words.proofs.AtBeginning.{zeros, zero_at, no_bit, zeros_read}
 use Rattle.g1_race_words.proofs.Plain.{within}
-use Rattle.g1_race_words.proofs.PairBits.{SameBits, same_bits, bit_as, card_below, crosses_some}
+use Rattle.g1_race_words.proofs.Crossing.{crosses_reference}
+use Rattle.g1_race_words.proofs.PairBits.{SameBits, same_bits, bit_as, card_below}
 use Rattle.g1_race_words.proofs.Flags.{are_flagged}
 use Rattle.g1_race.proofs.FlagWords.{flag_only}
 use Rattle.g1_race_words.proofs.CoverStores.{mark_apart}
@@ -33,7 +34,7 @@ use Rattle.g1_race.proofs.StoreCalls.{word_fits, other_region}
 use Rattle.g1_race_words.proofs.Places.{at_take, in_contains, contains_in, reads_as}
 use Rattle.g1_race_words.proofs.Listing.{listed_set, set_listed}
 use Rattle.g1_race.proofs.Parts.{length_marks}
-use Rattle.g1_race.proofs.Ends.{refs_here, marks_here, target_some, crosses_apart, marked_pending, region_of_quotient}
+use Rattle.g1_race.proofs.Ends.{refs_here, marks_here, word_target, crosses_apart, marked_pending, region_of_quotient}
 
 keeps_same : (k : Shape) (old new : List ℕ) → SameBits k old new → KeepsBits k old new
 keeps_same k old new same = record { on = λ x b. bit_as k old new x same b; back = λ x pair b. bit_as k new old x (λ y. sym (same y)) b }
@@ -112,7 +113,7 @@ pub placed_less : (k : Shape) (t : Table) (old new : List ℕ) (n m : ℕ) → n
 placed_less k t old new n m e h = subst (λ (i : ℕ). ArePlaced k t old new i) e h
 
 -- what a race can begin with stays so where a slot is written whose card is marked or whose pair is recorded
-pub begun_written : (k : Shape) (words : List ℕ) (p n : ℕ) → p < k.slots → n ≤ k.slots → (crosses k p n ≡ true → HasBit k words (card_of k p, region_at k n) ⊎ IsMarked k words p) → IsBegun (start k words) → IsBegun (start k (set words p n))
+pub begun_written : (k : Shape) (words : List ℕ) (p n : ℕ) → p < k.slots → IsWord k n → (crosses k p n ≡ true → HasBit k words (card_of k p, region_at k n) ⊎ IsMarked k words p) → IsBegun (start k words) → IsBegun (start k (set words p n))
 begun_written k words p n lt fits covers h = record {
   shaped = h.shaped;
   sized = length-set words p n ∙ h.sized;
@@ -172,7 +173,7 @@ pair_crosses l m x shaped pair = (p, n, (low, fits, across), λ i. (card i, regi
     apart e = pair.2 (sym (ap (λ (c : ℕ). c / l.cards) card) ∙ (region_of_quotient l p ∙ (e ∙ region)))
 
     across : crosses k p n ≡ true
-    across = other_region k p (x.1 * (l.cards * l.slots) + 0) n refl (λ e. apart (e ∙ ap (λ (i : ℕ). i / (l.cards * l.slots)) (let a : ℕ = x.1 * (l.cards * l.slots) in let f : a + 0 ≡ a + 0 + 1 - 1 = omega arith in f)))
+    across = other_region k p (x.1 * (l.cards * l.slots) + 0) n refl (let a : slot_count l < 2 ^ 32 = shaped.3 in omega (arith, a, fits)) (λ e. apart (e ∙ ap (λ (i : ℕ). i / (l.cards * l.slots)) (let a : ℕ = x.1 * (l.cards * l.slots) in let f : a + 0 ≡ a + 0 + 1 - 1 = omega arith in f)))
 
 pub all_in : {A : Type 0} (P : A → Type 0) (xs : List A) → All P xs → (x : A) → In xs x → P x
 all_in P [] all x i = absurd i
@@ -191,10 +192,6 @@ word_some : (o : Option ℕ) (n : ℕ) → n ≡ word_of o → n ≢ 0 → (plac
 word_some None n e ne = absurd (ne e)
 word_some (Some x) n e ne = (x, refl, e)
 
-word_target : (o : Option ℕ) → target_of (word_of o) ≡ o
-word_target None = refl
-word_target (Some x) = target_some (x + 1) (λ z. absurd (omega arith)) ∙ ap Some (let e : x + 1 - 1 ≡ x = omega arith in e)
-
 one_back : (b : Bool) → eqb (one_if b) 1 ≡ true → b ≡ true
 one_back true e = refl
 one_back false e = absurd (true≢false (sym e))
@@ -212,7 +209,7 @@ covered_at s m words parts shaped marks on p lt cr =
     let k = shape_of s.table.layout m in
     let t = s.table in
     let n = word_of (table.target_of t p) in
-    let some_n = word_some (table.target_of t p) n refl (crosses_some k p n cr) in
+    let some_n = word_some (table.target_of t p) n refl (crosses_reference k p n cr).0 in
     let place = some_n.0 in
     let is : n ≡ place + 1 = some_n.2 in
     let back : region_of t.layout place ≡ region_at k n = ap (λ (q : ℕ). region_of t.layout q) (let f : place ≡ n - 1 = omega arith in f) in
@@ -243,7 +240,7 @@ same_at [] (y ∷ ys) e f = absurd (omega arith)
 same_at (x ∷ xs) [] e f = absurd (omega arith)
 same_at (x ∷ xs) (y ∷ ys) e f = let a = some-injective x y (f 0 y refl) in let b = same_at xs ys (omega arith) (λ i z. f (suc i) z) in λ i. a i ∷ b i
 
-module _ (s : State) (m : ℕ) (words : List ℕ) (parts : IsSound s) (h : IsCopy (shape_of s.table.layout m) s.table words) where
+module _ (s : State) (m : ℕ) (words : List ℕ) (parts : IsSound s) (few : slot_count s.table.layout < 2 ^ 32) (h : IsCopy (shape_of s.table.layout m) s.table words) where
   abbrev t : Table
   t = s.table
 
@@ -265,7 +262,7 @@ module _ (s : State) (m : ℕ) (words : List ℕ) (parts : IsSound s) (h : IsCop
       there : (p : ℕ) (o : Option ℕ) → get_elem? t.refs p ≡ some o → get_elem? (refs_of first) p ≡ some o
       there p o at =
           let lt : p < slot_count t.layout = omega (arith, within t.refs p o at, parts.slots) in
-          refs_here first p (word_of (table.target_of t p)) lt (front_at p _ (omega (arith, lt)) (h.slots p lt)) ∙ ap (λ (x : Option ℕ). some x) (word_target (table.target_of t p) ∙ reads_as t.refs p o None at)
+          refs_here first p (word_of (table.target_of t p)) lt (front_at p _ (omega (arith, lt)) (h.slots p lt)) ∙ ap (λ (x : Option ℕ). some x) (word_target (table.target_of t p) (let a = word_bound s p parts lt in omega (arith, a, few)) ∙ reads_as t.refs p o None at)
 
   mark_at : (c : ℕ) → c < card_count t.layout → (b : Bool) → set_of.contains t.pending c ≡ b → get_elem? first.words (slot_count t.layout + c) ≡ some (one_if b)
   mark_at c lt b e = front_at (slot_count t.layout + c) _ (omega (arith, lt)) (h.marks c lt) ∙ ap (λ (x : Bool). some (one_if x)) e
@@ -287,10 +284,10 @@ module _ (s : State) (m : ℕ) (words : List ℕ) (parts : IsSound s) (h : IsCop
   copy_at : table_of first ≡ t
   copy_at = λ i. record { layout = t.layout; refs = refs_is i; pending = pending_is i; recorded = recorded_is i }
 
-pub copied : (s : State) (l : layout.Shape) (k : Shape) (words : List ℕ) → l ≡ s.table.layout → k ≡ shape_of l k.members → IsSound s → IsCopy k s.table words → table_of (ended l k words) ≡ s.table
-copied s l k words lay laid parts copy =
+pub copied : (s : State) (l : layout.Shape) (k : Shape) (words : List ℕ) → l ≡ s.table.layout → k ≡ shape_of l k.members → IsSound s → IsShape k → IsCopy k s.table words → table_of (ended l k words) ≡ s.table
+copied s l k words lay laid parts shaped copy =
     let path : k ≡ shape_of s.table.layout k.members = laid ∙ ap (λ (x : layout.Shape). shape_of x k.members) lay in
-    (λ i. table_of (ended (lay i) (path i) words)) ∙ copy_at s k.members words parts (subst (λ (q : Shape). IsCopy q s.table words) path copy)
+    (λ i. table_of (ended (lay i) (path i) words)) ∙ copy_at s k.members words parts (let e : k.slots ≡ slot_count s.table.layout = ap (λ (x : Shape). x.slots) path in let f = shaped.3 in omega (arith, e, f)) (subst (λ (q : Shape). IsCopy q s.table words) path copy)
 
 -- the three steps, from a heap of nulls
 module _ (s : State) (l : layout.Shape) (k : Shape) (old a b : List ℕ) (pairs : List (ℕ × ℕ)) (lay : l ≡ s.table.layout) (laid : k ≡ shape_of l k.members) (parts : IsSound s) (shaped : IsShape k)
@@ -321,7 +318,7 @@ module _ (s : State) (l : layout.Shape) (k : Shape) (old a b : List ℕ) (pairs 
     slots_covered = core_covered s l k b lay laid parts shaped marks_are (λ x e. marked.bits.on x (bit_on x e))
 
     pub table_copied : (new : List ℕ) → length new ≡ word_count k → ArePlaced k s.table b new k.slots → table_of (ended l k new) ≡ s.table
-    table_copied new sized placed = copied s l k new lay laid parts (record {
+    table_copied new sized placed = copied s l k new lay laid parts shaped (record {
       sized = sized;
       slots = λ p lt. placed.slots p lt lt;
       marks = λ c lt. placed.marks c lt ∙ marks_are c lt;

@@ -1,5 +1,7 @@
 -- What the calls of an evacuation pause do to the plain table.
-use Rattle.std.specs.Prelude.{◌≡◌, ◌⊎◌, ℕ, ◌+◌, ◌*◌, ◌<◌, ◌≤◌, ◌==◌, not, zero, suc, false, List, [], None, Contains, length, replicate, slice_index}
+use Rattle.std.specs.Prelude.{◌≡◌, ◌⊎◌, ℕ, ◌+◌, ◌*◌, ◌/◌, ◌<◌, ◌≤◌, ◌==◌, not, if◌then◌else◌, zero, suc, false, List, [], None, Contains, length, replicate, slice_index}
+use mathlib.Core.Option.{some}
+use lib.ListN.{get_elem?}
 use Rattle.std.specs.FinSet as set
 use Rattle.g1_core.specs.declared.reply.Drained.{Drained}
 use Rattle.g1_core.specs.declared.reply.Drained.TheVariants.{Cards, Short}
@@ -9,6 +11,7 @@ use Rattle.g1_core.specs.declared.reply.Fill.TheVariants.{No}
 use Rattle.g1_core.specs.declared.reply.StoreReply.{StoreReply}
 use Rattle.g1_core.specs.Table.{Table, Holds, IsRecorded, IsCovered, AreRefinable, refined}
 use Rattle.g1_core.specs.Run.{IsStep, drained, stored}
+use Rattle.g1_race_words.specs.declared.view.Shape.{Shape}
 use Rattle.g1_race.specs.Over.{Halt}
 
 -- all of a race at a pause but its words is as it was
@@ -26,6 +29,26 @@ pub record IsRefinedRace (old new : Halt) : Type 0 where
   pub address : new.address ≡ old.address
   pub logs : new.logs ≡ replicate (length old.logs) []
   pub sweepers : new.sweepers ≡ old.sweepers
+
+-- each slot's word becomes this
+abbrev pub WordsBecome : (ℕ → ℕ → ℕ) → Shape → List ℕ → List ℕ → Type 0
+WordsBecome change heap old new = (p n : ℕ) → p < heap.slots →
+    get_elem? old p ≡ some n → get_elem? new p ≡ some (change p n)
+
+abbrev pub SlotsBecome : (ℕ → ℕ → ℕ) → Halt → Halt → Type 0
+SlotsBecome change old new = WordsBecome change old.shape old.words new.words
+
+-- no word becomes another
+abbrev pub same_word : ℕ → ℕ → ℕ
+same_word slot word = word
+
+-- one slot's word becomes this
+abbrev pub one_word : ℕ → ℕ → ℕ → ℕ → ℕ
+one_word place new slot word = if slot == place then new else word
+
+-- those of the region's slots become null
+abbrev pub wiped_word : Shape → ℕ → ℕ → ℕ → ℕ
+wiped_word heap region slot word = if slot / heap.span == region then 0 else word
 
 -- all that was pending is refined, which are these cards
 pub record AreAllRefined (old : Table) (cards : List ℕ) (new : Table) : Type 0 where

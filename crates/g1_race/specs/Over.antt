@@ -1,5 +1,5 @@
 -- What is left of a race at a pause or at its end, as a table, and what a core asks of it.
-use Rattle.std.specs.Prelude.{◌≡◌, ℕ, ◌-◌, ◌==◌, if◌then◌else◌, List, map, take, drop, Bool, Option, Some, None}
+use Rattle.std.specs.Prelude.{nat_lt, ◌≡◌, ℕ, ◌-◌, ◌^◌, ◌==◌, if◌then◌else◌, List, map, take, drop, Bool, Option, Some, None}
 use denote.RawPtr.{Ptr}
 use Rattle.g1_layout.specs.Shape as layout
 use Rattle.g1_layout.specs.Shape.{slot_count}
@@ -18,9 +18,12 @@ pub record Ended : Type 0 where
   pub words : List ℕ
   pub pairs : List (ℕ × ℕ)
 
--- what a slot's word refers to
+-- what a slot's word refers to: null and data, from 2^32 on, refer to nothing
 abbrev pub target_of : ℕ → Option ℕ
-target_of word = if word == 0 then None else Some (word - 1)
+target_of word =
+    if word == 0 then None
+    else if nat_lt word (2 ^ 32) then Some (word - 1)
+    else None
 
 abbrev pub refs_of : Ended → List (Option ℕ)
 refs_of left = map target_of (take (slot_count left.layout) left.words)

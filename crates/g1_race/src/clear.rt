@@ -7,7 +7,7 @@ ghost use Rattle.g1_core.specs.Calls.{clear_entry};
 ghost use Rattle.g1_race_words.specs.Rule.{IsShape, crosses, mark_word, region_at};
 ghost use Rattle.g1_race.specs.Over.{halted};
 ghost use Rattle.g1_race.specs.Clearing.{Into, IsLeastInto, IsLeastOn, IsEmptied};
-ghost use Rattle.g1_race.specs.Evacuating.{IsSameRace};
+ghost use Rattle.g1_race.specs.Evacuating.{IsSameRace, SlotsBecome, same_word};
 ghost use Rattle.g1_race_words.specs.Seats.{IsPaused};
 
 use crate::bits::bit_of;
@@ -15,6 +15,7 @@ use crate::next::{count_marked, next_member};
 use crate::paused::Paused;
 use crate::race::Race;
 use crate::stopped::{put, see};
+use crate::word::is_reference;
 use g1_core::ClearReply;
 use g1_layout::Region;
 use g1_race_words::{Place, Shape};
@@ -28,6 +29,7 @@ impl Paused {
     pub fn clear(&mut self, region: Region) -> ClearReply
         requires { region < self.old.layout.regions }
         ensures race { IsSameRace self.old self.new }
+        ensures words { SlotsBecome same_word self.old self.new }
         ensures step { (caller : ℕ) → IsStep (halted self.old) (clear_entry caller region result) (halted self.new) }
         ensures refused { result ≢ ClearReply.Cleared → self.new ≡ self.old }
     {
@@ -90,7 +92,7 @@ pub(crate) fn enters(shape: Shape, slot: usize, word: u64, region: usize) -> boo
     requires shape { IsShape shape }
     ensures { IsTrue result ↔ ((crosses shape slot word ≡ true) × (region_at shape word ≡ region)) }
 {
-    if word == 0 {
+    if !is_reference(word) {
         return false;
     }
     let into = (word as usize - 1) / shape.span;

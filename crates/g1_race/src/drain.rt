@@ -3,12 +3,12 @@ ghost use Rattle.std.specs.Prelude.{◌≡◌, ℕ, ◌+◌, ◌*◌, ◌<◌, �
 ghost use Rattle.g1_layout.specs.Shape.{slot_count};
 ghost use Rattle.g1_core.specs.Run.{IsStep};
 ghost use Rattle.g1_core.specs.Calls.{drain_cards, drain_entry};
-ghost use Rattle.g1_race_words.specs.Rule.{IsOfCrossing};
+ghost use Rattle.g1_race_words.specs.Rule.{IsOfCrossing, IsWord};
 ghost use Rattle.g1_race_words.specs.Steps.{pair_at};
 ghost use Rattle.g1_race.specs.Members.{racer_log};
 ghost use Rattle.g1_race.specs.Over.{halted};
 ghost use Rattle.g1_race.specs.Refining.{Notes, IsRefined, AreRefined};
-ghost use Rattle.g1_race.specs.Evacuating.{IsRefinedRace, AreAllRefined, IsDrainedInto, IsWhole, IsExactAtPause};
+ghost use Rattle.g1_race.specs.Evacuating.{SlotsBecome, same_word, IsRefinedRace, AreAllRefined, IsDrainedInto, IsWhole, IsExactAtPause};
 ghost use Rattle.g1_race_words.specs.Seats.{IsPaused};
 
 use crate::bits::bit_of;
@@ -19,6 +19,7 @@ use crate::next::{
 use crate::paused::Paused;
 use crate::race::{Race, Racer};
 use crate::stopped::{put, see};
+use crate::word::refers_to;
 use g1_core::{CardList, Drained};
 use g1_layout::{Card, NoMemory, Region};
 use g1_race_words::Place;
@@ -35,6 +36,7 @@ impl Paused {
     pub fn drain(&mut self, alloc: Global, region: Region) -> Result<Drained, NoMemory>
         requires { region < self.old.layout.regions }
         ensures race { IfOk result (λ answer. IsRefinedRace self.old self.new) }
+        ensures words { IfOk result (λ answer. SlotsBecome same_word self.old self.new) }
         ensures whole { IfOk result IsWhole }
         ensures step { IfOk result (λ answer. (caller : ℕ) → IsStep (halted self.old) (drain_entry caller region answer) (halted self.new)) }
         ensures exact { IfOk result (λ answer.
@@ -60,6 +62,7 @@ impl Paused {
     pub fn drain_into(&mut self, region: Region, cards: &mut [Card]) -> usize
         requires { region < self.old.layout.regions }
         ensures race { IsRefinedRace self.old self.new }
+        ensures words { SlotsBecome same_word self.old self.new }
         ensures drained { IsDrainedInto (halted self.old) (halted self.new) region result cards.old cards.new }
     {
         let number = region.number() as usize;
@@ -72,6 +75,7 @@ impl Paused {
     /// each region are exact then, so one call serves a whole collection set. Takes no memory.
     pub fn refine_all(&mut self)
         ensures race { IsRefinedRace self.old self.new }
+        ensures words { SlotsBecome same_word self.old self.new }
         ensures refined { (cards : List ℕ) × AreAllRefined (halted self.old) cards (halted self.new) }
     {
         refine_cards(&self.race, &mut self.seat);
@@ -114,24 +118,24 @@ fn refine_card(race: &Race, seat: &mut Place, card: usize)
     for i in 0..shape.size {
         let slot = card * shape.size + i;
         let word = see(race, seat, slot);
-        note_slot(race, seat, slot as u32, word as u32);
+        note_slot(race, seat, slot as u32, word);
     }
     put(race, seat, shape.slots + card, 0);
 }
 
 // Records the pair of a slot's word, if it refers into another region.
-fn note_slot(race: &Race, seat: &mut Place, slot: u32, word: u32)
+fn note_slot(race: &Race, seat: &mut Place, slot: u32, word: u64)
     requires slot { slot < slot_count race.now.layout }
-    requires word { word ≤ slot_count race.now.layout }
+    requires word { IsWord race.now.shape word }
     requires seat { IsPaused race.now.table.table_id race.now.shape seat.old }
     ensures seat { IsPaused race.now.table.table_id race.now.shape seat.new }
     ensures notes { Notes race.now.shape seat.old.me.0.began_words seat.new.me.0.began_words (pair_at race.now.shape slot word) }
 {
-    if word == 0 {
-        return;
-    }
     let layout = race.layout;
-    let (Some(slot), Some(target)) = (layout.slot(slot), layout.slot(word - 1)) else {
+    let Some(target) = refers_to(layout, word) else {
+        return;
+    };
+    let Some(slot) = layout.slot(slot) else {
         unreachable!()
     };
     let region = layout.region_of(target);

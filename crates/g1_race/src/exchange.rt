@@ -1,11 +1,11 @@
 //! Stores that return what the slot referred to before, or depend on it.
-ghost use Rattle.std.specs.Prelude.{◌≡◌, ◌≢◌, ◌<◌, ◌++◌, [], ◌∷◌, IfSome, IfOk, IfErr, if◌then◌else◌};
+ghost use Rattle.std.specs.Prelude.{◌≡◌, ◌<◌, ◌++◌, [], ◌∷◌, IfSome, IfOk, IfErr, if◌then◌else◌};
 ghost use Rattle.arrayvec.specs.ArrayVec.{array_vec_len};
 ghost use Rattle.g1_race_words.specs.Rule.{card_of};
 ghost use Rattle.g1_race_words.specs.Seats.{IsFound};
 ghost use Rattle.g1_race.specs.Race.{word_of, stored};
 ghost use Rattle.g1_layout.specs.Shape.{slot_count};
-ghost use Rattle.g1_race.specs.Members.{race_id, race_layout, race_shape, racer_race, racer_start, racer_view, HasNotStored, HasStored, IsKind, is_logged};
+ghost use Rattle.g1_race.specs.Members.{race_id, race_layout, race_shape, racer_race, racer_start, racer_view, HasNotStored, HasStored, IsKind, is_logged, HasReferred, HasDiffered};
 
 use crate::race::{Race, Racer};
 use crate::racer::claim;
@@ -32,7 +32,7 @@ impl Racer {
         ensures log { self.new.log.items ≡ (if is_logged result.0
             then self.old.log.items ++ card_of (race_shape race.now) slot ∷ []
             else self.old.log.items) }
-        ensures old { IsFound (racer_view self.old) slot (word_of result.1) }
+        ensures old { HasReferred (racer_view self.old) slot result.1 }
         ensures within { IfSome result.1 (λ place. place < slot_count (race_layout race.now)) }
     {
         let (kind, old) = self.write(race, slot, target);
@@ -62,8 +62,8 @@ impl Racer {
             HasStored (race_shape race.now) slot target kind self.old self.new) }
         ensures expected { IfOk result (λ kind.
             IsFound (racer_view self.old) slot (word_of expected)) }
-        ensures failed { IfErr result (λ found. (found ≢ expected)
-            × IsFound (racer_view self.old) slot (word_of found)) }
+        ensures failed { IfErr result (λ found.
+            HasDiffered (racer_view self.old) slot expected found) }
         ensures same { IfErr result (λ found. HasNotStored self.old self.new) }
         ensures within { IfErr result (λ found.
             IfSome found (λ place. place < slot_count (race_layout race.now))) }

@@ -7,7 +7,7 @@ ghost use Rattle.g1_core.specs.Table.{Crosses};
 ghost use Rattle.g1_race_words.specs.Rule.{IsPair, card_of, crosses, region_at};
 ghost use Rattle.g1_race.specs.Over.{halted};
 ghost use Rattle.g1_race.specs.Clearing.{AreUnset};
-ghost use Rattle.g1_race.specs.Evacuating.{IsSameRace, forgotten};
+ghost use Rattle.g1_race.specs.Evacuating.{IsSameRace, SlotsBecome, same_word, forgotten};
 ghost use Rattle.g1_race_words.specs.Seats.{IsPaused};
 
 use crate::bits::bit_of;
@@ -26,6 +26,7 @@ impl Paused {
         requires region { region < self.old.layout.regions }
         requires closed { (slot place : ℕ) → Crosses (halted self.old) slot place → region_of self.old.layout slot ≢ region }
         ensures race { IsSameRace self.old self.new }
+        ensures words { SlotsBecome same_word self.old self.new }
         ensures table { halted self.new ≡ forgotten region (halted self.old) }
     {
         let cards = self.race.shape.cards / self.race.shape.regions;

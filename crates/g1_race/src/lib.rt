@@ -42,6 +42,7 @@ mod address;
 mod begin;
 mod bits;
 mod clear;
+mod data;
 mod drain;
 mod ended;
 mod exchange;

@@ -7,8 +7,8 @@ ghost use Rattle.g1_core.specs.Run.{IsStep};
 ghost use Rattle.g1_core.specs.Calls.{redirect_entry};
 ghost use Rattle.g1_race_words.specs.Rule.{crosses, mark_word, region_at};
 ghost use Rattle.g1_race.specs.Over.{halted};
-ghost use Rattle.g1_race.specs.Moving.{AreMoved, AreMovedAway, HasMoved, IsRedirected, into_count};
-ghost use Rattle.g1_race.specs.Evacuating.{IsRefinedRace};
+ghost use Rattle.g1_race.specs.Moving.{AreMoved, AreMovedAway, HasMoved, IsRedirected, into_count, word_after};
+ghost use Rattle.g1_race.specs.Evacuating.{IsRefinedRace, SlotsBecome};
 ghost use Rattle.g1_race_words.specs.Seats.{IsPaused};
 
 use crate::clear::{empty_row, enters};
@@ -28,7 +28,8 @@ impl Paused {
     ///
     /// Every dirty card is refined first, as in a drain, and the racers' logs are emptied. Then
     /// each slot outside `from` that refers into `from` refers to the same offset in `to`. If the
-    /// slot lies outside `to`, its card is recorded for `to`. Slots inside `from` stay. `Moved` has
+    /// slot lies outside `to`, its card is recorded for `to`. Slots inside `from` stay, and so
+    /// do slots with data. `Moved` has
     /// how many slots changed, and the cards that were refined, ascending.
     ///
     /// Once all is refined it reads a word for each 64 cards of the heap and the slots of each card
@@ -45,6 +46,8 @@ impl Paused {
         requires to { to < self.old.layout.regions }
         requires apart { from ≢ to }
         ensures race { IfOk result (λ answer. IsRefinedRace self.old self.new) }
+        ensures words { IfOk result (λ answer.
+            SlotsBecome (word_after self.old.shape from to) self.old self.new) }
         ensures whole { IfOk result HasMoved }
         ensures step { IfOk result (λ answer. (caller : ℕ) →
             IsStep (halted self.old) (redirect_entry caller from to answer) (halted self.new)) }
@@ -68,6 +71,7 @@ impl Paused {
         requires to { to < self.old.layout.regions }
         requires apart { from ≢ to }
         ensures race { IsRefinedRace self.old self.new }
+        ensures words { SlotsBecome (word_after self.old.shape from to) self.old self.new }
         ensures redirected { IsRedirected (halted self.old) from to result (halted self.new) }
     {
         refine_cards(&self.race, &mut self.seat);

@@ -11,7 +11,7 @@ ghost use Rattle.g1_race_words.specs.Rule.{IsBegun, start, crosses, word_count};
 ghost use Rattle.g1_race.specs.Race.{shape_of, word_of};
 ghost use Rattle.g1_race.specs.Over.{halted};
 ghost use Rattle.g1_race.specs.Reading.{table_known};
-ghost use Rattle.g1_race.specs.Evacuating.{IsSameRace, plain_reply};
+ghost use Rattle.g1_race.specs.Evacuating.{IsSameRace, SlotsBecome, one_word, plain_reply};
 ghost use Rattle.g1_race.specs.Refining.{IsDirtied};
 ghost use Rattle.g1_race_words.specs.Seats.{IsPaused};
 ghost use Rattle.g1_race_words.specs.Readers.{IsReading};
@@ -52,6 +52,7 @@ impl Paused {
         requires slot { slot < slot_count self.old.layout }
         requires target { IfSome target (λ place. place < slot_count self.old.layout) }
         ensures race { IsSameRace self.old self.new }
+        ensures words { SlotsBecome (one_word slot (word_of target)) self.old self.new }
         ensures kind { result ≡ kind_of (halted self.old) slot target }
         ensures table { halted self.new ≡ stored (halted self.old) slot target }
         ensures step { (caller : ℕ) → IsStep (halted self.old) (store_entry caller slot target (plain_reply result)) (halted self.new) }

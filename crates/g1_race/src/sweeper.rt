@@ -1,13 +1,14 @@
 //! Concurrent refinement, which races with stores.
 ghost use Rattle.std.specs.Prelude.{◌≡◌, ℕ, ◌+◌, ◌-◌, ◌*◌, ◌<◌, ◌≤◌, [], ◌∷◌, OnOk, OnErr};
 ghost use Rattle.std.specs.Result.{IsOk};
-ghost use Rattle.g1_race_words.specs.Rule.{IsPair, start_of};
+ghost use Rattle.g1_race_words.specs.Rule.{IsPair, IsWord, start_of};
 ghost use Rattle.g1_race_words.specs.Steps.{recorded};
 ghost use Rattle.g1_layout.specs.Shape.{slot_count, card_count};
 ghost use Rattle.g1_race.specs.Members.{race_id, race_layout, sweeper_race, sweeper_start, sweeper_view, Sweeps, Recording, Holding};
 
 use crate::bits::bit_of;
 use crate::race::{Race, Sweeper};
+use crate::word::refers_to;
 use g1_layout::{Card, NoMemory};
 use g1_race_words::Place;
 
@@ -49,23 +50,23 @@ fn sweep(race: &Race, seat: &mut Place, card: usize)
     for i in 0..shape.size {
         let slot = card * shape.size + i;
         let word = words.read(seat, slot);
-        note_slot(race, seat, slot as u32, word as u32);
+        note_slot(race, seat, slot as u32, word);
     }
 }
 
 // Records the pair of a slot's word, if it refers into another region.
-fn note_slot(race: &Race, seat: &mut Place, slot: u32, word: u32)
+fn note_slot(race: &Race, seat: &mut Place, slot: u32, word: u64)
     requires slot { slot < slot_count race.now.layout }
-    requires word { word ≤ slot_count race.now.layout }
+    requires word { IsWord race.now.shape word }
     requires seat { Recording race.now.table.table_id race.now.shape slot word seat.old }
     ensures table { seat.new.table_id ≡ seat.old.table_id }
     ensures seat { seat.new.me ≡ (recorded seat.old.me.0, seat.old.me.1) }
 {
-    if word == 0 {
-        return;
-    }
     let layout = race.layout;
-    let (Some(slot), Some(target)) = (layout.slot(slot), layout.slot(word - 1)) else {
+    let Some(target) = refers_to(layout, word) else {
+        return;
+    };
+    let Some(slot) = layout.slot(slot) else {
         unreachable!()
     };
     let region = layout.region_of(target);

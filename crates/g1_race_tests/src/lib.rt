@@ -9,6 +9,8 @@ mod by_hand;
 #[cfg(test)]
 mod cycles;
 #[cfg(test)]
+mod data;
+#[cfg(test)]
 mod in_place;
 #[cfg(test)]
 mod in_threads;

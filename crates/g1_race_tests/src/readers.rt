@@ -122,6 +122,11 @@ fn ask_of(rt: &impl Abort, race: &Race, reader: &mut Reader, told: &(Slot, Optio
 {
     let slot = race.layout().slot(told.0.number()).expect(rt, "slot");
     assert!(rt; reader.target(race, slot) == told.1);
+    let word = match told.1 {
+        Some(place) => place.number() as u64 + 1,
+        None => 0,
+    };
+    assert_eq!(rt; reader.word(race, slot), word);
 }
 
 // Each reader scans in a thread of its own.

@@ -23,6 +23,8 @@ pub(crate) enum Step<'a> {
     /// A store by the second racer into a slot that refers to the first place: its kind, or the
     /// place that the slot refers to instead.
     SecondExchange(u32, Option<u32>, Option<u32>, Result<Kind, Option<u32>>),
+    /// A store of data by the second racer: the word, and the one that it overwrites.
+    SecondData(u32, u64, u64),
     /// The cards that the first racer has logged, which it gives up.
     FirstLog(&'a [u32]),
     /// Those of the second racer.
@@ -133,6 +135,9 @@ impl Small {
                 let found = exchange(rt, &self.race, &mut self.second, from, expected, to);
                 assert!(rt; found == answer);
             }
+            Step::SecondData(slot, word, old) => {
+                store_data(rt, &self.race, &mut self.second, slot, word, old);
+            }
             Step::FirstLog(cards) => {
                 assert!(rt; are(self.first.take_log().as_slice(), cards));
             }
@@ -206,6 +211,15 @@ fn swap(
     let (kind, old) = racer.swap(race, from, to);
     assert_eq!(rt; kind, answer.0);
     assert!(rt; number_of(old) == answer.1);
+}
+
+fn store_data(rt: &impl Abort, race: &Race, racer: &mut Racer, slot: u32, word: u64, old: u64)
+    requires { racer_race racer.old ≡ race_id race.now }
+    ensures { racer_race racer.new ≡ racer_race racer.old }
+{
+    let slot = race.layout().slot(slot).expect(rt, "slot");
+    assert!(rt; word > u32::MAX as u64);
+    assert_eq!(rt; racer.store_data(race, slot, word), old);
 }
 
 fn exchange(

@@ -1,5 +1,5 @@
 -- Each kind of step is allowed, as a call on the table asks for it.
-use Rattle.std.proofs.Common.{inl, inr, ◌≡◌, ℕ, ◌-◌, ◌*◌, ◌%◌, ◌^◌, ◌<◌, ◌≤◌, ◌==◌, bit_or, cond, List, [], ◌∷◌, set, get_or, Bool, true, false, Some, None, refl, sym, ap, ◌∙◌, subst, arith}
+use Rattle.std.proofs.Common.{inl, inr, ◌≡◌, ℕ, ◌-◌, ◌*◌, ◌%◌, ◌^◌, ◌<◌, ◌==◌, bit_or, cond, List, [], ◌∷◌, set, get_or, Bool, true, false, Some, None, refl, sym, ap, ◌∙◌, subst, arith}
 use mathlib.Core.Option.{some}
 use lib.ListN.{get_elem?}
 use prog.Atomic.{either}
@@ -7,7 +7,7 @@ use Rattle.atomic_table.specs.Table.{State, Me, keeps, Allows, Splits, Joins, En
 use Rattle.g1_race_words.specs.declared.view.Shape.{Shape}
 use Rattle.g1_race_words.specs.declared.view.View.{View}
 use Rattle.g1_race_words.specs.Begin.{Start}
-use Rattle.g1_race_words.specs.Rule.{History, Raced, beginning, mark_word, bit_word, bit_place, In, IsShape, IsPair, AtRest, IsBlank, IsBegun, Going, start}
+use Rattle.g1_race_words.specs.Rule.{IsWord, History, Raced, beginning, mark_word, bit_word, bit_place, In, IsShape, IsPair, AtRest, IsBlank, IsBegun, Going, start}
 use Rattle.g1_race_words.specs.Steps.{iced, thawed, put, blank, wrote, exchanged, looked, owed_card, dirtied, cleaned, read, sought, recorded, lighter, new_racer, new_sweeper, both, nothing}
 use Rattle.g1_race_words.proofs.PairBits.{with_pair}
 use Rattle.g1_race_words.proofs.Plain.{set_read, set_there, read_at}
@@ -48,17 +48,17 @@ module _ {S : Type 0} where
     there = read_at s.words p (omega (arith, h.raced.sized));
   }
 
-  going_write : (k : Shape) (id p n : ℕ) (v : View) (mine : History) → Sits k v → v.owed ≡ None → v.histories ≡ mine ∷ [] → p < k.slots → n ≤ k.slots
+  going_write : (k : Shape) (id p n : ℕ) (v : View) (mine : History) → Sits k v → v.owed ≡ None → v.histories ≡ mine ∷ [] → p < k.slots → IsWord k n
       → (s : State S View) → Rule k s → get_elem? s.views id ≡ some v → Going k (set s.words p n) (set s.views id (wrote v p n))
   going_write k id p n v mine sits free one lt bound s h at =
       going_step k s.words s.views h (set s.words p n) id v (wrote v p n) at (omega (arith, sits.weight)) sits.going refl refl refl refl (raced_wrote (begun k s.words s.views h) s.words s.views id v p n mine sits free one lt bound at h.raced)
 
-  pub allows_write : (k : Shape) (slots id p n : ℕ) (me : Me S View) (mine : History) → Sits k me.0 → me.0.owed ≡ None → me.0.histories ≡ mine ∷ [] → p < k.slots → n ≤ k.slots
+  pub allows_write : (k : Shape) (slots id p n : ℕ) (me : Me S View) (mine : History) → Sits k me.0 → me.0.owed ≡ None → me.0.histories ≡ mine ∷ [] → p < k.slots → IsWord k n
       → Allows (Rule k) slots id me p (λ _. n) (λ m after. (after ≡ (wrote me.0 p n, me.1)) × IsFound me.0 p m)
   allows_write k slots id p n me mine sits free one lt bound s h len at fits =
       (wrote me.0 p n, keeps, tt, going_write k id p n me.0 mine sits free one lt bound s h at, (refl, found_there k id p me.0 s h at sits.weight lt))
 
-  pub allows_exchange : (k : Shape) (slots id p old n : ℕ) (me : Me S View) (mine : History) → Sits k me.0 → me.0.owed ≡ None → me.0.histories ≡ mine ∷ [] → p < k.slots → n ≤ k.slots
+  pub allows_exchange : (k : Shape) (slots id p old n : ℕ) (me : Me S View) (mine : History) → Sits k me.0 → me.0.owed ≡ None → me.0.histories ≡ mine ∷ [] → p < k.slots → IsWord k n
       → Allows (Rule k) slots id me p (λ m. either (m == old) n m) (λ m after. (after ≡ (exchanged me.0 p old n m, me.1)) × IsFound me.0 p m)
   allows_exchange k slots id p old n me mine sits free one lt bound s h len at fits =
       let m = get_or s.words p 0 in (exchanged me.0 p old n m, keeps, tt, pick (m == old), (refl, found_there k id p me.0 s h at sits.weight lt))
@@ -106,7 +106,7 @@ module _ {S : Type 0} where
       )
 
   pub allows_read : (k : Shape) (slots id p : ℕ) (me : Me S View) → Sits k me.0 → me.0.held ≡ [] → me.0.next ≡ p → p < k.slots
-      → Allows (Rule k) slots id me p (λ n. n) (λ n after. (after ≡ (read me.0 p n, me.1)) × (n ≤ me.0.shape.slots))
+      → Allows (Rule k) slots id me p (λ n. n) (λ n after. (after ≡ (read me.0 p n, me.1)) × IsWord me.0.shape n)
   allows_read k slots id p me sits free next lt s h len at fits =
       let n = get_or s.words p 0 in (
         read me.0 p n,
@@ -114,7 +114,7 @@ module _ {S : Type 0} where
         tt,
         subst (λ (ws : List ℕ). Going k ws (set s.views id (read me.0 p n))) (sym (set_read s.words p))
             (going_step k s.words s.views h s.words id me.0 (read me.0 p n) at (omega (arith, sits.weight)) sits.going refl refl refl refl (raced_read (begun k s.words s.views h) s.words s.views id me.0 p sits free next lt at h.raced)),
-        (refl, subst (λ (x : Shape). n ≤ x.slots) (sym sits.shape) (h.raced.bounded p n lt (read_at s.words p (omega (arith, h.raced.sized))))),
+        (refl, subst (λ (x : Shape). IsWord x n) (sym sits.shape) (h.raced.bounded p n lt (read_at s.words p (omega (arith, h.raced.sized))))),
       )
 
   pub allows_seek : (k : Shape) (slots id : ℕ) (x : ℕ × ℕ) (me : Me S View) → IsShape k → Sits k me.0 → me.0.held ≡ x ∷ []

@@ -85,7 +85,7 @@ pub null_begun : (k : Shape) → IsShape k → IsBegun (null_of k)
 null_begun k shaped = let all = word_count k in record {
   shaped = shaped;
   sized = length_zeros all;
-  bounded = λ p n lt at. let e = at_zeros all p n at in omega arith;
+  bounded = λ p n lt at. inl (let e = at_zeros all p n at in omega arith);
   marks = λ c lt. inr (zero_at all (mark_word k c) (omega arith));
   covered = λ p n lt at cr. absurd (null_stays k p n (at_zeros all p n at) cr);
   proper = λ x pair b. absurd (no_bit k (zeros all) x (zeros_read all (bit_word k x)) b);

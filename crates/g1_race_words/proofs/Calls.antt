@@ -1,12 +1,12 @@
 -- What the calls of a step ask, of the table and the seat inside.
-use Rattle.std.proofs.Common.{◌≡◌, ℕ, ◌-◌, ◌*◌, ◌%◌, ◌^◌, ◌<◌, ◌≤◌, ◌==◌, bit_or, [], ◌∷◌, set, None, refl, sym, ap, subst, arith}
+use Rattle.std.proofs.Common.{◌≡◌, ℕ, ◌-◌, ◌*◌, ◌%◌, ◌^◌, ◌<◌, ◌==◌, bit_or, [], ◌∷◌, set, None, refl, sym, ap, subst, arith}
 use prog.Atomic.{either}
 use Rattle.atomic_table.specs.Table.{State, Me, Allows, Splits, Joins}
 use Rattle.atomic_table.specs.Seated.{TableId}
 use Rattle.atomic_table.specs.declared.shared.Seat.{Seat}
 use Rattle.g1_race_words.specs.declared.view.Shape.{Shape}
 use Rattle.g1_race_words.specs.declared.view.View.{View}
-use Rattle.g1_race_words.specs.Rule.{AtRest, Going, History, IsBegun, IsBlank, IsShape, bit_place, flag, start, word_count}
+use Rattle.g1_race_words.specs.Rule.{AtRest, Going, History, IsBegun, IsBlank, IsShape, IsWord, bit_place, flag, start, word_count}
 use Rattle.g1_race_words.specs.Steps.{both, chair, cleaned, dirtied, exchanged, iced, lighter, looked, new_racer, new_sweeper, nothing, owed_card, put, raised, read, recorded, sought, spotted, thawed, wrote}
 use Rattle.g1_race_words.specs.Seats.{Freezes, HoldsBit, IsChair, IsFound, IsMark, IsPaused, OwesFlag, OwesMark, Sits, Words}
 use Rattle.g1_race_words.proofs.PairBits.{word_below}
@@ -25,11 +25,11 @@ module _ (z : TableId) (k : Shape) (fits : z.words ≡ word_count k) (shaped : I
   abbrev Owed : ℕ → (ℕ → ℕ) → (ℕ → Me (Unit {0}) View → Type 0) → Type 0
   Owed word f then = (s.table_id ≡ z) × (word < z.words) × Allows (Rule k) z.slots s.id s.me word f then
 
-  pub write_owed : (p n : ℕ) → Sits k s.me.0 × ((h : History) × (s.me.0.histories ≡ h ∷ [])) → s.me.0.owed ≡ None → p < k.slots → n ≤ k.slots
+  pub write_owed : (p n : ℕ) → Sits k s.me.0 × ((h : History) × (s.me.0.histories ≡ h ∷ [])) → s.me.0.owed ≡ None → p < k.slots → IsWord k n
       → Owed p (λ _. n) (λ m after. (after ≡ (wrote s.me.0 p n, s.me.1)) × IsFound s.me.0 p m)
   write_owed p n racer free lt bound = (table, omega (arith, fits, lt), allows_write k z.slots s.id p n s.me racer.1.0 racer.0 free racer.1.1 lt bound)
 
-  pub exchange_owed : (p old n : ℕ) → Sits k s.me.0 × ((h : History) × (s.me.0.histories ≡ h ∷ [])) → s.me.0.owed ≡ None → p < k.slots → n ≤ k.slots
+  pub exchange_owed : (p old n : ℕ) → Sits k s.me.0 × ((h : History) × (s.me.0.histories ≡ h ∷ [])) → s.me.0.owed ≡ None → p < k.slots → IsWord k n
       → Owed p (λ m. either (m == old) n m) (λ m after. (after ≡ (exchanged s.me.0 p old n m, s.me.1)) × IsFound s.me.0 p m)
   exchange_owed p old n racer free lt bound = (table, omega (arith, fits, lt), allows_exchange k z.slots s.id p old n s.me racer.1.0 racer.0 free racer.1.1 lt bound)
 
@@ -55,7 +55,7 @@ module _ (z : TableId) (k : Shape) (fits : z.words ≡ word_count k) (shaped : I
       (table, omega (arith, fits, lt), allows_clean k z.slots s.id c s.me sits shaped.1 done lt)
 
   pub read_owed : (p : ℕ) → Sits k s.me.0 → s.me.0.held ≡ [] → s.me.0.next ≡ p → p < k.slots
-      → Owed p (λ n. n) (λ n after. (after ≡ (read s.me.0 p n, s.me.1)) × (n ≤ s.me.0.shape.slots))
+      → Owed p (λ n. n) (λ n after. (after ≡ (read s.me.0 p n, s.me.1)) × IsWord s.me.0.shape n)
   read_owed p sits free next lt = (table, omega (arith, fits, lt), allows_read k z.slots s.id p s.me sits free next lt)
 
   pub seek_owed : (word : ℕ) → Sits k s.me.0 → (x : ℕ × ℕ) → HoldsBit k s.me.0 x word → Owed word (λ n. n) (λ n after. after ≡ (sought s.me.0 n, s.me.1))

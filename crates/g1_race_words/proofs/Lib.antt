@@ -1,4 +1,5 @@
 pub mod Plain
+pub mod Crossing
 pub mod PairBits
 pub mod Places
 pub mod Tallies

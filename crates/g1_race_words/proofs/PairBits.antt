@@ -1,23 +1,20 @@
 -- The bits of the pairs among the words.
-use Rattle.std.proofs.Common.{◌≡◌, ◌≢◌, ◌⊎◌, ℕ, ◌+◌, ◌-◌, ◌*◌, ◌/◌, ◌%◌, ◌^◌, ◌<◌, ◌≤◌, List, length, set, get_or, bit_or, w64, not, eqb, true, false, eq-eqb, sym, ap, ◌∙◌, subst, inl, inr, arith, div-lt_iff_lt-mul}
+use Rattle.std.proofs.Common.{◌≡◌, ◌≢◌, ◌⊎◌, ℕ, ◌+◌, ◌-◌, ◌*◌, ◌/◌, ◌%◌, ◌^◌, ◌<◌, ◌≤◌, List, length, set, get_or, bit_or, w64, true, sym, ap, ◌∙◌, subst, inl, inr, arith, div-lt_iff_lt-mul}
 use Rattle.std.specs.Int.{bit_at}
 use Rattle.std.proofs.lemmas.Bool.{cases_eq}
 use Rattle.std.proofs.lemmas.List.{get_or-set_same, get_or-set_other}
 use Rattle.std.proofs.lemmas.Nat.{div-mul-add, mod-mul-add, mul-add-lt}
 use Rattle.std.proofs.lemmas.Nat.Bits.{bit_at_set_same, bit_at_set_other}
 use Rattle.g1_race_words.specs.declared.view.Shape.{Shape}
-use Rattle.g1_race_words.specs.Rule.{card_of, region_at, crosses, IsShape, IsPair, HasBit, bit_word, bit_place}
-use Rattle.g1_race_words.proofs.Plain.{true_is}
+use Rattle.g1_race_words.specs.Rule.{IsWord, card_of, region_at, crosses, IsShape, IsPair, HasBit, bit_word, bit_place}
+use Rattle.g1_race_words.proofs.Crossing.{crosses_reference, word_low}
 
 pub card_below : (k : Shape) (p : ℕ) → IsShape k → p < k.slots → card_of k p < k.cards
 card_below k p shaped lt = (div-lt_iff_lt-mul shaped.1).1 (subst (λ (n : ℕ). p < n) shaped.0 lt)
 
-pub crosses_some : (k : Shape) (p n : ℕ) → crosses k p n ≡ true → n ≢ 0
-crosses_some k p n cr z = absurd (let f : false ≡ true = sym (true_is (eqb n 0) false (not (eqb (p / k.span) (region_at k n))) (eq-eqb n 0 z)) ∙ cr in cc (f))
-
 -- the pair of a reference that crosses regions
-pub crossing_pair : (k : Shape) (p n : ℕ) → IsShape k → p < k.slots → n ≤ k.slots → crosses k p n ≡ true → IsPair k (card_of k p, region_at k n)
-crossing_pair k p n shaped lt le cr = (card_below k p shaped lt, (div-lt_iff_lt-mul shaped.2).1 (let some_n = crosses_some k p n cr in let x : ℕ = k.regions * k.span in let e : k.slots ≡ x = shaped.6 in let goal : n - 1 < x = omega arith in goal))
+pub crossing_pair : (k : Shape) (p n : ℕ) → IsShape k → p < k.slots → IsWord k n → crosses k p n ≡ true → IsPair k (card_of k p, region_at k n)
+crossing_pair k p n shaped lt word cr = (card_below k p shaped lt, (div-lt_iff_lt-mul shaped.2).1 (let some_n = (crosses_reference k p n cr).0 in let le = word_low k p n word cr in let x : ℕ = k.regions * k.span in let e : k.slots ≡ x = shaped.6 in let goal : n - 1 < x = omega arith in goal))
 
 -- the bits of all pairs have room, and no two pairs have one bit
 

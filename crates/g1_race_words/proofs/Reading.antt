@@ -8,6 +8,7 @@ use Rattle.g1_race_words.specs.declared.view.View.{View}
 use Rattle.g1_race_words.specs.Begin.{Begun}
 use Rattle.g1_race_words.specs.Rule.{BeganInto, card_of, region_at, crosses, IsCrossing, In, Held, History, histories_of, claims_of, cleanings_of, pairs_of, last_to, Bounded, Stored, StoredInto, Recorded, Raced}
 use Rattle.g1_race_words.specs.Steps.{pair_at, read}
+use Rattle.g1_race_words.proofs.Crossing.{word_low}
 use Rattle.g1_race_words.proofs.Plain.{in_either, read_at, true_is, false_is, held_back, held_same}
 use Rattle.g1_race_words.proofs.CoverSweeps.{covered_read}
 use Rattle.g1_race_words.proofs.Keeping.{kept_read}
@@ -48,7 +49,7 @@ recorded_read k began words views id v p shape lt short at bounded stored h x he
     on = still_into k began views (set views id w) (λ g. (held_same histories_of views id v w at refl g).0) x
 
     new : In (pair_at v.shape p n) x → StoredInto k views x ⊎ BeganInto k began x
-    new a = let b = pair_back k p n x (crosses k p n) refl (subst (λ (s : Shape). In (pair_at s p n) x) shape a) in let is : IsCrossing k p n = (lt, bounded p n lt (read_at words p short), b.0) in ⊎_elim
+    new a = let b = pair_back k p n x (crosses k p n) refl (subst (λ (s : Shape). In (pair_at s p n) x) shape a) in let is : IsCrossing k p n = (lt, word_low k p n (bounded p n lt (read_at words p short)) b.0, b.0) in ⊎_elim
         (λ (y : (g : History) × Held histories_of views g × (last_to p g.1 ≡ Some n)). inl (y.0, p, n, y.1, last_in p n y.0.1 y.2, is, b.1))
         (λ (y : (get_elem? began p ≡ some n) × ((g : History) → Held histories_of views g → last_to p g.1 ≡ None)). inr (p, n, y.0, is, b.1))
         (stored p n lt (read_at words p short))

@@ -1,11 +1,11 @@
 -- What a step leaves as it was: the weights and numbers of seats, stores, slots, pairs and claims.
-use Rattle.std.proofs.Common.{◌≡◌, ◌≢◌, ◌⊎◌, ℕ, ◌+◌, ◌<◌, List, [], set, Some, None, sym, ap, ◌∙◌, inl, inr, ⊎_elim, arith, nat_lt, ◌≤◌}
+use Rattle.std.proofs.Common.{subst, ◌≡◌, ◌≢◌, ◌⊎◌, ℕ, ◌+◌, ◌<◌, List, [], set, Some, None, sym, ap, ◌∙◌, inl, inr, ⊎_elim, arith, nat_lt, ◌≤◌}
 use mathlib.Core.Option.{some}
 use lib.ListN.{get_elem?}
 use Rattle.atomic_table.proofs.Lists.{at_set, set_else}
 use Rattle.g1_race_words.specs.declared.view.Shape.{Shape}
 use Rattle.g1_race_words.specs.declared.view.View.{View}
-use Rattle.g1_race_words.specs.Rule.{BeganInto, MadeDirty, mark_word, Held, History, histories_of, claims_of, cleanings_of, pairs_of, last_to, Bounded, IsBlank, weigh, one_if, tally, numbers, Weighed, Numbered, Stored, StoredInto, Recorded, Claimed, Counted, times, claims_at, cleanings_at, total}
+use Rattle.g1_race_words.specs.Rule.{IsWord, BeganInto, MadeDirty, mark_word, Held, History, histories_of, claims_of, cleanings_of, pairs_of, last_to, Bounded, IsBlank, weigh, one_if, tally, numbers, Weighed, Numbered, Stored, StoredInto, Recorded, Claimed, Counted, times, claims_at, cleanings_at, total}
 use Rattle.g1_race_words.proofs.Plain.{SameHeld, held_same, weigh_set, total_set}
 use Rattle.g1_race_words.proofs.CoverStores.{mark_apart}
 
@@ -57,9 +57,9 @@ same_slots k words p n lt at = at
 pub bounded_same : (k : Shape) (words new : List ℕ) → SameSlots k words new → Bounded k words → Bounded k new
 bounded_same k words new slots h p n lt at = h p n lt (slots p n lt at)
 
-pub bounded_wrote : (k : Shape) (words : List ℕ) (p n : ℕ) → n ≤ k.slots → Bounded k words → Bounded k (set words p n)
+pub bounded_wrote : (k : Shape) (words : List ℕ) (p n : ℕ) → IsWord k n → Bounded k words → Bounded k (set words p n)
 bounded_wrote k words p n fits h q m lt at = ⊎_elim
-    (λ (x : (q ≡ p) × (n ≡ m)). let e = x.1 in omega arith)
+    (λ (x : (q ≡ p) × (n ≡ m)). subst (IsWord k) x.1 fits)
     (λ (x : (q ≢ p) × (get_elem? words q ≡ some m)). h q m lt x.1)
     (at_set words p q n m at)
 

@@ -1,5 +1,5 @@
 -- A racer writes a slot.
-use Rattle.std.proofs.Common.{◌≡◌, ◌≢◌, ◌⊎◌, ℕ, ◌<◌, eqb, List, [], ◌∷◌, set, Some, None, refl, sym, ap, ◌∙◌, subst, inl, inr, ⊎_elim, length-set, eq-eqb, ne_eqb, ◌≤◌, arith}
+use Rattle.std.proofs.Common.{◌≡◌, ◌≢◌, ◌⊎◌, ℕ, ◌<◌, eqb, List, [], ◌∷◌, set, Some, None, refl, sym, ap, ◌∙◌, subst, inl, inr, ⊎_elim, length-set, eq-eqb, ne_eqb, arith}
 use mathlib.Core.Option.{some}
 use native.Mathlib.Decide.{ℕ_discrete}
 use lib.ListN.{get_elem?}
@@ -7,7 +7,7 @@ use Rattle.atomic_table.proofs.Lists.{at_set, set_else}
 use Rattle.g1_race_words.specs.declared.view.Shape.{Shape}
 use Rattle.g1_race_words.specs.declared.view.View.{View}
 use Rattle.g1_race_words.specs.Begin.{Begun}
-use Rattle.g1_race_words.specs.Rule.{BeganInto, mark_word, flag, In, Held, History, histories_of, claims_of, cleanings_of, pairs_of, last_to, Stored, StoredInto, Recorded, Raced}
+use Rattle.g1_race_words.specs.Rule.{IsWord, BeganInto, mark_word, flag, In, Held, History, histories_of, claims_of, cleanings_of, pairs_of, last_to, Stored, StoredInto, Recorded, Raced}
 use Rattle.g1_race_words.specs.Steps.{gained, wrote}
 use Rattle.g1_race_words.proofs.Plain.{put_here, one_there, true_is, false_is, held_back, held_same}
 use Rattle.g1_race_words.proofs.Tallies.{tally_gained}
@@ -98,7 +98,7 @@ recorded_wrote k began views id v p n at h x held = ⊎_elim
     (λ (i : BeganInto k began x). inr i)
     (h x ((held_same pairs_of views id v (wrote v p n) at refl x).1 held))
 
-pub raced_wrote : (begun : Begun) (words : List ℕ) (views : List View) (id : ℕ) (v : View) (p n : ℕ) (mine : History) → Sits begun.shape v → v.owed ≡ None → v.histories ≡ mine ∷ [] → p < begun.shape.slots → n ≤ begun.shape.slots
+pub raced_wrote : (begun : Begun) (words : List ℕ) (views : List View) (id : ℕ) (v : View) (p n : ℕ) (mine : History) → Sits begun.shape v → v.owed ≡ None → v.histories ≡ mine ∷ [] → p < begun.shape.slots → IsWord begun.shape n
     → get_elem? views id ≡ some v → Raced begun words views → Raced begun (set words p n) (set views id (wrote v p n))
 raced_wrote begun words views id v p n mine sits free one lt fits at h = record {
   sized = length-set words p n ∙ h.sized;

@@ -1,10 +1,10 @@
 -- References between regions, cards, and who answers for a slot while stores and sweeps run beside
--- each other. Word p, below the number of slots, is 0 or one more than the slot that slot p refers
--- to. The word of card c's mark comes c places after the slots' words. Behind the marks' words come
--- those with a bit for each pair of a card and a region, which is 1 once the pair is recorded: a
--- row of words for each region, 64 cards to a word. One more row has a flag for each eight cards,
--- which is 1 wherever a mark of theirs is.
-use Rattle.std.specs.Prelude.{nat_lt, ◌≡◌, ◌⊎◌, ℕ, ◌+◌, ◌-◌, ◌*◌, ◌/◌, ◌%◌, ◌<◌, ◌≤◌, ◌^◌, slice_index, replicate, take, List, [], ◌∷◌, ◌++◌, length, zero, suc, Bool, true, false, not, ◌==◌, if◌then◌else◌, Option, Some, None}
+-- each other. Word p, below the number of slots, is 0, or one more than the slot that slot p refers
+-- to, or data from 2^32 on, which refers to nothing. The word of card c's mark comes c places after
+-- the slots' words. Behind the marks' words come those with a bit for each pair of a card and a
+-- region, which is 1 once the pair is recorded: a row of words for each region, 64 cards to a word.
+-- One more row has a flag for each eight cards, which is 1 wherever a mark of theirs is.
+use Rattle.std.specs.Prelude.{nat_lt, ◌≡◌, ◌≢◌, ◌⊎◌, ℕ, ◌+◌, ◌-◌, ◌*◌, ◌/◌, ◌%◌, ◌<◌, ◌≤◌, ◌^◌, slice_index, replicate, take, List, [], ◌∷◌, ◌++◌, length, zero, suc, Bool, true, false, not, ◌==◌, if◌then◌else◌, Option, Some, None}
 use Rattle.std.specs.Int.{bit_at}
 use mathlib.Core.Option.{some}
 use lib.ListN.{get_elem?}
@@ -37,9 +37,20 @@ IsPair heap pair = (pair.0 < heap.cards) × (pair.1 < heap.regions)
 abbrev pub HasBit : Shape → List ℕ → ℕ × ℕ → Type 0
 HasBit heap words pair = bit_at (slice_index words (bit_word heap pair)) (bit_place heap pair) ≡ 1
 
+-- a word that refers to a slot: neither null nor data
+abbrev pub IsReference : ℕ → Type 0
+IsReference word = (word ≢ 0) × (word < 2 ^ 32)
+
+-- null, one more than a slot, or data, which refers to nothing
+abbrev pub IsWord : Shape → ℕ → Type 0
+IsWord heap word = (word ≤ heap.slots) ⊎ (2 ^ 32 ≤ word)
+
 -- the slot's word refers into another region
 abbrev pub crosses : Shape → ℕ → ℕ → Bool
-crosses heap slot word = if word == 0 then false else not (slot / heap.span == region_at heap word)
+crosses heap slot word =
+    if word == 0 then false
+    else if nat_lt word (2 ^ 32) then not (slot / heap.span == region_at heap word)
+    else false
 
 -- a slot and its word, which refers into another region
 abbrev pub IsCrossing : Shape → ℕ → ℕ → Type 0
@@ -53,9 +64,9 @@ In (first ∷ rest) value = (first ≡ value) ⊎ In rest value
 abbrev pub Held : {A : Type 0} → (View → List A) → List View → A → Type 0
 Held part views value = (seat : ℕ) × (v : View) × (get_elem? views seat ≡ some v) × In (part v) value
 
--- each slot's word is 0 or one more than a slot
+-- each slot's word is null, one more than a slot, or data
 abbrev pub Bounded : Shape → List ℕ → Type 0
-Bounded heap words = (p n : ℕ) → p < heap.slots → get_elem? words p ≡ some n → n ≤ heap.slots
+Bounded heap words = (p n : ℕ) → p < heap.slots → get_elem? words p ≡ some n → IsWord heap n
 
 -- a racer's number, and its stores, the newest first
 abbrev pub History : Type 0

@@ -1,6 +1,6 @@
 //! The steps of a racer.
-ghost use Rattle.std.specs.Prelude.{◌≡◌, ℕ, ◌-◌, ◌<◌, ◌≤◌, [], ◌∷◌, None};
-ghost use Rattle.g1_race_words.specs.Rule.{History, bit_place, flag};
+ghost use Rattle.std.specs.Prelude.{◌≡◌, ℕ, ◌-◌, ◌<◌, [], ◌∷◌, None};
+ghost use Rattle.g1_race_words.specs.Rule.{History, IsWord, bit_place, flag};
 ghost use Rattle.g1_race_words.specs.Steps.{wrote, exchanged, looked, spotted, raised, owed_card, dirtied};
 ghost use Rattle.g1_race_words.specs.Seats.{Sits, IsFound, OwesMark, OwesFlag};
 
@@ -71,15 +71,15 @@ impl Play<(), View> for Dirties {
 
 impl RaceTable {
     /// Writes a slot, for a racer that owes no card. `word` is 0 for null, or the number of the
-    /// target slot plus 1. If the reference crosses regions, the racer owes the slot's card from
-    /// then on. Returns the slot's word as it was.
+    /// target slot plus 1, or data from 2^32 on. If the reference crosses regions, the racer owes
+    /// the slot's card from then on. Returns the slot's word as it was.
     pub fn write(&self, seat: &mut Place, slot: usize, word: u64) -> u64
         requires table { seat.old.table_id ≡ self.now.table_id }
         requires racer { Sits self.now.shape seat.old.me.0
             × ((h : History) × (seat.old.me.0.histories ≡ h ∷ [])) }
         requires free { seat.old.me.0.owed ≡ None }
         requires slot { slot < self.now.shape.slots }
-        requires word { word ≤ self.now.shape.slots }
+        requires word { IsWord self.now.shape word }
         ensures table { seat.new.table_id ≡ seat.old.table_id }
         ensures view { seat.new.me ≡ (wrote seat.old.me.0 slot word, seat.old.me.1) }
         ensures found { IsFound seat.old.me.0 slot result }
@@ -95,7 +95,7 @@ impl RaceTable {
             × ((h : History) × (seat.old.me.0.histories ≡ h ∷ [])) }
         requires free { seat.old.me.0.owed ≡ None }
         requires slot { slot < self.now.shape.slots }
-        requires word { word ≤ self.now.shape.slots }
+        requires word { IsWord self.now.shape word }
         ensures table { seat.new.table_id ≡ seat.old.table_id }
         ensures view { seat.new.me
             ≡ (exchanged seat.old.me.0 slot expected word result, seat.old.me.1) }

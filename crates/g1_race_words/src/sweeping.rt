@@ -1,6 +1,6 @@
 //! The steps of a sweeper.
-ghost use Rattle.std.specs.Prelude.{◌≡◌, ℕ, ◌-◌, ◌<◌, ◌≤◌, []};
-ghost use Rattle.g1_race_words.specs.Rule.{bit_place};
+ghost use Rattle.std.specs.Prelude.{◌≡◌, ℕ, ◌-◌, ◌<◌, []};
+ghost use Rattle.g1_race_words.specs.Rule.{IsWord, bit_place};
 ghost use Rattle.g1_race_words.specs.Steps.{cleaned, read, sought, recorded};
 ghost use Rattle.g1_race_words.specs.Seats.{Sits, IsMark, HoldsBit};
 
@@ -21,11 +21,12 @@ impl Play<(), View> for Cleans {
 pub(crate) struct Reads;
 
 impl Play<(), View> for Reads {
-    ghost use Rattle.std.specs.Prelude.{◌≡◌, ◌≤◌};
+    ghost use Rattle.std.specs.Prelude.{◌≡◌};
+    ghost use Rattle.g1_race_words.specs.Rule.{IsWord};
     ghost use Rattle.g1_race_words.specs.Steps.{read};
 
     ghost then = { λ step before found after.
-        (after ≡ (read before.0 step.word found, before.1)) × (found ≤ before.0.shape.slots) };
+        (after ≡ (read before.0 step.word found, before.1)) × IsWord before.0.shape found };
 }
 
 pub(crate) struct Seeks;
@@ -71,7 +72,7 @@ impl RaceTable {
         requires slot { slot < self.now.shape.slots }
         ensures table { seat.new.table_id ≡ seat.old.table_id }
         ensures view { seat.new.me ≡ (read seat.old.me.0 slot result, seat.old.me.1) }
-        ensures word { result ≤ self.now.shape.slots }
+        ensures word { IsWord self.now.shape result }
     {
         self.table.shared.load::<Reads>(&mut seat.seat, slot)
     }

@@ -1,5 +1,5 @@
 -- The table that a race of scripts leaves, by what its racers have stored.
-use Rattle.std.proofs.Common.{◌≡◌, ◌≢◌, ◌⊎◌, ◌<◌, ◌+◌, ◌-◌, ◌≤◌, ℕ, List, length, take, ap, sym, subst, ◌∙◌, refl, arith, Option, Some, None, inl, inr, ⊎_elim, Contains, get_or}
+use Rattle.std.proofs.Common.{◌^◌, ◌≡◌, ◌≢◌, ◌⊎◌, ◌<◌, ◌+◌, ◌-◌, ◌≤◌, ℕ, List, length, take, ap, sym, subst, ◌∙◌, refl, arith, Option, Some, None, inl, inr, ⊎_elim, Contains, get_or}
 use mathlib.Core.Option.{some}
 use lib.ListN.{get_elem?}
 use Rattle.std.proofs.lemmas.List.{length-map, length-take-le}
@@ -17,9 +17,10 @@ use Rattle.g1_race.specs.Over.{Ended, refs_of, table_of, target_of}
 use Rattle.g1_race_words.proofs.AtBeginning.{at_zeros}
 use Rattle.g1_race.proofs.Draining.{in_shape, known_once, stored_now}
 use Rattle.g1_race.proofs.Ends.{refs_here, target_some}
-use Rattle.g1_race_words.proofs.PairBits.{crosses_some}
+use Rattle.g1_race_words.proofs.Crossing.{crosses_reference}
 use Rattle.g1_race_words.proofs.Places.{in_contains, reads_as}
 use Rattle.g1_race_words.proofs.Plain.{read_at}
+use Rattle.g1_race_words.proofs.Reading.{last_in}
 use Rattle.g1_trace.specs.declared.command.Command.{Command}
 use Rattle.g1_trace.specs.declared.command.Command.TheVariants.{Store}
 use Rattle.g1_replay.specs.Race.{AreLeftBy, StoresInto, last_by}
@@ -27,14 +28,14 @@ use Rattle.g1_replay.specs.RaceJobs.{IsTableLeftBy}
 use Rattle.g1_replay.proofs.StoreLemmas.{as_word, in_own, last_own, own}
 
 -- a word that is stored last tells what is
-last_target : (o : Option (Option ℕ)) (n : ℕ) → as_word o ≡ Some n → o ≡ Some (target_of n)
-last_target None n e = cc
-last_target (Some None) n e = let z : 0 ≡ n = cc in ap (λ (m : ℕ). Some (target_of m)) z
-last_target (Some (Some place)) n e =
+last_target : (o : Option (Option ℕ)) (n : ℕ) → n < 2 ^ 32 → as_word o ≡ Some n → o ≡ Some (target_of n)
+last_target None n low e = cc
+last_target (Some None) n low e = let z : 0 ≡ n = cc in ap (λ (m : ℕ). Some (target_of m)) z
+last_target (Some (Some place)) n low e =
     let w : place + 1 ≡ n = cc in
     let some_n : n ≢ 0 = λ z. absurd (omega arith) in
     let back : place ≡ n - 1 = omega arith in
-    ap (λ (p : ℕ). Some (Some p)) back ∙ ap (λ (t : Option ℕ). Some t) (sym (target_some n some_n))
+    ap (λ (p : ℕ). Some (Some p)) back ∙ ap (λ (t : Option ℕ). Some t) (sym (target_some n (some_n, low)))
 
 none_last : (o : Option (Option ℕ)) → as_word o ≡ None → o ≡ None
 none_last None e = refl
@@ -47,7 +48,8 @@ some_place (Some place) n ne e = let w : n ≡ place + 1 = e in (place, refl, om
 
 module _ (e : Ended) (members mutators : ℕ) (commands : List Command) (views sweepers : List View) (over : IsOver (null_begun e.layout members) e.words views sweepers)
     (each : (h : History) → Among histories_of views h → (m : ℕ) × (m < mutators) × (h.1 ≡ own m commands))
-    (every : (m : ℕ) → m < mutators → (h : History) × Among histories_of views h × (h.1 ≡ own m commands)) where
+    (every : (m : ℕ) → m < mutators → (h : History) × Among histories_of views h × (h.1 ≡ own m commands))
+    (targets : (by slot : ℕ) (target : Option ℕ) → In commands (Store by slot target) → word_of target < 2 ^ 32) where
   abbrev begun : Begun
   begun = null_begun e.layout members
 
@@ -65,7 +67,9 @@ module _ (e : Ended) (members mutators : ℕ) (commands : List Command) (views s
           (λ (x : (h : History) × Among histories_of views h × (last_to slot h.1 ≡ Some n)).
           let by = each x.0 x.1 in
           let last : as_word (last_by by.0 slot commands) ≡ Some n = sym (last_own by.0 slot commands) ∙ ap (λ (l : List (ℕ × ℕ)). last_to slot l) (sym by.2) ∙ x.2 in
-          inl (by.0, by.1, last_target (last_by by.0 slot commands) n last ∙ ap (λ (t : Option ℕ). Some t) (sym refers)))
+          let store = in_own by.0 slot n commands (subst (λ (l : List (ℕ × ℕ)). In l (slot, n)) by.2 (last_in slot n x.0.1 x.2)) in
+          let low : n < 2 ^ 32 = subst (λ (w : ℕ). w < 2 ^ 32) (sym store.3) (targets store.0 slot store.1 store.2) in
+          inl (by.0, by.1, last_target (last_by by.0 slot commands) n low last ∙ ap (λ (t : Option ℕ). Some t) (sym refers)))
           (λ (x : (get_elem? begun.words slot ≡ some n) × ((h : History) → Among histories_of views h → last_to slot h.1 ≡ None)).
           let null : n ≡ 0 = at_zeros (slot_count e.layout + card_count e.layout) slot n x.0 in
           inr (refers ∙ ap target_of null, λ m lt. let own_h = every m lt in none_last (last_by m slot commands) (sym (last_own m slot commands) ∙ ap (λ (l : List (ℕ × ℕ)). last_to slot l) (sym own_h.2) ∙ x.1 own_h.0 own_h.1)))
@@ -78,7 +82,7 @@ module _ (e : Ended) (members mutators : ℕ) (commands : List Command) (views s
       let n = s.2 in
       let by = each s.0 s.3 in
       let store = in_own by.0 slot n commands (subst (λ (l : List (ℕ × ℕ)). In l (slot, n)) by.2 s.4) in
-      let at = some_place store.1 n (crosses_some k slot n s.5.2) store.3 in
+      let at = some_place store.1 n (crosses_reference k slot n s.5.2).0 store.3 in
       record {
         mutator = store.0;
         slot = slot;
@@ -91,7 +95,7 @@ module _ (e : Ended) (members mutators : ℕ) (commands : List Command) (views s
   -- nothing was there at the beginning
   had : (card region : ℕ) → AmongStores (shape_of e.layout members) views (card, region) ⊎ BeganInto (shape_of e.layout members) begun.words (card, region) ⊎ In begun.pairs (card, region) → StoresInto e.layout commands card region
   had card region (inl s) = stored_into card region s
-  had card region (inr (inl b)) = absurd (crosses_some (shape_of e.layout members) b.0 b.1 b.3.2 (at_zeros (slot_count e.layout + card_count e.layout) b.0 b.1 b.2))
+  had card region (inr (inl b)) = absurd ((crosses_reference (shape_of e.layout members) b.0 b.1 b.3.2).0 (at_zeros (slot_count e.layout + card_count e.layout) b.0 b.1 b.2))
   had card region (inr (inr i)) = absurd i
 
   pub table_left : IsCovered (table_of e) → ((x : ℕ × ℕ) → Contains e.pairs x → IsPairOf e.layout x) → ((x : ℕ × ℕ) → Contains e.pairs x → IsKnown begun sweepers x) → IsTableLeftBy mutators commands e

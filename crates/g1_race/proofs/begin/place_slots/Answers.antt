@@ -1,4 +1,4 @@
-use Rattle.std.proofs.Common.{◌≡◌, ◌+◌, ◌≤◌, ℕ, List, refl, sym, ap, ◌∙◌, subst, arith}
+use Rattle.std.proofs.Common.{inl, ◌≡◌, ◌+◌, ◌≤◌, ℕ, List, refl, sym, ap, ◌∙◌, subst, arith}
 use Rattle.atomic_table.specs.declared.shared.Seat.{Seat}
 use Rattle.g1_race_words.specs.declared.view.View.{View}
 use Rattle.g1_layout.specs.Shape.{slot_count}
@@ -28,7 +28,7 @@ put-requires-clause-begun c =
     let word = c.word_of-word.ensures ∙ ap word_of (c.target.ensures.target ∙ ((λ j. let q : State = i.same.state j in target_of q.table c.in-Some.slot) ∙ ap (λ (p : ℕ). target_of s.table p) c.in-Some.ensures.1)) in
     let slots : k.slots ≡ slot_count s.table.layout = ap (λ (x : Shape). x.slots) race.laid ∙ ap slot_count c.requires.layout in
     let bound : word_of (target_of s.table n) ≤ slot_count s.table.layout = word_bound s n sound (omega (arith, lt, slots)) in
-    begun_written k c.loop-number.seat.me.0.began_words n c.word_of-word.result lt (omega (arith, word, bound, slots))
+    begun_written k c.loop-number.seat.me.0.began_words n c.word_of-word.result lt (inl (omega (arith, word, bound, slots)))
     (covered_on k s.table c.args.seat.now.me.0.began_words c.loop-number.seat.me.0.began_words n race.shaped i.slots c.requires.covered n c.word_of-word.result lt word) i.seat.begun
 
 pub loop-number-preserved : goal.loop-number-preserved

@@ -39,7 +39,7 @@ set_bit-requires-clause-proper c low =
     let r = region_at k n in
     let begun = c.requires.seat.begun in
     let into = is_into_of k r p n c.requires.across refl in
-    (p, moved_word k to n, (c.requires.slot, moved_fits k to n begun.shaped c.requires.to, moved_crosses k to p n begun.shaped.2 c.if-slot-shape.false), λ i. (card_of k p, moved_region k to n begun.shaped.2 i))
+    (p, moved_word k to n, (c.requires.slot, moved_fits k to n begun.shaped c.requires.to, moved_crosses k to p n begun.shaped c.requires.to c.if-slot-shape.false), λ i. (card_of k p, moved_region k to n begun.shaped.2 i))
 
 pub put-requires-2-clause-begun : goal.put-requires-2-clause-begun
 put-requires-2-clause-begun c =

@@ -1,4 +1,4 @@
-use Rattle.std.proofs.Common.{List, ◌≡◌, ◌+◌, ◌<◌, ℕ, Option, None, ap, sym, ◌∙◌, subst, arith}
+use Rattle.std.proofs.Common.{◌^◌, ◌⊎◌, ◌≤◌, List, ◌≡◌, ◌+◌, ◌<◌, ℕ, Option, None, ap, sym, ◌∙◌, subst, arith}
 use mathlib.Core.Option.{some}
 use lib.ListN.{get_elem?}
 use Rattle.g1_layout.specs.Shape as layout
@@ -28,7 +28,7 @@ refers_to-requires-clause-word c =
     let race = c.args.race.now in
     let slots : race.shape.slots ≡ slot_count race.layout = ap (λ (k : Shape). k.slots) race.laid in
     let fits = c.requires.seat.begun.bounded c.number.result c.see-word.result (omega (arith, slots, c.requires.slot, c.number.ensures)) c.see-word.ensures.word in
-    omega (arith, fits, slots)
+    subst (λ (n : ℕ). (c.see-word.result ≤ n) ⊎ (2 ^ 32 ≤ c.see-word.result)) slots fits
 
 pub refers_to-requires-clause-low : goal.refers_to-requires-clause-low
 refers_to-requires-clause-low c =

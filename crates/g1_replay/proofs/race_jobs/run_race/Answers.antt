@@ -1,6 +1,12 @@
-use Rattle.std.proofs.Common.{◌≡◌, ◌+◌, ◌<◌, List, length, map, ap, refl, sym, subst, ◌∙◌, arith, All}
+use Rattle.std.proofs.Common.{◌^◌, ◌≡◌, ◌+◌, ◌<◌, List, length, map, ap, refl, sym, subst, ◌∙◌, arith, All}
 use Rattle.std.specs.Prelude.{sum_by}
+use Rattle.std.proofs.lemmas.List.Elements.{All-contains}
 use Rattle.g1_layout.specs.Shape as layout
+use Rattle.g1_layout.specs.Shape.{slot_count}
+use Rattle.g1_race_words.proofs.Places.{in_contains}
+use Rattle.g1_race.proofs.StoreCalls.{word_fits}
+use Rattle.g1_trace.specs.Grammar.{IsCommandOf}
+use Rattle.g1_trace.specs.declared.command.Command.TheVariants.{Store}
 use Rattle.g1_core.specs.Adoption.{IsPairOf}
 use Rattle.g1_log.specs.declared.ends.Sender.{Sender}
 use Rattle.g1_log.specs.declared.ends.Taker.{Taker}
@@ -100,10 +106,12 @@ returns-clause-left g c =
     let begun : race_begun race (map racer_view rs) sweepers ≡ null_begun closed.layout count =
     begun_as race (null_of race.shape) rs ws racing sweeping refl some ∙ (ap (λ (k : Shape). beginning (null_of k)) (c.in_ok-race.ensures.shape ∙ ap (λ (l : layout.Shape). shape_of l count) (sym laid)) ∙ begins_null closed.layout count) in
     let over = subst (λ (xs : List Racer). IsOver (null_begun closed.layout count) closed.words (map racer_view xs) sweepers) c.in_ok-returned.ensures.racers (subst (λ (b : Begun). IsOver b closed.words (map racer_view rs) sweepers) begun c.close.ensures.over) in
+    let low : slot_count c.args.layout < 2 ^ 32 = subst (λ (l : layout.Shape). slot_count l < 2 ^ 32) c.in_ok-race.ensures.layout (subst (λ (k : Shape). k.slots < 2 ^ 32) race.laid race.shaped.3) in
     table_left closed count mutators commands (views_of ms) sweepers over
     (each_own mutators commands 0 ms run.run)
     (λ m lt. every_own mutators commands 0 ms run.run m (omega arith) lt
     (omega (arith, run.len, members, c.in_ok-members.ensures.len, c.in_ok-race.ensures.racers.0, c.in_ok-race.ensures.sweepers.0, c.in_ok-members.members.ok.0)))
+    (λ by slot target i. let fits = word_fits target (slot_count c.args.layout) (All-contains (IsCommandOf c.args.layout mutators) commands (Store by slot target) c.requires (in_contains commands _ i)).2 in omega (arith, fits, low))
     c.close.ensures.cover
     (λ x i. subst (λ (l : layout.Shape). IsPairOf l x) (sym c.close.ensures.layout) (c.close.ensures.within x i))
     (λ x i. subst (λ (b : Begun). IsKnown b sweepers x) begun ((c.close.ensures.pairs x).0 i))

@@ -4,11 +4,13 @@ use Rattle.g1_core.specs.Run.{IsStep, IsFirstInto}
 use Rattle.g1_core.specs.Calls.{clear_entry}
 use Rattle.g1_race.specs.Telling.{is_marked, marked_cards}
 use Rattle.g1_race.specs.Over.{Halt, halted, ended, table_of}
+use Rattle.g1_race.specs.Evacuating.{WordsBecome, same_word}
 use Rattle.g1_race.specs.Clearing.{Into, IsLeastInto, IsEmptied}
 use Rattle.g1_race.proofs.Telling.{few}
 use Rattle.g1_race.proofs.NextCards.{cards_fit}
 use Rattle.g1_race.proofs.PauseTable.{none_marked, none_pending, pending_len, clear_pending, clear_refused, clear_granted}
 use Rattle.g1_race.proofs.ClearWords.{enters_word, first_into, cleared_is}
+use Rattle.g1_race.proofs.SlotWords.{front_words, unchanged_words}
 use Rattle.g1_race.proofs.paused.Paused.clear.Goals as goal
 
 pub overflow_cast-result : goal.overflow_cast-result
@@ -82,3 +84,23 @@ returns-clause-step c = λ caller.
     (clear_granted (table_of (ended l k old)) caller c.args.region lt (table_of (ended l k new)) (none_pending k l race.laid old begun none)
     (λ slot enters. c.in_default.ensures.least slot (subst (λ (ws : List ℕ). Into k ws number slot) (sym first) (subst (λ (r : ℕ). Into k old r slot) (sym c.number-number.ensures) (enters_word k l race.laid old slot c.args.region enters))))
     (cleared_is k l race.laid old new c.args.region begun c.empty_row.ensures.seat.begun emptied))
+
+pub returns-then-pending-gt0-clause-words : goal.returns-then-pending-gt0-clause-words
+returns-then-pending-gt0-clause-words c =
+    let new = c.count_marked-pending.new.seat.me.0.began_words in
+    subst (λ (h : Halt). WordsBecome same_word h.shape h.words new) c.self.view_is
+    (unchanged_words c.self.inside.race.shape c.self.inside.seat.me.0.began_words new (ap (λ m. m.0.began_words) c.count_marked-pending.ensures.seat.1))
+
+pub returns-in-Some-clause-words : goal.returns-in-Some-clause-words
+returns-in-Some-clause-words c =
+    let new = c.entering.new.seat.me.0.began_words in
+    subst (λ (h : Halt). WordsBecome same_word h.shape h.words new) c.self.view_is
+    (unchanged_words c.self.inside.race.shape c.self.inside.seat.me.0.began_words new (ap (λ m. m.0.began_words) (c.entering.ensures.seat.1 ∙ c.count_marked-pending.ensures.seat.1)))
+
+pub returns-clause-words : goal.returns-clause-words
+returns-clause-words c =
+    let k = c.self.inside.race.shape in
+    let new = c.empty_row.new.seat.me.0.began_words in
+    let same = ap (λ m. m.0.began_words) (c.entering.ensures.seat.1 ∙ c.count_marked-pending.ensures.seat.1) in
+    let emptied = subst (λ (ws : List ℕ). IsEmptied k ws new c.number-number.result k.row) same c.empty_row.ensures.emptied in
+    subst (λ (h : Halt). WordsBecome same_word h.shape h.words new) c.self.view_is (front_words k c.self.inside.seat.me.0.began_words new emptied.front)

@@ -3,12 +3,13 @@ use Rattle.g1_core.specs.Run.{IsStep, drained}
 use Rattle.g1_race_words.specs.declared.view.Shape.{Shape}
 use Rattle.g1_race.specs.Telling.{is_marked, is_member, marked_cards, member_cards}
 use Rattle.g1_race.specs.Refining.{AreRefined}
-use Rattle.g1_race.specs.Evacuating.{IsExactAtPause}
+use Rattle.g1_race.specs.Evacuating.{WordsBecome, same_word, IsExactAtPause}
 use Rattle.g1_race.specs.Over.{Halt, halted, ended, table_of}
 use Rattle.g1_race.proofs.Telling.{few}
 use Rattle.g1_race.proofs.NextCards.{cards_fit}
 use Rattle.g1_race.proofs.PauseTable.{all_refined, drain_step, exact_is, members_are, members_room}
 use Rattle.g1_race.proofs.Logs.{emptied}
+use Rattle.g1_race.proofs.SlotWords.{refined_words}
 use Rattle.g1_race.proofs.paused.Paused.drain.Goals as goal
 
 pub overflow_add-members : goal.overflow_add-members
@@ -85,3 +86,13 @@ returns-clause-race c =
       logs = logs ∙ ap (λ (h : Halt). replicate {A = List ℕ} (length h.logs) []) c.self.view_is;
       sweepers = ap (λ (h : Halt). h.sweepers) c.self.view_is;
     }
+
+pub returns-clause-words : goal.returns-clause-words
+returns-clause-words c =
+    let k = c.self.inside.race.shape in
+    let old = c.self.inside.seat.me.0.began_words in
+    let new = c.refine_cards.new.seat.me.0.began_words in
+    let same = ap (λ m. m.0.began_words) (c.list_marked.ensures.seat.1 ∙ (c.count_members-members.ensures.seat.1 ∙ c.count_marked-pending.ensures.seat.1)) in
+    let is = refined_words k old new k.cards (subst (λ (ws : List ℕ). AreRefined k ws new k.cards) same c.refine_cards.ensures.refined) in
+    subst (λ (h : Halt). WordsBecome same_word h.shape h.words c.list_members.new.seat.me.0.began_words) c.self.view_is
+    (subst (λ (ws : List ℕ). WordsBecome same_word k old ws) (sym (ap (λ m. m.0.began_words) c.list_members.ensures.seat.1)) is)

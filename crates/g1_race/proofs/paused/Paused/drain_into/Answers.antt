@@ -1,10 +1,11 @@
 use Rattle.std.proofs.Common.{ℕ, ◌<◌, List, sym, ap, subst, arith, [], length, replicate, ◌∙◌}
 use Rattle.g1_race_words.specs.declared.view.Shape.{Shape}
 use Rattle.g1_race.specs.Telling.{marked_cards, member_cards}
-use Rattle.g1_race.specs.Evacuating.{IsDrainedInto}
+use Rattle.g1_race.specs.Evacuating.{WordsBecome, same_word, IsDrainedInto}
 use Rattle.g1_race.specs.Over.{Halt, halted, ended, table_of}
 use Rattle.g1_race.proofs.PauseTable.{all_refined, drain_step, exact_is, members_are}
 use Rattle.g1_race.proofs.Logs.{emptied}
+use Rattle.g1_race.proofs.SlotWords.{refined_words}
 use Rattle.g1_race.proofs.paused.Paused.drain_into.Goals as goal
 
 pub returns-clause-drained : goal.returns-clause-drained
@@ -41,3 +42,11 @@ returns-clause-race c =
       logs = logs ∙ ap (λ (h : Halt). replicate {A = List ℕ} (length h.logs) []) c.self.view_is;
       sweepers = ap (λ (h : Halt). h.sweepers) c.self.view_is;
     }
+
+pub returns-clause-words : goal.returns-clause-words
+returns-clause-words c =
+    let k = c.self.inside.race.shape in
+    let old = c.self.inside.seat.me.0.began_words in
+    let is = refined_words k old c.refine_cards.new.seat.me.0.began_words k.cards c.refine_cards.ensures.refined in
+    subst (λ (h : Halt). WordsBecome same_word h.shape h.words c.write_members.new.seat.me.0.began_words) c.self.view_is
+    (subst (λ (ws : List ℕ). WordsBecome same_word k old ws) (sym (ap (λ m. m.0.began_words) c.write_members.ensures.seat.1)) is)

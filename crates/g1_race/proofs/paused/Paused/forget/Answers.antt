@@ -4,10 +4,11 @@ use Rattle.g1_core.specs.Table.{Crosses}
 use Rattle.g1_race_words.specs.declared.view.Shape.{Shape}
 use Rattle.g1_race_words.specs.Rule.{card_of}
 use Rattle.g1_race.specs.Clearing.{AreUnset}
-use Rattle.g1_race.specs.Evacuating.{forgotten}
+use Rattle.g1_race.specs.Evacuating.{WordsBecome, forgotten, same_word}
 use Rattle.g1_race.specs.Over.{Halt, halted}
 use Rattle.g1_race.proofs.NextCards.{cards_fit}
 use Rattle.g1_race.proofs.Forgetting.{cards_each, cards_within, closed_words, forgotten_is, some_cards}
+use Rattle.g1_race.proofs.SlotWords.{front_words}
 use Rattle.g1_race.proofs.paused.Paused.forget.Goals as goal
 
 pub nonzero_div-cards : goal.nonzero_div-cards
@@ -82,3 +83,9 @@ returns-clause-table c =
     let new = c.forget_cards.new.seat.me.0.began_words in
     let unset = subst (λ (m : ℕ). AreUnset k old new (λ x. (n * m ≤ x.0) × (x.0 < n * m + m))) each c.forget_cards.ensures.unset in
     forgotten_is k l race.laid old new n (some_cards k l race.laid race.shaped) c.self.invariant.0.begun c.forget_cards.ensures.seat.begun unset ∙ (λ i. forgotten (c.number.ensures i) (halted (c.self.view_is i)))
+
+pub returns-clause-words : goal.returns-clause-words
+returns-clause-words c =
+    let new = c.forget_cards.new.seat.me.0.began_words in
+    subst (λ (h : Halt). WordsBecome same_word h.shape h.words new) c.self.view_is
+    (front_words c.self.inside.race.shape c.self.inside.seat.me.0.began_words new c.forget_cards.ensures.unset.front)

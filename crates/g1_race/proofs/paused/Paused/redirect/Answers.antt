@@ -7,9 +7,12 @@ use Rattle.g1_race_words.specs.declared.view.Shape.{Shape}
 use Rattle.g1_race.specs.Telling.{marked_cards}
 use Rattle.g1_race.specs.Refining.{AreRefined}
 use Rattle.g1_race.specs.Over.{Halt, halted, ended, table_of}
+use Rattle.g1_race.specs.Evacuating.{WordsBecome}
+use Rattle.g1_race.specs.Moving.{word_after}
 use Rattle.g1_race.proofs.PauseTable.{all_refined}
 use Rattle.g1_race.proofs.MovedTable.{count_is, moved_is, redirect_step}
 use Rattle.g1_race.proofs.Logs.{emptied}
+use Rattle.g1_race.proofs.SlotWords.{moved_words, refined_words, words_then}
 use Rattle.g1_race.proofs.paused.Paused.redirect.Goals as goal
 
 pub returns-clause-step : goal.returns-clause-step
@@ -47,3 +50,16 @@ returns-clause-race c =
       logs = logs ∙ ap (λ (h : Halt). replicate {A = List ℕ} (length h.logs) []) c.self.view_is;
       sweepers = ap (λ (h : Halt). h.sweepers) c.self.view_is;
     }
+
+pub returns-clause-words : goal.returns-clause-words
+returns-clause-words c =
+    let k = c.self.inside.race.shape in
+    let old = c.self.inside.seat.me.0.began_words in
+    let mid = c.refine_cards.new.seat.me.0.began_words in
+    let new = c.move_references-slots.new.seat.me.0.began_words in
+    let same = ap (λ m. m.0.began_words) (c.list_marked.ensures.seat.1 ∙ c.count_marked-pending.ensures.seat.1) in
+    let refined = subst (λ (ws : List ℕ). AreRefined k ws mid k.cards) same c.refine_cards.ensures.refined in
+    let moves = subst (λ (x : ℕ × ℕ). WordsBecome (word_after k x.0 x.1) k mid new) (λ i. (c.number.ensures i, c.number-2.ensures i))
+    (moved_words k mid new c.number.result c.number-2.result c.move_references-slots.ensures.moved) in
+    subst (λ (h : Halt). WordsBecome (word_after h.shape c.args.from c.args.to) h.shape h.words new) c.self.view_is
+    (words_then k (word_after k c.args.from c.args.to) old mid new (refined_words k old mid k.cards refined) moves)

@@ -1,9 +1,10 @@
 use Rattle.std.proofs.Common.{ℕ, List, [], length, replicate, ap, ◌∙◌, subst}
 use Rattle.g1_race.specs.Over.{Halt, halted, ended, table_of}
-use Rattle.g1_race.specs.Evacuating.{AreAllRefined}
+use Rattle.g1_race.specs.Evacuating.{WordsBecome, same_word, AreAllRefined}
 use Rattle.g1_race.specs.Telling.{marked_cards}
 use Rattle.g1_race.proofs.Logs.{emptied}
 use Rattle.g1_race.proofs.PauseTable.{all_refined}
+use Rattle.g1_race.proofs.SlotWords.{refined_words}
 use Rattle.g1_race.proofs.paused.Paused.refine_all.Goals as goal
 
 pub returns-clause-refined : goal.returns-clause-refined
@@ -27,3 +28,10 @@ returns-clause-race c =
       logs = logs ∙ ap (λ (h : Halt). replicate {A = List ℕ} (length h.logs) []) c.self.view_is;
       sweepers = ap (λ (h : Halt). h.sweepers) c.self.view_is;
     }
+
+pub returns-clause-words : goal.returns-clause-words
+returns-clause-words c =
+    let k = c.self.inside.race.shape in
+    let new = c.refine_cards.new.seat.me.0.began_words in
+    subst (λ (h : Halt). WordsBecome same_word h.shape h.words new) c.self.view_is
+    (refined_words k c.self.inside.seat.me.0.began_words new k.cards c.refine_cards.ensures.refined)

@@ -3,8 +3,9 @@ use mathlib.Core.Option.{some}
 use lib.ListN.{get_elem?}
 use Rattle.g1_race_words.specs.declared.view.Shape.{Shape}
 use Rattle.g1_race.specs.Over.{Halt, halted}
-use Rattle.g1_race.specs.Evacuating.{wiped}
+use Rattle.g1_race.specs.Evacuating.{WordsBecome, wiped, wiped_word}
 use Rattle.g1_race.proofs.PauseStores.{null_target, slot_in}
+use Rattle.g1_race.proofs.SlotWords.{wiped_words}
 use Rattle.g1_race.proofs.paused.Paused.wipe.Goals as goal
 
 pub returns-clause-table : goal.returns-clause-table
@@ -22,3 +23,12 @@ returns-clause-null c =
     let is : c.number.result * k.span + slot % k.span ≡ slot = ap (λ (r : ℕ). r * k.span + slot % k.span) (sym on) ∙ div-add-mod' slot k.span in
     let below : slot % k.span < k.span = mod-lt slot race.shaped.2 in
     null_target k race.layout words slot race.laid (subst (λ (s : ℕ). s < k.slots) is (slot_in k c.number.result (slot % k.span) race.shaped low below)) (subst (λ (s : ℕ). get_elem? words s ≡ some 0) is (c.wipe_slots.ensures.null (slot % k.span) below))
+
+pub returns-clause-words : goal.returns-clause-words
+returns-clause-words c =
+    let k = c.self.inside.race.shape in
+    let old = c.self.inside.seat.me.0.began_words in
+    let new = c.wipe_slots.new.seat.me.0.began_words in
+    subst (λ (h : Halt). WordsBecome (wiped_word h.shape c.args.region) h.shape h.words new) c.self.view_is
+    (subst (λ (r : ℕ). WordsBecome (wiped_word k r) k old new) c.number.ensures
+    (wiped_words k old new c.number.result c.self.inside.race.shaped.2 c.wipe_slots.ensures.null c.wipe_slots.ensures.other))

@@ -1,7 +1,6 @@
-use Rattle.std.proofs.Common.{◌≡◌, ℕ, ap, arith, sym, subst}
+use Rattle.std.proofs.Common.{◌≡◌, ap, arith, sym}
 use Rattle.g1_layout.specs.Shape.{slot_count}
 use Rattle.g1_race_words.specs.declared.view.Shape.{Shape}
-use Rattle.g1_race_words.specs.Seats.{IsFound}
 use Rattle.g1_race.proofs.race.Racer.swap.Goals as goal
 
 pub refers_to-requires-clause-low : goal.refers_to-requires-clause-low
@@ -11,4 +10,4 @@ refers_to-requires-clause-low c =
     omega (arith, slots, race.shaped.3)
 
 pub returns-clause-old : goal.returns-clause-old
-returns-clause-old c = subst (λ (n : ℕ). IsFound c.args.self.now.seat.me.0 c.args.slot n) (sym c.refers_to.ensures.back) c.write-kind.ensures.found
+returns-clause-old c = record { word = c.write-kind.result.1; found = c.write-kind.ensures.found; refers = sym c.refers_to.ensures.target }

@@ -1,0 +1,68 @@
+-- What the calls of a pause make of the slots' words.
+use Rattle.std.proofs.Common.{◌≡◌, ◌≢◌, ◌⊎◌, ℕ, ◌+◌, ◌-◌, ◌*◌, ◌/◌, ◌%◌, ◌<◌, ◌≤◌, mod-lt, div-add-mod', eqb, List, set, sym, ap, ◌∙◌, subst, inl, inr, arith, eq-eqb, ne_eqb}
+use mathlib.Core.Option.{some}
+use lib.ListN.{get_elem?}
+use Rattle.std.proofs.lemmas.Bool.{cases_eq, cases_lt}
+use Rattle.std.proofs.lemmas.Nat.{div-mul-add}
+use Rattle.atomic_table.proofs.Lists.{set_else, set_here}
+use Rattle.g1_race_words.specs.declared.view.Shape.{Shape}
+use Rattle.g1_race_words.specs.Rule.{front, mark_word}
+use Rattle.g1_race_words.proofs.CoverStores.{mark_apart}
+use Rattle.g1_race_words.proofs.Places.{at_take, at_untake}
+use Rattle.g1_race_words.proofs.Plain.{false_is, true_is, within}
+use Rattle.g1_race.specs.Evacuating.{WordsBecome, one_word, same_word, wiped_word}
+use Rattle.g1_race.specs.Moving.{AreMovedAway, word_after}
+use Rattle.g1_race.specs.Refining.{AreRefined, IsDirtied}
+
+pub front_words : (k : Shape) (old new : List ℕ) → front k new ≡ front k old → WordsBecome same_word k old new
+front_words k old new same p n lt at =
+    let there = subst (λ (l : List ℕ). get_elem? l p ≡ some n) (sym same) (at_take old (k.slots + k.cards) p n (omega (arith, lt)) at) in
+    (at_untake new (k.slots + k.cards) p n there).1
+
+pub refined_words : (k : Shape) (old new : List ℕ) (count : ℕ) → AreRefined k old new count → WordsBecome same_word k old new
+refined_words k old new count r p n lt at = r.slots p lt ∙ at
+
+set_words : (k : Shape) (old : List ℕ) (slot word : ℕ) → WordsBecome (one_word slot word) k old (set old slot word)
+set_words k old slot word p n lt at = elim (cases_eq p slot) [
+  | inl e ↦ ap (λ (i : ℕ). get_elem? (set old slot word) i) e
+      ∙ (set_here old slot word (within old slot n (subst (λ (i : ℕ). get_elem? old i ≡ some n) e at)) ∙ ap (λ (m : ℕ). some m) (sym (true_is (eqb p slot) word n (eq-eqb p slot e))))
+  | inr ne ↦ set_else old slot p word ne ∙ (at ∙ ap (λ (m : ℕ). some m) (sym (false_is (eqb p slot) word n (ne_eqb p slot ne))))
+]
+
+pub put_words : (k : Shape) (old : List ℕ) (slot word : ℕ) (new : List ℕ) → new ≡ set old slot word → WordsBecome (one_word slot word) k old new
+put_words k old slot word new e = subst (λ (ws : List ℕ). WordsBecome (one_word slot word) k old ws) (sym e) (set_words k old slot word)
+
+pub unchanged_words : (k : Shape) (old new : List ℕ) → new ≡ old → WordsBecome same_word k old new
+unchanged_words k old new e p n lt at = ap (λ (ws : List ℕ). get_elem? ws p) e ∙ at
+
+-- a slot of no other region lies among those of this one
+in_span : (k : Shape) (r p : ℕ) → r * k.span ≤ p → p < r * k.span + k.span → p / k.span ≡ r
+in_span k r p low high =
+    let first : ℕ = r * k.span in
+    let i : ℕ = p - first in
+    let is : first + i ≡ p = omega (arith, low) in
+    ap (λ (n : ℕ). n / k.span) (sym is) ∙ div-mul-add r k.span i (omega (arith, low, high))
+
+pub wiped_words : (k : Shape) (old new : List ℕ) (r : ℕ) → 0 < k.span → ((i : ℕ) → i < k.span → get_elem? new (r * k.span + i) ≡ some 0)
+    → ((p : ℕ) → (p < r * k.span) ⊎ (r * k.span + k.span ≤ p) → get_elem? new p ≡ get_elem? old p) → WordsBecome (wiped_word k r) k old new
+wiped_words k old new r pos null other p n lt at = elim (cases_eq (p / k.span) r) [
+  | inl e ↦ subst (λ (q : ℕ). get_elem? new q ≡ some 0) (ap (λ (m : ℕ). m * k.span + p % k.span) (sym e) ∙ div-add-mod' p k.span) (null (p % k.span) (mod-lt p pos))
+      ∙ ap (λ (m : ℕ). some m) (sym (true_is (eqb (p / k.span) r) 0 n (eq-eqb (p / k.span) r e)))
+  | inr ne ↦ other p (apart ne) ∙ (at ∙ ap (λ (m : ℕ). some m) (sym (false_is (eqb (p / k.span) r) 0 n (ne_eqb (p / k.span) r ne))))
+]
+  where
+    apart : p / k.span ≢ r → (p < r * k.span) ⊎ (r * k.span + k.span ≤ p)
+    apart ne = elim (cases_lt p (r * k.span)) [
+      | inl low ↦ inl low
+      | inr high ↦ elim (cases_lt p (r * k.span + k.span)) [ inl below ↦ absurd (ne (in_span k r p high below)) | inr past ↦ inr past ]
+    ]
+
+pub dirtied_words : (k : Shape) (old new : List ℕ) (card : ℕ) → IsDirtied k old new card → WordsBecome same_word k old new
+dirtied_words k old new card d p n lt at = ap (λ (ws : List ℕ). get_elem? ws p) d.marked
+    ∙ (set_else d.mid (mark_word k card) p 1 (λ e. mark_apart k p card lt (sym e)) ∙ (d.flagged.front p (omega (arith, lt)) ∙ at))
+
+pub words_then : (k : Shape) (change : ℕ → ℕ → ℕ) (old mid new : List ℕ) → WordsBecome same_word k old mid → WordsBecome change k mid new → WordsBecome change k old new
+words_then k change old mid new a b p n lt at = b p n lt (a p n lt at)
+
+pub moved_words : (k : Shape) (old new : List ℕ) (from to : ℕ) → AreMovedAway k old new from to → WordsBecome (word_after k from to) k old new
+moved_words k old new from to away p n lt at = front_words k away.between new away.emptied.front p (word_after k from to p n) lt (away.moved.moved p n (omega arith) (omega (arith, lt)) lt at)

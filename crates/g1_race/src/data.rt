@@ -1,0 +1,87 @@
+//! Words that are no references: a slot may hold data, which refers to nothing.
+ghost use Rattle.std.specs.Prelude.{◌≡◌, ℕ, ◌<◌, ◌≤◌, ◌^◌, false, None};
+ghost use mathlib.Core.Option.{some};
+ghost use lib.ListN.{get_elem?};
+ghost use Rattle.g1_layout.specs.declared.kind.Kind.TheVariants.{Null};
+ghost use Rattle.g1_layout.specs.Shape.{slot_count};
+ghost use Rattle.g1_core.specs.Run.{IsStep, stored};
+ghost use Rattle.g1_core.specs.Calls.{store_entry};
+ghost use Rattle.g1_race_words.specs.Rule.{IsWord};
+ghost use Rattle.g1_race_words.specs.Seats.{IsFound};
+ghost use Rattle.g1_race.specs.Evacuating.{IsSameRace, SlotsBecome, one_word, plain_reply};
+ghost use Rattle.g1_race.specs.Members.{race_id, race_layout, race_shape, racer_log, racer_race, racer_start, racer_view};
+ghost use Rattle.g1_race.specs.Over.{halted};
+ghost use Rattle.g1_race.specs.Race as racing;
+ghost use Rattle.g1_race.specs.Reading.{reader_race};
+
+use crate::paused::Paused;
+use crate::race::{Race, Racer};
+use crate::reading::Reader;
+use crate::stopped::{put, see};
+use g1_layout::Slot;
+
+impl Racer {
+    /// Stores data into a slot: a word from 2^32 on, as a tagged integer, which refers to nothing.
+    /// Returns the slot's word as it was: 0 for null, the number of a slot plus 1, or data.
+    ///
+    /// It is a store as [`Racer::store`] makes it of null: one atomic step, no mark, no log. For
+    /// the machinery the slot is null then. Takes no memory and never waits. Any other member may
+    /// make its calls concurrently. The racer and the slot must be of this race.
+    pub fn store_data(&mut self, race: &Race, slot: Slot, word: u64) -> u64
+        requires race { racer_race self.old ≡ race_id race.now }
+        requires slot { slot < slot_count (race_layout race.now) }
+        requires high { 2 ^ 32 ≤ word }
+        ensures race { racer_race self.new ≡ racer_race self.old }
+        ensures start { racer_start self.new ≡ racer_start self.old }
+        ensures view { racer_view self.new
+            ≡ racing.stored (race_shape race.now) (racer_view self.old) slot word false }
+        ensures log { racer_log self.new ≡ racer_log self.old }
+        ensures old { IsFound (racer_view self.old) slot result }
+        ensures word { IsWord (race_shape race.now) result }
+    {
+        race.table
+            .write(&mut self.seat, slot.number() as usize, word)
+    }
+}
+
+impl Paused {
+    /// Stores data into a slot: a word from 2^32 on, which refers to nothing. To the table it is a
+    /// store of null. Takes no memory.
+    pub fn store_data(&mut self, slot: Slot, word: u64)
+        requires slot { slot < slot_count self.old.layout }
+        requires high { 2 ^ 32 ≤ word }
+        ensures race { IsSameRace self.old self.new }
+        ensures words { SlotsBecome (one_word slot word) self.old self.new }
+        ensures table { halted self.new ≡ stored (halted self.old) slot None }
+        ensures step { (caller : ℕ) →
+            IsStep (halted self.old) (store_entry caller slot None (plain_reply Null))
+                (halted self.new) }
+    {
+        put(&self.race, &mut self.seat, slot.number() as usize, word);
+    }
+
+    /// Returns a slot's word: 0 for null, the number of the slot that it refers to plus 1, or data
+    /// from 2^32 on. Reads that word.
+    pub fn word(&mut self, slot: Slot) -> u64
+        requires slot { slot < slot_count self.old.layout }
+        ensures word { get_elem? self.old.words slot ≡ some result }
+        ensures fits { IsWord self.old.shape result }
+        ensures same { self.new ≡ self.old }
+    {
+        see(&self.race, &mut self.seat, slot.number() as usize)
+    }
+}
+
+impl Reader {
+    /// Returns a slot's word, as [`Paused::word`] does. The reader and the slot must be of this
+    /// race.
+    pub fn word(&mut self, race: &Race, slot: Slot) -> u64
+        requires reader { reader_race self.old ≡ race_id race.now }
+        requires slot { slot < slot_count (race_layout race.now) }
+        ensures word { get_elem? self.old.start.words slot ≡ some result }
+        ensures fits { IsWord self.old.start.shape result }
+        ensures same { self.new ≡ self.old }
+    {
+        see(race, &mut self.seat, slot.number() as usize)
+    }
+}

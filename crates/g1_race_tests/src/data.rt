@@ -1,0 +1,125 @@
+//! Data in slots: words from 2^32 on, which refer to nothing.
+use crate::small::Step::{First, FirstLog, FirstSwap, Refine, Second, SecondData, SecondExchange};
+use crate::small::{Small, Step, are, number_of};
+use g1_core::{ClearReply, Config, Drained};
+use g1_layout::Kind::{AlreadyDirty, Logged, Null, SameRegion};
+use g1_layout::Layout;
+use g1_race::Paused;
+use std::alloc::Global;
+use std::process::Abort;
+use std::test::Fail;
+
+// Two words that are data: the least one, and one that says `data` in its bytes.
+const LEAST: u64 = 4_294_967_296;
+const TEXT: u64 = 0x6461_7461_0000_0009;
+
+// Races by these steps, from a heap of nulls to a pause.
+fn race(rt: &impl Abort, alloc: Global, steps: &[Step]) -> Result<Paused, Fail> {
+    let layout = Layout::new(4, 2, 4).ok_or("layout")?;
+    let paused = Paused::open(alloc, layout, 2, 1)?;
+    Ok(Small::go_on(rt, paused).pause_after(rt, alloc, steps)?)
+}
+
+// The first four slots have these words, and refer to these places.
+fn are_words(rt: &impl Abort, paused: &mut Paused, words: [u64; 4], places: [Option<u32>; 4]) {
+    for number in 0..4u32 {
+        let slot = paused.layout().slot(number).expect(rt, "slot");
+        assert_eq!(rt; paused.word(slot), words[number as usize]);
+        let slot = paused.layout().slot(number).expect(rt, "slot");
+        assert!(rt; number_of(paused.target(slot)) == places[number as usize]);
+    }
+}
+
+// A drain of the region lists just these cards.
+fn drains(
+    rt: &impl Abort,
+    alloc: Global,
+    paused: &mut Paused,
+    number: u32,
+    wanted: &[u32],
+) -> Result<(), Fail> {
+    let region = paused.layout().region(number).expect(rt, "region");
+    let Drained::Cards { cards, refined: _ } = paused.drain(alloc, region)? else {
+        panic!(rt; "a drain was short");
+    };
+    assert!(rt; are(cards.as_slice(), wanted));
+    Ok(())
+}
+
+#[test]
+fn data_is_null_to_a_race(rt: HostRuntime) -> Result<(), Fail> {
+    let steps = [
+        First(0, Some(8), Logged),
+        SecondData(0, LEAST, 9),
+        FirstLog(&[0]),
+        Refine(0),
+        SecondExchange(0, None, Some(16), Err(None)),
+        SecondData(1, TEXT, 0),
+        SecondData(1, LEAST, TEXT),
+        FirstSwap(1, Some(6), (SameRegion, None)),
+        SecondData(2, TEXT, 0),
+        Second(2, None, Null),
+        SecondData(3, u64::MAX, 0),
+    ];
+    let mut paused = race(&rt, rt.alloc(), &steps)?;
+    are_words(
+        &rt,
+        &mut paused,
+        [LEAST, 7, 0, u64::MAX],
+        [None, Some(6), None, None],
+    );
+    let status = paused.status();
+    assert!(rt; status.pending == 0 && status.recorded == 0);
+    drains(&rt, rt.alloc(), &mut paused, 1, &[])?;
+    drains(&rt, rt.alloc(), &mut paused, 0, &[])
+}
+
+#[test]
+fn data_survives_a_pause_and_a_redirect(rt: HostRuntime) -> Result<(), Fail> {
+    let steps = [
+        SecondData(0, TEXT, 0),
+        First(1, Some(9), Logged),
+        SecondData(2, LEAST, 0),
+    ];
+    let paused = race(&rt, rt.alloc(), &steps)?;
+    let steps = [Second(3, Some(24), AlreadyDirty), Refine(0)];
+    let mut paused = Small::go_on(&rt, paused).pause_after(&rt, rt.alloc(), &steps)?;
+    drains(&rt, rt.alloc(), &mut paused, 1, &[0])?;
+    let from = paused.layout().region(1).expect(&rt, "region");
+    let to = paused.layout().region(2).expect(&rt, "region");
+    assert_eq!(rt; paused.redirect_in_place(from, to), 1);
+    are_words(
+        &rt,
+        &mut paused,
+        [TEXT, 18, LEAST, 25],
+        [None, Some(17), None, Some(24)],
+    );
+    let slot = paused.layout().slot(3).expect(&rt, "slot");
+    paused.store_data(slot, TEXT);
+    let region = paused.layout().region(3).expect(&rt, "region");
+    assert!(rt; paused.clear(region) == ClearReply::Cleared);
+    are_words(
+        &rt,
+        &mut paused,
+        [TEXT, 18, LEAST, TEXT],
+        [None, Some(17), None, None],
+    );
+    let region = paused.layout().region(0).expect(&rt, "region");
+    paused.wipe(region);
+    are_words(&rt, &mut paused, [0, 0, 0, 0], [None, None, None, None]);
+    Ok(())
+}
+
+#[test]
+fn a_core_has_null_for_data(rt: HostRuntime) -> Result<(), Fail> {
+    let steps = [SecondData(0, TEXT, 0), First(4, Some(8), Logged)];
+    let closed = race(&rt, rt.alloc(), &steps)?.close();
+    let Ok(mut core) = closed.into_core(rt.alloc(), Config::default()) else {
+        return Err(Fail::from("no memory"));
+    };
+    let slot = core.layout().slot(0).expect(&rt, "slot");
+    assert!(rt; core.target(slot).is_none());
+    let slot = core.layout().slot(4).expect(&rt, "slot");
+    assert!(rt; number_of(core.target(slot)) == Some(8));
+    Ok(())
+}
