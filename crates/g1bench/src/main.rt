@@ -4,11 +4,12 @@
 //! of two runs under callgrind, by the difference of their numbers of calls: making the heap and recording its references is the
 //! same in both. `measure` in this folder prints the table.
 //!
-//! With five words it makes rounds of stores, or of refinements in a race, by one thread or several, and also prints how many
-//! nanoseconds the threads spent in their loops, added up. `measure-threads` prints the tables.
+//! With five words it makes rounds of stores, or of refinements in a race, by one thread or
+//! several, and also prints how many nanoseconds the threads spent in their loops, added up.
+//! `measure-threads` prints the tables.
 //!
-//! With the word `paused` and five numbers it makes rounds of a race and a pause in place, and prints what each call took.
-//! `measure-pauses` prints the table.
+//! With the word `paused` and five numbers it makes rounds of a race and a pause in place, and
+//! prints what each call took. `measure-pauses` prints the tables.
 //!
 //! - [`plan`]: the six words.
 //! - [`workload`]: the heap whose calls are measured.

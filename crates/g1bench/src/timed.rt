@@ -26,7 +26,8 @@ pub enum Barrier {
     Unrecorded,
     /// In a race.
     Raced,
-    /// In a race too, each once, and no time counts them. Then sweepers refine their cards, in rounds.
+    /// In a race too, each once, and no time counts them. Then sweepers refine their cards, in
+    /// rounds.
     Swept,
 }
 
