@@ -252,7 +252,7 @@ static void collect(void) {
     freed += SET;
 }
 
-// Runs this many races (1 or more), each up to its pause.
+// Runs this many races, at least one, each up to its pause.
 static void run(unsigned long pauses) {
     struct g1_over over = {0};
     pthread_barrier_wait(&all_threads);
@@ -265,7 +265,7 @@ static void run(unsigned long pauses) {
         done(g1_race_core(&over, &heap, 4, 64));
         collect();
         done(g1_race_resume(&heap, racers, MUTATORS, sweepers, SWEEPERS));
-        is_over = --pauses == 0 || wrong != 0;
+        is_over = pauses-- <= 1 || wrong != 0;
     }
     pthread_barrier_wait(&all_threads);
     done(g1_race_close(racers, MUTATORS, sweepers, SWEEPERS, &over));
