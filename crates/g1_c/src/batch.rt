@@ -39,12 +39,16 @@ pub extern "C" fn g1_store_all(
     cards: &mut [u32],
     batch: &mut Batch,
 ) -> u32
-    ensures made { result ≤ 3 → Between handle.old.value handle.new.value (λ old new. record { machine = new; cards = take batch.new.logged cards.new } ≡ made_all old (take batch.new.stored stores.now)) }
+    ensures made { result ≤ 3 → Between handle.old.value handle.new.value (λ old new.
+        record { machine = new; cards = take batch.new.logged cards.new }
+        ≡ made_all old (take batch.new.stored stores.now)) }
     ensures whole { result ≡ 0 → batch.new.stored ≡ length stores.now }
-    ensures stopped { result ≡ 3 → IfSome handle.old.value (λ old. IsFaultAt old.state.table.layout stores.now batch.new.stored) }
+    ensures stopped { result ≡ 3 → IfSome handle.old.value (λ old.
+        IsFaultAt old.state.table.layout stores.now batch.new.stored) }
     ensures done { result ≤ 3 → (result ≡ 0) ⊎ (result ≡ 3) }
     ensures why { 3 < result →
-        IsRefusal result (AreStoresRefused handle.old.value (length stores.now) (length cards.old)) }
+        IsRefusal result
+        (AreStoresRefused handle.old.value (length stores.now) (length cards.old)) }
     ensures refused { 3 < result → handle.new.value ≡ handle.old.value }
     ensures none { 3 < result → (batch.new.stored ≡ 0) × (batch.new.logged ≡ 0) }
 {

@@ -28,7 +28,8 @@ pub extern "C" fn g1_open(
         handle.new.value ≡ Some (new_machine (layout_of counts.now) (settings_of hot ring)) }
     ensures closed { result ≡ 0 → handle.old.value ≡ None }
     ensures why { 0 < result →
-        IsRefusal result (IsOpenRefused handle.old.value (layout_of counts.now) (settings_of hot ring)) }
+        IsRefusal result
+        (IsOpenRefused handle.old.value (layout_of counts.now) (settings_of hot ring)) }
     ensures refused { 0 < result → handle.new.value ≡ handle.old.value }
 {
     let core = match new_core(alloc, counts, hot, ring) {

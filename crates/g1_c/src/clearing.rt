@@ -23,9 +23,14 @@ use std::alloc::Global;
 /// Unless it returns 0, the core is as it was, except for its count of reads.
 #[unsafe(no_mangle)]
 pub extern "C" fn g1_clear(alloc: Global, handle: &mut Handle, region: u32, detail: &mut u32) -> u32
-    ensures cleared { result ≡ 0 → Between handle.old.value handle.new.value (λ old new. ClearsTo old region ClearReply.Cleared new) }
-    ensures pending { result ≡ 19 → Between handle.old.value handle.new.value (λ old new. ClearsTo old region (ClearReply.Pending detail.new) new) }
-    ensures referenced { result ≡ 20 → Between handle.old.value handle.new.value (λ old new. ClearsTo old region (ClearReply.StillReferenced detail.new) new) }
+    ensures cleared { result ≡ 0 → Between handle.old.value handle.new.value (λ old new.
+        ClearsTo old region ClearReply.Cleared new) }
+    ensures pending { result ≡ 19
+        → Between handle.old.value handle.new.value (λ old new.
+        ClearsTo old region (ClearReply.Pending detail.new) new) }
+    ensures referenced { result ≡ 20
+        → Between handle.old.value handle.new.value (λ old new.
+        ClearsTo old region (ClearReply.StillReferenced detail.new) new) }
     ensures none { result ≢ 19 → result ≢ 20 → detail.new ≡ 0 }
     ensures why { 0 < result → result ≢ 19 → result ≢ 20 →
         IsRefusal result (IsClearRefused handle.old.value region) }

@@ -28,8 +28,10 @@ pub extern "C" fn g1_members(
     cards: &mut [u32],
     count: &mut u32,
 ) -> u32
-    ensures members { result ≡ 0 → OfOpen handle.old.value (λ machine. HasMembers machine region (take count.new cards.new)) }
-    ensures room { result ≡ 16 → OfOpen handle.old.value (λ machine. LacksRoom machine region (length cards.old) count.new) }
+    ensures members { result ≡ 0 → OfOpen handle.old.value (λ machine.
+        HasMembers machine region (take count.new cards.new)) }
+    ensures room { result ≡ 16 → OfOpen handle.old.value (λ machine.
+        LacksRoom machine region (length cards.old) count.new) }
     ensures why { 0 < result → result ≢ 16 →
         IsRefusal result (AreMembersRefused handle.old.value region) }
     ensures none { result ≢ 0 → result ≢ 16 → count.new ≡ 0 }

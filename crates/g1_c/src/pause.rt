@@ -33,11 +33,15 @@ pub extern "C" fn g1_drain(
     refined: &mut [u32],
     refined_count: &mut u32,
 ) -> u32
-    ensures whole { result ≡ 0 → Between handle.old.value handle.new.value (λ old new. DrainsTo old region (Drained.Cards (take count.new cards.new) (take refined_count.new refined.new)) new) }
-    ensures short { result ≡ 1 → Between handle.old.value handle.new.value (λ old new. DrainsTo old region (Drained.Short (take refined_count.new refined.new)) new) }
+    ensures whole { result ≡ 0 → Between handle.old.value handle.new.value (λ old new.
+        DrainsTo old region (Drained.Cards (take count.new cards.new)
+        (take refined_count.new refined.new)) new) }
+    ensures short { result ≡ 1 → Between handle.old.value handle.new.value (λ old new.
+        DrainsTo old region (Drained.Short (take refined_count.new refined.new)) new) }
     ensures none { 0 < result → count.new ≡ 0 }
     ensures why { 1 < result →
-        IsRefusal result (IsDrainRefused handle.old.value region (length cards.old) (length refined.old)) }
+        IsRefusal result
+        (IsDrainRefused handle.old.value region (length cards.old) (length refined.old)) }
     ensures empty { 1 < result → refined_count.new ≡ 0 }
     ensures refused { 1 < result → handle.new.value ≡ handle.old.value }
 {

@@ -28,9 +28,11 @@ pub struct Totals {
 /// for null.
 #[unsafe(no_mangle)]
 pub extern "C" fn g1_target(alloc: Global, handle: &mut Handle, slot: u32, target: &mut u32) -> u32
-    ensures target { result ≡ 0 → Between handle.old.value handle.new.value (λ old new. RefersTo old slot (reference_of target.new) new) }
+    ensures target { result ≡ 0 → Between handle.old.value handle.new.value (λ old new.
+        RefersTo old slot (reference_of target.new) new) }
     ensures null { 0 < result → target.new ≡ 4294967295 }
-    ensures answered { IfSome handle.old.value (λ old. slot < slot_count old.state.table.layout → result ≡ 0) }
+    ensures answered { IfSome handle.old.value (λ old. slot < slot_count old.state.table.layout
+        → result ≡ 0) }
     ensures why { 0 < result → IsRefusal result (IsTargetRefused handle.old.value slot) }
     ensures refused { 0 < result → handle.new.value ≡ handle.old.value }
 {
@@ -48,8 +50,10 @@ pub extern "C" fn g1_target(alloc: Global, handle: &mut Handle, slot: u32, targe
 /// `NoCard`. Changes nothing.
 #[unsafe(no_mangle)]
 pub extern "C" fn g1_is_pending(alloc: Global, handle: &mut Handle, card: u32) -> u32
-    ensures pending { result ≤ 1 → OfOpen handle.old.value (λ machine. IsToldPending machine card (result == 1)) }
-    ensures answered { IfSome handle.old.value (λ machine. card < card_count machine.state.table.layout → result ≤ 1) }
+    ensures pending { result ≤ 1 → OfOpen handle.old.value (λ machine.
+        IsToldPending machine card (result == 1)) }
+    ensures answered { IfSome handle.old.value (λ machine.
+        card < card_count machine.state.table.layout → result ≤ 1) }
     ensures why { 1 < result → IsRefusal result (IsPendingRefused handle.old.value card) }
     ensures same { handle.new.value ≡ handle.old.value }
 {
@@ -61,7 +65,9 @@ pub extern "C" fn g1_is_pending(alloc: Global, handle: &mut Handle, card: u32) -
 /// Returns 0, or the word of `NotOpen`: both totals are 0.
 #[unsafe(no_mangle)]
 pub extern "C" fn g1_status(alloc: Global, handle: &mut Handle, totals: &mut Totals) -> u32
-    ensures totals { result ≡ 0 → OfOpen handle.old.value (λ machine. HasStatus machine (record { pending = totals.new.pending; recorded = totals.new.recorded })) }
+    ensures totals { result ≡ 0 → OfOpen handle.old.value (λ machine.
+        HasStatus machine
+        (record { pending = totals.new.pending; recorded = totals.new.recorded })) }
     ensures none { 0 < result → (totals.new.pending ≡ 0) × (totals.new.recorded ≡ 0) }
     ensures answered { IsSome handle.old.value → result ≡ 0 }
     ensures why { 0 < result → IsRefusal result (SaysNotOpen handle.old.value) }

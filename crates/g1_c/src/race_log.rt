@@ -24,7 +24,8 @@ pub extern "C" fn g1_race_take_log(
     cards: &mut [u32],
     count: &mut u32,
 ) -> u32
-    ensures log { result ≡ 0 → OfRacer member.old.value (λ a. OfRacer member.new.value (λ b. TakesLog a (take count.new cards.new) b)) }
+    ensures log { result ≡ 0 → OfRacer member.old.value (λ a.
+        OfRacer member.new.value (λ b. TakesLog a (take count.new cards.new) b)) }
     ensures taken { IfRacer member.old.value (λ a. 256 ≤ length cards.old → result ≡ 0) }
     ensures none { 0 < result → count.new ≡ 0 }
     ensures why { 0 < result → IsRefusal result (λ refusal. IsLogRefused member.old.value refusal

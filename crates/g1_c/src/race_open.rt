@@ -29,7 +29,8 @@ pub extern "C" fn g1_race_open(
     ensures closed { result ≡ 0 → AreClosed (held racers.old) × AreClosed (held sweepers.old) }
     ensures why { 0 < result →
         IsRefusal result (IsRaceRefused (layout_of counts.now) racers.old sweepers.old) }
-    ensures refused { 0 < result → (held racers.new ≡ held racers.old) × (held sweepers.new ≡ held sweepers.old) }
+    ensures refused { 0 < result → (held racers.new ≡ held racers.old)
+        × (held sweepers.new ≡ held sweepers.old) }
 {
     match open_race(alloc, counts, racers, sweepers) {
         Ok(()) => DONE,

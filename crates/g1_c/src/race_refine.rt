@@ -18,8 +18,10 @@ use std::alloc::Global;
 /// Returns 0, or the word of `NoCard`, `OtherRole` or `NotOpen`: nothing has changed.
 #[unsafe(no_mangle)]
 pub extern "C" fn g1_race_refine(alloc: Global, member: &mut MemberHandle, card: u32) -> u32
-    ensures refined { result ≡ 0 → OfSweeper member.old.value (λ a. OfSweeper member.new.value (λ b. Sweeps a card b)) }
-    ensures taken { IfSweeper member.old.value (λ a. card < card_count (race_layout (sweeper_race_of a)) → result ≡ 0) }
+    ensures refined { result ≡ 0 → OfSweeper member.old.value (λ a.
+        OfSweeper member.new.value (λ b. Sweeps a card b)) }
+    ensures taken { IfSweeper member.old.value (λ a.
+        card < card_count (race_layout (sweeper_race_of a)) → result ≡ 0) }
     ensures why { 0 < result → IsRefusal result (IsSweepRefused member.old.value card) }
     ensures refused { 0 < result → member.new.value ≡ member.old.value }
 {

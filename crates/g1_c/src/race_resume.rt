@@ -24,11 +24,14 @@ pub extern "C" fn g1_race_resume(
     racers: &mut [MemberHandle],
     sweepers: &mut [MemberHandle],
 ) -> u32
-    ensures resumed { result ≡ 0 → OfOpen handle.old.value (λ core. IsBegunFor core.state.table (held racers.new) (held sweepers.new)) }
-    ensures closed { result ≡ 0 → (handle.new.value ≡ None) × AreClosed (held racers.old) × AreClosed (held sweepers.old) }
+    ensures resumed { result ≡ 0 → OfOpen handle.old.value (λ core.
+        IsBegunFor core.state.table (held racers.new) (held sweepers.new)) }
+    ensures closed { result ≡ 0 → (handle.new.value ≡ None) × AreClosed (held racers.old)
+        × AreClosed (held sweepers.old) }
     ensures why { 0 < result →
         IsRefusal result (IsResumeRefused handle.old.value racers.old sweepers.old) }
-    ensures refused { 0 < result → IsAsBefore handle.old.value handle.new.value × (held racers.new ≡ held racers.old) × (held sweepers.new ≡ held sweepers.old) }
+    ensures refused { 0 < result → IsAsBefore handle.old.value handle.new.value
+        × (held racers.new ≡ held racers.old) × (held sweepers.new ≡ held sweepers.old) }
 {
     match resume_race(alloc, handle, racers, sweepers) {
         Ok(()) => DONE,

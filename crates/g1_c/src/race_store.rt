@@ -27,8 +27,10 @@ pub extern "C" fn g1_race_store(
     slot: u32,
     target: u32,
 ) -> u32
-    ensures stored { result ≤ 3 → OfRacer member.old.value (λ a. OfRacer member.new.value (λ b. StoresWord a slot target result b)) }
-    ensures taken { IfRacer member.old.value (λ a. array_vec_len a.racer.log < 256 → IsStoreOf (race_layout (racer_race_of a)) slot target → result ≤ 3) }
+    ensures stored { result ≤ 3 → OfRacer member.old.value (λ a.
+        OfRacer member.new.value (λ b. StoresWord a slot target result b)) }
+    ensures taken { IfRacer member.old.value (λ a. array_vec_len a.racer.log < 256
+        → IsStoreOf (race_layout (racer_race_of a)) slot target → result ≤ 3) }
     ensures why { 3 < result →
         IsRefusal result (IsRaceStoreRefused member.old.value slot target) }
     ensures refused { 3 < result → member.new.value ≡ member.old.value }

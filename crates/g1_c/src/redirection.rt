@@ -34,8 +34,11 @@ pub extern "C" fn g1_redirect(
     refined: &mut [u32],
     refined_count: &mut u32,
 ) -> u32
-    ensures moved { result ≡ 0 → Between handle.old.value handle.new.value (λ old new. RedirectsTo old from to (Redirected.Moved moved.new (take refined_count.new refined.new)) new) }
-    ensures short { result ≡ 1 → Between handle.old.value handle.new.value (λ old new. RedirectsTo old from to (Redirected.Short (take refined_count.new refined.new)) new) }
+    ensures moved { result ≡ 0 → Between handle.old.value handle.new.value (λ old new.
+        RedirectsTo old from to (Redirected.Moved moved.new (take refined_count.new refined.new))
+        new) }
+    ensures short { result ≡ 1 → Between handle.old.value handle.new.value (λ old new.
+        RedirectsTo old from to (Redirected.Short (take refined_count.new refined.new)) new) }
     ensures none { 0 < result → moved.new ≡ 0 }
     ensures why { 1 < result →
         IsRefusal result (IsRedirectRefused handle.old.value from to (length refined.old)) }

@@ -41,11 +41,14 @@ pub extern "C" fn g1_refine(
     refined: &mut [u32],
     tally: &mut Tally,
 ) -> u32
-    ensures refined { result ≤ 1 → Between handle.old.value handle.new.value (λ old new. RefinesTo old cards.now (reply_of result (take tally.new.refined refined.new) tally.new.hot tally.new.skipped) new) }
+    ensures refined { result ≤ 1 → Between handle.old.value handle.new.value (λ old new.
+        RefinesTo old cards.now (reply_of result (take tally.new.refined refined.new) tally.new.hot
+        tally.new.skipped) new) }
     ensures why { 1 < result →
         IsRefusal result (IsRefinementRefused handle.old.value cards.now (length refined.old)) }
     ensures refused { 1 < result → handle.new.value ≡ handle.old.value }
-    ensures none { 1 < result → (tally.new.refined ≡ 0) × (tally.new.hot ≡ 0) × (tally.new.skipped ≡ 0) }
+    ensures none { 1 < result → (tally.new.refined ≡ 0) × (tally.new.hot ≡ 0)
+        × (tally.new.skipped ≡ 0) }
 {
     *tally = Tally {
         refined: 0,

@@ -1,7 +1,8 @@
 //! Stores.
 ghost use Rattle.std.specs.Prelude.{◌≡◌, ◌<◌, ◌≤◌, IfSome};
 ghost use Rattle.g1_core.specs.Run.{kind_of};
-ghost use Rattle.g1_handles.specs.Codes.{kind_word, reference_of, IsRefusal, IsStoreOf, Between, stored_machine};
+ghost use Rattle.g1_handles.specs.Codes.{kind_word, reference_of, IsRefusal, IsStoreOf, Between};
+ghost use Rattle.g1_handles.specs.Codes.{stored_machine};
 ghost use Rattle.g1_handles.specs.Refusals.{IsStoreRefused};
 
 use core::mem::replace_with;
@@ -16,9 +17,12 @@ use std::alloc::Global;
 /// if the call was refused: nothing has changed.
 #[unsafe(no_mangle)]
 pub extern "C" fn g1_store(alloc: Global, handle: &mut Handle, slot: u32, target: u32) -> u32
-    ensures kind { result ≤ 3 → Between handle.old.value handle.new.value (λ old new. result ≡ kind_word (kind_of old.state.table slot (reference_of target))) }
-    ensures machine { result ≤ 3 → Between handle.old.value handle.new.value (λ old new. new ≡ stored_machine old slot (reference_of target)) }
-    ensures taken { IfSome handle.old.value (λ old. IsStoreOf old.state.table.layout slot target → result ≤ 3) }
+    ensures kind { result ≤ 3 → Between handle.old.value handle.new.value (λ old new.
+        result ≡ kind_word (kind_of old.state.table slot (reference_of target))) }
+    ensures machine { result ≤ 3 → Between handle.old.value handle.new.value (λ old new.
+        new ≡ stored_machine old slot (reference_of target)) }
+    ensures taken { IfSome handle.old.value (λ old. IsStoreOf old.state.table.layout slot target
+        → result ≤ 3) }
     ensures why { 3 < result → IsRefusal result (IsStoreRefused handle.old.value slot target) }
     ensures refused { 3 < result → handle.new.value ≡ handle.old.value }
 {

@@ -1,5 +1,6 @@
 -- Several stores one after the other.
-use Rattle.std.specs.Prelude.{◌<◌, ℕ, List, [], ◌∷◌, ◌++◌, length, slice_index_or, Option, Some, None, fold}
+use Rattle.std.specs.Prelude.{◌<◌, ℕ, List, [], ◌∷◌, ◌++◌, length, slice_index_or, Option, Some}
+use Rattle.std.specs.Prelude.{None, fold}
 use Rattle.g1_layout.specs.Shape as layout
 use Rattle.g1_layout.specs.declared.kind.Kind.{Kind}
 use Rattle.g1_layout.specs.declared.kind.Kind.TheVariants.{Null, SameRegion, AlreadyDirty, Logged}
@@ -29,7 +30,9 @@ cards_of cards (Some card) = cards ++ card ∷ []
 abbrev pub made : Made → Store → Made
 made m store = record {
   machine = stored_machine m.machine store.slot (reference_of store.target);
-  cards = cards_of m.cards (logged_card (kind_of m.machine.state.table store.slot (reference_of store.target)) (card_of m.machine.state.table.layout store.slot));
+  cards = cards_of m.cards (logged_card
+      (kind_of m.machine.state.table store.slot (reference_of store.target))
+      (card_of m.machine.state.table.layout store.slot));
 }
 
 -- these stores, each after the one before
@@ -38,4 +41,6 @@ made_all m stores = fold made (record { machine = m; cards = [] }) stores
 
 -- The store at this place names a slot or a target that the heap does not have.
 abbrev pub IsFaultAt : layout.Shape → List Store → ℕ → Type 0
-IsFaultAt l stores i = (i < length stores) × ((d : Store) → IsStoreOf l (slice_index_or stores i d).slot (slice_index_or stores i d).target → ⊥)
+IsFaultAt l stores i =
+    (i < length stores) × ((d : Store)
+    → IsStoreOf l (slice_index_or stores i d).slot (slice_index_or stores i d).target → ⊥)

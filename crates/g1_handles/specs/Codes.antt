@@ -50,11 +50,13 @@ reference_of word = if word == 4294967295 then None else Some word
 
 -- The words name a slot of the heap, and a place of it or null.
 abbrev pub IsStoreOf : Shape → ℕ → ℕ → Type 0
-IsStoreOf l slot target = (slot < slot_count l) × IfSome (reference_of target) (λ place. place < slot_count l)
+IsStoreOf l slot target =
+    (slot < slot_count l) × IfSome (reference_of target) (λ place. place < slot_count l)
 
 -- the reply of a clear that C is told by a word and a number
 abbrev pub cleared_of : ℕ → ℕ → ClearReply
-cleared_of word number = if word == 0 then Cleared else if word == 19 then Pending number else StillReferenced number
+cleared_of word number =
+    if word == 0 then Cleared else if word == 19 then Pending number else StillReferenced number
 
 -- The words of a clear's reply: no number goes with one that was granted.
 abbrev pub IsClearWord : ℕ → ℕ → Type 0
@@ -77,7 +79,12 @@ layout_of c = record { regions = c.regions; cards = c.cards; slots = c.slots }
 
 -- a store changes the table, and nothing else
 abbrev pub stored_machine : Machine → ℕ → Option ℕ → Machine
-stored_machine m slot target = record { state = record { table = stored m.state.table slot target; ring = m.state.ring }; settings = m.settings; reads = m.reads }
+stored_machine m slot target =
+    record {
+      state = record { table = stored m.state.table slot target; ring = m.state.ring };
+      settings = m.settings;
+      reads = m.reads;
+    }
 
 -- the settings that C gives: the hot limit and the ring's size, and the defaults of the others
 abbrev pub settings_of : ℕ → ℕ → Settings

@@ -20,7 +20,8 @@ owns_boxed R a p x = box_owns (ghosts.dealloc_token a) R p x
 -- nothing at null, else a value
 abbrev pub holds : (R : RattleType) → Global → Ptr → Option R.Denot → Fml
 holds R a null_ptr v = feq (Option R.Denot) v None
-holds R a (block_ptr b o) v = fex R.Denot (λ x. fsep (feq (Option R.Denot) v (Some x)) (owns_boxed R a (block_ptr b o) x))
+holds R a (block_ptr b o) v =
+    fex R.Denot (λ x. fsep (feq (Option R.Denot) v (Some x)) (owns_boxed R a (block_ptr b o) x))
 
 -- what the handle of a heap owns: a core
 abbrev pub holds_core : Global → Ptr → Option Machine → Fml

@@ -13,7 +13,11 @@ use Rattle.g1_handles.specs.declared.members.Listed.TheVariants.{Members, NoRoom
 -- The slot refers to the target. One slot was read, and nothing else has changed.
 pub record RefersTo (old : Machine) (slot : ℕ) (target : Option ℕ) (new : Machine) : Type 0 where
   pub refers : target ≡ target_of old.state.table slot
-  pub machine : new ≡ record { state = old.state; settings = old.settings; reads = min (old.reads + 1) (2 ^ 64 - 1) }
+  pub machine : new ≡ record {
+    state = old.state;
+    settings = old.settings;
+    reads = min (old.reads + 1) (2 ^ 64 - 1);
+  }
   pub step : (caller : ℕ) → IsStep old.state.table (target_entry caller slot target) new.state.table
 
 -- The answer is whether the card is pending.

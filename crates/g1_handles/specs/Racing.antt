@@ -1,5 +1,6 @@
 -- What the calls on the members of a race do.
-use Rattle.std.specs.Prelude.{◌↔◌, Contains, ◌≡◌, ◌+◌, ◌≤◌, ℕ, List, [], ◌∷◌, ◌++◌, map, length, All, Option, Some, None, Bool, true, false, if◌then◌else◌}
+use Rattle.std.specs.Prelude.{◌↔◌, Contains, ◌≡◌, ◌+◌, ◌≤◌, ℕ, List, [], ◌∷◌, ◌++◌, map, length}
+use Rattle.std.specs.Prelude.{All, Option, Some, None, Bool, true, false, if◌then◌else◌}
 use Rattle.std.specs.Arc.{arc_value}
 use Rattle.g1_layout.specs.declared.kind.Kind.{Kind}
 use Rattle.g1_core.specs.Table.{Table}
@@ -13,7 +14,9 @@ use Rattle.g1_race.specs.Resumed.{IsSame}
 use Rattle.g1_race_words.specs.Rule.{beginning, card_of}
 use Rattle.g1_race.specs.Race.{word_of, stored, IsKnown, IsOver}
 use Rattle.g1_race_words.specs.Steps.{nothing}
-use Rattle.g1_race.specs.Members.{race_layout, race_begun, race_shape, racer_start, racer_view, sweeper_start, sweeper_view, IsKind, is_logged, IsFreshRacer, IsFreshSweeper}
+use Rattle.g1_race.specs.Members.{race_layout, race_begun, race_shape, racer_start, racer_view}
+use Rattle.g1_race.specs.Members.{sweeper_start, sweeper_view, IsKind, is_logged, IsFreshRacer}
+use Rattle.g1_race.specs.Members.{IsFreshSweeper}
 use Rattle.g1_handles.specs.declared.member.Racing.{Racing}
 use Rattle.g1_handles.specs.declared.member.Sweeping.{Sweeping}
 use Rattle.g1_handles.specs.declared.member.Member.{Member}
@@ -60,12 +63,16 @@ sweeper_race_of b = arc_value b.race
 pub record Stores (a : Racing) (p : ℕ) (t : Option ℕ) (k : Kind) (b : Racing) : Type 0 where
   pub race : racer_race_of b ≡ racer_race_of a
   pub kind : IsKind (race_shape (racer_race_of a)) p t k
-  pub view : racer_view b.racer ≡ stored (race_shape (racer_race_of a)) (racer_view a.racer) p (word_of t) (is_logged k)
-  pub log : b.racer.log.items ≡ (if is_logged k then a.racer.log.items ++ card_of (race_shape (racer_race_of a)) p ∷ [] else a.racer.log.items)
+  pub view : racer_view b.racer ≡ stored (race_shape (racer_race_of a)) (racer_view a.racer) p
+      (word_of t) (is_logged k)
+  pub log : b.racer.log.items ≡ (if is_logged k
+      then a.racer.log.items ++ card_of (race_shape (racer_race_of a)) p ∷ []
+      else a.racer.log.items)
 
 -- a racer before and after a store whose kind has this word
 abbrev pub StoresWord : Racing → ℕ → ℕ → ℕ → Racing → Type 0
-StoresWord a slot target word b = (k : Kind) × (word ≡ kind_word k) × Stores a slot (reference_of target) k b
+StoresWord a slot target word b =
+    (k : Kind) × (word ≡ kind_word k) × Stores a slot (reference_of target) k b
 
 -- a racer before and after its log was taken
 pub record TakesLog (a : Racing) (log : List ℕ) (b : Racing) : Type 0 where
@@ -110,8 +117,8 @@ abbrev pub AreSeated : Race → Start → List (Option Member) → List (Option 
 AreSeated race begin racers sweepers = All (IsFreshRacing race begin) racers
     × All (IsFreshSweeping race begin) sweepers
 
--- the member is a racer of this race that has stored nothing, or, for a sweeper's role, a sweeper that
--- has swept nothing, and the race began so
+-- the member is a racer of this race that has stored nothing, or, for a sweeper's role, a sweeper
+-- that has swept nothing, and the race began so
 abbrev pub IsFresh : Race → Start → Bool → Option Member → Type 0
 IsFresh race begin true m = IsFreshRacing race begin m
 IsFresh race begin false m = IsFreshSweeping race begin m
@@ -169,7 +176,8 @@ known_to (Some (member.Sweeper b)) = sweeper_view b.sweeper
 -- what is left of a race that ended with racers and sweepers who know this
 pub record IsEndOf (race : Race) (racers sweepers : List View) (e : Ended) : Type 0 where
   pub layout : e.layout ≡ race_layout race
-  pub pairs : (x : ℕ × ℕ) → Contains e.pairs x ↔ IsKnown (race_begun race racers sweepers) sweepers x
+  pub pairs : (x : ℕ × ℕ) → Contains e.pairs x
+      ↔ IsKnown (race_begun race racers sweepers) sweepers x
   pub over : IsOver (race_begun race racers sweepers) e.words racers sweepers
 
 -- what is left of a race that ended with the members of these handles

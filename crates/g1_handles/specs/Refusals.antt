@@ -1,5 +1,6 @@
 -- Why a call is refused: each refusal that it may answer, with what is so where it comes.
-use Rattle.std.specs.Prelude.{◌≡◌, ◌⊎◌, ◌+◌, ◌<◌, ◌≤◌, ℕ, List, length, All, Any, Option, None, IsSome}
+use Rattle.std.specs.Prelude.{◌≡◌, ◌⊎◌, ◌+◌, ◌<◌, ◌≤◌, ℕ, List, length, All, Any, Option, None}
+use Rattle.std.specs.Prelude.{IsSome}
 use Rattle.arrayvec.specs.ArrayVec.{array_vec_len}
 use Rattle.g1_layout.specs.Shape.{Shape, IsShape, slot_count, card_count}
 use Rattle.g1_core.specs.Settings.{Settings, AreSettings}
@@ -13,7 +14,8 @@ use Rattle.g1_handles.specs.declared.member.Role.TheVariants as roles
 use Rattle.g1_handles.specs.declared.member_handle.MemberHandle.{MemberHandle}
 use Rattle.g1_handles.specs.declared.over_handle.Remains.{Remains}
 use Rattle.g1_handles.specs.Codes.{OfOpen, IsStoreOf}
-use Rattle.g1_handles.specs.Racing.{held, racer_race_of, sweeper_race_of, AreClosed, AreCounts, HasRole, IsAmong, IsKept, KeepsMembers, OfRacer, OfSweeper}
+use Rattle.g1_handles.specs.Racing.{held, racer_race_of, sweeper_race_of, AreClosed, AreCounts}
+use Rattle.g1_handles.specs.Racing.{HasRole, IsAmong, IsKept, KeepsMembers, OfRacer, OfSweeper}
 
 -- the handle is closed
 abbrev pub SaysNotOpen : Option Machine → Refusal → Type 0
@@ -151,7 +153,8 @@ IsRaceRefused l racers sweepers r =
     ((r ≡ refusal.BadLayout) × (IsShape l → ⊥)) ⊎ AreSeatsRefused racers sweepers r
 
 -- a race that begins with the core of a handle, with a member for each of the others
-abbrev pub IsResumeRefused : Option Machine → List MemberHandle → List MemberHandle → Refusal → Type 0
+abbrev pub IsResumeRefused : Option Machine → List MemberHandle → List MemberHandle → Refusal
+    → Type 0
 IsResumeRefused handle racers sweepers r = SaysNotOpen handle r ⊎ AreSeatsRefused racers sweepers r
 
 -- a handle in a close, for a member of this role and of a race with this many members
@@ -163,7 +166,8 @@ IsMemberRefused role members m r =
 
 -- a close of the race of these members, into this handle, before anything changes; that they are of
 -- one race and that nobody else has a share of it is found out by counts, of which no proof knows
-abbrev pub IsCloseRefused : List (Option Member) → List (Option Member) → Option Remains → Refusal → Type 0
+abbrev pub IsCloseRefused : List (Option Member) → List (Option Member) → Option Remains → Refusal
+    → Type 0
 IsCloseRefused racers sweepers over r =
     ((r ≡ refusal.BadMembers) × (AreCounts (length racers) (length sweepers) → ⊥))
     ⊎ Any (λ m. IsMemberRefused roles.Racer (length racers + length sweepers) m r) racers

@@ -1,5 +1,6 @@
 -- What the words that C gets stand for.
-use Rattle.std.specs.Prelude.{◌≡◌, ◌≤◌, ◌+◌, ◌*◌, ℕ, Option, Some, None, List, length, ◌==◌, not, if◌then◌else◌, ⊤}
+use Rattle.std.specs.Prelude.{◌≡◌, ◌≤◌, ◌+◌, ◌*◌, ℕ, Option, Some, None, List, length, ◌==◌, not}
+use Rattle.std.specs.Prelude.{if◌then◌else◌, ⊤}
 use Rattle.std.specs.FinSet as set
 use Rattle.g1_core.specs.Machine.{Machine, IsLater, IsOnlyRead}
 use Rattle.g1_core.specs.Run.{IsStep}
@@ -14,20 +15,31 @@ use Rattle.g1_core.specs.declared.reply.Redirected.{Redirected}
 use Rattle.g1_core.specs.declared.reply.Drained.{Drained}
 
 -- A refinement of these cards got the reply.
-pub record RefinesTo (old : Machine) (cards : List ℕ) (reply : RefineReply) (new : Machine) : Type 0 where
+pub record RefinesTo (old : Machine) (cards : List ℕ) (reply : RefineReply)
+    (new : Machine) : Type 0 where
   pub turned : IsTurned old.state cards reply new.state
   pub reads : AreCardsRead old reply new
   pub step : (caller : ℕ) → IsStep old.state.table (refine_entry caller reply) new.state.table
   pub later : IsLater old new
 
--- the reply of a refinement that C is told by a word (0 where it is not short), the refined cards and two counts
+-- the reply of a refinement that C is told by a word (0 where it is not short), the refined cards
+-- and two counts
 abbrev pub reply_of : ℕ → List ℕ → ℕ → ℕ → RefineReply
-reply_of word refined hot skipped = record { taken = if word == 0 then 1 else 0; refined = refined; hot = hot; skipped = skipped; left = 0; short = not (word == 0) }
+reply_of word refined hot skipped =
+    record {
+      taken = if word == 0 then 1 else 0;
+      refined = refined;
+      hot = hot;
+      skipped = skipped;
+      left = 0;
+      short = not (word == 0);
+    }
 
 -- A drain of the region answered this.
 pub record DrainsTo (old : Machine) (region : ℕ) (answer : Drained) (new : Machine) : Type 0 where
   pub drained : IsDrainOf old region answer new
-  pub step : (caller : ℕ) → IsStep old.state.table (drain_entry caller region answer) new.state.table
+  pub step : (caller : ℕ) → IsStep old.state.table (drain_entry caller region answer)
+      new.state.table
   pub later : IsLater old new
 
 -- The cards fit into an array of this length, and C can be told how many they are.
@@ -39,13 +51,16 @@ pub record ClearsTo (old : Machine) (region : ℕ) (reply : ClearReply) (new : M
   pub step : (caller : ℕ) → IsStep old.state.table (clear_entry caller region reply) new.state.table
   pub ring : new.state.ring ≡ old.state.ring
   pub unread : 1 ≤ set.len old.state.table.pending → new.reads ≡ old.reads
-  pub reads : new.reads ≤ old.reads + member_count old.state.table region * old.state.table.layout.slots
+  pub reads : new.reads ≤ old.reads + member_count old.state.table region
+      * old.state.table.layout.slots
   pub later : IsLater old new
 
 -- A redirect from one region to another answered this.
-pub record RedirectsTo (old : Machine) (from to : ℕ) (answer : Redirected) (new : Machine) : Type 0 where
+pub record RedirectsTo (old : Machine) (from to : ℕ) (answer : Redirected)
+    (new : Machine) : Type 0 where
   pub redirected : IsRedirectOf old from to answer new
-  pub step : (caller : ℕ) → IsStep old.state.table (redirect_entry caller from to answer) new.state.table
+  pub step : (caller : ℕ) → IsStep old.state.table (redirect_entry caller from to answer)
+      new.state.table
   pub later : IsLater old new
 
 -- Nothing but the count of reads has changed.

@@ -1,5 +1,6 @@
 //! Several stores by one call.
-ghost use Rattle.std.specs.Prelude.{◌≡◌, ◌<◌, ◌≤◌, true, false, length, take, IfOk, OnErr, IfErr, IfSome, IfNone, MatchOption};
+ghost use Rattle.std.specs.Prelude.{◌≡◌, ◌<◌, ◌≤◌, true, false, length, take, IfOk, OnErr, IfErr};
+ghost use Rattle.std.specs.Prelude.{IfSome, IfNone, MatchOption};
 ghost use Rattle.g1_handles.specs.Codes.{Between, IsStoreOf};
 ghost use Rattle.g1_handles.specs.Refusals.{AreStoresRefused};
 ghost use Rattle.g1_handles.specs.Batch.{Made, made, made_all, cards_of, IsFaultAt};
@@ -45,10 +46,18 @@ pub fn store_all_in(
     handle: Handle,
     words: (Global, &[Store], usize),
 ) -> (Handle, Result<Stored, Refusal>)
-    ensures made { IfOk result.1 (λ answer. Between handle.value result.0.value (λ old new. record { machine = new; cards = answer.cards.items } ≡ made_all old (take answer.count words.entry.1.now))) }
-    ensures whole { IfOk result.1 (λ answer. answer.is_whole ≡ true → answer.count ≡ length words.entry.1.now) }
-    ensures stopped { IfOk result.1 (λ answer. answer.is_whole ≡ false → IfSome handle.value (λ old. IsFaultAt old.state.table.layout words.entry.1.now answer.count)) }
-    ensures few { IfOk result.1 (λ answer. (length answer.cards.items ≤ answer.count) × (answer.count ≤ 256) × (answer.count ≤ length words.entry.1.now)) }
+    ensures made { IfOk result.1 (λ answer.
+        Between handle.value result.0.value (λ old new. record {
+          machine = new;
+          cards = answer.cards.items;
+        } ≡ made_all old (take answer.count words.entry.1.now))) }
+    ensures whole { IfOk result.1 (λ answer. answer.is_whole ≡ true
+        → answer.count ≡ length words.entry.1.now) }
+    ensures stopped { IfOk result.1 (λ answer. answer.is_whole ≡ false
+        → IfSome handle.value (λ old.
+        IsFaultAt old.state.table.layout words.entry.1.now answer.count)) }
+    ensures few { IfOk result.1 (λ answer. (length answer.cards.items ≤ answer.count)
+        × (answer.count ≤ 256) × (answer.count ≤ length words.entry.1.now)) }
     ensures room { IfOk result.1 (λ answer. length answer.cards.items ≤ words.entry.2) }
     ensures why { IfErr result.1 (λ refusal.
         AreStoresRefused handle.value (length words.entry.1.now) words.entry.2 refusal) }
@@ -70,10 +79,15 @@ pub fn store_all_in(
 
 fn store_each(core: &mut Core, stores: &[Store]) -> Stored
     requires { length stores.now ≤ 256 }
-    ensures made { record { machine = core.new; cards = result.cards.items } ≡ made_all core.old (take result.count stores.now) }
+    ensures made { record {
+      machine = core.new;
+      cards = result.cards.items;
+    } ≡ made_all core.old (take result.count stores.now) }
     ensures whole { result.is_whole ≡ true → result.count ≡ length stores.now }
-    ensures stopped { result.is_whole ≡ false → IsFaultAt core.old.state.table.layout stores.now result.count }
-    ensures few { (length result.cards.items ≤ result.count) × (result.count ≤ 256) × (result.count ≤ length stores.now) }
+    ensures stopped { result.is_whole ≡ false
+        → IsFaultAt core.old.state.table.layout stores.now result.count }
+    ensures few { (length result.cards.items ≤ result.count) × (result.count ≤ 256)
+        × (result.count ≤ length stores.now) }
 {
     let mut cards: ArrayVec<Card, 256> = ArrayVec::new();
     for i in 0..stores.len() {
@@ -99,8 +113,13 @@ fn store_each(core: &mut Core, stores: &[Store]) -> Stored
 /// slot or target.
 fn store_next(core: &mut Core, store: Store) -> Option<Option<Card>>
     ensures layout { core.new.state.table.layout ≡ core.old.state.table.layout }
-    ensures none { IfNone result (IsStoreOf core.old.state.table.layout store.slot store.target → ⊥) }
-    ensures made { MatchOption result (core.new ≡ core.old) (λ card. (cards : _) → record { machine = core.new; cards = cards_of cards card } ≡ made (record { machine = core.old; cards = cards }) store) }
+    ensures none { IfNone result (IsStoreOf core.old.state.table.layout store.slot store.target
+        → ⊥) }
+    ensures made { MatchOption result (core.new ≡ core.old) (λ card. (cards : _)
+        → record {
+          machine = core.new;
+          cards = cards_of cards card;
+        } ≡ made (record { machine = core.old; cards = cards }) store) }
 {
     let layout = core.layout();
     let slot = layout.slot(store.slot)?;

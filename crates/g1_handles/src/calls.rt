@@ -1,5 +1,6 @@
 //! Opening and closing a handle.
-ghost use Rattle.std.specs.Prelude.{◌≡◌, ◌↔◌, ◌<◌, Some, None, IfOk, IfErr, OnOk, OnErr, SomeIff, IsSome, IsTrue};
+ghost use Rattle.std.specs.Prelude.{◌≡◌, ◌↔◌, ◌<◌, Some, None, IfOk, IfErr, OnOk, OnErr, SomeIff};
+ghost use Rattle.std.specs.Prelude.{IsSome, IsTrue};
 ghost use Rattle.g1_core.specs.Machine.{Machine, new_machine};
 ghost use Rattle.g1_core.specs.Settings.{AreSettings};
 ghost use Rattle.g1_handles.specs.Codes.{layout_of, settings_of, IsRefusal};

@@ -21,7 +21,9 @@ use std::alloc::Global;
 /// In the second and third case the core is as it was, except for its count of reads. Returns
 /// `NotOpen` or `NoRegion` if the call was refused: nothing has changed.
 pub fn clear_in(handle: Handle, words: (Global, u32)) -> (Handle, Result<(u32, u32), Refusal>)
-    ensures cleared { IfOk result.1 (λ answer. Between handle.value result.0.value (λ old new. ClearsTo old words.1 (cleared_of answer.0 answer.1) new)) }
+    ensures cleared { IfOk result.1 (λ answer.
+        Between handle.value result.0.value (λ old new.
+        ClearsTo old words.1 (cleared_of answer.0 answer.1) new)) }
     ensures words { IfOk result.1 (λ answer. IsClearWord answer.0 answer.1) }
     ensures left { IfOk result.1 (λ answer. 0 < answer.0 → IsLeft handle.value result.0.value) }
     ensures why { IfErr result.1 (λ refusal. IsClearRefused handle.value words.1 refusal) }
@@ -36,7 +38,8 @@ pub fn clear_in(handle: Handle, words: (Global, u32)) -> (Handle, Result<(u32, u
 }
 
 fn clear_one(core: &mut Core, region: u32) -> Result<(u32, u32), Refusal>
-    ensures cleared { IfOk result (λ answer. ClearsTo core.old region (cleared_of answer.0 answer.1) core.new) }
+    ensures cleared { IfOk result (λ answer.
+        ClearsTo core.old region (cleared_of answer.0 answer.1) core.new) }
     ensures words { IfOk result (λ answer. IsClearWord answer.0 answer.1) }
     ensures left { IfOk result (λ answer. 0 < answer.0 → IsOnlyRead core.old core.new) }
     ensures why { IfErr result (λ refusal. IsClearRefused (Some core.old) region refusal) }

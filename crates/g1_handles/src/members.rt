@@ -26,7 +26,8 @@ pub enum Listed {
 /// Returns `NotOpen`, `NoRegion` or `NoMemory` if the call was refused. The core stays as it is in
 /// each case.
 pub fn members_in(handle: Handle, words: (Global, u32, usize)) -> (Handle, Result<Listed, Refusal>)
-    ensures listed { IfOk result.1 (λ answer. OfOpen handle.value (λ machine. IsListed machine words.1 words.2 answer)) }
+    ensures listed { IfOk result.1 (λ answer.
+        OfOpen handle.value (λ machine. IsListed machine words.1 words.2 answer)) }
     ensures why { IfErr result.1 (λ refusal. AreMembersRefused handle.value words.1 refusal) }
     ensures same { result.0.value ≡ handle.value }
 {

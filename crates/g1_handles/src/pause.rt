@@ -20,7 +20,8 @@ pub fn drain_in(
     handle: Handle,
     words: (Global, u32, usize, usize),
 ) -> (Handle, Result<Drained, Refusal>)
-    ensures drained { IfOk result.1 (λ answer. Between handle.value result.0.value (λ old new. DrainsTo old words.1 answer new)) }
+    ensures drained { IfOk result.1 (λ answer.
+        Between handle.value result.0.value (λ old new. DrainsTo old words.1 answer new)) }
     ensures cards { IfOk result.1 (λ answer. FitIn words.2 (drain_cards answer)) }
     ensures refined { IfOk result.1 (λ answer. FitIn words.3 (drain_refined answer)) }
     ensures why { IfErr result.1 (λ refusal.

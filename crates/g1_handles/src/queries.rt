@@ -15,8 +15,11 @@ use std::alloc::Global;
 /// Returns the word of what a slot refers to at the core of a handle. Returns `NotOpen` or `NoSlot`
 /// if the call was refused: nothing has changed.
 pub fn target_in(handle: Handle, words: (Global, u32)) -> (Handle, Result<u32, Refusal>)
-    ensures target { IfOk result.1 (λ word. Between handle.value result.0.value (λ old new. RefersTo old words.1 (reference_of word) new)) }
-    ensures answered { OnErr result.1 (IfSome handle.value (λ old. slot_count old.state.table.layout ≤ words.1)) }
+    ensures target { IfOk result.1 (λ word.
+        Between handle.value result.0.value (λ old new.
+        RefersTo old words.1 (reference_of word) new)) }
+    ensures answered { OnErr result.1
+        (IfSome handle.value (λ old. slot_count old.state.table.layout ≤ words.1)) }
     ensures why { IfErr result.1 (IsTargetRefused handle.value words.1) }
     ensures refused { OnErr result.1 (result.0.value ≡ handle.value) }
 {
@@ -56,8 +59,10 @@ fn word_of(layout: Layout, target: Option<Slot>) -> u32
 /// Returns whether a card is pending at the core of a handle, as a word: 1 or 0, or the word of
 /// `NotOpen` or `NoCard`. The core stays as it is.
 pub fn is_pending_in(handle: Handle, words: (Global, u32)) -> (Handle, u32)
-    ensures pending { result.1 ≤ 1 → OfOpen handle.value (λ machine. IsToldPending machine words.1 (result.1 == 1)) }
-    ensures answered { IfSome handle.value (λ machine. words.1 < card_count machine.state.table.layout → result.1 ≤ 1) }
+    ensures pending { result.1 ≤ 1
+        → OfOpen handle.value (λ machine. IsToldPending machine words.1 (result.1 == 1)) }
+    ensures answered { IfSome handle.value (λ machine.
+        words.1 < card_count machine.state.table.layout → result.1 ≤ 1) }
     ensures why { 1 < result.1 → IsRefusal result.1 (IsPendingRefused handle.value words.1) }
     ensures same { result.0.value ≡ handle.value }
 {
@@ -84,7 +89,8 @@ fn is_pending_one(core: &Core, card: u32) -> u32
 /// Returns how much is pending and recorded at the core of a handle, or `NotOpen`. The core stays
 /// as it is.
 pub fn status_in(handle: Handle, alloc: Global) -> (Handle, Result<Status, Refusal>)
-    ensures status { IfOk result.1 (λ status. OfOpen handle.value (λ machine. HasStatus machine status)) }
+    ensures status { IfOk result.1 (λ status.
+        OfOpen handle.value (λ machine. HasStatus machine status)) }
     ensures answered { OnErr result.1 (IsSome handle.value → ⊥) }
     ensures why { IfErr result.1 (SaysNotOpen handle.value) }
     ensures same { result.0.value ≡ handle.value }

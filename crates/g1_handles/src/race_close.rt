@@ -1,10 +1,13 @@
 //! How a race ends.
-ghost use Rattle.std.specs.Prelude.{◌≡◌, ◌<◌, ◌≤◌, [], None, Some, OnOk, IfOk, OnErr, IfErr, IsTrue, map, length, All, vec_len, vec_capacity};
+ghost use Rattle.std.specs.Prelude.{◌≡◌, ◌<◌, ◌≤◌, [], None, Some, OnOk, IfOk, OnErr, IfErr};
+ghost use Rattle.std.specs.Prelude.{IsTrue, map, length, All, vec_len, vec_capacity};
 ghost use Rattle.std.specs.Arc.{arc_value};
 ghost use Rattle.g1_race.specs.declared.race.Race.{Race};
 ghost use Rattle.g1_race.specs.Over.{Ended};
-ghost use Rattle.g1_race.specs.Members.{race_id, racer_race, sweeper_race, racer_view, sweeper_view};
-ghost use Rattle.g1_handles.specs.Racing.{held, AreClosed, AreCounts, AreAsMany, AreOfOneRace, HasRole, IsOf, IsClosedOf, EndsAs, IsStill, known_to};
+ghost use Rattle.g1_race.specs.Members.{race_id, racer_race, sweeper_race, racer_view};
+ghost use Rattle.g1_race.specs.Members.{sweeper_view};
+ghost use Rattle.g1_handles.specs.Racing.{held, AreClosed, AreCounts, AreAsMany, AreOfOneRace};
+ghost use Rattle.g1_handles.specs.Racing.{HasRole, IsOf, IsClosedOf, EndsAs, IsStill, known_to};
 ghost use Rattle.g1_handles.specs.Closing.{Lies, IsLeft};
 ghost use Rattle.g1_handles.specs.Refusals.{IsCloseRefused};
 

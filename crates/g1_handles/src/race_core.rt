@@ -1,5 +1,6 @@
 //! A race that is over becomes a core.
-ghost use Rattle.std.specs.Prelude.{◌≡◌, ◌↔◌, ◌≢◌, ◌<◌, None, Some, IsSome, IfOk, OnOk, OnErr, IfErr};
+ghost use Rattle.std.specs.Prelude.{◌≡◌, ◌↔◌, ◌≢◌, ◌<◌, None, Some, IsSome, IfOk, OnOk, OnErr};
+ghost use Rattle.std.specs.Prelude.{IfErr};
 ghost use Rattle.g1_race.specs.Over.{Ended, core_of};
 ghost use Rattle.g1_handles.specs.Codes.{settings_of, IsRefusal};
 ghost use Rattle.g1_handles.specs.Racing.{IsStill, Leaves};

@@ -21,7 +21,8 @@ pub fn take_in(
     member: MemberHandle,
     alloc: Global,
 ) -> (MemberHandle, Result<ArrayVec<Card, LOG>, u32>)
-    ensures log { IfOk result.1 (λ log. OfRacer member.value (λ a. OfRacer result.0.value (λ b. TakesLog a log.items b))) }
+    ensures log { IfOk result.1 (λ log.
+        OfRacer member.value (λ a. OfRacer result.0.value (λ b. TakesLog a log.items b))) }
     ensures taken { IfRacer member.value (λ a. IsOk result.1) }
     ensures word { IfErr result.1 (λ word. 0 < word) }
     ensures why { IfErr result.1 (λ word. IsRefusal word (IsLogRefused member.value)) }
@@ -36,7 +37,8 @@ pub fn take_in(
 }
 
 fn take_of(member: &mut Member) -> Result<ArrayVec<Card, LOG>, u32>
-    ensures log { IfOk result (λ log. OfRacer (Some member.old) (λ a. OfRacer (Some member.new) (λ b. TakesLog a log.items b))) }
+    ensures log { IfOk result (λ log.
+        OfRacer (Some member.old) (λ a. OfRacer (Some member.new) (λ b. TakesLog a log.items b))) }
     ensures taken { IfRacer (Some member.old) (λ a. IsOk result) }
     ensures word { IfErr result (λ word. 0 < word) }
     ensures why { IfErr result (λ word. IsRefusal word (IsLogRefused (Some member.old))) }

@@ -30,7 +30,8 @@ pub fn open_race(
     ensures closed { OnOk result (AreClosed (held racers.old) × AreClosed (held sweepers.old)) }
     ensures why { IfErr result (λ refusal.
         IsRaceRefused (layout_of counts.now) racers.old sweepers.old refusal) }
-    ensures refused { OnErr result ((held racers.new ≡ held racers.old) × (held sweepers.new ≡ held sweepers.old)) }
+    ensures refused { OnErr result ((held racers.new ≡ held racers.old)
+        × (held sweepers.new ≡ held sweepers.old)) }
 {
     if !are_counts(racers.len(), sweepers.len()) {
         return Err(Refusal::BadMembers);

@@ -15,8 +15,10 @@ use std::alloc::Global;
 /// Refines a card by the sweeper of a handle, which stays open. Returns 0, or the word of
 /// `NotOpen`, `OtherRole` or `NoCard`: nothing has changed.
 pub fn refine_in(member: MemberHandle, words: (Global, u32)) -> (MemberHandle, u32)
-    ensures refined { result.1 ≡ 0 → OfSweeper member.value (λ a. OfSweeper result.0.value (λ b. Sweeps a words.1 b)) }
-    ensures taken { IfSweeper member.value (λ a. words.1 < card_count (race_layout (sweeper_race_of a)) → result.1 ≡ 0) }
+    ensures refined { result.1 ≡ 0
+        → OfSweeper member.value (λ a. OfSweeper result.0.value (λ b. Sweeps a words.1 b)) }
+    ensures taken { IfSweeper member.value (λ a.
+        words.1 < card_count (race_layout (sweeper_race_of a)) → result.1 ≡ 0) }
     ensures why { 0 < result.1 → IsRefusal result.1 (IsSweepRefused member.value words.1) }
     ensures refused { 0 < result.1 → result.0.value ≡ member.value }
 {
@@ -29,8 +31,10 @@ pub fn refine_in(member: MemberHandle, words: (Global, u32)) -> (MemberHandle, u
 }
 
 fn refine_of(member: &mut Member, card: u32) -> u32
-    ensures refined { result ≡ 0 → OfSweeper (Some member.old) (λ a. OfSweeper (Some member.new) (λ b. Sweeps a card b)) }
-    ensures taken { IfSweeper (Some member.old) (λ a. card < card_count (race_layout (sweeper_race_of a)) → result ≡ 0) }
+    ensures refined { result ≡ 0 → OfSweeper (Some member.old) (λ a.
+        OfSweeper (Some member.new) (λ b. Sweeps a card b)) }
+    ensures taken { IfSweeper (Some member.old) (λ a.
+        card < card_count (race_layout (sweeper_race_of a)) → result ≡ 0) }
     ensures why { 0 < result → IsRefusal result (IsSweepRefused (Some member.old) card) }
     ensures refused { 0 < result → member.new ≡ member.old }
 {

@@ -67,7 +67,8 @@ fn begin_in(
 ) -> (Handle, Result<(Race, Vec<Racer>, Vec<Sweeper>), Refusal>)
     requires racers { (1 ≤ words.1) × (words.1 ≤ 8) }
     requires sweepers { (1 ≤ words.2) × (words.2 ≤ 4) }
-    ensures began { IfOk result.1 (λ r. OfOpen handle.value (λ core. HaveBegunWith core.state.table r.0 r.1 r.2)) }
+    ensures began { IfOk result.1 (λ r.
+        OfOpen handle.value (λ core. HaveBegunWith core.state.table r.0 r.1 r.2)) }
     ensures racers { IfOk result.1 (λ r. AreFreshRacers r.0 words.1 r.1) }
     ensures sweepers { IfOk result.1 (λ r. AreFreshSweepers r.0 words.2 r.2) }
     ensures why { IfErr result.1 (λ refusal.

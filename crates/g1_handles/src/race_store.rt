@@ -17,8 +17,11 @@ use std::alloc::Global;
 /// kind of the store, or that of `NotOpen`, `OtherRole`, `LogFull` or `NoSlot`, for the slot or the
 /// target: nothing has changed.
 pub fn store_in(member: MemberHandle, words: (Global, u32, u32)) -> (MemberHandle, u32)
-    ensures stored { result.1 ≤ 3 → OfRacer member.value (λ a. OfRacer result.0.value (λ b. StoresWord a words.1 words.2 result.1 b)) }
-    ensures taken { IfRacer member.value (λ a. array_vec_len a.racer.log < 256 → IsStoreOf (race_layout (racer_race_of a)) words.1 words.2 → result.1 ≤ 3) }
+    ensures stored { result.1 ≤ 3
+        → OfRacer member.value (λ a.
+        OfRacer result.0.value (λ b. StoresWord a words.1 words.2 result.1 b)) }
+    ensures taken { IfRacer member.value (λ a. array_vec_len a.racer.log < 256
+        → IsStoreOf (race_layout (racer_race_of a)) words.1 words.2 → result.1 ≤ 3) }
     ensures why { 3 < result.1 →
         IsRefusal result.1 (IsRaceStoreRefused member.value words.1 words.2) }
     ensures refused { 3 < result.1 → result.0.value ≡ member.value }
@@ -32,8 +35,10 @@ pub fn store_in(member: MemberHandle, words: (Global, u32, u32)) -> (MemberHandl
 }
 
 fn store_of(member: &mut Member, slot: u32, target: u32) -> u32
-    ensures stored { result ≤ 3 → OfRacer (Some member.old) (λ a. OfRacer (Some member.new) (λ b. StoresWord a slot target result b)) }
-    ensures taken { IfRacer (Some member.old) (λ a. array_vec_len a.racer.log < 256 → IsStoreOf (race_layout (racer_race_of a)) slot target → result ≤ 3) }
+    ensures stored { result ≤ 3 → OfRacer (Some member.old) (λ a.
+        OfRacer (Some member.new) (λ b. StoresWord a slot target result b)) }
+    ensures taken { IfRacer (Some member.old) (λ a. array_vec_len a.racer.log < 256
+        → IsStoreOf (race_layout (racer_race_of a)) slot target → result ≤ 3) }
     ensures why { 3 < result →
         IsRefusal result (IsRaceStoreRefused (Some member.old) slot target) }
     ensures refused { 3 < result → member.new ≡ member.old }
@@ -46,7 +51,8 @@ fn store_of(member: &mut Member, slot: u32, target: u32) -> u32
 
 fn store_by(racing: &mut Racing, slot: u32, target: u32) -> u32
     ensures stored { result ≤ 3 → StoresWord racing.old slot target result racing.new }
-    ensures taken { array_vec_len racing.old.racer.log < 256 → IsStoreOf (race_layout (racer_race_of racing.old)) slot target → result ≤ 3 }
+    ensures taken { array_vec_len racing.old.racer.log < 256
+        → IsStoreOf (race_layout (racer_race_of racing.old)) slot target → result ≤ 3 }
     ensures why { 3 < result → IsRefusal result (λ refusal.
         ((refusal ≡ Refusal.LogFull) × (256 ≤ array_vec_len racing.old.racer.log))
         ⊎ SaysNoPlace (race_layout (racer_race_of racing.old)) slot target refusal) }

@@ -20,7 +20,9 @@ pub fn redirect_in(
     handle: Handle,
     words: (Global, u32, u32, usize),
 ) -> (Handle, Result<Redirected, Refusal>)
-    ensures redirected { IfOk result.1 (λ answer. Between handle.value result.0.value (λ old new. RedirectsTo old words.1 words.2 answer new)) }
+    ensures redirected { IfOk result.1 (λ answer.
+        Between handle.value result.0.value
+        (λ old new. RedirectsTo old words.1 words.2 answer new)) }
     ensures refined { IfOk result.1 (λ answer. FitIn words.3 (redirect_refined answer)) }
     ensures why { IfErr result.1 (λ refusal.
         IsRedirectRefused handle.value words.1 words.2 words.3 refusal) }

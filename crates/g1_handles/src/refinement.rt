@@ -1,5 +1,6 @@
 //! Refinement.
-ghost use Rattle.std.specs.Prelude.{◌≡◌, ◌<◌, ◌≤◌, length, false, true, if◌then◌else◌, All, Some, IfSome, IfNone, IfOk, IfErr, OnErr};
+ghost use Rattle.std.specs.Prelude.{◌≡◌, ◌<◌, ◌≤◌, length, false, true, if◌then◌else◌, All, Some};
+ghost use Rattle.std.specs.Prelude.{IfSome, IfNone, IfOk, IfErr, OnErr};
 ghost use Rattle.g1_layout.specs.Shape.{card_count};
 ghost use Rattle.g1_handles.specs.Codes.{Between};
 ghost use Rattle.g1_handles.specs.Refusals.{IsRefinementRefused};
@@ -33,9 +34,13 @@ pub fn refine_in(
     handle: Handle,
     words: (Global, &[u32], usize),
 ) -> (Handle, Result<RefineReply, Refusal>)
-    ensures refined { IfOk result.1 (λ reply. Between handle.value result.0.value (λ old new. RefinesTo old words.entry.1.now reply new)) }
-    ensures taken { IfOk result.1 (λ reply. (reply.taken ≡ (if reply.short then 0 else 1)) × (reply.left ≡ 0)) }
-    ensures few { IfOk result.1 (λ reply. (length reply.refined ≤ words.entry.2) × (length reply.refined ≤ 256)) }
+    ensures refined { IfOk result.1 (λ reply.
+        Between handle.value result.0.value
+        (λ old new. RefinesTo old words.entry.1.now reply new)) }
+    ensures taken { IfOk result.1 (λ reply. (reply.taken ≡ (if reply.short then 0 else 1))
+        × (reply.left ≡ 0)) }
+    ensures few { IfOk result.1 (λ reply. (length reply.refined ≤ words.entry.2)
+        × (length reply.refined ≤ 256)) }
     ensures why { IfErr result.1 (λ refusal.
         IsRefinementRefused handle.value words.entry.1.now words.entry.2 refusal) }
     ensures refused { OnErr result.1 (result.0.value ≡ handle.value) }
@@ -50,8 +55,10 @@ pub fn refine_in(
 
 fn refine_one(core: &mut Core, cards: &[u32], room: usize) -> Result<RefineReply, Refusal>
     ensures refined { IfOk result (λ reply. RefinesTo core.old cards.now reply core.new) }
-    ensures taken { IfOk result (λ reply. (reply.taken ≡ (if reply.short then 0 else 1)) × (reply.left ≡ 0)) }
-    ensures few { IfOk result (λ reply. (length reply.refined ≤ room) × (length reply.refined ≤ 256)) }
+    ensures taken { IfOk result (λ reply. (reply.taken ≡ (if reply.short then 0 else 1))
+        × (reply.left ≡ 0)) }
+    ensures few { IfOk result (λ reply.
+        (length reply.refined ≤ room) × (length reply.refined ≤ 256)) }
     ensures why { IfErr result (λ refusal.
         IsRefinementRefused (Some core.old) cards.now room refusal) }
     ensures refused { OnErr result (core.new ≡ core.old) }

@@ -1,9 +1,11 @@
 //! How the members of a race are put into handles.
-ghost use Rattle.std.specs.Prelude.{◌≡◌, ◌≤◌, Bool, true, false, Some, None, length, All, IsTrue, IfOk, OnOk, OnErr, vec_len};
+ghost use Rattle.std.specs.Prelude.{◌≡◌, ◌≤◌, Bool, true, false, Some, None, length, All, IsTrue};
+ghost use Rattle.std.specs.Prelude.{IfOk, OnOk, OnErr, vec_len};
 ghost use Rattle.std.specs.Arc.{arc_value};
 ghost use Rattle.g1_race.specs.declared.race.Race.{Race};
 ghost use Rattle.g1_race_words.specs.Begin.{Start};
-ghost use Rattle.g1_race.specs.Members.{racer_start, sweeper_start, HaveBegun, IsFreshRacer, IsFreshSweeper};
+ghost use Rattle.g1_race.specs.Members.{racer_start, sweeper_start, HaveBegun, IsFreshRacer};
+ghost use Rattle.g1_race.specs.Members.{IsFreshSweeper};
 ghost use Rattle.g1_handles.specs.Racing.{held, AreClosed, AreCounts, AreSeated, IsFresh};
 
 use crate::member::{Member, Racing, Sweeping};
@@ -58,11 +60,14 @@ pub(crate) fn seat(
     racers: &mut [MemberHandle],
     sweepers: &mut [MemberHandle],
 ) -> Result<(), NoMemory>
-    requires racers { (vec_len new_racers ≡ length racers.old) × All (IsFreshRacer race.table.table_id race.shape) new_racers.items }
-    requires sweepers { (vec_len new_sweepers ≡ length sweepers.old) × All (IsFreshSweeper race.table.table_id race.shape) new_sweepers.items }
+    requires racers { (vec_len new_racers ≡ length racers.old)
+        × All (IsFreshRacer race.table.table_id race.shape) new_racers.items }
+    requires sweepers { (vec_len new_sweepers ≡ length sweepers.old)
+        × All (IsFreshSweeper race.table.table_id race.shape) new_sweepers.items }
     ensures seated { OnOk result ((begin : Start) → HaveBegun begin new_racers new_sweepers →
         AreSeated race begin (held racers.new) (held sweepers.new)) }
-    ensures refused { OnErr result ((held racers.new ≡ held racers.old) × (held sweepers.new ≡ held sweepers.old)) }
+    ensures refused { OnErr result ((held racers.new ≡ held racers.old)
+        × (held sweepers.new ≡ held sweepers.old)) }
 {
     let race = Arc::new(alloc, race)?;
     let racing = racing(alloc, &race, new_racers)?;
@@ -78,9 +83,11 @@ fn racing(
     race: &Arc<Race, Global>,
     mut racers: Vec<Racer>,
 ) -> Result<Vec<Box<Member>>, NoMemory>
-    requires { All (IsFreshRacer (arc_value race.now).table.table_id (arc_value race.now).shape) racers.items }
+    requires { All (IsFreshRacer (arc_value race.now).table.table_id (arc_value race.now).shape)
+        racers.items }
     ensures count { IfOk result (λ members. vec_len members ≡ vec_len racers) }
-    ensures fresh { IfOk result (λ members. (begin : Start) → All (λ r. racer_start r ≡ begin) racers.items →
+    ensures fresh { IfOk result (λ members. (begin : Start)
+        → All (λ r. racer_start r ≡ begin) racers.items →
         All (λ m. IsFresh (arc_value race.now) begin true (Some m.value)) members.items) }
 {
     let mut members = Vec::new(alloc);
@@ -107,9 +114,11 @@ fn sweeping(
     race: &Arc<Race, Global>,
     mut sweepers: Vec<Sweeper>,
 ) -> Result<Vec<Box<Member>>, NoMemory>
-    requires { All (IsFreshSweeper (arc_value race.now).table.table_id (arc_value race.now).shape) sweepers.items }
+    requires { All (IsFreshSweeper (arc_value race.now).table.table_id (arc_value race.now).shape)
+        sweepers.items }
     ensures count { IfOk result (λ members. vec_len members ≡ vec_len sweepers) }
-    ensures fresh { IfOk result (λ members. (begin : Start) → All (λ w. sweeper_start w ≡ begin) sweepers.items →
+    ensures fresh { IfOk result (λ members. (begin : Start)
+        → All (λ w. sweeper_start w ≡ begin) sweepers.items →
         All (λ m. IsFresh (arc_value race.now) begin false (Some m.value)) members.items) }
 {
     let mut members = Vec::new(alloc);

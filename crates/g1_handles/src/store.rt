@@ -2,7 +2,8 @@
 ghost use Rattle.std.specs.Prelude.{◌≡◌, ◌<◌, ◌≤◌, IfSome, IfNone};
 ghost use Rattle.g1_layout.specs.Shape.{slot_count};
 ghost use Rattle.g1_core.specs.Run.{kind_of};
-ghost use Rattle.g1_handles.specs.Codes.{kind_word, reference_of, IsRefusal, IsStoreOf, Between, stored_machine};
+ghost use Rattle.g1_handles.specs.Codes.{kind_word, reference_of, IsRefusal, IsStoreOf, Between};
+ghost use Rattle.g1_handles.specs.Codes.{stored_machine};
 ghost use Rattle.g1_handles.specs.Refusals.{IsStoreRefused, SaysNoPlace};
 
 use crate::code::{NULL, Refusal, kind_word};
@@ -17,9 +18,13 @@ use std::alloc::Global;
 /// kind of the store, or that of `NotOpen` or `NoSlot`, for the slot or the target: nothing has
 /// changed.
 pub fn store_in(handle: Handle, words: (Global, u32, u32)) -> (Handle, u32)
-    ensures kind { result.1 ≤ 3 → Between handle.value result.0.value (λ old new. result.1 ≡ kind_word (kind_of old.state.table words.1 (reference_of words.2))) }
-    ensures machine { result.1 ≤ 3 → Between handle.value result.0.value (λ old new. new ≡ stored_machine old words.1 (reference_of words.2)) }
-    ensures taken { IfSome handle.value (λ old. IsStoreOf old.state.table.layout words.1 words.2 → result.1 ≤ 3) }
+    ensures kind { result.1 ≤ 3 → Between handle.value result.0.value (λ old new.
+        result.1 ≡ kind_word (kind_of old.state.table words.1 (reference_of words.2))) }
+    ensures machine { result.1 ≤ 3
+        → Between handle.value result.0.value (λ old new.
+        new ≡ stored_machine old words.1 (reference_of words.2)) }
+    ensures taken { IfSome handle.value (λ old. IsStoreOf old.state.table.layout words.1 words.2
+        → result.1 ≤ 3) }
     ensures why { 3 < result.1 →
         IsRefusal result.1 (IsStoreRefused handle.value words.1 words.2) }
     ensures refused { 3 < result.1 → result.0.value ≡ handle.value }
@@ -33,7 +38,8 @@ pub fn store_in(handle: Handle, words: (Global, u32, u32)) -> (Handle, u32)
 }
 
 fn store_one(core: &mut Core, slot: u32, target: u32) -> u32
-    ensures kind { result ≤ 3 → result ≡ kind_word (kind_of core.old.state.table slot (reference_of target)) }
+    ensures kind { result ≤ 3 → result
+        ≡ kind_word (kind_of core.old.state.table slot (reference_of target)) }
     ensures machine { result ≤ 3 → core.new ≡ stored_machine core.old slot (reference_of target) }
     ensures taken { IsStoreOf core.old.state.table.layout slot target → result ≤ 3 }
     ensures why { 3 < result →
@@ -56,7 +62,8 @@ fn store_one(core: &mut Core, slot: u32, target: u32) -> u32
 pub(crate) fn reference(layout: Layout, word: u32) -> Option<Option<Slot>>
     ensures value { IfSome result (λ target. target ≡ reference_of word) }
     ensures within { IfSome result (λ target. IfSome target (λ place. place < slot_count layout)) }
-    ensures none { IfNone result (IfSome (reference_of word) (λ place. place < slot_count layout) → ⊥) }
+    ensures none { IfNone result (IfSome (reference_of word) (λ place. place < slot_count layout)
+        → ⊥) }
 {
     if word == NULL {
         return Some(None);

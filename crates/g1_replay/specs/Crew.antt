@@ -1,5 +1,6 @@
 -- What a crew writes: how many stores its run has, and the drains that end it.
-use Rattle.std.specs.Prelude.{◌≡◌, ◌≤◌, ◌⊎◌, ℕ, List, [], ◌++◌, Result, Ok, Err, Option, Some, None, count_by, length}
+use Rattle.std.specs.Prelude.{◌≡◌, ◌≤◌, ◌⊎◌, ℕ, List, [], ◌++◌, Result, Ok, Err, Option, Some, None}
+use Rattle.std.specs.Prelude.{count_by, length}
 use Rattle.std.specs.Io.KnownBytes.{Appends}
 use Rattle.g1_layout.specs.Shape.{Shape}
 use Rattle.g1_core.specs.Table.{opening}
@@ -16,12 +17,17 @@ use Rattle.g1_replay.specs.Drains.{drains}
 use Rattle.g1_replay.specs.Pieces.{Piece, Walks, lines_of, entries_of}
 use Rattle.g1_replay.specs.Scripted.{IsRunEnd, Scripted}
 
--- Nothing was drained or written, since something stopped the crew; or how many stores a run has was, and the lines of the drains behind it.
-abbrev pub IsCrewText : List Entry → List Command → List Piece → Result (Unit {0}) Stop → List ℕ → Type 0
-IsCrewText entries commands pieces r text = ((stop : Stop) × (r ≡ Err stop) × (commands ≡ []) × (text ≡ [])) ⊎ (text ≡ stores_text (count_by is_store entries) ++ lines_of commands pieces)
+-- Nothing was drained or written, since something stopped the crew; or how many stores a run has
+-- was, and the lines of the drains behind it.
+abbrev pub IsCrewText : List Entry → List Command → List Piece → Result (Unit {0}) Stop → List ℕ
+    → Type 0
+IsCrewText entries commands pieces r text =
+    ((stop : Stop) × (r ≡ Err stop) × (commands ≡ []) × (text ≡ []))
+    ⊎ (text ≡ stores_text (count_by is_store entries) ++ lines_of commands pieces)
 
--- The scripts came to a permitted run, which drains of the first regions end; at the whole end those of all regions. The run has at most `history`
--- entries, and just as many where the book is full.
+-- The scripts came to a permitted run, which drains of the first regions end; at the whole end
+-- those of all regions. The run has at most `history` entries, and just as many where the book is
+-- full.
 pub record Ran (l : Shape) (history : ℕ) (r : Result (Unit {0}) Stop) (text : List ℕ) : Type 0 where
   pub entries : List Entry
   pub drained : ℕ
@@ -35,11 +41,14 @@ pub record Ran (l : Shape) (history : ℕ) (r : Result (Unit {0}) Stop) (text : 
   pub said : IsCrewText entries (drains drained) pieces r text
 
 -- what a crew reads and writes, but for the line of its end
-abbrev pub Crewed : Dialect → ℕ → ℕ → ℕ → Option (List ℕ) → Option (List ℕ) → Result (Unit {0}) Stop → List ℕ → Type 0
+abbrev pub Crewed : Dialect → ℕ → ℕ → ℕ → Option (List ℕ) → Option (List ℕ) → Result (Unit {0}) Stop
+    → List ℕ → Type 0
 Crewed d history n n' rd rd' r text = Scripted (λ l _. Ran l history) d n n' rd rd' r text
 
--- The whole output: the trace has no fault, and this is how many stores a permitted run has, with the lines of the drains of all regions that end it.
-pub record IsWholeCrew (d : Dialect) (history : ℕ) (bytes : List ℕ) (out out' : Option (List ℕ)) : Type 0 where
+-- The whole output: the trace has no fault, and this is how many stores a permitted run has, with
+-- the lines of the drains of all regions that end it.
+pub record IsWholeCrew (d : Dialect) (history : ℕ) (bytes : List ℕ)
+    (out out' : Option (List ℕ)) : Type 0 where
   pub layout : Shape
   pub commands : List Command
   pub entries : List Entry
@@ -48,4 +57,5 @@ pub record IsWholeCrew (d : Dialect) (history : ℕ) (bytes : List ℕ) (out out
   pub walked : Walks (drains layout.regions) pieces
   pub permitted : IsPermitted (opening layout) (entries ++ entries_of pieces)
   pub within : length (entries ++ entries_of pieces) ≤ history
-  pub written : Appends out out' (stores_text (count_by is_store entries) ++ lines_of (drains layout.regions) pieces)
+  pub written : Appends out out' (stores_text (count_by is_store entries)
+      ++ lines_of (drains layout.regions) pieces)

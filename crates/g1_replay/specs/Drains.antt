@@ -12,9 +12,11 @@ abbrev pub drains : ℕ → List Command
 drains zero = []
 drains (suc k) = drains k ++ Call (Drain k) ∷ []
 
--- The drains of the first regions were made, and this is their text; at the end without a stop those of all regions. Where a book is full, it is
--- full then.
-pub record HasDrained {S : Type 0} (did : S → List Command → List ℕ → S → Type 0) (full : S → Type 0) (regions : ℕ) (old new : S) (out out' : Option (List ℕ)) (r : Result (Unit {0}) Stop) : Type 0 where
+-- The drains of the first regions were made, and this is their text; at the end without a stop
+-- those of all regions. Where a book is full, it is full then.
+pub record HasDrained {S : Type 0} (did : S → List Command → List ℕ → S → Type 0) (full : S
+    → Type 0) (regions : ℕ) (old new : S) (out out' : Option (List ℕ))
+    (r : Result (Unit {0}) Stop) : Type 0 where
   pub drained : ℕ
   pub text : List ℕ
   pub played : did old (drains drained) text new

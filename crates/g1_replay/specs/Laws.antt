@@ -1,20 +1,24 @@
 -- Pieces behind pieces, and plays that follow each other.
-use Rattle.std.proofs.Common.{◌≡◌, ℕ, List, [], ◌∷◌, ◌++◌, refl, sym, ◌∙◌, ap, subst, append_assoc, append-nil}
+use Rattle.std.proofs.Common.{◌≡◌, ℕ, List, [], ◌∷◌, ◌++◌, refl, sym, ◌∙◌, ap, subst, append_assoc}
+use Rattle.std.proofs.Common.{append-nil}
 use Rattle.g1_core.specs.Settings.{Settings}
 use Rattle.g1_core.specs.declared.entry.Entry.{Entry}
 use Rattle.g1_book.specs.History.{History, Terms, layout_in}
 use Rattle.g1_steps.specs.Lent.{Grows}
 use Rattle.g1_trace.specs.declared.command.Command.{Command}
 use Rattle.g1_replay.specs.Playing.{HasPlayed}
-use Rattle.g1_replay.specs.Pieces.{Piece, IsPieceOf, IsSetBy, AreSetBy, Walks, line_of, lines_of, entries_of}
+use Rattle.g1_replay.specs.Pieces.{Piece, IsPieceOf, IsSetBy, AreSetBy, Walks, line_of, lines_of}
+use Rattle.g1_replay.specs.Pieces.{entries_of}
 
-walks_then : (cs ds : List Command) (ps qs : List Piece) → Walks cs ps → Walks ds qs → Walks (cs ++ ds) (ps ++ qs)
+walks_then : (cs ds : List Command) (ps qs : List Piece) → Walks cs ps → Walks ds qs
+    → Walks (cs ++ ds) (ps ++ qs)
 walks_then [] ds [] qs w v = v
 walks_then [] ds (p ∷ ps) qs w v = absurd w
 walks_then (c ∷ cs) ds [] qs w v = absurd w
 walks_then (c ∷ cs) ds (p ∷ ps) qs w v = (w.0, walks_then cs ds ps qs w.1 v)
 
-set_then : (s : Settings) (cs ds : List Command) (ps qs : List Piece) → Walks cs ps → AreSetBy s cs ps → AreSetBy s ds qs → AreSetBy s (cs ++ ds) (ps ++ qs)
+set_then : (s : Settings) (cs ds : List Command) (ps qs : List Piece) → Walks cs ps
+    → AreSetBy s cs ps → AreSetBy s ds qs → AreSetBy s (cs ++ ds) (ps ++ qs)
 set_then s [] ds [] qs w a b = b
 set_then s [] ds (p ∷ ps) qs w a b = absurd w
 set_then s (c ∷ cs) ds [] qs w a b = absurd w
@@ -22,34 +26,50 @@ set_then s (c ∷ cs) ds (p ∷ ps) qs w a b = (a.0, set_then s cs ds ps qs w.1 
 
 pub entries_then : (ps qs : List Piece) → entries_of (ps ++ qs) ≡ entries_of ps ++ entries_of qs
 entries_then [] qs = refl
-entries_then (p ∷ ps) qs = ap (λ l. p.entries ++ l) (entries_then ps qs) ∙ sym (append_assoc p.entries (entries_of ps) (entries_of qs))
+entries_then (p ∷ ps) qs =
+    ap (λ l. p.entries ++ l) (entries_then ps qs)
+    ∙ sym (append_assoc p.entries (entries_of ps) (entries_of qs))
 
-lines_then : (cs ds : List Command) (ps qs : List Piece) → Walks cs ps → lines_of (cs ++ ds) (ps ++ qs) ≡ lines_of cs ps ++ lines_of ds qs
+lines_then : (cs ds : List Command) (ps qs : List Piece) → Walks cs ps
+    → lines_of (cs ++ ds) (ps ++ qs) ≡ lines_of cs ps ++ lines_of ds qs
 lines_then [] ds [] qs w = refl
 lines_then [] ds (p ∷ ps) qs w = absurd w
 lines_then (c ∷ cs) ds [] qs w = absurd w
-lines_then (c ∷ cs) ds (p ∷ ps) qs w = ap (λ l. line_of c p ++ l) (lines_then cs ds ps qs w.1) ∙ sym (append_assoc (line_of c p) (lines_of cs ps) (lines_of ds qs))
+lines_then (c ∷ cs) ds (p ∷ ps) qs w =
+    ap (λ l. line_of c p ++ l) (lines_then cs ds ps qs w.1)
+    ∙ sym (append_assoc (line_of c p) (lines_of cs ps) (lines_of ds qs))
 
 grows_nil : (h : History) → Grows h [] h
 grows_nil h = record { entries = sym (append-nil h.entries); terms = refl }
 
-grows_more : (a b c : History) (es fs : List Entry) → Grows a es b → Grows b fs c → Grows a (es ++ fs) c
-grows_more a b c es fs p q = record { entries = q.entries ∙ ap (λ l. l ++ fs) p.entries ∙ append_assoc a.entries es fs; terms = q.terms ∙ p.terms }
+grows_more : (a b c : History) (es fs : List Entry) → Grows a es b → Grows b fs c
+    → Grows a (es ++ fs) c
+grows_more a b c es fs p q =
+    record {
+      entries = q.entries ∙ ap (λ l. l ++ fs) p.entries ∙ append_assoc a.entries es fs;
+      terms = q.terms ∙ p.terms;
+    }
 
 pub played_none : (h : History) → HasPlayed h [] [] h
 played_none h = record { pieces = []; walked = tt; set = tt; grows = grows_nil h; said = refl }
 
-pub played_then : (a b c : History) (cs ds : List Command) (xs ys : List ℕ) → HasPlayed a cs xs b → HasPlayed b ds ys c → HasPlayed a (cs ++ ds) (xs ++ ys) c
+pub played_then : (a b c : History) (cs ds : List Command) (xs ys : List ℕ) → HasPlayed a cs xs b
+    → HasPlayed b ds ys c → HasPlayed a (cs ++ ds) (xs ++ ys) c
 played_then a b c cs ds xs ys p q = record {
   pieces = p.pieces ++ q.pieces;
   walked = walks_then cs ds p.pieces q.pieces p.walked q.walked;
-  set = set_then a.machine.settings cs ds p.pieces q.pieces p.walked p.set (subst (λ (t : Terms). AreSetBy t.settings ds q.pieces) p.grows.terms q.set);
-  grows = subst (λ (es : List Entry). Grows a es c) (sym (entries_then p.pieces q.pieces)) (grows_more a b c (entries_of p.pieces) (entries_of q.pieces) p.grows q.grows);
-  said = ap (λ l. l ++ ys) p.said ∙ ap (λ l. lines_of cs p.pieces ++ l) q.said ∙ sym (lines_then cs ds p.pieces q.pieces p.walked);
+  set = set_then a.machine.settings cs ds p.pieces q.pieces p.walked p.set
+      (subst (λ (t : Terms). AreSetBy t.settings ds q.pieces) p.grows.terms q.set);
+  grows = subst (λ (es : List Entry). Grows a es c) (sym (entries_then p.pieces q.pieces))
+      (grows_more a b c (entries_of p.pieces) (entries_of q.pieces) p.grows q.grows);
+  said = ap (λ l. l ++ ys) p.said ∙ ap (λ l. lines_of cs p.pieces ++ l) q.said
+      ∙ sym (lines_then cs ds p.pieces q.pieces p.walked);
 }
 
 -- one command
-pub played_one : (a b : History) (c : Command) (p : Piece) → IsPieceOf c p.entries → IsSetBy a.machine.settings c p.entries → Grows a p.entries b → HasPlayed a (c ∷ []) (line_of c p) b
+pub played_one : (a b : History) (c : Command) (p : Piece) → IsPieceOf c p.entries
+    → IsSetBy a.machine.settings c p.entries → Grows a p.entries b
+    → HasPlayed a (c ∷ []) (line_of c p) b
 played_one a b c p w s g = record {
   pieces = p ∷ [];
   walked = (w, tt);
@@ -59,5 +79,6 @@ played_one a b c p w s g = record {
 }
 
 -- the heap stays
-pub played_in : (a b : History) (cs : List Command) (xs : List ℕ) → HasPlayed a cs xs b → layout_in b ≡ layout_in a
+pub played_in : (a b : History) (cs : List Command) (xs : List ℕ) → HasPlayed a cs xs b
+    → layout_in b ≡ layout_in a
 played_in a b cs xs p = ap (λ (t : Terms). t.layout) p.grows.terms

@@ -10,7 +10,8 @@ use Rattle.g1_race_words.specs.Begin.{Start}
 use Rattle.g1_race_words.specs.Rule.{History, null_of}
 use Rattle.g1_race_words.specs.Steps.{gained}
 use Rattle.g1_race.specs.Race.{word_of}
-use Rattle.g1_race.specs.Members.{race_id, race_shape, racer_race, racer_start, racer_view, sweeper_race, sweeper_start}
+use Rattle.g1_race.specs.Members.{race_id, race_shape, racer_race, racer_start, racer_view}
+use Rattle.g1_race.specs.Members.{sweeper_race, sweeper_start}
 use Rattle.g1_steps.specs.Ask.{Ask, AskStore, AskFlush, AskWork}
 use Rattle.g1_replay.specs.declared.race_desk.Member.{Member}
 use Rattle.g1_replay.specs.declared.race_desk.Member.TheVariants.{Racing, Sweeping}
@@ -56,11 +57,13 @@ IsMemberOf race line m = (member_race m ≡ race_id race) × (member_home m ≡ 
 -- what has been stored once these calls were made
 abbrev pub histories_after : List Ask → List History → List History
 histories_after [] hs = hs
-histories_after (AskStore slot target ∷ asks) hs = histories_after asks (gained slot (word_of target) hs)
+histories_after (AskStore slot target ∷ asks) hs =
+    histories_after asks (gained slot (word_of target) hs)
 histories_after (AskFlush ∷ asks) hs = histories_after asks hs
 histories_after (AskWork ∷ asks) hs = histories_after asks hs
 
--- A member made these calls: it is the same member with the same end of the line, and it has stored just what was asked of it, in order.
+-- A member made these calls: it is the same member with the same end of the line, and it has stored
+-- just what was asked of it, in order.
 pub record MemberDid (m : Member) (asks : List Ask) (n : Member) : Type 0 where
   pub race : member_race n ≡ member_race m
   pub start : member_start n ≡ member_start m

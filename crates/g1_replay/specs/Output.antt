@@ -1,5 +1,6 @@
 -- What a replay writes: the text of a permitted run of the commands that were read.
-use Rattle.std.specs.Prelude.{◌≡◌, ◌≤◌, ℕ, List, [], ◌++◌, Bool, false, Result, Ok, Err, Option, Some, None, IfSome, IfNone, length}
+use Rattle.std.specs.Prelude.{◌≡◌, ◌≤◌, ℕ, List, [], ◌++◌, Bool, false, Result, Ok, Err, Option}
+use Rattle.std.specs.Prelude.{Some, None, IfSome, IfNone, length}
 use Rattle.std.specs.Io.KnownBytes.{Appends}
 use Rattle.g1_layout.specs.Shape.{Shape}
 use Rattle.g1_core.specs.Settings.{Settings}
@@ -9,12 +10,16 @@ use Rattle.g1_trace.specs.declared.command.Command.{Command}
 use Rattle.g1_trace.specs.declared.dialect.Dialect.{Dialect}
 use Rattle.g1_trace.specs.declared.fault.TraceFault.{TraceFault}
 use Rattle.g1_trace.specs.Bytes.{AppendsFront}
-use Rattle.g1_trace.specs.Text.{fault_line, no_memory_line, book_full_line, no_thread_line, read_failed_line}
+use Rattle.g1_trace.specs.Text.{fault_line, no_memory_line, book_full_line, no_thread_line}
+use Rattle.g1_trace.specs.Text.{read_failed_line}
 use Rattle.g1_trace.specs.Trace.{read_trace}
 use Rattle.g1_replay.specs.declared.end.End.{End}
-use Rattle.g1_replay.specs.declared.end.End.TheVariants.{Whole, Refused, Stopped, ReadFailed as EndReadFailed, WriteFailed as EndWriteFailed}
+use Rattle.g1_replay.specs.declared.end.End.TheVariants.{Whole, Refused, Stopped}
+use Rattle.g1_replay.specs.declared.end.End.TheVariants.{ReadFailed as EndReadFailed}
+use Rattle.g1_replay.specs.declared.end.End.TheVariants.{WriteFailed as EndWriteFailed}
 use Rattle.g1_replay.specs.declared.stop.Stop.{Stop}
-use Rattle.g1_replay.specs.declared.stop.Stop.TheVariants.{Fault, NoMemory, BookFull, NoThread, ReadFailed, WriteFailed}
+use Rattle.g1_replay.specs.declared.stop.Stop.TheVariants.{Fault, NoMemory, BookFull, NoThread}
+use Rattle.g1_replay.specs.declared.stop.Stop.TheVariants.{ReadFailed, WriteFailed}
 use Rattle.g1_replay.specs.Pieces.{Piece, AreSetBy, Walks, lines_of, entries_of}
 use Rattle.g1_replay.specs.Playing.{IsUndone}
 use Rattle.g1_replay.specs.Reading.{Reads}
@@ -24,9 +29,10 @@ abbrev pub ended : Result (Unit {0}) Stop → Result Bool Stop
 ended (Ok done) = Ok false
 ended (Err stop) = Err stop
 
--- The text is that of a permitted run which belongs to the commands before the end, by a book of these settings. The run has at most `history` entries,
--- and just as many where the book is full.
-pub record Told (d : Dialect) (s : Settings) (history n n' : ℕ) (rd rd' : Option (List ℕ)) (r : Result (Unit {0}) Stop) (text : List ℕ) : Type 0 where
+-- The text is that of a permitted run which belongs to the commands before the end, by a book of
+-- these settings. The run has at most `history` entries, and just as many where the book is full.
+pub record Told (d : Dialect) (s : Settings) (history n n' : ℕ) (rd rd' : Option (List ℕ))
+    (r : Result (Unit {0}) Stop) (text : List ℕ) : Type 0 where
   pub heap : Option Shape
   pub commands : List Command
   pub done : List Command
@@ -63,7 +69,8 @@ end_of (Err ReadFailed) = EndReadFailed
 end_of (Err WriteFailed) = EndWriteFailed
 
 -- the end, and what was written of the text with its line
-abbrev pub IsEnded : Option (List ℕ) → Option (List ℕ) → Result (Unit {0}) Stop → List ℕ → End → Type 0
+abbrev pub IsEnded : Option (List ℕ) → Option (List ℕ) → Result (Unit {0}) Stop → List ℕ → End
+    → Type 0
 IsEnded out out' r text EndWriteFailed = AppendsFront out out' text
 IsEnded out out' r text end = (end ≡ end_of r) × Appends out out' text
 
@@ -72,7 +79,8 @@ end_or_failed (Ok v) end = end
 end_or_failed (Err e) end = EndWriteFailed
 
 -- The whole output: the trace has these commands and no fault.
-pub record IsWholeOutput (d : Dialect) (s : Settings) (bytes : List ℕ) (out out' : Option (List ℕ)) : Type 0 where
+pub record IsWholeOutput (d : Dialect) (s : Settings) (bytes : List ℕ)
+    (out out' : Option (List ℕ)) : Type 0 where
   pub layout : Shape
   pub commands : List Command
   pub pieces : List Piece
@@ -83,13 +91,18 @@ pub record IsWholeOutput (d : Dialect) (s : Settings) (bytes : List ℕ) (out ou
   pub written : Appends out out' (lines_of commands pieces)
 
 -- The whole output: the trace has these commands before its first fault.
-pub record IsRefusedOutput (d : Dialect) (s : Settings) (bytes : List ℕ) (out out' : Option (List ℕ)) : Type 0 where
+pub record IsRefusedOutput (d : Dialect) (s : Settings) (bytes : List ℕ)
+    (out out' : Option (List ℕ)) : Type 0 where
   pub heap : Option Shape
   pub commands : List Command
   pub number : ℕ
   pub fault : TraceFault
   pub pieces : List Piece
-  pub trace : read_trace d bytes ≡ record { heap = heap; commands = commands; fault = Some (number, fault) }
+  pub trace : read_trace d bytes ≡ record {
+    heap = heap;
+    commands = commands;
+    fault = Some (number, fault);
+  }
   pub unopened : IfNone heap (commands ≡ [])
   pub walked : Walks commands pieces
   pub set : AreSetBy s commands pieces

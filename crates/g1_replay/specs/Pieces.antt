@@ -1,5 +1,6 @@
 -- The calls that each command of a trace makes, and the line that is printed of them.
-use Rattle.std.specs.Prelude.{◌≡◌, ◌≤◌, ◌⊎◌, ℕ, ◌||◌, Bool, true, false, List, [], ◌∷◌, ◌++◌, All, sum_by, length, if◌then◌else◌}
+use Rattle.std.specs.Prelude.{◌≡◌, ◌≤◌, ◌⊎◌, ℕ, ◌||◌, Bool, true, false, List, [], ◌∷◌, ◌++◌, All}
+use Rattle.std.specs.Prelude.{sum_by, length, if◌then◌else◌}
 use Rattle.g1_layout.specs.declared.kind.Kind.{Kind}
 use Rattle.g1_layout.specs.declared.kind.Kind.TheVariants.{Logged}
 use Rattle.g1_core.specs.declared.reply.Fill.{Fill}
@@ -15,8 +16,9 @@ use Rattle.g1_trace.specs.declared.command.Command.{Command}
 use Rattle.g1_trace.specs.declared.command.Command.TheVariants as command
 use Rattle.g1_trace.specs.Text.{stored_line, flushed_line, refined_line, worked_line, call_line}
 
--- What is printed of a command and stands in none of its calls: how many cards a flush moved, the length of the line
--- that a round saw last, and whether a help, a later call of a round or its growth was refused.
+-- What is printed of a command and stands in none of its calls: how many cards a flush moved, the
+-- length of the line that a round saw last, and whether a help, a later call of a round or its
+-- growth was refused.
 pub record Shown : Type 0 where
   pub cards : ℕ
   pub left : ℕ
@@ -39,7 +41,8 @@ plain_piece entries = record { entries = entries; shown = nothing_shown }
 abbrev pub IsCallBy : ℕ → Call → Entry → Type 0
 IsCallBy caller call e = (e.caller ≡ caller) × (e.call ≡ call)
 
--- What became of the log in a store's own entry: only a logged card fills it, and a help is an entry of its own.
+-- What became of the log in a store's own entry: only a logged card fills it, and a help is an
+-- entry of its own.
 abbrev pub IsOwnFill : Kind → Fill → Type 0
 IsOwnFill kind No = Unit {0}
 IsOwnFill kind Full = kind ≡ Logged
@@ -47,7 +50,8 @@ IsOwnFill kind Helped = ⊥
 
 -- A store's own entry refines nothing and is not short.
 abbrev pub IsOwnReply : Reply → List ℕ → Type 0
-IsOwnReply (reply.Stored kind fill short) refined = IsOwnFill kind fill × (short ≡ false) × (refined ≡ [])
+IsOwnReply (reply.Stored kind fill short) refined =
+    IsOwnFill kind fill × (short ≡ false) × (refined ≡ [])
 IsOwnReply _ refined = ⊥
 
 abbrev pub IsOwnStore : ℕ → Call → Entry → Type 0
@@ -65,29 +69,33 @@ IsOfBuffer _ = ⊥
 
 -- The reply of a refinement where no buffer was there.
 abbrev pub IsOfNone : Reply → List ℕ → Type 0
-IsOfNone (reply.Refined taken hot skipped left short) refined = (taken ≡ 0) × (hot ≡ 0) × (skipped ≡ 0) × (short ≡ false) × (refined ≡ [])
+IsOfNone (reply.Refined taken hot skipped left short) refined =
+    (taken ≡ 0) × (hot ≡ 0) × (skipped ≡ 0) × (short ≡ false) × (refined ≡ [])
 IsOfNone _ refined = ⊥
 
 -- The entry is a refinement of one buffer by this caller.
 abbrev pub IsRefinementBy : ℕ → Entry → Type 0
 IsRefinementBy caller e = IsCallBy caller Refine e × IsOfBuffer e.reply
 
--- The calls that a command makes: a store helps only where it filled its log, a flush has an entry only where it
--- helps, and a round has one for each buffer that it takes.
+-- The calls that a command makes: a store helps only where it filled its log, a flush has an entry
+-- only where it helps, and a round has one for each buffer that it takes.
 abbrev pub IsPieceOf : Command → List Entry → Type 0
 IsPieceOf (command.Store mutator slot target) (e ∷ []) = IsOwnStore mutator (Store slot target) e
-IsPieceOf (command.Store mutator slot target) (e ∷ help ∷ []) = IsOwnStore mutator (Store slot target) e × FillsLog e.reply × IsRefinementBy mutator help
+IsPieceOf (command.Store mutator slot target) (e ∷ help ∷ []) =
+    IsOwnStore mutator (Store slot target) e × FillsLog e.reply × IsRefinementBy mutator help
 IsPieceOf (command.Flush mutator) [] = Unit {0}
 IsPieceOf (command.Flush mutator) (help ∷ []) = IsRefinementBy mutator help
 IsPieceOf command.Work entries = All (IsRefinementBy 0) entries
-IsPieceOf command.Refine (e ∷ []) = IsCallBy 0 Refine e × (IsOfBuffer e.reply ⊎ IsOfNone e.reply e.refined)
+IsPieceOf command.Refine (e ∷ []) =
+    IsCallBy 0 Refine e × (IsOfBuffer e.reply ⊎ IsOfNone e.reply e.refined)
 IsPieceOf (command.Call call) (e ∷ []) = IsCallBy 0 call e
 IsPieceOf _ _ = ⊥
 
--- What these settings allow: a round makes no more calls than one that begins at their `start` and sees no more completed buffers
--- than their line holds.
+-- What these settings allow: a round makes no more calls than one that begins at their `start` and
+-- sees no more completed buffers than their line holds.
 abbrev pub IsSetBy : Settings → Command → List Entry → Type 0
-IsSetBy s command.Work entries = (seen : ℕ) × (seen ≤ s.limit) × (length entries ≤ round_size s.start seen)
+IsSetBy s command.Work entries =
+    (seen : ℕ) × (seen ≤ s.limit) × (length entries ≤ round_size s.start seen)
 IsSetBy s c entries = Unit {0}
 
 abbrev pub one_call_line : List Entry → List ℕ
@@ -96,7 +104,8 @@ one_call_line _ = []
 
 -- one refinement by its reply and refined cards, and nothing for another reply
 abbrev pub lone_refine_line : Reply → List ℕ → List ℕ
-lone_refine_line (reply.Refined taken hot skipped left short) cards = refined_line taken (length cards) hot skipped short
+lone_refine_line (reply.Refined taken hot skipped left short) cards =
+    refined_line taken (length cards) hot skipped short
 lone_refine_line _ _ = []
 
 abbrev pub refine_line : List Entry → List ℕ
@@ -125,14 +134,17 @@ is_any_short (e ∷ entries) = is_short e.reply || is_any_short entries
 
 -- a store that did not help; a help was refused only where the log was filled
 abbrev pub lone_store_line : (refused : Bool) → Reply → List ℕ → List ℕ
-lone_store_line false (reply.Stored kind fill short) cards = stored_line kind fill (length cards) short
+lone_store_line false (reply.Stored kind fill short) cards =
+    stored_line kind fill (length cards) short
 lone_store_line true (reply.Stored Logged Full short) cards = stored_line Logged Helped 0 true
-lone_store_line true (reply.Stored kind fill short) cards = stored_line kind fill (length cards) short
+lone_store_line true (reply.Stored kind fill short) cards =
+    stored_line kind fill (length cards) short
 lone_store_line _ _ _ = []
 
 abbrev pub store_line : List Entry → Shown → List ℕ
 store_line (e ∷ []) shown = lone_store_line shown.refused e.reply e.refined
-store_line (e ∷ help ∷ []) shown = stored_line Logged Helped (length help.refined) (is_short help.reply)
+store_line (e ∷ help ∷ []) shown =
+    stored_line Logged Helped (length help.refined) (is_short help.reply)
 store_line _ _ = []
 
 -- a flush that did not help, or whose help was refused
@@ -142,13 +154,15 @@ lone_flush_line cards true = flushed_line cards Helped 0 true
 
 abbrev pub flush_line : List Entry → Shown → List ℕ
 flush_line [] shown = lone_flush_line shown.cards shown.refused
-flush_line (help ∷ []) shown = flushed_line shown.cards Helped (length help.refined) (is_short help.reply)
+flush_line (help ∷ []) shown =
+    flushed_line shown.cards Helped (length help.refined) (is_short help.reply)
 flush_line _ _ = []
 
 -- the sums over the calls of a round
 abbrev pub work_line : List Entry → Shown → List ℕ
 work_line entries shown =
-    worked_line (sum_by (λ e. taken_by e.reply) entries) (sum_by (λ e. length e.refined) entries) (sum_by (λ e. hot_in e.reply) entries)
+    worked_line (sum_by (λ e. taken_by e.reply) entries) (sum_by (λ e. length e.refined) entries)
+    (sum_by (λ e. hot_in e.reply) entries)
     (sum_by (λ e. skipped_in e.reply) entries) shown.left (is_any_short entries || shown.refused)
 
 -- the output line of a command, with its line feed

@@ -1,5 +1,7 @@
--- What is done with the commands of a trace, between two states of the reader, the writer and the one that plays.
-use Rattle.std.specs.Prelude.{◌≡◌, ◌≤◌, ℕ, List, [], ◌∷◌, ◌++◌, Bool, Result, Ok, Err, Option, Some, length}
+-- What is done with the commands of a trace, between two states of the reader, the writer and the
+-- one that plays.
+use Rattle.std.specs.Prelude.{◌≡◌, ◌≤◌, ℕ, List, [], ◌∷◌, ◌++◌, Bool, Result, Ok, Err, Option, Some}
+use Rattle.std.specs.Prelude.{length}
 use Rattle.g1_layout.specs.Shape.{Shape}
 use Rattle.g1_core.specs.declared.entry.Call.{Call}
 use Rattle.g1_core.specs.declared.entry.Entry.{Entry}
@@ -15,15 +17,16 @@ use Rattle.g1_options.specs.declared.options.Options.{Options}
 use Rattle.g1_trace.specs.Bytes.{Puts}
 use Rattle.g1_replay.specs.declared.stop.Stop.{Stop}
 use Rattle.g1_replay.specs.declared.stop.Stop.TheVariants.{NoMemory, BookFull, WriteFailed}
-use Rattle.g1_replay.specs.Pieces.{Piece, IsCallBy, IsLineOf, IsSetBy, AreSetBy, Walks, lines_of, entries_of}
+use Rattle.g1_replay.specs.Pieces.{Piece, IsCallBy, IsLineOf, IsSetBy, AreSetBy, Walks, lines_of}
+use Rattle.g1_replay.specs.Pieces.{entries_of}
 use Rattle.g1_replay.specs.Reading.{Reads}
 
 -- A new book over this layout, on the terms that the options say, whose machine is new.
 abbrev pub IsOpened : Shape → Options → History → Type 0
 IsOpened layout o book = book ≡ opened layout o.config o.mutators o.history
 
--- What plays commands over this heap in this dialect: its book is of them, with a mutator for each that they name, and a
--- line of as many completed buffers as the settings of the book say.
+-- What plays commands over this heap in this dialect: its book is of them, with a mutator for each
+-- that they name, and a line of as many completed buffers as the settings of the book say.
 abbrev pub IsReady : History → ℕ → Line → Shape → Dialect → Type 0
 IsReady book mutators line layout dialect =
     (layout_in book ≡ layout) × (book.mutators ≡ dialect.mutators) × (mutators ≡ dialect.mutators)
@@ -40,10 +43,13 @@ IsRefused old new refusal.BookFull = Grows old [] new × IsFull new
 
 -- The calls of a command were made and entered, and the answer has their text.
 abbrev pub IsDone : {V : Type 0} → (V → List ℕ) → History → History → Command → V → Type 0
-IsDone text old new c answer = (p : Piece) × Grows old p.entries new × IsLineOf c p (text answer) × IsSetBy old.machine.settings c p.entries
+IsDone text old new c answer =
+    (p : Piece) × Grows old p.entries new × IsLineOf c p (text answer)
+    × IsSetBy old.machine.settings c p.entries
 
 -- or the first of them was refused
-abbrev pub IsAnswered : {V : Type 0} → (V → List ℕ) → History → History → Command → Result V Refusal → Type 0
+abbrev pub IsAnswered : {V : Type 0} → (V → List ℕ) → History → History → Command → Result V Refusal
+    → Type 0
 IsAnswered text old new c (Ok answer) = IsDone text old new c answer
 IsAnswered text old new c (Err refusal) = IsRefused old new refusal
 
@@ -52,8 +58,10 @@ abbrev pub IsCalled : History → History → Call → Result (Unit {0}) Refusal
 IsCalled old new call (Ok done) = (e : Entry) × Grows old (e ∷ []) new × IsCallBy 0 call e
 IsCalled old new call (Err refusal) = IsRefused old new refusal
 
--- The calls of these commands were made and entered, as the settings of the book allow, and this is their text.
-pub record HasPlayed (old : History) (cs : List Command) (text : List ℕ) (new : History) : Type 0 where
+-- The calls of these commands were made and entered, as the settings of the book allow, and this is
+-- their text.
+pub record HasPlayed (old : History) (cs : List Command) (text : List ℕ)
+    (new : History) : Type 0 where
   pub pieces : List Piece
   pub walked : Walks cs pieces
   pub set : AreSetBy old.machine.settings cs pieces
@@ -66,17 +74,22 @@ written_by (Err WriteFailed) = Err tt
 written_by r = Ok tt
 
 -- All of the text was written, or a beginning of it where a write failed.
-abbrev pub Writes : {V : Type 0} → Option (List ℕ) → Option (List ℕ) → Result V Stop → List ℕ → Type 0
+abbrev pub Writes : {V : Type 0} → Option (List ℕ) → Option (List ℕ) → Result V Stop → List ℕ
+    → Type 0
 Writes out out' r text = Puts out out' (written_by r) text
 
--- The commands that were read and not done: the one that was refused for a full book, one at most for refused memory, and no other.
+-- The commands that were read and not done: the one that was refused for a full book, one at most
+-- for refused memory, and no other.
 abbrev pub IsUndone : {V : Type 0} → Result V Stop → List Command → Type 0
 IsUndone (Err BookFull) commands = (c : Command) × (commands ≡ c ∷ [])
 IsUndone (Err NoMemory) commands = length commands ≤ 1
 IsUndone r commands = commands ≡ []
 
--- Commands were done up to what stopped the replay, if anything did, and their text was written. Where a book is full, it is full then.
-pub record Does {S : Type 0} (did : S → List Command → List ℕ → S → Type 0) (full : S → Type 0) (commands : List Command) (old new : S) (out out' : Option (List ℕ)) (r : Result Bool Stop) : Type 0 where
+-- Commands were done up to what stopped the replay, if anything did, and their text was written.
+-- Where a book is full, it is full then.
+pub record Does {S : Type 0} (did : S → List Command → List ℕ → S → Type 0) (full : S
+    → Type 0) (commands : List Command) (old new : S) (out out' : Option (List ℕ))
+    (r : Result Bool Stop) : Type 0 where
   pub done : List Command
   pub undone : List Command
   pub all : commands ≡ done ++ undone
@@ -94,7 +107,9 @@ MayStop WriteFailed = Unit {0}
 MayStop stop = ⊥
 
 -- Lines were read, and their commands were done.
-pub record Follows {S : Type 0} (did : S → List Command → List ℕ → S → Type 0) (full : S → Type 0) (d : Dialect) (l : Shape) (n n' : ℕ) (old new : S) (rd rd' out out' : Option (List ℕ)) (r : Result Bool Stop) : Type 0 where
+pub record Follows {S : Type 0} (did : S → List Command → List ℕ → S → Type 0) (full : S
+    → Type 0) (d : Dialect) (l : Shape) (n n' : ℕ) (old new : S) (rd rd' out out' : Option (List ℕ))
+    (r : Result Bool Stop) : Type 0 where
   pub commands : List Command
   pub read : Reads d (Some l) n n' rd rd' (Some l) commands r
   pub done : Does did full commands old new out out' r

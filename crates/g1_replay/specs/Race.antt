@@ -1,5 +1,7 @@
 -- What a race writes: how many stores were made, and what the drains that follow answer.
-use Rattle.std.specs.Prelude.{◌≡◌, ◌≢◌, ◌⊎◌, ◌<◌, ◌==◌, ◌&&◌, if◌then◌else◌, ℕ, List, [], ◌∷◌, ◌++◌, Bool, true, false, Result, Ok, Err, Option, Some, None, Contains, codes, count_by, length, slice_index_or}
+use Rattle.std.specs.Prelude.{◌≡◌, ◌≢◌, ◌⊎◌, ◌<◌, ◌==◌, ◌&&◌, if◌then◌else◌, ℕ, List, [], ◌∷◌, ◌++◌}
+use Rattle.std.specs.Prelude.{Bool, true, false, Result, Ok, Err, Option, Some, None, Contains}
+use Rattle.std.specs.Prelude.{codes, count_by, length, slice_index_or}
 use Rattle.std.specs.Io.KnownBytes.{Appends}
 use Rattle.std.specs.List.Sorted.{IsStrictlyIncreasing}
 use Rattle.std.specs.Option.{option_or}
@@ -25,14 +27,21 @@ is_store_command c = false
 -- what the mutator stores to the slot last, if it stores to it
 abbrev pub last_by : (mutator slot : ℕ) → List Command → Option (Option ℕ)
 last_by mutator slot [] = None
-last_by mutator slot (Store by to target ∷ commands) = option_or (last_by mutator slot commands) (if (by == mutator) && (to == slot) then Some target else None)
+last_by mutator slot (Store by to target ∷ commands) =
+    option_or (last_by mutator slot commands)
+    (if (by == mutator) && (to == slot) then Some target else None)
 last_by mutator slot (c ∷ commands) = last_by mutator slot commands
 
--- The references that racing stores may leave: each slot refers to what some mutator stores to it last, or to nothing where none stores to it.
-pub record AreLeftBy (l : Shape) (mutators : ℕ) (commands : List Command) (refs : List (Option ℕ)) : Type 0 where
+-- The references that racing stores may leave: each slot refers to what some mutator stores to it
+-- last, or to nothing where none stores to it.
+pub record AreLeftBy (l : Shape) (mutators : ℕ) (commands : List Command)
+    (refs : List (Option ℕ)) : Type 0 where
   pub sized : length refs ≡ slot_count l
-  pub last : (slot : ℕ) → slot < slot_count l → ((mutator : ℕ) × (mutator < mutators) × (last_by mutator slot commands ≡ Some (slice_index_or refs slot None)))
-      ⊎ ((slice_index_or refs slot None ≡ None) × ((mutator : ℕ) → mutator < mutators → last_by mutator slot commands ≡ None))
+  pub last : (slot : ℕ) → slot < slot_count l
+      → ((mutator : ℕ) × (mutator < mutators)
+      × (last_by mutator slot commands ≡ Some (slice_index_or refs slot None)))
+      ⊎ ((slice_index_or refs slot None ≡ None)
+      × ((mutator : ℕ) → mutator < mutators → last_by mutator slot commands ≡ None))
 
 -- a heap of these references
 abbrev pub referring : Shape → List (Option ℕ) → Table
@@ -47,9 +56,10 @@ pub record StoresInto (l : Shape) (commands : List Command) (card region : ℕ) 
   pub on_card : card_of l slot ≡ card
   pub into : region_of l place ≡ region
 
--- What a drain of the region answers after a race: ascending, cards outside the region, every card that holds into it by these references, and only
--- cards to which a reference into it was stored.
-pub record IsExactAfter (l : Shape) (commands : List Command) (refs : List (Option ℕ)) (region : ℕ) (cards : List ℕ) : Type 0 where
+-- What a drain of the region answers after a race: ascending, cards outside the region, every card
+-- that holds into it by these references, and only cards to which a reference into it was stored.
+pub record IsExactAfter (l : Shape) (commands : List Command) (refs : List (Option ℕ)) (region : ℕ)
+    (cards : List ℕ) : Type 0 where
   pub ascending : IsStrictlyIncreasing cards
   pub outside : (card : ℕ) → Contains cards card → region_of_card l card ≢ region
   pub every : (card : ℕ) → Holds (referring l refs) card region → Contains cards card
@@ -58,8 +68,10 @@ pub record IsExactAfter (l : Shape) (commands : List Command) (refs : List (Opti
 -- one answer a drain: an exact list, or a short one
 abbrev pub AreExact : Shape → List Command → List (Option ℕ) → List Command → List Drained → Type 0
 AreExact l commands refs [] [] = Unit {0}
-AreExact l commands refs (Call (Drain region) ∷ ds) (Cards cards refined ∷ answers) = IsExactAfter l commands refs region cards × AreExact l commands refs ds answers
-AreExact l commands refs (Call (Drain region) ∷ ds) (Short refined ∷ answers) = AreExact l commands refs ds answers
+AreExact l commands refs (Call (Drain region) ∷ ds) (Cards cards refined ∷ answers) =
+    IsExactAfter l commands refs region cards × AreExact l commands refs ds answers
+AreExact l commands refs (Call (Drain region) ∷ ds) (Short refined ∷ answers) =
+    AreExact l commands refs ds answers
 AreExact l commands refs ds answers = ⊥
 
 -- a line an answer
@@ -72,31 +84,36 @@ drained_text [] = []
 drained_text (answer ∷ answers) = drain_text answer ++ drained_text answers
 
 -- The race left these references, and the drains of the first `drained` regions gave these answers.
-pub record HasRaced (l : Shape) (mutators : ℕ) (commands : List Command) (drained : ℕ) (answers : List Drained) : Type 0 where
+pub record HasRaced (l : Shape) (mutators : ℕ) (commands : List Command) (drained : ℕ)
+    (answers : List Drained) : Type 0 where
   pub refs : List (Option ℕ)
   pub left : AreLeftBy l mutators commands refs
   pub exact : AreExact l commands refs (drains drained) answers
 
--- Nothing was written, since something stopped the race; or how many stores there are was, and the lines of the drains of the first regions behind
--- it, at the end without a stop of all regions.
+-- Nothing was written, since something stopped the race; or how many stores there are was, and the
+-- lines of the drains of the first regions behind it, at the end without a stop of all regions.
 abbrev pub IsRaceText : Shape → ℕ → List Command → Result (Unit {0}) Stop → List ℕ → Type 0
 IsRaceText l mutators commands r text = ((stop : Stop) × (r ≡ Err stop) × (text ≡ []))
-    ⊎ ((drained : ℕ) × (answers : List Drained) × HasRaced l mutators commands drained answers × (r ≡ Ok tt → drained ≡ l.regions) × (text ≡ stores_text (count_by is_store_command commands) ++ drained_text answers))
+    ⊎ ((drained : ℕ) × (answers : List Drained) × HasRaced l mutators commands drained answers
+    × (r ≡ Ok tt → drained ≡ l.regions)
+    × (text ≡ stores_text (count_by is_store_command commands) ++ drained_text answers))
 
 -- what racing the scripts of these commands comes to
 abbrev pub RaceRan : ℕ → Shape → List Command → Result (Unit {0}) Stop → List ℕ → Type 0
 RaceRan mutators l commands r text = IsRunEnd r × IsRaceText l mutators commands r text
 
 -- what a race reads and writes, but for the line of its end
-abbrev pub RacedTrace : Dialect → ℕ → ℕ → Option (List ℕ) → Option (List ℕ) → Result (Unit {0}) Stop → List ℕ → Type 0
+abbrev pub RacedTrace : Dialect → ℕ → ℕ → Option (List ℕ) → Option (List ℕ) → Result (Unit {0}) Stop
+    → List ℕ → Type 0
 RacedTrace d n n' rd rd' r text = Scripted (RaceRan d.mutators) d n n' rd rd' r text
 
--- The whole output: the trace has no fault, and this is how many stores it has, with the lines of the drains of all regions over the references that
--- the race left.
+-- The whole output: the trace has no fault, and this is how many stores it has, with the lines of
+-- the drains of all regions over the references that the race left.
 pub record IsWholeRace (d : Dialect) (bytes : List ℕ) (out out' : Option (List ℕ)) : Type 0 where
   pub layout : Shape
   pub commands : List Command
   pub answers : List Drained
   pub trace : read_trace d bytes ≡ record { heap = Some layout; commands = commands; fault = None }
   pub raced : HasRaced layout d.mutators commands layout.regions answers
-  pub written : Appends out out' (stores_text (count_by is_store_command commands) ++ drained_text answers)
+  pub written : Appends out out' (stores_text (count_by is_store_command commands)
+      ++ drained_text answers)

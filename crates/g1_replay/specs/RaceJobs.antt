@@ -1,5 +1,6 @@
 -- The jobs of a race, and the table that they leave.
-use Rattle.std.specs.Prelude.{◌≡◌, ◌⊎◌, ℕ, suc, ◌<◌, ◌≤◌, nat_lt, List, [], ◌∷◌, ◌++◌, Option, Some, None}
+use Rattle.std.specs.Prelude.{◌≡◌, ◌⊎◌, ℕ, suc, ◌<◌, ◌≤◌, nat_lt, List, [], ◌∷◌, ◌++◌, Option, Some}
+use Rattle.std.specs.Prelude.{None}
 use Rattle.std.specs.List.{filter_map}
 use Rattle.g1_log.specs.declared.ends.Sender.{Sender}
 use Rattle.g1_log.specs.declared.ends.Taker.{Taker}
@@ -38,13 +39,16 @@ pub record IsNewMember (race : Race) (line : Line) (mutators k : ℕ) (m : Membe
   pub logged : member_logged m ≡ 0
   pub fresh : HasStoredNothing m
 
--- The script of member k: the stores of its mutator in the order of the trace and one flush, or rounds of refinement.
+-- The script of member k: the stores of its mutator in the order of the trace and one flush, or
+-- rounds of refinement.
 abbrev pub IsRaceScript : (mutators rounds k : ℕ) → List Command → Script → Type 0
-IsRaceScript mutators rounds k commands (Mutate steps) = (k < mutators) × (steps.items ≡ filter_map (step_for k) commands ++ step.Flush ∷ [])
+IsRaceScript mutators rounds k commands (Mutate steps) =
+    (k < mutators) × (steps.items ≡ filter_map (step_for k) commands ++ step.Flush ∷ [])
 IsRaceScript mutators rounds k commands (Refine made) = (mutators ≤ k) × (made ≡ rounds)
 
 -- Member k and its script.
-pub record IsRaceJob (race : Race) (line : Line) (mutators rounds : ℕ) (commands : List Command) (k : ℕ) (m : Member) (s : Script) : Type 0 where
+pub record IsRaceJob (race : Race) (line : Line) (mutators rounds : ℕ) (commands : List Command)
+    (k : ℕ) (m : Member) (s : Script) : Type 0 where
   pub new : IsNewMember race line mutators k m
   pub script : IsRaceScript mutators rounds k commands s
 
@@ -65,10 +69,13 @@ abbrev pub taker_in : Member → Option Taker
 taker_in (Racing r s) = None
 taker_in (Sweeping w t) = Some t
 
--- The table that a race of these commands leaves: its references are those that the stores may leave; it is covered; each recorded pair is of a card
--- outside its region; and each card that holds into a region or is recorded for it had a reference into it stored.
+-- The table that a race of these commands leaves: its references are those that the stores may
+-- leave; it is covered; each recorded pair is of a card outside its region; and each card that
+-- holds into a region or is recorded for it had a reference into it stored.
 pub record IsTableLeftBy (mutators : ℕ) (commands : List Command) (e : Ended) : Type 0 where
   pub left : AreLeftBy e.layout mutators commands (refs_of e)
   pub covered : IsCovered (table_of e)
-  pub pairs : (card region : ℕ) → IsRecorded (table_of e) card region → IsPairOf e.layout (card, region)
-  pub had : (card region : ℕ) → IsRecorded (table_of e) card region ⊎ Holds (table_of e) card region → StoresInto e.layout commands card region
+  pub pairs : (card region : ℕ) → IsRecorded (table_of e) card region
+      → IsPairOf e.layout (card, region)
+  pub had : (card region : ℕ) → IsRecorded (table_of e) card region ⊎ Holds (table_of e) card region
+      → StoresInto e.layout commands card region

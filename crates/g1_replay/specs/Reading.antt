@@ -1,5 +1,6 @@
 -- What the calls that read lines take from the reader, and which part of the trace that is.
-use Rattle.std.specs.Prelude.{◌≡◌, ℕ, ◌≤◌, List, [], ◌∷◌, ◌++◌, length, Bool, true, false, Result, Ok, Err, Option, Some, None, IsSome}
+use Rattle.std.specs.Prelude.{◌≡◌, ℕ, ◌≤◌, List, [], ◌∷◌, ◌++◌, length, Bool, true, false, Result}
+use Rattle.std.specs.Prelude.{Ok, Err, Option, Some, None, IsSome}
 use Rattle.std.specs.Io.KnownBytes.{Consumes, IsAtEnd}
 use Rattle.g1_layout.specs.Shape.{Shape}
 use Rattle.g1_trace.specs.declared.command.Command.{Command}
@@ -17,20 +18,25 @@ abbrev pub IsLeft : Option (List ℕ) → List ℕ → Type 0
 IsLeft None x = ⊥
 IsLeft (Some left) x = x ≡ left
 
--- These bytes are whole lines without a fault, from line n on, and these are their commands; line n' comes behind them.
+-- These bytes are whole lines without a fault, from line n on, and these are their commands; line
+-- n' comes behind them.
 abbrev pub Passes : Dialect → Option Shape → ℕ → List ℕ → List Command → Option Shape → ℕ → Type 0
-Passes d from n lines cs to n' = (x : List ℕ) → read_on d from n [] (lines ++ x) ≡ before cs (read_on d to n' [] x)
+Passes d from n lines cs to n' =
+    (x : List ℕ) → read_on d from n [] (lines ++ x) ≡ before cs (read_on d to n' [] x)
 
--- What comes behind whole lines, as far as it was read: nothing, where more may come or something else stopped the replay; the end of the
--- input; a line with a fault; or a beginning of a line, where a read failed.
+-- What comes behind whole lines, as far as it was read: nothing, where more may come or something
+-- else stopped the replay; the end of the input; a line with a fault; or a beginning of a line,
+-- where a read failed.
 abbrev pub IsMet : Dialect → Option Shape → ℕ → List ℕ → Option (List ℕ) → Result Bool Stop → Type 0
 IsMet d heap n rest rd' (Ok false) = (rest ≡ []) × IsAtEnd rd' × IsSome heap
-IsMet d heap n rest rd' (Err (Fault f)) = (x : List ℕ) → IsLeft rd' x → read_on d heap n [] (rest ++ x) ≡ faulty heap n f
+IsMet d heap n rest rd' (Err (Fault f)) =
+    (x : List ℕ) → IsLeft rd' x → read_on d heap n [] (rest ++ x) ≡ faulty heap n f
 IsMet d heap n rest rd' (Err ReadFailed) = IsPart rest × (length rest ≤ 64)
 IsMet d heap n rest rd' r = rest ≡ []
 
 -- Whole lines without a fault were read, from line n on, and then what comes at line n'.
-pub record Reads (d : Dialect) (from : Option Shape) (n n' : ℕ) (rd rd' : Option (List ℕ)) (to : Option Shape) (commands : List Command) (r : Result Bool Stop) : Type 0 where
+pub record Reads (d : Dialect) (from : Option Shape) (n n' : ℕ) (rd rd' : Option (List ℕ))
+    (to : Option Shape) (commands : List Command) (r : Result Bool Stop) : Type 0 where
   pub lines : List ℕ
   pub rest : List ℕ
   pub consumed : Consumes rd rd' (lines ++ rest)

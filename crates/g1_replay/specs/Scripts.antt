@@ -1,5 +1,6 @@
 -- The scripts of a crew: what each caller is to do.
-use Rattle.std.specs.Prelude.{◌≡◌, ℕ, ◌<◌, ◌≤◌, ◌==◌, List, [], ◌∷◌, ◌++◌, length, take, map, count_by, sum_by, slice_index_or}
+use Rattle.std.specs.Prelude.{◌≡◌, ℕ, ◌<◌, ◌≤◌, ◌==◌, List, [], ◌∷◌, ◌++◌, length, take, map}
+use Rattle.std.specs.Prelude.{count_by, sum_by, slice_index_or}
 use Rattle.std.specs.Prelude.{Option, Some, None, Result, Err, if◌then◌else◌}
 use Rattle.std.proofs.Common.{refl, sym, subst, ap, ◌∙◌, append-nil, append_assoc}
 use Rattle.std.proofs.lemmas.List.Elements.{filter_map-append}
@@ -22,43 +23,58 @@ asked_in c = None
 
 -- what a command asks of this mutator, if it is the mutator's
 abbrev pub step_for : ℕ → Command → Option Step
-step_for mutator (Store by slot target) = if by == mutator then Some (step.Store slot target) else None
+step_for mutator (Store by slot target) =
+    if by == mutator then Some (step.Store slot target) else None
 step_for mutator (Flush by) = if by == mutator then Some step.Flush else None
 step_for mutator c = None
 
--- The script of the caller of this number: the calls of its mutator, in the order of the trace, or rounds of refinement.
+-- The script of the caller of this number: the calls of its mutator, in the order of the trace, or
+-- rounds of refinement.
 abbrev pub IsScriptOf : (mutators rounds number : ℕ) → List Command → Script → Type 0
-IsScriptOf mutators rounds number commands (Mutate steps) = (number < mutators) × (steps.items ≡ filter_map (step_for number) commands)
+IsScriptOf mutators rounds number commands (Mutate steps) =
+    (number < mutators) × (steps.items ≡ filter_map (step_for number) commands)
 IsScriptOf mutators rounds number commands (Refine made) = (mutators ≤ number) × (made ≡ rounds)
 
 -- The calls of these commands came behind those of their mutators.
-pub record AreKept {E : Type 0} (steps : E → List Step) (old : List E) (cs : List Command) (new : List E) : Type 0 where
+pub record AreKept {E : Type 0} (steps : E → List Step) (old : List E) (cs : List Command)
+    (new : List E) : Type 0 where
   pub len : length new ≡ length old
-  pub each : (k : ℕ) (d : E) → k < length old → steps (slice_index_or new k d) ≡ steps (slice_index_or old k d) ++ filter_map (step_for k) cs
+  pub each : (k : ℕ) (d : E) → k < length old
+      → steps (slice_index_or new k d)
+      ≡ steps (slice_index_or old k d) ++ filter_map (step_for k) cs
 
 -- For each mutator the calls that the commands ask of it, in their order.
 abbrev pub AreScriptsOf : {E : Type 0} → (E → List Step) → List Command → List E → Type 0
-AreScriptsOf {E} steps commands scripts = (k : ℕ) (d : E) → k < length scripts → steps (slice_index_or scripts k d) ≡ filter_map (step_for k) commands
+AreScriptsOf {E} steps commands scripts = (k : ℕ) (d : E) → k < length scripts
+    → steps (slice_index_or scripts k d) ≡ filter_map (step_for k) commands
 
 -- The script of the caller of this number: that of its mutator, or rounds of refinement.
 abbrev pub IsScriptAt : {E : Type 0} → (E → List Step) → (rounds : ℕ) → List E → ℕ → Script → Type 0
-IsScriptAt {E} steps rounds scripts number (Mutate made) = (script : E) × (number < length scripts) × ((d : E) → slice_index_or scripts number d ≡ script) × (made.items ≡ steps script)
-IsScriptAt {E} steps rounds scripts number (Refine made) = (length scripts ≤ number) × (made ≡ rounds)
+IsScriptAt {E} steps rounds scripts number (Mutate made) =
+    (script : E) × (number < length scripts) × ((d : E) → slice_index_or scripts number d ≡ script)
+    × (made.items ≡ steps script)
+IsScriptAt {E} steps rounds scripts number (Refine made) =
+    (length scripts ≤ number) × (made ≡ rounds)
 
 -- scripts that grow
 pub kept_nothing : {E : Type 0} (steps : E → List Step) (old : List E) → AreKept steps old [] old
-kept_nothing steps old = record { len = refl; each = λ k d h. sym (append-nil (steps (slice_index_or old k d))) }
+kept_nothing steps old =
+    record { len = refl; each = λ k d h. sym (append-nil (steps (slice_index_or old k d))) }
 
-pub kept_then : {E : Type 0} (steps : E → List Step) (a b c : List E) (cs ds : List Command) (xs ys : List ℕ) → AreKept steps a cs b × (xs ≡ []) → AreKept steps b ds c × (ys ≡ [])
+pub kept_then : {E : Type 0} (steps : E → List Step) (a b c : List E) (cs ds : List Command)
+    (xs ys : List ℕ) → AreKept steps a cs b × (xs ≡ []) → AreKept steps b ds c × (ys ≡ [])
     → AreKept steps a (cs ++ ds) c × (xs ++ ys ≡ [])
 kept_then {E} steps a b c cs ds xs ys p q = (
   record {
     len = q.0.len ∙ p.0.len;
     each = λ k d h.
         let behind : k < length b = subst (λ n. k < n) (sym p.0.len) h in
-        q.0.each k d behind ∙ ap (λ (l : List Step). l ++ filter_map (step_for k) ds) (p.0.each k d h)
-        ∙ append_assoc (steps (slice_index_or a k d)) (filter_map (step_for k) cs) (filter_map (step_for k) ds)
-        ∙ ap (λ (l : List Step). steps (slice_index_or a k d) ++ l) (sym (filter_map-append (step_for k) cs ds));
+        q.0.each k d behind ∙ ap (λ (l : List Step). l ++ filter_map (step_for k) ds)
+        (p.0.each k d h)
+        ∙ append_assoc (steps (slice_index_or a k d)) (filter_map (step_for k) cs)
+        (filter_map (step_for k) ds)
+        ∙ ap (λ (l : List Step). steps (slice_index_or a k d) ++ l)
+        (sym (filter_map-append (step_for k) cs ds));
   },
   ap (λ l. l ++ ys) p.1 ∙ q.1,
 )
@@ -87,11 +103,14 @@ asked_by script outcome = asks_in script
 abbrev pub stored_by : JobEnd → ℕ
 stored_by job = count_by is_store_ask (asked_by job.script job.outcome)
 
--- The jobs of a crew came back, one a caller, in order. Each had the script of its caller, `refused` is why the first of
--- those that were refused was, and as many stores were entered as all of them asked for.
-pub record HasCome {E : Type 0} (steps : E → List Step) (rounds callers : ℕ) (asked : List E) (refused : Option Refusal) (stores : ℕ) : Type 0 where
+-- The jobs of a crew came back, one a caller, in order. Each had the script of its caller,
+-- `refused` is why the first of those that were refused was, and as many stores were entered as all
+-- of them asked for.
+pub record HasCome {E : Type 0} (steps : E → List Step) (rounds callers : ℕ) (asked : List E)
+    (refused : Option Refusal) (stores : ℕ) : Type 0 where
   pub jobs : List JobEnd
   pub many : length jobs ≡ callers
-  pub scripts : (k : ℕ) (d : JobEnd) → k < length jobs → IsScriptAt steps rounds asked k (slice_index_or jobs k d).script
+  pub scripts : (k : ℕ) (d : JobEnd) → k < length jobs
+      → IsScriptAt steps rounds asked k (slice_index_or jobs k d).script
   pub first : refused ≡ first_refusal (map (λ job. job.outcome) jobs)
   pub stored : stores ≡ sum_by stored_by jobs

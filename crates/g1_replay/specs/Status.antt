@@ -1,7 +1,8 @@
 -- Exit statuses.
 use Rattle.std.specs.Prelude.{ℕ}
 use Rattle.g1_replay.specs.declared.end.End.{End}
-use Rattle.g1_replay.specs.declared.end.End.TheVariants.{Whole, Refused, Stopped, ReadFailed, WriteFailed}
+use Rattle.g1_replay.specs.declared.end.End.TheVariants.{Whole, Refused, Stopped, ReadFailed}
+use Rattle.g1_replay.specs.declared.end.End.TheVariants.{WriteFailed}
 
 -- the exit status of each end
 abbrev pub exit_status : End → ℕ

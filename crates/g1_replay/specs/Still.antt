@@ -19,7 +19,8 @@ pauses _ = false
 
 -- The log of each is empty.
 abbrev pub AreStill : List Mutator → Type 0
-AreStill mutators = (k : ℕ) (d : Mutator) → k < length mutators → (slice_index_or mutators k d).log.cards ≡ []
+AreStill mutators =
+    (k : ℕ) (d : Mutator) → k < length mutators → (slice_index_or mutators k d).log.cards ≡ []
 
 -- An empty log of this size.
 abbrev pub IsNewLog : ℕ → Cards → Type 0

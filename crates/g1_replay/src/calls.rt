@@ -20,7 +20,8 @@ use std::io::Write;
 /// Makes the call and writes the line of its entry.
 pub(crate) fn play_call<W: Write>(book: &mut Book, call: Call, output: &mut W) -> Result<(), Stop>
     requires { IsCallOf (layout_in book.old) call }
-    ensures played { Does HasPlayed IsFull (Command.Call call ∷ []) book.old book.new (W.contents output.old) (W.contents output.new) (more_may_come result) }
+    ensures played { Does HasPlayed IsFull (Command.Call call ∷ []) book.old book.new
+        (W.contents output.old) (W.contents output.new) (more_may_come result) }
     ensures stops { IfErr result MayStop }
 {
     make_call(book, call)?;
@@ -70,7 +71,8 @@ pub(crate) fn put_call<W: Write>(
     call: Call,
     reply: &Reply,
 ) -> Result<(), WriteFailed>
-    ensures { Puts (W.contents output.old) (W.contents output.new) result (call_line call reply.now) }
+    ensures { Puts (W.contents output.old) (W.contents output.new) result
+        (call_line call reply.now) }
 {
     match (call, reply) {
         (Call::Target(_), Reply::Target(place)) => put_target(output, *place),

@@ -1,5 +1,6 @@
 //! The jobs of a crew, and the book that they leave.
-ghost use Rattle.std.specs.Prelude.{◌≡◌, ◌+◌, ◌≤◌, ℕ, [], drop, true, IfErr, IfOk, All, map, count_by, vec_len, vec_capacity};
+ghost use Rattle.std.specs.Prelude.{◌≡◌, ◌+◌, ◌≤◌, ℕ, [], drop, true, IfErr, IfOk, All, map};
+ghost use Rattle.std.specs.Prelude.{count_by, vec_len, vec_capacity};
 ghost use Rattle.g1_shared.specs.Callers.{IsCallerOf};
 ghost use Rattle.g1_shared.specs.Counts.{is_store};
 ghost use Rattle.g1_book.specs.History.{terms_of};
@@ -24,7 +25,9 @@ use std::thread::Threads;
 
 // The next script: the calls of a mutator, or rounds if none is left.
 fn next_script(scripts: &mut Vec<Vec<Step>>, rounds: u32) -> Script
-    ensures { (all : _) (k : ℕ) → scripts.old.items ≡ drop k all → IsScriptAt (λ steps. steps.items) rounds all k result × (scripts.new.items ≡ drop (k + 1) all) }
+    ensures { (all : _) (k : ℕ) → scripts.old.items ≡ drop k all
+        → IsScriptAt (λ steps. steps.items) rounds all k result
+        × (scripts.new.items ≡ drop (k + 1) all) }
 {
     if scripts.is_empty() {
         return Script::Refine(rounds);
@@ -42,9 +45,13 @@ fn jobs_of<'a, T, M: Frame, S: Ledger>(
     scripts: Vec<Vec<Step>>,
     rounds: u32,
 ) -> Result<Vec<Job<SharedDesk<'a, T, M, S>>>, NoMemory>
-    requires { AllFrom (λ k caller. IsCallerOf shared.now caller × (caller.counts.number ≡ k)) 0 callers.items }
-    ensures scripts { IfOk result (λ jobs. All (λ job. IsScriptAt (λ steps. steps.items) rounds scripts.items job.desk.caller.counts.number job.script) jobs.items) }
-    ensures callers { IfOk result (λ jobs. map (λ job. job.desk.caller) jobs.items ≡ callers.items) }
+    requires { AllFrom (λ k caller. IsCallerOf shared.now caller × (caller.counts.number ≡ k)) 0
+        callers.items }
+    ensures scripts { IfOk result (λ jobs.
+        All (λ job. IsScriptAt (λ steps. steps.items) rounds scripts.items
+        job.desk.caller.counts.number job.script) jobs.items) }
+    ensures callers { IfOk result (λ jobs.
+        map (λ job. job.desk.caller) jobs.items ≡ callers.items) }
     ensures len { IfOk result (λ jobs. vec_len jobs ≡ vec_len callers) }
 {
     let mut jobs = Vec::with_capacity(alloc, callers.len())?;
@@ -98,13 +105,16 @@ pub(crate) fn run_jobs<T: Threads + Wait + Sync, M: Frame + Send + Sync, S: Ledg
     scripts: Vec<Vec<Step>>,
     options: &Options,
 ) -> Result<(Book, Option<Refusal>), Stop>
-    requires made { (blanks.0.name ≡ M.name) × (blanks.0.parts ≡ M.parts) × (blanks.0.parts ≡ options.now.mutators + options.now.refiners) }
-    requires stored { (blanks.1.name ≡ S.name) × (blanks.1.parts ≡ S.parts) × (blanks.1.parts ≡ options.now.mutators + options.now.refiners) }
+    requires made { (blanks.0.name ≡ M.name) × (blanks.0.parts ≡ M.parts)
+        × (blanks.0.parts ≡ options.now.mutators + options.now.refiners) }
+    requires stored { (blanks.1.name ≡ S.name) × (blanks.1.parts ≡ S.parts)
+        × (blanks.1.parts ≡ options.now.mutators + options.now.refiners) }
     requires terms { terms_of book ≡ M.terms }
     requires mutators { options.now.mutators ≡ M.terms.mutators }
     requires empty { book.entries ≡ [] }
     requires count { vec_len scripts ≡ M.terms.mutators }
-    requires fits { All (λ steps. All (StepFits (slot_count M.terms.layout) true) steps.items) scripts.items }
+    requires fits { All (λ steps. All (StepFits (slot_count M.terms.layout) true) steps.items)
+        scripts.items }
     ensures terms { IfOk result (λ done. terms_of done.0 ≡ M.terms) }
     ensures came { IfOk result (λ done. HasCome (λ steps. steps.items) options.now.rounds
         (options.now.mutators + options.now.refiners) scripts.items done.1

@@ -1,5 +1,6 @@
 //! The scripts of a crew, kept as its trace is read.
-ghost use Rattle.std.specs.Prelude.{◌≡◌, ℕ, List, [], refl, true, Ok, Some, None, false, All, IfOk, MatchResult, vec_len};
+ghost use Rattle.std.specs.Prelude.{◌≡◌, ℕ, List, [], refl, true, Ok, Some, None, false, All, IfOk};
+ghost use Rattle.std.specs.Prelude.{MatchResult, vec_len};
 ghost use Rattle.std.specs.Io.KnownBytes.{Appends};
 ghost use Rattle.g1_layout.specs.Shape.{slot_count};
 ghost use Rattle.g1_steps.specs.Ask.{StepFits};
@@ -32,7 +33,8 @@ impl Scripts {
     // No calls yet.
     fn new(alloc: Global, mutators: u32) -> Result<Scripts, NoMemory>
         ensures len { IfOk result (λ scripts. vec_len scripts.steps ≡ mutators) }
-        ensures none { IfOk result (λ scripts. All (λ steps. steps.items ≡ []) scripts.steps.items) }
+        ensures none { IfOk result (λ scripts.
+            All (λ steps. steps.items ≡ []) scripts.steps.items) }
     {
         let mut steps = Vec::with_capacity(alloc, mutators as usize)?;
         'scripts: while steps.len() < mutators as usize {
@@ -43,9 +45,11 @@ impl Scripts {
 }
 
 impl Player for Scripts {
-    ghost takes = { λ s l d. (vec_len s.steps ≡ d.mutators) × All (λ steps. All (StepFits (slot_count l) true) steps.items) s.steps.items };
+    ghost takes = { λ s l d. (vec_len s.steps ≡ d.mutators)
+        × All (λ steps. All (StepFits (slot_count l) true) steps.items) s.steps.items };
 
-    ghost did = { λ s cs text t. AreKept (λ steps. steps.items) s.steps.items cs t.steps.items × (text ≡ []) };
+    ghost did = { λ s cs text t. AreKept (λ steps. steps.items) s.steps.items cs t.steps.items
+        × (text ≡ []) };
 
     ghost full = { λ s. ⊥ };
 
@@ -73,7 +77,8 @@ impl Player for Scripts {
 
     ghost none = { λ s. (kept_nothing (λ steps. steps.items) s.steps.items, refl) };
 
-    ghost then = { λ s t u cs ds xs ys. kept_then (λ steps. steps.items) s.steps.items t.steps.items u.steps.items cs ds xs ys };
+    ghost then = { λ s t u cs ds xs ys.
+        kept_then (λ steps. steps.items) s.steps.items t.steps.items u.steps.items cs ds xs ys };
 }
 
 /// Reads a trace to its end: its heap, and for each mutator its calls in the order of the trace.
@@ -90,11 +95,15 @@ pub(crate) fn read_crew<T: Wait, R: BufRead, W: Write>(
     output: &mut W,
 ) -> Result<(Layout, Vec<Vec<Step>>), Stop>
     ensures read { MatchResult result
-        (λ p. (commands : List C) × Reads dialect None source.old.number source.new.number (R.remaining input.old) (R.remaining input.new) (Some p.0) commands (Ok false)
+        (λ p. (commands : List C)
+        × Reads dialect None source.old.number source.new.number (R.remaining input.old)
+        (R.remaining input.new) (Some p.0) commands (Ok false)
         × AreScriptsOf (λ steps. steps.items) commands p.1.items)
-        (λ stop. StopsReading dialect source.old.number source.new.number (R.remaining input.old) (R.remaining input.new) stop) }
+        (λ stop. StopsReading dialect source.old.number source.new.number (R.remaining input.old)
+        (R.remaining input.new) stop) }
     ensures len { IfOk result (λ p. vec_len p.1 ≡ dialect.mutators) }
-    ensures fits { IfOk result (λ p. All (λ steps. All (StepFits (slot_count p.0) true) steps.items) p.1.items) }
+    ensures fits { IfOk result (λ p.
+        All (λ steps. All (StepFits (slot_count p.0) true) steps.items) p.1.items) }
     ensures silent { Appends (W.contents output.old) (W.contents output.new) [] }
 {
     let mut scripts = Scripts::new(alloc, dialect.mutators)?;

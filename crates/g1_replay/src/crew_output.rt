@@ -58,7 +58,8 @@ impl Drains for Book {
 
 // How many stores there were, and the drains of all regions.
 fn put_book<W: Write>(book: &mut Book, output: &mut W) -> Result<(), Stop>
-    ensures { (text : List ℕ) × Ran (layout_in book.old) book.old.limit result text × Writes (W.contents output.old) (W.contents output.new) result text }
+    ensures { (text : List ℕ) × Ran (layout_in book.old) book.old.limit result text
+        × Writes (W.contents output.old) (W.contents output.new) result text }
 {
     let layout = book.layout();
     let count = count_stores(book.entries());
@@ -90,7 +91,8 @@ pub(crate) fn put_crew<W: Write>(
     output: &mut W,
 ) -> Result<(), Stop>
     requires { book.old.limit ≡ history }
-    ensures { (text : List ℕ) × Ran (layout_in book.old) history result text × Writes (W.contents output.old) (W.contents output.new) result text }
+    ensures { (text : List ℕ) × Ran (layout_in book.old) history result text
+        × Writes (W.contents output.old) (W.contents output.new) result text }
 {
     match refused {
         Some(refusal) => Err(stop_of(book, refusal, history)),

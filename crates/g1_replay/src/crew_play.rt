@@ -39,8 +39,10 @@ fn run_scripts<T: Threads + Wait + Sync, W: Write>(
     options: &Options,
 ) -> Result<(), Stop>
     requires count { vec_len scripts ≡ options.now.mutators }
-    requires fits { All (λ steps. All (StepFits (slot_count layout) true) steps.items) scripts.items }
-    ensures { (text : List ℕ) × Ran layout options.now.history result text × Writes (W.contents output.old) (W.contents output.new) result text }
+    requires fits { All (λ steps.
+        All (StepFits (slot_count layout) true) steps.items) scripts.items }
+    ensures { (text : List ℕ) × Ran layout options.now.history result text
+        × Writes (W.contents output.old) (W.contents output.new) result text }
 {
     let count = u64::from(options.mutators + options.refiners);
     let book = Book::open(
@@ -66,7 +68,11 @@ fn play_crew<T: Threads + Wait + Sync, R: BufRead, W: Write>(
     output: &mut W,
     options: &Options,
 ) -> Result<(), Stop>
-    ensures { (text : List ℕ) × Crewed (record { mode = Crew; mutators = options.now.mutators }) options.now.history source.old.number source.new.number (R.remaining input.old) (R.remaining input.new) result text
+    ensures { (text : List ℕ) × Crewed (record {
+      mode = Crew;
+      mutators = options.now.mutators;
+    }) options.now.history source.old.number source.new.number
+        (R.remaining input.old) (R.remaining input.new) result text
         × Writes (W.contents output.old) (W.contents output.new) result text }
 {
     let dialect = Dialect {
@@ -104,10 +110,24 @@ pub fn crew<T: Threads + Wait + Sync, R: BufRead, W: Write>(
     options: &Options,
 ) -> End
     ensures told { (number : ℕ) × (outcome : Result (Unit {0}) Stop) × (text : List ℕ)
-        × Crewed (record { mode = Crew; mutators = options.now.mutators }) options.now.history 1 number (R.remaining input.old) (R.remaining input.new) outcome text
-        × IsEnded (W.contents output.old) (W.contents output.new) outcome (text ++ ending_line number outcome) result }
-    ensures whole { result ≡ End.Whole → IfSome (R.remaining input.old) (λ bytes. IsWholeCrew (record { mode = Crew; mutators = options.now.mutators }) options.now.history bytes (W.contents output.old) (W.contents output.new)) }
-    ensures refused { result ≡ End.Refused → IfSome (R.remaining input.old) (λ bytes. IsRefusedTrace (record { mode = Crew; mutators = options.now.mutators }) bytes (W.contents output.old) (W.contents output.new)) }
+        × Crewed (record {
+          mode = Crew;
+          mutators = options.now.mutators;
+        }) options.now.history 1 number (R.remaining input.old)
+        (R.remaining input.new) outcome text
+        × IsEnded (W.contents output.old) (W.contents output.new) outcome
+        (text ++ ending_line number outcome) result }
+    ensures whole { result ≡ End.Whole
+        → IfSome (R.remaining input.old) (λ bytes.
+        IsWholeCrew (record {
+          mode = Crew;
+          mutators = options.now.mutators;
+        }) options.now.history bytes (W.contents output.old)
+        (W.contents output.new)) }
+    ensures refused { result ≡ End.Refused
+        → IfSome (R.remaining input.old) (λ bytes.
+        IsRefusedTrace (record { mode = Crew; mutators = options.now.mutators }) bytes
+        (W.contents output.old) (W.contents output.new)) }
 {
     let mut source = Source {
         reads: 0,

@@ -29,14 +29,17 @@ pub(crate) trait Drains {
     /// that a later one can tell.
     fn put_drain<W: Write>(&mut self, region: Region, output: &mut W) -> Result<(), Stop>
         requires { region < (layout self.old).regions }
-        ensures played { Does did full (Command.Call (Call.Drain region) ∷ []) self.old self.new (W.contents output.old) (W.contents output.new) (more_may_come result) }
+        ensures played { Does did full (Command.Call (Call.Drain region) ∷ []) self.old self.new
+            (W.contents output.old) (W.contents output.new) (more_may_come result) }
         ensures stops { IfErr result MayStop };
 
     ghost none: { (s : Self) → did s [] [] s };
 
-    ghost then: { (s t u : Self) (cs ds : List Command) (xs ys : List ℕ) → did s cs xs t → did t ds ys u → did s (cs ++ ds) (xs ++ ys) u };
+    ghost then: { (s t u : Self) (cs ds : List Command) (xs ys : List ℕ) → did s cs xs t
+        → did t ds ys u → did s (cs ++ ds) (xs ++ ys) u };
 
-    ghost stays: { (s t : Self) (cs : List Command) (xs : List ℕ) → did s cs xs t → layout t ≡ layout s };
+    ghost stays: { (s t : Self) (cs : List Command) (xs : List ℕ) → did s cs xs t
+        → layout t ≡ layout s };
 }
 
 /// Drains all regions, in order.
@@ -46,7 +49,8 @@ pub(crate) fn put_drains<D: Drains, W: Write>(
     output: &mut W,
 ) -> Result<(), Stop>
     requires { D.layout left.old ≡ layout }
-    ensures drained { HasDrained D.did D.full layout.regions left.old left.new (W.contents output.old) (W.contents output.new) result }
+    ensures drained { HasDrained D.did D.full layout.regions left.old left.new
+        (W.contents output.old) (W.contents output.new) result }
     ensures stops { IfErr result MayStop }
 {
     let (regions, _, _) = layout.counts();

@@ -1,8 +1,10 @@
 //! Reads a trace line by line, makes the calls of each line, and writes its output line.
-ghost use Rattle.std.specs.Prelude.{◌≡◌, ℕ, List, [], ◌++◌, ◌<◌, ◌≤◌, ◌^◌, ◌⊎◌, Ok, true, Result, IfSome, IfErr, OnOk};
+ghost use Rattle.std.specs.Prelude.{◌≡◌, ℕ, List, [], ◌++◌, ◌<◌, ◌≤◌, ◌^◌, ◌⊎◌, Ok, true, Result};
+ghost use Rattle.std.specs.Prelude.{IfSome, IfErr, OnOk};
 ghost use Rattle.g1_trace.specs.declared.mode.Mode.TheVariants.{Run};
 ghost use Rattle.g1_replay.specs.Playing.{Follows, Writes};
-ghost use Rattle.g1_replay.specs.Output.{Told, IsEnded, ended, ending_line, end_or_failed, IsWholeOutput, IsRefusedOutput};
+ghost use Rattle.g1_replay.specs.Output.{Told, IsEnded, ended, ending_line, end_or_failed};
+ghost use Rattle.g1_replay.specs.Output.{IsWholeOutput, IsRefusedOutput};
 ghost use Rattle.g1_replay.specs.Reading.{IsReadStop};
 ghost use Rattle.g1_replay.specs.declared.stop.Stop.{Stop};
 
@@ -34,7 +36,9 @@ fn play_line<T: Wait, P: Player, R: BufRead, W: Write>(
     output: &mut W,
 ) -> Result<bool, Stop>
     requires { P.takes player.old layout.now dialect }
-    ensures followed { Follows P.did P.full dialect layout.now source.old.number source.new.number player.old player.new (R.remaining input.old) (R.remaining input.new) (W.contents output.old) (W.contents output.new) result }
+    ensures followed { Follows P.did P.full dialect layout.now source.old.number source.new.number
+        player.old player.new (R.remaining input.old) (R.remaining input.new)
+        (W.contents output.old) (W.contents output.new) result }
     ensures more { result ≡ Ok true → source.old.reads < source.new.reads }
     ensures limit { result ≡ Ok true → source.new.reads ≤ 2 ^ 40 }
     ensures stops { IfErr result (λ stop. IsReadStop stop ⊎ P.stops stop) }
@@ -61,7 +65,9 @@ pub(crate) fn play_lines<T: Wait, P: Player, R: BufRead, W: Write>(
     output: &mut W,
 ) -> Result<(), Stop>
     requires { P.takes player.old layout dialect }
-    ensures followed { Follows P.did P.full dialect layout source.old.number source.new.number player.old player.new (R.remaining input.old) (R.remaining input.new) (W.contents output.old) (W.contents output.new) (ended result) }
+    ensures followed { Follows P.did P.full dialect layout source.old.number source.new.number
+        player.old player.new (R.remaining input.old) (R.remaining input.new)
+        (W.contents output.old) (W.contents output.new) (ended result) }
     ensures stops { IfErr result (λ stop. IsReadStop stop ⊎ P.stops stop) }
     ensures takes { OnOk result (P.takes player.new layout dialect) }
 {
@@ -78,7 +84,11 @@ fn play_trace<T: Wait, R: BufRead, W: Write>(
     output: &mut W,
     options: &Options,
 ) -> Result<(), Stop>
-    ensures { (text : List ℕ) × Told (record { mode = Run; mutators = options.now.mutators }) options.now.config options.now.history source.old.number source.new.number (R.remaining input.old) (R.remaining input.new) result text
+    ensures { (text : List ℕ) × Told (record {
+      mode = Run;
+      mutators = options.now.mutators;
+    }) options.now.config options.now.history source.old.number
+        source.new.number (R.remaining input.old) (R.remaining input.new) result text
         × Writes (W.contents output.old) (W.contents output.new) result text }
 {
     let layout = read_heap(source, input)?;
@@ -94,7 +104,8 @@ fn play_trace<T: Wait, R: BufRead, W: Write>(
 
 /// Writes the line of the end.
 pub(crate) fn put_end<W: Write>(output: &mut W, number: u64, outcome: Result<(), Stop>) -> End
-    ensures { IsEnded (W.contents output.old) (W.contents output.new) outcome (ending_line number outcome) result }
+    ensures { IsEnded (W.contents output.old) (W.contents output.new) outcome
+        (ending_line number outcome) result }
 {
     match outcome {
         Ok(()) => End::Whole,
@@ -143,10 +154,27 @@ pub fn run<T: Wait, R: BufRead, W: Write>(
     options: &Options,
 ) -> End
     ensures told { (number : ℕ) × (outcome : Result (Unit {0}) Stop) × (text : List ℕ)
-        × Told (record { mode = Run; mutators = options.now.mutators }) options.now.config options.now.history 1 number (R.remaining input.old) (R.remaining input.new) outcome text
-        × IsEnded (W.contents output.old) (W.contents output.new) outcome (text ++ ending_line number outcome) result }
-    ensures whole { result ≡ End.Whole → IfSome (R.remaining input.old) (λ bytes. IsWholeOutput (record { mode = Run; mutators = options.now.mutators }) options.now.config bytes (W.contents output.old) (W.contents output.new)) }
-    ensures refused { result ≡ End.Refused → IfSome (R.remaining input.old) (λ bytes. IsRefusedOutput (record { mode = Run; mutators = options.now.mutators }) options.now.config bytes (W.contents output.old) (W.contents output.new)) }
+        × Told (record {
+          mode = Run;
+          mutators = options.now.mutators;
+        }) options.now.config options.now.history 1 number
+        (R.remaining input.old) (R.remaining input.new) outcome text
+        × IsEnded (W.contents output.old) (W.contents output.new) outcome
+        (text ++ ending_line number outcome) result }
+    ensures whole { result ≡ End.Whole
+        → IfSome (R.remaining input.old) (λ bytes.
+        IsWholeOutput (record {
+          mode = Run;
+          mutators = options.now.mutators;
+        }) options.now.config bytes (W.contents output.old)
+        (W.contents output.new)) }
+    ensures refused { result ≡ End.Refused
+        → IfSome (R.remaining input.old) (λ bytes.
+        IsRefusedOutput (record {
+          mode = Run;
+          mutators = options.now.mutators;
+        }) options.now.config bytes (W.contents output.old)
+        (W.contents output.new)) }
 {
     let mut source = Source {
         reads: 0,

@@ -1,9 +1,11 @@
 //! One line of a trace at a time, of at most 64 bytes before its line feed.
 
-ghost use Rattle.std.specs.Prelude.{◌≡◌, ℕ, List, [], ◌∷◌, ◌++◌, ◌≤◌, ◌<◌, ◌^◌, ◌+◌, length, Ok, true, Option, IfErr};
+ghost use Rattle.std.specs.Prelude.{◌≡◌, ℕ, List, [], ◌∷◌, ◌++◌, ◌≤◌, ◌<◌, ◌^◌, ◌+◌, length, Ok};
+ghost use Rattle.std.specs.Prelude.{true, Option, IfErr};
 ghost use Rattle.std.specs.Io.KnownBytes.{Consumes};
 ghost use Rattle.g1_trace.specs.Words.{IsPart};
-ghost use Rattle.g1_replay.specs.Lines.{GoesOn, HasPart, IsKept, IsSettled, ReadsPart, Reads, ReadsLine, EndsAtFeed};
+ghost use Rattle.g1_replay.specs.Lines.{GoesOn, HasPart, IsKept, IsSettled, ReadsPart, Reads};
+ghost use Rattle.g1_replay.specs.Lines.{ReadsLine, EndsAtFeed};
 ghost use Rattle.g1_replay.specs.Reading.{IsReadStop};
 
 use crate::stop::Stop;
@@ -89,7 +91,8 @@ fn keep_part(shown: &[u8], line: &mut ArrayVec<u8, 64>) -> (Part, usize)
 // Takes what the reader shows of the line.
 fn take_part<R: BufRead>(input: &mut R, line: &mut ArrayVec<u8, 64>) -> Part
     requires { length line.old.items ≤ 64 }
-    ensures part { ReadsPart (R.remaining input.old) (R.remaining input.new) result line.old.items line.new.items }
+    ensures part { ReadsPart (R.remaining input.old) (R.remaining input.new) result line.old.items
+        line.new.items }
     ensures short { length line.new.items ≤ 64 }
 {
     let shown = match input.fill_buf() {
@@ -116,7 +119,8 @@ fn read_byte<R: Read>(input: &mut R) -> Byte
 // What comes of a line with one byte more, or with none: whether there is one, or nothing yet.
 fn settle_byte(byte: Byte, line: &mut ArrayVec<u8, 64>) -> Result<Option<bool>, Stop>
     requires { length line.old.items ≤ 64 }
-    ensures settled { (begun old new : Option (List ℕ)) → Consumes begun old line.old.items → IsPart line.old.items → Reads old new byte → IsSettled begun new result line.new.items }
+    ensures settled { (begun old new : Option (List ℕ)) → Consumes begun old line.old.items
+        → IsPart line.old.items → Reads old new byte → IsSettled begun new result line.new.items }
     ensures stops { IfErr result IsReadStop }
     ensures short { length line.new.items ≤ 64 }
 {
@@ -142,7 +146,9 @@ fn settle<R: BufRead>(
     line: &mut ArrayVec<u8, 64>,
 ) -> Result<Option<bool>, Stop>
     requires { length line.old.items ≤ 64 }
-    ensures settled { (begun : Option (List ℕ)) → HasPart begun (R.remaining input.old) part line.old.items → IsSettled begun (R.remaining input.new) result line.new.items }
+    ensures settled { (begun : Option (List ℕ))
+        → HasPart begun (R.remaining input.old) part line.old.items
+        → IsSettled begun (R.remaining input.new) result line.new.items }
     ensures stops { IfErr result IsReadStop }
     ensures short { length line.new.items ≤ 64 }
     ensures reads { reads.old ≤ reads.new }
@@ -171,7 +177,9 @@ pub fn rest_of_line<R: BufRead>(
     line: &mut ArrayVec<u8, 64>,
 ) -> Result<bool, Stop>
     requires { length line.old.items ≤ 64 }
-    ensures line { (begun : Option (List ℕ)) → HasPart begun (R.remaining input.old) first line.old.items → ReadsLine begun (R.remaining input.new) result line.new.items }
+    ensures line { (begun : Option (List ℕ))
+        → HasPart begun (R.remaining input.old) first line.old.items
+        → ReadsLine begun (R.remaining input.new) result line.new.items }
     ensures stops { IfErr result IsReadStop }
     ensures reads { reads.old ≤ reads.new }
     ensures limit { reads.old ≤ 2 ^ 40 → reads.new ≤ 2 ^ 40 }

@@ -50,7 +50,8 @@ impl Player for Listing {
 
     ghost none = { λ s. listed_none s.commands.items };
 
-    ghost then = { λ s t u cs ds xs ys. listed_then s.commands.items t.commands.items u.commands.items cs ds xs ys };
+    ghost then = { λ s t u cs ds xs ys.
+        listed_then s.commands.items t.commands.items u.commands.items cs ds xs ys };
 }
 
 /// Reads a trace to its end: its heap, and its commands in order. Nothing is written.
@@ -66,8 +67,10 @@ pub(crate) fn read_scripts<T: Wait, R: BufRead, W: Write>(
     output: &mut W,
 ) -> Result<(Layout, Vec<Command>), Stop>
     ensures read { MatchResult result
-        (λ p. Reads dialect None source.old.number source.new.number (R.remaining input.old) (R.remaining input.new) (Some p.0) p.1.items (Ok false))
-        (λ stop. StopsReading dialect source.old.number source.new.number (R.remaining input.old) (R.remaining input.new) stop) }
+        (λ p. Reads dialect None source.old.number source.new.number (R.remaining input.old)
+        (R.remaining input.new) (Some p.0) p.1.items (Ok false))
+        (λ stop. StopsReading dialect source.old.number source.new.number (R.remaining input.old)
+        (R.remaining input.new) stop) }
     ensures commands { IfOk result (λ p. All (IsCommandOf p.0 dialect.mutators) p.1.items) }
     ensures silent { Appends (W.contents output.old) (W.contents output.new) [] }
 {

@@ -1,9 +1,11 @@
 //! The lines of a trace behind its header, one at a time.
 
-ghost use Rattle.std.specs.Prelude.{◌<◌, ◌≤◌, ◌+◌, ◌^◌, ◌∷◌, [], ℕ, List, Ok, true, Option, Some, IfOk, IfErr};
+ghost use Rattle.std.specs.Prelude.{◌<◌, ◌≤◌, ◌+◌, ◌^◌, ◌∷◌, [], ℕ, List, Ok, true, Option, Some};
+ghost use Rattle.std.specs.Prelude.{IfOk, IfErr};
 ghost use Rattle.g1_trace.specs.Grammar.{IsCommandOf};
 ghost use Rattle.g1_replay.specs.Lines.{HasPart};
-ghost use Rattle.g1_replay.specs.Reading.{Reads, commands_of, next_met, IsLine, IsNextOf, IsReadStop};
+ghost use Rattle.g1_replay.specs.Reading.{Reads, commands_of, next_met, IsLine, IsNextOf};
+ghost use Rattle.g1_replay.specs.Reading.{IsReadStop};
 
 use crate::lines::{Part, READ_LIMIT, rest_of_line};
 use crate::source::Source;
@@ -35,10 +37,13 @@ pub fn read_next<R: BufRead>(
     dialect: Dialect,
     input: &mut R,
 ) -> Result<Next, Stop>
-    ensures read { Reads dialect (Some layout.now) source.old.number source.new.number (R.remaining input.old) (R.remaining input.new) (Some layout.now) (commands_of result) (next_met result) }
+    ensures read { Reads dialect (Some layout.now) source.old.number source.new.number
+        (R.remaining input.old) (R.remaining input.new) (Some layout.now) (commands_of result)
+        (next_met result) }
     ensures stops { IfErr result IsReadStop }
     ensures valid { IfOk result (λ next. IsNextOf layout.now dialect next) }
-    ensures more { IfOk result (λ next. IsLine next → (source.old.reads < source.new.reads) × (source.new.reads ≤ 2 ^ 40)) }
+    ensures more { IfOk result (λ next. IsLine next
+        → (source.old.reads < source.new.reads) × (source.new.reads ≤ 2 ^ 40)) }
 {
     if source.reads >= READ_LIMIT {
         return Err(Stop::ReadFailed);
@@ -57,9 +62,12 @@ pub fn read_next<R: BufRead>(
 // otherwise nothing.
 #[inline(always)]
 fn take_store<R: BufRead>(layout: &Layout, dialect: Dialect, input: &mut R) -> Result<Command, Part>
-    ensures store { IfOk result (λ store. (n : ℕ) → Reads dialect (Some layout.now) n (n + 1) (R.remaining input.old) (R.remaining input.new) (Some layout.now) (store ∷ []) (Ok true)) }
+    ensures store { IfOk result (λ store. (n : ℕ)
+        → Reads dialect (Some layout.now) n (n + 1) (R.remaining input.old) (R.remaining input.new)
+        (Some layout.now) (store ∷ []) (Ok true)) }
     ensures valid { IfOk result (IsCommandOf layout.now dialect.mutators) }
-    ensures part { IfErr result (λ part. HasPart (R.remaining input.old) (R.remaining input.new) part []) }
+    ensures part { IfErr result (λ part.
+        HasPart (R.remaining input.old) (R.remaining input.new) part []) }
 {
     let shown = match input.fill_buf() {
         Ok(shown) => shown,
@@ -87,7 +95,9 @@ fn read_rest<R: BufRead>(
 ) -> Result<Next, Stop>
     requires counted { source.old.number ≤ source.old.reads }
     requires limit { source.old.reads ≤ 2 ^ 40 }
-    ensures read { (begun : Option (List ℕ)) → HasPart begun (R.remaining input.old) part [] → Reads dialect (Some layout.now) source.old.number source.new.number begun (R.remaining input.new) (Some layout.now) (commands_of result) (next_met result) }
+    ensures read { (begun : Option (List ℕ)) → HasPart begun (R.remaining input.old) part []
+        → Reads dialect (Some layout.now) source.old.number source.new.number begun
+        (R.remaining input.new) (Some layout.now) (commands_of result) (next_met result) }
     ensures stops { IfErr result IsReadStop }
     ensures valid { IfOk result (λ next. IsNextOf layout.now dialect next) }
     ensures reads { source.old.reads ≤ source.new.reads }

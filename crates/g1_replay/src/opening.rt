@@ -15,7 +15,9 @@ use std::io::BufRead;
 
 // One line before the header, or the header.
 fn next_header<R: BufRead>(source: &mut Source, input: &mut R) -> Result<Option<Layout>, Stop>
-    ensures read { (d : Dialect) → Reads d None source.old.number source.new.number (R.remaining input.old) (R.remaining input.new) (opened_by result) [] (more_may_come result) }
+    ensures read { (d : Dialect) → Reads d None source.old.number source.new.number
+        (R.remaining input.old) (R.remaining input.new) (opened_by result) []
+        (more_may_come result) }
     ensures stops { IfErr result IsReadStop }
     ensures more { result ≡ Ok None → source.old.reads < source.new.reads }
     ensures limit { result ≡ Ok None → source.new.reads ≤ 2 ^ 40 }
@@ -35,7 +37,9 @@ fn next_header<R: BufRead>(source: &mut Source, input: &mut R) -> Result<Option<
 /// A fault is of the line that `source` then counts as the next one. Nothing behind the header's
 /// line is read, and no read follows a failed one. It takes no memory.
 pub fn read_heap<R: BufRead>(source: &mut Source, input: &mut R) -> Result<Layout, Stop>
-    ensures read { (d : Dialect) → Reads d None source.old.number source.new.number (R.remaining input.old) (R.remaining input.new) (result_ok result) [] (more_may_come result) }
+    ensures read { (d : Dialect) → Reads d None source.old.number source.new.number
+        (R.remaining input.old) (R.remaining input.new) (result_ok result) []
+        (more_may_come result) }
     ensures stops { IfErr result IsReadStop }
 {
     'lines: loop {

@@ -1,5 +1,6 @@
 //! The calls of a command, and its output line.
-ghost use Rattle.std.specs.Prelude.{◌≡◌, ◌<◌, ◌≤◌, ◌∷◌, ℕ, [], true, IfOk, IfSome, IfErr, OnOk, vec_len};
+ghost use Rattle.std.specs.Prelude.{◌≡◌, ◌<◌, ◌≤◌, ◌∷◌, ℕ, [], true, IfOk, IfSome, IfErr, OnOk};
+ghost use Rattle.std.specs.Prelude.{vec_len};
 ghost use Rattle.g1_layout.specs.Shape.{slot_count};
 ghost use Rattle.g1_book.specs.History.{layout_in};
 ghost use Rattle.g1_steps.specs.Rounds.{round_size};
@@ -9,7 +10,8 @@ ghost use Rattle.g1_trace.specs.Grammar.{IsCallOf, IsCommandOf};
 ghost use Rattle.g1_trace.specs.Text.{store_text, refine_text, work_text};
 ghost use Rattle.g1_replay.specs.Flush.{flush_text};
 ghost use Rattle.g1_replay.specs.Laws.{played_none, played_then};
-ghost use Rattle.g1_replay.specs.Playing.{Does, IsAnswered, IsDone, IsFull, IsReady, HasPlayed, MayStop};
+ghost use Rattle.g1_replay.specs.Playing.{Does, IsAnswered, IsDone, IsFull, IsReady, HasPlayed};
+ghost use Rattle.g1_replay.specs.Playing.{MayStop};
 ghost use Rattle.g1_replay.specs.Reading.{more_may_come};
 ghost use Rattle.g1_replay.specs.Still.{is_pause, pauses, AreStill};
 
@@ -44,14 +46,18 @@ impl Player for Machinery {
         command: Command,
         output: &mut W,
     ) -> Result<(), Stop>
-        requires takes { IsReady self.old.book (vec_len self.old.mutators) self.old.line _layout _dialect }
+        requires takes { IsReady self.old.book (vec_len self.old.mutators) self.old.line _layout
+            _dialect }
         requires command { IsCommandOf _layout _dialect.mutators command }
-        ensures played { Does (λ s cs text t. HasPlayed s.book cs text t.book) (λ s. IsFull s.book) (command ∷ []) self.old self.new (W.contents output.old) (W.contents output.new) (more_may_come result) }
+        ensures played { Does (λ s cs text t. HasPlayed s.book cs text t.book) (λ s. IsFull s.book)
+            (command ∷ []) self.old self.new (W.contents output.old) (W.contents output.new)
+            (more_may_come result) }
         ensures stops { IfErr result MayStop }
         ensures takes { OnOk result
             (IsReady self.new.book (vec_len self.new.mutators) self.new.line _layout _dialect) }
         ensures still { pauses command ≡ true → AreStill self.new.mutators.items
-            × Empties (taken_of self.old.taker) (capacity_of self.old.line) (taken_of self.new.taker) }
+            × Empties (taken_of self.old.taker) (capacity_of self.old.line)
+            (taken_of self.new.taker) }
     {
         match command {
             Command::Store {
@@ -102,12 +108,14 @@ fn one_call<T: Wait, W: Write>(
     output: &mut W,
 ) -> Result<(), Stop>
     requires { IsCallOf (layout_in machinery.old.book) call }
-    ensures played { Does HasPlayed IsFull (Command.Call call ∷ []) machinery.old.book machinery.new.book (W.contents output.old) (W.contents output.new) (more_may_come result) }
+    ensures played { Does HasPlayed IsFull (Command.Call call ∷ []) machinery.old.book
+        machinery.new.book (W.contents output.old) (W.contents output.new) (more_may_come result) }
     ensures stops { IfErr result MayStop }
     ensures mutators { vec_len machinery.new.mutators ≡ vec_len machinery.old.mutators }
     ensures line { machinery.new.line ≡ machinery.old.line }
     ensures still { is_pause call ≡ true → AreStill machinery.new.mutators.items
-        × Empties (taken_of machinery.old.taker) (capacity_of machinery.old.line) (taken_of machinery.new.taker) }
+        × Empties (taken_of machinery.old.taker) (capacity_of machinery.old.line)
+        (taken_of machinery.new.taker) }
 {
     if is_pause(&call) {
         let mutators = machinery.mutators.as_mut_slice();
@@ -120,10 +128,12 @@ fn one_call<T: Wait, W: Write>(
 fn answer_call<W: Write>(machinery: &mut Machinery, call: Call, output: &mut W) -> Result<(), Stop>
     requires call { IsCallOf (layout_in machinery.old.book) call }
     requires still { is_pause call ≡ true → AreStill machinery.old.mutators.items }
-    ensures played { Does HasPlayed IsFull (Command.Call call ∷ []) machinery.old.book machinery.new.book (W.contents output.old) (W.contents output.new) (more_may_come result) }
+    ensures played { Does HasPlayed IsFull (Command.Call call ∷ []) machinery.old.book
+        machinery.new.book (W.contents output.old) (W.contents output.new) (more_may_come result) }
     ensures stops { IfErr result MayStop }
     ensures mutators { machinery.new.mutators ≡ machinery.old.mutators }
-    ensures line { (machinery.new.line ≡ machinery.old.line) × (machinery.new.taker ≡ machinery.old.taker) }
+    ensures line { (machinery.new.line ≡ machinery.old.line)
+        × (machinery.new.taker ≡ machinery.old.taker) }
 {
     play_call(&mut machinery.book, call, output)
 }
@@ -140,7 +150,8 @@ fn store<T: Wait>(
     requires slot { slot < slot_count (layout_in machinery.old.book) }
     requires target { IfSome target (λ place. place < slot_count (layout_in machinery.old.book)) }
     requires mutators { vec_len machinery.old.mutators ≡ machinery.old.book.mutators }
-    ensures answered { IsAnswered store_text machinery.old.book machinery.new.book (Command.Store mutator slot target) result }
+    ensures answered { IsAnswered store_text machinery.old.book machinery.new.book
+        (Command.Store mutator slot target) result }
     ensures mutators { vec_len machinery.new.mutators ≡ vec_len machinery.old.mutators }
     ensures line { machinery.new.line ≡ machinery.old.line }
 {
@@ -153,7 +164,8 @@ fn store<T: Wait>(
 fn flush<T: Wait>(rt: &T, machinery: &mut Machinery, mutator: u32) -> FlushReply
     requires mutator { mutator < machinery.old.book.mutators }
     requires mutators { vec_len machinery.old.mutators ≡ machinery.old.book.mutators }
-    ensures answered { IsDone flush_text machinery.old.book machinery.new.book (Command.Flush mutator) result }
+    ensures answered { IsDone flush_text machinery.old.book machinery.new.book
+        (Command.Flush mutator) result }
     ensures mutators { vec_len machinery.new.mutators ≡ vec_len machinery.old.mutators }
     ensures line { machinery.new.line ≡ machinery.old.line }
 {
@@ -163,7 +175,8 @@ fn flush<T: Wait>(rt: &T, machinery: &mut Machinery, mutator: u32) -> FlushReply
 }
 
 fn refine<T: Wait>(rt: &T, machinery: &mut Machinery) -> Result<RefineReply, Refusal>
-    ensures answered { IsAnswered refine_text machinery.old.book machinery.new.book Command.Refine result }
+    ensures answered { IsAnswered refine_text machinery.old.book machinery.new.book Command.Refine
+        result }
     ensures mutators { vec_len machinery.new.mutators ≡ vec_len machinery.old.mutators }
     ensures line { machinery.new.line ≡ machinery.old.line }
 {
@@ -174,7 +187,8 @@ fn refine<T: Wait>(rt: &T, machinery: &mut Machinery) -> Result<RefineReply, Ref
 
 fn work<T: Wait>(rt: &T, machinery: &mut Machinery) -> Result<RefineReply, Refusal>
     requires line { capacity_of machinery.old.line ≡ machinery.old.book.machine.settings.limit }
-    ensures answered { IsAnswered work_text machinery.old.book machinery.new.book Command.Work result }
+    ensures answered { IsAnswered work_text machinery.old.book machinery.new.book Command.Work
+        result }
     ensures within { IfOk result (λ reply. (seen : ℕ) × (seen ≤ capacity_of machinery.old.line)
         × (reply.taken ≤ round_size machinery.old.book.machine.settings.start seen)) }
     ensures mutators { vec_len machinery.new.mutators ≡ vec_len machinery.old.mutators }

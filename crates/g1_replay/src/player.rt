@@ -45,7 +45,8 @@ pub(crate) trait Player {
     ) -> Result<(), Stop>
         requires takes { takes self.old layout dialect }
         requires command { IsCommandOf layout dialect.mutators command }
-        ensures played { Does did full (command ∷ []) self.old self.new (W.contents output.old) (W.contents output.new) (more_may_come result) }
+        ensures played { Does did full (command ∷ []) self.old self.new (W.contents output.old)
+            (W.contents output.new) (more_may_come result) }
         ensures stops { IfErr result stops }
         ensures takes { OnOk result (takes self.new layout dialect) };
 
@@ -53,5 +54,6 @@ pub(crate) trait Player {
 
     ghost none: { (s : Self) → did s [] [] s };
 
-    ghost then: { (s t u : Self) (cs ds : List Command) (xs ys : List ℕ) → did s cs xs t → did t ds ys u → did s (cs ++ ds) (xs ++ ys) u };
+    ghost then: { (s t u : Self) (cs ds : List Command) (xs ys : List ℕ) → did s cs xs t
+        → did t ds ys u → did s (cs ++ ds) (xs ++ ys) u };
 }

@@ -5,9 +5,11 @@ ghost use Rattle.std.proofs.Props.{props};
 ghost use Rattle.arrayvec.specs.ArrayVec.{array_vec_len};
 ghost use Rattle.g1_layout.specs.Shape.{slot_count, card_count};
 ghost use Rattle.g1_log.specs.Ends.{line_home, put_of, IsSenderOf, IsSameSender};
-ghost use Rattle.g1_race.specs.Members.{race_id, race_layout, racer_race, racer_start, racer_view, sweeper_race, sweeper_start, sweeper_view};
+ghost use Rattle.g1_race.specs.Members.{race_id, race_layout, racer_race, racer_start, racer_view};
+ghost use Rattle.g1_race.specs.Members.{sweeper_race, sweeper_start, sweeper_view};
 ghost use Rattle.g1_steps.specs.Steps.{PutsBy};
-ghost use Rattle.g1_replay.specs.Members.{is_racer, member_home, member_logged, member_race, MemberDid};
+ghost use Rattle.g1_replay.specs.Members.{is_racer, member_home, member_logged, member_race};
+ghost use Rattle.g1_replay.specs.Members.{MemberDid};
 ghost use Rattle.g1_replay.specs.MembersDid.{member_did_none, member_did_then};
 
 use g1_book::Refusal;
@@ -123,8 +125,10 @@ fn refine_one(race: &Race, sweeper: &mut Sweeper, card: Card) -> Result<(), NoMe
     requires { sweeper_race sweeper.old ≡ race_id race.now }
     ensures race { sweeper_race sweeper.new ≡ sweeper_race sweeper.old }
     ensures start { sweeper_start sweeper.new ≡ sweeper_start sweeper.old }
-    ensures swept { OnOk result (card < card_count (race_layout race.now) → Contains (sweeper_view sweeper.new).swept card) }
-    ensures kept { OnOk result ((other : ℕ) → Contains (sweeper_view sweeper.old).swept other → Contains (sweeper_view sweeper.new).swept other) }
+    ensures swept { OnOk result (card < card_count (race_layout race.now)
+        → Contains (sweeper_view sweeper.new).swept card) }
+    ensures kept { OnOk result ((other : ℕ) → Contains (sweeper_view sweeper.old).swept other
+        → Contains (sweeper_view sweeper.new).swept other) }
 {
     let Some(card) = race.layout().card(card.number()) else {
         return Ok(());
@@ -137,7 +141,8 @@ fn refine_all(race: &Race, sweeper: &mut Sweeper, cards: &[Card]) -> Result<(), 
     requires { sweeper_race sweeper.old ≡ race_id race.now }
     ensures race { sweeper_race sweeper.new ≡ sweeper_race sweeper.old }
     ensures start { sweeper_start sweeper.new ≡ sweeper_start sweeper.old }
-    ensures swept { OnOk result (All (λ card. card < card_count (race_layout race.now) → Contains (sweeper_view sweeper.new).swept card) cards.now) }
+    ensures swept { OnOk result (All (λ card. card < card_count (race_layout race.now)
+        → Contains (sweeper_view sweeper.new).swept card) cards.now) }
 {
     for card in cards {
         refine_one(race, sweeper, *card)?;

@@ -6,7 +6,8 @@ ghost use Rattle.g1_race.specs.Members.{race_layout};
 ghost use Rattle.g1_steps.specs.Ask.{ScriptFits};
 ghost use Rattle.g1_trace.specs.Grammar.{IsCommandOf};
 ghost use Rattle.g1_replay.specs.Members.{is_racer};
-ghost use Rattle.g1_replay.specs.RaceJobs.{racer_in, sender_in, sweeper_in, taker_in, AllFrom, IsNewMember, IsRaceJob, IsRaceScript, IsTableLeftBy};
+ghost use Rattle.g1_replay.specs.RaceJobs.{racer_in, sender_in, sweeper_in, taker_in, AllFrom};
+ghost use Rattle.g1_replay.specs.RaceJobs.{IsNewMember, IsRaceJob, IsRaceScript, IsTableLeftBy};
 ghost use Rattle.g1_replay.specs.Scripted.{IsUnstarted};
 ghost use Rattle.g1_replay.specs.Scripts.{first_refusal};
 
@@ -32,7 +33,8 @@ fn race_script(
     number: u32,
     options: &Options,
 ) -> Result<Script, NoMemory>
-    ensures { IfOk result (IsRaceScript options.now.mutators options.now.rounds number commands.now) }
+    ensures { IfOk result
+        (IsRaceScript options.now.mutators options.now.rounds number commands.now) }
 {
     match script_for(alloc, commands, number, options)? {
         Script::Mutate(mut steps) => {
@@ -53,12 +55,18 @@ fn jobs_of<'a, T>(
     commands: &[Command],
     options: &Options,
 ) -> Result<Vec<Job<RaceDesk<'a, T>>>, NoMemory>
-    requires members { AllFrom (IsNewMember race.now line.now options.now.mutators) 0 members.items }
+    requires members { AllFrom (IsNewMember race.now line.now options.now.mutators) 0
+        members.items }
     requires few { vec_len members ≤ 12 }
     requires commands { All (IsCommandOf (race_layout race.now) options.now.mutators) commands.now }
-    ensures members { IfOk result (λ jobs. map (λ job. job.desk.member) jobs.items ≡ members.items) }
-    ensures jobs { IfOk result (λ jobs. AllFrom (λ k job. IsRaceJob race.now line.now options.now.mutators options.now.rounds commands.now k job.desk.member job.script) 0 jobs.items) }
-    ensures fits { IfOk result (λ jobs. All (λ job. ScriptFits (slot_count (race_layout job.desk.race.now)) (is_racer job.desk.member) job.script) jobs.items) }
+    ensures members { IfOk result (λ jobs.
+        map (λ job. job.desk.member) jobs.items ≡ members.items) }
+    ensures jobs { IfOk result (λ jobs.
+        AllFrom (λ k job. IsRaceJob race.now line.now options.now.mutators options.now.rounds
+        commands.now k job.desk.member job.script) 0 jobs.items) }
+    ensures fits { IfOk result (λ jobs.
+        All (λ job. ScriptFits (slot_count (race_layout job.desk.race.now))
+        (is_racer job.desk.member) job.script) jobs.items) }
 {
     let mut jobs = Vec::with_capacity(alloc, members.len())?;
     let mut number = 0;
@@ -78,10 +86,15 @@ fn jobs_of<'a, T>(
 //
 // `NoMemory` is returned if one was, or a growth of the lists.
 fn returned_by<'a, T>(alloc: Global, jobs: Vec<Job<RaceDesk<'a, T>>>) -> Result<Returned, NoMemory>
-    ensures racers { IfOk result (λ back. back.racers.items ≡ filter_map racer_in (map (λ job. job.desk.member) jobs.entry.items)) }
-    ensures senders { IfOk result (λ back. back.senders.items ≡ filter_map sender_in (map (λ job. job.desk.member) jobs.entry.items)) }
-    ensures sweepers { IfOk result (λ back. back.sweepers.items ≡ filter_map sweeper_in (map (λ job. job.desk.member) jobs.entry.items)) }
-    ensures takers { IfOk result (λ back. back.takers.items ≡ filter_map taker_in (map (λ job. job.desk.member) jobs.entry.items)) }
+    ensures racers { IfOk result (λ back.
+        back.racers.items ≡ filter_map racer_in (map (λ job. job.desk.member) jobs.entry.items)) }
+    ensures senders { IfOk result (λ back.
+        back.senders.items ≡ filter_map sender_in (map (λ job. job.desk.member) jobs.entry.items)) }
+    ensures sweepers { IfOk result (λ back.
+        back.sweepers.items
+        ≡ filter_map sweeper_in (map (λ job. job.desk.member) jobs.entry.items)) }
+    ensures takers { IfOk result (λ back.
+        back.takers.items ≡ filter_map taker_in (map (λ job. job.desk.member) jobs.entry.items)) }
     ensures whole { OnOk result (first_refusal (map (λ job. job.outcome) jobs.entry.items) ≡ None) }
 {
     let mut returned = Returned::new(alloc);

@@ -3,7 +3,8 @@
 ghost use Rattle.std.specs.Prelude.{◌≡◌, ℕ, List, count_by};
 ghost use Rattle.g1_core.specs.Calls.{drain_reply};
 ghost use Rattle.g1_race.specs.Over.{Ended, table_of};
-ghost use Rattle.g1_replay.specs.CoreDrains.{core_drained_none, core_drained_then, core_drained_in, CoreDrained};
+ghost use Rattle.g1_replay.specs.CoreDrains.{core_drained_none, core_drained_then, core_drained_in};
+ghost use Rattle.g1_replay.specs.CoreDrains.{CoreDrained};
 ghost use Rattle.g1_replay.specs.Playing.{Writes};
 ghost use Rattle.g1_replay.specs.Race.{is_store_command, RaceRan};
 ghost use Rattle.g1_replay.specs.RaceJobs.{IsTableLeftBy};
@@ -65,8 +66,10 @@ pub(crate) fn put_race<W: Write>(
     commands: &[Command],
     output: &mut W,
 ) -> Result<(), Stop>
-    ensures { (mutators : ℕ) (e : Ended) → core.old.state.table ≡ table_of e → IsTableLeftBy mutators commands.now e
-        → (text : List ℕ) × RaceRan mutators e.layout commands.now result text × Writes (W.contents output.old) (W.contents output.new) result text }
+    ensures { (mutators : ℕ) (e : Ended) → core.old.state.table ≡ table_of e
+        → IsTableLeftBy mutators commands.now e
+        → (text : List ℕ) × RaceRan mutators e.layout commands.now result text
+        × Writes (W.contents output.old) (W.contents output.new) result text }
 {
     let layout = core.layout();
     put_stores(output, count_stores(commands))?;

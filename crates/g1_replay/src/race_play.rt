@@ -34,7 +34,8 @@ fn race_commands<T: Threads + Wait + Sync, W: Write>(
     options: &Options,
 ) -> Result<(), Stop>
     requires { All (IsCommandOf layout options.now.mutators) commands.now }
-    ensures { (text : List ℕ) × RaceRan options.now.mutators layout commands.now result text × Writes (W.contents output.old) (W.contents output.new) result text }
+    ensures { (text : List ℕ) × RaceRan options.now.mutators layout commands.now result text
+        × Writes (W.contents output.old) (W.contents output.new) result text }
 {
     let closed = run_race(rt, alloc, layout, commands, options)?;
     let Ok(mut core) = closed.into_core(alloc, options.config) else {
@@ -52,7 +53,11 @@ fn play_race<T: Threads + Wait + Sync, R: BufRead, W: Write>(
     output: &mut W,
     options: &Options,
 ) -> Result<(), Stop>
-    ensures { (text : List ℕ) × RacedTrace (record { mode = Race; mutators = options.now.mutators }) source.old.number source.new.number (R.remaining input.old) (R.remaining input.new) result text
+    ensures { (text : List ℕ) × RacedTrace (record {
+      mode = Race;
+      mutators = options.now.mutators;
+    }) source.old.number source.new.number
+        (R.remaining input.old) (R.remaining input.new) result text
         × Writes (W.contents output.old) (W.contents output.new) result text }
 {
     let dialect = Dialect {
@@ -97,10 +102,18 @@ pub fn race<T: Threads + Wait + Sync, R: BufRead, W: Write>(
     options: &Options,
 ) -> End
     ensures told { (number : ℕ) × (outcome : Result (Unit {0}) Stop) × (text : List ℕ)
-        × RacedTrace (record { mode = Race; mutators = options.now.mutators }) 1 number (R.remaining input.old) (R.remaining input.new) outcome text
-        × IsEnded (W.contents output.old) (W.contents output.new) outcome (text ++ ending_line number outcome) result }
-    ensures whole { result ≡ End.Whole → IfSome (R.remaining input.old) (λ bytes. IsWholeRace (record { mode = Race; mutators = options.now.mutators }) bytes (W.contents output.old) (W.contents output.new)) }
-    ensures refused { result ≡ End.Refused → IfSome (R.remaining input.old) (λ bytes. IsRefusedTrace (record { mode = Race; mutators = options.now.mutators }) bytes (W.contents output.old) (W.contents output.new)) }
+        × RacedTrace (record { mode = Race; mutators = options.now.mutators }) 1 number
+        (R.remaining input.old) (R.remaining input.new) outcome text
+        × IsEnded (W.contents output.old) (W.contents output.new) outcome
+        (text ++ ending_line number outcome) result }
+    ensures whole { result ≡ End.Whole
+        → IfSome (R.remaining input.old) (λ bytes.
+        IsWholeRace (record { mode = Race; mutators = options.now.mutators }) bytes
+        (W.contents output.old) (W.contents output.new)) }
+    ensures refused { result ≡ End.Refused
+        → IfSome (R.remaining input.old) (λ bytes.
+        IsRefusedTrace (record { mode = Race; mutators = options.now.mutators }) bytes
+        (W.contents output.old) (W.contents output.new)) }
 {
     let mut source = Source {
         reads: 0,

@@ -78,9 +78,9 @@ impl From<NotStarted> for Stop {
 }
 
 impl From<WriteFailed> for Stop {
-    ghost use Rattle.g1_replay.specs.declared.stop.Stop.TheVariants.{WriteFailed as WriteFailedStop};
+    ghost use Rattle.g1_replay.specs.declared.stop.Stop.TheVariants as stops;
 
-    ghost from_gives = { λ _ stop. stop ≡ WriteFailedStop };
+    ghost from_gives = { λ _ stop. stop ≡ stops.WriteFailed };
 
     fn from(_failed: WriteFailed) -> Stop {
         Stop::WriteFailed

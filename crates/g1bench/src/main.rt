@@ -1,8 +1,9 @@
 //! Makes calls a number of times, and prints a checksum of what they answered.
 //!
-//! With six words it makes one call of the core, on a heap of a given layout. What a call costs in instructions is the difference
-//! of two runs under callgrind, by the difference of their numbers of calls: making the heap and recording its references is the
-//! same in both. `measure` in this folder prints the table.
+//! With six words it makes one call of the core, on a heap of a given layout. What a call costs in
+//! instructions is the difference of two runs under callgrind, by the difference of their numbers
+//! of calls: making the heap and recording its references is the same in both. `measure` in this
+//! folder prints the table.
 //!
 //! With five words it makes rounds of stores, or of refinements in a race, by one thread or
 //! several, and also prints how many nanoseconds the threads spent in their loops, added up.

@@ -55,8 +55,9 @@ impl Timed {
     }
 }
 
-/// The run of these words: where, what, and the numbers of threads, rounds and stores a round. `None` where one of them is missing
-/// or is none, for other numbers of threads than 1 to 4, and for a run that no barrier of that kind can make.
+/// The run of these words: where, what, and the numbers of threads, rounds and stores a round.
+/// `None` where one of them is missing or is none, for other numbers of threads than 1 to 4, and
+/// for a run that no barrier of that kind can make.
 pub fn read_timed(words: &[String]) -> Option<Timed>
     ensures { IfSome result (λ t. (1 ≤ t.threads) × (t.threads ≤ 4)) }
 {
