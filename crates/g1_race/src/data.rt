@@ -55,7 +55,7 @@ impl Paused {
         ensures table { halted self.new ≡ stored (halted self.old) slot None }
         ensures step { (caller : ℕ) →
             IsStep (halted self.old) (store_entry caller slot None (plain_reply Null))
-                (halted self.new) }
+            (halted self.new) }
     {
         put(&self.race, &mut self.seat, slot.number() as usize, word);
     }

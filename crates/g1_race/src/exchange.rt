@@ -16,7 +16,7 @@ use g1_layout::{Kind, Slot};
 impl Racer {
     /// Stores as [`Racer::store`] does, and also returns what the store overwrote, for a collector
     /// that marks from a snapshot. That is what some racer stored to the slot before, or what the
-    /// slot began with.
+    /// slot began with; `None` also where it had data.
     ///
     /// It costs what the store does: one atomic step reads the old word and writes the new one.
     pub fn swap(&mut self, race: &Race, slot: Slot, target: Option<Slot>) -> (Kind, Option<Slot>)
@@ -39,8 +39,9 @@ impl Racer {
         (kind, refers_to(race.layout, old))
     }
 
-    /// Stores as [`Racer::store`] does if the slot refers to what is expected; one atomic step
-    /// compares and writes. Otherwise nothing changes, and the error is what the slot refers to.
+    /// Stores as [`Racer::store`] does if the slot has what is expected; one atomic step compares and
+    /// writes. Otherwise nothing changes, and the error is what the slot refers to: `None` where it
+    /// has data, which is not the null that may have been expected.
     ///
     /// Takes no memory and never waits. The racer, the slot and both places must be of this race,
     /// and the log must have room.
