@@ -8,16 +8,22 @@ use Rattle.g1_race_words.specs.Rule.{IsPair, HasBit, card_of, crosses, front, re
 
 -- the slot lies outside the region and refers into it
 abbrev pub Into : Shape → List ℕ → ℕ → ℕ → Type 0
-Into heap words region slot = (n : ℕ) × (slot < heap.slots) × (get_elem? words slot ≡ some n) × (crosses heap slot n ≡ true) × (region_at heap n ≡ region)
+Into heap words region slot =
+    (n : ℕ) × (slot < heap.slots) × (get_elem? words slot ≡ some n) × (crosses heap slot n ≡ true)
+    × (region_at heap n ≡ region)
 
 -- the least such slot, of all and of a card
 abbrev pub IsLeastInto : Shape → List ℕ → ℕ → Option ℕ → Type 0
 IsLeastInto heap words region None = (slot : ℕ) → Into heap words region slot → ⊥
-IsLeastInto heap words region (Some slot) = Into heap words region slot × ((q : ℕ) → Into heap words region q → slot ≤ q)
+IsLeastInto heap words region (Some slot) =
+    Into heap words region slot × ((q : ℕ) → Into heap words region q → slot ≤ q)
 
 abbrev pub IsLeastOn : Shape → List ℕ → ℕ → ℕ → Option ℕ → Type 0
-IsLeastOn heap words card region None = (slot : ℕ) → card_of heap slot ≡ card → Into heap words region slot → ⊥
-IsLeastOn heap words card region (Some slot) = (card_of heap slot ≡ card) × Into heap words region slot × ((q : ℕ) → card_of heap q ≡ card → Into heap words region q → slot ≤ q)
+IsLeastOn heap words card region None =
+    (slot : ℕ) → card_of heap slot ≡ card → Into heap words region slot → ⊥
+IsLeastOn heap words card region (Some slot) =
+    (card_of heap slot ≡ card) × Into heap words region slot
+    × ((q : ℕ) → card_of heap q ≡ card → Into heap words region q → slot ≤ q)
 
 -- the first words of the region's row, as many as this, are 0, and nothing else has changed
 pub record IsEmptied (heap : Shape) (old new : List ℕ) (region words : ℕ) : Type 0 where

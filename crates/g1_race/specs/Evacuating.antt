@@ -1,5 +1,6 @@
 -- What the calls of an evacuation pause do to the plain table.
-use Rattle.std.specs.Prelude.{◌≡◌, ◌⊎◌, ℕ, ◌+◌, ◌*◌, ◌/◌, ◌<◌, ◌≤◌, ◌==◌, not, if◌then◌else◌, zero, suc, false, List, [], None, Contains, length, replicate, slice_index}
+use Rattle.std.specs.Prelude.{◌≡◌, ◌⊎◌, ℕ, ◌+◌, ◌*◌, ◌/◌, ◌<◌, ◌≤◌, ◌==◌, not, if◌then◌else◌, zero}
+use Rattle.std.specs.Prelude.{suc, false, List, [], None, Contains, length, replicate, slice_index}
 use mathlib.Core.Option.{some}
 use lib.ListN.{get_elem?}
 use Rattle.std.specs.FinSet as set
@@ -62,7 +63,8 @@ abbrev pub IsWhole : Drained → Type 0
 IsWhole (Cards cards refined) = Unit {0}
 IsWhole (Short refined) = ⊥
 
--- what a drain of the region answers: every card that holds into it, and only cards that do or that were recorded for it
+-- what a drain of the region answers: every card that holds into it, and only cards that do or that
+-- were recorded for it
 pub record IsExactAtPause (old : Table) (region : ℕ) (cards : List ℕ) : Type 0 where
   pub every : (card : ℕ) → Holds old card region → Contains cards card
   pub only : (card : ℕ) → Contains cards card → IsRecorded old card region ⊎ Holds old card region
@@ -78,9 +80,12 @@ nulled first (suc count) table = stored (nulled first count table) (first + coun
 
 -- null is stored to each slot of the region
 abbrev pub wiped : ℕ → Table → Table
-wiped region table = nulled (region * (table.layout.cards * table.layout.slots)) (table.layout.cards * table.layout.slots) table
+wiped region table =
+    nulled (region * (table.layout.cards * table.layout.slots))
+    (table.layout.cards * table.layout.slots) table
 
--- the first ones of these cards stand in the slice, as far as it reaches, and behind them it is as it was
+-- the first ones of these cards stand in the slice, as far as it reaches, and behind them it is as
+-- it was
 pub record AreWritten (cards old new : List ℕ) : Type 0 where
   pub first : (i : ℕ) → i < length cards → i < length old → slice_index new i ≡ slice_index cards i
   pub rest : (i : ℕ) → length cards ≤ i → slice_index new i ≡ slice_index old i
@@ -96,4 +101,11 @@ pub record IsDrainedInto (old new : Table) (region count : ℕ) (before after : 
 
 -- the pairs of the region's cards are recorded no more
 abbrev pub forgotten : ℕ → Table → Table
-forgotten region table = record { layout = table.layout; refs = table.refs; pending = table.pending; recorded = set.retain table.recorded (λ pair. not (region_of_card table.layout pair.0 == region)) }
+forgotten region table =
+    record {
+      layout = table.layout;
+      refs = table.refs;
+      pending = table.pending;
+      recorded = set.retain table.recorded (λ pair.
+          not (region_of_card table.layout pair.0 == region));
+    }

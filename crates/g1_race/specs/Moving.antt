@@ -1,5 +1,6 @@
 -- What a redirect at a pause does to the words.
-use Rattle.std.specs.Prelude.{◌≡◌, ◌≢◌, ◌⊎◌, ℕ, ◌+◌, ◌-◌, ◌*◌, ◌/◌, ◌%◌, ◌<◌, ◌≤◌, ◌==◌, ◌&&◌, Bool, true, List, zero, suc, if◌then◌else◌, slice_index}
+use Rattle.std.specs.Prelude.{◌≡◌, ◌≢◌, ◌⊎◌, ℕ, ◌+◌, ◌-◌, ◌*◌, ◌/◌, ◌%◌, ◌<◌, ◌≤◌, ◌==◌, ◌&&◌, Bool}
+use Rattle.std.specs.Prelude.{true, List, zero, suc, if◌then◌else◌, slice_index}
 use mathlib.Core.Option.{some}
 use lib.ListN.{get_elem?}
 use Rattle.g1_core.specs.declared.reply.Redirected.{Redirected}
@@ -9,7 +10,8 @@ use Rattle.g1_core.specs.Run.{IsStep}
 use Rattle.g1_core.specs.declared.entry.Call.TheVariants.{Redirect}
 use Rattle.g1_core.specs.declared.entry.Reply.TheVariants as reply
 use Rattle.g1_race_words.specs.declared.view.Shape.{Shape}
-use Rattle.g1_race_words.specs.Rule.{IsBegun, IsPair, HasBit, card_of, crosses, mark_word, one_if, region_at, start}
+use Rattle.g1_race_words.specs.Rule.{IsBegun, IsPair, HasBit, card_of, crosses, mark_word, one_if}
+use Rattle.g1_race_words.specs.Rule.{region_at, start}
 use Rattle.g1_race.specs.Clearing.{IsEmptied}
 
 -- the slot, with this word, lies outside the region and refers into it
@@ -22,7 +24,8 @@ moved_word heap to word = to * heap.span + (word - 1) % heap.span + 1
 
 -- what a slot's word becomes
 abbrev pub word_after : Shape → ℕ → ℕ → ℕ → ℕ → ℕ
-word_after heap from to slot word = if is_into heap from slot word then moved_word heap to word else word
+word_after heap from to slot word =
+    if is_into heap from slot word then moved_word heap to word else word
 
 -- how many of these slots, from one on, lie outside the region and refer into it
 abbrev pub into_count : Shape → List ℕ → ℕ → ℕ → ℕ → ℕ
@@ -32,7 +35,8 @@ into_count heap words region first (suc count) = into_count heap words region fi
 
 -- a slot that is moved has this pair then
 abbrev pub Acquires : Shape → List ℕ → ℕ → ℕ → ℕ × ℕ → Type 0
-Acquires heap words from to pair = (p : ℕ) × (n : ℕ) × (p < heap.slots) × (get_elem? words p ≡ some n)
+Acquires heap words from to pair =
+    (p : ℕ) × (n : ℕ) × (p < heap.slots) × (get_elem? words p ≡ some n)
     × (is_into heap from p n ≡ true) × (p / heap.span ≢ to) × ((card_of heap p, to) ≡ pair)
 
 -- the references of these slots, from one on, are moved from the one region to the other, and
@@ -45,7 +49,8 @@ pub record AreMoved (heap : Shape) (old new : List ℕ) (from to first count : �
   pub marks : (c : ℕ) → c < heap.cards →
       get_elem? new (mark_word heap c) ≡ get_elem? old (mark_word heap c)
   pub kept : (x : ℕ × ℕ) → HasBit heap old x → HasBit heap new x
-  pub only : (x : ℕ × ℕ) → IsPair heap x → HasBit heap new x → HasBit heap old x ⊎ Acquires heap old from to x
+  pub only : (x : ℕ × ℕ) → IsPair heap x → HasBit heap new x
+      → HasBit heap old x ⊎ Acquires heap old from to x
   pub has : (p n : ℕ) → first ≤ p → p < first + count → p < heap.slots → get_elem? old p ≡ some n →
       is_into heap from p n ≡ true → p / heap.span ≢ to → HasBit heap new (card_of heap p, to)
 

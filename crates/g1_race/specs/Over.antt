@@ -1,5 +1,6 @@
 -- What is left of a race at a pause or at its end, as a table, and what a core asks of it.
-use Rattle.std.specs.Prelude.{nat_lt, ◌≡◌, ℕ, ◌-◌, ◌^◌, ◌==◌, if◌then◌else◌, List, map, take, drop, Bool, Option, Some, None}
+use Rattle.std.specs.Prelude.{nat_lt, ◌≡◌, ℕ, ◌-◌, ◌^◌, ◌==◌, if◌then◌else◌, List, map, take, drop}
+use Rattle.std.specs.Prelude.{Bool, Option, Some, None}
 use denote.RawPtr.{Ptr}
 use Rattle.g1_layout.specs.Shape as layout
 use Rattle.g1_layout.specs.Shape.{slot_count}
@@ -37,11 +38,13 @@ table_of left = table_with left.layout (refs_of left) (marks_of left) left.pairs
 
 -- the core that it makes
 abbrev pub core_of : Ended → Settings → Machine
-core_of left settings = adopted_machine left.layout settings (refs_of left) (marks_of left) left.pairs
+core_of left settings =
+    adopted_machine left.layout settings (refs_of left) (marks_of left) left.pairs
 
 -- what a race's words say
 abbrev pub ended : layout.Shape → Shape → List ℕ → Ended
-ended layout heap words = record { layout = layout; words = front heap words; pairs = pairs_up_to heap words heap.cards }
+ended layout heap words =
+    record { layout = layout; words = front heap words; pairs = pairs_up_to heap words heap.cards }
 
 -- what the words of a closed race keep
 pub record IsEnded (heap : Shape) (layout : layout.Shape) (words : List ℕ) : Type 0 where

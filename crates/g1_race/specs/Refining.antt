@@ -1,5 +1,6 @@
 -- What refinement at a pause does to the words.
-use Rattle.std.specs.Prelude.{◌≡◌, ◌≢◌, ◌⊎◌, ℕ, ◌+◌, ◌*◌, ◌<◌, ◌≤◌, List, [], ◌∷◌, ◌++◌, zero, suc, Contains, slice_index_or, slice_set}
+use Rattle.std.specs.Prelude.{◌≡◌, ◌≢◌, ◌⊎◌, ℕ, ◌+◌, ◌*◌, ◌<◌, ◌≤◌, List, [], ◌∷◌, ◌++◌, zero, suc}
+use Rattle.std.specs.Prelude.{Contains, slice_index_or, slice_set}
 use mathlib.Core.Option.{some}
 use lib.ListN.{get_elem?}
 use Rattle.g1_core.specs.Table.{Table, Holds, IsPending, IsCovered, AreMembers}
@@ -10,7 +11,9 @@ use Rattle.g1_race_words.specs.Steps.{pair_at}
 -- the pairs of the card's first slots, as many as this
 abbrev pub card_pairs : Shape → List ℕ → ℕ → ℕ → List (ℕ × ℕ)
 card_pairs heap words card zero = []
-card_pairs heap words card (suc count) = card_pairs heap words card count ++ pair_at heap (card * heap.size + count) (slice_index_or words (card * heap.size + count) 0)
+card_pairs heap words card (suc count) =
+    card_pairs heap words card count ++ pair_at heap (card * heap.size + count)
+    (slice_index_or words (card * heap.size + count) 0)
 
 -- the bits of these pairs are set, and nothing else changes
 pub record Notes (heap : Shape) (old new : List ℕ) (pairs : List (ℕ × ℕ)) : Type 0 where
@@ -30,19 +33,26 @@ pub record IsDirtied (heap : Shape) (old new : List ℕ) (card : ℕ) : Type 0 w
 pub record IsRefined (heap : Shape) (old new : List ℕ) (card : ℕ) : Type 0 where
   pub slots : (p : ℕ) → p < heap.slots → get_elem? new p ≡ get_elem? old p
   pub clean : get_elem? new (mark_word heap card) ≡ some 0
-  pub marks : (d : ℕ) → d < heap.cards → d ≢ card → get_elem? new (mark_word heap d) ≡ get_elem? old (mark_word heap d)
+  pub marks : (d : ℕ) → d < heap.cards → d ≢ card
+      → get_elem? new (mark_word heap d) ≡ get_elem? old (mark_word heap d)
   pub kept : (x : ℕ × ℕ) → HasBit heap old x → HasBit heap new x
-  pub only : (x : ℕ × ℕ) → IsPair heap x → HasBit heap new x → HasBit heap old x ⊎ ((x.0 ≡ card) × BeganInto heap old x)
+  pub only : (x : ℕ × ℕ) → IsPair heap x → HasBit heap new x
+      → HasBit heap old x ⊎ ((x.0 ≡ card) × BeganInto heap old x)
 
 -- the dirty ones of the first cards, as many as this, are clean, and beside the old pairs only
 -- those of their references are recorded
 pub record AreRefined (heap : Shape) (old new : List ℕ) (count : ℕ) : Type 0 where
   pub slots : (p : ℕ) → p < heap.slots → get_elem? new p ≡ get_elem? old p
   pub clean : (c : ℕ) → c < count → c < heap.cards → get_elem? new (mark_word heap c) ≡ some 0
-  pub marks : (c : ℕ) → count ≤ c → c < heap.cards → get_elem? new (mark_word heap c) ≡ get_elem? old (mark_word heap c)
+  pub marks : (c : ℕ) → count ≤ c → c < heap.cards
+      → get_elem? new (mark_word heap c) ≡ get_elem? old (mark_word heap c)
   pub kept : (x : ℕ × ℕ) → IsPair heap x → HasBit heap old x → HasBit heap new x
-  pub only : (x : ℕ × ℕ) → IsPair heap x → HasBit heap new x → HasBit heap old x ⊎ ((get_elem? old (mark_word heap x.0) ≡ some 1) × BeganInto heap old x)
+  pub only : (x : ℕ × ℕ) → IsPair heap x → HasBit heap new x
+      → HasBit heap old x ⊎ ((get_elem? old (mark_word heap x.0) ≡ some 1) × BeganInto heap old x)
 
--- where nothing is pending and each reference is covered, the members of a region are exact: every card that holds into it is one
+-- where nothing is pending and each reference is covered, the members of a region are exact: every
+-- card that holds into it is one
 abbrev pub MembersAreExact : Type 0
-MembersAreExact = (t : Table) (region : ℕ) (cards : List ℕ) → ((card : ℕ) → IsPending t card → ⊥) → IsCovered t → AreMembers t region cards → (card : ℕ) → Holds t card region → Contains cards card
+MembersAreExact =
+    (t : Table) (region : ℕ) (cards : List ℕ) → ((card : ℕ) → IsPending t card → ⊥) → IsCovered t
+    → AreMembers t region cards → (card : ℕ) → Holds t card region → Contains cards card

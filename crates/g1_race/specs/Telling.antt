@@ -1,5 +1,7 @@
 -- Cards that are told apart by a test: the dirty ones, and those of a region's remembered set.
-use Rattle.std.specs.Prelude.{◌≡◌, ℕ, ◌+◌, ◌*◌, not, length, ◌<◌, ◌≤◌, ◌==◌, List, [], ◌∷◌, ◌++◌, zero, suc, Bool, true, false, Option, Some, None, if◌then◌else◌, slice_index}
+use Rattle.std.specs.Prelude.{◌≡◌, ℕ, ◌+◌, ◌*◌, not, length, ◌<◌, ◌≤◌, ◌==◌, List, [], ◌∷◌, ◌++◌}
+use Rattle.std.specs.Prelude.{zero, suc, Bool, true, false, Option, Some, None, if◌then◌else◌}
+use Rattle.std.specs.Prelude.{slice_index}
 use Rattle.std.specs.Int.{bit_at}
 use Rattle.g1_race_words.specs.declared.view.Shape.{Shape}
 use Rattle.g1_race_words.specs.Rule.{bit_place, bit_word, mark_word}
@@ -15,7 +17,8 @@ is_marked heap words card = slice_index words (mark_word heap card) == 1
 
 -- whether the card's pair with the region is recorded
 abbrev pub is_member : Shape → List ℕ → ℕ → ℕ → Bool
-is_member heap words region card = bit_at (slice_index words (bit_word heap (card, region))) (bit_place heap (card, region)) == 1
+is_member heap words region card =
+    bit_at (slice_index words (bit_word heap (card, region))) (bit_place heap (card, region)) == 1
 
 -- all dirty cards, and all of the region's set
 abbrev pub marked_cards : Shape → List ℕ → List ℕ
@@ -27,7 +30,8 @@ member_cards heap words region = cards_where (is_member heap words region) heap.
 -- how many pairs are recorded for the first regions, as many as this
 abbrev pub pair_count : Shape → List ℕ → ℕ → ℕ
 pair_count heap words zero = 0
-pair_count heap words (suc region) = pair_count heap words region + length (member_cards heap words region)
+pair_count heap words (suc region) =
+    pair_count heap words region + length (member_cards heap words region)
 
 -- whether some card of a block of 64 is in the region's set, and for which of the first regions one
 -- is
@@ -41,9 +45,13 @@ block_regions heap words block count = cards_where (has_block heap words block) 
 -- a card from one on, below a limit, and of none before it the test is true; or of none at all
 abbrev pub SkipsNone : (ℕ → Bool) → ℕ → ℕ → Option ℕ → Type 0
 SkipsNone test limit from None = (card : ℕ) → from ≤ card → card < limit → test card ≡ false
-SkipsNone test limit from (Some card) = (from ≤ card) × (card < limit) × ((other : ℕ) → from ≤ other → other < card → test other ≡ false)
+SkipsNone test limit from (Some card) =
+    (from ≤ card) × (card < limit)
+    × ((other : ℕ) → from ≤ other → other < card → test other ≡ false)
 
 -- the least card from one on, below a limit, of which the test is true
 abbrev pub IsNext : (ℕ → Bool) → ℕ → ℕ → Option ℕ → Type 0
 IsNext test limit from None = (card : ℕ) → from ≤ card → card < limit → test card ≡ false
-IsNext test limit from (Some card) = (from ≤ card) × (card < limit) × (test card ≡ true) × ((other : ℕ) → from ≤ other → other < card → test other ≡ false)
+IsNext test limit from (Some card) =
+    (from ≤ card) × (card < limit) × (test card ≡ true)
+    × ((other : ℕ) → from ≤ other → other < card → test other ≡ false)

@@ -7,12 +7,13 @@ use crate::race::Race;
 
 impl Race {
     /// The address of the race's words: 8 bytes for each slot in order, and behind them what the
-    /// machinery keeps. A slot's word is 0 for null, else one more than the place that it refers to.
+    /// machinery keeps. A slot's word is 0 for null, else one more than the place that it refers
+    /// to.
     ///
     /// The words are the references: there is no other copy, so what a load finds there is what the
-    /// last store to the slot wrote. They stay where they are from the birth of the heap to its end,
-    /// over each pause. Whoever loads a slot there does so by an atomic load of its whole word, and
-    /// never writes there (docs/RACES.md, Fields that are the race's words).
+    /// last store to the slot wrote. They stay where they are from the birth of the heap to its
+    /// end, over each pause. Whoever loads a slot there does so by an atomic load of its whole
+    /// word, and never writes there (docs/RACES.md, Fields that are the race's words).
     pub fn words(&self) -> *const u64
         ensures { result ≡ race_words self.now }
     {

@@ -1,5 +1,6 @@
 //! The clear at a pause: it empties a region's remembered set, once no reference enters the region.
-ghost use Rattle.std.specs.Prelude.{◌≡◌, ◌≢◌, ℕ, ◌+◌, ◌*◌, ◌<◌, ◌≤◌, ◌↔◌, IsTrue, IfSome, option_map, true};
+ghost use Rattle.std.specs.Prelude.{◌≡◌, ◌≢◌, ℕ, ◌+◌, ◌*◌, ◌<◌, ◌≤◌, ◌↔◌, IsTrue, IfSome};
+ghost use Rattle.std.specs.Prelude.{option_map, true};
 ghost use mathlib.Core.Option.{some};
 ghost use lib.ListN.{get_elem?};
 ghost use Rattle.g1_core.specs.Run.{IsStep};
@@ -30,7 +31,8 @@ impl Paused {
         requires { region < self.old.layout.regions }
         ensures race { IsSameRace self.old self.new }
         ensures words { SlotsBecome same_word self.old self.new }
-        ensures step { (caller : ℕ) → IsStep (halted self.old) (clear_entry caller region result) (halted self.new) }
+        ensures step { (caller : ℕ)
+            → IsStep (halted self.old) (clear_entry caller region result) (halted self.new) }
         ensures refused { result ≢ ClearReply.Cleared → self.new ≡ self.old }
     {
         let layout = self.race.layout;
@@ -55,7 +57,8 @@ impl Paused {
 fn entering(race: &Race, seat: &mut Place, region: usize) -> Option<usize>
     requires seat { IsPaused race.now.table.table_id race.now.shape seat.old }
     requires region { region < race.now.shape.regions }
-    requires clean { (c : ℕ) → c < race.now.shape.cards → get_elem? seat.old.me.0.began_words (mark_word race.now.shape c) ≡ some 1 → ⊥ }
+    requires clean { (c : ℕ) → c < race.now.shape.cards
+        → get_elem? seat.old.me.0.began_words (mark_word race.now.shape c) ≡ some 1 → ⊥ }
     ensures least { IsLeastInto race.now.shape seat.old.me.0.began_words region result }
     ensures seat { (seat.new.table_id ≡ seat.old.table_id) × (seat.new.me ≡ seat.old.me) }
 {
@@ -110,7 +113,8 @@ pub(crate) fn empty_row(race: &Race, seat: &mut Place, region: usize)
     requires clean { region ≡ race.now.shape.regions → (c : ℕ) → c < race.now.shape.cards →
         get_elem? seat.old.me.0.began_words (mark_word race.now.shape c) ≡ some 1 → ⊥ }
     ensures seat { IsPaused race.now.table.table_id race.now.shape seat.new }
-    ensures emptied { IsEmptied race.now.shape seat.old.me.0.began_words seat.new.me.0.began_words region race.now.shape.row }
+    ensures emptied { IsEmptied race.now.shape seat.old.me.0.began_words seat.new.me.0.began_words
+        region race.now.shape.row }
 {
     let shape = race.shape;
     let (first, _) = bit_of(shape, 0, region);

@@ -1,5 +1,6 @@
 //! Refinement and drains at a pause.
-ghost use Rattle.std.specs.Prelude.{◌≡◌, ℕ, ◌+◌, ◌*◌, ◌<◌, ◌≤◌, [], ◌∷◌, IfOk, OnErr, List, length, map, replicate, vec_len};
+ghost use Rattle.std.specs.Prelude.{◌≡◌, ℕ, ◌+◌, ◌*◌, ◌<◌, ◌≤◌, [], ◌∷◌, IfOk, OnErr, List, length};
+ghost use Rattle.std.specs.Prelude.{map, replicate, vec_len};
 ghost use Rattle.g1_layout.specs.Shape.{slot_count};
 ghost use Rattle.g1_core.specs.Run.{IsStep};
 ghost use Rattle.g1_core.specs.Calls.{drain_cards, drain_entry};
@@ -8,7 +9,8 @@ ghost use Rattle.g1_race_words.specs.Steps.{pair_at};
 ghost use Rattle.g1_race.specs.Members.{racer_log};
 ghost use Rattle.g1_race.specs.Over.{halted};
 ghost use Rattle.g1_race.specs.Refining.{Notes, IsRefined, AreRefined};
-ghost use Rattle.g1_race.specs.Evacuating.{SlotsBecome, same_word, IsRefinedRace, AreAllRefined, IsDrainedInto, IsWhole, IsExactAtPause};
+ghost use Rattle.g1_race.specs.Evacuating.{SlotsBecome, same_word, IsRefinedRace, AreAllRefined};
+ghost use Rattle.g1_race.specs.Evacuating.{IsDrainedInto, IsWhole, IsExactAtPause};
 ghost use Rattle.g1_race_words.specs.Seats.{IsPaused};
 
 use crate::bits::bit_of;
@@ -38,7 +40,8 @@ impl Paused {
         ensures race { IfOk result (λ answer. IsRefinedRace self.old self.new) }
         ensures words { IfOk result (λ answer. SlotsBecome same_word self.old self.new) }
         ensures whole { IfOk result IsWhole }
-        ensures step { IfOk result (λ answer. (caller : ℕ) → IsStep (halted self.old) (drain_entry caller region answer) (halted self.new)) }
+        ensures step { IfOk result (λ answer. (caller : ℕ)
+            → IsStep (halted self.old) (drain_entry caller region answer) (halted self.new)) }
         ensures exact { IfOk result (λ answer.
             IsExactAtPause (halted self.old) region (drain_cards answer)) }
         ensures err { OnErr result (self.new ≡ self.old) }
@@ -63,7 +66,8 @@ impl Paused {
         requires { region < self.old.layout.regions }
         ensures race { IsRefinedRace self.old self.new }
         ensures words { SlotsBecome same_word self.old self.new }
-        ensures drained { IsDrainedInto (halted self.old) (halted self.new) region result cards.old cards.new }
+        ensures drained { IsDrainedInto (halted self.old) (halted self.new) region result cards.old
+            cards.new }
     {
         let number = region.number() as usize;
         refine_cards(&self.race, &mut self.seat);
@@ -76,7 +80,8 @@ impl Paused {
     pub fn refine_all(&mut self)
         ensures race { IsRefinedRace self.old self.new }
         ensures words { SlotsBecome same_word self.old self.new }
-        ensures refined { (cards : List ℕ) × AreAllRefined (halted self.old) cards (halted self.new) }
+        ensures refined { (cards : List ℕ)
+            × AreAllRefined (halted self.old) cards (halted self.new) }
     {
         refine_cards(&self.race, &mut self.seat);
         clear_logs(&mut self.racers);
@@ -97,7 +102,8 @@ pub(crate) fn clear_logs(racers: &mut Vec<Racer>)
 pub(crate) fn refine_cards(race: &Race, seat: &mut Place)
     requires seat { IsPaused race.now.table.table_id race.now.shape seat.old }
     ensures seat { IsPaused race.now.table.table_id race.now.shape seat.new }
-    ensures refined { AreRefined race.now.shape seat.old.me.0.began_words seat.new.me.0.began_words race.now.shape.cards }
+    ensures refined { AreRefined race.now.shape seat.old.me.0.began_words seat.new.me.0.began_words
+        race.now.shape.cards }
 {
     let mut from = 0;
     while let Some(card) = next_marked(race, seat, from) {
@@ -112,7 +118,8 @@ fn refine_card(race: &Race, seat: &mut Place, card: usize)
     requires seat { IsPaused race.now.table.table_id race.now.shape seat.old }
     requires card { card < race.now.shape.cards }
     ensures seat { IsPaused race.now.table.table_id race.now.shape seat.new }
-    ensures refined { IsRefined race.now.shape seat.old.me.0.began_words seat.new.me.0.began_words card }
+    ensures refined { IsRefined race.now.shape seat.old.me.0.began_words seat.new.me.0.began_words
+        card }
 {
     let shape = race.shape;
     for i in 0..shape.size {
@@ -129,7 +136,8 @@ fn note_slot(race: &Race, seat: &mut Place, slot: u32, word: u64)
     requires word { IsWord race.now.shape word }
     requires seat { IsPaused race.now.table.table_id race.now.shape seat.old }
     ensures seat { IsPaused race.now.table.table_id race.now.shape seat.new }
-    ensures notes { Notes race.now.shape seat.old.me.0.began_words seat.new.me.0.began_words (pair_at race.now.shape slot word) }
+    ensures notes { Notes race.now.shape seat.old.me.0.began_words seat.new.me.0.began_words
+        (pair_at race.now.shape slot word) }
 {
     let layout = race.layout;
     let Some(target) = refers_to(layout, word) else {
@@ -158,7 +166,8 @@ pub(crate) fn set_bit(race: &Race, seat: &mut Place, card: usize, region: usize)
     requires proper { region < race.now.shape.regions →
         IsOfCrossing race.now.shape (card, region) }
     ensures seat { IsPaused race.now.table.table_id race.now.shape seat.new }
-    ensures notes { Notes race.now.shape seat.old.me.0.began_words seat.new.me.0.began_words ((card, region) ∷ []) }
+    ensures notes { Notes race.now.shape seat.old.me.0.began_words seat.new.me.0.began_words
+        ((card, region) ∷ []) }
 {
     let (at, place) = bit_of(race.shape, card, region);
     let found = see(race, seat, at);

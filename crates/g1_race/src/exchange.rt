@@ -5,7 +5,9 @@ ghost use Rattle.g1_race_words.specs.Rule.{card_of};
 ghost use Rattle.g1_race_words.specs.Seats.{IsFound};
 ghost use Rattle.g1_race.specs.Race.{word_of, stored};
 ghost use Rattle.g1_layout.specs.Shape.{slot_count};
-ghost use Rattle.g1_race.specs.Members.{race_id, race_layout, race_shape, racer_race, racer_start, racer_view, HasNotStored, HasStored, IsKind, is_logged, HasReferred, HasDiffered};
+ghost use Rattle.g1_race.specs.Members.{race_id, race_layout, race_shape, racer_race, racer_start};
+ghost use Rattle.g1_race.specs.Members.{racer_view, HasNotStored, HasStored, IsKind, is_logged};
+ghost use Rattle.g1_race.specs.Members.{HasReferred, HasDiffered};
 
 use crate::race::{Race, Racer};
 use crate::racer::claim;
@@ -39,9 +41,9 @@ impl Racer {
         (kind, refers_to(race.layout, old))
     }
 
-    /// Stores as [`Racer::store`] does if the slot has what is expected; one atomic step compares and
-    /// writes. Otherwise nothing changes, and the error is what the slot refers to: `None` where it
-    /// has data, which is not the null that may have been expected.
+    /// Stores as [`Racer::store`] does if the slot has what is expected; one atomic step compares
+    /// and writes. Otherwise nothing changes, and the error is what the slot refers to: `None`
+    /// where it has data, which is not the null that may have been expected.
     ///
     /// Takes no memory and never waits. The racer, the slot and both places must be of this race,
     /// and the log must have room.

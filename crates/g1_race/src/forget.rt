@@ -24,7 +24,8 @@ impl Paused {
     /// region until one is stored to. Takes no memory.
     pub fn forget(&mut self, region: Region)
         requires region { region < self.old.layout.regions }
-        requires closed { (slot place : ℕ) → Crosses (halted self.old) slot place → region_of self.old.layout slot ≢ region }
+        requires closed { (slot place : ℕ) → Crosses (halted self.old) slot place
+            → region_of self.old.layout slot ≢ region }
         ensures race { IsSameRace self.old self.new }
         ensures words { SlotsBecome same_word self.old self.new }
         ensures table { halted self.new ≡ forgotten region (halted self.old) }
@@ -39,9 +40,12 @@ impl Paused {
 fn forget_cards(race: &Race, seat: &mut Place, first: usize, end: usize)
     requires seat { IsPaused race.now.table.table_id race.now.shape seat.old }
     requires within { (first ≤ end) × (end ≤ race.now.shape.cards) }
-    requires closed { (p n : ℕ) → p < race.now.shape.slots → get_elem? seat.old.me.0.began_words p ≡ some n → crosses race.now.shape p n ≡ true → first ≤ card_of race.now.shape p → card_of race.now.shape p < end → ⊥ }
+    requires closed { (p n : ℕ) → p < race.now.shape.slots
+        → get_elem? seat.old.me.0.began_words p ≡ some n → crosses race.now.shape p n ≡ true
+        → first ≤ card_of race.now.shape p → card_of race.now.shape p < end → ⊥ }
     ensures seat { IsPaused race.now.table.table_id race.now.shape seat.new }
-    ensures unset { AreUnset race.now.shape seat.old.me.0.began_words seat.new.me.0.began_words (λ x. (first ≤ x.0) × (x.0 < end)) }
+    ensures unset { AreUnset race.now.shape seat.old.me.0.began_words seat.new.me.0.began_words
+        (λ x. (first ≤ x.0) × (x.0 < end)) }
 {
     for region in 0..race.shape.regions {
         forget_row(race, seat, first, end, region);
@@ -53,9 +57,12 @@ fn forget_row(race: &Race, seat: &mut Place, first: usize, end: usize, region: u
     requires seat { IsPaused race.now.table.table_id race.now.shape seat.old }
     requires within { (first ≤ end) × (end ≤ race.now.shape.cards) }
     requires region { region < race.now.shape.regions }
-    requires closed { (p n : ℕ) → p < race.now.shape.slots → get_elem? seat.old.me.0.began_words p ≡ some n → crosses race.now.shape p n ≡ true → first ≤ card_of race.now.shape p → card_of race.now.shape p < end → ⊥ }
+    requires closed { (p n : ℕ) → p < race.now.shape.slots
+        → get_elem? seat.old.me.0.began_words p ≡ some n → crosses race.now.shape p n ≡ true
+        → first ≤ card_of race.now.shape p → card_of race.now.shape p < end → ⊥ }
     ensures seat { IsPaused race.now.table.table_id race.now.shape seat.new }
-    ensures unset { AreUnset race.now.shape seat.old.me.0.began_words seat.new.me.0.began_words (λ x. (x.1 ≡ region) × (first ≤ x.0) × (x.0 < end)) }
+    ensures unset { AreUnset race.now.shape seat.old.me.0.began_words seat.new.me.0.began_words
+        (λ x. (x.1 ≡ region) × (first ≤ x.0) × (x.0 < end)) }
 {
     let mut from = first;
     while let Some(card) = next_member(race, seat, from, region) {
@@ -71,9 +78,12 @@ fn forget_row(race: &Race, seat: &mut Place, first: usize, end: usize, region: u
 fn clear_bit(race: &Race, seat: &mut Place, card: usize, region: usize)
     requires seat { IsPaused race.now.table.table_id race.now.shape seat.old }
     requires pair { IsPair race.now.shape (card, region) }
-    requires closed { (p n : ℕ) → p < race.now.shape.slots → get_elem? seat.old.me.0.began_words p ≡ some n → crosses race.now.shape p n ≡ true → card ≡ card_of race.now.shape p → region ≡ region_at race.now.shape n → ⊥ }
+    requires closed { (p n : ℕ) → p < race.now.shape.slots
+        → get_elem? seat.old.me.0.began_words p ≡ some n → crosses race.now.shape p n ≡ true
+        → card ≡ card_of race.now.shape p → region ≡ region_at race.now.shape n → ⊥ }
     ensures seat { IsPaused race.now.table.table_id race.now.shape seat.new }
-    ensures unset { AreUnset race.now.shape seat.old.me.0.began_words seat.new.me.0.began_words (λ x. x ≡ (card, region)) }
+    ensures unset { AreUnset race.now.shape seat.old.me.0.began_words seat.new.me.0.began_words
+        (λ x. x ≡ (card, region)) }
 {
     let (at, place) = bit_of(race.shape, card, region);
     let found = see(race, seat, at);

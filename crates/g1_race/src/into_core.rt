@@ -43,7 +43,8 @@ impl Closed {
     fn counts(&self) -> (usize, usize)
         ensures slots { result.0 ≡ slot_count self.now.layout }
         ensures cards { result.1 ≡ card_count self.now.layout }
-        ensures sized { length self.now.words ≡ slot_count self.now.layout + card_count self.now.layout }
+        ensures sized { length self.now.words
+            ≡ slot_count self.now.layout + card_count self.now.layout }
     {
         (self.shape.slots, self.shape.cards)
     }

@@ -37,7 +37,8 @@ impl Paused {
     pub fn members(&mut self, alloc: Global, region: Region) -> Result<CardList, NoMemory>
         requires { region < self.old.layout.regions }
         ensures members { IfOk result (λ cards. AreMembers (halted self.old) region cards) }
-        ensures step { IfOk result (λ cards. (caller : ℕ) → IsStep (halted self.old) (members_entry caller region cards) (halted self.new)) }
+        ensures step { IfOk result (λ cards. (caller : ℕ)
+            → IsStep (halted self.old) (members_entry caller region cards) (halted self.new)) }
         ensures same { self.new ≡ self.old }
     {
         members_of(&self.race, &mut self.seat, alloc, region)

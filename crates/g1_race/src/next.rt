@@ -1,6 +1,7 @@
 //! Where the next dirty card is, and the next card of a region's set.
 ghost use Rattle.std.specs.Prelude.{◌≡◌, ◌+◌, ◌*◌, ◌<◌, ◌≤◌, ℕ, [], length, vec_capacity};
-ghost use Rattle.g1_race.specs.Telling.{IsNext, SkipsNone, is_marked, is_member, marked_cards, member_cards, pair_count};
+ghost use Rattle.g1_race.specs.Telling.{IsNext, SkipsNone, is_marked, is_member, marked_cards};
+ghost use Rattle.g1_race.specs.Telling.{member_cards, pair_count};
 ghost use Rattle.g1_race.specs.Evacuating.{AreWritten};
 ghost use Rattle.g1_race_words.specs.Readers.{IsReading};
 
@@ -13,7 +14,8 @@ use g1_race_words::Place;
 // The least dirty card from one on.
 pub(crate) fn next_marked(race: &Race, seat: &mut Place, from: usize) -> Option<usize>
     requires { IsReading race.now.table.table_id race.now.shape seat.old }
-    ensures next { IsNext (is_marked race.now.shape seat.old.me.0.began_words) race.now.shape.cards from result }
+    ensures next { IsNext (is_marked race.now.shape seat.old.me.0.began_words) race.now.shape.cards
+        from result }
     ensures seat { (seat.new.table_id ≡ seat.old.table_id) × (seat.new.me ≡ seat.old.me) }
 {
     let mut next = from;
@@ -54,7 +56,8 @@ pub(crate) fn next_member(
 ) -> Option<usize>
     requires seat { IsReading race.now.table.table_id race.now.shape seat.old }
     requires region { region ≤ race.now.shape.regions }
-    ensures next { IsNext (is_member race.now.shape seat.old.me.0.began_words region) race.now.shape.cards from result }
+    ensures next { IsNext (is_member race.now.shape seat.old.me.0.began_words region)
+        race.now.shape.cards from result }
     ensures seat { (seat.new.table_id ≡ seat.old.table_id) × (seat.new.me ≡ seat.old.me) }
 {
     let cards = race.shape.cards;
@@ -90,7 +93,8 @@ pub(crate) fn count_marked(race: &Race, seat: &mut Place) -> usize
 pub(crate) fn list_marked(race: &Race, seat: &mut Place, cards: &mut Vec<Card>)
     requires seat { IsReading race.now.table.table_id race.now.shape seat.old }
     requires empty { cards.old.items ≡ [] }
-    requires room { length (marked_cards race.now.shape seat.old.me.0.began_words) ≤ vec_capacity cards.old }
+    requires room { length (marked_cards race.now.shape seat.old.me.0.began_words)
+        ≤ vec_capacity cards.old }
     ensures cards { cards.new.items ≡ marked_cards race.now.shape seat.old.me.0.began_words }
     ensures seat { (seat.new.table_id ≡ seat.old.table_id) × (seat.new.me ≡ seat.old.me) }
 {
@@ -136,7 +140,8 @@ pub(crate) fn list_members(race: &Race, seat: &mut Place, region: usize, cards: 
     requires seat { IsReading race.now.table.table_id race.now.shape seat.old }
     requires region { region < race.now.shape.regions }
     requires empty { cards.old.items ≡ [] }
-    requires room { length (member_cards race.now.shape seat.old.me.0.began_words region) ≤ vec_capacity cards.old }
+    requires room { length (member_cards race.now.shape seat.old.me.0.began_words region)
+        ≤ vec_capacity cards.old }
     ensures cards { cards.new.items ≡ member_cards race.now.shape seat.old.me.0.began_words region }
     ensures seat { (seat.new.table_id ≡ seat.old.table_id) × (seat.new.me ≡ seat.old.me) }
 {
@@ -158,7 +163,8 @@ pub(crate) fn write_members(
     requires seat { IsReading race.now.table.table_id race.now.shape seat.old }
     requires region { region < race.now.shape.regions }
     ensures count { result ≡ length (member_cards race.now.shape seat.old.me.0.began_words region) }
-    ensures cards { AreWritten (member_cards race.now.shape seat.old.me.0.began_words region) cards.old cards.new }
+    ensures cards { AreWritten (member_cards race.now.shape seat.old.me.0.began_words region)
+        cards.old cards.new }
     ensures seat { (seat.new.table_id ≡ seat.old.table_id) × (seat.new.me ≡ seat.old.me) }
 {
     let mut count = 0;

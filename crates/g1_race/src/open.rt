@@ -4,7 +4,8 @@ ghost use Rattle.g1_core.specs.Table.{opening};
 ghost use Rattle.g1_race_words.specs.Rule.{IsShape, null_of};
 ghost use Rattle.g1_race.specs.Race.{shape_of};
 ghost use Rattle.g1_race.specs.Over.{halted, start_at};
-ghost use Rattle.g1_race.specs.Members.{race_layout, race_shape, racer_log, AreFreshRacers, AreFreshSweepers, HaveBegun, HaveBegunWith};
+ghost use Rattle.g1_race.specs.Members.{race_layout, race_shape, racer_log, AreFreshRacers};
+ghost use Rattle.g1_race.specs.Members.{AreFreshSweepers, HaveBegun, HaveBegunWith};
 
 use crate::paused::Paused;
 use crate::race::{Race, Racer, Sweeper};

@@ -1,8 +1,10 @@
 //! The recorded pairs of a race that is over.
-ghost use Rattle.std.specs.Prelude.{◌≡◌, ◌≢◌, ◌==◌, ◌+◌, ◌*◌, ◌/◌, ◌%◌, ◌<◌, ◌≤◌, ◌++◌, IfOk, OnOk, length, slice_index};
+ghost use Rattle.std.specs.Prelude.{◌≡◌, ◌≢◌, ◌==◌, ◌+◌, ◌*◌, ◌/◌, ◌%◌, ◌<◌, ◌≤◌, ◌++◌, IfOk, OnOk};
+ghost use Rattle.std.specs.Prelude.{length, slice_index};
 ghost use Rattle.std.specs.Int.{bit_at};
 ghost use Rattle.std.specs.Slots.{slots_items, slots_len, IsFull};
-ghost use Rattle.g1_race_words.specs.Rule.{IsShape, IsPair, bit_word, bit_place, pairs_of_card, pairs_up_to, word_count};
+ghost use Rattle.g1_race_words.specs.Rule.{IsShape, IsPair, bit_word, bit_place, pairs_of_card};
+ghost use Rattle.g1_race_words.specs.Rule.{pairs_up_to, word_count};
 ghost use Rattle.g1_race.specs.Race.{shape_of};
 ghost use Rattle.g1_race.specs.Telling.{block_regions};
 

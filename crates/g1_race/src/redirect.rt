@@ -7,7 +7,8 @@ ghost use Rattle.g1_core.specs.Run.{IsStep};
 ghost use Rattle.g1_core.specs.Calls.{redirect_entry};
 ghost use Rattle.g1_race_words.specs.Rule.{crosses, mark_word, region_at};
 ghost use Rattle.g1_race.specs.Over.{halted};
-ghost use Rattle.g1_race.specs.Moving.{AreMoved, AreMovedAway, HasMoved, IsRedirected, into_count, word_after};
+ghost use Rattle.g1_race.specs.Moving.{AreMoved, AreMovedAway, HasMoved, IsRedirected, into_count};
+ghost use Rattle.g1_race.specs.Moving.{word_after};
 ghost use Rattle.g1_race.specs.Evacuating.{IsRefinedRace, SlotsBecome};
 ghost use Rattle.g1_race_words.specs.Seats.{IsPaused};
 

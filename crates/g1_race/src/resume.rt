@@ -1,12 +1,15 @@
 //! How a race goes on after a pause, or begins from a core.
-ghost use Rattle.std.specs.Prelude.{◌≡◌, ◌+◌, ◌-◌, ◌<◌, ◌≤◌, [], All, IfOk, IfErr, length, map, vec_len};
+ghost use Rattle.std.specs.Prelude.{◌≡◌, ◌+◌, ◌-◌, ◌<◌, ◌≤◌, [], All, IfOk, IfErr, length, map};
+ghost use Rattle.std.specs.Prelude.{vec_len};
 ghost use Rattle.g1_race_words.specs.Rule.{beginning, start_of};
 ghost use Rattle.g1_race_words.specs.Steps.{chair};
 ghost use Rattle.g1_race.specs.Race.{shape_of};
 ghost use Rattle.g1_race.specs.Over.{halted, start_at};
 ghost use Rattle.g1_race.specs.Drain.{began};
 ghost use Rattle.g1_race.specs.Resumed.{IsSame};
-ghost use Rattle.g1_race.specs.Members.{race_id, race_layout, race_shape, race_words, racer_log, AreFreshRacers, AreFreshSweepers, HaveBegunWith, IsNewRacer, IsNewSweeper};
+ghost use Rattle.g1_race.specs.Members.{race_id, race_layout, race_shape, race_words, racer_log};
+ghost use Rattle.g1_race.specs.Members.{AreFreshRacers, AreFreshSweepers, HaveBegunWith};
+ghost use Rattle.g1_race.specs.Members.{IsNewRacer, IsNewSweeper};
 
 use crate::paused::Paused;
 use crate::race::{Race, Racer, Sweeper};

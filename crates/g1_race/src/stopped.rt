@@ -29,7 +29,8 @@ impl Paused {
         requires { slot < slot_count self.old.layout }
         ensures target { result ≡ target_of (halted self.old) slot }
         ensures within { IfSome result (λ place. place < slot_count self.old.layout) }
-        ensures step { (caller : ℕ) → IsStep (halted self.old) (target_entry caller slot result) (halted self.new) }
+        ensures step { (caller : ℕ)
+            → IsStep (halted self.old) (target_entry caller slot result) (halted self.new) }
         ensures same { self.new ≡ self.old }
     {
         target_of(&self.race, &mut self.seat, slot)
@@ -39,7 +40,8 @@ impl Paused {
     pub fn is_pending(&mut self, card: Card) -> bool
         requires { card < card_count self.old.layout }
         ensures pending { result ≡ set.contains (halted self.old).pending card }
-        ensures step { (caller : ℕ) → IsStep (halted self.old) (pending_entry caller card result) (halted self.new) }
+        ensures step { (caller : ℕ)
+            → IsStep (halted self.old) (pending_entry caller card result) (halted self.new) }
         ensures same { self.new ≡ self.old }
     {
         is_dirty(&self.race, &mut self.seat, card)
@@ -55,7 +57,9 @@ impl Paused {
         ensures words { SlotsBecome (one_word slot (word_of target)) self.old self.new }
         ensures kind { result ≡ kind_of (halted self.old) slot target }
         ensures table { halted self.new ≡ stored (halted self.old) slot target }
-        ensures step { (caller : ℕ) → IsStep (halted self.old) (store_entry caller slot target (plain_reply result)) (halted self.new) }
+        ensures step { (caller : ℕ)
+            → IsStep (halted self.old) (store_entry caller slot target (plain_reply result))
+            (halted self.new) }
     {
         let across = crosses(self.race.layout, &slot, &target);
         let word = word_of(target);

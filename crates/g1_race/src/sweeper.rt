@@ -4,7 +4,8 @@ ghost use Rattle.std.specs.Result.{IsOk};
 ghost use Rattle.g1_race_words.specs.Rule.{IsPair, IsWord, start_of};
 ghost use Rattle.g1_race_words.specs.Steps.{recorded};
 ghost use Rattle.g1_layout.specs.Shape.{slot_count, card_count};
-ghost use Rattle.g1_race.specs.Members.{race_id, race_layout, sweeper_race, sweeper_start, sweeper_view, Sweeps, Recording, Holding};
+ghost use Rattle.g1_race.specs.Members.{race_id, race_layout, sweeper_race, sweeper_start};
+ghost use Rattle.g1_race.specs.Members.{sweeper_view, Sweeps, Recording, Holding};
 
 use crate::bits::bit_of;
 use crate::race::{Race, Sweeper};
@@ -28,7 +29,8 @@ impl Sweeper {
         ensures done { IsOk result }
         ensures race { sweeper_race self.new ≡ sweeper_race self.old }
         ensures start { sweeper_start self.new ≡ sweeper_start self.old }
-        ensures swept { OnOk result ((sweeper_view self.new).swept ≡ card ∷ (sweeper_view self.old).swept) }
+        ensures swept { OnOk result
+            ((sweeper_view self.new).swept ≡ card ∷ (sweeper_view self.old).swept) }
         ensures refused { OnErr result (sweeper_view self.new ≡ sweeper_view self.old) }
     {
         sweep(race, &mut self.seat, card.number() as usize);

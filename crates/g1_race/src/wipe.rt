@@ -22,7 +22,8 @@ impl Paused {
         ensures race { IsSameRace self.old self.new }
         ensures words { SlotsBecome (wiped_word self.old.shape region) self.old self.new }
         ensures table { halted self.new ≡ wiped region (halted self.old) }
-        ensures null { (slot : ℕ) → region_of self.old.layout slot ≡ region → target_of (halted self.new) slot ≡ None }
+        ensures null { (slot : ℕ) → region_of self.old.layout slot ≡ region
+            → target_of (halted self.new) slot ≡ None }
     {
         wipe_slots(&self.race, &mut self.seat, region.number() as usize);
     }
@@ -33,8 +34,10 @@ fn wipe_slots(race: &Race, seat: &mut Place, region: usize)
     requires seat { IsPaused race.now.table.table_id race.now.shape seat.old }
     requires region { region < race.now.shape.regions }
     ensures seat { IsPaused race.now.table.table_id race.now.shape seat.new }
-    ensures table { table_of (ended race.now.layout race.now.shape seat.new.me.0.began_words) ≡ wiped region (table_of (ended race.now.layout race.now.shape seat.old.me.0.began_words)) }
-    ensures null { (i : ℕ) → i < race.now.shape.span → get_elem? seat.new.me.0.began_words (region * race.now.shape.span + i) ≡ some 0 }
+    ensures table { table_of (ended race.now.layout race.now.shape seat.new.me.0.began_words)
+        ≡ wiped region (table_of (ended race.now.layout race.now.shape seat.old.me.0.began_words)) }
+    ensures null { (i : ℕ) → i < race.now.shape.span
+        → get_elem? seat.new.me.0.began_words (region * race.now.shape.span + i) ≡ some 0 }
     ensures other { let first = region * race.now.shape.span in (p : ℕ) →
         (p < first) ⊎ (first + race.now.shape.span ≤ p) →
         get_elem? seat.new.me.0.began_words p ≡ get_elem? seat.old.me.0.began_words p }

@@ -1,4 +1,5 @@
-//! A runtime's life: a race in threads, a pause at a core with a drain and a redirect, and a race again.
+//! A runtime's life: a race in threads, a pause at a core with a drain and a redirect, and a race
+//! again.
 ghost use Rattle.std.specs.Prelude.{◌≡◌, ◌<◌};
 
 use crate::in_threads::{Plan, run_race};
@@ -31,7 +32,8 @@ fn race_on<R: Threads + Sync>(
     }
 }
 
-// How many slots outside the region refer into it, and that the cards have the card of each of them.
+// How many slots outside the region refer into it, and that the cards have the card of each of
+// them.
 fn references_into(rt: &impl Abort, core: &mut Core, number: u32, cards: &[Card]) -> u32 {
     let mut count: u32 = 0;
     for slot in 0..core.layout().slot_count() {
@@ -58,7 +60,8 @@ fn region(rt: &impl Abort, core: &Core, number: u32) -> Region
     core.layout().region(number).expect(rt, "region")
 }
 
-// Empties the region of this number: its drain misses no card, and all that a scan finds is moved to the next region.
+// Empties the region of this number: its drain misses no card, and all that a scan finds is moved
+// to the next region.
 fn pause(rt: &impl Abort, core: &mut Core, number: u32)
     requires { number < 16 }
 {

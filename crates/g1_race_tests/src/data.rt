@@ -11,6 +11,7 @@ use std::test::Fail;
 
 // Two words that are data: the least one, and one that says `data` in its bytes.
 const LEAST: u64 = 4_294_967_296;
+
 const TEXT: u64 = 0x6461_7461_0000_0009;
 
 // Races by these steps, from a heap of nulls to a pause.

@@ -9,7 +9,8 @@ use std::alloc::Global;
 use std::test::Fail;
 use std::thread::{self, Threads};
 
-// What the threads of a race do: racer k makes these stores, and each sweeper refines each of the first `cards` cards in `rounds` rounds.
+// What the threads of a race do: racer k makes these stores, and each sweeper refines each of the
+// first `cards` cards in `rounds` rounds.
 #[derive(Clone, Copy)]
 pub(crate) struct Plan {
     pub(crate) stores: u32,
@@ -28,10 +29,12 @@ fn scattered(k: u32, turn: u32, below: u32) -> u32 {
     ((mixed >> 32) as u32).checked_rem(below).unwrap_or(0)
 }
 
-// The slot and the place of racer k's store at this turn. Every other store of slot 8k alone is of null.
+// The slot and the place of racer k's store at this turn. Every other store of slot 8k alone is of
+// null.
 fn nth_store(layout: Layout, plan: Plan, k: u32, turn: u32) -> Option<(Slot, Option<Slot>)>
     requires { k < 8 }
-    ensures { IfSome result (λ s. (s.0 < slot_count layout) × IfSome s.1 (λ place. place < slot_count layout)) }
+    ensures { IfSome result (λ s.
+        (s.0 < slot_count layout) × IfSome s.1 (λ place. place < slot_count layout)) }
 {
     if plan.spread {
         let slot = layout.slot(scattered(k, turn, layout.slot_count()))?;

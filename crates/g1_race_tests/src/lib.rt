@@ -1,5 +1,5 @@
-//! Tests of `g1_race` through its public calls: races played by hand, races that become cores and go on, races that
-//! pause in place, and races of threads.
+//! Tests of `g1_race` through its public calls: races played by hand, races that become cores and
+//! go on, races that pause in place, and races of threads.
 #![tactic(auto)]
 
 #[cfg(test)]

@@ -1,5 +1,5 @@
-//! Races of two racers and one sweeper, played by steps, over the heap `4 2 4`: card `c` has the slots from `4 * c` on, region `r`
-//! those from `8 * r` on.
+//! Races of two racers and one sweeper, played by steps, over the heap `4 2 4`: card `c` has the
+//! slots from `4 * c` on, region `r` those from `8 * r` on.
 ghost use Rattle.std.specs.Prelude.{◌≡◌, ◌<◌, All, IfSome, vec_len};
 ghost use Rattle.g1_layout.specs.Shape.{slot_count};
 ghost use Rattle.g1_race.specs.Members.{race_id, race_layout, race_shape, racer_race, sweeper_race};

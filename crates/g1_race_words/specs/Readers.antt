@@ -25,7 +25,8 @@ pub record IsLent (table_id : TableId) (heap : Shape) (seat : Seat (Unit {0}) Vi
   pub begun : IsBegun (start heap seat.me.0.began_words)
 
 -- a seat that knows the words of a race at a pause: the one that has all the weight, or a reader's
-pub record IsReading (table_id : TableId) (heap : Shape) (seat : Seat (Unit {0}) View) : Type 0 where
+pub record IsReading (table_id : TableId) (heap : Shape)
+    (seat : Seat (Unit {0}) View) : Type 0 where
   pub table : seat.table_id ≡ table_id
   pub shape : seat.me.0.shape ≡ heap
   pub weight : 0 < seat.me.0.weight

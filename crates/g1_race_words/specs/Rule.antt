@@ -4,7 +4,9 @@
 -- the slots' words. Behind the marks' words come those with a bit for each pair of a card and a
 -- region, which is 1 once the pair is recorded: a row of words for each region, 64 cards to a word.
 -- One more row has a flag for each eight cards, which is 1 wherever a mark of theirs is.
-use Rattle.std.specs.Prelude.{nat_lt, ◌≡◌, ◌≢◌, ◌⊎◌, ℕ, ◌+◌, ◌-◌, ◌*◌, ◌/◌, ◌%◌, ◌<◌, ◌≤◌, ◌^◌, slice_index, replicate, take, List, [], ◌∷◌, ◌++◌, length, zero, suc, Bool, true, false, not, ◌==◌, if◌then◌else◌, Option, Some, None}
+use Rattle.std.specs.Prelude.{nat_lt, ◌≡◌, ◌≢◌, ◌⊎◌, ℕ, ◌+◌, ◌-◌, ◌*◌, ◌/◌, ◌%◌, ◌<◌, ◌≤◌, ◌^◌}
+use Rattle.std.specs.Prelude.{slice_index, replicate, take, List, [], ◌∷◌, ◌++◌, length, zero, suc}
+use Rattle.std.specs.Prelude.{Bool, true, false, not, ◌==◌, if◌then◌else◌, Option, Some, None}
 use Rattle.std.specs.Int.{bit_at}
 use mathlib.Core.Option.{some}
 use lib.ListN.{get_elem?}
@@ -54,7 +56,8 @@ crosses heap slot word =
 
 -- a slot and its word, which refers into another region
 abbrev pub IsCrossing : Shape → ℕ → ℕ → Type 0
-IsCrossing heap slot word = (slot < heap.slots) × (word ≤ heap.slots) × (crosses heap slot word ≡ true)
+IsCrossing heap slot word =
+    (slot < heap.slots) × (word ≤ heap.slots) × (crosses heap slot word ≡ true)
 
 abbrev pub In : {A : Type 0} → List A → A → Type 0
 In [] value = ⊥
@@ -62,7 +65,8 @@ In (first ∷ rest) value = (first ≡ value) ⊎ In rest value
 
 -- some seat has the value in this part of its view
 abbrev pub Held : {A : Type 0} → (View → List A) → List View → A → Type 0
-Held part views value = (seat : ℕ) × (v : View) × (get_elem? views seat ≡ some v) × In (part v) value
+Held part views value =
+    (seat : ℕ) × (v : View) × (get_elem? views seat ≡ some v) × In (part v) value
 
 -- each slot's word is null, one more than a slot, or data
 abbrev pub Bounded : Shape → List ℕ → Type 0
@@ -109,30 +113,38 @@ IsFlagged heap words card = HasBit heap words (flag heap card)
 
 -- each card whose mark is 1 has its flag set
 abbrev pub AreFlagged : Shape → List ℕ → Type 0
-AreFlagged heap words = (c : ℕ) → c < heap.cards → get_elem? words (mark_word heap c) ≡ some 1 → IsFlagged heap words c
+AreFlagged heap words =
+    (c : ℕ) → c < heap.cards → get_elem? words (mark_word heap c) ≡ some 1 → IsFlagged heap words c
 
 -- the seat answers for the slot with this word: it owes the card, still has the slot to read, or
 -- has read the pair
 abbrev pub Answers : Shape → View → ℕ → ℕ → Type 0
-Answers heap view slot word = (view.owed ≡ Some (card_of heap slot)) ⊎ ((view.next ≤ slot) × (slot < view.end)) ⊎ In view.pairs (card_of heap slot, region_at heap word)
+Answers heap view slot word =
+    (view.owed ≡ Some (card_of heap slot)) ⊎ ((view.next ≤ slot) × (slot < view.end))
+    ⊎ In view.pairs (card_of heap slot, region_at heap word)
 
 abbrev pub IsMarked : Shape → List ℕ → ℕ → Type 0
 IsMarked heap words slot = get_elem? words (mark_word heap (card_of heap slot)) ≡ some 1
 
 abbrev pub Someone : Shape → List View → ℕ → ℕ → Type 0
-Someone heap views slot word = (seat : ℕ) × (v : View) × (get_elem? views seat ≡ some v) × Answers heap v slot word
+Someone heap views slot word =
+    (seat : ℕ) × (v : View) × (get_elem? views seat ≡ some v) × Answers heap v slot word
 
 -- each slot that refers into another region has its pair among those known from the beginning, its
 -- card marked, or some seat answers for it
 abbrev pub Covered : Shape → List (ℕ × ℕ) → List ℕ → List View → Type 0
-Covered heap known words views = (p n : ℕ) → p < heap.slots → get_elem? words p ≡ some n → crosses heap p n ≡ true → In known (card_of heap p, region_at heap n) ⊎ IsMarked heap words p ⊎ Someone heap views p n
+Covered heap known words views =
+    (p n : ℕ) → p < heap.slots → get_elem? words p ≡ some n → crosses heap p n ≡ true
+    → In known (card_of heap p, region_at heap n) ⊎ IsMarked heap words p ⊎ Someone heap views p n
 
 -- at rest: nothing is owed, nothing is to be read, and neither a pair is held nor a flag
 abbrev pub AtRest : View → Type 0
 AtRest view = (view.owed ≡ None) × (view.next ≡ view.end) × (view.held ≡ []) × (view.flagged ≡ [])
 
 abbrev pub IsBlank : View → Type 0
-IsBlank view = AtRest view × (view.histories ≡ []) × (view.claims ≡ []) × (view.cleanings ≡ []) × (view.pairs ≡ [])
+IsBlank view =
+    AtRest view × (view.histories ≡ []) × (view.claims ≡ []) × (view.cleanings ≡ [])
+    × (view.pairs ≡ [])
 
 -- the sum over the views
 abbrev pub total : (View → ℕ) → List View → ℕ
@@ -144,7 +156,9 @@ weigh views = total (λ v. v.weight) views
 
 -- the views have as much weight as there are members, and one with none answers for nothing
 abbrev pub Weighed : Shape → List View → Type 0
-Weighed heap views = (weigh views ≡ heap.members) × ((seat : ℕ) (v : View) → get_elem? views seat ≡ some v → v.weight ≡ 0 → IsBlank v)
+Weighed heap views =
+    (weigh views ≡ heap.members) × ((seat : ℕ) (v : View) → get_elem? views seat ≡ some v
+    → v.weight ≡ 0 → IsBlank v)
 
 abbrev pub one_if : Bool → ℕ
 one_if true = 1
@@ -171,20 +185,27 @@ Numbered heap views = (m : ℕ) → total (numbers m) views ≤ one_if (nat_lt m
 -- racer has stored to it
 abbrev pub Stored : Shape → List ℕ → List ℕ → List View → Type 0
 Stored heap began words views = (p n : ℕ) → p < heap.slots → get_elem? words p ≡ some n →
-    ((h : History) × Held histories_of views h × (last_to p h.1 ≡ Some n)) ⊎ ((get_elem? began p ≡ some n) × ((h : History) → Held histories_of views h → last_to p h.1 ≡ None))
+    ((h : History) × Held histories_of views h × (last_to p h.1 ≡ Some n))
+    ⊎ ((get_elem? began p ≡ some n)
+    × ((h : History) → Held histories_of views h → last_to p h.1 ≡ None))
 
 -- some racer stored a reference into the pair's region to its card, which lies outside
 abbrev pub StoredInto : Shape → List View → ℕ × ℕ → Type 0
-StoredInto heap views pair = (h : History) × (p : ℕ) × (n : ℕ) × Held histories_of views h × In h.1 (p, n) × IsCrossing heap p n × ((card_of heap p, region_at heap n) ≡ pair)
+StoredInto heap views pair =
+    (h : History) × (p : ℕ) × (n : ℕ) × Held histories_of views h × In h.1 (p, n)
+    × IsCrossing heap p n × ((card_of heap p, region_at heap n) ≡ pair)
 
 -- at the beginning some slot of the pair's card referred into its region, outside of which it lies
 abbrev pub BeganInto : Shape → List ℕ → ℕ × ℕ → Type 0
-BeganInto heap began pair = (p : ℕ) × (n : ℕ) × (get_elem? began p ≡ some n) × IsCrossing heap p n × ((card_of heap p, region_at heap n) ≡ pair)
+BeganInto heap began pair =
+    (p : ℕ) × (n : ℕ) × (get_elem? began p ≡ some n) × IsCrossing heap p n
+    × ((card_of heap p, region_at heap n) ≡ pair)
 
 -- each pair that a seat has is of a reference that some racer stored, or that was there at the
 -- beginning
 abbrev pub Recorded : Shape → List ℕ → List View → Type 0
-Recorded heap began views = (x : ℕ × ℕ) → Held pairs_of views x → StoredInto heap views x ⊎ BeganInto heap began x
+Recorded heap began views =
+    (x : ℕ × ℕ) → Held pairs_of views x → StoredInto heap views x ⊎ BeganInto heap began x
 
 -- the race began with the pair, or some seat has read it
 abbrev pub IsNoted : List (ℕ × ℕ) → List View → ℕ × ℕ → Type 0
@@ -193,7 +214,8 @@ IsNoted known views pair = In known pair ⊎ Held pairs_of views pair
 -- each pair that the race began with or that some seat has read has its bit set, or a seat holds
 -- it, which is about to set the bit; no other bit is set, and no seat holds a pair that none has
 -- read
-pub record Kept (heap : Shape) (known : List (ℕ × ℕ)) (words : List ℕ) (views : List View) : Type 0 where
+pub record Kept (heap : Shape) (known : List (ℕ × ℕ)) (words : List ℕ)
+    (views : List View) : Type 0 where
   pub has : (x : ℕ × ℕ) → IsNoted known views x → HasBit heap words x ⊎ Held held_of views x
   pub only : (x : ℕ × ℕ) → IsPair heap x → HasBit heap words x → IsNoted known views x
   pub read : (x : ℕ × ℕ) → Held held_of views x → Held pairs_of views x
@@ -216,7 +238,8 @@ MadeDirty heap began views card = Held claims_of views card ⊎ BeganMarked heap
 abbrev pub Claimed : Shape → List ℕ → List ℕ → List View → Type 0
 Claimed heap began words views = (c : ℕ) → c < heap.cards →
     ((get_elem? words (mark_word heap c) ≡ some 1) × MadeDirty heap began views c)
-    ⊎ ((get_elem? words (mark_word heap c) ≡ some 0) × (Held cleanings_of views c ⊎ (MadeDirty heap began views c → ⊥)))
+    ⊎ ((get_elem? words (mark_word heap c) ≡ some 0)
+    × (Held cleanings_of views c ⊎ (MadeDirty heap began views c → ⊥)))
 
 -- how often the list has the card
 abbrev pub times : ℕ → List ℕ → ℕ
@@ -233,7 +256,8 @@ cleanings_at card view = times card view.cleanings
 -- mark is 0 or 1, so a card that began clean is dirty where it was claimed once more than cleaned
 abbrev pub Counted : Shape → List ℕ → List ℕ → List View → Type 0
 Counted heap began words views = (c first now : ℕ) → c < heap.cards
-    → get_elem? began (mark_word heap c) ≡ some first → get_elem? words (mark_word heap c) ≡ some now
+    → get_elem? began (mark_word heap c) ≡ some first
+    → get_elem? words (mark_word heap c) ≡ some now
     → total (claims_at c) views + first ≡ total (cleanings_at c) views + now
 
 pub record Raced (begun : Begun) (words : List ℕ) (views : List View) : Type 0 where
@@ -251,12 +275,17 @@ pub record Raced (begun : Begun) (words : List ℕ) (views : List View) : Type 0
 
 -- the pair is that of some reference that crosses regions
 abbrev pub IsOfCrossing : Shape → ℕ × ℕ → Type 0
-IsOfCrossing heap pair = (p : ℕ) × (n : ℕ) × IsCrossing heap p n × ((card_of heap p, region_at heap n) ≡ pair)
+IsOfCrossing heap pair =
+    (p : ℕ) × (n : ℕ) × IsCrossing heap p n × ((card_of heap p, region_at heap n) ≡ pair)
 
 -- the shape of a heap: whole cards, whole regions, a row of bits for each region with one for each
 -- card, and as many words as can be counted
 abbrev pub IsShape : Shape → Type 0
-IsShape heap = (heap.slots ≡ heap.cards * heap.size) × (0 < heap.size) × (0 < heap.span) × (heap.slots < 2 ^ 32) × (heap.members < 2 ^ 32) × (0 < heap.cards) × (heap.slots ≡ heap.regions * heap.span) × (heap.cards ≤ heap.row * 64) × (heap.bits ≡ heap.regions * heap.row) × (heap.bits < 2 ^ 32)
+IsShape heap =
+    (heap.slots ≡ heap.cards * heap.size) × (0 < heap.size) × (0 < heap.span)
+    × (heap.slots < 2 ^ 32) × (heap.members < 2 ^ 32) × (0 < heap.cards)
+    × (heap.slots ≡ heap.regions * heap.span) × (heap.cards ≤ heap.row * 64)
+    × (heap.bits ≡ heap.regions * heap.row) × (heap.bits < 2 ^ 32)
 
 -- what a race can start with: words, with each slot that refers into another region covered by its
 -- card's mark or its pair's bit, no bit but those of such pairs, and the flags of marked cards set
@@ -264,9 +293,15 @@ pub record IsBegun (begin : Start) : Type 0 where
   pub shaped : IsShape begin.shape
   pub sized : length begin.words ≡ word_count begin.shape
   pub bounded : Bounded begin.shape begin.words
-  pub marks : (c : ℕ) → c < begin.shape.cards → (get_elem? begin.words (mark_word begin.shape c) ≡ some 1) ⊎ (get_elem? begin.words (mark_word begin.shape c) ≡ some 0)
-  pub covered : (p n : ℕ) → p < begin.shape.slots → get_elem? begin.words p ≡ some n → crosses begin.shape p n ≡ true → HasBit begin.shape begin.words (card_of begin.shape p, region_at begin.shape n) ⊎ IsMarked begin.shape begin.words p
-  pub proper : (x : ℕ × ℕ) → IsPair begin.shape x → HasBit begin.shape begin.words x → IsOfCrossing begin.shape x
+  pub marks : (c : ℕ) → c < begin.shape.cards
+      → (get_elem? begin.words (mark_word begin.shape c) ≡ some 1)
+      ⊎ (get_elem? begin.words (mark_word begin.shape c) ≡ some 0)
+  pub covered : (p n : ℕ) → p < begin.shape.slots → get_elem? begin.words p ≡ some n
+      → crosses begin.shape p n ≡ true
+      → HasBit begin.shape begin.words (card_of begin.shape p, region_at begin.shape n)
+      ⊎ IsMarked begin.shape begin.words p
+  pub proper : (x : ℕ × ℕ) → IsPair begin.shape x → HasBit begin.shape begin.words x
+      → IsOfCrossing begin.shape x
   pub flagged : AreFlagged begin.shape begin.words
 
 -- the words of the slots and of the marks among those of a table
@@ -277,18 +312,27 @@ front heap words = take (heap.slots + heap.cards) words
 -- first cards, as many as this
 abbrev pub pairs_of_card : Shape → List ℕ → ℕ → ℕ → List (ℕ × ℕ)
 pairs_of_card heap words card zero = []
-pairs_of_card heap words card (suc region) = pairs_of_card heap words card region ++ (if bit_at (slice_index words (bit_word heap (card, region))) (bit_place heap (card, region)) == 1 then (card, region) ∷ [] else [])
+pairs_of_card heap words card (suc region) =
+    pairs_of_card heap words card region
+    ++ (if bit_at (slice_index words (bit_word heap (card, region)))
+    (bit_place heap (card, region)) == 1 then (card, region) ∷ [] else [])
 
 abbrev pub pairs_up_to : Shape → List ℕ → ℕ → List (ℕ × ℕ)
 pairs_up_to heap words zero = []
-pairs_up_to heap words (suc card) = pairs_up_to heap words card ++ pairs_of_card heap words card heap.regions
+pairs_up_to heap words (suc card) =
+    pairs_up_to heap words card ++ pairs_of_card heap words card heap.regions
 
 abbrev pub start : Shape → List ℕ → Start
 start heap words = record { shape = heap; words = words }
 
 -- what a race that starts so begins with
 abbrev pub beginning : Start → Begun
-beginning begin = record { shape = begin.shape; words = front begin.shape begin.words; pairs = pairs_up_to begin.shape begin.words begin.shape.cards }
+beginning begin =
+    record {
+      shape = begin.shape;
+      words = front begin.shape begin.words;
+      pairs = pairs_up_to begin.shape begin.words begin.shape.cards;
+    }
 
 -- all null, all clean, and no pair recorded
 abbrev pub null_of : Shape → Start
@@ -305,6 +349,7 @@ pub record Going (heap : Shape) (words : List ℕ) (views : List View) : Type 0 
   pub frozen : Bool
   pub raced : Raced (beginning (start heap first)) words views
   pub proper : (x : ℕ × ℕ) → In (pairs_up_to heap first heap.cards) x → IsOfCrossing heap x
-  pub agreed : (seat : ℕ) (v : View) → get_elem? views seat ≡ some v → 0 < v.weight → (start_of v ≡ start heap first) × (v.frozen ≡ frozen)
+  pub agreed : (seat : ℕ) (v : View) → get_elem? views seat ≡ some v → 0 < v.weight
+      → (start_of v ≡ start heap first) × (v.frozen ≡ frozen)
   pub spared : (seat : ℕ) (v : View) → get_elem? views seat ≡ some v → v.spare ≤ v.weight
   pub still : frozen ≡ true → words ≡ first

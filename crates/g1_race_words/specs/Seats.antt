@@ -9,7 +9,8 @@ use Rattle.atomic_table.specs.declared.shared.Seat.{Seat}
 use Rattle.g1_race_words.specs.declared.view.Shape.{Shape}
 use Rattle.g1_race_words.specs.declared.view.View.{View}
 use Rattle.g1_race_words.specs.Begin.{Start}
-use Rattle.g1_race_words.specs.Rule.{IsBegun, IsPair, Raced, beginning, bit_word, flag, mark_word, start, start_of}
+use Rattle.g1_race_words.specs.Rule.{IsBegun, IsPair, Raced, beginning, bit_word, flag, mark_word}
+use Rattle.g1_race_words.specs.Rule.{start, start_of}
 use Rattle.g1_race_words.specs.Steps.{chair, iced}
 
 -- the words of a race: which table they are, the shape of its heap, and where the first one lies
@@ -26,11 +27,13 @@ pub record Sits (heap : Shape) (view : View) : Type 0 where
 
 -- the word is the mark of the card that the seat owes
 abbrev pub OwesMark : Shape → View → ℕ → Type 0
-OwesMark heap view word = (card : ℕ) × (view.owed ≡ Some card) × (card < heap.cards) × (word ≡ mark_word heap card)
+OwesMark heap view word =
+    (card : ℕ) × (view.owed ≡ Some card) × (card < heap.cards) × (word ≡ mark_word heap card)
 
 -- the word has the flag of the card that the seat owes
 abbrev pub OwesFlag : Shape → View → ℕ → ℕ → Type 0
-OwesFlag heap view card word = (view.owed ≡ Some card) × (card < heap.cards) × (word ≡ bit_word heap (flag heap card))
+OwesFlag heap view card word =
+    (view.owed ≡ Some card) × (card < heap.cards) × (word ≡ bit_word heap (flag heap card))
 
 -- the word is the mark of some card
 abbrev pub IsMark : Shape → ℕ → Type 0
@@ -38,7 +41,8 @@ IsMark heap word = (card : ℕ) × (card < heap.cards) × (word ≡ mark_word he
 
 -- the seat holds the pair, whose bit is in the word
 abbrev pub HoldsBit : Shape → View → ℕ × ℕ → ℕ → Type 0
-HoldsBit heap view pair word = (view.held ≡ pair ∷ []) × IsPair heap pair × (word ≡ bit_word heap pair)
+HoldsBit heap view pair word =
+    (view.held ≡ pair ∷ []) × IsPair heap pair × (word ≡ bit_word heap pair)
 
 -- the seat of a pause that ends, with the share of a member still to give
 abbrev pub IsChair : View → Type 0
@@ -59,8 +63,8 @@ pub record IsFound (view : View) (slot word : ℕ) : Type 0 where
   pub mine : get_elem? views id ≡ some view
   pub there : get_elem? words slot ≡ some word
 
--- a seat with all the weight learns the words, and what they are to the beginning of the race; where
--- it was frozen, they are those that it knew
+-- a seat with all the weight learns the words, and what they are to the beginning of the race;
+-- where it was frozen, they are those that it knew
 pub record Freezes (before after : Me (Unit {0}) View) : Type 0 where
   pub words : List ℕ
   pub views : List View

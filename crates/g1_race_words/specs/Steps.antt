@@ -1,14 +1,33 @@
 -- What a seat's view is after each kind of step, and how views are cut in two and joined.
-use Rattle.std.specs.Prelude.{ℕ, ◌+◌, ◌-◌, ◌*◌, slice_set, List, [], ◌∷◌, ◌++◌, true, false, ◌==◌, if◌then◌else◌, Option, Some, None}
+use Rattle.std.specs.Prelude.{ℕ, ◌+◌, ◌-◌, ◌*◌, slice_set, List, [], ◌∷◌, ◌++◌, true, false, ◌==◌}
+use Rattle.std.specs.Prelude.{if◌then◌else◌, Option, Some, None}
 use Rattle.std.specs.Int.{bit_at}
 use Rattle.g1_race_words.specs.declared.view.Shape.{Shape}
 use Rattle.g1_race_words.specs.declared.view.View.{View}
 use Rattle.g1_race_words.specs.Begin.{Start}
-use Rattle.g1_race_words.specs.Rule.{card_of, region_at, bit_place, crosses, flag, History, null_of, start_of}
+use Rattle.g1_race_words.specs.Rule.{card_of, region_at, bit_place, crosses, flag, History, null_of}
+use Rattle.g1_race_words.specs.Rule.{start_of}
 
 -- a seat that answers for nothing
 abbrev pub blank : Start → ℕ → List History → View
-blank begin weight histories = record { shape = begin.shape; weight = weight; spare = 0; began_words = begin.words; frozen = false; histories = histories; owed = None; claims = []; next = 0; end = 0; swept = []; cleanings = []; pairs = []; held = []; flagged = [] }
+blank begin weight histories =
+    record {
+      shape = begin.shape;
+      weight = weight;
+      spare = 0;
+      began_words = begin.words;
+      frozen = false;
+      histories = histories;
+      owed = None;
+      claims = [];
+      next = 0;
+      end = 0;
+      swept = [];
+      cleanings = [];
+      pairs = [];
+      held = [];
+      flagged = [];
+    }
 
 -- the seat of a pause that ends, which has the weight and the numbers of all that are still to come
 abbrev pub chair : Start → ℕ → View
@@ -33,7 +52,11 @@ gained slot word (history ∷ histories) = (history.0, (slot, word) ∷ history.
 
 -- a racer writes the word to the slot
 abbrev pub wrote : View → ℕ → ℕ → View
-wrote view slot word = record view { histories = gained slot word view.histories; owed = if crosses view.shape slot word then Some (card_of view.shape slot) else None }
+wrote view slot word =
+    record view {
+      histories = gained slot word view.histories;
+      owed = if crosses view.shape slot word then Some (card_of view.shape slot) else None;
+    }
 
 -- a racer finds a word at the slot, and writes another one where it is the one that it expects
 abbrev pub exchanged : View → ℕ → ℕ → ℕ → ℕ → View
@@ -51,7 +74,9 @@ owed_card (Some card) = card ∷ []
 -- those of the cards whose flag is set in the word
 abbrev pub set_flags : Shape → ℕ → List ℕ → List ℕ
 set_flags heap word [] = []
-set_flags heap word (card ∷ cards) = if bit_at word (bit_place heap (flag heap card)) == 1 then card ∷ set_flags heap word cards else set_flags heap word cards
+set_flags heap word (card ∷ cards) =
+    if bit_at word (bit_place heap (flag heap card)) == 1 then card ∷ set_flags heap word cards
+    else set_flags heap word cards
 
 -- a racer finds the word with the flag of the card that it owes
 abbrev pub spotted : View → ℕ → View
@@ -63,24 +88,43 @@ raised view = record view { flagged = owed_card view.owed }
 
 -- a racer swaps 1 to the mark of the card that it owes, and finds the word
 abbrev pub dirtied : View → ℕ → ℕ → View
-dirtied view card word = record view { owed = None; claims = if word == 0 then card ∷ view.claims else view.claims; flagged = [] }
+dirtied view card word =
+    record view {
+      owed = None;
+      claims = if word == 0 then card ∷ view.claims else view.claims;
+      flagged = [];
+    }
 
 -- a sweeper swaps 0 to the mark of the card, finds the word, and has the card's slots to read
 abbrev pub cleaned : View → ℕ → ℕ → View
-cleaned view card word = record view { next = card * view.shape.size; end = card * view.shape.size + view.shape.size; swept = card ∷ view.swept; cleanings = if word == 1 then card ∷ view.cleanings else view.cleanings }
+cleaned view card word =
+    record view {
+      next = card * view.shape.size;
+      end = card * view.shape.size + view.shape.size;
+      swept = card ∷ view.swept;
+      cleanings = if word == 1 then card ∷ view.cleanings else view.cleanings;
+    }
 
 -- the pair of a slot's word, where it refers into another region
 abbrev pub pair_at : Shape → ℕ → ℕ → List (ℕ × ℕ)
-pair_at heap slot word = if crosses heap slot word then (card_of heap slot, region_at heap word) ∷ [] else []
+pair_at heap slot word =
+    if crosses heap slot word then (card_of heap slot, region_at heap word) ∷ [] else []
 
 -- a sweeper finds the word at the slot
 abbrev pub read : View → ℕ → ℕ → View
-read view slot word = record view { next = slot + 1; pairs = view.pairs ++ pair_at view.shape slot word; held = pair_at view.shape slot word }
+read view slot word =
+    record view {
+      next = slot + 1;
+      pairs = view.pairs ++ pair_at view.shape slot word;
+      held = pair_at view.shape slot word;
+    }
 
 -- those of the pairs whose bit isn't set in the word
 abbrev pub unset : Shape → ℕ → List (ℕ × ℕ) → List (ℕ × ℕ)
 unset heap word [] = []
-unset heap word (pair ∷ pairs) = if bit_at word (bit_place heap pair) == 1 then unset heap word pairs else pair ∷ unset heap word pairs
+unset heap word (pair ∷ pairs) =
+    if bit_at word (bit_place heap pair) == 1 then unset heap word pairs
+    else pair ∷ unset heap word pairs
 
 -- a sweeper finds the word with the bit of the pair that it holds
 abbrev pub sought : View → ℕ → View
@@ -103,8 +147,29 @@ new_sweeper view = blank (start_of view) 1 []
 
 -- what two seats at rest know, together; the second one has weight, so its beginning is the race's
 abbrev pub both : View → View → View
-both view other = record view { shape = other.shape; began_words = other.began_words; frozen = other.frozen; weight = view.weight + other.weight; histories = view.histories ++ other.histories; claims = view.claims ++ other.claims; swept = view.swept ++ other.swept; cleanings = view.cleanings ++ other.cleanings; pairs = view.pairs ++ other.pairs }
+both view other =
+    record view {
+      shape = other.shape;
+      began_words = other.began_words;
+      frozen = other.frozen;
+      weight = view.weight + other.weight;
+      histories = view.histories ++ other.histories;
+      claims = view.claims ++ other.claims;
+      swept = view.swept ++ other.swept;
+      cleanings = view.cleanings ++ other.cleanings;
+      pairs = view.pairs ++ other.pairs;
+    }
 
 -- the view of a seat that was joined to another
 abbrev pub nothing : View
-nothing = blank (null_of (record { slots = 0; cards = 0; size = 0; span = 0; regions = 0; row = 0; bits = 0; members = 0 })) 0 []
+nothing =
+    blank (null_of (record {
+      slots = 0;
+      cards = 0;
+      size = 0;
+      span = 0;
+      regions = 0;
+      row = 0;
+      bits = 0;
+      members = 0;
+    })) 0 []

@@ -1,7 +1,8 @@
 //! The steps of a racer.
 ghost use Rattle.std.specs.Prelude.{◌≡◌, ℕ, ◌-◌, ◌<◌, [], ◌∷◌, None};
 ghost use Rattle.g1_race_words.specs.Rule.{History, IsWord, bit_place, flag};
-ghost use Rattle.g1_race_words.specs.Steps.{wrote, exchanged, looked, spotted, raised, owed_card, dirtied};
+ghost use Rattle.g1_race_words.specs.Steps.{wrote, exchanged, looked, spotted, raised, owed_card};
+ghost use Rattle.g1_race_words.specs.Steps.{dirtied};
 ghost use Rattle.g1_race_words.specs.Seats.{Sits, IsFound, OwesMark, OwesFlag};
 
 use crate::table::{Place, RaceTable};
