@@ -19,6 +19,7 @@ pub(crate) fn word_of(target: Option<Slot>) -> u64
 }
 
 // Whether the word refers to a slot: it is neither null nor data.
+#[inline(always)]
 pub(crate) fn is_reference(word: u64) -> bool
     ensures { IsTrue result ↔ IsReference word }
 {
@@ -26,6 +27,7 @@ pub(crate) fn is_reference(word: u64) -> bool
 }
 
 // What a slot with this word refers to.
+#[inline(always)]
 pub(crate) fn refers_to(layout: Layout, word: u64) -> Option<Slot>
     requires word { IsWord (shape_of layout 0) word }
     requires low { slot_count layout < 2 ^ 32 }
