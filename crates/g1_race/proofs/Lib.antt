@@ -30,3 +30,4 @@ pub mod MovedTable
 pub mod Counting
 pub mod Blocks
 pub mod SlotWords
+pub mod Held

@@ -20,6 +20,7 @@ pub record IsSameRace (old new : Halt) : Type 0 where
   pub layout : new.layout ≡ old.layout
   pub shape : new.shape ≡ old.shape
   pub address : new.address ≡ old.address
+  pub table_id : new.table_id ≡ old.table_id
   pub logs : new.logs ≡ old.logs
   pub sweepers : new.sweepers ≡ old.sweepers
 
@@ -28,6 +29,7 @@ pub record IsRefinedRace (old new : Halt) : Type 0 where
   pub layout : new.layout ≡ old.layout
   pub shape : new.shape ≡ old.shape
   pub address : new.address ≡ old.address
+  pub table_id : new.table_id ≡ old.table_id
   pub logs : new.logs ≡ replicate (length old.logs) []
   pub sweepers : new.sweepers ≡ old.sweepers
 

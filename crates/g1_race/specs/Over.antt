@@ -2,6 +2,7 @@
 use Rattle.std.specs.Prelude.{nat_lt, ◌≡◌, ℕ, ◌-◌, ◌^◌, ◌==◌, if◌then◌else◌, List, map, take, drop}
 use Rattle.std.specs.Prelude.{Bool, Option, Some, None}
 use denote.RawPtr.{Ptr}
+use Rattle.atomic_table.specs.Seated.{TableId}
 use Rattle.g1_layout.specs.Shape as layout
 use Rattle.g1_layout.specs.Shape.{slot_count}
 use Rattle.g1_core.specs.Table.{Table}
@@ -51,13 +52,14 @@ pub record IsEnded (heap : Shape) (layout : layout.Shape) (words : List ℕ) : T
   pub laid : heap ≡ shape_of layout heap.members
   pub begun : IsBegun (start heap words)
 
--- a race at a pause: its layout, also in plain numbers, the words of its table and where they lie,
--- the racers' logs, and how many sweepers there are
+-- a race at a pause: its layout, also in plain numbers, the words of its table, where they lie and
+-- whose they are, the racers' logs, and how many sweepers there are
 pub record Halt : Type 0 where
   pub layout : layout.Shape
   pub shape : Shape
   pub words : List ℕ
   pub address : Ptr
+  pub table_id : TableId
   pub logs : List (List ℕ)
   pub sweepers : ℕ
 

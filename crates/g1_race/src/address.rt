@@ -2,6 +2,7 @@
 ghost use Rattle.std.specs.Prelude.{◌≡◌};
 ghost use Rattle.g1_race.specs.Members.{race_words};
 
+use crate::holds::Holds;
 use crate::paused::Paused;
 use crate::race::Race;
 
@@ -21,11 +22,11 @@ impl Race {
     }
 }
 
-impl Paused {
+impl<R: Holds> Paused<R> {
     /// As [`Race::words`]: the address is the same before, at and after each pause.
     pub fn words(&self) -> *const u64
         ensures { result ≡ self.now.address }
     {
-        self.race.words()
+        self.race.race().words()
     }
 }

@@ -12,6 +12,7 @@ ghost use Rattle.g1_race.specs.Evacuating.{IsSameRace, SlotsBecome, same_word};
 ghost use Rattle.g1_race_words.specs.Seats.{IsPaused};
 
 use crate::bits::bit_of;
+use crate::holds::Holds;
 use crate::next::{count_marked, next_member};
 use crate::paused::Paused;
 use crate::race::Race;
@@ -21,7 +22,7 @@ use g1_core::ClearReply;
 use g1_layout::Region;
 use g1_race_words::{Place, Shape};
 
-impl Paused {
+impl<R: Holds> Paused<R> {
     /// Empties the remembered set of a region, once no card is dirty and no slot outside the region
     /// refers into it. Takes no memory.
     ///
@@ -35,19 +36,20 @@ impl Paused {
             → IsStep (halted self.old) (clear_entry caller region result) (halted self.new) }
         ensures refused { result ≢ ClearReply.Cleared → self.new ≡ self.old }
     {
-        let layout = self.race.layout;
+        let race = self.race.race();
+        let layout = race.layout;
         let number = region.number() as usize;
-        let pending = count_marked(&self.race, &mut self.seat);
+        let pending = count_marked(race, &mut self.seat);
         if pending > 0 {
             return ClearReply::Pending(pending as u32);
         }
-        if let Some(slot) = entering(&self.race, &mut self.seat, number) {
+        if let Some(slot) = entering(race, &mut self.seat, number) {
             let Some(slot) = layout.slot(slot as u32) else {
                 unreachable!()
             };
             return ClearReply::StillReferenced(slot);
         }
-        empty_row(&self.race, &mut self.seat, number);
+        empty_row(race, &mut self.seat, number);
         ClearReply::Cleared
     }
 }

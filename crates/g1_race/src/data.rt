@@ -15,6 +15,7 @@ ghost use Rattle.g1_race.specs.Over.{halted};
 ghost use Rattle.g1_race.specs.Race as racing;
 ghost use Rattle.g1_race.specs.Reading.{reader_race};
 
+use crate::holds::Holds;
 use crate::paused::Paused;
 use crate::race::{Race, Racer};
 use crate::reading::Reader;
@@ -45,7 +46,7 @@ impl Racer {
     }
 }
 
-impl Paused {
+impl<R: Holds> Paused<R> {
     /// Stores data into a slot: a word from 2^32 on, which refers to nothing. To the table it is a
     /// store of null. Takes no memory.
     pub fn store_data(&mut self, slot: Slot, word: u64)
@@ -58,7 +59,8 @@ impl Paused {
             IsStep (halted self.old) (store_entry caller slot None (plain_reply Null))
             (halted self.new) }
     {
-        put(&self.race, &mut self.seat, slot.number() as usize, word);
+        let race = self.race.race();
+        put(race, &mut self.seat, slot.number() as usize, word);
     }
 
     /// Returns a slot's word: 0 for null, the number of the slot that it refers to plus 1, or data
@@ -69,7 +71,7 @@ impl Paused {
         ensures fits { IsWord self.old.shape result }
         ensures same { self.new ≡ self.old }
     {
-        see(&self.race, &mut self.seat, slot.number() as usize)
+        see(self.race.race(), &mut self.seat, slot.number() as usize)
     }
 }
 

@@ -15,6 +15,7 @@ ghost use Rattle.g1_race_words.specs.Seats.{IsPaused};
 
 use crate::bits::bit_of;
 use crate::clear::empty_row;
+use crate::holds::Holds;
 use crate::next::{
     count_marked, count_members, list_marked, list_members, next_marked, write_members,
 };
@@ -27,7 +28,7 @@ use g1_layout::{Card, NoMemory, Region};
 use g1_race_words::Place;
 use std::alloc::Global;
 
-impl Paused {
+impl<R: Holds> Paused<R> {
     /// Refines every dirty card, and returns the remembered set of a region, ascending, each card
     /// once. It has every card that holds into the region, and besides these only cards whose pair
     /// was recorded before. Then no card is dirty, and the racers' logs are empty.
@@ -46,14 +47,15 @@ impl Paused {
             IsExactAtPause (halted self.old) region (drain_cards answer)) }
         ensures err { OnErr result (self.new ≡ self.old) }
     {
+        let race = self.race.race();
         let number = region.number() as usize;
-        let pending = count_marked(&self.race, &mut self.seat);
-        let members = count_members(&self.race, &mut self.seat, number);
+        let pending = count_marked(race, &mut self.seat);
+        let members = count_members(race, &mut self.seat, number);
         let mut refined = Vec::with_capacity(alloc, pending)?;
         let mut cards = Vec::with_capacity(alloc, members + pending)?;
-        list_marked(&self.race, &mut self.seat, &mut refined);
-        refine_cards(&self.race, &mut self.seat);
-        list_members(&self.race, &mut self.seat, number, &mut cards);
+        list_marked(race, &mut self.seat, &mut refined);
+        refine_cards(race, &mut self.seat);
+        list_members(race, &mut self.seat, number, &mut cards);
         clear_logs(&mut self.racers);
         let refined = CardList::of(refined);
         let cards = CardList::of(cards);
@@ -69,10 +71,11 @@ impl Paused {
         ensures drained { IsDrainedInto (halted self.old) (halted self.new) region result cards.old
             cards.new }
     {
+        let race = self.race.race();
         let number = region.number() as usize;
-        refine_cards(&self.race, &mut self.seat);
+        refine_cards(race, &mut self.seat);
         clear_logs(&mut self.racers);
-        write_members(&self.race, &mut self.seat, number, cards)
+        write_members(race, &mut self.seat, number, cards)
     }
 
     /// Refines every dirty card, in ascending order, and empties the racers' logs. The members of
@@ -83,7 +86,8 @@ impl Paused {
         ensures refined { (cards : List ℕ)
             × AreAllRefined (halted self.old) cards (halted self.new) }
     {
-        refine_cards(&self.race, &mut self.seat);
+        let race = self.race.race();
+        refine_cards(race, &mut self.seat);
         clear_logs(&mut self.racers);
     }
 }

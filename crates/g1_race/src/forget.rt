@@ -11,6 +11,7 @@ ghost use Rattle.g1_race.specs.Evacuating.{IsSameRace, SlotsBecome, same_word, f
 ghost use Rattle.g1_race_words.specs.Seats.{IsPaused};
 
 use crate::bits::bit_of;
+use crate::holds::Holds;
 use crate::next::next_member;
 use crate::paused::Paused;
 use crate::race::Race;
@@ -18,7 +19,7 @@ use crate::stopped::{put, see};
 use g1_layout::Region;
 use g1_race_words::Place;
 
-impl Paused {
+impl<R: Holds> Paused<R> {
     /// Removes the region's cards from the remembered sets of all regions. No slot of the region
     /// may refer out of it, as after [`Paused::wipe`]. Later drains then return no card of the
     /// region until one is stored to. Takes no memory.
@@ -30,9 +31,10 @@ impl Paused {
         ensures words { SlotsBecome same_word self.old self.new }
         ensures table { halted self.new ≡ forgotten region (halted self.old) }
     {
-        let cards = self.race.shape.cards / self.race.shape.regions;
+        let race = self.race.race();
+        let cards = race.shape.cards / race.shape.regions;
         let first = region.number() as usize * cards;
-        forget_cards(&self.race, &mut self.seat, first, first + cards);
+        forget_cards(race, &mut self.seat, first, first + cards);
     }
 }
 

@@ -24,11 +24,12 @@
 //! A heap begins at a pause, by [`Paused::open`] or, with a core's table, by
 //! [`Paused::begin_from`]. [`Paused::resume`] returns the race, its racers and its sweepers. Each
 //! of them then belongs to one thread at a time, and they share the race by `&`. [`Race::pause`]
-//! takes all of them back, in place. A [`Paused`] tells what each slot refers to, which cards are
-//! dirty and which pairs are recorded. It also refines, drains, redirects and clears.
-//! [`Paused::read_by`] lets several threads read at once. Between the birth of a heap and its end
-//! no call takes memory, except for the lists that are returned. [`Race::open`], [`Race::resume`]
-//! and [`Race::close`] each make two of these calls in one.
+//! takes all of them back, in place. [`Paused::of`] does so where threads keep their shares of the
+//! race over the pause. A [`Paused`] tells what each slot refers to, which cards are dirty and
+//! which pairs are recorded. It also refines, drains, redirects and clears. [`Paused::read_by`]
+//! lets several threads read at once. Between the birth of a heap and its end no call takes memory,
+//! except for the lists that are returned. [`Race::open`], [`Race::resume`] and [`Race::close`]
+//! each make two of these calls in one.
 //!
 //! A race that ends ([`Race::close`], [`Paused::close`]) leaves a [`Closed`], which a core can be
 //! made of.
@@ -48,6 +49,7 @@ mod ended;
 mod exchange;
 mod forget;
 mod geometry;
+mod holds;
 mod into_core;
 pub mod laws;
 mod listed;
@@ -71,6 +73,7 @@ mod word;
 
 pub use ended::Closed;
 pub use g1_race_words::{Shape, View};
+pub use holds::Holds;
 pub use paused::Paused;
 pub use race::{Race, Racer, Sweeper};
 pub use reading::{Reader, Reading};

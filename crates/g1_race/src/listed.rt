@@ -11,6 +11,7 @@ ghost use Rattle.g1_race.specs.Clearing.{IsLeastPending};
 ghost use Rattle.g1_race_words.specs.Readers.{IsReading};
 
 use crate::bits::bit_of;
+use crate::holds::Holds;
 use crate::next::{card_at, count_marked, count_members, count_pairs, list_members, next_marked};
 use crate::paused::Paused;
 use crate::race::Race;
@@ -20,13 +21,13 @@ use g1_layout::{Card, NoMemory, Region};
 use g1_race_words::Place;
 use std::alloc::Global;
 
-impl Paused {
+impl<R: Holds> Paused<R> {
     /// Returns whether a pair is recorded. Reads one word.
     pub fn has(&mut self, card: Card, region: Region) -> bool
         ensures has { IsTrue result ↔ IsRecorded (halted self.old) card region }
         ensures same { self.new ≡ self.old }
     {
-        is_recorded(&self.race, &mut self.seat, card, region)
+        is_recorded(self.race.race(), &mut self.seat, card, region)
     }
 
     /// Returns the cards of a region's remembered set as it is recorded, ascending, each once.
@@ -41,7 +42,7 @@ impl Paused {
             → IsStep (halted self.old) (members_entry caller region cards) (halted self.new)) }
         ensures same { self.new ≡ self.old }
     {
-        members_of(&self.race, &mut self.seat, alloc, region)
+        members_of(self.race.race(), &mut self.seat, alloc, region)
     }
 
     /// Returns how many cards are dirty. Reads a word for each 64 cards of the heap, and the marks
@@ -50,7 +51,7 @@ impl Paused {
         ensures count { result ≡ set.len (halted self.old).pending }
         ensures same { self.new ≡ self.old }
     {
-        count_marked(&self.race, &mut self.seat) as u32
+        count_marked(self.race.race(), &mut self.seat) as u32
     }
 
     /// Returns how many cards are dirty, and how many pairs are recorded. Reads what
@@ -63,9 +64,10 @@ impl Paused {
             IsStep (halted self.old) (status_entry caller result) (halted self.new) }
         ensures same { self.new ≡ self.old }
     {
-        let _counts = self.race.layout.counts();
-        let pending = count_marked(&self.race, &mut self.seat) as u32;
-        let recorded = count_pairs(&self.race, &mut self.seat) as u32;
+        let race = self.race.race();
+        let _counts = race.layout.counts();
+        let pending = count_marked(race, &mut self.seat) as u32;
+        let recorded = count_pairs(race, &mut self.seat) as u32;
         Status { pending, recorded }
     }
 
@@ -76,7 +78,7 @@ impl Paused {
         ensures dirty { IsLeastPending (halted self.old) result }
         ensures same { self.new ≡ self.old }
     {
-        next_dirty_from(&self.race, &mut self.seat, 0)
+        next_dirty_from(self.race.race(), &mut self.seat, 0)
     }
 }
 

@@ -9,6 +9,7 @@ ghost use Rattle.g1_race.specs.Members.{race_id, race_layout, race_shape, race_w
 ghost use Rattle.g1_race.specs.Members.{racer_race, sweeper_race, racer_view, sweeper_view};
 ghost use Rattle.g1_race.specs.Members.{racer_log, RacerOf, SweeperOf};
 
+use crate::holds::Holds;
 use crate::paused::Paused;
 use crate::race::{Race, Racer, Sweeper};
 use g1_race_words::{Place, RaceTable};
@@ -31,13 +32,14 @@ impl Race {
     ///
     /// Takes no memory and copies no word. The only steps that it makes are those that join the
     /// seats, and one more. Each log stays where it is, in its racer.
-    pub fn pause(self, mut racers: Vec<Racer>, mut sweepers: Vec<Sweeper>) -> Paused
+    pub fn pause(self, racers: Vec<Racer>, sweepers: Vec<Sweeper>) -> Paused
         requires racers { (vec_len racers + vec_len sweepers ≡ (race_shape self).members)
             × All (λ r. racer_race r ≡ race_id self) racers.items }
         requires sweepers { All (λ w. sweeper_race w ≡ race_id self) sweepers.items }
         ensures layout { result.layout ≡ race_layout self }
         ensures shape { result.shape ≡ race_shape self }
         ensures words { result.address ≡ race_words self }
+        ensures table { result.table_id ≡ (race_id self).0 }
         ensures within { (x : ℕ × ℕ) → Contains (ended_of result).pairs x →
             IsPairOf (race_layout self) x }
         ensures cover { IsCovered (halted result) }
@@ -51,12 +53,43 @@ impl Race {
         ensures logs { result.logs ≡ map racer_log racers.items }
         ensures sweepers { result.sweepers ≡ vec_len sweepers }
     {
-        let mut seat = self.table.enter();
-        join_racers(&self.table, &mut seat, &mut racers);
-        join_sweepers(&self.table, &mut seat, &mut sweepers);
-        self.table.freeze(&mut seat);
+        Paused::of(self, racers, sweepers)
+    }
+}
+
+impl<R: Holds> Paused<R> {
+    /// Pauses a race in place, as [`Race::pause`] does, that is held by value or by a share. While
+    /// it is paused the other shares can do nothing to its words, since each call takes a racer or
+    /// a sweeper, and all of these are in the pause. So threads may keep their shares over it, and
+    /// go on with the racers of [`Paused::resume`]. Neither call takes memory or gives it back.
+    pub fn of(race: R, mut racers: Vec<Racer>, mut sweepers: Vec<Sweeper>) -> Paused<R>
+        requires racers { (vec_len racers + vec_len sweepers ≡ (race_shape (R.held race)).members)
+            × All (λ r. racer_race r ≡ race_id (R.held race)) racers.items }
+        requires sweepers { All (λ w. sweeper_race w ≡ race_id (R.held race)) sweepers.items }
+        ensures layout { result.layout ≡ race_layout (R.held race) }
+        ensures shape { result.shape ≡ race_shape (R.held race) }
+        ensures words { result.address ≡ race_words (R.held race) }
+        ensures table { result.table_id ≡ (race_id (R.held race)).0 }
+        ensures within { (x : ℕ × ℕ) → Contains (ended_of result).pairs x →
+            IsPairOf (race_layout (R.held race)) x }
+        ensures cover { IsCovered (halted result) }
+        ensures pairs { let rs = map racer_view racers.items in
+            let ws = map sweeper_view sweepers.items in
+            (x : ℕ × ℕ) →
+            Contains (ended_of result).pairs x ↔ IsKnown (race_begun (R.held race) rs ws) ws x }
+        ensures over { let rs = map racer_view racers.items in
+            let ws = map sweeper_view sweepers.items in
+            IsOver (race_begun (R.held race) rs ws) (ended_of result).words rs ws }
+        ensures logs { result.logs ≡ map racer_log racers.items }
+        ensures sweepers { result.sweepers ≡ vec_len sweepers }
+    {
+        let table = &race.race().table;
+        let mut seat = table.enter();
+        join_racers(table, &mut seat, &mut racers);
+        join_sweepers(table, &mut seat, &mut sweepers);
+        table.freeze(&mut seat);
         Paused {
-            race: self,
+            race,
             seat,
             racers,
             sweepers,

@@ -6,18 +6,19 @@ ghost use Rattle.g1_race.specs.Members.{race_id, race_layout, race_words};
 ghost use Rattle.g1_race.specs.Over.{halted};
 ghost use Rattle.g1_race.specs.Reading.{IsReaderOf, Known, known, table_read};
 
+use crate::holds::Holds;
 use crate::paused::Paused;
 use crate::race::Race;
 use crate::reading::{Reader, Reading};
 use g1_race_words::{Place, RaceTable};
 
-impl Paused {
+impl<R: Holds> Paused<R> {
     /// Returns how many readers a pause can have at most: as many as the race has racers and
     /// sweepers.
     pub fn reader_limit(&self) -> usize
         ensures { result ≡ self.now.shape.members }
     {
-        self.race.shape.members
+        self.race.race().shape.members
     }
 
     /// Lets `count` readers read concurrently, each in a thread of its own, and puts them into the
@@ -26,7 +27,7 @@ impl Paused {
     ///
     /// Takes no memory and cannot fail. The only steps that it makes are those that split the
     /// seats.
-    pub fn read_by(self, readers: &mut Vec<Reader>, count: usize) -> Reading
+    pub fn read_by(self, readers: &mut Vec<Reader>, count: usize) -> Reading<R>
         requires count { count ≤ self.shape.members }
         requires empty { vec_len readers.old ≡ 0 }
         requires room { count ≤ vec_capacity readers.old }
@@ -41,7 +42,7 @@ impl Paused {
             racers,
             sweepers,
         } = self;
-        seat_readers(&race.table, &mut seat, readers, count);
+        seat_readers(&race.race().table, &mut seat, readers, count);
         Reading {
             race,
             seat,
@@ -51,7 +52,7 @@ impl Paused {
     }
 }
 
-impl Reading {
+impl<R: Holds> Reading<R> {
     /// Returns the race, which readers pass to their calls. Threads share it by `&`. What a reader
     /// of this pause knows of the race is the table of the pause.
     pub fn race(&self) -> &Race
@@ -61,7 +62,7 @@ impl Reading {
         ensures table { (reader : Known) → IsReaderOf self.now reader →
             table_read result.now reader ≡ halted self.now.pause }
     {
-        &self.race
+        self.race.race()
     }
 
     /// Ends the reading, and returns the pause as it was. All readers must be handed in. The list
@@ -69,7 +70,7 @@ impl Reading {
     ///
     /// Takes no memory and cannot fail. The only steps that it makes are those that join the seats,
     /// and one more.
-    pub fn pause(self, readers: &mut Vec<Reader>) -> Paused
+    pub fn pause(self, readers: &mut Vec<Reader>) -> Paused<R>
         requires count { vec_len readers.old ≡ self.readers }
         requires readers { All (IsReaderOf self) readers.old.items }
         ensures pause { result ≡ self.pause }
@@ -82,8 +83,9 @@ impl Reading {
             racers,
             sweepers,
         } = self;
-        join_readers(&race.table, &mut seat, readers);
-        race.table.freeze(&mut seat);
+        let table = &race.race().table;
+        join_readers(table, &mut seat, readers);
+        table.freeze(&mut seat);
         Paused {
             race,
             seat,

@@ -1,5 +1,6 @@
 //! A race at a pause that several threads read, and what each of them reads with.
 
+use crate::holds::Holds;
 use crate::race::{Race, Racer, Sweeper};
 use g1_race_words::Place;
 use std::marker::Model;
@@ -9,37 +10,32 @@ use std::marker::Model;
 /// Its model has the pause, the identity of its table, and how many readers have to be handed in
 /// before the pause goes on. Nothing changes meanwhile.
 #[derive(Drop)]
-pub struct Reading {
-    pub(crate) race: Race,
+pub struct Reading<R: Holds = Race> {
+    pub(crate) race: R,
     pub(crate) seat: Place,
     pub(crate) racers: Vec<Racer>,
     pub(crate) sweepers: Vec<Sweeper>,
 }
 
-impl Model for Reading {
+impl<R: Holds> Model for Reading<R> {
     ghost use Rattle.std.specs.Prelude.{◌≡◌, ◌+◌, ◌-◌, ◌≤◌, map, vec_len};
-    ghost use Rattle.g1_race.specs.Members.{racer_log};
+    ghost use Rattle.g1_race.specs.Members.{halt_of, racer_log};
     ghost use Rattle.g1_race.specs.Reading.{Readable};
     ghost use Rattle.g1_race_words.specs.Readers.{IsLent};
 
     ghost Value = { Readable };
 
     ghost view = { λ a. record {
-      pause = record {
-        layout = a.race.layout;
-        shape = a.race.shape;
-        words = a.seat.me.0.began_words;
-        address = a.race.table.address;
-        logs = map racer_log a.racers.items;
-        sweepers = vec_len a.sweepers;
-      };
-      table_id = a.race.table.table_id;
-      readers = a.race.shape.members - a.seat.me.0.weight;
+      pause = halt_of (R.held a.race) a.seat.me.0.began_words
+          (map racer_log a.racers.items) (vec_len a.sweepers);
+      table_id = (R.held a.race).table.table_id;
+      readers = (R.held a.race).shape.members - a.seat.me.0.weight;
     } };
 
-    ghost invariant = { λ a. IsLent a.race.table.table_id a.race.shape a.seat
-        × (a.seat.me.0.weight ≤ a.race.shape.members)
-        × (vec_len a.racers + vec_len a.sweepers ≡ a.race.shape.members) };
+    ghost invariant = { λ a. let race = R.held a.race in
+        IsLent race.table.table_id race.shape a.seat
+        × (a.seat.me.0.weight ≤ race.shape.members)
+        × (vec_len a.racers + vec_len a.sweepers ≡ race.shape.members) };
 }
 
 /// What a thread of the collector reads with at a pause: its right to read the words. It has no

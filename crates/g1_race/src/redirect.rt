@@ -14,6 +14,7 @@ ghost use Rattle.g1_race_words.specs.Seats.{IsPaused};
 
 use crate::clear::{empty_row, enters};
 use crate::drain::{clear_logs, refine_cards, set_bit};
+use crate::holds::Holds;
 use crate::next::{count_marked, list_marked, next_member};
 use crate::paused::Paused;
 use crate::race::Race;
@@ -23,7 +24,7 @@ use g1_layout::{NoMemory, Region};
 use g1_race_words::Place;
 use std::alloc::Global;
 
-impl Paused {
+impl<R: Holds> Paused<R> {
     /// Moves the references into the region `from` to the same offsets of the region `to`, and
     /// empties the remembered set of `from`.
     ///
@@ -54,12 +55,13 @@ impl Paused {
             IsStep (halted self.old) (redirect_entry caller from to answer) (halted self.new)) }
         ensures err { OnErr result (self.new ≡ self.old) }
     {
-        let pending = count_marked(&self.race, &mut self.seat);
+        let race = self.race.race();
+        let pending = count_marked(race, &mut self.seat);
         let mut refined = Vec::with_capacity(alloc, pending)?;
-        list_marked(&self.race, &mut self.seat, &mut refined);
-        refine_cards(&self.race, &mut self.seat);
+        list_marked(race, &mut self.seat, &mut refined);
+        refine_cards(race, &mut self.seat);
         let (from, to) = (from.number() as usize, to.number() as usize);
-        let slots = move_references(&self.race, &mut self.seat, from, to);
+        let slots = move_references(race, &mut self.seat, from, to);
         clear_logs(&mut self.racers);
         let refined = CardList::of(refined);
         Ok(Redirected::Moved { slots, refined })
@@ -75,10 +77,11 @@ impl Paused {
         ensures words { SlotsBecome (word_after self.old.shape from to) self.old self.new }
         ensures redirected { IsRedirected (halted self.old) from to result (halted self.new) }
     {
-        refine_cards(&self.race, &mut self.seat);
+        let race = self.race.race();
+        refine_cards(race, &mut self.seat);
         clear_logs(&mut self.racers);
         let (from, to) = (from.number() as usize, to.number() as usize);
-        move_references(&self.race, &mut self.seat, from, to)
+        move_references(race, &mut self.seat, from, to)
     }
 }
 

@@ -11,6 +11,7 @@ ghost use Rattle.g1_race.specs.Members.{race_id, race_layout, race_shape, race_w
 ghost use Rattle.g1_race.specs.Members.{AreFreshRacers, AreFreshSweepers, HaveBegunWith};
 ghost use Rattle.g1_race.specs.Members.{IsNewRacer, IsNewSweeper};
 
+use crate::holds::Holds;
 use crate::paused::Paused;
 use crate::race::{Race, Racer, Sweeper};
 use g1_core::Core;
@@ -18,7 +19,7 @@ use g1_layout::NoMemory;
 use g1_race_words::{Place, RaceTable};
 use std::alloc::Global;
 
-impl Paused {
+impl<R: Holds> Paused<R> {
     /// Lets the race go on, and returns it with its racers and its sweepers. The racers get their
     /// logs back, which are empty if all was refined. They have stored nothing, and the sweepers
     /// have swept nothing: the race begins with the table as the pause left it. A racer has a
@@ -26,17 +27,19 @@ impl Paused {
     ///
     /// Takes no memory and cannot fail. The only steps that it makes are those that split the
     /// seats, and one more.
-    pub fn resume(self) -> (Race, Vec<Racer>, Vec<Sweeper>)
-        ensures layout { race_layout result.0 ≡ self.layout }
-        ensures shape { race_shape result.0 ≡ self.shape }
-        ensures words { race_words result.0 ≡ self.address }
-        ensures members { vec_len result.1 + vec_len result.2 ≡ (race_shape result.0).members }
+    pub fn resume(self) -> (R, Vec<Racer>, Vec<Sweeper>)
+        ensures layout { race_layout (R.held result.0) ≡ self.layout }
+        ensures shape { race_shape (R.held result.0) ≡ self.shape }
+        ensures words { race_words (R.held result.0) ≡ self.address }
+        ensures table { (race_id (R.held result.0)).0 ≡ self.table_id }
+        ensures members { vec_len result.1 + vec_len result.2
+            ≡ (race_shape (R.held result.0)).members }
         ensures began { began self.layout (beginning (start_at self)) ≡ halted self }
         ensures racers { (vec_len result.1 ≡ length self.logs)
-            × All (IsNewRacer (race_id result.0).0 (start_at self)) result.1.items }
+            × All (IsNewRacer (race_id (R.held result.0)).0 (start_at self)) result.1.items }
         ensures logs { map racer_log result.1.items ≡ self.logs }
         ensures sweepers { (vec_len result.2 ≡ self.sweepers)
-            × All (IsNewSweeper (race_id result.0).0 (start_at self)) result.2.items }
+            × All (IsNewSweeper (race_id (R.held result.0)).0 (start_at self)) result.2.items }
     {
         let Paused {
             race,
@@ -44,9 +47,10 @@ impl Paused {
             mut racers,
             mut sweepers,
         } = self;
-        race.table.thaw(&mut seat);
-        seat_racers(&race.table, &mut seat, &mut racers);
-        seat_sweepers(&race.table, &mut seat, &mut sweepers);
+        let table = &race.race().table;
+        table.thaw(&mut seat);
+        seat_racers(table, &mut seat, &mut racers);
+        seat_sweepers(table, &mut seat, &mut sweepers);
         (race, racers, sweepers)
     }
 }

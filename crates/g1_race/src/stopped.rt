@@ -17,13 +17,14 @@ ghost use Rattle.g1_race_words.specs.Seats.{IsPaused};
 ghost use Rattle.g1_race_words.specs.Readers.{IsReading};
 
 use crate::drain::set_bit;
+use crate::holds::Holds;
 use crate::paused::Paused;
 use crate::race::Race;
 use crate::word::{refers_to, word_of};
 use g1_layout::{Card, Kind, Layout, Slot};
 use g1_race_words::Place;
 
-impl Paused {
+impl<R: Holds> Paused<R> {
     /// Returns what a slot refers to, or `None` for null. Reads one word.
     pub fn target(&mut self, slot: Slot) -> Option<Slot>
         requires { slot < slot_count self.old.layout }
@@ -33,7 +34,7 @@ impl Paused {
             → IsStep (halted self.old) (target_entry caller slot result) (halted self.new) }
         ensures same { self.new ≡ self.old }
     {
-        target_of(&self.race, &mut self.seat, slot)
+        target_of(self.race.race(), &mut self.seat, slot)
     }
 
     /// Returns whether a card is pending: dirty, by a store or from the beginning. Reads one word.
@@ -44,7 +45,7 @@ impl Paused {
             → IsStep (halted self.old) (pending_entry caller card result) (halted self.new) }
         ensures same { self.new ≡ self.old }
     {
-        is_dirty(&self.race, &mut self.seat, card)
+        is_dirty(self.race.race(), &mut self.seat, card)
     }
 
     /// Stores a reference (or null) into a slot, for the collector, and dirties the slot's card if
@@ -61,24 +62,25 @@ impl Paused {
             → IsStep (halted self.old) (store_entry caller slot target (plain_reply result))
             (halted self.new) }
     {
-        let across = crosses(self.race.layout, &slot, &target);
+        let race = self.race.race();
+        let across = crosses(race.layout, &slot, &target);
         let word = word_of(target);
         let place = slot.number() as usize;
         if !across {
-            put(&self.race, &mut self.seat, place, word);
+            put(race, &mut self.seat, place, word);
             if word == 0 {
                 return Kind::Null;
             }
             return Kind::SameRegion;
         }
-        let card = self.race.layout.card_of(slot).number() as usize;
-        let mark = self.race.shape.slots + card;
-        if see(&self.race, &mut self.seat, mark) == 1 {
-            put(&self.race, &mut self.seat, place, word);
+        let card = race.layout.card_of(slot).number() as usize;
+        let mark = race.shape.slots + card;
+        if see(race, &mut self.seat, mark) == 1 {
+            put(race, &mut self.seat, place, word);
             return Kind::AlreadyDirty;
         }
-        dirty(&self.race, &mut self.seat, card);
-        put(&self.race, &mut self.seat, place, word);
+        dirty(race, &mut self.seat, card);
+        put(race, &mut self.seat, place, word);
         Kind::Logged
     }
 }

@@ -8,13 +8,14 @@ ghost use Rattle.g1_race.specs.Over.{halted, ended, table_of};
 ghost use Rattle.g1_race.specs.Evacuating.{IsSameRace, SlotsBecome, wiped, wiped_word};
 ghost use Rattle.g1_race_words.specs.Seats.{IsPaused};
 
+use crate::holds::Holds;
 use crate::paused::Paused;
 use crate::race::Race;
 use crate::stopped::put;
 use g1_layout::Region;
 use g1_race_words::Place;
 
-impl Paused {
+impl<R: Holds> Paused<R> {
     /// Stores null into each slot of the region, ascending, also where it has data. Takes no
     /// memory.
     pub fn wipe(&mut self, region: Region)
@@ -25,7 +26,7 @@ impl Paused {
         ensures null { (slot : ℕ) → region_of self.old.layout slot ≡ region
             → target_of (halted self.new) slot ≡ None }
     {
-        wipe_slots(&self.race, &mut self.seat, region.number() as usize);
+        wipe_slots(self.race.race(), &mut self.seat, region.number() as usize);
     }
 }
 

@@ -6,13 +6,14 @@ use Rattle.g1_core.specs.Run.{IsStep}
 use Rattle.g1_core.specs.Calls.{members_entry}
 use Rattle.g1_core.proofs.QueryLemmas.{members_step}
 use Rattle.g1_race.specs.Over.{Halt, ended, halted, table_of}
+use Rattle.g1_race.proofs.Held.{lent_view}
 use Rattle.g1_race.proofs.paused.Paused.members.Goals as goal
 
 pub returns-clause-step : goal.returns-clause-step
-returns-clause-step c =
-    let race = c.self.inside.race in
+returns-clause-step g c =
+    let race = g.R.Holds.held c.self.inside.race in
     let h = c.args.self.now in
     let region = c.args.region in
     let same = ap (λ (ws : List ℕ). table_of (ended race.layout race.shape ws)) (ap (λ m. m.0.began_words) c.members_of.ensures.seat.1) ∙ ap halted c.self.view_is in
     subst (λ (t : Table). IfOk c.members_of.result (λ cards. (caller : ℕ) → IsStep (halted h) (members_entry caller region cards) t)) (sym same)
-    (IfOk-weaker c.members_of.result _ _ (λ cards are caller. members_step caller (halted h) region cards c.requires (subst (λ (x : Halt). AreMembers (halted x) region cards) c.self.view_is are)) c.members_of.ensures.members)
+    (IfOk-weaker c.members_of.result _ _ (λ cards are caller. members_step caller (halted h) region cards c.requires (subst (λ (x : Halt). AreMembers (halted x) region cards) (lent_view c.race.ensures c.self.view_is) are)) c.members_of.ensures.members)

@@ -5,13 +5,14 @@ use Rattle.g1_race.specs.Over.{Halt, halted}
 use Rattle.g1_race.proofs.Telling.{few}
 use Rattle.g1_race.proofs.NextCards.{cards_fit}
 use Rattle.g1_race.proofs.PauseTable.{pending_len}
+use Rattle.g1_race.proofs.Held.{lent_view, lent_begun}
 use Rattle.g1_race.proofs.paused.Paused.pending_count.Goals as goal
 
 pub overflow_cast-result : goal.overflow_cast-result
-overflow_cast-result c =
-    let race = c.self.inside.race in
+overflow_cast-result g c =
+    let race = c.race.result.now in
     let a = few (is_marked race.shape c.self.inside.seat.me.0.began_words) race.shape.cards in
     omega (arith, a, c.count_marked.ensures.count, cards_fit race.shape race.shaped)
 
 pub returns-clause-count : goal.returns-clause-count
-returns-clause-count c = c.count_marked.ensures.count ∙ (pending_len c.self.inside.race.shape c.self.inside.race.layout c.self.inside.race.laid c.self.inside.seat.me.0.began_words c.self.invariant.0.begun ∙ ap (λ (h : Halt). set.len (halted h).pending) c.self.view_is)
+returns-clause-count g c = c.count_marked.ensures.count ∙ (pending_len c.race.result.now.shape c.race.result.now.layout c.race.result.now.laid c.self.inside.seat.me.0.began_words (lent_begun c.race.ensures c.self.invariant.0.begun) ∙ ap (λ (h : Halt). set.len (halted h).pending) (lent_view c.race.ensures c.self.view_is))

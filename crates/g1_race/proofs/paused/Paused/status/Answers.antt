@@ -11,33 +11,34 @@ use Rattle.g1_race.proofs.Telling.{few}
 use Rattle.g1_race.proofs.NextCards.{cards_fit}
 use Rattle.g1_race.proofs.PauseTable.{pending_len}
 use Rattle.g1_race.proofs.Counting.{count_is, few_recorded}
+use Rattle.g1_race.proofs.Held.{lent_begun, lent_view}
 use Rattle.g1_race.proofs.paused.Paused.status.Goals as goal
 
 pub overflow_cast-pending : goal.overflow_cast-pending
-overflow_cast-pending c =
-    let race = c.self.inside.race in
+overflow_cast-pending g c =
+    let race = c.race-race.result.now in
     let a = few (is_marked race.shape c.self.inside.seat.me.0.began_words) race.shape.cards in
     omega (arith, a, c.count_marked-pending.ensures.count, cards_fit race.shape race.shaped)
 
 -- the pairs are those of the words as they were
-counted_is : (c : goal.After-count_pairs-recorded) → c.count_pairs-recorded.result ≡ pair_count c.self.inside.race.shape c.self.inside.seat.me.0.began_words c.self.inside.race.shape.regions
-counted_is c = c.count_pairs-recorded.ensures.count ∙ ap (λ (ws : List ℕ). pair_count c.self.inside.race.shape ws c.self.inside.race.shape.regions) (ap (λ m. m.0.began_words) c.count_marked-pending.ensures.seat.1)
+counted_is : (g : _) (c : goal.After-count_pairs-recorded g) → c.count_pairs-recorded.result ≡ pair_count c.race-race.result.now.shape c.self.inside.seat.me.0.began_words c.race-race.result.now.shape.regions
+counted_is g c = c.count_pairs-recorded.ensures.count ∙ ap (λ (ws : List ℕ). pair_count c.race-race.result.now.shape ws c.race-race.result.now.shape.regions) (ap (λ m. m.0.began_words) c.count_marked-pending.ensures.seat.1)
 
 pub overflow_cast-recorded : goal.overflow_cast-recorded
-overflow_cast-recorded c =
-    let race = c.self.inside.race in
-    let a = few_recorded race.shape race.layout race.laid c.self.inside.seat.me.0.began_words c.self.invariant.0.begun c.counts-counts.ensures.shape in
-    omega (arith, counted_is c, a)
+overflow_cast-recorded g c =
+    let race = c.race-race.result.now in
+    let a = few_recorded race.shape race.layout race.laid c.self.inside.seat.me.0.began_words (lent_begun c.race-race.ensures c.self.invariant.0.begun) c.counts-counts.ensures.shape in
+    omega (arith, counted_is g c, a)
 
 pub returns-clause-pending : goal.returns-clause-pending
-returns-clause-pending c = c.count_marked-pending.ensures.count ∙ (pending_len c.self.inside.race.shape c.self.inside.race.layout c.self.inside.race.laid c.self.inside.seat.me.0.began_words c.self.invariant.0.begun ∙ ap (λ (h : Halt). set.len (halted h).pending) c.self.view_is)
+returns-clause-pending g c = c.count_marked-pending.ensures.count ∙ (pending_len c.race-race.result.now.shape c.race-race.result.now.layout c.race-race.result.now.laid c.self.inside.seat.me.0.began_words (lent_begun c.race-race.ensures c.self.invariant.0.begun) ∙ ap (λ (h : Halt). set.len (halted h).pending) (lent_view c.race-race.ensures c.self.view_is))
 
 pub returns-clause-recorded : goal.returns-clause-recorded
-returns-clause-recorded c = counted_is c ∙ (count_is c.self.inside.race.shape c.self.inside.race.layout c.self.inside.race.laid c.self.inside.seat.me.0.began_words c.self.invariant.0.begun ∙ ap (λ (h : Halt). set.len (halted h).recorded) c.self.view_is)
+returns-clause-recorded g c = counted_is g c ∙ (count_is c.race-race.result.now.shape c.race-race.result.now.layout c.race-race.result.now.laid c.self.inside.seat.me.0.began_words (lent_begun c.race-race.ensures c.self.invariant.0.begun) ∙ ap (λ (h : Halt). set.len (halted h).recorded) (lent_view c.race-race.ensures c.self.view_is))
 
 pub returns-clause-step : goal.returns-clause-step
-returns-clause-step c = λ caller.
-    let race = c.self.inside.race in
+returns-clause-step g c = λ caller.
+    let race = g.R.Holds.held c.self.inside.race in
     let status : Status = record { pending = c.count_marked-pending.result; recorded = c.count_pairs-recorded.result } in
     let same = ap (λ (ws : List ℕ). table_of (ended race.layout race.shape ws)) (ap (λ m. m.0.began_words) (c.count_pairs-recorded.ensures.seat.1 ∙ c.count_marked-pending.ensures.seat.1)) ∙ ap halted c.self.view_is in
-    subst (λ (t : Table). IsStep (halted c.args.self.now) (status_entry caller status) t) (sym same) (status_step caller (halted c.args.self.now) status (returns-clause-pending c) (returns-clause-recorded c))
+    subst (λ (t : Table). IsStep (halted c.args.self.now) (status_entry caller status) t) (sym same) (status_step caller (halted c.args.self.now) status (returns-clause-pending g c) (returns-clause-recorded g c))

@@ -14,23 +14,24 @@ use Rattle.g1_race.proofs.Ends.{target_data}
 use Rattle.g1_race.proofs.PauseStores.{kind_data, quiet_store, store_step}
 use Rattle.g1_race.proofs.SlotWords.{put_words}
 use Rattle.g1_race.proofs.StoreCalls.{data_crosses}
+use Rattle.g1_race.proofs.Held.{held_table, lent_begun, lent_view}
 use Rattle.g1_race.proofs.paused.Paused.store_data.Goals as goal
 
 pub put-requires-clause-begun : goal.put-requires-clause-begun
-put-requires-clause-begun c =
-    let race = c.self.inside.race in
+put-requires-clause-begun g c =
+    let race = c.race-race.result.now in
     let k = race.shape in
     let words = c.self.inside.seat.me.0.began_words in
-    let slots : k.slots ≡ slot_count c.args.self.now.layout = ap (λ (x : Shape). x.slots) race.laid ∙ ap (λ (x : Halt). slot_count x.layout) c.self.view_is in
+    let slots : k.slots ≡ slot_count c.args.self.now.layout = ap (λ (x : Shape). x.slots) race.laid ∙ ap (λ (x : Halt). slot_count x.layout) (lent_view c.race-race.ensures c.self.view_is) in
     let lt : c.args.slot < k.slots = omega (arith, slots, c.requires.slot) in
     subst (λ (p : ℕ). IsBegun (start k (set words p c.args.word))) (sym c.number.ensures)
-    (begun_placed k words c.args.slot c.args.word lt (inr c.requires.high) (λ cr. absurd (let no_one = data_crosses k c.args.slot c.args.word c.requires.high in cc (cr, no_one))) c.self.invariant.0.begun)
+    (begun_placed k words c.args.slot c.args.word lt (inr c.requires.high) (λ cr. absurd (let no_one = data_crosses k c.args.slot c.args.word c.requires.high in cc (cr, no_one))) (lent_begun c.race-race.ensures c.self.invariant.0.begun))
 
 pub returns-clause-words : goal.returns-clause-words
-returns-clause-words c =
-    let k = c.self.inside.race.shape in
+returns-clause-words g c =
+    let k = c.race-race.result.now.shape in
     let words = c.self.inside.seat.me.0.began_words in
-    subst (λ (h : Halt). WordsBecome (one_word c.args.slot c.args.word) h.shape h.words c.put.new.seat.me.0.began_words) c.self.view_is
+    subst (λ (h : Halt). WordsBecome (one_word c.args.slot c.args.word) h.shape h.words c.put.new.seat.me.0.began_words) (lent_view c.race-race.ensures c.self.view_is)
     (put_words k words c.args.slot c.args.word _ (c.put.ensures.words ∙ (λ i. set words (c.number.ensures i) c.args.word)))
 
 -- the new kind and table
@@ -43,22 +44,22 @@ data_stored k l words after h p word laid lt high was is begun then_begun =
     quiet_store k l laid p lt None word back (halted h) words after was is begun then_begun Null kind (λ e. cc)
 
 pub returns-clause-table : goal.returns-clause-table
-returns-clause-table c =
-    let race = c.self.inside.race in
+returns-clause-table g c =
+    let race = c.race-race.result.now in
     let k = race.shape in
     let words = c.self.inside.seat.me.0.began_words in
-    let slots : k.slots ≡ slot_count c.args.self.now.layout = ap (λ (x : Shape). x.slots) race.laid ∙ ap (λ (x : Halt). slot_count x.layout) c.self.view_is in
+    let slots : k.slots ≡ slot_count c.args.self.now.layout = ap (λ (x : Shape). x.slots) race.laid ∙ ap (λ (x : Halt). slot_count x.layout) (lent_view c.race-race.ensures c.self.view_is) in
     let lt : c.args.slot < k.slots = omega (arith, slots, c.requires.slot) in
     let is = c.put.ensures.words ∙ (λ i. set words (c.number.ensures i) c.args.word) in
-    (data_stored k race.layout words _ c.args.self.now c.args.slot c.args.word race.laid lt c.requires.high (ap halted c.self.view_is) is c.self.invariant.0.begun c.put.ensures.seat.begun).1
+    sym (held_table c.put.new.seat.me.0.began_words c.race-race.ensures) ∙ (data_stored k race.layout words _ c.args.self.now c.args.slot c.args.word race.laid lt c.requires.high (ap halted (lent_view c.race-race.ensures c.self.view_is)) is (lent_begun c.race-race.ensures c.self.invariant.0.begun) c.put.ensures.seat.begun).1
 
 pub returns-clause-step : goal.returns-clause-step
-returns-clause-step c = λ caller.
-    let race = c.self.inside.race in
+returns-clause-step g c = λ caller.
+    let race = c.race-race.result.now in
     let k = race.shape in
     let words = c.self.inside.seat.me.0.began_words in
-    let slots : k.slots ≡ slot_count c.args.self.now.layout = ap (λ (x : Shape). x.slots) race.laid ∙ ap (λ (x : Halt). slot_count x.layout) c.self.view_is in
+    let slots : k.slots ≡ slot_count c.args.self.now.layout = ap (λ (x : Shape). x.slots) race.laid ∙ ap (λ (x : Halt). slot_count x.layout) (lent_view c.race-race.ensures c.self.view_is) in
     let lt : c.args.slot < k.slots = omega (arith, slots, c.requires.slot) in
     let is = c.put.ensures.words ∙ (λ i. set words (c.number.ensures i) c.args.word) in
-    let r = data_stored k race.layout words _ c.args.self.now c.args.slot c.args.word race.laid lt c.requires.high (ap halted c.self.view_is) is c.self.invariant.0.begun c.put.ensures.seat.begun in
-    store_step (halted c.args.self.now) _ caller c.args.slot None Null c.requires.slot tt r.0 r.1
+    let r = data_stored k race.layout words _ c.args.self.now c.args.slot c.args.word race.laid lt c.requires.high (ap halted (lent_view c.race-race.ensures c.self.view_is)) is (lent_begun c.race-race.ensures c.self.invariant.0.begun) c.put.ensures.seat.begun in
+    store_step (halted c.args.self.now) _ caller c.args.slot None Null c.requires.slot tt r.0 (sym (held_table c.put.new.seat.me.0.began_words c.race-race.ensures) ∙ r.1)

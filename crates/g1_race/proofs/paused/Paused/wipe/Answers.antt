@@ -1,34 +1,36 @@
 use Rattle.std.proofs.Common.{◌≡◌, ℕ, ◌+◌, ◌*◌, ◌/◌, ◌%◌, ◌<◌, mod-lt, div-add-mod', sym, ap, ◌∙◌, subst, arith}
 use mathlib.Core.Option.{some}
 use lib.ListN.{get_elem?}
+use Rattle.g1_core.specs.Table.{Table, target_of}
 use Rattle.g1_race_words.specs.declared.view.Shape.{Shape}
 use Rattle.g1_race.specs.Over.{Halt, halted}
 use Rattle.g1_race.specs.Evacuating.{WordsBecome, wiped, wiped_word}
 use Rattle.g1_race.proofs.PauseStores.{null_target, slot_in}
 use Rattle.g1_race.proofs.SlotWords.{wiped_words}
+use Rattle.g1_race.proofs.Held.{held_table, lent_view}
 use Rattle.g1_race.proofs.paused.Paused.wipe.Goals as goal
 
 pub returns-clause-table : goal.returns-clause-table
-returns-clause-table c = c.wipe_slots.ensures.table ∙ (λ i. wiped (c.number.ensures i) (halted (c.self.view_is i)))
+returns-clause-table g c = sym (held_table _ c.race.ensures) ∙ (c.wipe_slots.ensures.table ∙ (λ i. wiped (c.number.ensures i) (halted ((lent_view c.race.ensures c.self.view_is) i))))
 
 pub returns-clause-null : goal.returns-clause-null
-returns-clause-null c =
-    let race = c.self.inside.race in
+returns-clause-null g c =
+    let race = c.race.result.now in
     let k = race.shape in
     let words = c.wipe_slots.new.seat.me.0.began_words in
-    let low : c.number.result < k.regions = omega (arith, c.requires, c.number.ensures, ap (λ (s : Shape). s.regions) race.laid, ap (λ (h : Halt). h.layout.regions) c.self.view_is) in
-    let span : k.span ≡ c.args.self.now.layout.cards * c.args.self.now.layout.slots = ap (λ (s : Shape). s.span) race.laid ∙ ap (λ (h : Halt). h.layout.cards * h.layout.slots) c.self.view_is in
+    let low : c.number.result < k.regions = omega (arith, c.requires, c.number.ensures, ap (λ (s : Shape). s.regions) race.laid, ap (λ (h : Halt). h.layout.regions) (lent_view c.race.ensures c.self.view_is)) in
+    let span : k.span ≡ c.args.self.now.layout.cards * c.args.self.now.layout.slots = ap (λ (s : Shape). s.span) race.laid ∙ ap (λ (h : Halt). h.layout.cards * h.layout.slots) (lent_view c.race.ensures c.self.view_is) in
     λ slot e.
     let on : slot / k.span ≡ c.number.result = ap (λ (s : ℕ). slot / s) span ∙ (e ∙ sym c.number.ensures) in
     let is : c.number.result * k.span + slot % k.span ≡ slot = ap (λ (r : ℕ). r * k.span + slot % k.span) (sym on) ∙ div-add-mod' slot k.span in
     let below : slot % k.span < k.span = mod-lt slot race.shaped.2 in
-    null_target k race.layout words slot race.laid (subst (λ (s : ℕ). s < k.slots) is (slot_in k c.number.result (slot % k.span) race.shaped low below)) (subst (λ (s : ℕ). get_elem? words s ≡ some 0) is (c.wipe_slots.ensures.null (slot % k.span) below))
+    ap (λ (t : Table). target_of t slot) (sym (held_table words c.race.ensures)) ∙ null_target k race.layout words slot race.laid (subst (λ (s : ℕ). s < k.slots) is (slot_in k c.number.result (slot % k.span) race.shaped low below)) (subst (λ (s : ℕ). get_elem? words s ≡ some 0) is (c.wipe_slots.ensures.null (slot % k.span) below))
 
 pub returns-clause-words : goal.returns-clause-words
-returns-clause-words c =
-    let k = c.self.inside.race.shape in
+returns-clause-words g c =
+    let k = c.race.result.now.shape in
     let old = c.self.inside.seat.me.0.began_words in
     let new = c.wipe_slots.new.seat.me.0.began_words in
-    subst (λ (h : Halt). WordsBecome (wiped_word h.shape c.args.region) h.shape h.words new) c.self.view_is
+    subst (λ (h : Halt). WordsBecome (wiped_word h.shape c.args.region) h.shape h.words new) (lent_view c.race.ensures c.self.view_is)
     (subst (λ (r : ℕ). WordsBecome (wiped_word k r) k old new) c.number.ensures
-    (wiped_words k old new c.number.result c.self.inside.race.shaped.2 c.wipe_slots.ensures.null c.wipe_slots.ensures.other))
+    (wiped_words k old new c.number.result c.race.result.now.shaped.2 c.wipe_slots.ensures.null c.wipe_slots.ensures.other))

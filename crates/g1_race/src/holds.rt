@@ -1,0 +1,39 @@
+//! What a pause holds its race by.
+
+use crate::race::Race;
+use std::alloc::Global;
+use std::sync::Arc;
+
+/// What a pause may hold its race by: the race itself, or a share of it.
+///
+/// With a share, the threads that share the race keep their own shares over the pause. These can do
+/// nothing to its words meanwhile, since each call on them takes a racer or a sweeper, and all of
+/// these are in the pause.
+pub trait Holds {
+    ghost use Rattle.std.specs.Prelude.{◌≡◌};
+    ghost use Rattle.g1_race.specs.declared.race.Race.{Race};
+
+    ghost held: { Self → Race };
+
+    /// Lends the race.
+    fn race(&self) -> &Race
+        ensures { result.now ≡ held self.now };
+}
+
+impl Holds for Race {
+    ghost held = { λ race. race };
+
+    fn race(&self) -> &Race {
+        self
+    }
+}
+
+impl Holds for Arc<Race, Global> {
+    ghost use Rattle.std.specs.Arc.{arc_value};
+
+    ghost held = { arc_value };
+
+    fn race(&self) -> &Race {
+        self
+    }
+}
