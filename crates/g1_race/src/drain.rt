@@ -143,12 +143,16 @@ fn note_slot(race: &Race, seat: &mut Place, slot: u32, word: u64)
     ensures notes { Notes race.now.shape seat.old.me.0.began_words seat.new.me.0.began_words
         (pair_at race.now.shape slot word) }
 {
-    let layout = race.layout;
-    let Some(target) = refers_to(layout, word) else {
+    // Most words are null.
+    if word == 0 {
         return;
-    };
+    }
+    let layout = race.layout;
     let Some(slot) = layout.slot(slot) else {
         unreachable!()
+    };
+    let Some(target) = refers_to(layout, word) else {
+        return;
     };
     let region = layout.region_of(target);
     if layout.region_of(slot).number() == region.number() {
