@@ -1,7 +1,7 @@
 //! Refinement and drains at a pause.
 ghost use Rattle.std.specs.Prelude.{◌≡◌, ℕ, ◌+◌, ◌*◌, ◌<◌, ◌≤◌, [], ◌∷◌, IfOk, OnErr, List, length};
 ghost use Rattle.std.specs.Prelude.{map, replicate, vec_len};
-ghost use Rattle.g1_layout.specs.Shape.{slot_count};
+ghost use Rattle.g1_layout.specs.Shape.{slot_count, card_count};
 ghost use Rattle.g1_core.specs.Run.{IsStep};
 ghost use Rattle.g1_core.specs.Calls.{drain_cards, drain_entry};
 ghost use Rattle.g1_race_words.specs.Rule.{IsOfCrossing, IsWord};
@@ -41,6 +41,8 @@ impl<R: Holds> Paused<R> {
         ensures race { IfOk result (λ answer. IsRefinedRace self.old self.new) }
         ensures words { IfOk result (λ answer. SlotsBecome same_word self.old self.new) }
         ensures whole { IfOk result IsWhole }
+        ensures few { IfOk result (λ answer.
+            length (drain_cards answer) ≤ card_count self.old.layout) }
         ensures step { IfOk result (λ answer. (caller : ℕ)
             → IsStep (halted self.old) (drain_entry caller region answer) (halted self.new)) }
         ensures exact { IfOk result (λ answer.
@@ -143,12 +145,16 @@ fn note_slot(race: &Race, seat: &mut Place, slot: u32, word: u64)
     ensures notes { Notes race.now.shape seat.old.me.0.began_words seat.new.me.0.began_words
         (pair_at race.now.shape slot word) }
 {
-    let layout = race.layout;
-    let Some(target) = refers_to(layout, word) else {
+    // Most words are null.
+    if word == 0 {
         return;
-    };
+    }
+    let layout = race.layout;
     let Some(slot) = layout.slot(slot) else {
         unreachable!()
+    };
+    let Some(target) = refers_to(layout, word) else {
+        return;
     };
     let region = layout.region_of(target);
     if layout.region_of(slot).number() == region.number() {

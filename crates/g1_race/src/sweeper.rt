@@ -64,12 +64,16 @@ fn note_slot(race: &Race, seat: &mut Place, slot: u32, word: u64)
     ensures table { seat.new.table_id ≡ seat.old.table_id }
     ensures seat { seat.new.me ≡ (recorded seat.old.me.0, seat.old.me.1) }
 {
-    let layout = race.layout;
-    let Some(target) = refers_to(layout, word) else {
+    // Most words are null.
+    if word == 0 {
         return;
-    };
+    }
+    let layout = race.layout;
     let Some(slot) = layout.slot(slot) else {
         unreachable!()
+    };
+    let Some(target) = refers_to(layout, word) else {
+        return;
     };
     let region = layout.region_of(target);
     if layout.region_of(slot).number() == region.number() {
