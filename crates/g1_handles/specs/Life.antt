@@ -1,6 +1,8 @@
 -- The life of a heap whose stores race.
 use Rattle.std.specs.Prelude.{◌≡◌, Option, Some, None}
 use Rattle.g1_race.specs.Over.{Halt}
+use Rattle.g1_handles.specs.declared.code.Refusal.{Refusal}
+use Rattle.g1_handles.specs.declared.code.Refusal.TheVariants as refusal
 use Rattle.g1_handles.specs.declared.racing_heap.AtPause.{AtPause}
 use Rattle.g1_handles.specs.declared.racing_heap.UnderWay.{UnderWay}
 use Rattle.g1_handles.specs.declared.racing_heap.RacingHeap.{RacingHeap}
@@ -32,3 +34,15 @@ IsSameHeap (Some (heap.Racing b)) new Q = ⊥
 IsSameHeap (Some (heap.Paused a)) None Q = ⊥
 IsSameHeap (Some (heap.Paused a)) (Some (heap.Racing d)) Q = ⊥
 IsSameHeap (Some (heap.Paused a)) (Some (heap.Paused b)) Q = IsSameBut a b × Q a.pause b.pause
+
+-- the heap's handle is closed
+abbrev pub SaysNoHeap : Option RacingHeap → Refusal → Type 0
+SaysNoHeap h r = (r ≡ refusal.NotOpen) × (h ≡ None)
+
+-- the heap's members are out
+abbrev pub SaysNotPaused : Option RacingHeap → Refusal → Type 0
+SaysNotPaused h r = (r ≡ refusal.NotPaused) × OfRacing h (λ b. Unit {0})
+
+-- the heap is at a pause
+abbrev pub SaysNotRacing : Option RacingHeap → Refusal → Type 0
+SaysNotRacing h r = (r ≡ refusal.NotRacing) × OfPaused h (λ p. Unit {0})

@@ -1,5 +1,5 @@
-//! The handle of a heap whose stores race: the heap is behind a pointer, or nothing is if the pointer
-//! is null.
+//! The handle of a heap whose stores race: the heap is behind a pointer, or nothing is if the
+//! pointer is null.
 ghost use Rattle.std.specs.Prelude.{◌≡◌, Option, Some, None, MatchOption};
 ghost use Rattle.std.specs.Coded.{coded_option};
 ghost use Rattle.g1_handles.specs.declared.racing_heap.RacingHeap.{RacingHeap};

@@ -22,7 +22,8 @@ pub struct AtPause {
     ghost racer_boxes: { vec_len racers ≡ length pause.logs },
     ghost sweeper_boxes: { vec_len sweepers ≡ pause.sweepers },
     ghost racers_parked: { All (λ m. parked_race m.value ≡ Some (arc_value race)) racers.items },
-    ghost sweepers_parked: { All (λ m. parked_race m.value ≡ Some (arc_value race)) sweepers.items },
+    ghost sweepers_parked: { All (λ m. parked_race m.value ≡ Some (arc_value race))
+        sweepers.items },
 }
 
 /// Room for the members of one role that are out, so that a pause takes no memory.
