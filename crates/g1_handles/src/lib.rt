@@ -29,6 +29,8 @@ pub mod code;
 pub mod gathered;
 pub mod handle;
 pub mod heap_handle;
+pub mod heap_open;
+pub mod heap_resume;
 pub mod list;
 mod look;
 pub mod member;

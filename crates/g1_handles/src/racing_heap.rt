@@ -1,5 +1,5 @@
 //! A heap whose stores race, from its birth to its end: at a pause, or with its members out.
-ghost use Rattle.std.specs.Prelude.{◌≡◌, ◌+◌, ◌≤◌, [], All, Some, length, vec_len, vec_capacity};
+ghost use Rattle.std.specs.Prelude.{◌≡◌, ◌+◌, ◌≤◌, All, Some, length, vec_len, vec_capacity};
 ghost use Rattle.std.specs.Arc.{arc_value};
 ghost use Rattle.g1_race.specs.Members.{race_id, race_layout, race_shape};
 ghost use Rattle.g1_handles.specs.Parked.{parked_race};
@@ -30,12 +30,10 @@ pub struct AtPause {
 #[derive(Drop)]
 pub struct Room<T: Drop> {
     pub(crate) count: usize,
-    // Both are empty.
+    // Both are empty between two calls.
     pub(crate) parts: Vec<T>,
     pub(crate) boxes: Vec<Box<Member>>,
-    ghost no_part: { parts.items ≡ [] },
     ghost part_room: { count ≤ vec_capacity parts },
-    ghost no_box: { boxes.items ≡ [] },
     ghost box_room: { count ≤ vec_capacity boxes },
 }
 
