@@ -1,30 +1,37 @@
 -- The life of a heap whose stores race.
-use Rattle.std.specs.Prelude.{◌≡◌, ◌⊎◌, ◌≤◌, ℕ, List, [], All, Option, Some, None, IsSome}
+use Rattle.std.specs.Prelude.{◌≡◌, ◌⊎◌, ◌≤◌, ℕ, List, [], All, Any, Option, Some, None, IsSome}
+use Rattle.std.specs.Prelude.{Contains}
 use Rattle.std.specs.Prelude.{Box, Vec, length, map, replicate, vec_len}
 use Rattle.std.specs.Arc.{arc_value}
 use Rattle.std.specs.Global.{Global}
 use Rattle.g1_layout.specs.Shape as layout
 use Rattle.g1_layout.specs.Shape.{IsShape}
-use Rattle.g1_core.specs.Table.{opening}
+use Rattle.g1_core.specs.Adoption.{IsPairOf}
+use Rattle.g1_core.specs.Table.{opening, IsCovered}
 use Rattle.g1_race_words.specs.Begin.{Start}
 use Rattle.g1_race_words.specs.Rule.{beginning}
+use Rattle.g1_race_words.specs.declared.view.View.{View}
 use Rattle.g1_race.specs.declared.race.Race.{Race}
 use Rattle.g1_race.specs.declared.race.Racer.{Racer}
 use Rattle.g1_race.specs.declared.race.Sweeper.{Sweeper}
 use Rattle.g1_race.specs.Drain.{began}
 use Rattle.g1_race.specs.Members.{race_id, race_layout, racer_log, IsNewRacer, IsNewSweeper}
-use Rattle.g1_race.specs.Members.{racer_race, sweeper_race}
-use Rattle.g1_race.specs.Over.{Halt, halted, start_at}
+use Rattle.g1_race.specs.Members.{racer_race, sweeper_race, racer_view, sweeper_view, race_shape}
+use Rattle.g1_race.specs.Over.{Halt, halted, start_at, ended_of}
 use Rattle.g1_handles.specs.declared.code.Refusal.{Refusal}
 use Rattle.g1_handles.specs.declared.code.Refusal.TheVariants as refusal
 use Rattle.g1_handles.specs.declared.member.Member.{Member}
 use Rattle.g1_handles.specs.declared.member.Member.TheVariants as member
+use Rattle.g1_handles.specs.declared.member.Role.{Role}
+use Rattle.g1_handles.specs.declared.member.Role.TheVariants as roles
 use Rattle.g1_handles.specs.declared.racing_heap.AtPause.{AtPause}
 use Rattle.g1_handles.specs.declared.racing_heap.UnderWay.{UnderWay}
 use Rattle.g1_handles.specs.declared.racing_heap.RacingHeap.{RacingHeap}
 use Rattle.g1_handles.specs.declared.racing_heap.RacingHeap.TheVariants as heap
 use Rattle.g1_handles.specs.Parked.{parked_race}
 use Rattle.g1_handles.specs.Racing.{AreClosed, OfRacer, OfSweeper, racer_race_of, sweeper_race_of}
+use Rattle.g1_handles.specs.Racing.{known_to, IsAmong, IsOf, HasRole, IsEndOf}
+use Rattle.g1_handles.specs.Refusals.{SaysNoMember}
 
 -- the handle has a heap at a pause, and it is so of the pause
 abbrev pub OfPaused : Option RacingHeap → (Halt → Type 0) → Type 0
@@ -189,3 +196,56 @@ IsGoingRefused h racers sweepers r =
     SaysNoHeap h r ⊎ SaysNotPaused h r
     ⊎ ((r ≡ refusal.BadMembers) × (IsFor h (length racers) (length sweepers) → ⊥))
     ⊎ ((r ≡ refusal.AlreadyOpen) × (AreClosed racers → AreClosed sweepers → ⊥))
+
+-- these members have their roles, and are of races with as many members as that of the heap
+abbrev pub AreLikeOf : Option RacingHeap → List (Option Member) → List (Option Member) → Type 0
+AreLikeOf h racers sweepers = OfRacing h (λ b.
+    All (IsAmong roles.Racer (race_shape (arc_value b.race)).members) racers
+    × All (IsAmong roles.Sweeper (race_shape (arc_value b.race)).members) sweepers)
+
+-- these members are of the heap's race
+abbrev pub AreOfHeap : Option RacingHeap → List (Option Member) → List (Option Member) → Type 0
+AreOfHeap h racers sweepers = OfRacing h (λ b.
+    All (IsOf (arc_value b.race)) racers × All (IsOf (arc_value b.race)) sweepers)
+
+-- a pause of the race, whose racers and sweepers know this, and whose racers have these logs
+pub record IsPauseOf (race : Race) (racers sweepers : List View) (logs : List (List ℕ))
+    (p : Halt) : Type 0 where
+  pub left : IsEndOf race racers sweepers (ended_of p)
+  pub within : (x : ℕ × ℕ) → Contains (ended_of p).pairs x → IsPairOf (race_layout race) x
+  pub cover : IsCovered (halted p)
+  pub kept : p.logs ≡ logs
+
+-- a pause of the race with the members of these handles
+abbrev pub IsPausedWith : Race → List (Option Member) → List (Option Member) → Halt → Type 0
+IsPausedWith race racers sweepers p =
+    IsPauseOf race (map known_to racers) (map known_to sweepers) (map log_in racers) p
+
+-- the members of these handles are in, and the pause is still to begin
+pub record ComesIn (old new : UnderWay) (rs ss : List (Option Member)) : Type 0 where
+  pub race : arc_value new.race ≡ arc_value old.race
+  pub racer_count : new.racers.count ≡ old.racers.count
+  pub sweeper_count : new.sweepers.count ≡ old.sweepers.count
+  pub racers : AreRacersFor (arc_value new.race) new.racers.count new.racers.boxes
+      new.racers.parts
+  pub sweepers : AreSweepersFor (arc_value new.race) new.sweepers.count new.sweepers.boxes
+      new.sweepers.parts
+  pub racer_views : map racer_view new.racers.parts.items ≡ map known_to rs
+  pub sweeper_views : map sweeper_view new.sweepers.parts.items ≡ map known_to ss
+  pub logs : map racer_log new.racers.parts.items ≡ map log_in rs
+
+-- a handle in a pause, for a member of this role
+abbrev pub IsPartRefused : Role → Option Member → Refusal → Type 0
+IsPartRefused role m r =
+    SaysNoMember m r ⊎ ((r ≡ refusal.OtherRole) × (HasRole role m → ⊥))
+
+-- a pause of the heap of the first handle; that the members are of its race, each given once, is
+-- found out by counts, of which no proof knows
+abbrev pub IsPauseRefused : Option RacingHeap → List (Option Member) → List (Option Member)
+    → Refusal → Type 0
+IsPauseRefused h racers sweepers r =
+    SaysNoHeap h r ⊎ SaysNotRacing h r
+    ⊎ ((r ≡ refusal.BadMembers) × (IsFor h (length racers) (length sweepers) → ⊥))
+    ⊎ Any (λ m. IsPartRefused roles.Racer m r) racers
+    ⊎ Any (λ m. IsPartRefused roles.Sweeper m r) sweepers
+    ⊎ (r ≡ refusal.OtherRace)

@@ -30,6 +30,7 @@ pub mod gathered;
 pub mod handle;
 pub mod heap_handle;
 pub mod heap_open;
+pub mod heap_pause;
 pub mod heap_resume;
 pub mod list;
 mod look;

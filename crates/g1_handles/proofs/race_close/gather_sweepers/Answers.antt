@@ -34,7 +34,7 @@ loop-i-preserved c =
       race = λ race all.
           let Q : Sweeper → Type 0 = λ w. sweeper_race w ≡ race_id race in
           subst (All Q) (sym c.push_reserved.ensures.items) (All-push Q _ _ (i.race race all) (member.same ∙ ap race_id (subst (IsOf race) value (at_handle (IsOf race) old n h below all))));
-      views = view_next sweeper_view _ _ _ old n h below c.push_reserved.ensures.items i.views (sym (ap known_to value));
+      views = view_next sweeper_view known_to _ _ _ old n h below c.push_reserved.ensures.items i.views (sym (ap known_to value));
     }
 
 pub returns-clause-closed : goal.returns-clause-closed
