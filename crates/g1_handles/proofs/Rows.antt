@@ -5,37 +5,28 @@ use Rattle.std.proofs.lemmas.List.{map-append, length-map}
 use Rattle.std.proofs.Math.ListN.{get_or-map}
 use Rattle.std.proofs.Math.Seq.{take-suc}
 use Rattle.g1_race.specs.declared.race.Race.{Race}
-use Rattle.g1_race_words.specs.declared.view.View.{View}
 use Rattle.g1_race.specs.Members.{race_shape}
 use Rattle.g1_handles.specs.declared.member.Member.{Member}
 use Rattle.g1_handles.specs.declared.member.Role.{Role}
-use Rattle.g1_handles.specs.declared.member.Role.TheVariants as roles
 use Rattle.g1_handles.specs.declared.member_handle.MemberHandle.{MemberHandle}
-use Rattle.g1_handles.specs.Racing.{held, known_to, IsAmong, IsOf}
+use Rattle.g1_handles.specs.Racing.{held, IsAmong, IsOf}
 
 -- what is so of all is so of the one at k
 pub at_handle : (P : Option Member → Type 0) (hs : List MemberHandle) (k : ℕ) (h : MemberHandle) → k < length hs → All P (held hs) → P ((slice_index_or hs k h).value)
 at_handle P hs k h below all =
     subst P (get_or-map (λ (x : MemberHandle). x.value) hs k h) (all k (h.value) (subst (λ n. k < n) (sym (length-map hs (λ (x : MemberHandle). x.value))) below))
 
--- the views of a row grow by the next one
-pub view_next : {A : Type 0} (f : A → View) (xs ys : List A) (a : A) (hs : List MemberHandle) (n : ℕ) (h : MemberHandle) → n < length hs → ys ≡ xs ++ a ∷ []
-    → map f xs ≡ map known_to (held (take n hs)) → f a ≡ known_to ((slice_index_or hs n h).value) → map f ys ≡ map known_to (held (take (n + 1) hs))
-view_next f xs ys a hs n h below items so is =
+-- what is known of a row grows by the next one
+pub view_next : {A B : Type 0} (f : A → B) (g : Option Member → B) (xs ys : List A) (a : A) (hs : List MemberHandle) (n : ℕ) (h : MemberHandle) → n < length hs → ys ≡ xs ++ a ∷ []
+    → map f xs ≡ map g (held (take n hs)) → f a ≡ g ((slice_index_or hs n h).value) → map f ys ≡ map g (held (take (n + 1) hs))
+view_next {A} {B} f g xs ys a hs n h below items so is =
     let x = slice_index_or hs n h in
     let row = held (take n hs) in
     let next : n + 1 ≡ suc n = omega arith in
-    ap (map f) items ∙ (map-append f xs (a ∷ []) ∙ (ap (λ (vs : List View). vs ++ f a ∷ []) so ∙ (ap (λ (v : View). map known_to row ++ v ∷ []) is
-    ∙ sym (ap (λ (l : List MemberHandle). map known_to (held l)) (ap (λ m. take m hs) next ∙ take-suc hs n h below) ∙ (ap (map known_to) (map-append (λ (y : MemberHandle). y.value) (take n hs) (x ∷ [])) ∙ map-append known_to row (x.value ∷ []))))))
+    ap (map f) items ∙ (map-append f xs (a ∷ []) ∙ (ap (λ (vs : List B). vs ++ f a ∷ []) so ∙ (ap (λ (v : B). map g row ++ v ∷ []) is
+    ∙ sym (ap (λ (l : List MemberHandle). map g (held l)) (ap (λ m. take m hs) next ∙ take-suc hs n h below) ∙ (ap (map g) (map-append (λ (y : MemberHandle). y.value) (take n hs) (x ∷ [])) ∙ map-append g row (x.value ∷ []))))))
 
 -- how many members the race has that a member among so many is of
 pub race_has : (role : Role) (members : ℕ) (race : Race) (m : Option Member) → IsAmong role members m → IsOf race m → (race_shape race).members ≡ members
 race_has role members race None among of = absurd of
 race_has role members race (Some m) among of = sym (ap (λ r. (race_shape r).members) of) ∙ among.1
-
-abbrev is_racer : Role → Type 0
-is_racer roles.Racer = Unit {0}
-is_racer roles.Sweeper = ⊥
-
-pub not_both : roles.Racer ≡ roles.Sweeper → ⊥
-not_both e = subst is_racer e tt

@@ -6,3 +6,5 @@ pub mod Queries
 pub mod Batch
 pub mod Racing
 pub mod Closing
+pub mod Parked
+pub mod Life

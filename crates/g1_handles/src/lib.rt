@@ -12,6 +12,9 @@
 //!   [`race_refine`] are the path of a card in it, and [`race_close`] and [`race_core`] make a core
 //!   of it. Before anything changes, a close checks that it was given all members of one race
 //!   (`look`, `one_race`).
+//! - [`racing_heap`] is a heap whose stores race, at a pause or with its members out, and
+//!   [`heap_handle`] its handle. [`heap_open`] begins and ends it, [`heap_resume`] hands its members
+//!   out, and [`heap_pause`] takes them in.
 //!
 //! A function `.._in` takes what is behind one handle, and gives the handle back with a result. A
 //! call over several handles is one function. The crate `g1_c` exports each, in the file of the
@@ -28,6 +31,10 @@ pub mod clearing;
 pub mod code;
 pub mod gathered;
 pub mod handle;
+pub mod heap_handle;
+pub mod heap_open;
+pub mod heap_pause;
+pub mod heap_resume;
 pub mod list;
 mod look;
 pub mod member;
@@ -44,6 +51,7 @@ pub mod race_open;
 pub mod race_refine;
 pub mod race_resume;
 pub mod race_store;
+pub mod racing_heap;
 pub mod redirection;
 pub mod refinement;
 mod seats;

@@ -38,6 +38,24 @@ pub(crate) fn share_of_all(
     }
 }
 
+/// Returns a share of this race, if these members are all those that it has, each given once, and it
+/// has no owner but the given one and its members.
+pub(crate) fn share_of_race(
+    alloc: Global,
+    race: &Arc<Race, Global>,
+    racers: &mut [MemberHandle],
+    sweepers: &mut [MemberHandle],
+) -> Option<Arc<Race, Global>>
+    ensures same { (held racers.new ≡ held racers.old) × (held sweepers.new ≡ held sweepers.old) }
+    ensures race { IfSome result (λ share. arc_value share ≡ arc_value race.now) }
+{
+    if are_of(alloc, race, racers) && are_of(alloc, race, sweepers) {
+        Arc::try_clone(race).ok()
+    } else {
+        None
+    }
+}
+
 /// A share of the race of a handle's member.
 fn share_of(handle: MemberHandle, alloc: Global) -> (MemberHandle, Option<Arc<Race, Global>>)
     ensures same { result.0.value ≡ handle.value }
@@ -56,7 +74,7 @@ fn share_of(handle: MemberHandle, alloc: Global) -> (MemberHandle, Option<Arc<Ra
 fn are_of(alloc: Global, share: &Arc<Race, Global>, handles: &mut [MemberHandle]) -> bool
     ensures { held handles.new ≡ held handles.old }
 {
-    let mut given = [false; 8];
+    let mut given = [false; 64];
     for i in 0..handles.len() {
         let Some(number) = replace_with(&mut handles[i], (alloc, share), number_in) else {
             return false;
@@ -104,6 +122,7 @@ fn race_in(member: &Member) -> &Arc<Race, Global>
     match member {
         Member::Racer(racing) => &racing.race,
         Member::Sweeper(sweeping) => &sweeping.race,
+        Member::Parked(parking) => &parking.race,
     }
 }
 
@@ -111,5 +130,6 @@ fn number_of(member: &Member) -> usize {
     match member {
         Member::Racer(racing) => racing.number,
         Member::Sweeper(sweeping) => sweeping.number,
+        Member::Parked(parking) => parking.number,
     }
 }

@@ -154,7 +154,7 @@ fn hand_out(handles: &mut [MemberHandle], mut members: Vec<Box<Member>>)
 }
 
 /// Puts a member into a handle.
-fn put_in(_handle: MemberHandle, member: Box<Member>) -> (MemberHandle, ())
+pub(crate) fn put_in(_handle: MemberHandle, member: Box<Member>) -> (MemberHandle, ())
     ensures { result.0.value ≡ Some member.value }
 {
     (MemberHandle::of(RawBox::of(member)), ())

@@ -9,8 +9,8 @@ pub returns-in_default : goal.returns-in_default
 returns-in_default c =
     map-set_same (λ (x : MemberHandle). x.value) c.loop-i.handles c.loop-i.i _ c.index-handles-i.result c.replace_with.ensures ∙ c.loop-i.invariant.same
 
-pub returns-then-number-ge8 : goal.returns-then-number-ge8
-returns-then-number-ge8 c =
+pub returns-then-number-ge64 : goal.returns-then-number-ge64
+returns-then-number-ge64 c =
     map-set_same (λ (x : MemberHandle). x.value) c.loop-i.handles c.loop-i.i _ c.index-handles-i.result c.replace_with.ensures ∙ c.loop-i.invariant.same
 
 pub loop-i-preserved : goal.loop-i-preserved

@@ -1,0 +1,251 @@
+-- The life of a heap whose stores race.
+use Rattle.std.specs.Prelude.{◌≡◌, ◌⊎◌, ◌≤◌, ℕ, List, [], All, Any, Option, Some, None, IsSome}
+use Rattle.std.specs.Prelude.{Contains}
+use Rattle.std.specs.Prelude.{Box, Vec, length, map, replicate, vec_len}
+use Rattle.std.specs.Arc.{arc_value}
+use Rattle.std.specs.Global.{Global}
+use Rattle.g1_layout.specs.Shape as layout
+use Rattle.g1_layout.specs.Shape.{IsShape}
+use Rattle.g1_core.specs.Adoption.{IsPairOf}
+use Rattle.g1_core.specs.Table.{opening, IsCovered}
+use Rattle.g1_race_words.specs.Begin.{Start}
+use Rattle.g1_race_words.specs.Rule.{beginning}
+use Rattle.g1_race_words.specs.declared.view.View.{View}
+use Rattle.g1_race.specs.declared.race.Race.{Race}
+use Rattle.g1_race.specs.declared.race.Racer.{Racer}
+use Rattle.g1_race.specs.declared.race.Sweeper.{Sweeper}
+use Rattle.g1_race.specs.Drain.{began}
+use Rattle.g1_race.specs.Members.{race_id, race_layout, racer_log, IsNewRacer, IsNewSweeper}
+use Rattle.g1_race.specs.Members.{racer_race, sweeper_race, racer_view, sweeper_view, race_shape}
+use Rattle.g1_race.specs.Over.{Halt, halted, start_at, ended_of}
+use Rattle.g1_handles.specs.declared.code.Refusal.{Refusal}
+use Rattle.g1_handles.specs.declared.code.Refusal.TheVariants as refusal
+use Rattle.g1_handles.specs.declared.member.Member.{Member}
+use Rattle.g1_handles.specs.declared.member.Member.TheVariants as member
+use Rattle.g1_handles.specs.declared.member.Role.{Role}
+use Rattle.g1_handles.specs.declared.member.Role.TheVariants as roles
+use Rattle.g1_handles.specs.declared.racing_heap.AtPause.{AtPause}
+use Rattle.g1_handles.specs.declared.racing_heap.UnderWay.{UnderWay}
+use Rattle.g1_handles.specs.declared.racing_heap.RacingHeap.{RacingHeap}
+use Rattle.g1_handles.specs.declared.racing_heap.RacingHeap.TheVariants as heap
+use Rattle.g1_handles.specs.Parked.{parked_race}
+use Rattle.g1_handles.specs.Racing.{AreClosed, OfRacer, OfSweeper, racer_race_of, sweeper_race_of}
+use Rattle.g1_handles.specs.Racing.{known_to, IsAmong, IsOf, HasRole, IsEndOf}
+use Rattle.g1_handles.specs.Refusals.{SaysNoMember}
+
+-- the handle has a heap at a pause, and it is so of the pause
+abbrev pub OfPaused : Option RacingHeap → (Halt → Type 0) → Type 0
+OfPaused None P = ⊥
+OfPaused (Some (heap.Paused a)) P = P a.pause
+OfPaused (Some (heap.Racing b)) P = ⊥
+
+-- the handle has a heap whose members are out, and it is so of it
+abbrev pub OfRacing : Option RacingHeap → (UnderWay → Type 0) → Type 0
+OfRacing None P = ⊥
+OfRacing (Some (heap.Paused a)) P = ⊥
+OfRacing (Some (heap.Racing b)) P = P b
+
+-- nothing but the pause has changed
+pub record IsSameBut (old new : AtPause) : Type 0 where
+  pub race : new.race ≡ old.race
+  pub racers : new.racers ≡ old.racers
+  pub sweepers : new.sweepers ≡ old.sweepers
+
+-- the handle has a heap at a pause, as before, nothing but the pause has changed, and it is so of
+-- the pause before and after
+abbrev pub IsSameHeap : Option RacingHeap → Option RacingHeap → (Halt → Halt → Type 0) → Type 0
+IsSameHeap None new Q = ⊥
+IsSameHeap (Some (heap.Racing b)) new Q = ⊥
+IsSameHeap (Some (heap.Paused a)) None Q = ⊥
+IsSameHeap (Some (heap.Paused a)) (Some (heap.Racing d)) Q = ⊥
+IsSameHeap (Some (heap.Paused a)) (Some (heap.Paused b)) Q = IsSameBut a b × Q a.pause b.pause
+
+-- the heap's handle is closed
+abbrev pub SaysNoHeap : Option RacingHeap → Refusal → Type 0
+SaysNoHeap h r = (r ≡ refusal.NotOpen) × (h ≡ None)
+
+-- the heap's members are out
+abbrev pub SaysNotPaused : Option RacingHeap → Refusal → Type 0
+SaysNotPaused h r = (r ≡ refusal.NotPaused) × OfRacing h (λ b. Unit {0})
+
+-- the heap is at a pause
+abbrev pub SaysNotRacing : Option RacingHeap → Refusal → Type 0
+SaysNotRacing h r = (r ≡ refusal.NotRacing) × OfPaused h (λ p. Unit {0})
+
+-- a heap may have this many racers and sweepers
+pub record AreHeapCounts (racers sweepers : ℕ) : Type 0 where
+  pub some_racer : 1 ≤ racers
+  pub few_racers : racers ≤ 64
+  pub some_sweeper : 1 ≤ sweepers
+  pub few_sweepers : sweepers ≤ 64
+
+-- the heap has just begun, with a member for each: its slots are null, its cards are clean, no pair
+-- is recorded, and no log has a card
+pub record IsNewHeap (l : layout.Shape) (racers sweepers : ℕ) (p : Halt) : Type 0 where
+  pub table : halted p ≡ opening l
+  pub logs : p.logs ≡ replicate racers []
+  pub members : p.sweepers ≡ sweepers
+
+-- a heap of these counts, with this many racers and sweepers, in this handle
+abbrev pub IsHeapRefused : Option RacingHeap → layout.Shape → ℕ → ℕ → Refusal → Type 0
+IsHeapRefused h l racers sweepers r =
+    ((r ≡ refusal.BadMembers) × (AreHeapCounts racers sweepers → ⊥))
+    ⊎ ((r ≡ refusal.AlreadyOpen) × IsSome h)
+    ⊎ ((r ≡ refusal.BadLayout) × (IsShape l → ⊥))
+    ⊎ (r ≡ refusal.NoMemory)
+
+-- the end of the heap of this handle
+abbrev pub IsEndRefused : Option RacingHeap → Refusal → Type 0
+IsEndRefused h r = SaysNoHeap h r ⊎ SaysNotPaused h r
+
+-- the race of the heap
+abbrev pub heap_race : Option RacingHeap → Option Race
+heap_race None = None
+heap_race (Some (heap.Paused a)) = Some (arc_value a.race)
+heap_race (Some (heap.Racing b)) = Some (arc_value b.race)
+
+-- the heap was opened for this many racers and sweepers
+abbrev pub IsFor : Option RacingHeap → ℕ → ℕ → Type 0
+IsFor None racers sweepers = ⊥
+IsFor (Some (heap.Paused a)) racers sweepers =
+    (racers ≡ length a.pause.logs) × (sweepers ≡ a.pause.sweepers)
+IsFor (Some (heap.Racing b)) racers sweepers =
+    (racers ≡ b.racers.count) × (sweepers ≡ b.sweepers.count)
+
+-- the racer, or the sweeper, behind a member's handle
+abbrev pub racer_in : Option Member → Option Racer
+racer_in None = None
+racer_in (Some (member.Racer a)) = Some a.racer
+racer_in (Some (member.Sweeper b)) = None
+racer_in (Some (member.Parked k)) = None
+
+abbrev pub sweeper_in : Option Member → Option Sweeper
+sweeper_in None = None
+sweeper_in (Some (member.Racer a)) = None
+sweeper_in (Some (member.Sweeper b)) = Some b.sweeper
+sweeper_in (Some (member.Parked k)) = None
+
+-- the log of a racer, if there is one
+abbrev pub log_of : Option Racer → List ℕ
+log_of None = []
+log_of (Some racer) = racer_log racer
+
+-- the log of the racer behind a member's handle
+abbrev pub log_in : Option Member → List ℕ
+log_in m = log_of (racer_in m)
+
+-- the handle is a racer's of this race, which has stored nothing since the race began so
+abbrev pub IsNewRacing : Race → Start → Option Member → Type 0
+IsNewRacing race begin m = OfRacer m (λ a. (racer_race_of a ≡ race)
+    × IsNewRacer race.table.table_id begin a.racer)
+
+-- the handle is a sweeper's of this race, which has swept nothing since the race began so
+abbrev pub IsNewSweeping : Race → Start → Option Member → Type 0
+IsNewSweeping race begin m = OfSweeper m (λ b. (sweeper_race_of b ≡ race)
+    × IsNewSweeper race.table.table_id begin b.sweeper)
+
+-- the race goes on from the pause with its table, and all its racers and sweepers are behind these
+-- handles, each racer with the log that it had
+pub record GoesOn (p : Halt) (race : Race) (racers sweepers : List (Option Member)) : Type 0 where
+  pub began : began (race_layout race) (beginning (start_at p)) ≡ halted p
+  pub racing : All (IsNewRacing race (start_at p)) racers
+  pub sweeping : All (IsNewSweeping race (start_at p)) sweepers
+  pub logs : map log_in racers ≡ p.logs
+
+-- as many racers of the race, and as many boxes that wait for it
+pub record AreRacersFor (race : Race) (count : ℕ) (boxes : Vec (Box Member Global) Global)
+    (racers : Vec Racer Global) : Type 0 where
+  pub box_count : vec_len boxes ≡ count
+  pub part_count : vec_len racers ≡ count
+  pub parked : All (λ m. parked_race m.value ≡ Some race) boxes.items
+  pub racing : All (λ r. racer_race r ≡ race_id race) racers.items
+
+-- as many sweepers of the race, and as many boxes that wait for it
+pub record AreSweepersFor (race : Race) (count : ℕ) (boxes : Vec (Box Member Global) Global)
+    (sweepers : Vec Sweeper Global) : Type 0 where
+  pub box_count : vec_len boxes ≡ count
+  pub part_count : vec_len sweepers ≡ count
+  pub parked : All (λ m. parked_race m.value ≡ Some race) boxes.items
+  pub racing : All (λ w. sweeper_race w ≡ race_id race) sweepers.items
+
+-- the pause has ended, and the members are still to be handed out
+pub record LetsGo (a : AtPause) (b : UnderWay) : Type 0 where
+  pub race : arc_value b.race ≡ arc_value a.race
+  pub racer_count : b.racers.count ≡ length a.pause.logs
+  pub sweeper_count : b.sweepers.count ≡ a.pause.sweepers
+  pub racers : AreRacersFor (arc_value b.race) b.racers.count b.racers.boxes b.racers.parts
+  pub sweepers : AreSweepersFor (arc_value b.race) b.sweepers.count b.sweepers.boxes
+      b.sweepers.parts
+  pub racing : All (IsNewRacer (arc_value b.race).table.table_id (start_at a.pause))
+      b.racers.parts.items
+  pub sweeping : All (IsNewSweeper (arc_value b.race).table.table_id (start_at a.pause))
+      b.sweepers.parts.items
+  pub logs : map racer_log b.racers.parts.items ≡ a.pause.logs
+  pub began : began (race_layout (arc_value b.race)) (beginning (start_at a.pause))
+      ≡ halted a.pause
+
+abbrev pub IsLetGo : RacingHeap → RacingHeap → Type 0
+IsLetGo (heap.Paused a) (heap.Racing b) = LetsGo a b
+IsLetGo (heap.Paused a) (heap.Paused c) = ⊥
+IsLetGo (heap.Racing b) new = ⊥
+
+-- a resume of the heap of the first handle, with the members' handles
+abbrev pub IsGoingRefused : Option RacingHeap → List (Option Member) → List (Option Member)
+    → Refusal → Type 0
+IsGoingRefused h racers sweepers r =
+    SaysNoHeap h r ⊎ SaysNotPaused h r
+    ⊎ ((r ≡ refusal.BadMembers) × (IsFor h (length racers) (length sweepers) → ⊥))
+    ⊎ ((r ≡ refusal.AlreadyOpen) × (AreClosed racers → AreClosed sweepers → ⊥))
+
+-- these members have their roles, and are of races with as many members as that of the heap
+abbrev pub AreLikeOf : Option RacingHeap → List (Option Member) → List (Option Member) → Type 0
+AreLikeOf h racers sweepers = OfRacing h (λ b.
+    All (IsAmong roles.Racer (race_shape (arc_value b.race)).members) racers
+    × All (IsAmong roles.Sweeper (race_shape (arc_value b.race)).members) sweepers)
+
+-- these members are of the heap's race
+abbrev pub AreOfHeap : Option RacingHeap → List (Option Member) → List (Option Member) → Type 0
+AreOfHeap h racers sweepers = OfRacing h (λ b.
+    All (IsOf (arc_value b.race)) racers × All (IsOf (arc_value b.race)) sweepers)
+
+-- a pause of the race, whose racers and sweepers know this, and whose racers have these logs
+pub record IsPauseOf (race : Race) (racers sweepers : List View) (logs : List (List ℕ))
+    (p : Halt) : Type 0 where
+  pub left : IsEndOf race racers sweepers (ended_of p)
+  pub within : (x : ℕ × ℕ) → Contains (ended_of p).pairs x → IsPairOf (race_layout race) x
+  pub cover : IsCovered (halted p)
+  pub kept : p.logs ≡ logs
+
+-- a pause of the race with the members of these handles
+abbrev pub IsPausedWith : Race → List (Option Member) → List (Option Member) → Halt → Type 0
+IsPausedWith race racers sweepers p =
+    IsPauseOf race (map known_to racers) (map known_to sweepers) (map log_in racers) p
+
+-- the members of these handles are in, and the pause is still to begin
+pub record ComesIn (old new : UnderWay) (rs ss : List (Option Member)) : Type 0 where
+  pub race : arc_value new.race ≡ arc_value old.race
+  pub racer_count : new.racers.count ≡ old.racers.count
+  pub sweeper_count : new.sweepers.count ≡ old.sweepers.count
+  pub racers : AreRacersFor (arc_value new.race) new.racers.count new.racers.boxes
+      new.racers.parts
+  pub sweepers : AreSweepersFor (arc_value new.race) new.sweepers.count new.sweepers.boxes
+      new.sweepers.parts
+  pub racer_views : map racer_view new.racers.parts.items ≡ map known_to rs
+  pub sweeper_views : map sweeper_view new.sweepers.parts.items ≡ map known_to ss
+  pub logs : map racer_log new.racers.parts.items ≡ map log_in rs
+
+-- a handle in a pause, for a member of this role
+abbrev pub IsPartRefused : Role → Option Member → Refusal → Type 0
+IsPartRefused role m r =
+    SaysNoMember m r ⊎ ((r ≡ refusal.OtherRole) × (HasRole role m → ⊥))
+
+-- a pause of the heap of the first handle; that the members are of its race, each given once, is
+-- found out by counts, of which no proof knows
+abbrev pub IsPauseRefused : Option RacingHeap → List (Option Member) → List (Option Member)
+    → Refusal → Type 0
+IsPauseRefused h racers sweepers r =
+    SaysNoHeap h r ⊎ SaysNotRacing h r
+    ⊎ ((r ≡ refusal.BadMembers) × (IsFor h (length racers) (length sweepers) → ⊥))
+    ⊎ Any (λ m. IsPartRefused roles.Racer m r) racers
+    ⊎ Any (λ m. IsPartRefused roles.Sweeper m r) sweepers
+    ⊎ (r ≡ refusal.OtherRace)

@@ -1,0 +1,156 @@
+//! How a heap whose stores race begins and ends: at a pause.
+ghost use Rattle.std.specs.Prelude.{◌≡◌, ◌≤◌, IsTrue, Some, None, All, IfOk, IfErr, OnOk, OnErr};
+ghost use Rattle.std.specs.Prelude.{vec_len};
+ghost use Rattle.std.specs.Arc.{arc_value};
+ghost use Rattle.g1_handles.specs.Codes.{layout_of};
+ghost use Rattle.g1_handles.specs.Life.{IsNewHeap, IsHeapRefused, AreHeapCounts, OfPaused};
+ghost use Rattle.g1_handles.specs.Life.{IsEndRefused};
+ghost use Rattle.g1_handles.specs.Parked.{parked_race};
+
+use crate::calls::Counts;
+use crate::code::Refusal;
+use crate::heap_handle::HeapHandle;
+use crate::member::{Member, Parking};
+use crate::racing_heap::{AtPause, RacingHeap};
+use core::mem::replace_with;
+use g1_layout::{Layout, NoMemory};
+use g1_race::{Paused, Race};
+use raw_box::RawBox;
+use std::alloc::Global;
+use std::sync::Arc;
+
+/// Opens a heap at a pause in a closed handle, for this many racers and sweepers, 1 to 64 of each.
+/// Its slots are all null and its cards are all clean. Takes all memory that the heap ever takes.
+///
+/// Returns `BadMembers`, `AlreadyOpen`, `BadLayout` or `NoMemory`: the handle has not changed.
+pub fn open_heap(
+    alloc: Global,
+    handle: &mut HeapHandle,
+    counts: &Counts,
+    racers: u32,
+    sweepers: u32,
+) -> Result<(), Refusal>
+    ensures opened { OnOk result
+        (OfPaused handle.new.value (IsNewHeap (layout_of counts.now) racers sweepers)) }
+    ensures closed { OnOk result (handle.old.value ≡ None) }
+    ensures why { IfErr result (λ refusal.
+        IsHeapRefused handle.old.value (layout_of counts.now) racers sweepers refusal) }
+    ensures refused { OnErr result (handle.new.value ≡ handle.old.value) }
+{
+    if !are_heap_counts(racers, sweepers) {
+        return Err(Refusal::BadMembers);
+    }
+    if !replace_with(handle, alloc, is_closed) {
+        return Err(Refusal::AlreadyOpen);
+    }
+    let Some(layout) = Layout::large(counts.regions, counts.cards, counts.slots) else {
+        return Err(Refusal::BadLayout);
+    };
+    let Ok(heap) = new_heap(alloc, layout, racers, sweepers) else {
+        return Err(Refusal::NoMemory);
+    };
+    replace_with(handle, heap, put_in);
+    Ok(())
+}
+
+/// Whether a heap can have this many racers and sweepers.
+fn are_heap_counts(racers: u32, sweepers: u32) -> bool
+    ensures some { IsTrue result → AreHeapCounts racers sweepers }
+    ensures none { AreHeapCounts racers sweepers → IsTrue result }
+{
+    1 <= racers && racers <= 64 && 1 <= sweepers && sweepers <= 64
+}
+
+fn is_closed(handle: HeapHandle, alloc: Global) -> (HeapHandle, bool)
+    ensures same { result.0.value ≡ handle.value }
+    ensures closed { IsTrue result.1 → handle.value ≡ None }
+    ensures open { handle.value ≡ None → IsTrue result.1 }
+{
+    match handle.into_raw_box() {
+        None => (HeapHandle::closed(alloc), true),
+        Some(heap) => (HeapHandle::of(heap), false),
+    }
+}
+
+fn put_in(_handle: HeapHandle, heap: Box<RacingHeap>) -> (HeapHandle, ())
+    ensures { result.0.value ≡ Some heap.value }
+{
+    (HeapHandle::of(RawBox::of(heap)), ())
+}
+
+fn new_heap(
+    alloc: Global,
+    layout: Layout,
+    racers: u32,
+    sweepers: u32,
+) -> Result<Box<RacingHeap>, NoMemory>
+    requires { AreHeapCounts racers sweepers }
+    ensures { IfOk result (λ heap. OfPaused (Some heap.value) (IsNewHeap layout racers sweepers)) }
+{
+    let paused = Paused::open(alloc, layout, racers, sweepers)?;
+    let (pause, race) = paused.shared(alloc)?;
+    let racers = parked(alloc, &race, racers as usize)?;
+    let sweepers = parked(alloc, &race, sweepers as usize)?;
+    let at = AtPause {
+        race,
+        pause,
+        racers,
+        sweepers,
+    };
+    Ok(Box::new(alloc, RacingHeap::Paused(at))?)
+}
+
+/// As many members that wait, each in its box.
+fn parked(
+    alloc: Global,
+    race: &Arc<Race, Global>,
+    count: usize,
+) -> Result<Vec<Box<Member>>, NoMemory>
+    ensures count { IfOk result (λ members. vec_len members ≡ count) }
+    ensures parked { IfOk result (λ members.
+        All (λ m. parked_race m.value ≡ Some (arc_value race.now)) members.items) }
+{
+    let mut members = Vec::with_capacity(alloc, count)?;
+    for number in 0..count {
+        let race = Arc::try_clone(race)?;
+        let member = Box::new(alloc, Member::Parked(Parking { race, number }))?;
+        members.push(member)?;
+    }
+    Ok(members)
+}
+
+/// Closes a heap at a pause, and frees all that it has.
+///
+/// Returns `NotOpen`, or `NotPaused` if its members are out: the handle has not changed.
+pub fn close_heap(alloc: Global, handle: &mut HeapHandle) -> Result<(), Refusal>
+    ensures closed { OnOk result (handle.new.value ≡ None) }
+    ensures paused { OnOk result (OfPaused handle.old.value (λ p. Unit {0})) }
+    ensures why { IfErr result (λ refusal. IsEndRefused handle.old.value refusal) }
+    ensures refused { OnErr result (handle.new.value ≡ handle.old.value) }
+{
+    replace_with(handle, alloc, close_in)
+}
+
+fn close_in(handle: HeapHandle, alloc: Global) -> (HeapHandle, Result<(), Refusal>)
+    ensures closed { OnOk result.1 (result.0.value ≡ None) }
+    ensures paused { OnOk result.1 (OfPaused handle.value (λ p. Unit {0})) }
+    ensures why { IfErr result.1 (λ refusal. IsEndRefused handle.value refusal) }
+    ensures refused { OnErr result.1 (result.0.value ≡ handle.value) }
+{
+    let Some(heap) = handle.into_raw_box() else {
+        return (HeapHandle::closed(alloc), Err(Refusal::NotOpen));
+    };
+    let heap = heap.into_box();
+    if is_paused(&heap) {
+        (HeapHandle::closed(alloc), Ok(()))
+    } else {
+        (HeapHandle::of(RawBox::of(heap)), Err(Refusal::NotPaused))
+    }
+}
+
+fn is_paused(heap: &RacingHeap) -> bool
+    ensures paused { IsTrue result → OfPaused (Some heap.now) (λ p. Unit {0}) }
+    ensures racing { OfPaused (Some heap.now) (λ p. Unit {0}) → IsTrue result }
+{
+    matches!(heap, RacingHeap::Paused(_))
+}
