@@ -115,7 +115,8 @@ enum g1_code {
     G1_TOO_MANY_CARDS = 17,   /* more than G1_LOG cards, or stores, at once */
     G1_SAME_REGION = 18,      /* references were to be moved from a region to itself */
     G1_STILL_PENDING = 19,    /* a clear, while cards are pending */
-    G1_STILL_REFERENCED = 20, /* a clear, while a slot outside the region refers into it */
+    G1_STILL_REFERENCED = 20, /* a clear, while a slot outside the region refers into it; or
+                                 g1_heap_forget, while one inside refers out of it */
     G1_OTHER_ROLE = 21,       /* a sweeper's handle was passed for a racer's, or the reverse */
     G1_LOG_FULL = 22,         /* the racer's log has G1_LOG cards: take it, and store again */
     G1_BAD_MEMBERS = 23,      /* not as many members as the heap has, or as a heap may have */
@@ -150,7 +151,7 @@ static inline const char *g1_code_text(uint32_t code) {
     case G1_TOO_MANY_CARDS: return "there are more cards or stores than one call takes";
     case G1_SAME_REGION: return "references were to be moved from a region to itself";
     case G1_STILL_PENDING: return "cards are pending";
-    case G1_STILL_REFERENCED: return "a slot outside the region refers into it";
+    case G1_STILL_REFERENCED: return "a reference still enters the region, or leaves it";
     case G1_OTHER_ROLE: return "a racer was passed for a sweeper, or a sweeper for a racer";
     case G1_LOG_FULL: return "the racer's log is full";
     case G1_BAD_MEMBERS: return "the heap has, or may have, another number of members";
@@ -395,7 +396,7 @@ uint32_t g1_redirect(struct g1 *handle, uint32_t from, uint32_t to, uint32_t *mo
  *     pause, and is empty if the pause has refined.
  *
  * Besides what every call relies on, these calls rely on the following:
- *   - One call at a time uses a heap's handle, and one call at a time a member's. A handle may go
+ *   - A heap's handle stays on one thread. One call at a time uses a member's handle, which may go
  *     from thread to thread, by a lock, a join or the like.
  *   - A call writes its handle, so each thread keeps its own in a local, and not in a row that
  *     threads share: a row of handles is a cache line that all of them write. The thread copies its
@@ -438,7 +439,8 @@ uint32_t g1_redirect(struct g1 *handle, uint32_t from, uint32_t to, uint32_t *mo
  *   - The words stay at their place until the heap is closed.
  */
 
-/* A handle of a heap whose stores race. It is closed if the pointer is null. */
+/* A handle of a heap whose stores race. It is closed if the pointer is null. It stays on one
+   thread. */
 struct g1_heap {
     void *heap;
 };
@@ -711,12 +713,16 @@ uint32_t g1_heap_redirect(struct g1_heap *heap, uint32_t from, uint32_t to, uint
 uint32_t g1_heap_wipe(struct g1_heap *heap, uint32_t region);
 
 /*
- * Removes the cards of a region from the remembered sets of all regions. No slot of the region
+ * Removes the cards of a region from the remembered sets of all regions, once no slot of the region
  * refers out of it, as after g1_heap_wipe. Later drains return no card of the region until one is
- * stored to. It takes no memory.
+ * stored to. It takes no memory, and reads the slots of the region.
  *
- * Returns G1_DONE, or G1_NO_REGION: nothing has changed.
+ * Returns:
+ *   - G1_DONE.
+ *   - G1_STILL_REFERENCED (a slot of the region refers out of it) or G1_NO_REGION: nothing has
+ *     changed.
  */
+G1_MUST_USE
 uint32_t g1_heap_forget(struct g1_heap *heap, uint32_t region);
 
 /*

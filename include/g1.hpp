@@ -358,7 +358,7 @@ public:
     }
 
     // g1_heap_forget
-    g1_code forget(std::uint32_t region) noexcept {
+    [[nodiscard]] g1_code forget(std::uint32_t region) noexcept {
         return internal::code(g1_heap_forget(get(), region));
     }
 };

@@ -470,14 +470,21 @@ static void redirect(struct heap *heap) {
     check(moved == count, "how many slots a redirect moves");
 }
 
-// Frees a region in the two steps that take it out of all sets, or in the first one alone.
-static void free_region(struct heap *heap) {
+static void wipe(struct heap *heap) {
     uint32_t region = below(REGIONS + 1);
-    uint64_t refusals = no_region(heap, region);
-    if (answers(g1_heap_wipe(&heap->handle, region), refusals, "wipe")) {
+    if (answers(g1_heap_wipe(&heap->handle, region), no_region(heap, region), "wipe")) {
         memset(&heap->words[region * REGION_SLOTS], 0, REGION_SLOTS * sizeof heap->words[0]);
     }
-    if (below(2) == 0 && answers(g1_heap_forget(&heap->handle, region), refusals, "forget")) {
+}
+
+static void forget(struct heap *heap) {
+    uint32_t region = below(REGIONS + 1);
+    uint64_t refusals = no_region(heap, region);
+    for (uint32_t i = 0; i < REGION_SLOTS && refusals == 0; i++) {
+        int leaves = entered_by(heap, region * REGION_SLOTS + i) != REGIONS;
+        refusals = bit(G1_STILL_REFERENCED, leaves);
+    }
+    if (answers(g1_heap_forget(&heap->handle, region), refusals, "forget")) {
         for (uint32_t other = 0; other < REGIONS; other++) {
             memset(&heap->recorded[other][region * CARDS], 0, CARDS);
         }
@@ -491,7 +498,7 @@ static void refine_at_pause(struct heap *heap) {
 }
 
 static void random_call(struct heap *heap) {
-    switch (below(20)) {
+    switch (below(22)) {
     case 0: open_heap(heap); break;
     case 1: close_heap(heap); break;
     case 2: resume(heap); break;
@@ -507,7 +514,8 @@ static void random_call(struct heap *heap) {
     case 12: collector_stores_data(heap); break;
     case 13: clear(heap); break;
     case 14: redirect(heap); break;
-    case 15: free_region(heap); break;
+    case 15: wipe(heap); break;
+    case 16: forget(heap); break;
     default: race_store(heap); break;
     }
     compare(heap);
