@@ -81,7 +81,7 @@ fn refine_all(race: &Race, sweeper: &mut Sweeper, plan: Plan)
 }
 
 // Each racer stores in a thread of its own.
-fn all_store<R: Threads + Sync>(
+pub(crate) fn all_store<R: Threads + Sync>(
     rt: &R,
     race: &Race,
     mut racers: Vec<Racer>,

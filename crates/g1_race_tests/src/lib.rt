@@ -19,4 +19,6 @@ mod paused;
 #[cfg(test)]
 mod readers;
 #[cfg(test)]
+mod shares;
+#[cfg(test)]
 mod small;
