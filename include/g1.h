@@ -474,9 +474,9 @@ uint32_t g1_heap_open(struct g1_heap *heap, const struct g1_counts *counts, uint
 
 /*
  * Ends a pause. It opens as many closed handles of racers and of sweepers as the heap was opened
- * with. Each slot refers to what it refers to at the pause, the pending cards are dirty, and what
- * is recorded is recorded. Each racer has a log that some racer had when the pause began, or an
- * empty one if the pause has refined or there was no race before. A card that is dirty from the
+ * with. Each slot has what it has at the pause, the dirty cards are dirty, and what is recorded is
+ * recorded. Each racer has the log of the racer that was at its place in the row of the last pause,
+ * or an empty one if there was none or the pause has refined. A card that is dirty from the
  * beginning and in no log is refined if a sweeper is given it, or at the next pause. The call takes
  * time in the number of members, and no memory.
  *

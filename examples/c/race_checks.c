@@ -13,6 +13,10 @@ enum { REGIONS = 4, CARDS = 2, SLOTS = 4, REGION_SLOTS = CARDS * SLOTS };
 enum { ALL_CARDS = REGIONS * CARDS, ALL_SLOTS = ALL_CARDS * SLOTS };
 enum { HEAPS = 2, EACH = 2, MEMBERS = 2 * EACH, MOST = EACH + 1 };
 
+struct log {
+    uint32_t count, cards[G1_LOG];
+};
+
 // A heap, and what it has to have. Its racers' handles come first, and its sweepers' from EACH on.
 struct heap {
     struct g1_heap handle;
@@ -21,7 +25,7 @@ struct heap {
     uint32_t racers, sweepers;
     uint64_t words[ALL_SLOTS];
     unsigned char dirty[ALL_CARDS], recorded[REGIONS][ALL_CARDS];
-    uint32_t logged[ALL_CARDS]; // how often the logs have a card
+    struct log logs[EACH]; // the racers', in the order of their handles
 };
 
 static const struct g1_counts small = {REGIONS, CARDS, SLOTS};
@@ -115,7 +119,9 @@ static void refine_all(struct heap *heap) {
             refine(heap, card);
         }
     }
-    memset(heap->logged, 0, sizeof heap->logged);
+    for (int i = 0; i < EACH; i++) {
+        heap->logs[i].count = 0;
+    }
 }
 
 static uint32_t sum(const unsigned char *flags, size_t length) {
@@ -288,11 +294,16 @@ static void pause_heap(struct heap *heap) {
         check(memcmp(&given, &before, sizeof given) == 0, "the handles of a refused pause");
         return;
     }
+    struct log logs[EACH];
     for (int role = 0; role < 2; role++) {
         for (size_t i = 0; i < given.lengths[role]; i++) {
             check(given.members[role][i].member == NULL, "a pause closes the handles");
+            if (role == 0) {
+                logs[i] = heap->logs[given.from[0][i] % MEMBERS];
+            }
         }
     }
+    memcpy(heap->logs, logs, heap->racers * sizeof logs[0]);
     heap->is_racing = 0;
     memset(heap->members, 0, sizeof heap->members);
 }
@@ -305,20 +316,19 @@ static uint64_t of_role(const struct heap *heap, int number, int role) {
 
 static void race_store(struct heap *heap) {
     int number = (int)below(MEMBERS);
-    uint32_t slot = some_slot(), target = some_target(), all = 0;
-    for (uint32_t card = 0; card < ALL_CARDS; card++) {
-        all += heap->logged[card];
-    }
+    uint32_t slot = some_slot(), target = some_target();
     uint64_t refusals = of_role(heap, number, 0) |
                         bit(G1_NO_SLOT, !is_slot(slot) || (target != G1_NULL && !is_slot(target)));
+    struct log *log = &heap->logs[number % EACH];
+    refusals |= bit(G1_LOG_FULL, refusals == 0 && log->count == G1_LOG);
     uint32_t kind = g1_race_store(&heap->members[number], slot, target);
-    if (kind == G1_LOG_FULL) {
-        check(all >= G1_LOG, "a full log");
-    } else if (refusals != 0) {
+    if (refusals != 0) {
         answers(kind, refusals, "store");
-    } else {
-        check(kind == put(heap, slot, word_of(target)), "the kind of a store");
-        heap->logged[slot / SLOTS] += kind == G1_STORED_LOGGED;
+        return;
+    }
+    check(kind == put(heap, slot, word_of(target)), "the kind of a store");
+    if (kind == G1_STORED_LOGGED) {
+        log->cards[log->count++] = slot / SLOTS;
     }
 }
 
@@ -347,9 +357,10 @@ static void take_log(struct heap *heap) {
         check(count == 0, "the count of a refused log");
         return;
     }
-    for (uint32_t i = 0; i < count; i++) {
-        check(cards[i] < ALL_CARDS && heap->logged[cards[i]]-- > 0, "a card that was logged");
-    }
+    struct log *log = &heap->logs[number];
+    int is_same = count == log->count && memcmp(cards, log->cards, count * sizeof cards[0]) == 0;
+    check(is_same, "the cards of a log, oldest first");
+    log->count = 0;
 }
 
 static void race_refine(struct heap *heap) {

@@ -164,7 +164,7 @@ impl Life {
 }
 
 impl Racing {
-    /// Begins a pause, with all members of the heap in any order. The racers' logs stay with them.
+    /// Begins a pause, with all members of the heap in any order. Their logs stay with the heap.
     ///
     /// Refused with [`Refusal::MembersOut`] or [`Refusal::OtherHeap`], and the race goes on. No
     /// memory.
@@ -240,8 +240,8 @@ impl Paused {
         })
     }
 
-    /// Ends the pause: all members race from here on. Each racer has its log, or an empty one if
-    /// the pause has refined. No memory.
+    /// Ends the pause: all members race from here on. Each racer has the log of the one that was at
+    /// its place when the pause began, or an empty one if the pause has refined. No memory.
     pub fn resume(self) -> (Racing, Vec<Racer>, Vec<Sweeper>) {
         let Paused {
             mut life,
