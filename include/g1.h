@@ -432,10 +432,9 @@ uint32_t g1_redirect(struct g1 *handle, uint32_t from, uint32_t to, uint32_t *mo
  *   - The runtime only reads these words. Each store is a call: g1_race_store or g1_race_store_data
  *     by a racer, g1_heap_store or g1_heap_store_data at a pause. The call is the store itself, so
  *     stores to one slot need no order and no loop.
- *   - While members race, a read is one aligned atomic load of 8 bytes. It needs the order acquire
- *     (__ATOMIC_ACQUIRE, memory_order_acquire) where it may find a new object of another thread, so
- *     that what was written into the object before the store is found there too. At a pause a read
- *     may be a plain one.
+ *   - A read is one aligned atomic load of 8 bytes. It needs the order acquire (__ATOMIC_ACQUIRE,
+ *     memory_order_acquire) where it may find a new object of another thread, so that what was
+ *     written into the object before the store is found there too. Elsewhere a relaxed one does.
  *   - The words stay at their place until the heap is closed.
  */
 
