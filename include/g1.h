@@ -667,7 +667,7 @@ uint32_t g1_heap_store(struct g1_heap *heap, uint32_t slot, uint32_t target, uin
  *   - If it is refused, nothing has changed, and `stored` is 0.
  */
 uint32_t g1_heap_store_all(struct g1_heap *heap, const struct g1_reference *stores,
-                           size_t stores_length, uint32_t *stored);
+                           size_t stores_length, size_t *stored);
 
 /*
  * The collector stores data, a word from G1_DATA on, into a slot. To a drain the slot is null. The

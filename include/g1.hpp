@@ -332,7 +332,7 @@ public:
 
     // g1_heap_store_all
     template <typename Stores>
-    g1_code store_all(const Stores &stores, std::uint32_t &stored) noexcept {
+    g1_code store_all(const Stores &stores, std::size_t &stored) noexcept {
         return internal::code(
             g1_heap_store_all(get(), internal::elements(stores), std::size(stores), &stored));
     }

@@ -409,7 +409,8 @@ static void list(struct heap *heap, int drains) {
 
 static void collector_stores(struct heap *heap) {
     struct g1_reference stores[4];
-    uint32_t length = below(5), stored = 7, kind = 7, good = 0;
+    uint32_t length = below(5), kind = 7, good = 0;
+    size_t stored = 7;
     for (uint32_t i = 0; i < length; i++) {
         stores[i].slot = some_slot();
         stores[i].target = some_target();

@@ -3,6 +3,7 @@
 #include <g1_refiner.h>
 
 #include <array>
+#include <cstddef>
 #include <cstdint>
 #include <iostream>
 #include <thread>
@@ -116,7 +117,8 @@ static void refine(std::vector<Racer> &racers, std::vector<Sweeper> &sweepers) {
 static void collect(Heap &heap) {
     Cards cards{};
     std::vector<std::uint32_t> one(1);
-    std::uint32_t count = 0, stored = 0, moved = 0, detail = 0;
+    std::uint32_t count = 0, moved = 0, detail = 0;
+    std::size_t stored = 0;
     std::uint64_t word = 0;
     bool pending = false;
     g1_kind kind = G1_STORED_NULL;

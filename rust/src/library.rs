@@ -135,7 +135,7 @@ extern "C" {
         heap: *mut HeapHandle,
         stores: *const Reference,
         stores_length: usize,
-        stored: *mut u32,
+        stored: *mut usize,
     ) -> u32;
     pub fn g1_heap_store_data(heap: *mut HeapHandle, slot: u32, word: u64) -> u32;
     pub fn g1_heap_clear(heap: *mut HeapHandle, region: u32, detail: *mut u32) -> u32;
