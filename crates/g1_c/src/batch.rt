@@ -51,6 +51,7 @@ pub extern "C" fn g1_store_all(
         (AreStoresRefused handle.old.value (length stores.now) (length cards.old)) }
     ensures refused { 3 < result → handle.new.value ≡ handle.old.value }
     ensures none { 3 < result → (batch.new.stored ≡ 0) × (batch.new.logged ≡ 0) }
+    ensures unwritten { 3 < result → cards.new ≡ cards.old }
 {
     *batch = Batch {
         stored: 0,

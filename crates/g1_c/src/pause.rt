@@ -44,6 +44,7 @@ pub extern "C" fn g1_drain(
         (IsDrainRefused handle.old.value region (length cards.old) (length refined.old)) }
     ensures empty { 1 < result → refined_count.new ≡ 0 }
     ensures refused { 1 < result → handle.new.value ≡ handle.old.value }
+    ensures unwritten { 1 < result → (cards.new ≡ cards.old) × (refined.new ≡ refined.old) }
 {
     *count = 0;
     *refined_count = 0;

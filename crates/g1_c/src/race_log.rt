@@ -31,6 +31,7 @@ pub extern "C" fn g1_race_take_log(
     ensures why { 0 < result → IsRefusal result (λ refusal. IsLogRefused member.old.value refusal
         ⊎ ((refusal ≡ Refusal.NoRoom) × (length cards.old < 256))) }
     ensures refused { 0 < result → member.new.value ≡ member.old.value }
+    ensures unwritten { 0 < result → cards.new ≡ cards.old }
 {
     *count = 0;
     if cards.len() < LOG {

@@ -44,6 +44,7 @@ pub extern "C" fn g1_redirect(
         IsRefusal result (IsRedirectRefused handle.old.value from to (length refined.old)) }
     ensures empty { 1 < result → refined_count.new ≡ 0 }
     ensures refused { 1 < result → handle.new.value ≡ handle.old.value }
+    ensures unwritten { 1 < result → refined.new ≡ refined.old }
 {
     *moved = 0;
     *refined_count = 0;

@@ -49,6 +49,7 @@ pub extern "C" fn g1_refine(
     ensures refused { 1 < result → handle.new.value ≡ handle.old.value }
     ensures none { 1 < result → (tally.new.refined ≡ 0) × (tally.new.hot ≡ 0)
         × (tally.new.skipped ≡ 0) }
+    ensures unwritten { 1 < result → refined.new ≡ refined.old }
 {
     *tally = Tally {
         refined: 0,

@@ -15,7 +15,8 @@ use Rattle.g1_handles.specs.declared.member_handle.MemberHandle.{MemberHandle}
 use Rattle.g1_handles.specs.declared.over_handle.Remains.{Remains}
 use Rattle.g1_handles.specs.Codes.{OfOpen, IsStoreOf}
 use Rattle.g1_handles.specs.Racing.{held, racer_race_of, sweeper_race_of, AreClosed, AreCounts}
-use Rattle.g1_handles.specs.Racing.{HasRole, IsAmong, IsKept, KeepsMembers, OfRacer, OfSweeper}
+use Rattle.g1_handles.specs.Racing.{role_of, members_of, OfMember, HasRole, IsKept, KeepsMembers}
+use Rattle.g1_handles.specs.Racing.{OfRacer, OfSweeper}
 
 -- the handle is closed
 abbrev pub SaysNotOpen : Option Machine → Refusal → Type 0
@@ -161,8 +162,8 @@ IsResumeRefused handle racers sweepers r = SaysNotOpen handle r ⊎ AreSeatsRefu
 abbrev pub IsMemberRefused : Role → ℕ → Option Member → Refusal → Type 0
 IsMemberRefused role members m r =
     SaysNoMember m r
-    ⊎ ((r ≡ refusal.OtherRole) × (HasRole role m → ⊥))
-    ⊎ ((r ≡ refusal.BadMembers) × (IsAmong role members m → ⊥))
+    ⊎ ((r ≡ refusal.OtherRole) × OfMember m (λ x. role_of x ≡ role → ⊥))
+    ⊎ ((r ≡ refusal.BadMembers) × OfMember m (λ x. members_of x ≡ members → ⊥))
 
 -- a close of the race of these members, into this handle, before anything changes; that they are of
 -- one race and that nobody else has a share of it is found out by counts, of which no proof knows
