@@ -1,14 +1,18 @@
 /*
  * The remembered-set machinery of a heap in regions, for C and C++.
  *
- * A struct g1 is a checked shadow of a runtime's references. The heap has regions, each region has
+ * There are two kinds of heap. A struct g1 is for one call at a time. In a struct g1_heap, mutators
+ * store beside refinement threads, lock-free, and pauses are for the collector (see "A heap whose
+ * stores race" below).
+ *
+ * Either is a checked shadow of a runtime's references. The heap has regions, each region has
  * cards, and each card has slots. Regions, cards and slots are each numbered from 0 in the order of
  * the heap: card c has the slots from c * slots on, and region r has the cards from r * cards on. A
  * slot holds null or refers to a place, which is named by the number of its slot. The runtime
  * reports each reference store to the library. Refinement and pauses read the references that were
  * reported, and no memory of the runtime's.
  *
- * The path of a card:
+ * The path of a card in a struct g1:
  *   - If g1_store stores a reference into another region and the slot's card is clean, it marks
  *     the card dirty and returns G1_STORED_LOGGED. The caller puts the card into its thread's dirty
  *     card queue, an array of its own, and hands full queues to g1_refine, which records the
@@ -21,10 +25,10 @@
  *     the next drain at the latest.
  *
  * What a collector must know: the library cannot tell that an object is dead or that a region was
- * freed. While a slot of a dead object or of a freed region still refers into another region,
- * g1_clear of that other region is refused. So store null to each slot of a region that was
- * evacuated (g1_store_all takes 256 at once), and elsewhere to the slots of dead objects, at the
- * latest when a refused clear names one.
+ * freed. While a slot of a dead object or of a freed region still refers into another region, a
+ * clear of that other region is refused. So store null to each slot of a region that was evacuated
+ * (g1_store_all takes 256 at once, and g1_heap_wipe takes the region), and elsewhere to the slots
+ * of dead objects, at the latest when a refused clear names one.
  *
  * Linking, without an install: libg1_c.a, and the toolchain's liblibc_c.a after it. The code is for
  * x86-64-v2.
@@ -89,9 +93,9 @@ enum g1_kind {
 
 /*
  * What the other calls return. A code of 8 or more means that the call was refused and that nothing
- * has changed, except for G1_NOT_ENDED of g1_race_close; each call says what its results hold then.
- * g1_store, g1_race_store and g1_is_pending return these codes too if they are refused, and values
- * of their own if not.
+ * has changed, except for G1_NO_ROOM of g1_heap_drain and G1_NOT_ENDED of g1_race_close; each call
+ * says what its results hold then. g1_store, g1_race_store and g1_is_pending return these codes too
+ * if they are refused, and values of their own if not.
  */
 enum g1_code {
     G1_DONE = 0,
@@ -111,15 +115,18 @@ enum g1_code {
     G1_TOO_MANY_CARDS = 17,   /* more than G1_LOG cards, or stores, at once */
     G1_SAME_REGION = 18,      /* references were to be moved from a region to itself */
     G1_STILL_PENDING = 19,    /* a clear, while cards are pending */
-    G1_STILL_REFERENCED = 20, /* a clear, while a slot outside the region refers into it */
+    G1_STILL_REFERENCED = 20, /* a clear, while a slot outside the region refers into it; or
+                                 g1_heap_forget, while one inside refers out of it */
     G1_OTHER_ROLE = 21,       /* a sweeper's handle was passed for a racer's, or the reverse */
     G1_LOG_FULL = 22,         /* the racer's log has G1_LOG cards: take it, and store again */
-    G1_BAD_MEMBERS = 23,      /* not as many handles as the race has members, or as a race may
-                                 have */
-    G1_OTHER_RACE = 24,       /* the handles are not those of all members of one race, each given
+    G1_BAD_MEMBERS = 23,      /* not as many members as the heap has, or as a heap may have */
+    G1_OTHER_RACE = 24,       /* the handles are not those of all members of one heap, each given
                                  once */
-    G1_NOT_ENDED = 25         /* the members of a race are gathered behind a handle; the race has
+    G1_NOT_ENDED = 25,        /* the members of a race are gathered behind a handle; the race has
                                  another owner, so it has not ended */
+    G1_NOT_PAUSED = 26,       /* the members of the heap race, so it is at no pause */
+    G1_NOT_RACING = 27,       /* the heap is at a pause already */
+    G1_BAD_WORD = 28          /* a word of data is less than G1_DATA */
 };
 
 /*
@@ -144,12 +151,15 @@ static inline const char *g1_code_text(uint32_t code) {
     case G1_TOO_MANY_CARDS: return "there are more cards or stores than one call takes";
     case G1_SAME_REGION: return "references were to be moved from a region to itself";
     case G1_STILL_PENDING: return "cards are pending";
-    case G1_STILL_REFERENCED: return "a slot outside the region refers into it";
+    case G1_STILL_REFERENCED: return "a reference still enters the region, or leaves it";
     case G1_OTHER_ROLE: return "a racer was passed for a sweeper, or a sweeper for a racer";
     case G1_LOG_FULL: return "the racer's log is full";
-    case G1_BAD_MEMBERS: return "the race has, or may have, another number of members";
-    case G1_OTHER_RACE: return "the handles are not those of all members of one race";
+    case G1_BAD_MEMBERS: return "the heap has, or may have, another number of members";
+    case G1_OTHER_RACE: return "the handles are not those of all members of one heap";
     case G1_NOT_ENDED: return "the members are gathered, and their race has not ended";
+    case G1_NOT_PAUSED: return "the members of the heap race";
+    case G1_NOT_RACING: return "the heap is at a pause already";
+    case G1_BAD_WORD: return "a word of data is less than the least one";
     default: return "no code of the library";
     }
 }
@@ -361,13 +371,20 @@ uint32_t g1_redirect(struct g1 *handle, uint32_t from, uint32_t to, uint32_t *mo
                      uint32_t *refined, size_t refined_length, uint32_t *refined_count);
 
 /*
- * Stores that race.
+ * A heap whose stores race.
  *
- * A race has racers, which store (mutators), and sweepers, which refine (refinement threads). Each
- * is in a thread of its own. They take no lock and never wait: racers and sweepers synchronise on
- * single words alone. A race has no core while it runs, so there is no drain and no query.
- * g1_race_close ends the race. g1_race_core makes a core of what it left, for a pause (g1_drain,
- * g1_redirect, g1_clear, g1_target, ..). g1_race_resume makes a race of the core.
+ * A struct g1_heap has racers, which store (mutators), and sweepers, which refine (refinement
+ * threads). Each of these members is in a thread of its own. They take no lock and never wait: they
+ * synchronise on single words alone. The life of a heap is races with pauses between them:
+ *
+ *     g1_heap_open      the heap begins, at a pause
+ *     g1_heap_resume    opens the members' handles: they race from here on
+ *     g1_heap_pause     closes these handles: the collector has the heap
+ *     g1_heap_close     at a pause: frees it
+ *
+ * The collector's calls (g1_heap_drain, g1_heap_clear, ..) are on the heap's handle, at a pause. A
+ * pause and a resume copy nothing and take no memory. All memory that a heap ever takes is taken by
+ * its open, except for the lists of g1_heap_drain and g1_heap_members, which free them.
  *
  * The path of a card that a racer logs:
  *   - If g1_race_store stores a reference into another region, it marks the slot's card dirty. If
@@ -375,22 +392,23 @@ uint32_t g1_redirect(struct g1 *handle, uint32_t from, uint32_t to, uint32_t *mo
  *   - The caller takes the log (g1_race_take_log) and hands its cards to a sweeper, by a queue of
  *     its own (g1_refiner.h has one). The sweeper refines each of them (g1_race_refine).
  *   - A log that is lost costs only time. Each of its cards stays dirty until it is refined, by the
- *     first drain after the race at the latest.
+ *     first drain at a pause at the latest. A log that was not taken stays with its racer over a
+ *     pause, and is empty if the pause has refined.
  *
  * Besides what every call relies on, these calls rely on the following:
- *   - One call at a time uses a member's handle. A handle may go from thread to thread, by a lock,
- *     a join or the like.
+ *   - A heap's handle stays on one thread. One call at a time uses a member's handle, which may go
+ *     from thread to thread, by a lock, a join or the like.
  *   - A call writes its handle, so each thread keeps its own in a local, and not in a row that
  *     threads share: a row of handles is a cache line that all of them write. The thread copies its
- *     local back into the row before the race is closed. A copy that was left behind is not to be
- *     used.
- *   - The runtime orders the stores to one slot, around both its own store and the call, or makes
- *     each by the loop below. If two of them race, the library may keep a different value than
- *     memory does, and then a drain can miss what memory holds. Stores to different slots need no
- *     order.
- *   - Of two closes that are under way at once, in two threads, no race has members in both. (A
- *     close that is given members of several races is refused: it counts the owners of each race,
- *     and another close with members of the same races would disturb the counts.)
+ *     local back into the row before the pause. A copy that was left behind is not to be used.
+ *   - The runtime's references are the library's words, as below. Or they are in memory of the
+ *     runtime's own. Then the runtime orders the stores to one slot, around both its own store and
+ *     the call, or makes each by the loop below. If two of them race, the library may keep a
+ *     different value than memory does, and then a drain can miss what memory holds. Stores to
+ *     different slots need no order.
+ *   - While g1_heap_pause of one heap is under way, no other call of g1_heap_pause, in another
+ *     thread, is given a member of that heap. (A pause that is given members of several heaps is
+ *     refused: it counts the owners of what they share, and the other would disturb the count.)
  *
  * The loop, for a runtime that keeps its references in atomic words of its own and has no lock for
  * the stores to one slot:
@@ -407,36 +425,90 @@ uint32_t g1_redirect(struct g1 *handle, uint32_t from, uint32_t to, uint32_t *mo
  * wrote memory last told the library after its write, so no later than by that last call, and the
  * read after that call found its write. A thread goes round again only if another one has stored to
  * the slot meanwhile; how often is not bounded.
+ *
+ * A runtime whose fields are the library's words keeps no references of its own. Slot n is the word
+ * words[n] of g1_heap_words, of 8 bytes: 0 for null; the number of the slot that it refers to plus
+ * 1; or data, from G1_DATA on, which refers to nothing (a tagged integer, for instance).
+ *   - The runtime only reads these words. Each store is a call: g1_race_store or g1_race_store_data
+ *     by a racer, g1_heap_store or g1_heap_store_data at a pause. The call is the store itself, so
+ *     stores to one slot need no order and no loop.
+ *   - A read is one aligned atomic load of 8 bytes. It needs the order acquire (__ATOMIC_ACQUIRE,
+ *     memory_order_acquire) where it may find a new object of another thread, so that what was
+ *     written into the object before the store is found there too. Elsewhere a relaxed one does.
+ *   - The words stay at their place until the heap is closed.
  */
+
+/* A handle of a heap whose stores race. It is closed if the pointer is null. It stays on one
+   thread. */
+struct g1_heap {
+    void *heap;
+};
 
 /* A handle of a racer or a sweeper. It is closed if the pointer is null. */
 struct g1_member {
     void *member;
 };
 
-/* A handle of a race that is over. It is closed if the pointer is null. It stays on one thread. */
-struct g1_over {
-    void *race;
-};
+/* The most racers and the most sweepers that a heap has. It has at least one of each. */
+#define G1_RACERS 64
+#define G1_SWEEPERS 64
 
-/* The most racers and the most sweepers that a race has. It has at least one of each. */
-#define G1_RACERS 8
-#define G1_SWEEPERS 4
+/* The least word that is data. */
+#define G1_DATA (UINT64_C(1) << 32)
 
 /*
- * Opens a race over a new heap, all of whose slots are null. It has as many racers and sweepers as
- * closed handles are passed. The race takes 8 bytes a slot, 8 bytes a card, a bit for each pair of
- * a card and a region and a bit for each card, and all of this twice while it begins. It also takes
- * about a kilobyte for the log of each racer.
+ * Opens a closed handle on a new heap, at a pause: each slot is null, no card is dirty, and nothing
+ * is recorded. It has this many racers and sweepers, whose handles the caller gets by
+ * g1_heap_resume. The heap takes 8 bytes a slot, 8 bytes a card, a bit for each pair of a card and
+ * a region and a bit for each card, and all of this twice while it opens. It also takes about a
+ * kilobyte for the log of each racer.
  *
  * Returns:
- *   - G1_DONE: each handle is open.
- *   - G1_BAD_MEMBERS, G1_ALREADY_OPEN for any of the handles, G1_BAD_LAYOUT or G1_NO_MEMORY:
- *     nothing has changed.
+ *   - G1_DONE.
+ *   - G1_ALREADY_OPEN, G1_BAD_MEMBERS, G1_BAD_LAYOUT or G1_NO_MEMORY: nothing has changed.
  */
 G1_MUST_USE
-uint32_t g1_race_open(const struct g1_counts *counts, struct g1_member *racers,
-                      size_t racers_length, struct g1_member *sweepers, size_t sweepers_length);
+uint32_t g1_heap_open(struct g1_heap *heap, const struct g1_counts *counts, uint32_t racers,
+                      uint32_t sweepers);
+
+/*
+ * Ends a pause. It opens as many closed handles of racers and of sweepers as the heap was opened
+ * with. Each slot has what it has at the pause, the dirty cards are dirty, and what is recorded is
+ * recorded. Each racer has the log of the racer that was at its place in the row of the last pause,
+ * or an empty one if there was none or the pause has refined. A card that is dirty from the
+ * beginning and in no log is refined if a sweeper is given it, or at the next pause. The call takes
+ * time in the number of members, and no memory.
+ *
+ * Returns:
+ *   - G1_DONE: each member's handle is open.
+ *   - G1_NOT_OPEN for the heap's handle, G1_NOT_PAUSED, G1_BAD_MEMBERS (not the numbers of handles
+ *     that the heap was opened with) or G1_ALREADY_OPEN for a member's handle: nothing has changed.
+ */
+uint32_t g1_heap_resume(struct g1_heap *heap, struct g1_member *racers, size_t racers_length,
+                        struct g1_member *sweepers, size_t sweepers_length);
+
+/*
+ * Begins a pause. All racers and sweepers of the heap are handed in, in any order, and none of them
+ * is in use. Their logs stay with the heap. The call takes time in the number of members, and no
+ * memory.
+ *
+ * Returns:
+ *   - G1_DONE: the members' handles are closed, and the collector's calls may be made.
+ *   - G1_NOT_OPEN for any of the handles, G1_NOT_RACING, G1_BAD_MEMBERS (not the numbers of handles
+ *     that the heap was opened with), G1_OTHER_ROLE for a member's handle, or G1_OTHER_RACE (a
+ *     member of another heap, or one that is given twice): nothing has changed.
+ */
+uint32_t g1_heap_pause(struct g1_heap *heap, struct g1_member *racers, size_t racers_length,
+                       struct g1_member *sweepers, size_t sweepers_length);
+
+/*
+ * Closes the handle of a heap at a pause, and frees all its memory. The handle may be opened again.
+ *
+ * Returns:
+ *   - G1_DONE.
+ *   - G1_NOT_OPEN, or G1_NOT_PAUSED while its members race: nothing has changed.
+ */
+uint32_t g1_heap_close(struct g1_heap *heap);
 
 /*
  * A racer stores a reference to the place `target`, or null (G1_NULL), into a slot, concurrently
@@ -450,6 +522,18 @@ uint32_t g1_race_open(const struct g1_counts *counts, struct g1_member *racers,
  */
 G1_MUST_USE
 uint32_t g1_race_store(struct g1_member *member, uint32_t slot, uint32_t target);
+
+/*
+ * A racer stores data, a word from G1_DATA on, into a slot, concurrently with whatever the other
+ * members do. To a drain the slot is null. `old` is the word that the slot had. The call takes
+ * constant time and no memory, marks and logs nothing, needs no room in the log, and never waits.
+ *
+ * Returns:
+ *   - G1_DONE.
+ *   - G1_BAD_WORD, G1_NO_SLOT, G1_OTHER_ROLE or G1_NOT_OPEN: nothing has changed, and `old` is 0.
+ */
+uint32_t g1_race_store_data(struct g1_member *member, uint32_t slot, uint64_t word,
+                            uint64_t *old);
 
 /*
  * Takes the cards of a racer's log, and leaves the log empty. The first `count` elements of `cards`
@@ -473,6 +557,201 @@ uint32_t g1_race_take_log(struct g1_member *member, uint32_t *cards, size_t card
  *   - G1_NO_CARD, G1_OTHER_ROLE or G1_NOT_OPEN: nothing has changed.
  */
 uint32_t g1_race_refine(struct g1_member *member, uint32_t card);
+
+/*
+ * Sets `words` to the words of the slots, in order, for a runtime whose fields they are. They may
+ * be read at a pause and while members race, as is said above. The call may be made at a pause or
+ * not, and takes constant time.
+ *
+ * Returns G1_DONE, or G1_NOT_OPEN: `words` is null.
+ */
+uint32_t g1_heap_words(struct g1_heap *heap, const uint64_t **words);
+
+/*
+ * The calls below are the collector's, at a pause. Each also returns G1_NOT_OPEN if the handle is
+ * closed, and G1_NOT_PAUSED while the members race. Then nothing has changed, and what the call
+ * writes is as after its other refusals.
+ */
+
+/*
+ * Sets `target` to what a slot refers to: the place, or G1_NULL for null or data. It takes constant
+ * time and no memory.
+ *
+ * Returns G1_DONE, or G1_NO_SLOT: `target` is G1_NULL.
+ */
+uint32_t g1_heap_target(struct g1_heap *heap, uint32_t slot, uint32_t *target);
+
+/*
+ * Sets `word` to the word of a slot: 0, the number of a slot plus 1, or data. It takes constant
+ * time and no memory.
+ *
+ * Returns G1_DONE, or G1_NO_SLOT: `word` is 0.
+ */
+uint32_t g1_heap_word(struct g1_heap *heap, uint32_t slot, uint64_t *word);
+
+/*
+ * Sets `pending` to 1 if a card is dirty, and to 0 if it is not. It takes constant time and no
+ * memory.
+ *
+ * Returns G1_DONE, or G1_NO_CARD: `pending` is 0.
+ */
+uint32_t g1_heap_is_pending(struct g1_heap *heap, uint32_t card, uint32_t *pending);
+
+/*
+ * Sets `totals` to how many cards are dirty and how many pairs of a card and a region are recorded.
+ * It reads a bit for each card, that many again for each region, and a word for each of the pairs.
+ * It takes no memory.
+ *
+ * Returns G1_DONE; if it is refused, both totals are 0.
+ */
+uint32_t g1_heap_status(struct g1_heap *heap, struct g1_totals *totals);
+
+/*
+ * Returns the remembered set of a region as it is recorded, and refines nothing. The first `count`
+ * elements of `cards` are the cards of the set, ascending, each once. Dirty cards may be missing
+ * from it; after g1_heap_refine, and until the next store, none is. The call takes memory for the
+ * list, and frees it.
+ *
+ * Returns:
+ *   - G1_DONE.
+ *   - G1_NO_ROOM: `count` is how many cards there are, which is more than the array has room for.
+ *     Nothing is written to the array.
+ *   - G1_NO_MEMORY or G1_NO_REGION: `count` is 0, and nothing is written to the array.
+ */
+G1_MUST_USE
+uint32_t g1_heap_members(struct g1_heap *heap, uint32_t region, uint32_t *cards,
+                         size_t cards_length, uint32_t *count);
+
+/*
+ * Refines all that is dirty, and empties the racers' logs. Then the members of each region are
+ * exact, so one call serves a whole collection set. It takes no memory.
+ *
+ * Returns G1_DONE.
+ */
+uint32_t g1_heap_refine(struct g1_heap *heap);
+
+/*
+ * Refines all that is dirty, empties the racers' logs, and returns the remembered set of a region:
+ * every card outside the region that refers into it, and perhaps some that no longer do. Those did
+ * at some time since the set was last cleared. The first `count` elements of `cards` are the set,
+ * ascending, each card once. The call takes memory for the list, and frees it. It is never short.
+ *
+ * Returns:
+ *   - G1_DONE.
+ *   - G1_NO_ROOM: all is refined. `count` is how many cards the set has, which is more than the
+ *     array has room for, and nothing is written to it. Call again with room.
+ *   - G1_NO_MEMORY or G1_NO_REGION: nothing has changed, and `count` is 0.
+ */
+G1_MUST_USE
+uint32_t g1_heap_drain(struct g1_heap *heap, uint32_t region, uint32_t *cards,
+                       size_t cards_length, uint32_t *count);
+
+/*
+ * The collector stores a reference to the place `target`, or null (G1_NULL), into a slot. `kind` is
+ * the kind of store (enum g1_kind). If it is G1_STORED_LOGGED, the slot's card was clean, and is
+ * dirty now; no log has it. The call takes constant time and no memory.
+ *
+ * Returns G1_DONE, or G1_NO_SLOT for the slot or the target: nothing has changed, and `kind` is
+ * G1_STORED_NULL.
+ */
+uint32_t g1_heap_store(struct g1_heap *heap, uint32_t slot, uint32_t target, uint32_t *kind);
+
+/*
+ * Makes stores in order, each as g1_heap_store does, and as many as the caller likes. It takes no
+ * memory.
+ *
+ * Returns:
+ *   - G1_DONE: `stored` is stores_length.
+ *   - G1_STOPPED: the store at index `stored` names a slot or a target that the heap does not have.
+ *     The stores before it were made; it and the later ones were not.
+ *   - If it is refused, nothing has changed, and `stored` is 0.
+ */
+uint32_t g1_heap_store_all(struct g1_heap *heap, const struct g1_reference *stores,
+                           size_t stores_length, size_t *stored);
+
+/*
+ * The collector stores data, a word from G1_DATA on, into a slot. To a drain the slot is null. The
+ * call takes constant time and no memory.
+ *
+ * Returns G1_DONE, or G1_BAD_WORD or G1_NO_SLOT: nothing has changed.
+ */
+uint32_t g1_heap_store_data(struct g1_heap *heap, uint32_t slot, uint64_t word);
+
+/*
+ * Empties the remembered set of a region, once no card is dirty and no slot outside the region
+ * refers into it, as g1_clear does. It takes no memory.
+ *
+ * Returns:
+ *   - G1_DONE: `detail` is 0.
+ *   - G1_STILL_PENDING: nothing has changed. `detail` is how many cards are dirty; refine first.
+ *   - G1_STILL_REFERENCED: nothing has changed. `detail` is the least slot of the heap that is
+ *     outside the region and refers into it.
+ *   - G1_NO_REGION: nothing has changed, and `detail` is 0.
+ */
+G1_MUST_USE
+uint32_t g1_heap_clear(struct g1_heap *heap, uint32_t region, uint32_t *detail);
+
+/*
+ * Refines all that is dirty, and empties the racers' logs. Then it moves each reference from a slot
+ * outside the region `from` into that region to the same offset of the region `to`, and empties the
+ * remembered set of `from`. `moved` is how many slots changed. Slots inside `from` stay as they
+ * are, and so may keep a clear of another region refused. The call takes no memory.
+ *
+ * Returns:
+ *   - G1_DONE.
+ *   - G1_NO_REGION for either region, or G1_SAME_REGION: nothing has changed, and `moved` is 0.
+ */
+uint32_t g1_heap_redirect(struct g1_heap *heap, uint32_t from, uint32_t to, uint32_t *moved);
+
+/*
+ * Stores null into each slot of a region that is freed, also where it has data. It takes time in
+ * the slots of a region, and no memory.
+ *
+ * Returns G1_DONE, or G1_NO_REGION: nothing has changed.
+ */
+uint32_t g1_heap_wipe(struct g1_heap *heap, uint32_t region);
+
+/*
+ * Removes the cards of a region from the remembered sets of all regions, once no slot of the region
+ * refers out of it, as after g1_heap_wipe. Later drains return no card of the region until one is
+ * stored to. It takes no memory, and reads the slots of the region.
+ *
+ * Returns:
+ *   - G1_DONE.
+ *   - G1_STILL_REFERENCED (a slot of the region refers out of it) or G1_NO_REGION: nothing has
+ *     changed.
+ */
+G1_MUST_USE
+uint32_t g1_heap_forget(struct g1_heap *heap, uint32_t region);
+
+/*
+ * Races that end in a core.
+ *
+ * g1_race_open opens a race, with 1 to 8 racers and 1 to 4 sweepers, whose calls are those of the
+ * members above. g1_race_close ends it. g1_race_core makes a core of what it left, and
+ * g1_race_resume makes a race of the core. Of two closes that are under way at once, in two
+ * threads, no race has members in both.
+ */
+
+/* A handle of a race that is over. It is closed if the pointer is null. It stays on one thread. */
+struct g1_over {
+    void *race;
+};
+
+/*
+ * Opens a race over a new heap, all of whose slots are null. It has as many racers and sweepers as
+ * closed handles are passed. The race takes 8 bytes a slot, 8 bytes a card, a bit for each pair of
+ * a card and a region and a bit for each card, and all of this twice while it begins. It also takes
+ * about a kilobyte for the log of each racer.
+ *
+ * Returns:
+ *   - G1_DONE: each handle is open.
+ *   - G1_BAD_MEMBERS, G1_ALREADY_OPEN for any of the handles, G1_BAD_LAYOUT or G1_NO_MEMORY:
+ *     nothing has changed.
+ */
+G1_MUST_USE
+uint32_t g1_race_open(const struct g1_counts *counts, struct g1_member *racers,
+                      size_t racers_length, struct g1_member *sweepers, size_t sweepers_length);
 
 /*
  * Ends a race. All its racers and sweepers are handed in, in any order, and none of them is in use.

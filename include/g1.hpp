@@ -2,7 +2,8 @@
 //
 // Each method makes the one call of g1.h that is named beside it, and that header says what the
 // call does, what it relies on and what it returns. What is added here:
-//   - A handle begins closed, can be moved and not copied, and closes itself at its end.
+//   - A handle begins closed, can be moved and not copied, and closes itself at its end. A member's
+//     handle has no end of its own: it goes back into a pause.
 //   - Racers and sweepers are two types.
 //   - A code is a g1_code and not a plain number; only the stores return a kind or a code. The
 //     compiler warns where a code is thrown away that has to be looked at. Nothing throws.
@@ -40,11 +41,39 @@ template <typename Container> auto elements(Container &container) noexcept {
 
 } // namespace internal
 
-// A handle of g1.h with its owner. If it is moved away, what is left is a closed handle.
-template <typename Handle, std::uint32_t (*close_handle)(Handle *)> class Owned {
+// A handle of g1.h that is moved and never copied. What it is moved away from is a closed handle.
+template <typename Handle> class Moved {
+public:
+    Moved() noexcept = default;
+    Moved(Moved &&other) noexcept : handle(other.release()) {}
+
+    Moved &operator=(Moved &&other) noexcept {
+        handle = other.release();
+        return *this;
+    }
+
+    // Has another handle in the place of this one.
+    void reset(Handle other) noexcept { handle = other; }
+
+    // Gives the handle up to the caller, and leaves a closed one.
+    Handle release() noexcept { return std::exchange(handle, Handle{}); }
+
+    // The handle for a call of g1.h, while it stays here.
+    Handle *get() noexcept { return &handle; }
+
+protected:
+    ~Moved() = default;
+
+private:
+    Handle handle{};
+};
+
+// A handle of g1.h with its owner, which closes it.
+template <typename Handle, std::uint32_t (*close_handle)(Handle *)>
+class Owned : public Moved<Handle> {
 public:
     Owned() noexcept = default;
-    Owned(Owned &&other) noexcept : handle(other.release()) {}
+    Owned(Owned &&) noexcept = default;
     ~Owned() { close(); }
 
     Owned &operator=(Owned &&other) noexcept {
@@ -53,26 +82,17 @@ public:
     }
 
     // Closes the handle, if it is open.
-    void close() noexcept { close_handle(&handle); }
+    g1_code close() noexcept { return internal::code(close_handle(this->get())); }
 
     // Closes the handle, if it is open, and owns another in its place.
     void reset(Handle other) noexcept {
         close();
-        handle = other;
+        Moved<Handle>::reset(other);
     }
-
-    // Gives the handle up to the caller, and leaves a closed one.
-    Handle release() noexcept { return std::exchange(handle, Handle{}); }
-
-    // The handle for a call of g1.h, while it stays owned here.
-    Handle *get() noexcept { return &handle; }
-
-private:
-    Handle handle{};
 };
 
-// The machinery of a heap.
-class Heap : public Owned<g1, g1_close> {
+// The machinery of a heap for one call at a time.
+class Core : public Owned<g1, g1_close> {
 public:
     // g1_open
     [[nodiscard]] g1_code open(const g1_counts &counts, std::uint32_t hot,
@@ -145,12 +165,18 @@ public:
     }
 };
 
-// A member of a race that stores. A thread moves it into a local, and back before a pause.
-class Racer : public Owned<g1_member, g1_member_close> {
+// A member of a heap that stores. A thread moves it into a local, and back before a pause. If it is
+// destroyed while it is open, its heap can't be paused any more.
+class Racer : public Moved<g1_member> {
 public:
     // g1_race_store: returns a kind or a code.
     [[nodiscard]] std::uint32_t store(std::uint32_t slot, std::uint32_t target) noexcept {
         return g1_race_store(get(), slot, target);
+    }
+
+    // g1_race_store_data
+    g1_code store_data(std::uint32_t slot, std::uint64_t word, std::uint64_t &old) noexcept {
+        return internal::code(g1_race_store_data(get(), slot, word, &old));
     }
 
     // g1_race_take_log
@@ -160,21 +186,13 @@ public:
     }
 };
 
-// A member of a race that refines. A thread moves it into a local, and back before a pause.
-class Sweeper : public Owned<g1_member, g1_member_close> {
+// A member of a heap that refines. A thread moves it into a local, and back before a pause. If it
+// is destroyed while it is open, its heap can't be paused any more.
+class Sweeper : public Moved<g1_member> {
 public:
     // g1_race_refine
     g1_code refine(std::uint32_t card) noexcept {
         return internal::code(g1_race_refine(get(), card));
-    }
-};
-
-// What a race left.
-class Over : public Owned<g1_over, g1_over_close> {
-public:
-    // g1_race_core
-    [[nodiscard]] g1_code core(Heap &heap, std::uint32_t hot, std::uint32_t ring) noexcept {
-        return internal::code(g1_race_core(get(), heap.get(), hot, ring));
     }
 };
 
@@ -233,30 +251,117 @@ g1_code with_members(Racers &racers, Sweepers &sweepers, Call call) noexcept {
 
 } // namespace internal
 
-// g1_race_open
-template <typename Racers, typename Sweepers>
-[[nodiscard]] g1_code race_open(const g1_counts &counts, Racers &racers,
-                                Sweepers &sweepers) noexcept {
-    return internal::with_members(racers, sweepers, [&counts](auto... members) noexcept {
-        return g1_race_open(&counts, members...);
-    });
-}
+// A heap whose stores race. If it is destroyed while its members race, its memory is not freed.
+class Heap : public Owned<g1_heap, g1_heap_close> {
+public:
+    // g1_heap_open
+    [[nodiscard]] g1_code open(const g1_counts &counts, std::uint32_t racers,
+                               std::uint32_t sweepers) noexcept {
+        return internal::code(g1_heap_open(get(), &counts, racers, sweepers));
+    }
 
-// g1_race_close
-template <typename Racers, typename Sweepers>
-[[nodiscard]] g1_code race_close(Racers &racers, Sweepers &sweepers, Over &over) noexcept {
-    return internal::with_members(racers, sweepers, [&over](auto... members) noexcept {
-        return g1_race_close(members..., over.get());
-    });
-}
+    // g1_heap_resume
+    template <typename Racers, typename Sweepers>
+    [[nodiscard]] g1_code resume(Racers &racers, Sweepers &sweepers) noexcept {
+        return internal::with_members(racers, sweepers, [this](auto... members) noexcept {
+            return g1_heap_resume(get(), members...);
+        });
+    }
 
-// g1_race_resume
-template <typename Racers, typename Sweepers>
-[[nodiscard]] g1_code race_resume(Heap &heap, Racers &racers, Sweepers &sweepers) noexcept {
-    return internal::with_members(racers, sweepers, [&heap](auto... members) noexcept {
-        return g1_race_resume(heap.get(), members...);
-    });
-}
+    // g1_heap_pause
+    template <typename Racers, typename Sweepers>
+    [[nodiscard]] g1_code pause(Racers &racers, Sweepers &sweepers) noexcept {
+        return internal::with_members(racers, sweepers, [this](auto... members) noexcept {
+            return g1_heap_pause(get(), members...);
+        });
+    }
+
+    // g1_heap_words
+    g1_code words(const std::uint64_t *&words) noexcept {
+        return internal::code(g1_heap_words(get(), &words));
+    }
+
+    // g1_heap_target
+    g1_code target(std::uint32_t slot, std::uint32_t &target) noexcept {
+        return internal::code(g1_heap_target(get(), slot, &target));
+    }
+
+    // g1_heap_word
+    g1_code word(std::uint32_t slot, std::uint64_t &word) noexcept {
+        return internal::code(g1_heap_word(get(), slot, &word));
+    }
+
+    // g1_heap_is_pending: sets `pending`, to false if the call is refused.
+    g1_code is_pending(std::uint32_t card, bool &pending) noexcept {
+        std::uint32_t word = 0;
+        const g1_code answer = internal::code(g1_heap_is_pending(get(), card, &word));
+        pending = word == 1;
+        return answer;
+    }
+
+    // g1_heap_status
+    g1_code status(g1_totals &totals) noexcept {
+        return internal::code(g1_heap_status(get(), &totals));
+    }
+
+    // g1_heap_members
+    template <typename Cards>
+    [[nodiscard]] g1_code members(std::uint32_t region, Cards &cards,
+                                  std::uint32_t &count) noexcept {
+        return internal::code(
+            g1_heap_members(get(), region, internal::elements(cards), std::size(cards), &count));
+    }
+
+    // g1_heap_refine
+    g1_code refine() noexcept { return internal::code(g1_heap_refine(get())); }
+
+    // g1_heap_drain
+    template <typename Cards>
+    [[nodiscard]] g1_code drain(std::uint32_t region, Cards &cards, std::uint32_t &count) noexcept {
+        return internal::code(
+            g1_heap_drain(get(), region, internal::elements(cards), std::size(cards), &count));
+    }
+
+    // g1_heap_store
+    g1_code store(std::uint32_t slot, std::uint32_t target, g1_kind &kind) noexcept {
+        std::uint32_t word = 0;
+        const g1_code answer = internal::code(g1_heap_store(get(), slot, target, &word));
+        kind = static_cast<g1_kind>(word);
+        return answer;
+    }
+
+    // g1_heap_store_all
+    template <typename Stores>
+    g1_code store_all(const Stores &stores, std::size_t &stored) noexcept {
+        return internal::code(
+            g1_heap_store_all(get(), internal::elements(stores), std::size(stores), &stored));
+    }
+
+    // g1_heap_store_data
+    g1_code store_data(std::uint32_t slot, std::uint64_t word) noexcept {
+        return internal::code(g1_heap_store_data(get(), slot, word));
+    }
+
+    // g1_heap_clear
+    [[nodiscard]] g1_code clear(std::uint32_t region, std::uint32_t &detail) noexcept {
+        return internal::code(g1_heap_clear(get(), region, &detail));
+    }
+
+    // g1_heap_redirect
+    g1_code redirect(std::uint32_t from, std::uint32_t to, std::uint32_t &moved) noexcept {
+        return internal::code(g1_heap_redirect(get(), from, to, &moved));
+    }
+
+    // g1_heap_wipe
+    g1_code wipe(std::uint32_t region) noexcept {
+        return internal::code(g1_heap_wipe(get(), region));
+    }
+
+    // g1_heap_forget
+    [[nodiscard]] g1_code forget(std::uint32_t region) noexcept {
+        return internal::code(g1_heap_forget(get(), region));
+    }
+};
 
 } // namespace garbage_first
 

@@ -1,20 +1,23 @@
 /*
- * Refinement threads for a race of g1.h, in C11 or C++17 with POSIX threads.
+ * Refinement threads for a heap whose stores race (g1.h), in C11 or C++17 with POSIX threads.
  *
  * A struct g1_refiner has a bounded queue of logs, and one refinement thread for each sweeper of a
- * race. Mutators hand on their full logs. The threads refine the cards of these, and sleep while
+ * heap. Mutators hand on their full logs. The threads refine the cards of these, and sleep while
  * the queue is empty. At a pause they give their sweepers back. All of the code is in this file,
  * and is compiled into the runtime; no proof covers it.
  *
- * A runtime opens a refiner, which is paused. After g1_race_open or g1_race_resume it resumes the
- * refiner, and mutators store by g1_refiner_store. At a pause it stops the mutators, takes their
- * racers back, pauses the refiner, and ends the race by g1_race_close.
+ * A runtime opens a refiner, which is paused, beside its heap. From there on it goes round:
+ *   1. g1_heap_resume opens the members' handles, and g1_refiner_resume takes the sweepers over.
+ *      Mutators store by g1_refiner_store, each with its racer.
+ *   2. For a pause the runtime stops the mutators and takes their racers back.
+ *   3. g1_refiner_pause gives the sweepers back, g1_heap_pause takes all members in, and the
+ *      collector's calls follow.
  *
  * Besides what g1.h relies on, these calls rely on the following:
  *   - One thread at a time, the collector's, opens, resumes, pauses and closes a refiner. It
  *     resumes and closes one that is paused, and pauses one that is not.
  *   - While a refiner is open, it and the array of its queue stay where they are, and only these
- *     calls use them. The races whose sweepers it takes have heaps of the same counts.
+ *     calls use them. The heaps whose sweepers it takes have the same counts.
  *   - No thread is stopped or cancelled inside one of these calls (by a signal, for instance): it
  *     may have the refiner's lock.
  *
@@ -161,7 +164,7 @@ static inline void g1_refiner_close(struct g1_refiner *refiner) {
 
 /*
  * Opens a refiner, which is paused. Its queue has room for `logs_length` logs (1 or more) in the
- * array `logs`. It has as many threads as the race has sweepers (1 to G1_SWEEPERS). They inherit
+ * array `logs`. It has as many threads as the heap has sweepers (1 to G1_SWEEPERS). They inherit
  * the caller's signal mask, so block there what is not to interrupt them.
  *
  * Returns 0, EINVAL for a length outside its limits, or the error of the call of pthreads that
@@ -246,7 +249,7 @@ static inline uint32_t g1_refiner_pause(struct g1_refiner *refiner, enum g1_queu
  * or blocks, so that its cards are refined before the pause.
  *
  * If the queue is full or the refiner is paused, the log is dropped. Each of its cards stays dirty
- * until it is refined, by the first drain after the race at the latest. A mutator cannot refine, as
+ * until it is refined, by the first drain at the pause at the latest. A mutator cannot refine, as
  * its handle is a racer's. And it does not wait for room: the threads that would make room may have
  * stopped, for a pause that waits for this mutator. If many logs are dropped, lengthen the queue or
  * add sweepers.

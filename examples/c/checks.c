@@ -498,7 +498,7 @@ static void random_calls(long calls) {
 static void texts(void) {
     const char *none = g1_code_text(UINT32_MAX);
     for (uint32_t code = 0; code < 40; code++) {
-        int is_code = code == G1_DONE || code == G1_SHORT || code == G1_STOPPED || (code >= G1_NOT_OPEN && code <= G1_NOT_ENDED);
+        int is_code = code == G1_DONE || code == G1_SHORT || code == G1_STOPPED || (code >= G1_NOT_OPEN && code <= G1_BAD_WORD);
         check((strcmp(g1_code_text(code), none) != 0) == is_code, "each code has a text, and no other word has one");
     }
     check(strcmp(g1_code_text(G1_LOG_FULL), "the racer's log is full") == 0, "the text of a full log");

@@ -1,7 +1,7 @@
-// A pause of a race, to be timed. `pause_cost pause REGIONS REFERRING STATE ROUNDS` prints the
-// microseconds of its calls, the least of the rounds: close and core, the drain of a region, the
-// drain of another one with nothing pending, a redirect, a clear and a resume. The heap is REGIONS
-// 256 16. REFERRING of 100 slots refer into the next region. STATE is `refined` (nothing is pending
+// A pause of a heap whose stores race, to be timed. `pause_cost pause REGIONS REFERRING STATE ROUNDS`
+// prints the microseconds of its calls, the least of the rounds: the pause, the drain of a region,
+// the drain of another one with nothing dirty, a redirect, a clear and a resume. The heap is REGIONS
+// 256 16. REFERRING of 100 slots refer into the next region. STATE is `refined` (nothing is dirty
 // at the pause) or `dirty` (each card that refers is). `pause_cost memory SECONDS` prints what the
 // process has in memory at each tenth of a time of refinement. See the script measure-pause beside.
 #define _POSIX_C_SOURCE 200809L
@@ -16,7 +16,8 @@
 enum { CARDS = 256, SLOTS = 16, REGION_SLOTS = CARDS * SLOTS, CALLS = 6 };
 
 static uint32_t regions, all_cards, all_slots, wrong;
-static uint32_t *cards, *refined;
+static uint32_t *cards;
+static struct g1_heap heap;
 static struct g1_member racer, sweeper;
 
 static double seconds(clockid_t clock) {
@@ -36,15 +37,21 @@ static double lap(void) {
     return (passed < own ? passed : own) * 1e6;
 }
 
-// A race over a new heap with this number of regions.
-static void open_race(uint32_t count) {
+// A new heap with this number of regions, whose members race.
+static void open_heap(uint32_t count) {
     struct g1_counts counts = {count, CARDS, SLOTS};
     regions = count;
     all_cards = count * CARDS;
     all_slots = all_cards * SLOTS;
     cards = malloc(all_cards * sizeof *cards);
-    refined = malloc(all_cards * sizeof *refined);
-    wrong += !cards || !refined || g1_race_open(&counts, &racer, 1, &sweeper, 1) != G1_DONE;
+    wrong += !cards || g1_heap_open(&heap, &counts, 1, 1) != G1_DONE;
+    wrong += g1_heap_resume(&heap, &racer, 1, &sweeper, 1) != G1_DONE;
+}
+
+static void close_heap(void) {
+    wrong += g1_heap_pause(&heap, &racer, 1, &sweeper, 1) != G1_DONE;
+    wrong += g1_heap_close(&heap) != G1_DONE;
+    free(cards);
 }
 
 // Stores, and refines the log that is full then, or lets it go.
@@ -78,50 +85,42 @@ static void fill(uint32_t referring, int refines) {
     }
 }
 
-// Stores null to each slot that refers into a region, and refines what is pending.
-static void empty(struct g1 *heap, uint32_t region) {
-    uint32_t first = (region + regions - 1) % regions * REGION_SLOTS, count, refined_count;
-    for (uint32_t i = 0; i < REGION_SLOTS; i++) {
-        wrong += g1_store(heap, first + i, G1_NULL) != G1_STORED_NULL;
-    }
-    wrong += g1_drain(heap, 0, cards, all_cards, &count, refined, all_cards, &refined_count) != G1_DONE;
+// Stores null to each slot that refers into a region, and refines what is dirty.
+static void empty(uint32_t region) {
+    wrong += g1_heap_wipe(&heap, (region + regions - 1) % regions) != G1_DONE;
+    wrong += g1_heap_refine(&heap) != G1_DONE;
 }
 
 // The calls of a pause, each with its time.
-static void pause_race(double times[CALLS]) {
-    struct g1_over over = {0};
-    struct g1 heap = {0};
-    uint32_t count, refined_count, moved, detail;
+static void time_calls(double times[CALLS]) {
+    uint32_t count, moved, detail;
     lap();
-    wrong += g1_race_close(&racer, 1, &sweeper, 1, &over) != G1_DONE;
-    wrong += g1_race_core(&over, &heap, 4, 64) != G1_DONE;
+    wrong += g1_heap_pause(&heap, &racer, 1, &sweeper, 1) != G1_DONE;
     times[0] = lap();
-    wrong += g1_drain(&heap, 1, cards, all_cards, &count, refined, all_cards, &refined_count) != G1_DONE;
+    wrong += g1_heap_drain(&heap, 1, cards, all_cards, &count) != G1_DONE;
     times[1] = lap();
-    wrong += g1_drain(&heap, 2, cards, all_cards, &count, refined, all_cards, &refined_count) != G1_DONE;
+    wrong += g1_heap_drain(&heap, 2, cards, all_cards, &count) != G1_DONE;
     times[2] = lap();
-    wrong += g1_redirect(&heap, 1, 2, &moved, refined, all_cards, &refined_count) != G1_DONE;
+    wrong += g1_heap_redirect(&heap, 1, 2, &moved) != G1_DONE;
     times[3] = lap();
-    empty(&heap, 4);
+    empty(4);
     lap();
-    wrong += g1_clear(&heap, 4, &detail) != G1_DONE;
+    wrong += g1_heap_clear(&heap, 4, &detail) != G1_DONE;
     times[4] = lap();
-    wrong += g1_race_resume(&heap, &racer, 1, &sweeper, 1) != G1_DONE;
+    wrong += g1_heap_resume(&heap, &racer, 1, &sweeper, 1) != G1_DONE;
     times[5] = lap();
 }
 
 static void time_pauses(uint32_t count, uint32_t referring, int refines, long rounds) {
     double least[CALLS], times[CALLS];
     for (long round = 0; round < rounds; round++) {
-        open_race(count);
+        open_heap(count);
         fill(referring, refines);
-        pause_race(times);
+        time_calls(times);
         for (int i = 0; i < CALLS; i++) {
             least[i] = round == 0 || times[i] < least[i] ? times[i] : least[i];
         }
-        wrong += g1_member_close(&racer) != G1_DONE || g1_member_close(&sweeper) != G1_DONE;
-        free(cards);
-        free(refined);
+        close_heap();
     }
     for (int i = 0; i < CALLS; i++) {
         printf(" %.1f |", least[i]);
@@ -146,7 +145,7 @@ static long resident(void) {
 static void watch_memory(double time) {
     uint64_t state = 88172645463325252u;
     unsigned long count = 0;
-    open_race(256);
+    open_heap(256);
     fill(100, 1);
     double from = seconds(CLOCK_MONOTONIC);
     for (int tenth = 0; tenth <= 10; tenth++) {
@@ -160,7 +159,7 @@ static void watch_memory(double time) {
         }
         printf("%3.0f s: %ld kB, %lu cards refined\n", time * tenth / 10, resident(), count);
     }
-    wrong += g1_member_close(&racer) != G1_DONE || g1_member_close(&sweeper) != G1_DONE;
+    close_heap();
 }
 
 int main(int number, char **words) {

@@ -1,10 +1,9 @@
-// Racing mutators and refinement threads, with pauses between races: `race [STORES [CYCLES]]`.
+// Racing mutators and refinement threads, with pauses: `race [STORES [CYCLES]]`.
 //
-// Each cycle is a race and a pause. In a race every mutator stores lock-free, and hands full logs on
-// in an array that a lock protects. If there is no room, it drops the log, and a card of it stays
-// dirty until it is refined. Refinement threads take logs from the array. At the pause the race
-// becomes a core. The remembered set of each region is compared with a scan of all slots, one region
-// is redirected into another, and the core becomes a race again.
+// In a race every mutator stores lock-free, and hands full logs on in an array that a lock protects.
+// If there is no room, it drops the log, and a card of it stays dirty until it is refined.
+// Refinement threads take logs from the array. At the pause the remembered set of each region is
+// compared with a scan of all slots, and one region is redirected into another.
 #define _POSIX_C_SOURCE 200809L
 #include "g1.h"
 
@@ -29,9 +28,9 @@ struct log {
     uint32_t count;
 };
 
-// A member of a race in a thread: its handle is here only while the thread does not run.
+// A thread, with the place of its handle while it does not run.
 struct seat {
-    struct g1_member member;
+    struct g1_member *member;
     uint64_t state;
     unsigned wrong;
 };
@@ -43,6 +42,8 @@ static struct log logs[LOGS];
 static unsigned taken, put, dropped;
 static int over;
 
+static struct g1_heap heap;
+static struct g1_member racers[RACERS], sweepers[SWEEPERS];
 static long stores = 20000;
 
 static uint32_t below(uint64_t *state, uint32_t most) {
@@ -67,7 +68,7 @@ static void hand_on(struct g1_member *member, unsigned *wrong) {
 
 static void *mutate(void *place) {
     struct seat *seat = place;
-    struct g1_member member = seat->member;
+    struct g1_member member = *seat->member;
     uint64_t state = seat->state;
     unsigned wrong = 0;
     for (long i = 0; i < stores; i++) {
@@ -81,7 +82,7 @@ static void *mutate(void *place) {
         wrong += kind > G1_STORED_LOGGED;
     }
     hand_on(&member, &wrong);
-    seat->member = member;
+    *seat->member = member;
     seat->state = state;
     seat->wrong += wrong;
     return NULL;
@@ -89,7 +90,7 @@ static void *mutate(void *place) {
 
 static void *refine_logs(void *place) {
     struct seat *seat = place;
-    struct g1_member member = seat->member;
+    struct g1_member member = *seat->member;
     struct log log;
     for (int goes_on = 1; goes_on;) {
         pthread_mutex_lock(&lock);
@@ -103,29 +104,27 @@ static void *refine_logs(void *place) {
             seat->wrong += g1_race_refine(&member, log.cards[i]) != G1_DONE;
         }
     }
-    seat->member = member;
+    *seat->member = member;
     return NULL;
 }
 
-// Runs a race of these racers and sweepers to its end.
-static void run(struct seat *racers, struct seat *sweepers) {
+// Runs a race of these threads up to its pause, the mutators first. Counts what is wrong.
+static unsigned run(struct seat *seats) {
     pthread_t threads[RACERS + SWEEPERS];
+    unsigned wrong = g1_heap_resume(&heap, racers, RACERS, sweepers, SWEEPERS) != G1_DONE;
     over = 0;
-    for (int i = 0; i < SWEEPERS; i++) {
-        pthread_create(&threads[RACERS + i], NULL, refine_logs, &sweepers[i]);
+    for (int i = 0; i < RACERS + SWEEPERS; i++) {
+        pthread_create(&threads[i], NULL, i < RACERS ? mutate : refine_logs, &seats[i]);
     }
-    for (int i = 0; i < RACERS; i++) {
-        pthread_create(&threads[i], NULL, mutate, &racers[i]);
-    }
-    for (int i = 0; i < RACERS; i++) {
+    for (int i = 0; i < RACERS + SWEEPERS; i++) {
+        if (i == RACERS) { // the mutators have ended
+            pthread_mutex_lock(&lock);
+            over = 1;
+            pthread_mutex_unlock(&lock);
+        }
         pthread_join(threads[i], NULL);
     }
-    pthread_mutex_lock(&lock);
-    over = 1;
-    pthread_mutex_unlock(&lock);
-    for (int i = 0; i < SWEEPERS; i++) {
-        pthread_join(threads[RACERS + i], NULL);
-    }
+    return wrong + (g1_heap_pause(&heap, racers, RACERS, sweepers, SWEEPERS) != G1_DONE);
 }
 
 static uint32_t region_of(uint32_t slot) {
@@ -133,7 +132,7 @@ static uint32_t region_of(uint32_t slot) {
 }
 
 // How many slots outside the region refer into it from cards that were not listed.
-static unsigned missed_in(struct g1 *heap, uint32_t region, const uint32_t *cards, uint32_t count) {
+static unsigned missed_in(uint32_t region, const uint32_t *cards, uint32_t count) {
     static unsigned char is_member[ALL_CARDS];
     unsigned missed = 0;
     memset(is_member, 0, sizeof is_member);
@@ -143,65 +142,51 @@ static unsigned missed_in(struct g1 *heap, uint32_t region, const uint32_t *card
     }
     for (uint32_t slot = 0; slot < ALL_SLOTS; slot++) {
         uint32_t target;
-        missed += g1_target(heap, slot, &target) != G1_DONE;
-        missed += target != G1_NULL && region_of(target) == region && region_of(slot) != region && !is_member[slot / SLOTS];
+        missed += g1_heap_target(&heap, slot, &target) != G1_DONE;
+        int enters = target != G1_NULL && region_of(target) == region && region_of(slot) != region;
+        missed += enters && !is_member[slot / SLOTS];
     }
     return missed;
 }
 
-// A pause: drains each region, compares it with a scan, and moves what refers into one region. Counts what is wrong.
-static unsigned pause_at(struct g1 *heap, uint32_t from, unsigned *members) {
-    static uint32_t cards[ALL_CARDS], refined[ALL_CARDS];
-    uint32_t count, refined_count, moved, to = (from + 1) % REGIONS;
+// A pause: drains each region, compares it with a scan, and moves what refers into one region.
+// Counts what is wrong.
+static unsigned collect(uint32_t from, unsigned *members) {
+    static uint32_t cards[ALL_CARDS];
+    uint32_t count, moved, to = (from + 1) % REGIONS;
     unsigned wrong = 0;
     for (uint32_t region = 0; region < REGIONS; region++) {
-        wrong += g1_drain(heap, region, cards, ALL_CARDS, &count, refined, ALL_CARDS, &refined_count) != G1_DONE;
-        wrong += missed_in(heap, region, cards, count);
+        wrong += g1_heap_drain(&heap, region, cards, ALL_CARDS, &count) != G1_DONE;
+        wrong += missed_in(region, cards, count);
         *members += count;
     }
-    wrong += g1_redirect(heap, from, to, &moved, refined, ALL_CARDS, &refined_count) != G1_DONE;
-    wrong += g1_drain(heap, from, cards, ALL_CARDS, &count, refined, ALL_CARDS, &refined_count) != G1_DONE || count != 0;
+    wrong += g1_heap_redirect(&heap, from, to, &moved) != G1_DONE;
+    wrong += g1_heap_drain(&heap, from, cards, ALL_CARDS, &count) != G1_DONE || count != 0;
     return wrong;
 }
 
 int main(int number, char **words) {
-    static struct seat racers[RACERS], sweepers[SWEEPERS];
-    struct g1_member racing[RACERS] = {{0}}, sweeping[SWEEPERS] = {{0}};
+    static struct seat seats[RACERS + SWEEPERS];
     struct g1_counts counts = {REGIONS, CARDS, SLOTS};
-    struct g1_over left = {0};
-    struct g1 heap = {0};
-    unsigned wrong = 0, members = 0;
+    unsigned members = 0;
     stores = number > 1 ? atol(words[1]) : stores;
     unsigned cycles = number > 2 ? (unsigned)atol(words[2]) : 10;
-    wrong += g1_race_open(&counts, racing, RACERS, sweeping, SWEEPERS) != G1_DONE;
+    for (unsigned i = 0; i < RACERS + SWEEPERS; i++) {
+        seats[i].member = i < RACERS ? &racers[i] : &sweepers[i - RACERS];
+        seats[i].state = 88172645463325252u + i * 1000003u;
+    }
+    unsigned wrong = g1_heap_open(&heap, &counts, RACERS, SWEEPERS) != G1_DONE;
     for (unsigned cycle = 0; cycle < cycles; cycle++) {
-        for (unsigned i = 0; i < RACERS; i++) {
-            racers[i].member = racing[i];
-            racers[i].state = 88172645463325252u + (cycle * RACERS + i) * 1000003u;
-        }
-        for (unsigned i = 0; i < SWEEPERS; i++) {
-            sweepers[i].member = sweeping[i];
-        }
-        run(racers, sweepers);
-        for (unsigned i = 0; i < RACERS; i++) {
-            racing[i] = racers[i].member;
-        }
-        for (unsigned i = 0; i < SWEEPERS; i++) {
-            sweeping[i] = sweepers[i].member;
-        }
-        wrong += g1_race_close(racing, RACERS, sweeping, SWEEPERS, &left) != G1_DONE;
-        wrong += g1_race_core(&left, &heap, 4, 64) != G1_DONE;
-        wrong += pause_at(&heap, cycle % REGIONS, &members);
-        wrong += g1_race_resume(&heap, racing, RACERS, sweeping, SWEEPERS) != G1_DONE;
+        wrong += run(seats);
+        wrong += collect(cycle % REGIONS, &members);
     }
-    for (unsigned i = 0; i < RACERS; i++) {
-        wrong += racers[i].wrong + (g1_member_close(&racing[i]) != G1_DONE);
+    wrong += g1_heap_close(&heap) != G1_DONE;
+    for (unsigned i = 0; i < RACERS + SWEEPERS; i++) {
+        wrong += seats[i].wrong;
     }
-    for (unsigned i = 0; i < SWEEPERS; i++) {
-        wrong += sweepers[i].wrong + (g1_member_close(&sweeping[i]) != G1_DONE);
-    }
-    printf("%u cycles of %d threads of %ld stores, %u logs handed on and %u let go: %u members, %u wrong\n", cycles, RACERS, stores, put, dropped,
-           members, wrong);
+    printf("%u cycles of %d threads of %ld stores, %u logs handed on and %u let go: %u members, "
+           "%u wrong\n",
+           cycles, RACERS, stores, put, dropped, members, wrong);
     int holds = wrong == 0 && members > 0;
     printf("%d passed, %d failed\n", holds, !holds);
     return !holds;

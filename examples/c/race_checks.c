@@ -1,141 +1,595 @@
-// What each call of a race returns where it is refused, and that it has changed nothing then.
+// Each call of heaps whose stores race, beside tables of the program's own: `race_checks [CALLS]`.
+//
+// The calls have random arguments: numbers that a heap does not have, closed handles, handles of
+// the other role or of another heap, too many or too few of them, one twice, and arrays without
+// room. A refused call has to return a code that is so, and to change nothing.
 #include "g1.h"
 
 #include <stdio.h>
+#include <stdlib.h>
 #include <string.h>
 
-enum { RACERS = 2 };
+enum { REGIONS = 4, CARDS = 2, SLOTS = 4, REGION_SLOTS = CARDS * SLOTS };
+enum { ALL_CARDS = REGIONS * CARDS, ALL_SLOTS = ALL_CARDS * SLOTS };
+enum { HEAPS = 2, EACH = 2, MEMBERS = 2 * EACH, MOST = EACH + 1 };
 
+struct log {
+    uint32_t count, cards[G1_LOG];
+};
+
+// A heap, and what it has to have. Its racers' handles come first, and its sweepers' from EACH on.
+struct heap {
+    struct g1_heap handle;
+    struct g1_member members[MEMBERS];
+    int is_open, is_racing;
+    uint32_t racers, sweepers;
+    uint64_t words[ALL_SLOTS];
+    unsigned char dirty[ALL_CARDS], recorded[REGIONS][ALL_CARDS];
+    struct log logs[EACH]; // the racers', in the order of their handles
+};
+
+static const struct g1_counts small = {REGIONS, CARDS, SLOTS};
+static struct heap heaps[HEAPS];
+static uint64_t state = 88172645463325252u, seen; // a bit for each code that was returned
 static unsigned passed, failed;
 
 static void check(int holds, const char *what) {
     if (holds) {
         passed++;
-    } else {
-        failed++;
+    } else if (failed++ < 20) {
         printf("-- %s\n", what);
     }
 }
 
-static void answers(uint32_t answer, uint32_t expected, const char *what) {
-    if (answer != expected) {
-        printf("-- %s: %u, and not %u\n", what, (unsigned)answer, (unsigned)expected);
+static uint32_t below(uint32_t most) {
+    state ^= state << 13;
+    state ^= state >> 7;
+    state ^= state << 17;
+    return (uint32_t)((state >> 33) % most);
+}
+
+static uint64_t bit(uint32_t code, int holds) {
+    return holds ? UINT64_C(1) << code : 0;
+}
+
+// Checks a code: one of those that are so, or done if there is none. Returns whether it is done.
+static int answers(uint32_t code, uint64_t refusals, const char *what) {
+    uint64_t allowed = refusals == 0 ? bit(G1_DONE, 1) : refusals;
+    if (code > 63 || (allowed & bit(code, 1)) == 0) {
+        printf("-- %s: %u\n", what, (unsigned)code);
     }
-    check(answer == expected, what);
+    check(code <= 63 && (allowed & bit(code, 1)) != 0, what);
+    seen |= bit(code, code <= 63);
+    return refusals == 0;
 }
 
-// A heap of 4 regions of 2 cards of 4 slots: slots 0 to 31, cards 0 to 7.
-static const struct g1_counts small = {4, 2, 4};
-
-static struct g1_member racers[9], sweepers[5];
-static struct g1_over over;
-static struct g1 heap;
-static uint32_t cards[G1_LOG], count;
-
-static uint32_t open_race(void) {
-    return g1_race_open(&small, racers, RACERS, sweepers, 1);
+static uint32_t some_slot(void) {
+    return below(ALL_SLOTS + 1);
 }
 
-static uint32_t close_race(void) {
-    return g1_race_close(racers, RACERS, sweepers, 1, &over);
+static uint32_t some_target(void) {
+    return below(8) == 0 ? G1_NULL : some_slot();
 }
 
-static void closed_handles(void) {
-    answers(g1_race_store(racers, 0, 8), G1_NOT_OPEN, "store by a closed handle");
-    count = 7;
-    answers(g1_race_take_log(racers, cards, G1_LOG, &count), G1_NOT_OPEN, "log of a closed handle");
-    check(count == 0, "the count of a refused log");
-    answers(g1_race_refine(sweepers, 0), G1_NOT_OPEN, "refine by a closed handle");
-    answers(close_race(), G1_NOT_OPEN, "close of closed handles");
-    answers(g1_race_core(&over, &heap, 4, 16), G1_NOT_OPEN, "core of no race");
-    answers(g1_race_resume(&heap, racers, RACERS, sweepers, 1), G1_NOT_OPEN, "resume of no core");
-    answers(g1_member_close(racers), G1_NOT_OPEN, "close of a closed member");
-    answers(g1_over_close(&over), G1_NOT_OPEN, "close of no race");
+static int is_slot(uint32_t slot) {
+    return slot < ALL_SLOTS;
 }
 
-static void openings(void) {
-    struct g1_counts none = {0, 2, 4}, wide = {4, 2, 65};
-    answers(g1_race_open(&none, racers, 1, sweepers, 1), G1_BAD_LAYOUT, "no region");
-    answers(g1_race_open(&wide, racers, 1, sweepers, 1), G1_BAD_LAYOUT, "a card of 65 slots");
-    answers(g1_race_open(&small, racers, 0, sweepers, 1), G1_BAD_MEMBERS, "no racer");
-    answers(g1_race_open(&small, racers, 9, sweepers, 1), G1_BAD_MEMBERS, "nine racers");
-    answers(g1_race_open(&small, racers, 1, sweepers, 0), G1_BAD_MEMBERS, "no sweeper");
-    answers(g1_race_open(&small, racers, 1, sweepers, 5), G1_BAD_MEMBERS, "five sweepers");
-    check(racers[0].member == NULL && sweepers[0].member == NULL, "refused openings leave handles closed");
-    answers(g1_race_open(&small, racers, G1_RACERS, sweepers, G1_SWEEPERS), G1_DONE, "eight racers and four sweepers");
-    answers(g1_race_close(racers, G1_RACERS, sweepers, G1_SWEEPERS, &over), G1_DONE, "the close of twelve members");
-    check(racers[7].member == NULL && sweepers[3].member == NULL, "members are closed");
-    answers(g1_over_close(&over), G1_DONE, "the close of what is left");
-    answers(open_race(), G1_DONE, "open");
-    answers(open_race(), G1_ALREADY_OPEN, "open of open handles");
+static uint32_t target_of(uint64_t word) {
+    return word == 0 || word >= G1_DATA ? G1_NULL : (uint32_t)(word - 1);
 }
 
-static void stores(void) {
-    answers(g1_race_store(&racers[0], 0, G1_NULL), G1_STORED_NULL, "null");
-    answers(g1_race_store(&racers[0], 0, 7), G1_STORED_SAME_REGION, "same region");
-    answers(g1_race_store(&racers[0], 0, 8), G1_STORED_LOGGED, "logged");
-    answers(g1_race_store(&racers[1], 3, 9), G1_STORED_DIRTY, "dirty");
-    answers(g1_race_store(&racers[1], 32, 8), G1_NO_SLOT, "a slot past the heap");
-    answers(g1_race_store(&racers[1], 4, 32), G1_NO_SLOT, "a place past the heap");
-    answers(g1_race_store(sweepers, 4, 8), G1_OTHER_ROLE, "a store by a sweeper");
-    answers(g1_race_take_log(&racers[0], cards, G1_LOG - 1, &count), G1_NO_ROOM, "a log without room");
-    answers(g1_race_take_log(sweepers, cards, G1_LOG, &count), G1_OTHER_ROLE, "a log of a sweeper");
-    answers(g1_race_take_log(&racers[1], cards, G1_LOG, &count), G1_DONE, "an empty log");
-    check(count == 0, "no card is logged by the second racer");
-    answers(g1_race_take_log(&racers[0], cards, G1_LOG, &count), G1_DONE, "a log");
-    check(count == 1 && cards[0] == 0, "card 0 is logged");
-    answers(g1_race_refine(sweepers, 8), G1_NO_CARD, "a card past the heap");
-    answers(g1_race_refine(&racers[0], 0), G1_OTHER_ROLE, "a refinement by a racer");
+// The region into which a slot refers from outside, or REGIONS.
+static uint32_t entered_by(const struct heap *heap, uint32_t slot) {
+    uint32_t target = target_of(heap->words[slot]);
+    int enters = target != G1_NULL && target / REGION_SLOTS != slot / REGION_SLOTS;
+    return enters ? target / REGION_SLOTS : REGIONS;
+}
+
+// Stores a word, and returns the kind of the store.
+static uint32_t put(struct heap *heap, uint32_t slot, uint64_t word) {
+    heap->words[slot] = word;
+    if (target_of(word) == G1_NULL) {
+        return G1_STORED_NULL;
+    }
+    if (entered_by(heap, slot) == REGIONS) {
+        return G1_STORED_SAME_REGION;
+    }
+    uint32_t kind = heap->dirty[slot / SLOTS] ? G1_STORED_DIRTY : G1_STORED_LOGGED;
+    heap->dirty[slot / SLOTS] = 1;
+    return kind;
+}
+
+static uint64_t word_of(uint32_t target) {
+    return target == G1_NULL ? 0 : (uint64_t)target + 1;
+}
+
+static void refine(struct heap *heap, uint32_t card) {
+    heap->dirty[card] = 0;
+    for (uint32_t slot = card * SLOTS; slot < (card + 1) * SLOTS; slot++) {
+        if (entered_by(heap, slot) != REGIONS) {
+            heap->recorded[entered_by(heap, slot)][card] = 1;
+        }
+    }
+}
+
+static void refine_all(struct heap *heap) {
+    for (uint32_t card = 0; card < ALL_CARDS; card++) {
+        if (heap->dirty[card]) {
+            refine(heap, card);
+        }
+    }
+    for (int i = 0; i < EACH; i++) {
+        heap->logs[i].count = 0;
+    }
+}
+
+static uint32_t sum(const unsigned char *flags, size_t length) {
+    uint32_t all = 0;
+    for (size_t i = 0; i < length; i++) {
+        all += flags[i];
+    }
+    return all;
+}
+
+// Why a call of the collector's may be refused, whatever it is given.
+static uint64_t at_pause(const struct heap *heap) {
+    return bit(G1_NOT_OPEN, !heap->is_open) | bit(G1_NOT_PAUSED, heap->is_open && heap->is_racing);
+}
+
+// Checks a list of cards against a set.
+static void lists(const uint32_t *cards, uint32_t count, const unsigned char *set) {
+    uint32_t at = 0;
+    for (uint32_t card = 0; card < ALL_CARDS; card++) {
+        at += set[card] && at < count && cards[at] == card;
+    }
+    check(at == count && count == sum(set, ALL_CARDS), "the cards of a set, ascending");
+}
+
+// Compares a heap with its table.
+static void compare(struct heap *heap) {
+    const uint64_t *words = NULL;
+    uint32_t cards[ALL_CARDS], count, pending;
+    struct g1_totals totals;
+    uint32_t code = g1_heap_words(&heap->handle, &words);
+    if (!answers(code, bit(G1_NOT_OPEN, !heap->is_open), "words")) {
+        check(words == NULL, "the words of a closed handle");
+        return;
+    }
+    check(memcmp(words, heap->words, sizeof heap->words) == 0, "the words of the slots");
+    if (answers(g1_heap_status(&heap->handle, &totals), at_pause(heap), "status")) {
+        check(totals.pending == sum(heap->dirty, ALL_CARDS), "the cards that are dirty");
+        check(totals.recorded == sum(heap->recorded[0], sizeof heap->recorded), "the pairs");
+    } else {
+        check(totals.pending == 0 && totals.recorded == 0, "the totals of a refused status");
+    }
+    for (uint32_t card = 0; card < ALL_CARDS && !heap->is_racing; card++) {
+        answers(g1_heap_is_pending(&heap->handle, card, &pending), 0, "is pending");
+        check(pending == heap->dirty[card], "whether a card is dirty");
+    }
+    for (uint32_t region = 0; region < REGIONS && !heap->is_racing; region++) {
+        code = g1_heap_members(&heap->handle, region, cards, ALL_CARDS, &count);
+        answers(code, 0, "members");
+        lists(cards, count, heap->recorded[region]);
+    }
+}
+
+static void open_heap(struct heap *heap) {
+    static const struct g1_counts bad[] = {{0, 2, 4}, {257, 2, 4}, {4, 0, 4}, {4, 2, 65}};
+    const struct g1_counts *counts = below(8) == 0 ? &bad[below(4)] : &small;
+    uint32_t racers = below(16) == 0 ? below(2) * (G1_RACERS + 1) : 1 + below(EACH);
+    uint32_t sweepers = below(16) == 0 ? below(2) * (G1_SWEEPERS + 1) : 1 + below(EACH);
+    int are_bad = racers == 0 || racers > G1_RACERS || sweepers == 0 || sweepers > G1_SWEEPERS;
+    uint64_t refusals = bit(G1_ALREADY_OPEN, heap->is_open) | bit(G1_BAD_MEMBERS, are_bad) |
+                        bit(G1_BAD_LAYOUT, counts != &small);
+    if (answers(g1_heap_open(&heap->handle, counts, racers, sweepers), refusals, "open")) {
+        struct g1_heap handle = heap->handle;
+        memset(heap, 0, sizeof *heap);
+        heap->handle = handle;
+        heap->is_open = 1;
+        heap->racers = racers;
+        heap->sweepers = sweepers;
+    }
+}
+
+static void close_heap(struct heap *heap) {
+    if (below(8) == 0 && answers(g1_heap_close(&heap->handle), at_pause(heap), "close")) {
+        check(heap->handle.heap == NULL, "a closed handle is null");
+        heap->is_open = 0;
+    }
+}
+
+// Handles for a resume or a pause, and where they come from: the number of a member of all heaps,
+// or -1 for a closed one.
+struct given {
+    struct g1_member members[2][MOST];
+    int from[2][MOST];
+    size_t lengths[2];
+};
+
+static struct g1_member *member_at(int number) {
+    return &heaps[number / MEMBERS].members[number % MEMBERS];
+}
+
+// The members of a heap in some order, or as many closed handles, one in four times with something
+// else among them.
+static struct given give(const struct heap *heap, int are_closed) {
+    struct given given = {.lengths = {heap->racers, heap->sweepers}};
+    int turn = (int)below(2), first = (int)(heap - heaps) * MEMBERS;
+    for (int role = 0; role < 2; role++) {
+        given.lengths[role] += below(16) == 0;
+        given.lengths[role] -= given.lengths[role] > 0 && below(16) == 0;
+        for (int i = 0; i < MOST; i++) {
+            int own = first + role * EACH + (heap->racers == EACH ? (i + turn) % EACH : i % EACH);
+            int from = are_closed ? -1 : own;
+            from = below(12) == 0 ? (int)below(HEAPS * MEMBERS + 1) - 1 : from;
+            given.from[role][i] = from >= 0 && member_at(from)->member != NULL ? from : -1;
+            if (given.from[role][i] >= 0) {
+                given.members[role][i] = *member_at(from);
+            }
+        }
+    }
+    return given;
+}
+
+// How many handles of a row are closed.
+static size_t closed_in(const struct given *given, int role) {
+    size_t closed = 0;
+    for (size_t i = 0; i < given->lengths[role]; i++) {
+        closed += given->from[role][i] < 0;
+    }
+    return closed;
+}
+
+static int is_bad_number(const struct heap *heap, const struct given *given) {
+    return heap->is_open &&
+           (given->lengths[0] != heap->racers || given->lengths[1] != heap->sweepers);
+}
+
+static void resume(struct heap *heap) {
+    struct given given = give(heap, 1), before = given;
+    size_t closed = closed_in(&given, 0) + closed_in(&given, 1);
+    uint64_t refusals = at_pause(heap) | bit(G1_BAD_MEMBERS, is_bad_number(heap, &given)) |
+                        bit(G1_ALREADY_OPEN, closed != given.lengths[0] + given.lengths[1]);
+    uint32_t code = g1_heap_resume(&heap->handle, given.members[0], given.lengths[0],
+                                   given.members[1], given.lengths[1]);
+    if (!answers(code, refusals, "resume")) {
+        check(memcmp(&given, &before, sizeof given) == 0, "the handles of a refused resume");
+        return;
+    }
+    heap->is_racing = 1;
+    for (uint32_t i = 0; i < heap->racers; i++) {
+        heap->members[i] = given.members[0][i];
+        check(heap->members[i].member != NULL, "a resume opens the racers' handles");
+    }
+    for (uint32_t i = 0; i < heap->sweepers; i++) {
+        heap->members[EACH + i] = given.members[1][i];
+        check(heap->members[EACH + i].member != NULL, "a resume opens the sweepers' handles");
+    }
+}
+
+// Why a pause may be refused for the handles of a role.
+static uint64_t refusals_of(const struct heap *heap, const struct given *given, int role) {
+    uint64_t refusals = bit(G1_NOT_OPEN, closed_in(given, role) > 0);
+    for (size_t i = 0; i < given->lengths[role]; i++) {
+        int from = given->from[role][i];
+        refusals |= bit(G1_OTHER_ROLE, from >= 0 && from % MEMBERS / EACH != role);
+        refusals |= bit(G1_OTHER_RACE, from >= 0 && &heaps[from / MEMBERS] != heap);
+        for (size_t j = 0; j < i; j++) {
+            refusals |= bit(G1_OTHER_RACE, from >= 0 && from == given->from[role][j]);
+        }
+    }
+    return refusals;
+}
+
+static void pause_heap(struct heap *heap) {
+    struct given given = give(heap, 0), before = given;
+    uint64_t refusals = bit(G1_NOT_OPEN, !heap->is_open) |
+                        bit(G1_NOT_RACING, heap->is_open && !heap->is_racing) |
+                        bit(G1_BAD_MEMBERS, is_bad_number(heap, &given)) |
+                        refusals_of(heap, &given, 0) | refusals_of(heap, &given, 1);
+    uint32_t code = g1_heap_pause(&heap->handle, given.members[0], given.lengths[0],
+                                  given.members[1], given.lengths[1]);
+    if (!answers(code, refusals, "pause")) {
+        check(memcmp(&given, &before, sizeof given) == 0, "the handles of a refused pause");
+        return;
+    }
+    struct log logs[EACH];
+    for (int role = 0; role < 2; role++) {
+        for (size_t i = 0; i < given.lengths[role]; i++) {
+            check(given.members[role][i].member == NULL, "a pause closes the handles");
+            if (role == 0) {
+                logs[i] = heap->logs[given.from[0][i] % MEMBERS];
+            }
+        }
+    }
+    memcpy(heap->logs, logs, heap->racers * sizeof logs[0]);
+    heap->is_racing = 0;
+    memset(heap->members, 0, sizeof heap->members);
+}
+
+// Why a member's call may be refused, whatever it is given.
+static uint64_t of_role(const struct heap *heap, int number, int role) {
+    int is_closed = heap->members[number].member == NULL;
+    return bit(G1_NOT_OPEN, is_closed) | bit(G1_OTHER_ROLE, !is_closed && number / EACH != role);
+}
+
+static void race_store(struct heap *heap) {
+    int number = (int)below(MEMBERS);
+    uint32_t slot = some_slot(), target = some_target();
+    uint64_t refusals = of_role(heap, number, 0) |
+                        bit(G1_NO_SLOT, !is_slot(slot) || (target != G1_NULL && !is_slot(target)));
+    struct log *log = &heap->logs[number % EACH];
+    refusals |= bit(G1_LOG_FULL, refusals == 0 && log->count == G1_LOG);
+    uint32_t kind = g1_race_store(&heap->members[number], slot, target);
+    if (refusals != 0) {
+        answers(kind, refusals, "store");
+        return;
+    }
+    check(kind == put(heap, slot, word_of(target)), "the kind of a store");
+    if (kind == G1_STORED_LOGGED) {
+        log->cards[log->count++] = slot / SLOTS;
+    }
+}
+
+static void race_store_data(struct heap *heap) {
+    int number = (int)below(MEMBERS);
+    uint32_t slot = some_slot();
+    uint64_t word = below(4) == 0 ? below(9) : G1_DATA + below(9), old = 7;
+    uint64_t refusals = of_role(heap, number, 0) | bit(G1_NO_SLOT, !is_slot(slot)) |
+                        bit(G1_BAD_WORD, word < G1_DATA);
+    uint32_t code = g1_race_store_data(&heap->members[number], slot, word, &old);
+    if (answers(code, refusals, "store of data")) {
+        check(old == heap->words[slot], "the word that a store of data overwrites");
+        put(heap, slot, word);
+    } else {
+        check(old == 0, "the word of a refused store of data");
+    }
+}
+
+static void take_log(struct heap *heap) {
+    int number = (int)below(MEMBERS);
+    uint32_t cards[G1_LOG], count = 7;
+    size_t room = below(4) == 0 ? G1_LOG - 1 : G1_LOG;
+    uint64_t refusals = of_role(heap, number, 0) | bit(G1_NO_ROOM, room < G1_LOG);
+    uint32_t code = g1_race_take_log(&heap->members[number], cards, room, &count);
+    if (!answers(code, refusals, "log")) {
+        check(count == 0, "the count of a refused log");
+        return;
+    }
+    struct log *log = &heap->logs[number];
+    int is_same = count == log->count && memcmp(cards, log->cards, count * sizeof cards[0]) == 0;
+    check(is_same, "the cards of a log, oldest first");
+    log->count = 0;
+}
+
+static void race_refine(struct heap *heap) {
+    int number = (int)below(MEMBERS);
+    uint32_t card = below(ALL_CARDS + 1);
+    uint64_t refusals = of_role(heap, number, 1) | bit(G1_NO_CARD, card >= ALL_CARDS);
+    if (answers(g1_race_refine(&heap->members[number], card), refusals, "refinement")) {
+        refine(heap, card);
+    }
+}
+
+static void ask(struct heap *heap) {
+    uint32_t slot = some_slot(), target = 7, card = below(ALL_CARDS + 1), pending = 7;
+    uint64_t word = 7, refusals = at_pause(heap) | bit(G1_NO_SLOT, heap->is_open && !is_slot(slot));
+    int is_told = answers(g1_heap_target(&heap->handle, slot, &target), refusals, "target");
+    check(target == (is_told ? target_of(heap->words[slot]) : G1_NULL), "a target");
+    is_told = answers(g1_heap_word(&heap->handle, slot, &word), refusals, "word");
+    check(word == (is_told ? heap->words[slot] : 0), "a word");
+    refusals = at_pause(heap) | bit(G1_NO_CARD, heap->is_open && card >= ALL_CARDS);
+    is_told = answers(g1_heap_is_pending(&heap->handle, card, &pending), refusals, "is pending");
+    check(pending == (is_told ? heap->dirty[card] : 0), "whether a card is dirty");
+}
+
+static uint64_t no_region(const struct heap *heap, uint32_t region) {
+    return at_pause(heap) | bit(G1_NO_REGION, heap->is_open && region >= REGIONS);
+}
+
+static void list(struct heap *heap, int drains) {
+    uint32_t region = below(REGIONS + 1), cards[ALL_CARDS], before[ALL_CARDS], count = 7;
+    size_t room = below(ALL_CARDS + 1);
+    uint64_t refusals = no_region(heap, region);
+    memset(cards, 255, sizeof cards);
+    memcpy(before, cards, sizeof cards);
+    uint32_t code = drains ? g1_heap_drain(&heap->handle, region, cards, room, &count)
+                           : g1_heap_members(&heap->handle, region, cards, room, &count);
+    if (drains && refusals == 0) {
+        refine_all(heap);
+    }
+    uint32_t size = refusals == 0 ? sum(heap->recorded[region], ALL_CARDS) : 0;
+    if (answers(code, refusals | bit(G1_NO_ROOM, size > room), drains ? "drain" : "members")) {
+        lists(cards, count, heap->recorded[region]);
+    } else {
+        check(count == size && memcmp(cards, before, sizeof cards) == 0, "a list without room");
+    }
+}
+
+static void collector_stores(struct heap *heap) {
+    struct g1_reference stores[4];
+    uint32_t length = below(5), kind = 7, good = 0;
+    size_t stored = 7;
+    for (uint32_t i = 0; i < length; i++) {
+        stores[i].slot = some_slot();
+        stores[i].target = some_target();
+        int is_good = is_slot(stores[i].slot) &&
+                      (stores[i].target == G1_NULL || is_slot(stores[i].target));
+        good += good == i && is_good;
+    }
+    if (length == 1) {
+        uint64_t refusals = at_pause(heap) | bit(G1_NO_SLOT, heap->is_open && good == 0);
+        uint32_t code = g1_heap_store(&heap->handle, stores[0].slot, stores[0].target, &kind);
+        int is_made = answers(code, refusals, "the collector's store");
+        uint32_t wanted = is_made ? put(heap, stores[0].slot, word_of(stores[0].target)) : 0;
+        check(kind == wanted, "the kind of the collector's store");
+        return;
+    }
+    uint64_t refusals = at_pause(heap);
+    uint32_t code = g1_heap_store_all(&heap->handle, stores, length, &stored);
+    answers(code, refusals | bit(G1_STOPPED, refusals == 0 && good < length), "several stores");
+    check(stored == (refusals == 0 ? good : 0), "how many stores were made");
+    for (uint32_t i = 0; i < good && refusals == 0; i++) {
+        put(heap, stores[i].slot, word_of(stores[i].target));
+    }
+}
+
+static void collector_stores_data(struct heap *heap) {
+    uint32_t slot = some_slot();
+    uint64_t word = below(4) == 0 ? below(9) : G1_DATA + below(9);
+    uint64_t refusals = at_pause(heap) | bit(G1_NO_SLOT, heap->is_open && !is_slot(slot)) |
+                        bit(G1_BAD_WORD, word < G1_DATA);
+    if (answers(g1_heap_store_data(&heap->handle, slot, word), refusals, "data")) {
+        put(heap, slot, word);
+    }
+}
+
+static void clear(struct heap *heap) {
+    uint32_t region = below(REGIONS + 1), detail = 7, least = ALL_SLOTS;
+    uint32_t dirty = sum(heap->dirty, ALL_CARDS);
+    uint64_t refusals = no_region(heap, region);
+    for (uint32_t slot = ALL_SLOTS; slot-- > 0 && refusals == 0;) {
+        least = entered_by(heap, slot) == region ? slot : least;
+    }
+    uint64_t still = bit(G1_STILL_PENDING, refusals == 0 && dirty > 0) |
+                     bit(G1_STILL_REFERENCED, refusals == 0 && dirty == 0 && least < ALL_SLOTS);
+    uint32_t code = g1_heap_clear(&heap->handle, region, &detail);
+    uint32_t wanted = code == G1_STILL_PENDING ? dirty : code == G1_STILL_REFERENCED ? least : 0;
+    check(detail == wanted, "the detail of a clear");
+    if (answers(code, refusals | still, "clear")) {
+        memset(heap->recorded[region], 0, ALL_CARDS);
+    }
+}
+
+static void redirect(struct heap *heap) {
+    uint32_t from = below(REGIONS + 1), to = below(REGIONS + 1), moved = 7, count = 0;
+    uint64_t refusals = no_region(heap, from) | no_region(heap, to) |
+                        bit(G1_SAME_REGION, heap->is_open && from == to);
+    uint32_t code = g1_heap_redirect(&heap->handle, from, to, &moved);
+    if (answers(code, refusals, "redirect")) {
+        refine_all(heap);
+        for (uint32_t slot = 0; slot < ALL_SLOTS; slot++) {
+            if (entered_by(heap, slot) == from) {
+                uint32_t target = to * REGION_SLOTS + target_of(heap->words[slot]) % REGION_SLOTS;
+                heap->words[slot] = word_of(target);
+                heap->recorded[to][slot / SLOTS] |= entered_by(heap, slot) == to;
+                count++;
+            }
+        }
+        memset(heap->recorded[from], 0, ALL_CARDS);
+    }
+    check(moved == count, "how many slots a redirect moves");
+}
+
+static void wipe(struct heap *heap) {
+    uint32_t region = below(REGIONS + 1);
+    if (answers(g1_heap_wipe(&heap->handle, region), no_region(heap, region), "wipe")) {
+        memset(&heap->words[region * REGION_SLOTS], 0, REGION_SLOTS * sizeof heap->words[0]);
+    }
+}
+
+static void forget(struct heap *heap) {
+    uint32_t region = below(REGIONS + 1);
+    uint64_t refusals = no_region(heap, region);
+    for (uint32_t i = 0; i < REGION_SLOTS && refusals == 0; i++) {
+        int leaves = entered_by(heap, region * REGION_SLOTS + i) != REGIONS;
+        refusals = bit(G1_STILL_REFERENCED, leaves);
+    }
+    if (answers(g1_heap_forget(&heap->handle, region), refusals, "forget")) {
+        for (uint32_t other = 0; other < REGIONS; other++) {
+            memset(&heap->recorded[other][region * CARDS], 0, CARDS);
+        }
+    }
+}
+
+static void refine_at_pause(struct heap *heap) {
+    if (answers(g1_heap_refine(&heap->handle), at_pause(heap), "refinement at a pause")) {
+        refine_all(heap);
+    }
+}
+
+static void random_call(struct heap *heap) {
+    switch (below(22)) {
+    case 0: open_heap(heap); break;
+    case 1: close_heap(heap); break;
+    case 2: resume(heap); break;
+    case 3: pause_heap(heap); break;
+    case 4: take_log(heap); break;
+    case 5: race_refine(heap); break;
+    case 6: race_store_data(heap); break;
+    case 7: ask(heap); break;
+    case 8: list(heap, 0); break;
+    case 9: list(heap, 1); break;
+    case 10: refine_at_pause(heap); break;
+    case 11: collector_stores(heap); break;
+    case 12: collector_stores_data(heap); break;
+    case 13: clear(heap); break;
+    case 14: redirect(heap); break;
+    case 15: wipe(heap); break;
+    case 16: forget(heap); break;
+    default: race_store(heap); break;
+    }
+    compare(heap);
 }
 
 // Cleans and dirties one card until the racer's log is full.
 static void full_log(void) {
+    struct g1_heap heap = {0};
+    struct g1_member racer = {0}, sweeper = {0};
+    uint32_t cards[G1_LOG], count;
+    answers(g1_heap_open(&heap, &small, 1, 1), 0, "open");
+    answers(g1_heap_resume(&heap, &racer, 1, &sweeper, 1), 0, "resume");
     for (int i = 0; i < G1_LOG; i++) {
-        answers(g1_race_refine(sweepers, 0), G1_DONE, "refine");
-        answers(g1_race_store(&racers[1], 0, 8), G1_STORED_LOGGED, "a store that is logged");
+        answers(g1_race_refine(&sweeper, 0), 0, "refinement");
+        check(g1_race_store(&racer, 0, 8) == G1_STORED_LOGGED, "a store that is logged");
     }
-    answers(g1_race_store(&racers[1], 0, 9), G1_LOG_FULL, "a store with a full log");
-    answers(g1_race_take_log(&racers[1], cards, G1_LOG, &count), G1_DONE, "a full log");
-    check(count == G1_LOG && cards[G1_LOG - 1] == 0, "a full log has 256 cards");
+    answers(g1_race_store(&racer, 0, 9), bit(G1_LOG_FULL, 1), "a store with a full log");
+    answers(g1_heap_pause(&heap, &racer, 1, &sweeper, 1), 0, "pause");
+    answers(g1_heap_resume(&heap, &racer, 1, &sweeper, 1), 0, "resume");
+    answers(g1_race_store(&racer, 0, G1_NULL), bit(G1_LOG_FULL, 1), "a log over a pause");
+    answers(g1_race_take_log(&racer, cards, G1_LOG, &count), 0, "log");
+    check(count == G1_LOG && cards[0] == 0 && cards[G1_LOG - 1] == 0, "a full log has 256 cards");
+    answers(g1_heap_pause(&heap, &racer, 1, &sweeper, 1), 0, "pause");
+    answers(g1_heap_close(&heap), 0, "close");
 }
 
-static void ends(void) {
-    uint32_t target, region[8], refined[8], refined_count;
-    answers(g1_race_close(racers, 1, sweepers, 1, &over), G1_BAD_MEMBERS, "a close with one racer of two");
-    answers(g1_race_close(sweepers, 1, sweepers, 1, &over), G1_OTHER_ROLE, "a close with a sweeper for a racer");
-    answers(g1_race_store(&racers[1], 0, 9), G1_STORED_DIRTY, "a store behind refused closes");
-    answers(close_race(), G1_DONE, "close");
-    answers(open_race(), G1_DONE, "another race");
-    answers(close_race(), G1_ALREADY_OPEN, "a close into a race that is kept");
-    answers(g1_race_core(&over, &heap, 256, 16), G1_BAD_SETTINGS, "a hot limit of 256");
-    answers(g1_race_core(&over, &heap, 4, 0), G1_BAD_SETTINGS, "a ring of no card");
-    answers(g1_race_core(&over, &heap, 4, 16), G1_DONE, "core");
-    check(over.race == NULL && heap.core != NULL, "the core has the race's place");
-    answers(g1_target(&heap, 0, &target), G1_DONE, "target");
-    check(target == 9, "slot 0 refers to the place that was stored last");
-    answers(g1_drain(&heap, 1, region, 8, &count, refined, 8, &refined_count), G1_DONE, "drain");
-    check(count == 1 && region[0] == 0, "card 0 refers into region 1");
-    answers(g1_race_resume(&heap, racers, RACERS, sweepers, 1), G1_ALREADY_OPEN, "a resume into open handles");
-    answers(close_race(), G1_DONE, "the close of the other race");
-    answers(g1_race_core(&over, &heap, 4, 16), G1_ALREADY_OPEN, "a core into an open handle");
-    check(over.race != NULL, "a refused core leaves the race");
-    answers(g1_over_close(&over), G1_DONE, "the close of what is left");
-    answers(g1_race_resume(&heap, racers, 9, sweepers, 1), G1_BAD_MEMBERS, "a resume with nine racers");
-    answers(g1_race_resume(&heap, racers, RACERS, sweepers, 1), G1_DONE, "resume");
-    check(heap.core == NULL, "the race has the core's place");
-    answers(g1_member_close(&racers[0]), G1_DONE, "the close of a member");
-    answers(close_race(), G1_NOT_OPEN, "a close without a member");
-    answers(g1_member_close(&racers[1]), G1_DONE, "the close of a member");
-    answers(g1_member_close(&sweepers[0]), G1_DONE, "the close of a member");
+static void all_codes(void) {
+    static const uint32_t codes[] = {
+        G1_DONE, G1_STOPPED, G1_NOT_OPEN, G1_ALREADY_OPEN, G1_BAD_LAYOUT, G1_NO_SLOT, G1_NO_CARD,
+        G1_NO_REGION, G1_NO_ROOM, G1_SAME_REGION, G1_STILL_PENDING, G1_STILL_REFERENCED,
+        G1_OTHER_ROLE, G1_LOG_FULL, G1_BAD_MEMBERS, G1_OTHER_RACE, G1_NOT_PAUSED, G1_NOT_RACING,
+        G1_BAD_WORD};
+    uint64_t all = 0;
+    for (size_t i = 0; i < sizeof codes / sizeof codes[0]; i++) {
+        check((seen & bit(codes[i], 1)) != 0, g1_code_text(codes[i]));
+        all |= bit(codes[i], 1);
+    }
+    check(seen == all, "no other code is returned");
 }
 
-int main(void) {
-    closed_handles();
-    openings();
-    stores();
+// Pauses a heap, if its members race, and closes it.
+static void end(struct heap *heap) {
+    if (heap->is_racing) {
+        struct g1_member *racers = heap->members, *sweepers = racers + EACH;
+        uint32_t code = g1_heap_pause(&heap->handle, racers, heap->racers, sweepers,
+                                      heap->sweepers);
+        answers(code, 0, "the last pause");
+    }
+    uint64_t refusals = bit(G1_NOT_OPEN, !heap->is_open);
+    answers(g1_heap_close(&heap->handle), refusals, "the last close");
+}
+
+int main(int number, char **words) {
+    long calls = number > 1 ? atol(words[1]) : 200000;
     full_log();
-    ends();
-    closed_handles();
+    for (long i = 0; i < calls; i++) {
+        random_call(&heaps[below(HEAPS)]);
+    }
+    for (int i = 0; i < HEAPS; i++) {
+        end(&heaps[i]);
+    }
+    all_codes();
     printf("%u passed, %u failed\n", passed, failed);
     return failed != 0;
 }

@@ -40,6 +40,7 @@ static _Atomic uint64_t words[ALL_SLOTS], marks[ALL_CARDS];
 static pthread_mutex_t lock = PTHREAD_MUTEX_INITIALIZER;
 static pthread_barrier_t together;
 static struct g1 heap;
+static struct g1_heap racing;
 static round_of *make_round;
 static uint32_t expected_kind;
 static long rounds;
@@ -171,7 +172,9 @@ int main(int number, char **arguments) {
     uint32_t barrier = place_of(arguments[1], barriers);
     make_round = rounds_of[barrier];
     expected_kind = place_of(arguments[2], kinds);
-    unsigned wrong = g1_race_open(&counts, racers, THREADS, sweepers, THREADS) != G1_DONE || g1_open(&heap, &counts, 255, 1) != G1_DONE;
+    unsigned wrong = g1_heap_open(&racing, &counts, THREADS, THREADS) != G1_DONE;
+    wrong += g1_heap_resume(&racing, racers, THREADS, sweepers, THREADS) != G1_DONE;
+    wrong += g1_open(&heap, &counts, 255, 1) != G1_DONE;
     pthread_barrier_init(&together, NULL, (unsigned)count);
     for (int i = 0; i < count; i++) {
         seats[i].racer = racers[i];

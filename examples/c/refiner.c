@@ -29,6 +29,7 @@ enum {
 static uint32_t table[ALL_SLOTS]; // what each slot refers to
 static pthread_mutex_t slot_locks[LOCKS];
 static struct g1_refiner refiner;
+static struct g1_heap heap;
 
 // The lock has these.
 static pthread_mutex_t lock = PTHREAD_MUTEX_INITIALIZER;
@@ -139,51 +140,45 @@ static unsigned missed_in(uint32_t region, const uint32_t *cards, uint32_t count
 }
 
 // Drains each region, and returns how many cards the remembered sets have.
-static unsigned compare(struct g1 *heap) {
-    static uint32_t cards[ALL_CARDS], refined[ALL_CARDS];
-    uint32_t count, refined_count, target;
+static unsigned compare(void) {
+    static uint32_t cards[ALL_CARDS];
+    uint32_t count, target;
     unsigned members = 0;
     for (uint32_t region = 0; region < REGIONS; region++) {
-        wrong += g1_drain(heap, region, cards, ALL_CARDS, &count, refined, ALL_CARDS,
-                          &refined_count) != G1_DONE;
+        wrong += g1_heap_drain(&heap, region, cards, ALL_CARDS, &count) != G1_DONE;
         wrong += missed_in(region, cards, count);
         members += count;
     }
     for (uint32_t slot = 0; slot < ALL_SLOTS; slot++) {
-        wrong += g1_target(heap, slot, &target) != G1_DONE || target != table[slot];
+        wrong += g1_heap_target(&heap, slot, &target) != G1_DONE || target != table[slot];
     }
     return members;
 }
 
-// Stores null to every slot, and clears all remembered sets.
-static void empty(struct g1 *heap) {
-    uint32_t detail;
+// Frees each region, and so empties all remembered sets.
+static void empty(void) {
     struct g1_totals totals;
-    for (uint32_t slot = 0; slot < ALL_SLOTS; slot++) {
-        table[slot] = G1_NULL;
-        wrong += g1_store(heap, slot, G1_NULL) != G1_STORED_NULL;
-    }
     for (uint32_t region = 0; region < REGIONS; region++) {
-        wrong += g1_clear(heap, region, &detail) != G1_DONE;
+        wrong += g1_heap_wipe(&heap, region) != G1_DONE;
+        wrong += g1_heap_forget(&heap, region) != G1_DONE;
     }
-    wrong += g1_status(heap, &totals) != G1_DONE || totals.recorded != 0;
+    memset(table, 255, sizeof table);
+    wrong += g1_heap_status(&heap, &totals) != G1_DONE || totals.recorded != 0;
 }
 
 // Runs races with a pause after each, and returns how many cards the drains returned.
-static unsigned run(struct g1_member *sweepers, unsigned pauses) {
-    struct g1_over over = {0};
-    struct g1 heap = {0};
+static unsigned run(unsigned pauses) {
+    struct g1_member sweepers[SWEEPERS] = {{0}};
     unsigned members = 0;
     for (unsigned i = 0; i < pauses; i++) {
+        wrong += g1_heap_resume(&heap, racers, MUTATORS, sweepers, SWEEPERS) != G1_DONE;
         g1_refiner_resume(&refiner, sweepers);
         run_mutators();
         enum g1_queued queued = i % 2 == 0 ? G1_REFINE_QUEUED : G1_DROP_QUEUED;
         wrong += g1_refiner_pause(&refiner, queued, sweepers) != G1_DONE;
-        wrong += g1_race_close(racers, MUTATORS, sweepers, SWEEPERS, &over) != G1_DONE;
-        wrong += g1_race_core(&over, &heap, 4, 64) != G1_DONE;
-        members += compare(&heap);
-        empty(&heap);
-        wrong += g1_race_resume(&heap, racers, MUTATORS, sweepers, SWEEPERS) != G1_DONE;
+        wrong += g1_heap_pause(&heap, racers, MUTATORS, sweepers, SWEEPERS) != G1_DONE;
+        members += compare();
+        empty();
     }
     return members;
 }
@@ -191,15 +186,13 @@ static unsigned run(struct g1_member *sweepers, unsigned pauses) {
 int main(int number, char **words) {
     static struct g1_log logs[LOGS];
     struct g1_counts counts = {REGIONS, CARDS, SLOTS};
-    struct g1_member sweepers[SWEEPERS] = {{0}};
-    struct g1_over over = {0};
     pthread_t mutators[MUTATORS];
     unsigned pauses = number > 1 ? (unsigned)atol(words[1]) : 20;
     memset(table, 255, sizeof table);
     for (int i = 0; i < LOCKS; i++) {
         pthread_mutex_init(&slot_locks[i], NULL);
     }
-    if (g1_race_open(&counts, racers, MUTATORS, sweepers, SWEEPERS) != G1_DONE ||
+    if (g1_heap_open(&heap, &counts, MUTATORS, SWEEPERS) != G1_DONE ||
         g1_refiner_open(&refiner, logs, LOGS, SWEEPERS) != 0) {
         return 1;
     }
@@ -208,11 +201,10 @@ int main(int number, char **words) {
             return 1;
         }
     }
-    unsigned members = run(sweepers, pauses);
-    wrong += g1_race_close(racers, MUTATORS, sweepers, SWEEPERS, &over) != G1_DONE;
-    wrong += g1_over_close(&over) != G1_DONE;
+    unsigned members = run(pauses);
     end_mutators(mutators);
     g1_refiner_close(&refiner);
+    wrong += g1_heap_close(&heap) != G1_DONE;
     printf("%u pauses, %lu logs queued, %lu dropped, %lu cards refined beside the mutators: %u "
            "cards returned, %u wrong\n",
            pauses, (unsigned long)refiner.queued, (unsigned long)refiner.dropped,

@@ -34,6 +34,7 @@ static void check(int holds, const char *what) {
 
 // A heap whose cards have one slot each, so that slot n is on card n.
 static const struct g1_counts counts = {REGIONS, CARDS, 1};
+static struct g1_heap heap;
 static struct g1_member racer, sweepers[SWEEPERS];
 static struct g1_log logs[LOGS];
 static struct g1_refiner refiner;
@@ -74,7 +75,8 @@ static void openings(void) {
     check(asked == 3 + SWEEPERS, "a lock, two conditions and a thread for each sweeper");
     check(store(0) == G1_NOT_OPEN, "a store by a closed handle");
     check(g1_refiner_hand_on(&refiner, &racer) == G1_NOT_OPEN, "a log of a closed handle");
-    check(g1_race_open(&counts, &racer, 1, sweepers, SWEEPERS) == G1_DONE, "the race");
+    check(g1_heap_open(&heap, &counts, 1, SWEEPERS) == G1_DONE, "the heap");
+    check(g1_heap_resume(&heap, &racer, 1, sweepers, SWEEPERS) == G1_DONE, "the race");
     check(g1_refiner_hand_on(&refiner, sweepers) == G1_OTHER_ROLE, "a log of a sweeper");
     hand_on_each(ALL_CARDS - 1, 1);
     check(refiner.dropped == 1 && handed_on == 1, "a paused refiner drops a log");
@@ -139,9 +141,9 @@ static void sleeping(void) {
 // A racer in a sweeper's place is found by the pause, and refines nothing.
 static void refusals(void) {
     struct g1_member racers[2] = {{0}};
-    struct g1_over over = {0};
     uint64_t before = refiner.refined;
-    check(g1_race_open(&counts, racers, 2, sweepers, 1) == G1_DONE, "another race");
+    check(g1_heap_open(&heap, &counts, 2, 1) == G1_DONE, "another heap");
+    check(g1_heap_resume(&heap, racers, 2, sweepers, 1) == G1_DONE, "its race");
     racer = racers[0];
     g1_refiner_resume(&refiner, &racers[1]);
     hand_on_each(7, 1);
@@ -150,21 +152,17 @@ static void refusals(void) {
     g1_refiner_resume(&refiner, sweepers);
     pause_refiner(G1_REFINE_QUEUED, G1_DONE);
     racers[0] = racer;
-    check(g1_race_close(racers, 2, sweepers, 1, &over) == G1_DONE, "the close of that race");
-    check(g1_over_close(&over) == G1_DONE, "the close of what is left");
+    check(g1_heap_pause(&heap, racers, 2, sweepers, 1) == G1_DONE, "the pause of that heap");
+    check(g1_heap_close(&heap) == G1_DONE, "its close");
 }
 
 // Whatever became of the logs, the drains return just the cards that were stored to.
 static void drains(void) {
-    static uint32_t cards[ALL_CARDS], refined[ALL_CARDS];
-    struct g1_over over = {0};
-    struct g1 heap = {0};
-    uint32_t count, refined_count;
-    check(g1_race_close(&racer, 1, sweepers, SWEEPERS, &over) == G1_DONE, "the close of the race");
-    check(g1_race_core(&over, &heap, 4, 16) == G1_DONE, "its core");
+    static uint32_t cards[ALL_CARDS];
+    uint32_t count;
+    check(g1_heap_pause(&heap, &racer, 1, sweepers, SWEEPERS) == G1_DONE, "the pause");
     for (uint32_t region = 0; region < REGIONS; region++) {
-        check(g1_drain(&heap, region, cards, ALL_CARDS, &count, refined, ALL_CARDS,
-                       &refined_count) == G1_DONE, "a drain");
+        check(g1_heap_drain(&heap, region, cards, ALL_CARDS, &count) == G1_DONE, "a drain");
         for (uint32_t i = 0; i < count; i++) {
             check((cards[i] / CARDS + 1) % REGIONS == region, "a card that refers into the region");
             is_stored[cards[i]]--;
@@ -173,7 +171,7 @@ static void drains(void) {
     for (uint32_t card = 0; card < ALL_CARDS; card++) {
         check(is_stored[card] == 0, "a card is returned once if it was stored to, and else never");
     }
-    check(g1_close(&heap) == G1_DONE, "the close of the core");
+    check(g1_heap_close(&heap) == G1_DONE, "the close of the heap");
 }
 
 int main(void) {

@@ -1,8 +1,9 @@
 // A small runtime over the library, with an evacuation at each pause: `runtime [PAUSES]`.
 //
-// Mutators change trees of objects beside refinement threads. The heap is a ring of regions: new
-// objects fill one after the other, and a pause evacuates the oldest. References into these are
-// roots, or on drained cards: a scan of all fields checks that, and a full trace the evacuation.
+// Its objects are in the library's words. Mutators change trees of them beside refinement threads.
+// The heap is a ring of regions: new objects fill one after the other, and a pause evacuates the
+// oldest. References into these are roots, or on drained cards: a scan of all words checks that,
+// and a full trace the evacuation.
 #define _POSIX_C_SOURCE 200809L
 #include "g1_refiner.h"
 
@@ -11,18 +12,18 @@
 #include <stdlib.h>
 #include <string.h>
 
-enum { REGIONS = 64, CARDS = 32, SLOTS = 16, REGION_SLOTS = CARDS * SLOTS };
+enum { REGIONS = 64, CARDS = 48, SLOTS = 16, REGION_SLOTS = CARDS * SLOTS };
 enum { ALL_CARDS = REGIONS * CARDS, ALL_SLOTS = ALL_CARDS * SLOTS };
 enum { MUTATORS = 4, SWEEPERS = 2, LOGS = 8 };
 enum {
     FIELDS = 2,                    // of an object
+    SIZE = 1 + FIELDS,             // of an object in words
     HEIGHT = 10,                   // of a mutator's tree
     CHANGE = 4,                    // heights of the trees that are replaced there
     SET = 8,                       // regions that a pause evacuates, and at most fills
     DUE = REGIONS - SET - MUTATORS // regions in use at a pause; each mutator may take one before it
 };
 
-#define FORWARDED UINT32_C(0x80000000) // marks a header that has the address of the copy
 #define MIX UINT64_C(6364136223846793005) // for the sum of a trace
 
 struct mutator {
@@ -32,22 +33,22 @@ struct mutator {
     uint64_t state;
 };
 
-// An object's address is the number of its first field. Fields are slots of the library, and hold
-// addresses or G1_NULL. A header has the object's value.
-static _Atomic uint32_t fields[ALL_SLOTS];
-static uint32_t headers[ALL_SLOTS / FIELDS];
+// An object's address is the number of its first slot, which has its value, a tagged integer. In a
+// pause it has the address of the object's copy instead. The fields behind it hold addresses, or
+// null (G1_NULL).
+static const uint64_t *words;
 static uint32_t roots[MUTATORS]; // the mutators' trees
 static _Atomic uint32_t taken;   // regions that were taken since the start
 static uint32_t freed;           // regions of these that pauses freed
+static struct g1_heap heap;
 static struct g1_refiner refiner;
 static struct g1_member racers[MUTATORS], sweepers[SWEEPERS]; // while no thread has them
 static pthread_barrier_t all_threads; // where a pause begins, and where it ends
 static int is_over;
 
 // Of a pause. A card has a bit for each region of the collection set whose drain returned it.
-static struct g1 heap;
 static uint32_t drained[ALL_CARDS], survivors;
-static uint32_t numbers[ALL_SLOTS / FIELDS], met[ALL_SLOTS / FIELDS], met_length, wrong;
+static uint32_t numbers[ALL_SLOTS / SIZE], met[ALL_SLOTS / SIZE], met_length, wrong;
 
 // Ends the program if a call was refused. Here that is for want of memory alone.
 static void done(uint32_t code) {
@@ -64,31 +65,36 @@ static uint32_t below(uint64_t *state, uint32_t most) {
     return (uint32_t)((*state >> 33) % most);
 }
 
-// A new object at the top of a region. Its fields are null, in the library too.
-static uint32_t allocate(uint32_t *top, uint32_t header) {
+// The read barrier, of what another mutator may store at once: one load.
+static uint64_t word_of(uint32_t slot) {
+    return __atomic_load_n(&words[slot], __ATOMIC_ACQUIRE);
+}
+
+// What a slot refers to: G1_NULL for null, and for a value.
+static uint32_t target_of(uint32_t slot) {
+    uint64_t word = word_of(slot);
+    return word == 0 || word >= G1_DATA ? G1_NULL : (uint32_t)(word - 1);
+}
+
+// Room for a new object at the top of a region. Its fields are null.
+static uint32_t allocate(uint32_t *top) {
     if (*top % REGION_SLOTS == 0) {
         *top = atomic_fetch_add(&taken, 1) % REGIONS * REGION_SLOTS;
     }
-    headers[*top / FIELDS] = header;
-    *top += FIELDS;
-    return *top - FIELDS;
+    *top += SIZE;
+    return *top - SIZE;
 }
 
-// The write barrier. Another mutator may store to the field at once, so this one tells the library
-// again until it has told it what memory holds. A store with numbers of the heap is never refused.
+// The write barrier, which is the store. With numbers of the heap it is never refused.
 static void store(struct mutator *self, uint32_t slot, uint32_t target) {
-    uint32_t told;
-    atomic_store(&fields[slot], target);
-    do {
-        told = target;
-        g1_refiner_store(&refiner, &self->racer, slot, told);
-        target = atomic_load(&fields[slot]);
-    } while (target != told);
+    g1_refiner_store(&refiner, &self->racer, slot, target);
 }
 
 static uint32_t grow(struct mutator *self, uint32_t height) {
-    uint32_t object = allocate(&self->top, below(&self->state, FORWARDED));
-    for (uint32_t slot = object; height > 0 && slot < object + FIELDS; slot++) {
+    uint32_t object = allocate(&self->top);
+    uint64_t old;
+    done(g1_race_store_data(&self->racer, object, G1_DATA + below(&self->state, 1000), &old));
+    for (uint32_t slot = object + 1; height > 0 && slot < object + SIZE; slot++) {
         store(self, slot, grow(self, height - 1));
     }
     return object;
@@ -96,11 +102,11 @@ static uint32_t grow(struct mutator *self, uint32_t height) {
 
 // A field of a mutator's tree, at random, that refers to a tree of this height.
 static uint32_t pick(struct mutator *self, size_t owner, uint32_t height) {
-    uint32_t slot = roots[owner] + below(&self->state, FIELDS);
+    uint32_t object = roots[owner];
     for (uint32_t level = HEIGHT - 1; level > height; level--) {
-        slot = fields[slot] + below(&self->state, FIELDS);
+        object = target_of(object + 1 + below(&self->state, FIELDS));
     }
-    return slot;
+    return object + 1 + below(&self->state, FIELDS);
 }
 
 // Replaces a tree in the mutator's own by a new one, or by one that it then shares with another
@@ -108,7 +114,7 @@ static uint32_t pick(struct mutator *self, size_t owner, uint32_t height) {
 static void change(struct mutator *self) {
     uint32_t height = below(&self->state, CHANGE), way = below(&self->state, 4);
     uint32_t from = pick(self, below(&self->state, MUTATORS), height);
-    uint32_t target = way < 2 ? grow(self, height) : fields[from];
+    uint32_t target = way < 2 ? grow(self, height) : target_of(from);
     store(self, pick(self, self->number, height), way == 3 && height == 0 ? G1_NULL : target);
 }
 
@@ -144,36 +150,35 @@ static uint32_t bit_of(uint32_t place) {
 }
 
 static void drain(uint32_t region) {
-    static uint32_t cards[ALL_CARDS], refined[ALL_CARDS];
-    uint32_t count, refined_count;
-    done(g1_drain(&heap, region, cards, ALL_CARDS, &count, refined, ALL_CARDS, &refined_count));
+    static uint32_t cards[ALL_CARDS], count;
+    done(g1_heap_drain(&heap, region, cards, ALL_CARDS, &count));
     for (uint32_t i = 0; i < count; i++) {
         drained[cards[i]] |= bit_of(region * REGION_SLOTS);
     }
 }
 
-static void report(uint32_t slot, uint32_t target) {
-    fields[slot] = target;
-    g1_store(&heap, slot, target);
+static void set(uint32_t slot, uint32_t target) {
+    uint32_t kind;
+    done(g1_heap_store(&heap, slot, target, &kind));
 }
 
 // The address of an object's copy. The object is copied when it is first met.
 static uint32_t evacuate(uint32_t object) {
-    uint32_t *header = &headers[object / FIELDS];
-    if ((*header & FORWARDED) == 0) {
-        uint32_t copy = allocate(&survivors, *header);
-        for (uint32_t field = 0; field < FIELDS; field++) {
-            report(copy + field, fields[object + field]);
+    if (target_of(object) == G1_NULL) {
+        uint32_t copy = allocate(&survivors);
+        done(g1_heap_store_data(&heap, copy, word_of(object)));
+        for (uint32_t field = 1; field < SIZE; field++) {
+            set(copy + field, target_of(object + field));
         }
-        *header = FORWARDED | copy;
+        set(object, copy);
     }
-    return *header & ~FORWARDED;
+    return target_of(object);
 }
 
 static void scan(uint32_t first, uint32_t length) {
     for (uint32_t slot = first; slot < first + length; slot++) {
-        if (bit_of(fields[slot]) != 0) {
-            report(slot, evacuate(fields[slot]));
+        if (bit_of(target_of(slot)) != 0) {
+            set(slot, evacuate(target_of(slot)));
         }
     }
 }
@@ -190,18 +195,18 @@ static void evacuate_set(void) {
             scan(card * SLOTS, SLOTS);
         }
     }
-    for (; copy != survivors % ALL_SLOTS; copy = (copy + FIELDS) % ALL_SLOTS) {
-        scan(copy, FIELDS);
+    for (; copy != survivors % ALL_SLOTS; copy = (copy + SIZE) % ALL_SLOTS) {
+        scan(copy, SIZE);
     }
 }
 
 // The number of an object in the order in which a trace meets them, from 1 on, and 0 of null.
 static uint32_t number_of(uint32_t object) {
-    if (object != G1_NULL && numbers[object / FIELDS] == 0) {
+    if (object != G1_NULL && numbers[object / SIZE] == 0) {
         met[met_length++] = object;
-        numbers[object / FIELDS] = met_length;
+        numbers[object / SIZE] = met_length;
     }
-    return object == G1_NULL ? 0 : numbers[object / FIELDS];
+    return object == G1_NULL ? 0 : numbers[object / SIZE];
 }
 
 // A full trace from the roots: a sum over the values, and over what refers to what.
@@ -212,85 +217,80 @@ static uint64_t trace(void) {
         sum = sum * MIX + number_of(roots[i]);
     }
     for (uint32_t i = 0; i < met_length; i++) {
-        sum = sum * MIX + headers[met[i] / FIELDS];
-        for (uint32_t slot = met[i]; slot < met[i] + FIELDS; slot++) {
-            sum = sum * MIX + number_of(fields[slot]);
+        sum = sum * MIX + word_of(met[i]);
+        for (uint32_t slot = met[i] + 1; slot < met[i] + SIZE; slot++) {
+            sum = sum * MIX + number_of(target_of(slot));
         }
     }
     return sum;
 }
 
-// Counts fields that the library holds otherwise, or that a drain missed.
-static void scan_all(void) {
-    for (uint32_t slot = 0; slot < ALL_SLOTS; slot++) {
-        uint32_t target;
-        done(g1_target(&heap, slot, &target));
-        wrong += target != fields[slot];
-        wrong += (bit_of(target) & ~bit_of(slot) & ~drained[slot / SLOTS]) != 0;
-    }
-}
-
 // Evacuates the set, and frees it.
 static void collect(void) {
-    uint32_t detail, first = freed % REGIONS;
+    uint32_t detail;
     memset(drained, 0, sizeof drained);
-    for (uint32_t i = 0; i < SET; i++) {
-        drain((first + i) % REGIONS);
+    for (uint32_t i = freed; i < freed + SET; i++) {
+        drain(i % REGIONS);
     }
-    scan_all();
+    for (uint32_t slot = 0; slot < ALL_SLOTS; slot++) { // has a drain missed a reference?
+        wrong += (bit_of(target_of(slot)) & ~bit_of(slot) & ~drained[slot / SLOTS]) != 0;
+    }
     uint64_t sum = trace();
     evacuate_set();
-    for (uint32_t i = 0; i < SET * REGION_SLOTS; i++) { // what a freed slot holds bars clears
-        report((first * REGION_SLOTS + i) % ALL_SLOTS, G1_NULL);
-    }
-    scan_all();
     wrong += trace() != sum;
-    for (uint32_t i = 0; i < SET && wrong == 0; i++) {
-        drain((first + i) % REGIONS); // nothing may be pending at a clear
-        done(g1_clear(&heap, (first + i) % REGIONS, &detail));
+    for (uint32_t i = freed; i < freed + SET; i++) { // what a freed slot holds bars clears
+        done(g1_heap_wipe(&heap, i % REGIONS));
+        done(g1_heap_forget(&heap, i % REGIONS));
+    }
+    done(g1_heap_refine(&heap)); // nothing may be pending at a clear
+    for (uint32_t i = freed; i < freed + SET && wrong == 0; i++) {
+        done(g1_heap_clear(&heap, i % REGIONS, &detail));
     }
     freed += SET;
 }
 
-// Runs this many races, at least one, each up to its pause.
-static void run(unsigned long pauses) {
-    struct g1_over over = {0};
-    pthread_barrier_wait(&all_threads);
-    while (!is_over) {
-        g1_refiner_resume(&refiner, sweepers);
-        pthread_barrier_wait(&all_threads);
-        pthread_barrier_wait(&all_threads);
-        done(g1_refiner_pause(&refiner, G1_REFINE_QUEUED, sweepers));
-        done(g1_race_close(racers, MUTATORS, sweepers, SWEEPERS, &over));
-        done(g1_race_core(&over, &heap, 4, 64));
-        collect();
-        done(g1_race_resume(&heap, racers, MUTATORS, sweepers, SWEEPERS));
-        is_over = pauses-- <= 1 || wrong != 0;
-    }
-    pthread_barrier_wait(&all_threads);
-    done(g1_race_close(racers, MUTATORS, sweepers, SWEEPERS, &over));
-    done(g1_over_close(&over));
+// Lets the members race, from a pause on.
+static void resume(void) {
+    done(g1_heap_resume(&heap, racers, MUTATORS, sweepers, SWEEPERS));
+    g1_refiner_resume(&refiner, sweepers);
 }
 
-int main(int number, char **words) {
+// Makes this many pauses, at least one, each when all mutators have stopped.
+static void run(unsigned long pauses) {
+    while (!is_over) {
+        pthread_barrier_wait(&all_threads);
+        done(g1_refiner_pause(&refiner, G1_REFINE_QUEUED, sweepers));
+        done(g1_heap_pause(&heap, racers, MUTATORS, sweepers, SWEEPERS));
+        collect();
+        is_over = pauses-- <= 1 || wrong != 0;
+        if (!is_over) {
+            resume();
+        }
+        pthread_barrier_wait(&all_threads);
+    }
+}
+
+int main(int number, char **arguments) {
     static struct g1_log logs[LOGS];
     struct g1_counts counts = {REGIONS, CARDS, SLOTS};
     pthread_t threads[MUTATORS];
-    memset(fields, 255, sizeof fields); // G1_NULL
-    done(g1_race_open(&counts, racers, MUTATORS, sweepers, SWEEPERS));
-    int failed = g1_refiner_open(&refiner, logs, LOGS, SWEEPERS) != 0 ||
-                 pthread_barrier_init(&all_threads, NULL, MUTATORS + 1) != 0;
-    for (uintptr_t i = 0; i < MUTATORS && !failed; i++) {
-        failed = pthread_create(&threads[i], NULL, mutate, (void *)i);
-    }
-    if (failed) {
+    done(g1_heap_open(&heap, &counts, MUTATORS, SWEEPERS));
+    done(g1_heap_words(&heap, &words));
+    if (g1_refiner_open(&refiner, logs, LOGS, SWEEPERS) != 0 ||
+        pthread_barrier_init(&all_threads, NULL, MUTATORS + 1) != 0) {
         return 1;
     }
-    run(number > 1 ? strtoul(words[1], NULL, 10) : 100);
+    resume();
+    for (uintptr_t i = 0; i < MUTATORS; i++) {
+        int error = pthread_create(&threads[i], NULL, mutate, (void *)i);
+        done(error == 0 ? G1_DONE : G1_NO_MEMORY);
+    }
+    run(number > 1 ? strtoul(arguments[1], NULL, 10) : 100);
     for (int i = 0; i < MUTATORS; i++) {
         pthread_join(threads[i], NULL);
     }
     g1_refiner_close(&refiner);
+    done(g1_heap_close(&heap));
     printf("%u pauses, %lu cards refined in races, %u objects live at the end, %u wrong\n",
            freed / SET, (unsigned long)refiner.refined, met_length, wrong);
     int holds = wrong == 0 && freed > REGIONS && refiner.refined > 0;

@@ -28,8 +28,9 @@ enum {
 static _Atomic uint32_t memory[ALL_SLOTS];
 
 static atomic_int is_over;
+static struct g1_heap heap;
 
-// A member of a race in a thread: its handle is here only while the thread does not run.
+// A member in a thread: its handle is here only while the thread does not run.
 struct seat {
     struct g1_member member;
     uint64_t state;
@@ -111,20 +112,21 @@ static uint32_t region_of(uint32_t slot) {
 }
 
 // How many slots refer to something else in the library than in memory.
-static unsigned differing(struct g1 *heap) {
+static unsigned differing(void) {
     unsigned wrong = 0;
     for (uint32_t slot = 0; slot < ALL_SLOTS; slot++) {
         uint32_t target;
-        wrong += g1_target(heap, slot, &target) != G1_DONE || target != atomic_load(&memory[slot]);
+        wrong += g1_heap_target(&heap, slot, &target) != G1_DONE;
+        wrong += target != atomic_load(&memory[slot]);
     }
     return wrong;
 }
 
 // How many references of memory into a region its drain misses.
-static unsigned missed(struct g1 *heap, uint32_t region) {
-    uint32_t cards[ALL_CARDS], refined[ALL_CARDS], count, refined_count;
+static unsigned missed(uint32_t region) {
+    uint32_t cards[ALL_CARDS], count;
     unsigned char is_member[ALL_CARDS] = {0};
-    unsigned wrong = g1_drain(heap, region, cards, ALL_CARDS, &count, refined, ALL_CARDS, &refined_count) != G1_DONE;
+    unsigned wrong = g1_heap_drain(&heap, region, cards, ALL_CARDS, &count) != G1_DONE;
     for (uint32_t i = 0; i < count; i++) {
         is_member[cards[i]] = 1;
     }
@@ -136,52 +138,46 @@ static unsigned missed(struct g1 *heap, uint32_t region) {
     return wrong;
 }
 
-// Makes a core of the race, compares it with memory, and makes a race of it again.
-static unsigned pause_race(struct seat *racers, struct seat *sweeper) {
-    struct g1_member racing[RACERS];
-    struct g1_over over = {0};
-    struct g1 heap = {0};
-    unsigned wrong = 0;
+// A race, and a pause that compares the library with memory.
+static unsigned cycle(struct seat *racers, struct seat *sweeper) {
+    struct g1_member racing[RACERS] = {{0}};
+    unsigned wrong = g1_heap_resume(&heap, racing, RACERS, &sweeper->member, 1) != G1_DONE;
+    for (int i = 0; i < RACERS; i++) {
+        racers[i].member = racing[i];
+    }
+    run(racers, sweeper);
     for (int i = 0; i < RACERS; i++) {
         racing[i] = racers[i].member;
     }
-    wrong += g1_race_close(racing, RACERS, &sweeper->member, 1, &over) != G1_DONE;
-    wrong += g1_race_core(&over, &heap, 4, 64) != G1_DONE;
-    wrong += differing(&heap);
+    wrong += g1_heap_pause(&heap, racing, RACERS, &sweeper->member, 1) != G1_DONE;
+    wrong += differing();
     for (uint32_t region = 0; region < REGIONS; region++) {
-        wrong += missed(&heap, region);
-    }
-    wrong += g1_race_resume(&heap, racing, RACERS, &sweeper->member, 1) != G1_DONE;
-    for (int i = 0; i < RACERS; i++) {
-        racers[i].member = racing[i];
+        wrong += missed(region);
     }
     return wrong;
 }
 
 int main(int number, char **words) {
     static struct seat racers[RACERS], sweeper;
-    struct g1_member racing[RACERS] = {{0}};
     struct g1_counts counts = {REGIONS, CARDS, SLOTS};
     unsigned long stores = 0, repeats = 0;
     long cycles = number > 1 ? atol(words[1]) : 100;
-    unsigned wrong = g1_race_open(&counts, racing, RACERS, &sweeper.member, 1) != G1_DONE;
+    unsigned wrong = g1_heap_open(&heap, &counts, RACERS, 1) != G1_DONE;
     for (uint32_t slot = 0; slot < ALL_SLOTS; slot++) {
         atomic_init(&memory[slot], G1_NULL);
     }
     for (unsigned i = 0; i < RACERS; i++) {
-        racers[i].member = racing[i];
         racers[i].state = 88172645463325252u + i * 1000003u;
     }
-    for (long cycle = 0; cycle < cycles; cycle++) {
-        run(racers, &sweeper);
-        wrong += pause_race(racers, &sweeper);
+    for (long i = 0; i < cycles; i++) {
+        wrong += cycle(racers, &sweeper);
     }
     for (unsigned i = 0; i < RACERS; i++) {
         stores += racers[i].stores;
         repeats += racers[i].repeats;
-        wrong += racers[i].wrong + (g1_member_close(&racers[i].member) != G1_DONE);
+        wrong += racers[i].wrong;
     }
-    wrong += sweeper.wrong + (g1_member_close(&sweeper.member) != G1_DONE);
+    wrong += sweeper.wrong + (g1_heap_close(&heap) != G1_DONE);
     printf("%ld cycles of %d threads: %lu stores to %d slots, %lu told again, %u wrong\n", cycles, RACERS, stores, CONTESTED, repeats, wrong);
     int holds = wrong == 0 && stores > 0;
     printf("%d passed, %d failed\n", holds, !holds);

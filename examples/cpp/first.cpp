@@ -10,7 +10,7 @@ using Cards = std::array<std::uint32_t, 8>;
 constexpr g1_counts counts{4, 2, 4};
 
 int main() {
-    garbage_first::Heap heap;
+    garbage_first::Core heap;
     g1_code code = heap.open(counts, 4, 1024);
     if (code != G1_DONE) {
         std::cerr << g1_code_text(code) << '\n';

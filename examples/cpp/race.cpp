@@ -3,14 +3,15 @@
 #include <g1_refiner.h>
 
 #include <array>
+#include <cstddef>
 #include <cstdint>
 #include <iostream>
 #include <thread>
 #include <type_traits>
 #include <vector>
 
+using garbage_first::Core;
 using garbage_first::Heap;
-using garbage_first::Over;
 using garbage_first::Racer;
 using garbage_first::Sweeper;
 
@@ -19,7 +20,7 @@ constexpr bool is_moved_alone = std::is_nothrow_move_constructible_v<Owner> &&
                                 std::is_nothrow_move_assignable_v<Owner> &&
                                 !std::is_copy_constructible_v<Owner> &&
                                 !std::is_copy_assignable_v<Owner>;
-static_assert(is_moved_alone<Heap> && is_moved_alone<Over>);
+static_assert(is_moved_alone<Core> && is_moved_alone<Heap>);
 static_assert(is_moved_alone<Racer> && is_moved_alone<Sweeper>);
 static_assert(!std::is_assignable_v<Racer &, Sweeper>);
 
@@ -38,20 +39,20 @@ static void check(bool holds, const char *what) {
 }
 
 // A core by itself: what is moved away is closed, and what is closed may be opened again.
-static void heaps() {
-    Heap heap;
+static void cores() {
+    Core heap;
     bool pending = true;
     check(heap.is_pending(0, pending) == G1_NOT_OPEN && !pending, "a closed handle");
     check(heap.open(counts, 4, 16) == G1_DONE, "open");
     check(heap.open(counts, 4, 16) == G1_ALREADY_OPEN, "open again");
     check(heap.store(0, 64) == G1_STORED_LOGGED, "a store across regions");
-    Heap other(std::move(heap));
+    Core other(std::move(heap));
     check(heap.store(0, 64) == G1_NOT_OPEN, "a handle that was moved away");
     check(other.is_pending(0, pending) == G1_DONE && pending, "its card is pending elsewhere");
     check(other.is_pending(1, pending) == G1_DONE && !pending, "a clean card");
     check(other.is_pending(all_cards, pending) == G1_NO_CARD && !pending, "no card of the heap");
     heap = std::move(other);
-    Heap &same = heap;
+    Core &same = heap;
     heap = std::move(same);
     std::uint32_t target = 0, count = 0, detail = 0;
     check(heap.target(0, target) == G1_DONE && target == 64, "what a slot refers to");
@@ -70,9 +71,9 @@ static void heaps() {
     check(heap.status(totals) == G1_DONE && totals.recorded == 1, "one pair is recorded");
     check(heap.redirect(1, 2, target, all, count) == G1_DONE && target == 1, "a redirect");
     check(heap.clear(1, detail) == G1_DONE, "a clear");
-    heap.close();
+    check(heap.close() == G1_DONE && heap.close() == G1_NOT_OPEN, "a close");
     check(heap.open(counts, 4, 16) == G1_DONE, "open after a close");
-    Heap later;
+    Core later;
     check(later.open(counts, 4, 16) == G1_DONE, "another heap");
     heap = std::move(later);
 }
@@ -112,36 +113,65 @@ static void refine(std::vector<Racer> &racers, std::vector<Sweeper> &sweepers) {
     g1_refiner_close(&refiner);
 }
 
+// A pause, with each call of the collector's.
+static void collect(Heap &heap) {
+    Cards cards{};
+    std::vector<std::uint32_t> one(1);
+    std::uint32_t count = 0, moved = 0, detail = 0;
+    std::size_t stored = 0;
+    std::uint64_t word = 0;
+    bool pending = false;
+    g1_kind kind = G1_STORED_NULL;
+    g1_totals totals;
+    check(heap.status(totals) == G1_DONE && totals.pending == all_cards / 2, "dirty cards");
+    check(heap.refine() == G1_DONE, "a refinement of all");
+    check(heap.is_pending(1, pending) == G1_DONE && !pending, "a clean card");
+    for (std::uint32_t region = 0; region < counts.regions; region++) {
+        check(heap.drain(region, one, count) == G1_NO_ROOM && count == 64, "an array of one");
+        check(heap.drain(region, cards, count) == G1_DONE && count == 64, "a drain");
+        check(heap.members(region, cards, count) == G1_DONE && count == 64, "the members");
+    }
+    const std::array<g1_reference, 2> stores{{{1, G1_NULL}, {all_cards, 0}}};
+    check(heap.store_all(stores, stored) == G1_STOPPED && stored == 1, "one store of two");
+    check(heap.store_data(2, G1_DATA - 1) == G1_BAD_WORD, "no data");
+    check(heap.store_data(2, G1_DATA) == G1_DONE, "data");
+    check(heap.word(2, word) == G1_DONE && word == G1_DATA, "its word");
+    check(heap.redirect(1, 2, moved) == G1_DONE && moved == 62, "a redirect");
+    check(heap.target(3, detail) == G1_DONE && detail == 131, "a reference that was moved");
+    check(heap.clear(1, detail) == G1_DONE, "a clear");
+    check(heap.wipe(0) == G1_DONE && heap.forget(0) == G1_DONE, "a region that is freed");
+    check(heap.store(0, 64, kind) == G1_DONE && kind == G1_STORED_LOGGED, "a store");
+}
+
 static void races() {
-    std::vector<Racer> racers(2), many(G1_RACERS + 1);
-    std::vector<Sweeper> sweepers(2), none, crowd(G1_SWEEPERS + 1);
+    std::vector<Racer> racers(2), many(G1_RACERS + 1), none;
+    std::vector<Sweeper> sweepers(2), crowd(G1_SWEEPERS + 1);
     Heap heap;
-    Over over;
-    check(race_open(counts, many, sweepers) == G1_BAD_MEMBERS, "too many racers");
-    check(race_open(counts, racers, none) == G1_BAD_MEMBERS, "no sweeper");
-    check(race_open(counts, racers, sweepers) == G1_DONE, "open");
+    check(heap.resume(racers, sweepers) == G1_NOT_OPEN, "a closed heap");
+    check(heap.open(counts, 0, 2) == G1_BAD_MEMBERS, "no racer");
+    check(heap.open(counts, 2, 2) == G1_DONE, "open");
+    check(heap.resume(many, sweepers) == G1_BAD_MEMBERS, "too many racers");
+    check(heap.resume(none, sweepers) == G1_BAD_MEMBERS, "no racer");
+    check(heap.resume(racers, sweepers) == G1_DONE, "resume");
     run(racers, sweepers);
     refine(racers, sweepers);
-    check(race_close(racers, crowd, over) == G1_BAD_MEMBERS, "too many sweepers");
-    check(race_close(racers, sweepers, over) == G1_DONE, "close");
-    check(racers[0].store(0, 1) == G1_NOT_OPEN, "a racer of a race that is over");
-    check(over.core(heap, 4, 16) == G1_DONE, "its core");
-    Cards cards, refined;
-    std::uint32_t count = 0, refined_count = 0, all = 0;
-    for (std::uint32_t region = 0; region < counts.regions; region++) {
-        check(heap.drain(region, cards, count, refined, refined_count) == G1_DONE, "a drain");
-        all += refined_count;
-        check(count == 64, "each card of the region before it");
-    }
-    check(all == all_cards / 2, "the drains refine the other half");
-    check(race_resume(heap, racers, sweepers) == G1_DONE, "resume");
-    check(racers[1].store(0, 64) == G1_STORED_LOGGED, "a store in the next race");
-    racers.pop_back();
-    check(race_close(racers, sweepers, over) == G1_BAD_MEMBERS, "a close without a member");
+    check(heap.close() == G1_NOT_PAUSED, "a close while its members race");
+    check(heap.pause(racers, crowd) == G1_BAD_MEMBERS, "too many sweepers");
+    check(heap.pause(racers, sweepers) == G1_DONE, "pause");
+    check(racers[0].store(0, 1) == G1_NOT_OPEN, "a racer at a pause");
+    collect(heap);
+    check(heap.resume(racers, sweepers) == G1_DONE, "resume again");
+    std::uint64_t old = 0;
+    check(racers[1].store_data(0, G1_DATA, old) == G1_DONE && old == 65, "data over a reference");
+    const std::uint64_t *words = nullptr;
+    check(heap.words(words) == G1_DONE && words[0] == G1_DATA, "the word of a slot");
+    Heap moved(std::move(heap));
+    check(heap.pause(racers, sweepers) == G1_NOT_OPEN, "a heap that was moved away");
+    check(moved.pause(racers, sweepers) == G1_DONE, "its pause");
 }
 
 int main() {
-    heaps();
+    cores();
     races();
     std::cout << passed << " passed, " << failed << " failed\n";
     return failed != 0;

@@ -2,10 +2,10 @@
 //!
 //! The threads outlive the pauses: for each race a thread gets its member, and before the pause it
 //! returns it. A mutator hands a full log on through a channel; a refinement thread refines what
-//! comes. At the pause the race becomes a heap, the drain of each region is compared with a scan of
-//! all slots, one region is redirected into the next, and the heap becomes a race again.
-use ninkoda::race::{Race, Racer, Sweeper};
-use ninkoda::{Card, Counts, Drained, Heap, Redirected, Refusal, Slot};
+//! comes. At the pause the drain of each region is compared with a scan of all slots, and one
+//! region is redirected into the next.
+use ninkoda::race::{Paused, Racer, Sweeper};
+use ninkoda::{Card, Counts, Refusal, Slot};
 use std::collections::BTreeSet;
 use std::error::Error;
 use std::sync::mpsc::{channel, Receiver, Sender};
@@ -122,27 +122,26 @@ impl Threads {
         }
     }
 
-    /// Runs a race to the end of its stores, and takes its members back.
-    fn run(&self, race: &mut Race) -> Result<(), Box<dyn Error>> {
-        for refiner in &self.refiners {
-            let sweeper = race.take_sweeper().ok_or("no sweeper is left")?;
+    /// Runs a race to the end of its stores, from one pause to the next.
+    fn run(&self, heap: Paused) -> Result<Paused, Box<dyn Error>> {
+        let (heap, mut racers, mut sweepers) = heap.resume();
+        for (refiner, sweeper) in self.refiners.iter().zip(sweepers.drain(..)) {
             refiner.give.send(sweeper)?;
         }
-        for mutator in &self.mutators {
-            let racer = race.take_racer().ok_or("no racer is left")?;
+        for (mutator, racer) in self.mutators.iter().zip(racers.drain(..)) {
             mutator.give.send(racer)?;
         }
         for mutator in &self.mutators {
-            race.return_racer(mutator.back.recv()?)?;
+            racers.push(mutator.back.recv()?);
         }
         // The queue has all that the mutators handed on, and behind it a word for each thread.
         for _ in &self.refiners {
             self.queue.send(Work::Pause)?;
         }
         for refiner in &self.refiners {
-            race.return_sweeper(refiner.back.recv()?)?;
+            sweepers.push(refiner.back.recv()?);
         }
-        Ok(())
+        Ok(heap.pause(racers, sweepers)?)
     }
 
     fn end(self) -> Result<(), Refusal> {
@@ -152,7 +151,7 @@ impl Threads {
 }
 
 /// The cards outside a region that refer into it, by a scan of all slots.
-fn scan(heap: &mut Heap, slots: &[Slot], region: u32) -> Result<BTreeSet<u32>, Refusal> {
+fn scan(heap: &mut Paused, slots: &[Slot], region: u32) -> Result<BTreeSet<u32>, Refusal> {
     let (span, mut cards) = (COUNTS.cards * COUNTS.slots, BTreeSet::new());
     for slot in slots {
         let target = heap.target(*slot)?;
@@ -166,13 +165,11 @@ fn scan(heap: &mut Heap, slots: &[Slot], region: u32) -> Result<BTreeSet<u32>, R
 }
 
 /// Drains each region. Returns how many cards there were, and how many were missed or wrong.
-fn drains(heap: &mut Heap, slots: &[Slot]) -> Result<(usize, usize), Box<dyn Error>> {
+fn drains(heap: &mut Paused, slots: &[Slot]) -> Result<(usize, usize), Box<dyn Error>> {
     let (mut all, mut wrong) = (0, 0);
     for number in 0..COUNTS.regions {
         let region = heap.region(number).ok_or("no such region")?;
-        let Drained::Cards { members, .. } = heap.drain(region)? else {
-            return Err("a drain is short".into());
-        };
+        let members = heap.drain(region)?;
         let members: BTreeSet<u32> = members.iter().map(|card| card.number()).collect();
         all += members.len();
         wrong += scan(heap, slots, number)?.difference(&members).count();
@@ -185,13 +182,10 @@ fn drains(heap: &mut Heap, slots: &[Slot]) -> Result<(usize, usize), Box<dyn Err
 }
 
 /// Moves what refers into one region into the next one.
-fn redirect(heap: &mut Heap, from: u32) -> Result<u32, Box<dyn Error>> {
+fn redirect(heap: &mut Paused, from: u32) -> Result<u32, Box<dyn Error>> {
     let region = |number| heap.region(number % COUNTS.regions).ok_or("no such region");
     let (from, to) = (region(from)?, region(from + 1)?);
-    match heap.redirect(from, to)? {
-        Redirected::Slots { moved, .. } => Ok(moved),
-        Redirected::Short { .. } => Err("a redirect is short".into()),
-    }
+    Ok(heap.redirect(from, to)?)
 }
 
 fn main() -> Result<(), Box<dyn Error>> {
@@ -199,17 +193,15 @@ fn main() -> Result<(), Box<dyn Error>> {
     let stores = words.next().unwrap_or(Ok(20_000))?;
     let cycles = words.next().unwrap_or(Ok(10))?;
     let (mut all, mut wrong, mut moved) = (0, 0, 0);
-    let mut race = Race::open(COUNTS, MUTATORS, REFINERS)?;
-    let slots: Arc<Vec<Slot>> = Arc::new((0..SLOTS).filter_map(|n| race.slot(n)).collect());
+    let mut heap = Paused::open(COUNTS, MUTATORS, REFINERS)?;
+    let slots: Arc<Vec<Slot>> = Arc::new((0..SLOTS).filter_map(|n| heap.slot(n)).collect());
     let threads = Threads::start(&slots, stores);
     for cycle in 0..cycles {
-        threads.run(&mut race)?;
-        let mut heap = race.close()?.into_heap(4, 64)?;
+        heap = threads.run(heap)?;
         let found = drains(&mut heap, &slots)?;
         all += found.0;
         wrong += found.1;
         moved += redirect(&mut heap, cycle % COUNTS.regions)?;
-        race = Race::resume(heap, MUTATORS, REFINERS)?;
     }
     threads.end()?;
     println!(

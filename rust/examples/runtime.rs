@@ -1,10 +1,11 @@
 //! A small runtime over the crate, with an evacuation at each pause: `runtime [PAUSES]`.
 //!
-//! Mutators change trees of objects beside refinement threads. The heap is a ring of regions: new
-//! objects fill one after the other, and a pause evacuates the oldest. References into these are
-//! roots, or on drained cards: a scan of all fields checks that, and a full trace the evacuation.
-use ninkoda::race::{Race, Racer, Sweeper};
-use ninkoda::{Card, Cleared, Counts, Drained, Heap, Refusal};
+//! Mutators change trees of objects beside refinement threads. The fields of objects are the heap's
+//! words. The heap is a ring of regions: new objects fill one after the other, and a pause
+//! evacuates the oldest. References into these are roots, or on drained cards: a scan of all fields
+//! checks that, and a full trace the evacuation.
+use ninkoda::race::{Paused, Racer, Sweeper, Word};
+use ninkoda::{Card, Cleared, Counts, Refusal};
 use std::error::Error;
 use std::sync::atomic::{AtomicU32, AtomicUsize, Ordering::SeqCst};
 use std::sync::mpsc::{channel, Receiver, Sender};
@@ -37,10 +38,9 @@ const NULL: u32 = u32::MAX;
 /// Marks a header that has the address of the object's copy.
 const FORWARDED: u32 = 1 << 31;
 
-/// What all threads share. An object's address is the number of its first field. Fields are slots
-/// of the library, and hold addresses or [`NULL`]. A header has the object's value.
+/// What all threads share. An object's address is the number of its first field, and [`NULL`] is
+/// none. A header has the object's value.
 struct Runtime {
-    fields: Vec<AtomicU32>,
     headers: Vec<AtomicU32>,
     /// The mutators' trees.
     roots: [AtomicU32; MUTATORS],
@@ -62,7 +62,6 @@ enum Work {
 impl Runtime {
     fn new(queue: Receiver<Work>) -> Runtime {
         Runtime {
-            fields: (0..SLOTS).map(|_| AtomicU32::new(NULL)).collect(),
             headers: (0..SLOTS / FIELDS).map(|_| AtomicU32::new(0)).collect(),
             roots: Default::default(),
             taken: AtomicU32::new(0),
@@ -72,19 +71,11 @@ impl Runtime {
         }
     }
 
-    fn field(&self, slot: u32) -> u32 {
-        self.fields[slot as usize].load(SeqCst)
-    }
-
-    fn set_field(&self, slot: u32, target: u32) {
-        self.fields[slot as usize].store(target, SeqCst);
-    }
-
     fn header(&self, object: u32) -> &AtomicU32 {
         &self.headers[(object / FIELDS) as usize]
     }
 
-    /// A new object at the top of a region. Its fields are null, in the library too.
+    /// A new object at the top of a region. Its fields are null.
     fn allocate(&self, top: &mut u32, header: u32) -> u32 {
         if *top % REGION == 0 {
             *top = self.taken.fetch_add(1, SeqCst) % COUNTS.regions * REGION;
@@ -125,6 +116,15 @@ impl Runtime {
     }
 }
 
+/// The read barrier: what a field refers to, which another mutator may store to at once.
+fn field(racer: &Racer, slot: u32) -> u32 {
+    let slot = racer.slot(slot).expect("a slot of the heap");
+    match racer.word(slot) {
+        Ok(Word::Reference(place)) => place.number(),
+        _ => NULL,
+    }
+}
+
 /// Numbers that look random.
 struct Numbers(u64);
 
@@ -153,23 +153,8 @@ impl Mutator<'_> {
         Ok(())
     }
 
-    /// The write barrier. Another mutator may store to the field at once, so this one tells the
-    /// library again until it has told it what memory holds.
+    /// The write barrier, which is the store.
     fn store(&self, racer: &mut Racer, slot: u32, target: u32) -> Result<(), Refusal> {
-        self.runtime.set_field(slot, target);
-        let mut told = target;
-        loop {
-            self.tell(racer, slot, told)?;
-            let held = self.runtime.field(slot);
-            if held == told {
-                return Ok(());
-            }
-            told = held;
-        }
-    }
-
-    /// Tells the library what a field holds.
-    fn tell(&self, racer: &mut Racer, slot: u32, target: u32) -> Result<(), Refusal> {
         let slot = racer.slot(slot).expect("a slot of the heap");
         let target = racer.slot(target);
         let mut stored = racer.store(slot, target);
@@ -193,10 +178,10 @@ impl Mutator<'_> {
     }
 
     /// A field of a mutator's tree, at random, that refers to a tree of this height.
-    fn pick(&mut self, owner: usize, height: u32) -> u32 {
+    fn pick(&mut self, racer: &Racer, owner: usize, height: u32) -> u32 {
         let mut slot = self.runtime.roots[owner].load(SeqCst) + self.numbers.below(FIELDS);
         for _ in height + 1..HEIGHT {
-            slot = self.runtime.field(slot) + self.numbers.below(FIELDS);
+            slot = field(racer, slot) + self.numbers.below(FIELDS);
         }
         slot
     }
@@ -210,10 +195,10 @@ impl Mutator<'_> {
             2 if height == 0 => NULL,
             _ => {
                 let owner = self.numbers.below(MUTATORS as u32) as usize;
-                self.runtime.field(self.pick(owner, height))
+                field(racer, self.pick(racer, owner, height))
             }
         };
-        let slot = self.pick(self.number, height);
+        let slot = self.pick(racer, self.number, height);
         self.store(racer, slot, target)
     }
 
@@ -233,30 +218,33 @@ impl Mutator<'_> {
     }
 }
 
-/// A pause, with the heap that the race became.
+/// A pause.
 struct Pause<'a> {
     runtime: &'a Runtime,
-    heap: Heap,
+    heap: Paused,
     /// Of each card a bit for each region of the collection set whose drain returned it.
     drained: Vec<u32>,
     /// Where objects are copied to.
     survivors: u32,
+    /// Objects that were live at the last trace.
+    live: usize,
 }
 
 impl Pause<'_> {
     fn drain(&mut self, number: u32) -> Result<()> {
         let region = self.heap.region(number).ok_or("no such region")?;
-        let Drained::Cards { members, .. } = self.heap.drain(region)? else {
-            return Err("a drain is short".into());
-        };
-        for card in members {
+        for card in self.heap.drain(region)? {
             self.drained[card.number() as usize] |= self.runtime.bit_of(number * REGION);
         }
         Ok(())
     }
 
-    fn report(&mut self, slot: u32, target: u32) -> Result<(), Refusal> {
-        self.runtime.set_field(slot, target);
+    fn field(&mut self, slot: u32) -> Result<u32, Refusal> {
+        let slot = self.heap.slot(slot).expect("a slot of the heap");
+        Ok(self.heap.target(slot)?.map_or(NULL, |place| place.number()))
+    }
+
+    fn set(&mut self, slot: u32, target: u32) -> Result<(), Refusal> {
         let slot = self.heap.slot(slot).expect("a slot of the heap");
         self.heap.store(slot, self.heap.slot(target)).map(drop)
     }
@@ -270,7 +258,8 @@ impl Pause<'_> {
         }
         let copy = self.runtime.allocate(&mut self.survivors, word);
         for field in 0..FIELDS {
-            self.report(copy + field, self.runtime.field(object + field))?;
+            let target = self.field(object + field)?;
+            self.set(copy + field, target)?;
         }
         header.store(FORWARDED | copy, SeqCst);
         Ok(copy)
@@ -278,10 +267,10 @@ impl Pause<'_> {
 
     fn scan(&mut self, first: u32, length: u32) -> Result<(), Refusal> {
         for slot in first..first + length {
-            let target = self.runtime.field(slot);
+            let target = self.field(slot)?;
             if self.runtime.bit_of(target) != 0 {
                 let copy = self.evacuate(target)?;
-                self.report(slot, copy)?;
+                self.set(slot, copy)?;
             }
         }
         Ok(())
@@ -311,13 +300,11 @@ impl Pause<'_> {
         Ok(())
     }
 
-    /// Counts fields that the library holds otherwise, or that a drain missed.
+    /// Counts references into the set that a drain missed.
     fn scan_all(&mut self) -> Result<usize, Refusal> {
         let mut wrong = 0;
         for slot in 0..SLOTS {
-            let target = self.runtime.field(slot);
-            let place = self.heap.slot(slot).expect("a slot of the heap");
-            wrong += usize::from(self.heap.target(place)? != self.heap.slot(target));
+            let target = self.field(slot)?;
             let drained = self.drained[(slot / COUNTS.slots) as usize] | self.runtime.bit_of(slot);
             wrong += usize::from(self.runtime.bit_of(target) & !drained != 0);
         }
@@ -329,19 +316,20 @@ impl Pause<'_> {
         let runtime = self.runtime;
         runtime.set().try_for_each(|region| self.drain(region))?;
         let mut wrong = self.scan_all()?;
-        let before = Trace::of(runtime);
+        let before = Trace::of(self)?;
         self.evacuate_set()?;
-        for region in runtime.set() {
-            // What a freed slot holds bars clears.
-            for slot in region * REGION..(region + 1) * REGION {
-                self.report(slot, NULL)?;
-            }
+        let after = Trace::of(self)?;
+        self.live = after.met.len();
+        wrong += usize::from(after.sum != before.sum);
+        let heap = &mut self.heap;
+        let set: Vec<_> = runtime.set().filter_map(|n| heap.region(n)).collect();
+        for region in &set {
+            heap.wipe(*region)?; // what a freed slot holds bars clears
+            heap.forget(*region)?;
         }
-        wrong += self.scan_all()? + usize::from(Trace::of(runtime).sum != before.sum);
-        for number in runtime.set() {
-            self.drain(number)?; // nothing may be pending at a clear
-            let region = self.heap.region(number).ok_or("no such region")?;
-            wrong += usize::from(self.heap.clear(region)? != Cleared::Cleared);
+        heap.refine()?; // nothing may be pending at a clear
+        for region in set {
+            wrong += usize::from(heap.clear(region)? != Cleared::Cleared);
         }
         runtime.freed.fetch_add(SET, SeqCst);
         Ok(wrong)
@@ -359,7 +347,8 @@ struct Trace {
 }
 
 impl Trace {
-    fn of(runtime: &Runtime) -> Trace {
+    fn of(pause: &mut Pause) -> Result<Trace, Refusal> {
+        let runtime = pause.runtime;
         let mut trace = Trace {
             met: Vec::new(),
             numbers: vec![0; runtime.headers.len()],
@@ -371,10 +360,12 @@ impl Trace {
         let mut done = 0;
         while let Some(&object) = trace.met.get(done) {
             trace.add(u64::from(runtime.header(object).load(SeqCst)));
-            (object..object + FIELDS).for_each(|slot| trace.meet(runtime.field(slot)));
+            for slot in object..object + FIELDS {
+                trace.meet(pause.field(slot)?);
+            }
             done += 1;
         }
-        trace
+        Ok(trace)
     }
 
     fn add(&mut self, word: u64) {
@@ -428,15 +419,15 @@ struct Threads {
 }
 
 impl Threads {
-    /// Gives each mutator a tree, and starts the threads.
+    /// Gives each mutator a tree, with its racer, and starts the threads.
     fn start<'scope>(
         scope: &'scope Scope<'scope, '_>,
         runtime: &'scope Runtime,
-        race: &mut Race,
+        racers: &mut [Racer],
         queue: Sender<Work>,
     ) -> Result<Threads> {
         let mut mutators = Vec::new();
-        for number in 0..MUTATORS {
+        for (number, racer) in racers.iter_mut().enumerate() {
             let mut mutator = Mutator {
                 runtime,
                 logs: queue.clone(),
@@ -444,9 +435,7 @@ impl Threads {
                 numbers: Numbers(88_172_645_463_325_252 + number as u64 * 1_000_003),
                 top: 0,
             };
-            let mut racer = race.take_racer().ok_or("no racer is left")?;
-            runtime.roots[number].store(mutator.grow(&mut racer, HEIGHT)?, SeqCst);
-            race.return_racer(racer)?;
+            runtime.roots[number].store(mutator.grow(racer, HEIGHT)?, SeqCst);
             mutators.push(Worker::start(scope, move |racer| mutator.race(racer)));
         }
         let refiner = |_| Worker::start(scope, |sweeper| runtime.refine(sweeper));
@@ -457,51 +446,52 @@ impl Threads {
         })
     }
 
-    /// Runs a race until all mutators have stopped for a pause, and takes its members back.
-    fn run(&self, race: &mut Race) -> Result<()> {
-        for refiner in &self.refiners {
-            let sweeper = race.take_sweeper().ok_or("no sweeper is left")?;
+    /// Lets the members race until all mutators have stopped for a pause, and takes them back.
+    fn run(&self, racers: &mut Vec<Racer>, sweepers: &mut Vec<Sweeper>) -> Result<()> {
+        for (refiner, sweeper) in self.refiners.iter().zip(sweepers.drain(..)) {
             refiner.give.send(sweeper)?;
         }
-        for mutator in &self.mutators {
-            let racer = race.take_racer().ok_or("no racer is left")?;
+        for (mutator, racer) in self.mutators.iter().zip(racers.drain(..)) {
             mutator.give.send(racer)?;
         }
         for mutator in &self.mutators {
-            race.return_racer(mutator.back.recv()?)?;
+            racers.push(mutator.back.recv()?);
         }
         // The queue has all that the mutators handed on, and behind it a word for each thread.
         for _ in &self.refiners {
             self.queue.send(Work::Pause)?;
         }
         for refiner in &self.refiners {
-            race.return_sweeper(refiner.back.recv()?)?;
+            sweepers.push(refiner.back.recv()?);
         }
         Ok(())
     }
 }
 
-/// Runs races, each up to its pause, until something is wrong. Returns how much was.
-fn run(runtime: &Runtime, logs: Sender<Work>, pauses: u32) -> Result<usize> {
-    let mut race = Race::open(COUNTS, MUTATORS, REFINERS)?;
+/// Makes pauses until something is wrong. Returns how much was, and how many objects are live.
+fn run(runtime: &Runtime, logs: Sender<Work>, pauses: u32) -> Result<(usize, usize)> {
+    let (mut heap, mut racers, mut sweepers) = Paused::open(COUNTS, MUTATORS, REFINERS)?.resume();
     scope(|scope| {
-        let threads = Threads::start(scope, runtime, &mut race, logs)?;
-        let mut wrong = 0;
+        let threads = Threads::start(scope, runtime, &mut racers, logs)?;
+        let (mut wrong, mut live) = (0, 0);
         for _ in 0..pauses {
-            threads.run(&mut race)?;
+            threads.run(&mut racers, &mut sweepers)?;
             let mut pause = Pause {
                 runtime,
-                heap: race.close()?.into_heap(4, 64)?,
+                heap: heap.pause(racers, sweepers)?,
                 drained: vec![0; (SLOTS / COUNTS.slots) as usize],
                 survivors: 0,
+                live: 0,
             };
             wrong = pause.collect()?;
-            race = Race::resume(pause.heap, MUTATORS, REFINERS)?;
+            live = pause.live;
+            (heap, racers, sweepers) = pause.heap.resume();
             if wrong > 0 {
                 break;
             }
         }
-        Ok(wrong)
+        heap.pause(racers, sweepers)?;
+        Ok((wrong, live))
     })
 }
 
@@ -510,13 +500,13 @@ fn main() -> Result<()> {
     let pauses = words.next().unwrap_or(Ok(100))?;
     let (logs, queue) = channel();
     let runtime = Runtime::new(queue);
-    let wrong = run(&runtime, logs, pauses)?;
+    let (wrong, live) = run(&runtime, logs, pauses)?;
     let refined = runtime.refined.load(SeqCst);
     let freed = runtime.freed.load(SeqCst);
     println!(
-        "{} pauses, {refined} cards refined in races, {} objects live at the end, {wrong} wrong",
-        freed / SET,
-        Trace::of(&runtime).met.len()
+        "{} pauses, {refined} cards refined in races, {live} objects live at the end, \
+         {wrong} wrong",
+        freed / SET
     );
     let holds = wrong == 0 && freed > COUNTS.regions && refined > 0;
     println!("{} passed, {} failed", u32::from(holds), u32::from(!holds));

@@ -1,5 +1,5 @@
 //! error[E0382]
-use ninkoda::race::Race;
+use ninkoda::race::Paused;
 use ninkoda::Counts;
 
 fn main() {
@@ -8,8 +8,8 @@ fn main() {
         cards: 2,
         slots: 4,
     };
-    let mut race = Race::open(counts, 1, 1).unwrap();
-    let mut racer = race.take_racer().unwrap();
+    let (_heap, mut racers, _sweepers) = Paused::open(counts, 1, 1).unwrap().resume();
+    let mut racer = racers.pop().unwrap();
     std::thread::spawn(move || racer.take_log().is_ok());
     std::thread::spawn(move || racer.take_log().is_ok());
 }

@@ -1,4 +1,5 @@
 //! What calls return.
+use crate::numbers::Home;
 use crate::{library, Card, Slot};
 use std::error::Error;
 use std::fmt;
@@ -18,12 +19,14 @@ pub enum Refusal {
     SameRegion,
     /// A racer's log is full: take it, and store again.
     LogFull,
-    /// Not as many racers or sweepers as a race may have.
+    /// Not as many racers or sweepers as a heap may have.
     BadMembers,
-    /// A racer or a sweeper was not returned to the race that was to be closed.
+    /// A racer or a sweeper of the heap that was to be paused was not handed in.
     MembersOut,
-    /// A race has another owner, so it has not ended.
-    NotEnded,
+    /// A word of data is less than [`DATA`](crate::race::DATA).
+    BadWord,
+    /// A slot of the region that was to be forgotten refers out of it.
+    StillReferenced,
     /// A slot, card, region, racer or sweeper of another heap was passed.
     OtherHeap,
     /// A code that these types rule out, such as that the heap is closed.
@@ -40,7 +43,8 @@ impl Refusal {
             library::SAME_REGION => Refusal::SameRegion,
             library::LOG_FULL => Refusal::LogFull,
             library::BAD_MEMBERS => Refusal::BadMembers,
-            library::NOT_ENDED => Refusal::NotEnded,
+            library::BAD_WORD => Refusal::BadWord,
+            library::STILL_REFERENCED => Refusal::StillReferenced,
             word => Refusal::Unexpected(word),
         }
     }
@@ -55,9 +59,10 @@ impl fmt::Display for Refusal {
             Refusal::TooManyCards => "more cards than a queue has",
             Refusal::SameRegion => "the same region twice",
             Refusal::LogFull => "the log is full",
-            Refusal::BadMembers => "a race of too few or too many members",
-            Refusal::MembersOut => "a member was not returned to its race",
-            Refusal::NotEnded => "a race that has another owner",
+            Refusal::BadMembers => "a heap of too few or too many members",
+            Refusal::MembersOut => "a member was not handed in",
+            Refusal::BadWord => "a word that is no data",
+            Refusal::StillReferenced => "a reference leaves the region",
             Refusal::OtherHeap => "a number or a member of another heap",
             Refusal::Unexpected(word) => return write!(f, "an unexpected code: {word}"),
         })
@@ -166,6 +171,21 @@ pub enum Cleared {
     Pending(u32),
     /// Refused: this is the least slot outside the region that refers into it.
     StillReferenced(Slot),
+}
+
+impl Cleared {
+    /// What the code of a clear says, with its detail.
+    pub(crate) fn of(word: u32, detail: u32, home: Home) -> Result<Cleared, Refusal> {
+        match word {
+            library::DONE => Ok(Cleared::Cleared),
+            library::STILL_PENDING => Ok(Cleared::Pending(detail)),
+            library::STILL_REFERENCED => Ok(Cleared::StillReferenced(Slot {
+                number: detail,
+                home,
+            })),
+            word => Err(Refusal::of(word)),
+        }
+    }
 }
 
 /// What a redirect did.

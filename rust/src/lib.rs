@@ -43,7 +43,7 @@ pub use numbers::{Card, Counts, Region, Slot};
 use library::{
     g1_clear, g1_close, g1_drain, g1_is_pending, g1_members, g1_open, g1_redirect, g1_refine,
     g1_status, g1_store, g1_store_all, g1_target, Batch, Handle, Reference, Tally, DONE, NULL,
-    SHORT, STILL_PENDING, STILL_REFERENCED,
+    SHORT,
 };
 use numbers::{numbers_of, Home, Numbers};
 use std::ptr::null_mut;
@@ -241,15 +241,8 @@ impl Heap {
     pub fn clear(&mut self, region: Region) -> Result<Cleared, Refusal> {
         self.numbers.has(region.home)?;
         let mut detail = 0;
-        match unsafe { g1_clear(&mut self.handle, region.number, &mut detail) } {
-            DONE => Ok(Cleared::Cleared),
-            STILL_PENDING => Ok(Cleared::Pending(detail)),
-            STILL_REFERENCED => Ok(Cleared::StillReferenced(Slot {
-                number: detail,
-                home: self.numbers.home,
-            })),
-            word => Err(Refusal::of(word)),
-        }
+        let word = unsafe { g1_clear(&mut self.handle, region.number, &mut detail) };
+        Cleared::of(word, detail, self.numbers.home)
     }
 
     /// Refines all that is pending, moves each reference from outside one region into it to the

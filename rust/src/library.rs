@@ -35,8 +35,8 @@ pub struct Member {
 }
 
 #[repr(C)]
-pub struct Over {
-    pub race: *mut c_void,
+pub struct HeapHandle {
+    pub heap: *mut c_void,
 }
 
 extern "C" {
@@ -89,14 +89,61 @@ extern "C" {
         refined_length: usize,
         refined_count: *mut u32,
     ) -> u32;
-    pub fn g1_race_open(
+    pub fn g1_heap_open(
+        heap: *mut HeapHandle,
         counts: *const Counts,
+        racers: u32,
+        sweepers: u32,
+    ) -> u32;
+    pub fn g1_heap_resume(
+        heap: *mut HeapHandle,
         racers: *mut Member,
         racers_length: usize,
         sweepers: *mut Member,
         sweepers_length: usize,
     ) -> u32;
+    pub fn g1_heap_pause(
+        heap: *mut HeapHandle,
+        racers: *mut Member,
+        racers_length: usize,
+        sweepers: *mut Member,
+        sweepers_length: usize,
+    ) -> u32;
+    pub fn g1_heap_close(heap: *mut HeapHandle) -> u32;
+    pub fn g1_heap_words(heap: *mut HeapHandle, words: *mut *const u64) -> u32;
+    pub fn g1_heap_target(heap: *mut HeapHandle, slot: u32, target: *mut u32) -> u32;
+    pub fn g1_heap_word(heap: *mut HeapHandle, slot: u32, word: *mut u64) -> u32;
+    pub fn g1_heap_is_pending(heap: *mut HeapHandle, card: u32, pending: *mut u32) -> u32;
+    pub fn g1_heap_status(heap: *mut HeapHandle, totals: *mut Totals) -> u32;
+    pub fn g1_heap_members(
+        heap: *mut HeapHandle,
+        region: u32,
+        cards: *mut u32,
+        cards_length: usize,
+        count: *mut u32,
+    ) -> u32;
+    pub fn g1_heap_refine(heap: *mut HeapHandle) -> u32;
+    pub fn g1_heap_drain(
+        heap: *mut HeapHandle,
+        region: u32,
+        cards: *mut u32,
+        cards_length: usize,
+        count: *mut u32,
+    ) -> u32;
+    pub fn g1_heap_store(heap: *mut HeapHandle, slot: u32, target: u32, kind: *mut u32) -> u32;
+    pub fn g1_heap_store_all(
+        heap: *mut HeapHandle,
+        stores: *const Reference,
+        stores_length: usize,
+        stored: *mut usize,
+    ) -> u32;
+    pub fn g1_heap_store_data(heap: *mut HeapHandle, slot: u32, word: u64) -> u32;
+    pub fn g1_heap_clear(heap: *mut HeapHandle, region: u32, detail: *mut u32) -> u32;
+    pub fn g1_heap_redirect(heap: *mut HeapHandle, from: u32, to: u32, moved: *mut u32) -> u32;
+    pub fn g1_heap_wipe(heap: *mut HeapHandle, region: u32) -> u32;
+    pub fn g1_heap_forget(heap: *mut HeapHandle, region: u32) -> u32;
     pub fn g1_race_store(member: *mut Member, slot: u32, target: u32) -> u32;
+    pub fn g1_race_store_data(member: *mut Member, slot: u32, word: u64, old: *mut u64) -> u32;
     pub fn g1_race_take_log(
         member: *mut Member,
         cards: *mut u32,
@@ -104,23 +151,6 @@ extern "C" {
         count: *mut u32,
     ) -> u32;
     pub fn g1_race_refine(member: *mut Member, card: u32) -> u32;
-    pub fn g1_race_close(
-        racers: *mut Member,
-        racers_length: usize,
-        sweepers: *mut Member,
-        sweepers_length: usize,
-        over: *mut Over,
-    ) -> u32;
-    pub fn g1_race_core(over: *mut Over, handle: *mut Handle, hot: u32, ring: u32) -> u32;
-    pub fn g1_race_resume(
-        handle: *mut Handle,
-        racers: *mut Member,
-        racers_length: usize,
-        sweepers: *mut Member,
-        sweepers_length: usize,
-    ) -> u32;
-    pub fn g1_member_close(member: *mut Member) -> u32;
-    pub fn g1_over_close(over: *mut Over) -> u32;
 }
 
 pub const NULL: u32 = 4_294_967_295;
@@ -141,4 +171,4 @@ pub const STILL_PENDING: u32 = 19;
 pub const STILL_REFERENCED: u32 = 20;
 pub const LOG_FULL: u32 = 22;
 pub const BAD_MEMBERS: u32 = 23;
-pub const NOT_ENDED: u32 = 25;
+pub const BAD_WORD: u32 = 28;

@@ -15,7 +15,7 @@ pub struct Counts {
     pub slots: u32,
 }
 
-/// Which heap a number belongs to. A race over a heap has the heap's.
+/// Which heap a number belongs to.
 #[derive(Clone, Copy, Debug, PartialEq, Eq, PartialOrd, Ord, Hash)]
 pub struct Home(u64);
 

@@ -1,226 +1,445 @@
-//! Stores that race: racers store and sweepers refine, each in a thread of its own, with no lock.
+//! A heap whose stores race: racers store and sweepers refine, each in a thread of its own, with no
+//! lock, and at a pause the collector has the heap.
 //!
-//! A [`Race`] has its members, a racer for each mutator thread and a sweeper for each refinement
-//! thread. A thread takes one and owns it ([`Race::take_racer`]), so it may keep it for as long as
-//! it likes, pass it to another thread, or return it when it ends. For a pause all members are
-//! returned; [`Race::close`] and [`Closed::into_heap`] then make a heap of the race, and
-//! [`Race::resume`] makes a race of the heap. A number of the heap stays good through all of them.
+//! A heap begins as [`Paused`]. [`Paused::resume`] hands its members out, a racer for each mutator
+//! thread and a sweeper for each refinement thread, and leaves it [`Racing`]. Each thread owns its
+//! member, so it may keep it for as long as it likes, pass it to another thread, or return it when
+//! it ends. [`Racing::pause`] takes all members back and gives the paused heap. Neither copies
+//! anything or takes memory, and a number of the heap stays good through all of them.
 //!
-//! A runtime that keeps its references in memory of its own orders the stores to one slot, around
-//! both its own store and the call, or tells the library again until it was told what memory holds:
+//! A runtime may have its fields in the heap's words, and read them by [`Racer::word`]. If it keeps
+//! its references in memory of its own, it orders the stores to one slot, around both its own store
+//! and the call, or tells the library again until it was told what memory holds:
 //! `docs/EMBEDDING_THREADS.md` has the loop, and what a pause waits for.
 //!
 //! ```
-//! use ninkoda::{race::Race, Counts, Refusal};
+//! use ninkoda::{race::Paused, Counts, Refusal};
 //! use std::thread;
 //!
 //! fn main() -> Result<(), Refusal> {
 //!     let counts = Counts { regions: 4, cards: 2, slots: 4 };
-//!     let mut race = Race::open(counts, 2, 1)?;
-//!     let mut racer = race.take_racer().expect("two racers");
-//!     let (slot, place) = (race.slot(0).expect("a slot"), race.slot(8));
+//!     let heap = Paused::open(counts, 2, 1)?;
+//!     let (slot, place) = (heap.slot(0).expect("a slot"), heap.slot(8));
+//!     let (heap, mut racers, sweepers) = heap.resume();
+//!     let mut racer = racers.pop().expect("two racers");
 //!     let mutator = thread::spawn(move || racer.store(slot, place).map(|_| racer));
-//!     race.return_racer(mutator.join().expect("it does not panic")?)?;
-//!     let mut heap = race.close()?.into_heap(4, 1024)?;
+//!     racers.push(mutator.join().expect("it does not panic")?);
+//!     let mut heap = heap.pause(racers, sweepers)?;
 //!     let region = heap.region(1).expect("a region");
 //!     println!("{:?}", heap.drain(region)?);
 //!     Ok(())
 //! }
 //! ```
 use crate::library::{
-    g1_member_close, g1_over_close, g1_race_close, g1_race_core, g1_race_open, g1_race_refine,
-    g1_race_resume, g1_race_store, g1_race_take_log, Handle, Member, Over, DONE, NOT_ENDED,
+    g1_heap_clear, g1_heap_close, g1_heap_drain, g1_heap_forget, g1_heap_is_pending,
+    g1_heap_members, g1_heap_open, g1_heap_pause, g1_heap_redirect, g1_heap_refine, g1_heap_resume,
+    g1_heap_status, g1_heap_store, g1_heap_store_all, g1_heap_store_data, g1_heap_target,
+    g1_heap_wipe, g1_heap_word, g1_heap_words, g1_race_refine, g1_race_store, g1_race_store_data,
+    g1_race_take_log, HeapHandle, Member, Reference, DONE, NULL,
 };
 use crate::numbers::{numbers_of, Home, Numbers};
-use crate::{Card, Counts, Heap, Kind, Refusal, Refused, Region, Slot, LOG};
-use std::ptr::null_mut;
+use crate::{Card, Cleared, Counts, Kind, Refusal, Refused, Region, Slot, Totals, LOG};
+use std::ptr::{null, null_mut};
+use std::sync::atomic::{AtomicU64, Ordering::Acquire};
 
-/// The most racers that a race has.
-pub const RACERS: usize = 8;
+/// The most racers that a heap has.
+pub const RACERS: usize = 64;
 
-/// The most sweepers that a race has.
-pub const SWEEPERS: usize = 4;
+/// The most sweepers that a heap has.
+pub const SWEEPERS: usize = 64;
+
+/// The least word that is data.
+pub const DATA: u64 = 1 << 32;
+
+/// What a slot has.
+#[derive(Clone, Copy, Debug, PartialEq, Eq)]
+pub enum Word {
+    /// Null.
+    Null,
+    /// A reference to a place.
+    Reference(Slot),
+    /// Data, a word from [`DATA`] on, which refers to nothing.
+    Data(u64),
+}
+
+impl Word {
+    fn of(word: u64, numbers: &Numbers) -> Word {
+        match u32::try_from(word) {
+            Ok(0) => Word::Null,
+            Ok(word) => Word::Reference(Slot {
+                number: word - 1,
+                home: numbers.home,
+            }),
+            Err(_) => Word::Data(word),
+        }
+    }
+}
+
+/// Where the words of the slots are, from when the heap is opened until it is closed.
+#[derive(Clone, Copy)]
+struct Words(*const AtomicU64);
+
+// SAFETY: the words are atomic.
+unsafe impl Send for Words {}
+
+/// A heap's handle, whatever its members do.
+///
+/// The library refuses to close it while they race, so that their memory stays then.
+struct Life {
+    handle: HeapHandle,
+    numbers: Numbers,
+    words: Words,
+    racers: usize,
+    sweepers: usize,
+}
+
+impl Drop for Life {
+    fn drop(&mut self) {
+        // SAFETY: the handle is closed, or one that the library wrote.
+        unsafe { g1_heap_close(&mut self.handle) };
+    }
+}
 
 /// A member's handle, on a cache line of its own, since each of its calls writes it.
 #[repr(align(64))]
 struct Seat {
     handle: Member,
     numbers: Numbers,
+    words: Words,
 }
 
 // SAFETY: the prover has shown of what a handle has that it may go to another thread.
 unsafe impl Send for Seat {}
 
-impl Drop for Seat {
-    fn drop(&mut self) {
-        // SAFETY: the handle is closed, or one that the library wrote.
-        unsafe { g1_member_close(&mut self.handle) };
-    }
+/// A heap at a pause, which the collector has. It stays on its thread.
+pub struct Paused {
+    life: Life,
+    // Empty, with room for the members, so that a resume takes no memory.
+    racers: Vec<Racer>,
+    sweepers: Vec<Sweeper>,
 }
 
-/// A race over one heap, with those of its members that no thread has.
+/// A heap while its members race. It stays on its thread.
 ///
-/// A member that is dropped never comes back, so that its race can't be closed.
-pub struct Race {
-    racers: Vec<Seat>,
-    sweepers: Vec<Seat>,
-    all_racers: usize,
-    all_sweepers: usize,
-    numbers: Numbers,
+/// A member that is dropped never comes back, so that its heap can't be paused. The memory of a
+/// heap that is dropped while it races is not freed.
+pub struct Racing {
+    life: Life,
 }
 
-/// A mutator of a race: it stores, and has a log of [`LOG`] cards.
+/// A mutator of a heap: it stores, and has a log of [`LOG`] cards.
 pub struct Racer {
     seat: Seat,
 }
 
-/// A refinement thread of a race.
+/// A refinement thread of a heap.
 pub struct Sweeper {
     seat: Seat,
 }
 
-/// A race that is over. It stays on its thread.
-pub struct Closed {
-    over: Over,
-    numbers: Numbers,
-}
-
-numbers_of!(Race, numbers);
+numbers_of!(Paused, life.numbers);
+numbers_of!(Racing, life.numbers);
 numbers_of!(Racer, seat.numbers);
 numbers_of!(Sweeper, seat.numbers);
-numbers_of!(Closed, numbers);
 
-/// Closed handles for these numbers of racers and sweepers: at most one more than a race has, which
-/// is refused like any greater number.
-fn closed_handles(racers: usize, sweepers: usize) -> (Vec<Member>, Vec<Member>) {
-    let closed = |count| vec![Member { member: null_mut() }; count];
-    (
-        closed(racers.min(RACERS + 1)),
-        closed(sweepers.min(SWEEPERS + 1)),
-    )
+const CLOSED: Member = Member { member: null_mut() };
+
+/// These handles, and closed ones behind them.
+fn row<const MOST: usize>(handles: impl Iterator<Item = Member>) -> [Member; MOST] {
+    let mut row = [CLOSED; MOST];
+    for (place, handle) in row.iter_mut().zip(handles) {
+        *place = handle;
+    }
+    row
 }
 
-fn handles(seats: &[Seat]) -> Vec<Member> {
-    seats.iter().map(|seat| seat.handle).collect()
+impl Life {
+    fn seat(&self, handle: &Member) -> Seat {
+        Seat {
+            handle: *handle,
+            numbers: self.numbers,
+            words: self.words,
+        }
+    }
 }
 
-impl Race {
-    /// A race over a new heap, each of whose slots is null, with 1 to [`RACERS`] racers and 1 to
-    /// [`SWEEPERS`] sweepers.
+impl Racing {
+    /// Begins a pause, with all members of the heap in any order. Their logs stay with the heap.
+    ///
+    /// Refused with [`Refusal::MembersOut`] or [`Refusal::OtherHeap`], and the race goes on. No
+    /// memory.
+    #[allow(clippy::type_complexity)]
+    pub fn pause(
+        mut self,
+        mut racers: Vec<Racer>,
+        mut sweepers: Vec<Sweeper>,
+    ) -> Result<Paused, Refused<(Racing, Vec<Racer>, Vec<Sweeper>)>> {
+        let paused = self.take_in(&racers, &sweepers);
+        if let Err(refusal) = paused {
+            let value = (self, racers, sweepers);
+            return Err(Refused { value, refusal });
+        }
+        racers.clear();
+        sweepers.clear();
+        Ok(Paused {
+            life: self.life,
+            racers,
+            sweepers,
+        })
+    }
+
+    fn take_in(&mut self, racers: &[Racer], sweepers: &[Sweeper]) -> Result<(), Refusal> {
+        let life = &mut self.life;
+        let seats = racers.iter().map(|racer| &racer.seat);
+        for seat in seats.chain(sweepers.iter().map(|sweeper| &sweeper.seat)) {
+            life.numbers.has(seat.numbers.home)?;
+        }
+        if (racers.len(), sweepers.len()) != (life.racers, life.sweepers) {
+            return Err(Refusal::MembersOut);
+        }
+        let mut racing = row::<RACERS>(racers.iter().map(|racer| racer.seat.handle));
+        let mut sweeping = row::<SWEEPERS>(sweepers.iter().map(|sweeper| sweeper.seat.handle));
+        let (some, few) = (racing.as_mut_ptr(), sweeping.as_mut_ptr());
+        // SAFETY: the arrays have at least as many handles as the lengths say. They are all of this
+        // heap, as no other call of a pause is given them.
+        let word =
+            unsafe { g1_heap_pause(&mut life.handle, some, racers.len(), few, sweepers.len()) };
+        match word {
+            DONE => Ok(()),
+            word => Err(Refusal::of(word)),
+        }
+    }
+}
+
+// SAFETY of each call below: the handle is open and at a pause, `&mut self` has no other call use
+// it, and an array is one of the wrapper's, of the length that is passed.
+impl Paused {
+    /// A new heap, each of whose slots is null, with 1 to [`RACERS`] racers and 1 to [`SWEEPERS`]
+    /// sweepers.
     ///
     /// Refused with [`Refusal::BadMembers`], [`Refusal::BadLayout`] or [`Refusal::NoMemory`].
-    pub fn open(counts: Counts, racers: usize, sweepers: usize) -> Result<Race, Refusal> {
-        let (mut racing, mut sweeping) = closed_handles(racers, sweepers);
+    pub fn open(counts: Counts, racers: usize, sweepers: usize) -> Result<Paused, Refusal> {
+        let (heap, mut start) = (null_mut(), null());
+        let mut handle = HeapHandle { heap };
+        let numbers = [racers, sweepers].map(|count| u32::try_from(count).unwrap_or(u32::MAX));
+        match unsafe { g1_heap_open(&mut handle, &counts, numbers[0], numbers[1]) } {
+            DONE => unsafe { g1_heap_words(&mut handle, &mut start) },
+            word => return Err(Refusal::of(word)),
+        };
+        let home = Home::new();
+        Ok(Paused {
+            life: Life {
+                handle,
+                numbers: Numbers { counts, home },
+                words: Words(start.cast()),
+                racers,
+                sweepers,
+            },
+            racers: Vec::with_capacity(racers),
+            sweepers: Vec::with_capacity(sweepers),
+        })
+    }
+
+    /// Ends the pause: all members race from here on. Each racer has the log of the one that was at
+    /// its place when the pause began, or an empty one if the pause has refined. No memory.
+    pub fn resume(self) -> (Racing, Vec<Racer>, Vec<Sweeper>) {
+        let Paused {
+            mut life,
+            mut racers,
+            mut sweepers,
+        } = self;
+        let (mut racing, mut sweeping) = ([CLOSED; RACERS], [CLOSED; SWEEPERS]);
         let (some, few) = (racing.as_mut_ptr(), sweeping.as_mut_ptr());
-        // SAFETY: each array has as many closed handles as its length says.
-        match unsafe { g1_race_open(&counts, some, racing.len(), few, sweeping.len()) } {
-            DONE => {
-                let home = Home::new();
-                Ok(Race::of(racing, sweeping, Numbers { counts, home }))
-            }
+        let word =
+            unsafe { g1_heap_resume(&mut life.handle, some, life.racers, few, life.sweepers) };
+        assert_eq!(word, DONE, "a resume of a paused heap is not refused");
+        let seats = racing.iter().take(life.racers);
+        racers.extend(seats.map(|handle| Racer {
+            seat: life.seat(handle),
+        }));
+        let seats = sweeping.iter().take(life.sweepers);
+        sweepers.extend(seats.map(|handle| Sweeper {
+            seat: life.seat(handle),
+        }));
+        (Racing { life }, racers, sweepers)
+    }
+
+    /// What a slot refers to: nothing if it has data. Constant time, no memory.
+    ///
+    /// Refused with [`Refusal::OtherHeap`].
+    pub fn target(&mut self, slot: Slot) -> Result<Option<Slot>, Refusal> {
+        self.life.numbers.has(slot.home)?;
+        let mut target = NULL;
+        match unsafe { g1_heap_target(&mut self.life.handle, slot.number, &mut target) } {
+            DONE => Ok(self.slot(target)),
             word => Err(Refusal::of(word)),
         }
     }
 
-    /// A race that begins with what the heap holds, with as many members as [`Race::open`] allows.
+    /// What a slot has. Constant time, no memory.
     ///
-    /// Refused with [`Refusal::BadMembers`] or [`Refusal::NoMemory`].
-    pub fn resume(mut heap: Heap, racers: usize, sweepers: usize) -> Result<Race, Refused<Heap>> {
-        let (mut racing, mut sweeping) = closed_handles(racers, sweepers);
-        let (some, few) = (racing.as_mut_ptr(), sweeping.as_mut_ptr());
-        let core = &mut heap.handle;
-        // SAFETY: each array has as many closed handles as its length says, and the heap is open.
-        match unsafe { g1_race_resume(core, some, racing.len(), few, sweeping.len()) } {
-            DONE => Ok(Race::of(racing, sweeping, heap.numbers)),
-            word => Err(Refused {
-                value: heap,
-                refusal: Refusal::of(word),
-            }),
+    /// Refused with [`Refusal::OtherHeap`].
+    pub fn word(&mut self, slot: Slot) -> Result<Word, Refusal> {
+        self.life.numbers.has(slot.home)?;
+        let mut word = 0;
+        match unsafe { g1_heap_word(&mut self.life.handle, slot.number, &mut word) } {
+            DONE => Ok(Word::of(word, &self.life.numbers)),
+            code => Err(Refusal::of(code)),
         }
     }
 
-    /// A race with these members, all of one race and open.
-    fn of(racing: Vec<Member>, sweeping: Vec<Member>, numbers: Numbers) -> Race {
-        let seat = |handle| Seat { handle, numbers };
-        Race {
-            all_racers: racing.len(),
-            all_sweepers: sweeping.len(),
-            racers: racing.into_iter().map(seat).collect(),
-            sweepers: sweeping.into_iter().map(seat).collect(),
-            numbers,
-        }
-    }
-
-    /// A racer for a mutator thread, or none if all are out.
-    pub fn take_racer(&mut self) -> Option<Racer> {
-        self.racers.pop().map(|seat| Racer { seat })
-    }
-
-    /// A sweeper for a refinement thread, or none if all are out.
-    pub fn take_sweeper(&mut self) -> Option<Sweeper> {
-        self.sweepers.pop().map(|seat| Sweeper { seat })
-    }
-
-    /// Takes a racer back, with what is in its log. It may be taken again.
+    /// Whether a card is dirty. Constant time, no memory.
     ///
-    /// Refused with [`Refusal::OtherHeap`] if it is of a race over another heap.
-    pub fn return_racer(&mut self, racer: Racer) -> Result<(), Refused<Racer>> {
-        if let Err(refusal) = self.numbers.has(racer.seat.numbers.home) {
-            return Err(Refused {
-                value: racer,
-                refusal,
-            });
+    /// Refused with [`Refusal::OtherHeap`].
+    pub fn is_pending(&mut self, card: Card) -> Result<bool, Refusal> {
+        self.life.numbers.has(card.home)?;
+        let mut pending = 0;
+        match unsafe { g1_heap_is_pending(&mut self.life.handle, card.number, &mut pending) } {
+            DONE => Ok(pending == 1),
+            word => Err(Refusal::of(word)),
         }
-        self.racers.push(racer.seat);
-        Ok(())
     }
 
-    /// Takes a sweeper back. It may be taken again.
-    ///
-    /// Refused with [`Refusal::OtherHeap`] if it is of a race over another heap.
-    pub fn return_sweeper(&mut self, sweeper: Sweeper) -> Result<(), Refused<Sweeper>> {
-        if let Err(refusal) = self.numbers.has(sweeper.seat.numbers.home) {
-            return Err(Refused {
-                value: sweeper,
-                refusal,
-            });
+    /// How much is pending and recorded. No memory.
+    pub fn status(&mut self) -> Result<Totals, Refusal> {
+        let mut totals = Totals::default();
+        match unsafe { g1_heap_status(&mut self.life.handle, &mut totals) } {
+            DONE => Ok(totals),
+            word => Err(Refusal::of(word)),
         }
-        self.sweepers.push(sweeper.seat);
-        Ok(())
     }
 
-    /// Ends the race, whose members are all returned. Logs that were not taken are dropped; their
-    /// cards stay dirty. If the race has another owner, its members are gathered, and
-    /// [`Closed::into_heap`] ends it.
+    /// The remembered set of a region as it is recorded, ascending. Dirty cards may be missing from
+    /// it; after [`Paused::refine`], and until the next store, none is.
     ///
-    /// Refused with [`Refusal::MembersOut`] or [`Refusal::NoMemory`], and the race goes on.
-    pub fn close(mut self) -> Result<Closed, Refused<Race>> {
-        // With all members here no other close has one of them, as the library asks.
-        if self.racers.len() < self.all_racers || self.sweepers.len() < self.all_sweepers {
-            let refusal = Refusal::MembersOut;
-            return Err(Refused {
-                value: self,
-                refusal,
-            });
+    /// Refused with [`Refusal::OtherHeap`] or [`Refusal::NoMemory`].
+    pub fn members(&mut self, region: Region) -> Result<Vec<Card>, Refusal> {
+        self.list(region, g1_heap_members)
+    }
+
+    /// Refines all that is dirty, empties the racers' logs, and returns the remembered set of a
+    /// region: every card outside it that refers into it, and perhaps some that no longer do,
+    /// ascending.
+    ///
+    /// Refused with [`Refusal::OtherHeap`] or [`Refusal::NoMemory`].
+    pub fn drain(&mut self, region: Region) -> Result<Vec<Card>, Refusal> {
+        self.list(region, g1_heap_drain)
+    }
+
+    fn list(
+        &mut self,
+        region: Region,
+        call: unsafe extern "C" fn(*mut HeapHandle, u32, *mut u32, usize, *mut u32) -> u32,
+    ) -> Result<Vec<Card>, Refusal> {
+        let numbers = self.life.numbers;
+        numbers.has(region.home)?;
+        let (mut cards, mut count) = (vec![0; numbers.all_cards() as usize], 0);
+        let (room, length) = (cards.as_mut_ptr(), cards.len());
+        match unsafe {
+            call(
+                &mut self.life.handle,
+                region.number,
+                room,
+                length,
+                &mut count,
+            )
+        } {
+            DONE => Ok(numbers.cards_of(&cards, count)),
+            word => Err(Refusal::of(word)),
         }
-        let (mut racing, mut sweeping) = (handles(&self.racers), handles(&self.sweepers));
-        let (some, few) = (racing.as_mut_ptr(), sweeping.as_mut_ptr());
-        let race = null_mut();
-        let (mut over, numbers) = (Over { race }, self.numbers);
-        // SAFETY: the arrays have as many handles as the lengths say, and `over` is closed.
-        let word = unsafe { g1_race_close(some, racing.len(), few, sweeping.len(), &mut over) };
-        // What the library closed is closed here too, whatever it returns.
-        let seats = self.racers.iter_mut().chain(&mut self.sweepers);
-        for (seat, handle) in seats.zip(racing.into_iter().chain(sweeping)) {
-            seat.handle = handle;
+    }
+
+    /// Refines all that is dirty, and empties the racers' logs. Then the members of each region are
+    /// exact. No memory.
+    pub fn refine(&mut self) -> Result<(), Refusal> {
+        done(unsafe { g1_heap_refine(&mut self.life.handle) })
+    }
+
+    /// The collector stores a reference, or null. A card that is logged is dirty, and in no log.
+    /// Constant time, no memory.
+    ///
+    /// Refused with [`Refusal::OtherHeap`].
+    pub fn store(&mut self, slot: Slot, target: Option<Slot>) -> Result<Kind, Refusal> {
+        let (word, target) = self.life.numbers.words_of(slot, target)?;
+        let mut kind = 0;
+        match unsafe { g1_heap_store(&mut self.life.handle, word, target, &mut kind) } {
+            DONE => Kind::of(kind, self.life.numbers.card_of(slot)),
+            word => Err(Refusal::of(word)),
         }
-        match word {
-            DONE | NOT_ENDED => Ok(Closed { over, numbers }),
-            word => Err(Refused {
-                value: self,
-                refusal: Refusal::of(word),
-            }),
-        }
+    }
+
+    /// Makes these stores in order, each as [`Paused::store`] does.
+    ///
+    /// Refused with [`Refusal::OtherHeap`] if any slot or target is another heap's.
+    pub fn store_all(&mut self, stores: &[(Slot, Option<Slot>)]) -> Result<(), Refusal> {
+        let reference = |&(slot, target): &(Slot, Option<Slot>)| {
+            let (slot, target) = self.life.numbers.words_of(slot, target)?;
+            Ok(Reference { slot, target })
+        };
+        let stores: Vec<Reference> = stores
+            .iter()
+            .map(reference)
+            .collect::<Result<_, Refusal>>()?;
+        let (given, mut stored) = (stores.as_ptr(), 0);
+        let handle = &mut self.life.handle;
+        done(unsafe { g1_heap_store_all(handle, given, stores.len(), &mut stored) })
+    }
+
+    /// The collector stores data, a word from [`DATA`] on. Constant time, no memory.
+    ///
+    /// Refused with [`Refusal::OtherHeap`] or [`Refusal::BadWord`].
+    pub fn store_data(&mut self, slot: Slot, word: u64) -> Result<(), Refusal> {
+        self.life.numbers.has(slot.home)?;
+        done(unsafe { g1_heap_store_data(&mut self.life.handle, slot.number, word) })
+    }
+
+    /// Empties the remembered set of a region, once no card is dirty and no slot outside the region
+    /// refers into it. A slot counts even if its object is dead or its own region was freed: wipe
+    /// that, or store null to it first. No memory.
+    ///
+    /// Refused with [`Refusal::OtherHeap`].
+    pub fn clear(&mut self, region: Region) -> Result<Cleared, Refusal> {
+        self.life.numbers.has(region.home)?;
+        let mut detail = 0;
+        let word = unsafe { g1_heap_clear(&mut self.life.handle, region.number, &mut detail) };
+        Cleared::of(word, detail, self.life.numbers.home)
+    }
+
+    /// Refines all that is dirty, moves each reference from outside one region into it to the same
+    /// offset of another, and empties the set of the first. Slots inside the first stay as they
+    /// are. Returns how many slots changed. No memory.
+    ///
+    /// Refused with [`Refusal::OtherHeap`] or [`Refusal::SameRegion`].
+    pub fn redirect(&mut self, from: Region, to: Region) -> Result<u32, Refusal> {
+        self.life.numbers.has(from.home)?;
+        self.life.numbers.has(to.home)?;
+        let (mut moved, handle) = (0, &mut self.life.handle);
+        done(unsafe { g1_heap_redirect(handle, from.number, to.number, &mut moved) })?;
+        Ok(moved)
+    }
+
+    /// Stores null into each slot of a region that is freed, also where it has data. No memory.
+    ///
+    /// Refused with [`Refusal::OtherHeap`].
+    pub fn wipe(&mut self, region: Region) -> Result<(), Refusal> {
+        self.life.numbers.has(region.home)?;
+        done(unsafe { g1_heap_wipe(&mut self.life.handle, region.number) })
+    }
+
+    /// Removes the cards of a region from the remembered sets of all regions, once no slot of the
+    /// region refers out of it, as after [`Paused::wipe`]. No memory.
+    ///
+    /// Refused with [`Refusal::OtherHeap`] or [`Refusal::StillReferenced`].
+    pub fn forget(&mut self, region: Region) -> Result<(), Refusal> {
+        self.life.numbers.has(region.home)?;
+        done(unsafe { g1_heap_forget(&mut self.life.handle, region.number) })
+    }
+}
+
+fn done(word: u32) -> Result<(), Refusal> {
+    match word {
+        DONE => Ok(()),
+        word => Err(Refusal::of(word)),
     }
 }
 
@@ -237,8 +456,32 @@ impl Racer {
         Kind::of(kind, numbers.card_of(slot))
     }
 
+    /// Stores data, a word from [`DATA`] on, and returns what the slot had. It logs nothing, and
+    /// never waits.
+    ///
+    /// Refused with [`Refusal::OtherHeap`] or [`Refusal::BadWord`]. Constant time, no memory.
+    pub fn store_data(&mut self, slot: Slot, word: u64) -> Result<Word, Refusal> {
+        self.seat.numbers.has(slot.home)?;
+        let mut old = 0;
+        // SAFETY: the handle is open, and this call alone uses it.
+        done(unsafe { g1_race_store_data(&mut self.seat.handle, slot.number, word, &mut old) })?;
+        Ok(Word::of(old, &self.seat.numbers))
+    }
+
+    /// What a slot has: one load, with the order acquire, so that what another thread wrote before
+    /// it stored a reference is found behind it.
+    ///
+    /// Refused with [`Refusal::OtherHeap`].
+    pub fn word(&self, slot: Slot) -> Result<Word, Refusal> {
+        self.seat.numbers.has(slot.home)?;
+        // SAFETY: the words are as many as the heap has slots, are written by atomic steps alone
+        // while this member is open, and stay until the heap is closed, which is after that.
+        let word = unsafe { &*self.seat.words.0.add(slot.number as usize) };
+        Ok(Word::of(word.load(Acquire), &self.seat.numbers))
+    }
+
     /// The cards of the log, oldest first; the log is empty then. They stay dirty until a sweeper
-    /// refines them, or the first drain after the race.
+    /// refines them, or the next pause.
     pub fn take_log(&mut self) -> Result<Vec<Card>, Refusal> {
         let (mut cards, mut count) = ([0; LOG], 0);
         let room = cards.as_mut_ptr();
@@ -257,34 +500,6 @@ impl Sweeper {
     pub fn refine(&mut self, card: Card) -> Result<(), Refusal> {
         self.seat.numbers.has(card.home)?;
         // SAFETY: the handle is open, and this call alone uses it.
-        match unsafe { g1_race_refine(&mut self.seat.handle, card.number) } {
-            DONE => Ok(()),
-            word => Err(Refusal::of(word)),
-        }
-    }
-}
-
-impl Closed {
-    /// The heap that the race left. `hot` and `ring` are those of [`Heap::open`].
-    ///
-    /// Refused with [`Refusal::BadSettings`], [`Refusal::NoMemory`] or [`Refusal::NotEnded`].
-    pub fn into_heap(mut self, hot: u32, ring: u32) -> Result<Heap, Refused<Closed>> {
-        let (core, numbers) = (null_mut(), self.numbers);
-        let mut handle = Handle { core };
-        // SAFETY: `over` is open, and `handle` is closed.
-        match unsafe { g1_race_core(&mut self.over, &mut handle, hot, ring) } {
-            DONE => Ok(Heap { handle, numbers }),
-            word => Err(Refused {
-                value: self,
-                refusal: Refusal::of(word),
-            }),
-        }
-    }
-}
-
-impl Drop for Closed {
-    fn drop(&mut self) {
-        // SAFETY: the handle is closed, or one that the library wrote.
-        unsafe { g1_over_close(&mut self.over) };
+        done(unsafe { g1_race_refine(&mut self.seat.handle, card.number) })
     }
 }

@@ -1,6 +1,6 @@
-//! The members of a race: taken, returned, missing, and of another heap.
-use ninkoda::race::{Race, RACERS, SWEEPERS};
-use ninkoda::{Counts, Drained, Kind, Refusal, Slot, LOG};
+//! A heap whose stores race: its members handed out, taken in, missing, and of another heap.
+use ninkoda::race::{Paused, Racer, Racing, Sweeper, Word, DATA, RACERS, SWEEPERS};
+use ninkoda::{Cleared, Counts, Kind, Refusal, Slot, LOG};
 use std::thread;
 
 const COUNTS: Counts = Counts {
@@ -9,96 +9,136 @@ const COUNTS: Counts = Counts {
     slots: 1,
 };
 
-fn race() -> Race {
-    Race::open(COUNTS, 2, 1).expect("a race")
+fn heap() -> Paused {
+    Paused::open(COUNTS, 2, 1).expect("a heap")
 }
 
-fn slot(race: &Race, number: u32) -> Slot {
-    race.slot(number).expect("a slot of the heap")
+fn race() -> (Racing, Vec<Racer>, Vec<Sweeper>) {
+    heap().resume()
+}
+
+fn slot(heap: &Paused, number: u32) -> Slot {
+    heap.slot(number).expect("a slot of the heap")
 }
 
 #[test]
 fn has_as_many_members_as_it_was_opened_with() {
-    assert_eq!(Race::open(COUNTS, 0, 1).err(), Some(Refusal::BadMembers));
-    let many = [(RACERS + 1, 1), (1, SWEEPERS + 1), (usize::MAX, usize::MAX)];
+    let many = [
+        (0, 1),
+        (1, 0),
+        (RACERS + 1, 1),
+        (1, SWEEPERS + 1),
+        (usize::MAX, usize::MAX),
+    ];
     for (racers, sweepers) in many {
-        let refused = Race::open(COUNTS, racers, sweepers).err();
+        let refused = Paused::open(COUNTS, racers, sweepers).err();
         assert_eq!(refused, Some(Refusal::BadMembers));
     }
-    assert!(Race::open(COUNTS, RACERS, SWEEPERS).is_ok());
-    let mut race = race();
-    let all = [race.take_racer(), race.take_racer()];
-    assert!(all.iter().all(Option::is_some) && race.take_racer().is_none());
-    assert!(race.take_sweeper().is_some() && race.take_sweeper().is_none());
+    let none = Counts {
+        regions: 0,
+        ..COUNTS
+    };
+    assert_eq!(Paused::open(none, 1, 1).err(), Some(Refusal::BadLayout));
+    let all = Paused::open(COUNTS, RACERS, SWEEPERS).expect("a heap");
+    let (heap, racers, sweepers) = all.resume();
+    assert_eq!((racers.len(), sweepers.len()), (RACERS, SWEEPERS));
+    assert!(heap.pause(racers, sweepers).is_ok());
 }
 
 #[test]
-fn is_not_closed_while_a_member_is_out() {
-    let mut race = race();
-    let racer = race.take_racer().expect("a racer");
-    let refused = race.close().expect_err("a racer is out");
+fn is_not_paused_while_a_member_is_out() {
+    let (heap, mut racers, sweepers) = race();
+    let racer = racers.pop().expect("a racer");
+    let refused = heap.pause(racers, sweepers).expect_err("a racer is out");
     assert_eq!(refused.refusal, Refusal::MembersOut);
-    let mut race = refused.value;
-    race.return_racer(racer).expect("it is of this race");
-    let sweeper = race.take_sweeper().expect("a sweeper");
-    drop(sweeper);
-    let refused = race.close().expect_err("a sweeper is gone");
+    let (heap, mut racers, mut sweepers) = refused.value;
+    racers.push(racer);
+    sweepers.clear();
+    let refused = heap.pause(racers, sweepers).expect_err("no sweeper");
     assert_eq!(refused.refusal, Refusal::MembersOut);
 }
 
 #[test]
 fn takes_no_member_and_no_number_of_another_heap() {
-    let (mut one, mut other) = (race(), race());
-    let mut racer = one.take_racer().expect("a racer");
-    let mut sweeper = one.take_sweeper().expect("a sweeper");
-    let (near, far) = (slot(&one, 0), slot(&other, 512));
-    assert_eq!(racer.store(near, Some(far)), Err(Refusal::OtherHeap));
+    let far = slot(&heap(), 512);
+    let (one, mut racers, mut sweepers) = race();
+    let (other, mut others, other_sweepers) = race();
+    let near = one.slot(0).expect("a slot");
+    assert_eq!(racers[0].store(near, Some(far)), Err(Refusal::OtherHeap));
+    assert_eq!(racers[0].word(far), Err(Refusal::OtherHeap));
     let card = other.card(0).expect("a card");
-    assert_eq!(sweeper.refine(card), Err(Refusal::OtherHeap));
-    let refused = other.return_racer(racer).expect_err("it is another's");
+    assert_eq!(sweepers[0].refine(card), Err(Refusal::OtherHeap));
+    std::mem::swap(&mut racers[1], &mut others[0]);
+    let refused = one.pause(racers, sweepers).expect_err("it is another's");
     assert_eq!(refused.refusal, Refusal::OtherHeap);
-    one.return_racer(refused.value).expect("it is of this race");
-    let refused = other.return_sweeper(sweeper).expect_err("it is another's");
-    one.return_sweeper(refused.value)
-        .expect("it is of this race");
-    assert!(one.close().is_ok() && other.close().is_ok());
+    let (one, mut racers, sweepers) = refused.value;
+    std::mem::swap(&mut racers[1], &mut others[0]);
+    assert!(one.pause(racers, sweepers).is_ok());
+    let mut other = other.pause(others, other_sweepers).expect("all are in");
+    assert_eq!(other.target(near), Err(Refusal::OtherHeap));
 }
 
 #[test]
 fn says_when_a_log_is_full() {
-    let mut race = race();
-    let mut racer = race.take_racer().expect("a racer");
-    let far = race.slot(512);
+    let (heap, mut racers, sweepers) = race();
+    let (racer, far) = (&mut racers[0], heap.slot(512));
+    let near = |number| heap.slot(number).expect("a slot");
     for number in 0..LOG as u32 {
-        let card = race.card(number).expect("a card");
-        let kind = racer.store(slot(&race, number), far);
-        assert_eq!(kind, Ok(Kind::Logged(card)));
+        let card = heap.card(number).expect("a card");
+        assert_eq!(racer.store(near(number), far), Ok(Kind::Logged(card)));
     }
-    let last = slot(&race, LOG as u32);
+    let last = near(LOG as u32);
     assert_eq!(racer.store(last, None), Err(Refusal::LogFull));
+    assert_eq!(racer.store_data(last, DATA), Ok(Word::Null));
     let log = racer.take_log().expect("a log");
     assert_eq!(log.len(), LOG);
     assert_eq!(racer.store(last, None), Ok(Kind::Null));
+    assert!(heap.pause(racers, sweepers).is_ok());
 }
 
 #[test]
-fn keeps_its_numbers_through_a_pause() {
-    let mut race = race();
-    let (near, far) = (slot(&race, 0), race.slot(512));
-    for _ in 0..3 {
-        let mut racer = race.take_racer().expect("a racer");
-        let mutator = thread::spawn(move || racer.store(near, far).map(|_| racer));
-        let racer = mutator.join().expect("it does not panic").expect("a store");
-        race.return_racer(racer).expect("it is of this race");
-        let closed = race.close().expect("all are in");
-        let refused = closed.into_heap(4, 0).expect_err("a ring of none");
-        assert_eq!(refused.refusal, Refusal::BadSettings);
-        let mut heap = refused.value.into_heap(4, 8).expect("a heap");
-        let region = heap.region(2).expect("region 2");
-        let drained = heap.drain(region).expect("memory");
-        assert!(matches!(drained, Drained::Cards { members, .. } if members.len() == 1));
-        let refused = Race::resume(heap, 0, 1).expect_err("a race of no racer");
-        assert_eq!(refused.refusal, Refusal::BadMembers);
-        race = Race::resume(refused.value, 2, 1).expect("a race");
+fn keeps_its_numbers_and_its_words_through_a_pause() {
+    let mut heap = heap();
+    let (near, far) = (slot(&heap, 0), slot(&heap, 512));
+    let place = |number| heap.region(number).expect("a region");
+    let (first, entered) = (place(0), place(2));
+    for turn in 0..3 {
+        let (race, mut racers, sweepers) = heap.resume();
+        let mut racer = racers.pop().expect("a racer");
+        let mutator = thread::spawn(move || racer.store(near, Some(far)).map(|_| racer));
+        racers.push(mutator.join().expect("it does not panic").expect("a store"));
+        assert_eq!(racers[0].word(near), Ok(Word::Reference(far)));
+        heap = race.pause(racers, sweepers).expect("all are in");
+        assert_eq!(heap.word(near), Ok(Word::Reference(far)));
+        assert_eq!(heap.drain(entered).map(|cards| cards.len()), Ok(1));
+        assert_eq!(heap.clear(entered), Ok(Cleared::StillReferenced(near)));
+        assert_eq!(heap.forget(first), Err(Refusal::StillReferenced));
+        assert_eq!(heap.store_data(near, 7), Err(Refusal::BadWord));
+        assert_eq!(heap.store_data(near, DATA + turn), Ok(()));
+        assert_eq!(heap.target(near), Ok(None));
+        assert_eq!(heap.word(near), Ok(Word::Data(DATA + turn)));
+        assert_eq!(heap.wipe(first), Ok(()));
+        assert_eq!(heap.forget(first), Ok(()));
+        assert_eq!(heap.members(entered), Ok(Vec::new()));
     }
+}
+
+#[test]
+fn stores_and_moves_references_at_a_pause() {
+    let mut heap = heap();
+    let (near, far) = (slot(&heap, 0), slot(&heap, 512));
+    let card = heap.card(0).expect("a card");
+    let place = |number| heap.region(number).expect("a region");
+    let (from, to) = (place(2), place(3));
+    assert_eq!(heap.store(near, Some(far)), Ok(Kind::Logged(card)));
+    assert_eq!(heap.is_pending(card), Ok(true));
+    assert_eq!(heap.clear(from), Ok(Cleared::Pending(1)));
+    assert_eq!(heap.refine(), Ok(()));
+    assert_eq!(heap.status().map(|totals| totals.recorded), Ok(1));
+    assert_eq!(heap.redirect(from, from), Err(Refusal::SameRegion));
+    assert_eq!(heap.redirect(from, to), Ok(1));
+    assert_eq!(heap.target(near), Ok(heap.slot(768)));
+    assert_eq!(heap.members(to), Ok(vec![card]));
+    assert_eq!(heap.store_all(&[(near, None), (far, None)]), Ok(()));
+    assert_eq!(heap.clear(to), Ok(Cleared::Cleared));
 }
