@@ -1,7 +1,7 @@
 //! Refinement and drains at a pause.
 ghost use Rattle.std.specs.Prelude.{◌≡◌, ℕ, ◌+◌, ◌*◌, ◌<◌, ◌≤◌, [], ◌∷◌, IfOk, OnErr, List, length};
 ghost use Rattle.std.specs.Prelude.{map, replicate, vec_len};
-ghost use Rattle.g1_layout.specs.Shape.{slot_count};
+ghost use Rattle.g1_layout.specs.Shape.{slot_count, card_count};
 ghost use Rattle.g1_core.specs.Run.{IsStep};
 ghost use Rattle.g1_core.specs.Calls.{drain_cards, drain_entry};
 ghost use Rattle.g1_race_words.specs.Rule.{IsOfCrossing, IsWord};
@@ -41,6 +41,8 @@ impl<R: Holds> Paused<R> {
         ensures race { IfOk result (λ answer. IsRefinedRace self.old self.new) }
         ensures words { IfOk result (λ answer. SlotsBecome same_word self.old self.new) }
         ensures whole { IfOk result IsWhole }
+        ensures few { IfOk result (λ answer.
+            length (drain_cards answer) ≤ card_count self.old.layout) }
         ensures step { IfOk result (λ answer. (caller : ℕ)
             → IsStep (halted self.old) (drain_entry caller region answer) (halted self.new)) }
         ensures exact { IfOk result (λ answer.

@@ -1,6 +1,7 @@
 //! The pairs that are recorded at a pause, and the cards that are dirty.
-ghost use Rattle.std.specs.Prelude.{◌≡◌, ◌+◌, ◌<◌, ◌≤◌, ◌↔◌, IsTrue, IfOk, ℕ};
+ghost use Rattle.std.specs.Prelude.{◌≡◌, ◌+◌, ◌<◌, ◌≤◌, ◌↔◌, IsTrue, IfOk, ℕ, length};
 ghost use Rattle.std.specs.FinSet as set;
+ghost use Rattle.g1_layout.specs.Shape.{card_count};
 ghost use Rattle.g1_core.specs.Table.{IsRecorded, AreMembers};
 ghost use Rattle.g1_core.specs.Run.{IsStep};
 ghost use Rattle.g1_core.specs.Calls.{members_entry, status_entry};
@@ -38,6 +39,7 @@ impl<R: Holds> Paused<R> {
     pub fn members(&mut self, alloc: Global, region: Region) -> Result<CardList, NoMemory>
         requires { region < self.old.layout.regions }
         ensures members { IfOk result (λ cards. AreMembers (halted self.old) region cards) }
+        ensures few { IfOk result (λ cards. length cards ≤ card_count self.old.layout) }
         ensures step { IfOk result (λ cards. (caller : ℕ)
             → IsStep (halted self.old) (members_entry caller region cards) (halted self.new)) }
         ensures same { self.new ≡ self.old }
@@ -121,6 +123,7 @@ pub(crate) fn members_of(
     requires region { region < race.now.layout.regions }
     ensures members { IfOk result (λ cards.
         AreMembers (table_known race.now seat.old) region cards) }
+    ensures few { IfOk result (λ cards. length cards ≤ card_count race.now.layout) }
     ensures seat { (seat.new.table_id ≡ seat.old.table_id) × (seat.new.me ≡ seat.old.me) }
 {
     let number = region.number() as usize;

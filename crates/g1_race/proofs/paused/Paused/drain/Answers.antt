@@ -1,4 +1,5 @@
-use Rattle.std.proofs.Common.{◌≡◌, ℕ, ◌<◌, List, length, sym, ap, ◌∙◌, subst, arith, [], replicate}
+use Rattle.std.proofs.Common.{◌≡◌, ℕ, ◌<◌, ◌≤◌, List, length, sym, ap, ◌∙◌, subst, arith, [], replicate}
+use Rattle.g1_layout.specs.Shape.{card_count}
 use Rattle.g1_core.specs.Run.{IsStep, drained}
 use Rattle.g1_race_words.specs.declared.view.Shape.{Shape}
 use Rattle.g1_race.specs.Telling.{is_marked, is_member, marked_cards, member_cards}
@@ -98,3 +99,14 @@ returns-clause-words g c =
     let is = refined_words k old new k.cards (subst (λ (ws : List ℕ). AreRefined k ws new k.cards) same c.refine_cards.ensures.refined) in
     subst (λ (h : Halt). WordsBecome same_word h.shape h.words c.list_members.new.seat.me.0.began_words) (lent_view c.race-race.ensures c.self.view_is)
     (subst (λ (ws : List ℕ). WordsBecome same_word k old ws) (sym (ap (λ m. m.0.began_words) c.list_members.ensures.seat.1)) is)
+
+pub returns-clause-few : goal.returns-clause-few
+returns-clause-few g c =
+    let race = c.race-race.result.now in
+    let k = race.shape in
+    let new = c.refine_cards.new.seat.me.0.began_words in
+    let number = c.number-number.result in
+    let listed : c.of-cards.result ≡ member_cards k new number = c.of-cards.ensures ∙ c.list_members.ensures.cards in
+    let cards : k.cards ≡ card_count race.layout = ap (λ (s : Shape). s.cards) race.laid in
+    subst (λ (h : Halt). length c.of-cards.result ≤ card_count h.layout) (lent_view c.race-race.ensures c.self.view_is)
+    (subst (λ (n : ℕ). length c.of-cards.result ≤ n) cards (subst (λ (cs : List ℕ). length cs ≤ k.cards) (sym listed) (few (is_member k new number) k.cards)))

@@ -1,6 +1,7 @@
 use Rattle.std.specs.Prelude.{IfOk}
-use Rattle.std.proofs.Common.{List, ℕ, sym, ap, ◌∙◌, subst}
+use Rattle.std.proofs.Common.{List, ℕ, ◌≤◌, length, sym, ap, ◌∙◌, subst}
 use Rattle.std.proofs.lemmas.Result.{IfOk-weaker}
+use Rattle.g1_layout.specs.Shape.{card_count}
 use Rattle.g1_core.specs.Table.{Table, AreMembers}
 use Rattle.g1_core.specs.Run.{IsStep}
 use Rattle.g1_core.specs.Calls.{members_entry}
@@ -17,3 +18,7 @@ returns-clause-step g c =
     let same = ap (λ (ws : List ℕ). table_of (ended race.layout race.shape ws)) (ap (λ m. m.0.began_words) c.members_of.ensures.seat.1) ∙ ap halted c.self.view_is in
     subst (λ (t : Table). IfOk c.members_of.result (λ cards. (caller : ℕ) → IsStep (halted h) (members_entry caller region cards) t)) (sym same)
     (IfOk-weaker c.members_of.result _ _ (λ cards are caller. members_step caller (halted h) region cards c.requires (subst (λ (x : Halt). AreMembers (halted x) region cards) (lent_view c.race.ensures c.self.view_is) are)) c.members_of.ensures.members)
+
+pub returns-clause-few : goal.returns-clause-few
+returns-clause-few g c =
+    IfOk-weaker c.members_of.result _ _ (λ cards few. subst (λ (x : Halt). length cards ≤ card_count x.layout) (lent_view c.race.ensures c.self.view_is) few) c.members_of.ensures.few
