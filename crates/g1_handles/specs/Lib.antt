@@ -6,3 +6,4 @@ pub mod Queries
 pub mod Batch
 pub mod Racing
 pub mod Closing
+pub mod AtPause
