@@ -9,7 +9,6 @@ use Rattle.g1_race_words.specs.declared.view.View.{View}
 use Rattle.g1_race.specs.Members.{race_shape}
 use Rattle.g1_handles.specs.declared.member.Member.{Member}
 use Rattle.g1_handles.specs.declared.member.Role.{Role}
-use Rattle.g1_handles.specs.declared.member.Role.TheVariants as roles
 use Rattle.g1_handles.specs.declared.member_handle.MemberHandle.{MemberHandle}
 use Rattle.g1_handles.specs.Racing.{held, known_to, IsAmong, IsOf}
 
@@ -32,10 +31,3 @@ view_next f xs ys a hs n h below items so is =
 pub race_has : (role : Role) (members : ℕ) (race : Race) (m : Option Member) → IsAmong role members m → IsOf race m → (race_shape race).members ≡ members
 race_has role members race None among of = absurd of
 race_has role members race (Some m) among of = sym (ap (λ r. (race_shape r).members) of) ∙ among.1
-
-abbrev is_racer : Role → Type 0
-is_racer roles.Racer = Unit {0}
-is_racer roles.Sweeper = ⊥
-
-pub not_both : roles.Racer ≡ roles.Sweeper → ⊥
-not_both e = subst is_racer e tt

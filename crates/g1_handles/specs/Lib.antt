@@ -7,3 +7,5 @@ pub mod Batch
 pub mod Racing
 pub mod Closing
 pub mod AtPause
+pub mod Parked
+pub mod Life

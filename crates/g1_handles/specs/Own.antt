@@ -12,6 +12,8 @@ use Rattle.g1_handles.specs.declared.member.Member.{Member}
 use Rattle.g1_handles.specs.contracts.member.Member as member
 use Rattle.g1_handles.specs.declared.over_handle.Remains.{Remains}
 use Rattle.g1_handles.specs.contracts.over_handle.Remains as remains
+use Rattle.g1_handles.specs.declared.racing_heap.RacingHeap.{RacingHeap}
+use Rattle.g1_handles.specs.contracts.racing_heap.RacingHeap as racing_heap
 
 -- the value at the pointer, and the right to free its block
 abbrev pub owns_boxed : (R : RattleType) → Global → Ptr → R.Denot → Fml
@@ -34,3 +36,7 @@ holds_member a p v = holds member.the_row a p v
 -- what the handle of a race that is over owns
 abbrev pub holds_over : Global → Ptr → Option Remains → Fml
 holds_over a p v = holds remains.the_row a p v
+
+-- what the handle of a heap whose stores race owns
+abbrev pub holds_heap : Global → Ptr → Option RacingHeap → Fml
+holds_heap a p v = holds racing_heap.the_row a p v

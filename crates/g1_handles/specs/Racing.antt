@@ -34,24 +34,42 @@ abbrev pub OfRacer : Option Member → (Racing → Type 0) → Type 0
 OfRacer None P = ⊥
 OfRacer (Some (member.Racer a)) P = P a
 OfRacer (Some (member.Sweeper b)) P = ⊥
+OfRacer (Some (member.Parked k)) P = ⊥
 
 -- the handle is a sweeper's, and it is so of the sweeper
 abbrev pub OfSweeper : Option Member → (Sweeping → Type 0) → Type 0
 OfSweeper None P = ⊥
 OfSweeper (Some (member.Racer a)) P = ⊥
 OfSweeper (Some (member.Sweeper b)) P = P b
+OfSweeper (Some (member.Parked k)) P = ⊥
 
 -- if the handle is a racer's, it is so of the racer
 abbrev pub IfRacer : Option Member → (Racing → Type 0) → Type 0
 IfRacer None P = Unit {0}
 IfRacer (Some (member.Racer a)) P = P a
 IfRacer (Some (member.Sweeper b)) P = Unit {0}
+IfRacer (Some (member.Parked k)) P = Unit {0}
 
 -- if the handle is a sweeper's, it is so of the sweeper
 abbrev pub IfSweeper : Option Member → (Sweeping → Type 0) → Type 0
 IfSweeper None P = Unit {0}
 IfSweeper (Some (member.Racer a)) P = Unit {0}
 IfSweeper (Some (member.Sweeper b)) P = P b
+IfSweeper (Some (member.Parked k)) P = Unit {0}
+
+-- the handle is open, and no racer's
+abbrev pub IsNoRacer : Option Member → Type 0
+IsNoRacer None = ⊥
+IsNoRacer (Some (member.Racer a)) = ⊥
+IsNoRacer (Some (member.Sweeper b)) = Unit {0}
+IsNoRacer (Some (member.Parked k)) = Unit {0}
+
+-- the handle is open, and no sweeper's
+abbrev pub IsNoSweeper : Option Member → Type 0
+IsNoSweeper None = ⊥
+IsNoSweeper (Some (member.Racer a)) = Unit {0}
+IsNoSweeper (Some (member.Sweeper b)) = ⊥
+IsNoSweeper (Some (member.Parked k)) = Unit {0}
 
 abbrev pub racer_race_of : Racing → Race
 racer_race_of a = arc_value a.race
@@ -136,11 +154,13 @@ OfMember (Some m) P = P m
 abbrev pub role_of : Member → Role
 role_of (member.Racer a) = roles.Racer
 role_of (member.Sweeper b) = roles.Sweeper
+role_of (member.Parked k) = roles.Parked
 
 -- the race that a member is of
 abbrev pub race_of : Member → Race
 race_of (member.Racer a) = racer_race_of a
 race_of (member.Sweeper b) = sweeper_race_of b
+race_of (member.Parked k) = arc_value k.race
 
 -- how many members its race has
 abbrev pub members_of : Member → ℕ
@@ -172,6 +192,7 @@ abbrev pub known_to : Option Member → View
 known_to None = nothing
 known_to (Some (member.Racer a)) = racer_view a.racer
 known_to (Some (member.Sweeper b)) = sweeper_view b.sweeper
+known_to (Some (member.Parked k)) = nothing
 
 -- what is left of a race that ended with racers and sweepers who know this
 pub record IsEndOf (race : Race) (racers sweepers : List View) (e : Ended) : Type 0 where

@@ -16,6 +16,7 @@ use Rattle.g1_handles.specs.declared.over_handle.Remains.{Remains}
 use Rattle.g1_handles.specs.Codes.{OfOpen, IsStoreOf}
 use Rattle.g1_handles.specs.Racing.{held, racer_race_of, sweeper_race_of, AreClosed, AreCounts}
 use Rattle.g1_handles.specs.Racing.{HasRole, IsAmong, IsKept, KeepsMembers, OfRacer, OfSweeper}
+use Rattle.g1_handles.specs.Racing.{IsNoRacer, IsNoSweeper}
 
 -- the handle is closed
 abbrev pub SaysNotOpen : Option Machine → Refusal → Type 0
@@ -57,9 +58,13 @@ SaysNoMember m r = (r ≡ refusal.NotOpen) × (m ≡ None)
 abbrev pub SaysNoRemains : Option Remains → Refusal → Type 0
 SaysNoRemains over r = (r ≡ refusal.NotOpen) × (over ≡ None)
 
--- the handle is that of a member with this role, which is not the one that is asked for
-abbrev pub SaysOtherRole : Role → Option Member → Refusal → Type 0
-SaysOtherRole role m r = (r ≡ refusal.OtherRole) × HasRole role m
+-- the handle is open, and not that of a racer, which is asked for
+abbrev pub SaysNoRacer : Option Member → Refusal → Type 0
+SaysNoRacer m r = (r ≡ refusal.OtherRole) × IsNoRacer m
+
+-- the handle is open, and not that of a sweeper, which is asked for
+abbrev pub SaysNoSweeper : Option Member → Refusal → Type 0
+SaysNoSweeper m r = (r ≡ refusal.OtherRole) × IsNoSweeper m
 
 -- a store of the target into the slot, which takes no memory
 abbrev pub IsStoreRefused : Option Machine → ℕ → ℕ → Refusal → Type 0
@@ -81,18 +86,18 @@ IsPendingRefused handle card r =
 -- a store of the target into the slot by the racer of a handle
 abbrev pub IsRaceStoreRefused : Option Member → ℕ → ℕ → Refusal → Type 0
 IsRaceStoreRefused m slot target r =
-    SaysNoMember m r ⊎ SaysOtherRole roles.Sweeper m r
+    SaysNoMember m r ⊎ SaysNoRacer m r
     ⊎ ((r ≡ refusal.LogFull) × OfRacer m (λ a. 256 ≤ array_vec_len a.racer.log))
     ⊎ OfRacer m (λ a. SaysNoPlace (race_layout (racer_race_of a)) slot target r)
 
 -- the log of the racer of a handle
 abbrev pub IsLogRefused : Option Member → Refusal → Type 0
-IsLogRefused m r = SaysNoMember m r ⊎ SaysOtherRole roles.Sweeper m r
+IsLogRefused m r = SaysNoMember m r ⊎ SaysNoRacer m r
 
 -- the refinement of the card by the sweeper of a handle, which takes no memory
 abbrev pub IsSweepRefused : Option Member → ℕ → Refusal → Type 0
 IsSweepRefused m card r =
-    SaysNoMember m r ⊎ SaysOtherRole roles.Racer m r
+    SaysNoMember m r ⊎ SaysNoSweeper m r
     ⊎ ((r ≡ refusal.NoCard)
     × OfSweeper m (λ b. card_count (race_layout (sweeper_race_of b)) ≤ card))
 

@@ -57,6 +57,12 @@ pub enum Refusal {
     OtherRace,
     /// The members of a race are gathered; the race has another owner, so it has not ended.
     NotEnded,
+    /// The heap is not at a pause: its members are out.
+    NotPaused,
+    /// The heap is at a pause: its members are in.
+    NotRacing,
+    /// A word below 2^32 is a reference's, and no data.
+    BadWord,
 }
 
 impl Refusal {
@@ -84,6 +90,9 @@ impl Refusal {
             Refusal::BadMembers => 23,
             Refusal::OtherRace => 24,
             Refusal::NotEnded => 25,
+            Refusal::NotPaused => 26,
+            Refusal::NotRacing => 27,
+            Refusal::BadWord => 28,
         }
     }
 }

@@ -52,6 +52,7 @@ fn look(member: &Member, role: Role, members: usize) -> Result<(), Refusal>
     let (is, many) = match member {
         Member::Racer(racing) => (Role::Racer, racing.race.members()),
         Member::Sweeper(sweeping) => (Role::Sweeper, sweeping.race.members()),
+        Member::Parked(parking) => (Role::Parked, parking.race.members()),
     };
     if is != role {
         return Err(Refusal::OtherRole);

@@ -1,4 +1,4 @@
-//! A member of a race: a racer or a sweeper, with its share of the race.
+//! A member of a race: a racer or a sweeper, with its share of the race, or what waits for one.
 ghost use Rattle.std.specs.Prelude.{◌≡◌};
 ghost use Rattle.std.specs.Arc.{arc_value};
 ghost use Rattle.g1_race.specs.Members.{race_id, racer_race, sweeper_race};
@@ -30,6 +30,14 @@ pub struct Sweeping {
     ghost same: { sweeper_race sweeper ≡ race_id (arc_value race) },
 }
 
+/// What is left of a racer or of a sweeper while its heap is at a pause.
+#[derive(Drop)]
+pub struct Parking {
+    pub(crate) race: Arc<Race, Global>,
+    // Its number among the racers or the sweepers of its race.
+    pub(crate) number: usize,
+}
+
 /// A member of a race.
 #[derive(Drop)]
 pub enum Member {
@@ -37,6 +45,8 @@ pub enum Member {
     Racer(Racing),
     /// It refines.
     Sweeper(Sweeping),
+    /// It waits for the end of a pause, in no handle.
+    Parked(Parking),
 }
 
 /// What a member does.
@@ -46,6 +56,8 @@ pub enum Role {
     Racer,
     /// It refines.
     Sweeper,
+    /// It waits.
+    Parked,
 }
 
 fn sent<T: Send>(_value: &T) {}

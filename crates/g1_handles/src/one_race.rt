@@ -104,6 +104,7 @@ fn race_in(member: &Member) -> &Arc<Race, Global>
     match member {
         Member::Racer(racing) => &racing.race,
         Member::Sweeper(sweeping) => &sweeping.race,
+        Member::Parked(parking) => &parking.race,
     }
 }
 
@@ -111,5 +112,6 @@ fn number_of(member: &Member) -> usize {
     match member {
         Member::Racer(racing) => racing.number,
         Member::Sweeper(sweeping) => sweeping.number,
+        Member::Parked(parking) => parking.number,
     }
 }

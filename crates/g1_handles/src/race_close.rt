@@ -180,6 +180,7 @@ fn gather_racers(alloc: Global, handles: &mut [MemberHandle], mut racers: Vec<Ra
         let racing = match replace_with(&mut handles[i], alloc, take) {
             Some(Member::Racer(racing)) => racing,
             Some(Member::Sweeper(_)) => unreachable!(),
+            Some(Member::Parked(_)) => unreachable!(),
             None => unreachable!(),
         };
         let Racing { racer, .. } = racing;
@@ -207,6 +208,7 @@ fn gather_sweepers(
         let sweeping = match replace_with(&mut handles[i], alloc, take) {
             Some(Member::Sweeper(sweeping)) => sweeping,
             Some(Member::Racer(_)) => unreachable!(),
+            Some(Member::Parked(_)) => unreachable!(),
             None => unreachable!(),
         };
         let Sweeping { sweeper, .. } = sweeping;

@@ -66,6 +66,7 @@ mod reader;
 mod reading;
 mod redirect;
 mod resume;
+mod shared;
 mod stopped;
 mod sweeper;
 mod wipe;

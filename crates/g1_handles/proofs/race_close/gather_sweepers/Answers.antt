@@ -9,7 +9,7 @@ use Rattle.g1_handles.specs.declared.member.Member.{Member}
 use Rattle.g1_handles.specs.declared.member_handle.MemberHandle.{MemberHandle}
 use Rattle.g1_handles.specs.declared.member.Role.TheVariants as roles
 use Rattle.g1_handles.specs.Racing.{HasRole, IsOf, known_to}
-use Rattle.g1_handles.proofs.Rows.{at_handle, not_both, view_next}
+use Rattle.g1_handles.proofs.Rows.{at_handle, view_next}
 use Rattle.g1_handles.proofs.race_close.gather_sweepers.Goals as goal
 
 pub loop-i-preserved : goal.loop-i-preserved
@@ -54,7 +54,18 @@ unreachable-requires c =
     let was = c.loop-i.invariant.rest n h (omega arith) in
     let value = sym (ap (λ (x : MemberHandle). x.value) was) ∙ (sym c.replace_with.ensures.1 ∙ (c.in-Some-Racer.is ∙ ap Some c.in-Some-Racer.field-0-is)) in
     let e : roles.Racer ≡ roles.Sweeper = subst (HasRole roles.Sweeper) value role in
-    not_both e
+    cc
+
+pub unreachable-requires-in-Some-Parked : goal.unreachable-requires-in-Some-Parked
+unreachable-requires-in-Some-Parked c =
+    let old = c.args.handles.now in
+    let n = c.loop-i.i in
+    let h = c.index-handles-i.result in
+    let role = at_handle (HasRole roles.Sweeper) old n h (omega (arith, c.loop-i-test.true, c.loop-i.invariant.sized)) c.requires.role in
+    let was = c.loop-i.invariant.rest n h (omega arith) in
+    let value = sym (ap (λ (x : MemberHandle). x.value) was) ∙ (sym c.replace_with.ensures.1 ∙ (c.in-Some-Parked.is ∙ ap Some c.in-Some-Parked.field-0-is)) in
+    let e : roles.Parked ≡ roles.Sweeper = subst (HasRole roles.Sweeper) value role in
+    cc
 
 pub unreachable-requires-in-None : goal.unreachable-requires-in-None
 unreachable-requires-in-None c =
