@@ -1,5 +1,5 @@
 -- What the collector's calls on a heap at a pause do, and why they are refused.
-use Rattle.std.specs.Prelude.{◌≡◌, ◌≢◌, ◌≤◌, ℕ, Bool, List, fold, Option, None}
+use Rattle.std.specs.Prelude.{◌≡◌, ◌≢◌, ◌≤◌, ℕ, Bool, List, length, fold, Option, None}
 use Rattle.std.specs.FinSet as set
 use mathlib.Core.Option.{some}
 use lib.ListN.{get_elem?}
@@ -36,6 +36,15 @@ LacksCard heap card r = (r ≡ refusal.NoCard) × (card_count heap.layout ≤ ca
 -- the heap has no region of this number
 abbrev pub LacksRegion : Halt → ℕ → Refusal → Type 0
 LacksRegion heap region r = (r ≡ refusal.NoRegion) × (heap.layout.regions ≤ region)
+
+-- whose words these are, how they are laid out, and how many members there are is as it was
+pub record IsKept (old new : Halt) : Type 0 where
+  pub layout : new.layout ≡ old.layout
+  pub shape : new.shape ≡ old.shape
+  pub address : new.address ≡ old.address
+  pub table_id : new.table_id ≡ old.table_id
+  pub racers : length new.logs ≡ length old.logs
+  pub sweepers : new.sweepers ≡ old.sweepers
 
 -- the slot refers to the target
 pub record SlotRefers (heap : Halt) (slot : ℕ) (target : Option ℕ) : Type 0 where

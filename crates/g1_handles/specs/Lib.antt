@@ -9,3 +9,4 @@ pub mod Closing
 pub mod AtPause
 pub mod Parked
 pub mod Life
+pub mod HeapCalls

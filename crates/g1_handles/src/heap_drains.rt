@@ -1,6 +1,6 @@
 //! Refinement and drains at a pause.
 ghost use Rattle.std.specs.Prelude.{◌≡◌, ◌<◌, ◌⊎◌, IfOk, IfErr, OnErr};
-ghost use Rattle.g1_handles.specs.AtPause.{Drains, Refines, LacksRegion};
+ghost use Rattle.g1_handles.specs.AtPause.{IsKept, Drains, Refines, LacksRegion};
 ghost use Rattle.g1_handles.specs.Queries.{Lists};
 
 use crate::at_pause::PausedHeap;
@@ -12,6 +12,7 @@ use std::alloc::Global;
 /// Refines every dirty card, and returns the remembered set of a region, or how many cards it has
 /// if the caller's array, of length `room`, is shorter. Returns `NoRegion` or `NoMemory` if the
 /// call was refused: nothing has changed.
+#[tactic(auto, using(crate::proofs::KeptLemmas::kept_same, crate::proofs::KeptLemmas::kept_refined))]
 pub fn drain_at(
     heap: &mut PausedHeap,
     alloc: Global,
@@ -22,6 +23,7 @@ pub fn drain_at(
     ensures why { IfErr result (λ refusal. LacksRegion heap.old region refusal
         ⊎ (refusal ≡ Refusal.NoMemory)) }
     ensures refused { OnErr result (heap.new ≡ heap.old) }
+    ensures kept { IsKept heap.old heap.new }
 {
     let layout = heap.layout();
     let _limit = layout.card_count();
@@ -38,8 +40,10 @@ pub fn drain_at(
 }
 
 /// Refines every dirty card. The members of each region are exact then.
+#[tactic(auto, using(crate::proofs::KeptLemmas::kept_refined))]
 pub fn refine_at(heap: &mut PausedHeap)
-    ensures { Refines heap.old heap.new }
+    ensures refined { Refines heap.old heap.new }
+    ensures kept { IsKept heap.old heap.new }
 {
     heap.refine_all();
 }

@@ -4,7 +4,7 @@ ghost use Rattle.std.specs.Prelude.{◌≡◌, ◌≢◌, ◌<◌, ◌⊎◌, �
 ghost use Rattle.g1_layout.specs.Shape.{region_of};
 ghost use Rattle.g1_core.specs.Table.{Crosses};
 ghost use Rattle.g1_race.specs.Over.{halted};
-ghost use Rattle.g1_handles.specs.AtPause.{ClearsAt, Redirects, Wipes, Forgets, RefersOut};
+ghost use Rattle.g1_handles.specs.AtPause.{IsKept, ClearsAt, Redirects, Wipes, Forgets, RefersOut};
 ghost use Rattle.g1_handles.specs.AtPause.{LacksRegion};
 
 use crate::at_pause::PausedHeap;
@@ -14,10 +14,12 @@ use g1_layout::{Layout, Region};
 
 /// Empties the remembered set of a region, once no card is dirty and no slot outside the region
 /// refers into it. Returns `NoRegion` if the call was refused: nothing has changed.
+#[tactic(auto, using(crate::proofs::KeptLemmas::kept_same, crate::proofs::KeptLemmas::kept_race))]
 pub fn clear_at(heap: &mut PausedHeap, region: u32) -> Result<ClearReply, Refusal>
     ensures cleared { IfOk result (λ reply. ClearsAt heap.old region reply heap.new) }
     ensures why { IfErr result (LacksRegion heap.old region) }
     ensures refused { OnErr result (heap.new ≡ heap.old) }
+    ensures kept { IsKept heap.old heap.new }
 {
     let Some(region) = heap.layout().region(region) else {
         return Err(Refusal::NoRegion);
@@ -27,11 +29,13 @@ pub fn clear_at(heap: &mut PausedHeap, region: u32) -> Result<ClearReply, Refusa
 
 /// Moves the references into one region to another, and returns how many slots changed. Returns
 /// `NoRegion`, for either region, or `SameRegion` if the call was refused: nothing has changed.
+#[tactic(auto, using(crate::proofs::KeptLemmas::kept_same, crate::proofs::KeptLemmas::kept_refined))]
 pub fn redirect_at(heap: &mut PausedHeap, from: u32, to: u32) -> Result<u32, Refusal>
     ensures redirected { IfOk result (λ slots. Redirects heap.old from to slots heap.new) }
     ensures why { IfErr result (λ refusal. LacksRegion heap.old from refusal
         ⊎ LacksRegion heap.old to refusal ⊎ ((refusal ≡ Refusal.SameRegion) × (from ≡ to))) }
     ensures refused { OnErr result (heap.new ≡ heap.old) }
+    ensures kept { IsKept heap.old heap.new }
 {
     let layout = heap.layout();
     let Some(from) = layout.region(from) else {
@@ -48,10 +52,12 @@ pub fn redirect_at(heap: &mut PausedHeap, from: u32, to: u32) -> Result<u32, Ref
 
 /// Stores null into each slot of a region. Returns `NoRegion` if the call was refused: nothing has
 /// changed.
+#[tactic(auto, using(crate::proofs::KeptLemmas::kept_same, crate::proofs::KeptLemmas::kept_race))]
 pub fn wipe_at(heap: &mut PausedHeap, region: u32) -> Result<(), Refusal>
     ensures wiped { OnOk result (Wipes heap.old region heap.new) }
     ensures why { IfErr result (LacksRegion heap.old region) }
     ensures refused { OnErr result (heap.new ≡ heap.old) }
+    ensures kept { IsKept heap.old heap.new }
 {
     let Some(region) = heap.layout().region(region) else {
         return Err(Refusal::NoRegion);
@@ -62,11 +68,13 @@ pub fn wipe_at(heap: &mut PausedHeap, region: u32) -> Result<(), Refusal>
 
 /// Removes a region's cards from all remembered sets. Returns `NoRegion`, or `StillReferenced` if a
 /// slot of the region refers out of it: nothing has changed.
+#[tactic(auto, using(crate::proofs::KeptLemmas::kept_same, crate::proofs::KeptLemmas::kept_race))]
 pub fn forget_at(heap: &mut PausedHeap, region: u32) -> Result<(), Refusal>
     ensures forgotten { OnOk result (Forgets heap.old region heap.new) }
     ensures why { IfErr result (λ refusal. LacksRegion heap.old region refusal
         ⊎ ((refusal ≡ Refusal.StillReferenced) × RefersOut heap.old region)) }
     ensures refused { OnErr result (heap.new ≡ heap.old) }
+    ensures kept { IsKept heap.old heap.new }
 {
     let layout = heap.layout();
     let Some(region) = layout.region(region) else {
