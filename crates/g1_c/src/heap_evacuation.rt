@@ -44,21 +44,18 @@ pub extern "C" fn g1_heap_clear(
         (IsHeapRefused heap.old.value (λ old. LacksRegion old region)) }
     ensures refused { 0 < result → heap.new.value ≡ heap.old.value }
 {
-    *detail = 0;
     match replace_with(
         heap,
         (alloc, |heap: &mut PausedHeap| clear_at(heap, region)),
         at_pause,
     ) {
-        Err(refusal) => refusal.word(),
-        Ok(ClearReply::Cleared) => DONE,
-        Ok(ClearReply::Pending(count)) => {
-            *detail = count;
-            Refusal::StillPending.word()
+        Err(refusal) => {
+            *detail = 0;
+            refusal.word()
         }
-        Ok(ClearReply::StillReferenced(slot)) => {
-            *detail = slot.number();
-            Refusal::StillReferenced.word()
+        Ok((word, number)) => {
+            *detail = number;
+            word
         }
     }
 }

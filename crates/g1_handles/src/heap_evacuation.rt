@@ -6,17 +6,23 @@ ghost use Rattle.g1_core.specs.Table.{Crosses};
 ghost use Rattle.g1_race.specs.Over.{halted};
 ghost use Rattle.g1_handles.specs.AtPause.{IsKept, ClearsAt, Redirects, Wipes, Forgets, RefersOut};
 ghost use Rattle.g1_handles.specs.AtPause.{LacksRegion};
+ghost use Rattle.g1_handles.specs.Codes.{cleared_of, IsClearWord};
 
 use crate::at_pause::PausedHeap;
+use crate::clearing::words_of;
 use crate::code::Refusal;
-use g1_core::ClearReply;
 use g1_layout::{Layout, Region};
 
 /// Empties the remembered set of a region, once no card is dirty and no slot outside the region
-/// refers into it. Returns `NoRegion` if the call was refused: nothing has changed.
+/// refers into it. Returns the word of the reply and the number that goes with it, as
+/// [`clear_in`](crate::clearing::clear_in) does. Unless that word is 0, nothing has changed. Returns
+/// `NoRegion` if the call was refused.
 #[tactic(auto, using(crate::proofs::KeptLemmas::kept_same, crate::proofs::KeptLemmas::kept_race))]
-pub fn clear_at(heap: &mut PausedHeap, region: u32) -> Result<ClearReply, Refusal>
-    ensures cleared { IfOk result (λ reply. ClearsAt heap.old region reply heap.new) }
+pub fn clear_at(heap: &mut PausedHeap, region: u32) -> Result<(u32, u32), Refusal>
+    ensures cleared { IfOk result (λ answer.
+        ClearsAt heap.old region (cleared_of answer.0 answer.1) heap.new) }
+    ensures words { IfOk result (λ answer. IsClearWord answer.0 answer.1) }
+    ensures left { IfOk result (λ answer. 0 < answer.0 → heap.new ≡ heap.old) }
     ensures why { IfErr result (LacksRegion heap.old region) }
     ensures refused { OnErr result (heap.new ≡ heap.old) }
     ensures kept { IsKept heap.old heap.new }
@@ -24,7 +30,7 @@ pub fn clear_at(heap: &mut PausedHeap, region: u32) -> Result<ClearReply, Refusa
     let Some(region) = heap.layout().region(region) else {
         return Err(Refusal::NoRegion);
     };
-    Ok(heap.clear(region))
+    Ok(words_of(heap.clear(region)))
 }
 
 /// Moves the references into one region to another, and returns how many slots changed. Returns
