@@ -49,7 +49,10 @@ pub extern "C" fn g1_heap_drain(
     let room = cards.len();
     match replace_with(
         heap,
-        (alloc, |heap: &mut PausedHeap| drain_at(heap, alloc, region, room)),
+        (
+            alloc,
+            |heap: &mut PausedHeap| drain_at(heap, alloc, region, room),
+        ),
         at_pause,
     ) {
         Err(refusal) => refusal.word(),

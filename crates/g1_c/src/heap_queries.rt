@@ -155,7 +155,10 @@ pub extern "C" fn g1_heap_members(
     let room = cards.len();
     match replace_with(
         heap,
-        (alloc, |heap: &mut PausedHeap| members_at(heap, alloc, region, room)),
+        (
+            alloc,
+            |heap: &mut PausedHeap| members_at(heap, alloc, region, room),
+        ),
         at_pause,
     ) {
         Err(refusal) => refusal.word(),

@@ -79,7 +79,10 @@ pub extern "C" fn g1_heap_store_all(
 {
     match replace_with(
         heap,
-        (alloc, |heap: &mut PausedHeap| Ok(store_all_at(heap, stores))),
+        (
+            alloc,
+            |heap: &mut PausedHeap| Ok(store_all_at(heap, stores)),
+        ),
         at_pause,
     ) {
         Err(refusal) => {

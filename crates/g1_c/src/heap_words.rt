@@ -51,7 +51,12 @@ pub extern "C" fn g1_heap_word(
 /// Returns 0, or the word of `NotOpen`, `NotPaused`, `NoSlot`, or `BadWord` for a lower word:
 /// nothing has changed.
 #[unsafe(no_mangle)]
-pub extern "C" fn g1_heap_store_data(alloc: Global, heap: &mut HeapHandle, slot: u32, word: u64) -> u32
+pub extern "C" fn g1_heap_store_data(
+    alloc: Global,
+    heap: &mut HeapHandle,
+    slot: u32,
+    word: u64,
+) -> u32
     ensures stored { result ≡ 0 → IsSameHeap heap.old.value heap.new.value (λ old new.
         StoresData old slot word new) }
     ensures why { 0 < result → IsRefusal result (IsHeapRefused heap.old.value (λ old r.
@@ -60,7 +65,10 @@ pub extern "C" fn g1_heap_store_data(alloc: Global, heap: &mut HeapHandle, slot:
 {
     match replace_with(
         heap,
-        (alloc, |heap: &mut PausedHeap| store_data_at(heap, slot, word)),
+        (
+            alloc,
+            |heap: &mut PausedHeap| store_data_at(heap, slot, word),
+        ),
         at_pause,
     ) {
         Err(refusal) => refusal.word(),

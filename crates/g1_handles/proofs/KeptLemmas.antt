@@ -17,12 +17,20 @@ kept_same old new e = record {
 
 pub kept_race : (old new : Halt) → IsSameRace old new → IsKept old new
 kept_race old new h = record {
-  layout = h.layout; shape = h.shape; address = h.address; table_id = h.table_id;
-  racers = ap length h.logs; sweepers = h.sweepers;
+  layout = h.layout;
+  shape = h.shape;
+  address = h.address;
+  table_id = h.table_id;
+  racers = ap length h.logs;
+  sweepers = h.sweepers;
 }
 
 pub kept_refined : (old new : Halt) → IsRefinedRace old new → IsKept old new
 kept_refined old new h = record {
-  layout = h.layout; shape = h.shape; address = h.address; table_id = h.table_id;
-  racers = ap length h.logs ∙ length-replicate (length old.logs) []; sweepers = h.sweepers;
+  layout = h.layout;
+  shape = h.shape;
+  address = h.address;
+  table_id = h.table_id;
+  racers = ap length h.logs ∙ length-replicate (length old.logs) [];
+  sweepers = h.sweepers;
 }
