@@ -24,6 +24,11 @@
 pub mod batch;
 pub mod calls;
 pub mod clearing;
+pub mod heap_drains;
+pub mod heap_evacuation;
+pub mod heap_queries;
+pub mod heap_stores;
+pub mod heap_words;
 pub mod members;
 pub mod pause;
 pub mod queries;

@@ -1,7 +1,7 @@
 //! The remembered set of a region, as it is recorded.
 ghost use Rattle.std.specs.Prelude.{◌≡◌, ◌≢◌, ◌<◌, length, take};
 ghost use Rattle.g1_handles.specs.Codes.{OfOpen, IsRefusal};
-ghost use Rattle.g1_handles.specs.Queries.{HasMembers, LacksRoom};
+ghost use Rattle.g1_handles.specs.Queries.{HasMembers, Overflows};
 ghost use Rattle.g1_handles.specs.Refusals.{AreMembersRefused};
 
 use core::mem::replace_with;
@@ -31,7 +31,7 @@ pub extern "C" fn g1_members(
     ensures members { result ≡ 0 → OfOpen handle.old.value (λ machine.
         HasMembers machine region (take count.new cards.new)) }
     ensures room { result ≡ 16 → OfOpen handle.old.value (λ machine.
-        LacksRoom machine region (length cards.old) count.new) }
+        Overflows (HasMembers machine region) (length cards.old) count.new) }
     ensures why { 0 < result → result ≢ 16 →
         IsRefusal result (AreMembersRefused handle.old.value region) }
     ensures none { result ≢ 0 → result ≢ 16 → count.new ≡ 0 }

@@ -6,5 +6,7 @@ pub mod Queries
 pub mod Batch
 pub mod Racing
 pub mod Closing
+pub mod AtPause
 pub mod Parked
 pub mod Life
+pub mod HeapCalls

@@ -36,13 +36,20 @@ pub record HasMembers (m : Machine) (region : ℕ) (cards : List ℕ) : Type 0 w
   pub members : AreMembers m.state.table region cards
   pub step : (caller : ℕ) → IsStep m.state.table (members_entry caller region cards) m.state.table
 
--- So many cards are recorded for the region, and an array of this length has no room for them.
-pub record LacksRoom (m : Machine) (region room count : ℕ) : Type 0 where
+-- So many cards are so, and an array of this length has no room for them.
+pub record Overflows (AreSo : List ℕ → Type 0) (room count : ℕ) : Type 0 where
   pub cards : List ℕ
-  pub members : AreMembers m.state.table region cards
+  pub so : AreSo cards
   pub counted : count ≡ length cards
   pub more : room < count
 
+-- C is told the cards that are so, or how many they are if its array has no room for them.
+abbrev pub Lists : (List ℕ → Type 0) → ℕ → Listed → Type 0
+Lists AreSo room (Members cards) = AreSo cards × FitIn room cards
+Lists AreSo room (NoRoom count) = Overflows AreSo room count
+
+abbrev pub IsListOf : List ℕ → ℕ → Listed → Type 0
+IsListOf cards = Lists (λ list. list ≡ cards)
+
 abbrev pub IsListed : Machine → ℕ → ℕ → Listed → Type 0
-IsListed m region room (Members cards) = HasMembers m region cards × FitIn room cards
-IsListed m region room (NoRoom count) = LacksRoom m region room count
+IsListed m region = Lists (HasMembers m region)

@@ -53,7 +53,7 @@ fn clear_one(core: &mut Core, region: u32) -> Result<(u32, u32), Refusal>
 }
 
 /// The word of a reply, and the number that goes with it.
-fn words_of(reply: ClearReply) -> (u32, u32)
+pub(crate) fn words_of(reply: ClearReply) -> (u32, u32)
     ensures reply { cleared_of result.0 result.1 ≡ reply }
     ensures words { IsClearWord result.0 result.1 }
 {

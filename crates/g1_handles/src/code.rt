@@ -97,8 +97,8 @@ impl Refusal {
     }
 }
 
-/// The word of a kind of store.
-pub(crate) fn kind_word(kind: Kind) -> u32
+/// The word of a kind of store: 0 to 3.
+pub fn kind_word(kind: Kind) -> u32
     ensures { result ≡ kind_word kind }
 {
     match kind {

@@ -25,16 +25,22 @@
 //! before it is made.) There is no text, no callback, no thread and no lock inside.
 #![tactic(auto)]
 
+pub mod at_pause;
 pub mod batch;
 pub mod calls;
 pub mod clearing;
 pub mod code;
 pub mod gathered;
 pub mod handle;
+pub mod heap_drains;
+pub mod heap_evacuation;
 pub mod heap_handle;
 pub mod heap_open;
 pub mod heap_pause;
+pub mod heap_queries;
 pub mod heap_resume;
+pub mod heap_stores;
+pub mod heap_words;
 pub mod list;
 mod look;
 pub mod member;

@@ -1,7 +1,7 @@
 //! The remembered set of a region, as it is recorded.
-ghost use Rattle.std.specs.Prelude.{◌≡◌, ◌<◌, Some, IfOk, IfErr};
+ghost use Rattle.std.specs.Prelude.{◌≡◌, ◌<◌, ◌≤◌, length, Some, IfOk, IfErr};
 ghost use Rattle.g1_handles.specs.Codes.{OfOpen};
-ghost use Rattle.g1_handles.specs.Queries.{IsListed};
+ghost use Rattle.g1_handles.specs.Queries.{IsListed, IsListOf};
 ghost use Rattle.g1_handles.specs.Refusals.{AreMembersRefused};
 
 use crate::code::Refusal;
@@ -50,9 +50,17 @@ fn members_one(core: &Core, region: u32, room: usize) -> Result<Listed, Refusal>
     let Ok(members) = core.members(region) else {
         return Err(Refusal::NoMemory);
     };
-    if members.len() <= room {
-        Ok(Listed::Members(members))
+    Ok(list_of(members, room))
+}
+
+/// The cards, or how many they are if an array of this length has no room for them.
+pub(crate) fn list_of(cards: CardList, room: usize) -> Listed
+    requires { length cards ≤ 16777216 }
+    ensures { IsListOf cards room result }
+{
+    if cards.len() <= room {
+        Listed::Members(cards)
     } else {
-        Ok(Listed::NoRoom(members.len() as u32))
+        Listed::NoRoom(cards.len() as u32)
     }
 }

@@ -45,7 +45,7 @@ fn target_one(core: &mut Core, slot: u32) -> Result<u32, Refusal>
 }
 
 /// The word of a reference.
-fn word_of(layout: Layout, target: Option<Slot>) -> u32
+pub(crate) fn word_of(layout: Layout, target: Option<Slot>) -> u32
     requires { IfSome target (λ place. place < slot_count layout) }
     ensures { reference_of result ≡ target }
 {

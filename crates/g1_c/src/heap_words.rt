@@ -1,0 +1,77 @@
+//! Words of a heap at a pause: a slot may hold data, which refers to nothing.
+ghost use Rattle.std.specs.Prelude.{◌≡◌, ◌⊎◌, ◌<◌};
+ghost use Rattle.g1_handles.specs.AtPause.{HasWord, StoresData, LacksSlot};
+ghost use Rattle.g1_handles.specs.Codes.{IsRefusal};
+ghost use Rattle.g1_handles.specs.HeapCalls.{IsHeapRefused};
+ghost use Rattle.g1_handles.specs.Life.{IsSameHeap};
+
+use core::mem::replace_with;
+use g1_handles::at_pause::{PausedHeap, at_pause};
+use g1_handles::code::{DONE, Refusal};
+use g1_handles::heap_handle::HeapHandle;
+use g1_handles::heap_words::{store_data_at, word_at};
+use std::alloc::Global;
+
+/// Sets `word` to a slot's word: 0 for null, the number of the slot that it refers to plus 1, or
+/// data from 2^32 on. Reads that word.
+///
+/// Returns 0, or the word of `NotOpen`, `NotPaused` or `NoSlot`: `word` is 0.
+#[unsafe(no_mangle)]
+pub extern "C" fn g1_heap_word(
+    alloc: Global,
+    heap: &mut HeapHandle,
+    slot: u32,
+    word: &mut u64,
+) -> u32
+    ensures word { result ≡ 0 → IsSameHeap heap.old.value heap.new.value (λ old new.
+        HasWord old slot word.new) }
+    ensures none { 0 < result → word.new ≡ 0 }
+    ensures why { 0 < result → IsRefusal result
+        (IsHeapRefused heap.old.value (λ old. LacksSlot old slot)) }
+    ensures same { heap.new.value ≡ heap.old.value }
+{
+    match replace_with(
+        heap,
+        (alloc, |heap: &mut PausedHeap| word_at(heap, slot)),
+        at_pause,
+    ) {
+        Err(refusal) => {
+            *word = 0;
+            refusal.word()
+        }
+        Ok(found) => {
+            *word = found;
+            DONE
+        }
+    }
+}
+
+/// Stores data into a slot: a word from 2^32 on, which refers to nothing. Takes no memory.
+///
+/// Returns 0, or the word of `NotOpen`, `NotPaused`, `NoSlot`, or `BadWord` for a lower word:
+/// nothing has changed.
+#[unsafe(no_mangle)]
+pub extern "C" fn g1_heap_store_data(
+    alloc: Global,
+    heap: &mut HeapHandle,
+    slot: u32,
+    word: u64,
+) -> u32
+    ensures stored { result ≡ 0 → IsSameHeap heap.old.value heap.new.value (λ old new.
+        StoresData old slot word new) }
+    ensures why { 0 < result → IsRefusal result (IsHeapRefused heap.old.value (λ old r.
+        LacksSlot old slot r ⊎ ((r ≡ Refusal.BadWord) × (word < 4294967296)))) }
+    ensures refused { 0 < result → heap.new.value ≡ heap.old.value }
+{
+    match replace_with(
+        heap,
+        (
+            alloc,
+            |heap: &mut PausedHeap| store_data_at(heap, slot, word),
+        ),
+        at_pause,
+    ) {
+        Err(refusal) => refusal.word(),
+        Ok(()) => DONE,
+    }
+}

@@ -1,0 +1,67 @@
+-- What a call on the handle of a heap says once its result is known.
+use Rattle.std.proofs.Common.{◌≡◌, refl, sym, ap, ◌∙◌, subst, inl, inr}
+use Rattle.std.proofs.Props.{props}
+use Rattle.std.specs.Prelude.{Option, Some, None, Result, Ok, Err, All, length, vec_len}
+use Rattle.std.specs.Arc.{arc_value}
+use mathlib.Core.HLevel.{is_prop→PathP}
+use Rattle.g1_race.specs.Members.{race_id, race_layout}
+use Rattle.g1_race.specs.Over.{Halt}
+use Rattle.g1_handles.specs.declared.code.Refusal.{Refusal}
+use Rattle.g1_handles.specs.declared.code.Refusal.TheVariants as refusal
+use Rattle.g1_handles.specs.declared.racing_heap.AtPause.{AtPause}
+use Rattle.g1_handles.specs.declared.racing_heap.RacingHeap.{RacingHeap}
+use Rattle.g1_handles.specs.declared.racing_heap.RacingHeap.TheVariants as heap
+use Rattle.g1_handles.specs.Parked.{parked_race}
+use Rattle.g1_handles.specs.Life.{OfPaused, IsSameBut, IsSameHeap, SaysNoHeap, SaysNotPaused}
+use Rattle.g1_handles.specs.HeapCalls.{IsCalled, IsHeapRefused}
+
+-- a heap at a pause is its share, its pause and its boxes
+same_at : (a b : AtPause) → IsSameBut a b → b.pause ≡ a.pause → b ≡ a
+same_at a b same e = λ i. record {
+  race = same.race i;
+  pause = e i;
+  racers = same.racers i;
+  sweepers = same.sweepers i;
+  id = is_prop→PathP (λ j. race_id (arc_value (same.race j)) ≡ ((e j).table_id, (e j).shape)) (λ j. hlevel props) b.id a.id i;
+  laid = is_prop→PathP (λ j. race_layout (arc_value (same.race j)) ≡ (e j).layout) (λ j. hlevel props) b.laid a.laid i;
+  racer_boxes = is_prop→PathP (λ j. vec_len (same.racers j) ≡ length (e j).logs) (λ j. hlevel props) b.racer_boxes a.racer_boxes i;
+  sweeper_boxes = is_prop→PathP (λ j. vec_len (same.sweepers j) ≡ (e j).sweepers) (λ j. hlevel props) b.sweeper_boxes a.sweeper_boxes i;
+  racers_parked = is_prop→PathP (λ j. All (λ m. parked_race m.value ≡ Some (arc_value (same.race j))) (same.racers j).items) (λ j. hlevel props) b.racers_parked a.racers_parked i;
+  sweepers_parked = is_prop→PathP (λ j. All (λ m. parked_race m.value ≡ Some (arc_value (same.race j))) (same.sweepers j).items) (λ j. hlevel props) b.sweepers_parked a.sweepers_parked i;
+}
+
+abbrev is_ok : {A : Type 0} → Result A Refusal → Type 0
+is_ok (Ok a) = Unit {0}
+is_ok (Err e) = ⊥
+
+abbrev err_of : {A : Type 0} → Refusal → Result A Refusal → Refusal
+err_of d (Ok a) = d
+err_of d (Err e) = e
+
+module _ {A : Type 0} (Q : Halt → Result A Refusal → Halt → Type 0) where
+  -- a call that answers was made at a pause
+  pub called_ok : (P : Halt → Halt → Type 0) (old new : Option RacingHeap) (answer : A)
+      → ((p q : Halt) → Q p (Ok answer) q → P p q) → IsCalled Q old (Ok answer) new → IsSameHeap old new P
+  called_ok P None new answer so is = absurd (subst is_ok is.1 tt)
+  called_ok P (Some (heap.Racing b)) new answer so is = absurd (subst is_ok is.1 tt)
+  called_ok P (Some (heap.Paused a)) None answer so is = is
+  called_ok P (Some (heap.Paused a)) (Some (heap.Racing d)) answer so is = is
+  called_ok P (Some (heap.Paused a)) (Some (heap.Paused b)) answer so is = (is.0, so a.pause b.pause is.1)
+
+  -- a call that is refused has a reason
+  pub called_why : (Why : Halt → Refusal → Type 0) (old new : Option RacingHeap) (r : Refusal)
+      → ((p q : Halt) → Q p (Err r) q → Why p r) → IsCalled Q old (Err r) new → IsHeapRefused old Why r
+  called_why Why None new r so is = inl (ap (err_of r) is.1, refl)
+  called_why Why (Some (heap.Racing b)) new r so is = inr (inl (ap (err_of r) is.1, tt))
+  called_why Why (Some (heap.Paused a)) None r so is = absurd is
+  called_why Why (Some (heap.Paused a)) (Some (heap.Racing d)) r so is = absurd is
+  called_why Why (Some (heap.Paused a)) (Some (heap.Paused b)) r so is = inr (inr (so a.pause b.pause is.1))
+
+  -- and nothing has changed where it keeps the pause as it is
+  pub called_same : (old new : Option RacingHeap) (r : Result A Refusal)
+      → ((p q : Halt) → Q p r q → q ≡ p) → IsCalled Q old r new → new ≡ old
+  called_same None new r so is = is.0
+  called_same (Some (heap.Racing b)) new r so is = is.0
+  called_same (Some (heap.Paused a)) None r so is = absurd is
+  called_same (Some (heap.Paused a)) (Some (heap.Racing d)) r so is = absurd is
+  called_same (Some (heap.Paused a)) (Some (heap.Paused b)) r so is = ap (λ x. Some (heap.Paused x)) (same_at a b is.0 (so a.pause b.pause is.1))
