@@ -3,9 +3,9 @@
 ghost use Rattle.std.specs.Prelude.{◌≡◌, ◌<◌, None, length};
 ghost use Rattle.std.specs.Arc.{arc_value};
 ghost use Rattle.g1_handles.specs.Codes.{layout_of, IsRefusal};
-ghost use Rattle.g1_handles.specs.Life.{OfPaused, OfRacing, IsFor, IsNewHeap, IsHeapRefused, GoesOn};
+ghost use Rattle.g1_handles.specs.Life.{OfPaused, OfRacing, IsFor, IsNewHeap, IsHeapRefused};
 ghost use Rattle.g1_handles.specs.Life.{IsGoingRefused, IsPausedWith, IsPauseRefused, IsEndRefused};
-ghost use Rattle.g1_handles.specs.Life.{AreLikeOf, AreOfHeap, heap_race};
+ghost use Rattle.g1_handles.specs.Life.{AreLikeOf, AreOfHeap, GoesOn, heap_race};
 ghost use Rattle.g1_handles.specs.Racing.{held, AreClosed};
 
 use g1_handles::calls::Counts;
