@@ -9,6 +9,7 @@
 //! - [`store`], [`batch`], [`refinement`] and [`pause`] are the path of a card.
 //! - [`clearing`] and [`redirection`] may follow an evacuation.
 //! - [`queries`] and [`members`] read what is known.
+//! - [`heap_life`] opens a heap whose stores race, lets it go on, pauses it, and closes it.
 //! - [`race_open`] and [`race_resume`] begin a race, [`race_store`], [`race_log`] and
 //!   [`race_refine`] are the path of a card in it, and [`race_close`] and [`race_core`] end it.
 //!
@@ -26,6 +27,7 @@ pub mod calls;
 pub mod clearing;
 pub mod heap_drains;
 pub mod heap_evacuation;
+pub mod heap_life;
 pub mod heap_queries;
 pub mod heap_stores;
 pub mod heap_words;

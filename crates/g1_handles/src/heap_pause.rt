@@ -27,10 +27,10 @@ use std::sync::Arc;
 /// Brings the heap of a handle to a pause. All its racers and sweepers must be handed in, and their
 /// handles are closed. Takes no memory.
 ///
-/// Returns `NotOpen`, also for a member's handle, `NotRacing`, `BadMembers` if there are not as many
-/// handles as the heap was opened for, `OtherRole`, or `OtherRace` for a member of another heap or
-/// one that is given twice: nothing has changed. Members of other heaps are refused before anything
-/// relies on the condition `one`.
+/// Returns `NotOpen`, also for a member's handle, `NotRacing`, `BadMembers` if there are not as
+/// many handles as the heap was opened for, `OtherRole`, or `OtherRace` for a member of another
+/// heap or one that is given twice: nothing has changed. Members of other heaps are refused before
+/// anything relies on the condition `one`.
 pub fn pause_heap(
     alloc: Global,
     handle: &mut HeapHandle,

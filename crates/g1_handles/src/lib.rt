@@ -13,8 +13,8 @@
 //!   of it. Before anything changes, a close checks that it was given all members of one race
 //!   (`look`, `one_race`).
 //! - [`racing_heap`] is a heap whose stores race, at a pause or with its members out, and
-//!   [`heap_handle`] its handle. [`heap_open`] begins and ends it, [`heap_resume`] hands its members
-//!   out, and [`heap_pause`] takes them in.
+//!   [`heap_handle`] its handle. [`heap_open`] begins and ends it, [`heap_resume`] hands its
+//!   members out, and [`heap_pause`] takes them in.
 //!
 //! A function `.._in` takes what is behind one handle, and gives the handle back with a result. A
 //! call over several handles is one function. The crate `g1_c` exports each, in the file of the

@@ -38,8 +38,8 @@ pub(crate) fn share_of_all(
     }
 }
 
-/// Returns a share of this race, if these members are all those that it has, each given once, and it
-/// has no owner but the given one and its members.
+/// Returns a share of this race, if these members are all those that it has, each given once, and
+/// it has no owner but the given one and its members.
 pub(crate) fn share_of_race(
     alloc: Global,
     race: &Arc<Race, Global>,

@@ -1,0 +1,132 @@
+//! The life of a heap whose stores race: it begins at a pause, goes on, pauses again, and ends at a
+//! pause.
+ghost use Rattle.std.specs.Prelude.{◌≡◌, ◌<◌, None, length};
+ghost use Rattle.std.specs.Arc.{arc_value};
+ghost use Rattle.g1_handles.specs.Codes.{layout_of, IsRefusal};
+ghost use Rattle.g1_handles.specs.Life.{OfPaused, OfRacing, IsFor, IsNewHeap, IsHeapRefused};
+ghost use Rattle.g1_handles.specs.Life.{IsGoingRefused, IsPausedWith, IsPauseRefused, IsEndRefused};
+ghost use Rattle.g1_handles.specs.Life.{AreLikeOf, AreOfHeap, GoesOn, heap_race};
+ghost use Rattle.g1_handles.specs.Racing.{held, AreClosed};
+
+use g1_handles::calls::Counts;
+use g1_handles::code::DONE;
+use g1_handles::heap_handle::HeapHandle;
+use g1_handles::heap_open::{close_heap, open_heap};
+use g1_handles::heap_pause::pause_heap;
+use g1_handles::heap_resume::resume_heap;
+use g1_handles::member_handle::MemberHandle;
+use std::alloc::Global;
+
+/// Opens a heap at a pause in a closed handle, for this many racers and sweepers, 1 to 64 of each.
+/// Its slots are all null and its cards are all clean. Takes all memory that the heap ever takes.
+///
+/// Returns 0, or the word of `BadMembers`, `AlreadyOpen`, `BadLayout` or `NoMemory`: the handle has
+/// not changed.
+#[unsafe(no_mangle)]
+pub extern "C" fn g1_heap_open(
+    alloc: Global,
+    handle: &mut HeapHandle,
+    counts: &Counts,
+    racers: u32,
+    sweepers: u32,
+) -> u32
+    ensures opened { result ≡ 0 →
+        OfPaused handle.new.value (IsNewHeap (layout_of counts.now) racers sweepers) }
+    ensures closed { result ≡ 0 → handle.old.value ≡ None }
+    ensures why { 0 < result →
+        IsRefusal result (IsHeapRefused handle.old.value (layout_of counts.now) racers sweepers) }
+    ensures refused { 0 < result → handle.new.value ≡ handle.old.value }
+{
+    match open_heap(alloc, handle, counts, racers, sweepers) {
+        Ok(()) => DONE,
+        Err(refusal) => refusal.word(),
+    }
+}
+
+/// Lets a heap go on after a pause, and puts its racers and its sweepers into handles that are
+/// closed. The race begins with the table that the pause left, and each racer has its log. Takes no
+/// memory.
+///
+/// Returns 0, or the word of `NotOpen`, `NotPaused`, `BadMembers` if there are not as many handles
+/// as the heap was opened for, or `AlreadyOpen` for a member's handle: nothing has changed.
+#[unsafe(no_mangle)]
+pub extern "C" fn g1_heap_resume(
+    alloc: Global,
+    handle: &mut HeapHandle,
+    racers: &mut [MemberHandle],
+    sweepers: &mut [MemberHandle],
+) -> u32
+    ensures resumed { result ≡ 0 → OfPaused handle.old.value (λ p.
+        OfRacing handle.new.value (λ b.
+        GoesOn p (arc_value b.race) (held racers.new) (held sweepers.new))) }
+    ensures same { result ≡ 0 → heap_race handle.new.value ≡ heap_race handle.old.value }
+    ensures members { result ≡ 0 → IsFor handle.old.value (length racers.old) (length sweepers.old)
+        × IsFor handle.new.value (length racers.old) (length sweepers.old) }
+    ensures closed { result ≡ 0 → AreClosed (held racers.old) × AreClosed (held sweepers.old) }
+    ensures why { 0 < result →
+        IsRefusal result (IsGoingRefused handle.old.value (held racers.old) (held sweepers.old)) }
+    ensures refused { 0 < result → (handle.new.value ≡ handle.old.value)
+        × (held racers.new ≡ held racers.old) × (held sweepers.new ≡ held sweepers.old) }
+{
+    match resume_heap(alloc, handle, racers, sweepers) {
+        Ok(()) => DONE,
+        Err(refusal) => refusal.word(),
+    }
+}
+
+/// Brings a heap to a pause. All its racers and sweepers must be handed in, and their handles are
+/// closed. Takes no memory.
+///
+/// Returns 0, or the word of `NotOpen`, also for a member's handle, `NotRacing`, `BadMembers` if
+/// there are not as many handles as the heap was opened for, `OtherRole`, or `OtherRace` for a
+/// member of another heap or one that is given twice: nothing has changed.
+///
+/// Members of other heaps are refused before anything changes, by counts of each race's owners. No
+/// proof knows what these counts say, so the condition `one` takes their place: members whose
+/// roles and numbers fit are of this heap's race. Nothing relies on the condition before the counts
+/// are taken.
+#[unsafe(no_mangle)]
+pub extern "C" fn g1_heap_pause(
+    alloc: Global,
+    handle: &mut HeapHandle,
+    racers: &mut [MemberHandle],
+    sweepers: &mut [MemberHandle],
+) -> u32
+    requires one { IsFor handle.old.value (length racers.old) (length sweepers.old) →
+        AreLikeOf handle.old.value (held racers.old) (held sweepers.old) →
+        AreOfHeap handle.old.value (held racers.old) (held sweepers.old) }
+    ensures paused { result ≡ 0 → OfRacing handle.old.value (λ b. OfPaused handle.new.value
+        (IsPausedWith (arc_value b.race) (held racers.old) (held sweepers.old))) }
+    ensures same { result ≡ 0 → heap_race handle.new.value ≡ heap_race handle.old.value }
+    ensures members { result ≡ 0 → IsFor handle.old.value (length racers.old) (length sweepers.old)
+        × IsFor handle.new.value (length racers.old) (length sweepers.old) }
+    ensures like { result ≡ 0 →
+        AreLikeOf handle.old.value (held racers.old) (held sweepers.old) }
+    ensures closed { result ≡ 0 → AreClosed (held racers.new) × AreClosed (held sweepers.new) }
+    ensures why { 0 < result →
+        IsRefusal result (IsPauseRefused handle.old.value (held racers.old) (held sweepers.old)) }
+    ensures refused { 0 < result → (handle.new.value ≡ handle.old.value)
+        × (held racers.new ≡ held racers.old) × (held sweepers.new ≡ held sweepers.old) }
+{
+    match pause_heap(alloc, handle, racers, sweepers) {
+        Ok(()) => DONE,
+        Err(refusal) => refusal.word(),
+    }
+}
+
+/// Closes a heap at a pause, and frees all that it has.
+///
+/// Returns 0, or the word of `NotOpen`, or of `NotPaused` if its members are out: the handle has
+/// not changed.
+#[unsafe(no_mangle)]
+pub extern "C" fn g1_heap_close(alloc: Global, handle: &mut HeapHandle) -> u32
+    ensures closed { result ≡ 0 → handle.new.value ≡ None }
+    ensures paused { result ≡ 0 → OfPaused handle.old.value (λ p. Unit {0}) }
+    ensures why { 0 < result → IsRefusal result (IsEndRefused handle.old.value) }
+    ensures refused { 0 < result → handle.new.value ≡ handle.old.value }
+{
+    match close_heap(alloc, handle) {
+        Ok(()) => DONE,
+        Err(refusal) => refusal.word(),
+    }
+}
