@@ -5,6 +5,5 @@ pub mod Replies
 pub mod Queries
 pub mod Batch
 pub mod Racing
-pub mod Closing
 pub mod Parked
 pub mod Life

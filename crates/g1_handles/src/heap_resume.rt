@@ -5,8 +5,8 @@ ghost use Rattle.std.specs.Arc.{arc_value};
 ghost use Rattle.g1_race.specs.declared.race.Race.{Race};
 ghost use Rattle.g1_race.specs.Members.{race_id, racer_race, sweeper_race};
 ghost use Rattle.g1_handles.specs.Life.{OfPaused, OfRacing, GoesOn, LetsGo, IsLetGo, IsFor};
-ghost use Rattle.g1_handles.specs.Life.{IsGoingRefused, AreRacersFor, AreSweepersFor, racer_in, sweeper_in};
-ghost use Rattle.g1_handles.specs.Life.{heap_race};
+ghost use Rattle.g1_handles.specs.Life.{IsGoingRefused, AreRacersFor, AreSweepersFor, racer_in};
+ghost use Rattle.g1_handles.specs.Life.{sweeper_in, heap_race};
 ghost use Rattle.g1_handles.specs.Parked.{parked_race};
 ghost use Rattle.g1_handles.specs.Racing.{held, AreClosed, IsOf};
 
@@ -182,7 +182,8 @@ fn hand_out_racers(
 
 /// Makes a racer of what waits for it.
 fn seat_racer(member: Member, racer: Racer) -> (Member, ())
-    requires { (race : Race) × (parked_race member ≡ Some race) × (racer_race racer ≡ race_id race) }
+    requires { (race : Race) × (parked_race member ≡ Some race)
+        × (racer_race racer ≡ race_id race) }
     ensures racer { racer_in (Some result.0) ≡ Some racer }
     ensures race { (race : Race) → parked_race member ≡ Some race → IsOf race (Some result.0) }
 {
@@ -231,7 +232,8 @@ fn hand_out_sweepers(
 
 /// Makes a sweeper of what waits for it.
 fn seat_sweeper(member: Member, sweeper: Sweeper) -> (Member, ())
-    requires { (race : Race) × (parked_race member ≡ Some race) × (sweeper_race sweeper ≡ race_id race) }
+    requires { (race : Race) × (parked_race member ≡ Some race)
+        × (sweeper_race sweeper ≡ race_id race) }
     ensures sweeper { sweeper_in (Some result.0) ≡ Some sweeper }
     ensures race { (race : Race) → parked_race member ≡ Some race → IsOf race (Some result.0) }
 {
