@@ -93,9 +93,9 @@ enum g1_kind {
 
 /*
  * What the other calls return. A code of 8 or more means that the call was refused and that nothing
- * has changed, except for G1_NO_ROOM of g1_heap_drain and G1_NOT_ENDED of g1_race_close; each call
- * says what its results hold then. g1_store, g1_race_store and g1_is_pending return these codes too
- * if they are refused, and values of their own if not.
+ * has changed, except for G1_NO_ROOM of g1_heap_drain; each call says what its results hold then.
+ * g1_store, g1_race_store and g1_is_pending return these codes too if they are refused, and values
+ * of their own if not.
  */
 enum g1_code {
     G1_DONE = 0,
@@ -122,11 +122,9 @@ enum g1_code {
     G1_BAD_MEMBERS = 23,      /* not as many members as the heap has, or as a heap may have */
     G1_OTHER_RACE = 24,       /* the handles are not those of all members of one heap, each given
                                  once */
-    G1_NOT_ENDED = 25,        /* the members of a race are gathered behind a handle; the race has
-                                 another owner, so it has not ended */
-    G1_NOT_PAUSED = 26,       /* the members of the heap race, so it is at no pause */
-    G1_NOT_RACING = 27,       /* the heap is at a pause already */
-    G1_BAD_WORD = 28          /* a word of data is less than G1_DATA */
+    G1_NOT_PAUSED = 25,       /* the members of the heap race, so it is at no pause */
+    G1_NOT_RACING = 26,       /* the heap is at a pause already */
+    G1_BAD_WORD = 27          /* a word of data is less than G1_DATA */
 };
 
 /*
@@ -156,7 +154,6 @@ static inline const char *g1_code_text(uint32_t code) {
     case G1_LOG_FULL: return "the racer's log is full";
     case G1_BAD_MEMBERS: return "the heap has, or may have, another number of members";
     case G1_OTHER_RACE: return "the handles are not those of all members of one heap";
-    case G1_NOT_ENDED: return "the members are gathered, and their race has not ended";
     case G1_NOT_PAUSED: return "the members of the heap race";
     case G1_NOT_RACING: return "the heap is at a pause already";
     case G1_BAD_WORD: return "a word of data is less than the least one";
@@ -269,7 +266,7 @@ uint32_t g1_refine(struct g1 *handle, const uint32_t *cards, size_t cards_length
 /*
  * Refines all that is pending, and returns the remembered set of a region: every card outside the
  * region that refers into it, and perhaps some that no longer do. Those did at some time since the
- * set was last cleared (or were recorded before, in a core that was made of a race).
+ * set was last cleared.
  *
  * The first `count` elements of `cards` are the set, ascending, each card once. The first
  * `refined_count` elements of `refined` are the cards that were refined, in order. Each array has
@@ -723,104 +720,6 @@ uint32_t g1_heap_wipe(struct g1_heap *heap, uint32_t region);
  */
 G1_MUST_USE
 uint32_t g1_heap_forget(struct g1_heap *heap, uint32_t region);
-
-/*
- * Races that end in a core.
- *
- * g1_race_open opens a race, with 1 to 8 racers and 1 to 4 sweepers, whose calls are those of the
- * members above. g1_race_close ends it. g1_race_core makes a core of what it left, and
- * g1_race_resume makes a race of the core. Of two closes that are under way at once, in two
- * threads, no race has members in both.
- */
-
-/* A handle of a race that is over. It is closed if the pointer is null. It stays on one thread. */
-struct g1_over {
-    void *race;
-};
-
-/*
- * Opens a race over a new heap, all of whose slots are null. It has as many racers and sweepers as
- * closed handles are passed. The race takes 8 bytes a slot, 8 bytes a card, a bit for each pair of
- * a card and a region and a bit for each card, and all of this twice while it begins. It also takes
- * about a kilobyte for the log of each racer.
- *
- * Returns:
- *   - G1_DONE: each handle is open.
- *   - G1_BAD_MEMBERS, G1_ALREADY_OPEN for any of the handles, G1_BAD_LAYOUT or G1_NO_MEMORY:
- *     nothing has changed.
- */
-G1_MUST_USE
-uint32_t g1_race_open(const struct g1_counts *counts, struct g1_member *racers,
-                      size_t racers_length, struct g1_member *sweepers, size_t sweepers_length);
-
-/*
- * Ends a race. All its racers and sweepers are handed in, in any order, and none of them is in use.
- * Logs that were not taken are dropped. Each of their cards is still dirty, unless it was refined
- * meanwhile.
- *
- * Returns:
- *   - G1_DONE: the race has ended. The members' handles are closed, and the closed handle `over` is
- *     opened on what is left of the race.
- *   - G1_NOT_ENDED: the members' handles are closed, and `over` is opened on the members. Their
- *     race has another owner, so it has not ended; g1_race_core ends it once that owner is gone. No
- *     run has shown this code, and no proof rules it out.
- *   - G1_BAD_MEMBERS (not as many handles as a member's race was opened with), G1_NOT_OPEN or
- *     G1_OTHER_ROLE for a member's handle, G1_OTHER_RACE (members of several races, a member that
- *     is given twice, or a race of which a member was closed alone), G1_ALREADY_OPEN for `over`, or
- *     G1_NO_MEMORY: nothing has changed.
- */
-G1_MUST_USE
-uint32_t g1_race_close(struct g1_member *racers, size_t racers_length, struct g1_member *sweepers,
-                       size_t sweepers_length, struct g1_over *over);
-
-/*
- * Opens a closed handle on what a race left, and closes `over`. Each slot refers to what it
- * referred to when the race ended, the cards that were dirty then are pending, and what was
- * recorded is recorded. No refinements are counted yet, and the ring is empty. `hot` and `ring` are
- * those of g1_open. The call takes the memory of g1_open and of the pairs, and some more while it
- * runs.
- *
- * Returns:
- *   - G1_DONE.
- *   - G1_NOT_OPEN for `over`, G1_ALREADY_OPEN for `handle`, G1_BAD_SETTINGS or G1_NO_MEMORY:
- *     nothing has changed, so a refused call can be made again. (If `over` had the members of a
- *     race that had not ended, that race may have ended before memory was refused.)
- *   - G1_NOT_ENDED: `over` has the members of a race that still has another owner, and nothing has
- *     changed. This code can come only after g1_race_close returned it.
- */
-G1_MUST_USE
-uint32_t g1_race_core(struct g1_over *over, struct g1 *handle, uint32_t hot, uint32_t ring);
-
-/*
- * Opens a race that begins with the core of a handle, and closes that handle. The race has as many
- * racers and sweepers as closed handles are passed. Each slot refers to what it referred to, the
- * pending cards are dirty, and what was recorded is recorded. A card that is dirty from the
- * beginning is in no racer's log: a sweeper that is given it refines it, or the first drain after
- * the race. The call takes the memory of g1_race_open and of the pairs.
- *
- * Returns:
- *   - G1_DONE.
- *   - G1_BAD_MEMBERS, G1_ALREADY_OPEN for any of the members' handles, G1_NOT_OPEN for the core's,
- *     or G1_NO_MEMORY: nothing has changed.
- */
-G1_MUST_USE
-uint32_t g1_race_resume(struct g1 *handle, struct g1_member *racers, size_t racers_length,
-                        struct g1_member *sweepers, size_t sweepers_length);
-
-/*
- * Closes a member's handle without its race, which then has too few members to be ended. The race's
- * memory is freed with the last of its handles.
- *
- * Returns G1_DONE or G1_NOT_OPEN.
- */
-uint32_t g1_member_close(struct g1_member *member);
-
-/*
- * Closes the handle of a race that is over, and frees all its memory. What the race left is gone.
- *
- * Returns G1_DONE or G1_NOT_OPEN.
- */
-uint32_t g1_over_close(struct g1_over *over);
 
 #ifdef __cplusplus
 }

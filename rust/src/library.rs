@@ -171,4 +171,4 @@ pub const STILL_PENDING: u32 = 19;
 pub const STILL_REFERENCED: u32 = 20;
 pub const LOG_FULL: u32 = 22;
 pub const BAD_MEMBERS: u32 = 23;
-pub const BAD_WORD: u32 = 28;
+pub const BAD_WORD: u32 = 27;

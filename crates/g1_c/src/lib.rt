@@ -10,12 +10,12 @@
 //! - [`clearing`] and [`redirection`] may follow an evacuation.
 //! - [`queries`] and [`members`] read what is known.
 //! - [`heap_life`] opens a heap whose stores race, lets it go on, pauses it, and closes it.
-//! - [`race_open`] and [`race_resume`] begin a race, [`race_store`], [`race_log`] and
-//!   [`race_refine`] are the path of a card in it, and [`race_close`] and [`race_core`] end it.
+//! - [`race_store`], [`race_log`] and [`race_refine`] are the path of a card in a race.
+//! - [`heap_queries`], [`heap_drains`], [`heap_stores`], [`heap_evacuation`] and [`heap_words`] are
+//!   the collector's calls on such a heap, at a pause.
 //!
 //! A call returns a word below 8 if it was made, and else the word of a
-//! [`Refusal`](g1_handles::code::Refusal). One word of 8 or more is no refusal: 25 of
-//! [`race_close`].
+//! [`Refusal`](g1_handles::code::Refusal).
 //!
 //! What only the caller can know is left to the caller: that a handle is zeros or was opened here,
 //! that one call at a time uses it, and that arrays have the lengths that are passed and overlap
@@ -34,12 +34,8 @@ pub mod heap_words;
 pub mod members;
 pub mod pause;
 pub mod queries;
-pub mod race_close;
-pub mod race_core;
 pub mod race_log;
-pub mod race_open;
 pub mod race_refine;
-pub mod race_resume;
 pub mod race_store;
 pub mod redirection;
 pub mod refinement;

@@ -1,15 +1,12 @@
 -- Handles in a row.
 use Rattle.std.proofs.Common.{◌≡◌, ℕ, ◌+◌, ◌<◌, List, [], ◌∷◌, ◌++◌, All, length, map, take, slice_index_or, sym, ap, ◌∙◌, subst, suc, arith}
-use Rattle.std.specs.Prelude.{Option, Some, None}
+use Rattle.std.specs.Prelude.{Option}
 use Rattle.std.proofs.lemmas.List.{map-append, length-map}
 use Rattle.std.proofs.Math.ListN.{get_or-map}
 use Rattle.std.proofs.Math.Seq.{take-suc}
-use Rattle.g1_race.specs.declared.race.Race.{Race}
-use Rattle.g1_race.specs.Members.{race_shape}
 use Rattle.g1_handles.specs.declared.member.Member.{Member}
-use Rattle.g1_handles.specs.declared.member.Role.{Role}
 use Rattle.g1_handles.specs.declared.member_handle.MemberHandle.{MemberHandle}
-use Rattle.g1_handles.specs.Racing.{held, IsAmong, IsOf}
+use Rattle.g1_handles.specs.Racing.{held}
 
 -- what is so of all is so of the one at k
 pub at_handle : (P : Option Member → Type 0) (hs : List MemberHandle) (k : ℕ) (h : MemberHandle) → k < length hs → All P (held hs) → P ((slice_index_or hs k h).value)
@@ -25,8 +22,3 @@ view_next {A} {B} f g xs ys a hs n h below items so is =
     let next : n + 1 ≡ suc n = omega arith in
     ap (map f) items ∙ (map-append f xs (a ∷ []) ∙ (ap (λ (vs : List B). vs ++ f a ∷ []) so ∙ (ap (λ (v : B). map g row ++ v ∷ []) is
     ∙ sym (ap (λ (l : List MemberHandle). map g (held l)) (ap (λ m. take m hs) next ∙ take-suc hs n h below) ∙ (ap (map g) (map-append (λ (y : MemberHandle). y.value) (take n hs) (x ∷ [])) ∙ map-append g row (x.value ∷ []))))))
-
--- how many members the race has that a member among so many is of
-pub race_has : (role : Role) (members : ℕ) (race : Race) (m : Option Member) → IsAmong role members m → IsOf race m → (race_shape race).members ≡ members
-race_has role members race None among of = absurd of
-race_has role members race (Some m) among of = sym (ap (λ r. (race_shape r).members) of) ∙ among.1

@@ -31,10 +31,9 @@ refusal_word refusal.OtherRole = 21
 refusal_word refusal.LogFull = 22
 refusal_word refusal.BadMembers = 23
 refusal_word refusal.OtherRace = 24
-refusal_word refusal.NotEnded = 25
-refusal_word refusal.NotPaused = 26
-refusal_word refusal.NotRacing = 27
-refusal_word refusal.BadWord = 28
+refusal_word refusal.NotPaused = 25
+refusal_word refusal.NotRacing = 26
+refusal_word refusal.BadWord = 27
 
 -- The word is that of a refusal of which this holds.
 abbrev pub IsRefusal : ℕ → (Refusal → Type 0) → Type 0

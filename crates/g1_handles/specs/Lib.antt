@@ -5,7 +5,6 @@ pub mod Replies
 pub mod Queries
 pub mod Batch
 pub mod Racing
-pub mod Closing
 pub mod AtPause
 pub mod Parked
 pub mod Life

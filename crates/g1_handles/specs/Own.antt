@@ -10,8 +10,6 @@ use Rattle.g1_core.specs.Machine.{Machine}
 use Rattle.g1_core.specs.contracts.machinery.Core as core
 use Rattle.g1_handles.specs.declared.member.Member.{Member}
 use Rattle.g1_handles.specs.contracts.member.Member as member
-use Rattle.g1_handles.specs.declared.over_handle.Remains.{Remains}
-use Rattle.g1_handles.specs.contracts.over_handle.Remains as remains
 use Rattle.g1_handles.specs.declared.racing_heap.RacingHeap.{RacingHeap}
 use Rattle.g1_handles.specs.contracts.racing_heap.RacingHeap as racing_heap
 
@@ -32,10 +30,6 @@ holds_core a p v = holds core.the_row a p v
 -- what the handle of a racer or a sweeper owns
 abbrev pub holds_member : Global → Ptr → Option Member → Fml
 holds_member a p v = holds member.the_row a p v
-
--- what the handle of a race that is over owns
-abbrev pub holds_over : Global → Ptr → Option Remains → Fml
-holds_over a p v = holds remains.the_row a p v
 
 -- what the handle of a heap whose stores race owns
 abbrev pub holds_heap : Global → Ptr → Option RacingHeap → Fml

@@ -1,32 +1,23 @@
 -- What the calls on the members of a race do.
-use Rattle.std.specs.Prelude.{◌↔◌, Contains, ◌≡◌, ◌+◌, ◌≤◌, ℕ, List, [], ◌∷◌, ◌++◌, map, length}
-use Rattle.std.specs.Prelude.{All, Option, Some, None, Bool, true, false, if◌then◌else◌}
+use Rattle.std.specs.Prelude.{◌↔◌, Contains, ◌≡◌, ◌+◌, ℕ, List, [], ◌∷◌, ◌++◌, map}
+use Rattle.std.specs.Prelude.{All, Option, Some, None, if◌then◌else◌}
 use Rattle.std.specs.Arc.{arc_value}
 use Rattle.g1_layout.specs.declared.kind.Kind.{Kind}
-use Rattle.g1_core.specs.Table.{Table}
-use Rattle.g1_core.specs.Machine.{Machine}
 use Rattle.g1_race.specs.declared.race.Race.{Race}
 use Rattle.g1_race_words.specs.declared.view.View.{View}
-use Rattle.g1_race_words.specs.Begin.{Start}
-use Rattle.g1_race.specs.Drain.{began}
 use Rattle.g1_race.specs.Over.{Ended}
-use Rattle.g1_race.specs.Resumed.{IsSame}
-use Rattle.g1_race_words.specs.Rule.{beginning, card_of}
+use Rattle.g1_race_words.specs.Rule.{card_of}
 use Rattle.g1_race.specs.Race.{word_of, stored, IsKnown, IsOver}
 use Rattle.g1_race_words.specs.Steps.{nothing}
-use Rattle.g1_race.specs.Members.{race_layout, race_begun, race_shape, racer_start, racer_view}
-use Rattle.g1_race.specs.Members.{sweeper_start, sweeper_view, IsKind, is_logged, IsFreshRacer}
-use Rattle.g1_race.specs.Members.{IsFreshSweeper}
+use Rattle.g1_race.specs.Members.{race_layout, race_begun, race_shape, racer_view}
+use Rattle.g1_race.specs.Members.{sweeper_start, sweeper_view, IsKind, is_logged}
 use Rattle.g1_handles.specs.declared.member.Racing.{Racing}
 use Rattle.g1_handles.specs.declared.member.Sweeping.{Sweeping}
 use Rattle.g1_handles.specs.declared.member.Member.{Member}
 use Rattle.g1_handles.specs.declared.member.Member.TheVariants as member
 use Rattle.g1_handles.specs.declared.member.Role.{Role}
 use Rattle.g1_handles.specs.declared.member.Role.TheVariants as roles
-use Rattle.g1_handles.specs.declared.gathered.Gathered.{Gathered}
 use Rattle.g1_handles.specs.declared.member_handle.MemberHandle.{MemberHandle}
-use Rattle.g1_handles.specs.declared.over_handle.Remains.{Remains}
-use Rattle.g1_handles.specs.declared.over_handle.Remains.TheVariants as remains
 use Rattle.g1_handles.specs.Codes.{reference_of, kind_word}
 
 -- the handle is a racer's, and it is so of the racer
@@ -113,39 +104,6 @@ held hs = map (λ h. h.value) hs
 abbrev pub AreClosed : List (Option Member) → Type 0
 AreClosed members = All (λ m. m ≡ None) members
 
--- the handle is a racer's of this race, and the racer has stored nothing since the race began so
-abbrev pub IsFreshRacing : Race → Start → Option Member → Type 0
-IsFreshRacing race begin m = OfRacer m (λ a. (racer_race_of a ≡ race)
-    × IsFreshRacer race.table.table_id race.shape a.racer × (racer_start a.racer ≡ begin))
-
--- the handle is a sweeper's of this race, and the sweeper has swept nothing since the race began so
-abbrev pub IsFreshSweeping : Race → Start → Option Member → Type 0
-IsFreshSweeping race begin m = OfSweeper m (λ b. (sweeper_race_of b ≡ race)
-    × IsFreshSweeper race.table.table_id race.shape b.sweeper × (sweeper_start b.sweeper ≡ begin))
-
--- a race may have this many racers and sweepers
-pub record AreCounts (racers sweepers : ℕ) : Type 0 where
-  pub some_racer : 1 ≤ racers
-  pub few_racers : racers ≤ 8
-  pub some_sweeper : 1 ≤ sweepers
-  pub few_sweepers : sweepers ≤ 4
-
--- the handles are those of the racers and of the sweepers of a race that has just begun so
-abbrev pub AreSeated : Race → Start → List (Option Member) → List (Option Member) → Type 0
-AreSeated race begin racers sweepers = All (IsFreshRacing race begin) racers
-    × All (IsFreshSweeping race begin) sweepers
-
--- the member is a racer of this race that has stored nothing, or, for a sweeper's role, a sweeper
--- that has swept nothing, and the race began so
-abbrev pub IsFresh : Race → Start → Bool → Option Member → Type 0
-IsFresh race begin true m = IsFreshRacing race begin m
-IsFresh race begin false m = IsFreshSweeping race begin m
-
--- a race that has just begun with this table, as all its members know, belongs to these handles
-abbrev pub IsBegunFor : Table → List (Option Member) → List (Option Member) → Type 0
-IsBegunFor table racers sweepers = (race : Race) × (begin : Start)
-    × (began (race_layout race) (beginning begin) ≡ table) × AreSeated race begin racers sweepers
-
 -- the handle is open, and it is so of its member
 abbrev pub OfMember : Option Member → (Member → Type 0) → Type 0
 OfMember None P = ⊥
@@ -174,18 +132,9 @@ HasRole role m = OfMember m (λ x. role_of x ≡ role)
 abbrev pub IsAmong : Role → ℕ → Option Member → Type 0
 IsAmong role members m = OfMember m (λ x. (role_of x ≡ role) × (members_of x ≡ members))
 
--- the handles are racers' and sweepers', each of a race with as many members as there are handles
-abbrev pub AreAsMany : List (Option Member) → List (Option Member) → Type 0
-AreAsMany racers sweepers = All (IsAmong roles.Racer (length racers + length sweepers)) racers
-    × All (IsAmong roles.Sweeper (length racers + length sweepers)) sweepers
-
 -- the handle's member is of this race
 abbrev pub IsOf : Race → Option Member → Type 0
 IsOf race m = OfMember m (λ x. race_of x ≡ race)
-
--- the members of these handles are of one race
-abbrev pub AreOfOneRace : List (Option Member) → List (Option Member) → Type 0
-AreOfOneRace racers sweepers = (race : Race) × All (IsOf race) racers × All (IsOf race) sweepers
 
 -- what the member knows
 abbrev pub known_to : Option Member → View
@@ -200,55 +149,3 @@ pub record IsEndOf (race : Race) (racers sweepers : List View) (e : Ended) : Typ
   pub pairs : (x : ℕ × ℕ) → Contains e.pairs x
       ↔ IsKnown (race_begun race racers sweepers) sweepers x
   pub over : IsOver (race_begun race racers sweepers) e.words racers sweepers
-
--- what is left of a race that ended with the members of these handles
-abbrev pub IsClosedOf : Race → List (Option Member) → List (Option Member) → Ended → Type 0
-IsClosedOf race racers sweepers e = IsEndOf race (map known_to racers) (map known_to sweepers) e
-
--- what members that are gathered may leave of their race
-abbrev pub EndsAs : Gathered → Ended → Type 0
-EndsAs g e =
-    IsEndOf (arc_value g.race) (map racer_view g.racers.items) (map sweeper_view g.sweepers.items) e
-
--- what lies behind the handle may leave this of its race
-abbrev pub Leaves : Option Remains → Ended → Type 0
-Leaves None e = ⊥
-Leaves (Some remains.Nothing) e = ⊥
-Leaves (Some (remains.Members g)) e = EndsAs g e
-Leaves (Some (remains.Over left)) e = left ≡ e
-
--- a race, or its members, lie behind the handle
-abbrev pub IsKept : Option Remains → Type 0
-IsKept None = ⊥
-IsKept (Some remains.Nothing) = ⊥
-IsKept (Some (remains.Members g)) = Unit {0}
-IsKept (Some (remains.Over e)) = Unit {0}
-
--- the members of a race lie behind the handle
-abbrev pub KeepsMembers : Option Remains → Type 0
-KeepsMembers None = ⊥
-KeepsMembers (Some remains.Nothing) = ⊥
-KeepsMembers (Some (remains.Members g)) = Unit {0}
-KeepsMembers (Some (remains.Over e)) = ⊥
-
--- what lay behind the handle lies there still, or what its members left of their race
-abbrev pub IsStill : Option Remains → Option Remains → Type 0
-IsStill None None = Unit {0}
-IsStill None (Some new) = ⊥
-IsStill (Some old) None = ⊥
-IsStill (Some remains.Nothing) (Some remains.Nothing) = Unit {0}
-IsStill (Some remains.Nothing) (Some (remains.Members g)) = ⊥
-IsStill (Some remains.Nothing) (Some (remains.Over e)) = ⊥
-IsStill (Some (remains.Members g)) (Some remains.Nothing) = ⊥
-IsStill (Some (remains.Members g)) (Some (remains.Members h)) = h ≡ g
-IsStill (Some (remains.Members g)) (Some (remains.Over e)) = EndsAs g e
-IsStill (Some (remains.Over left)) (Some remains.Nothing) = ⊥
-IsStill (Some (remains.Over left)) (Some (remains.Members g)) = ⊥
-IsStill (Some (remains.Over left)) (Some (remains.Over e)) = left ≡ e
-
--- the handle holds the core that it held, but for its count of reads, or it is closed as it was
-abbrev pub IsAsBefore : Option Machine → Option Machine → Type 0
-IsAsBefore None None = Unit {0}
-IsAsBefore None (Some new) = ⊥
-IsAsBefore (Some old) None = ⊥
-IsAsBefore (Some old) (Some new) = IsSame old new

@@ -1,6 +1,5 @@
 -- Why a call is refused: each refusal that it may answer, with what is so where it comes.
-use Rattle.std.specs.Prelude.{◌≡◌, ◌⊎◌, ◌+◌, ◌<◌, ◌≤◌, ℕ, List, length, All, Any, Option, None}
-use Rattle.std.specs.Prelude.{IsSome}
+use Rattle.std.specs.Prelude.{◌≡◌, ◌⊎◌, ◌<◌, ◌≤◌, ℕ, List, length, All, Option, None, IsSome}
 use Rattle.arrayvec.specs.ArrayVec.{array_vec_len}
 use Rattle.g1_layout.specs.Shape.{Shape, IsShape, slot_count, card_count}
 use Rattle.g1_core.specs.Settings.{Settings, AreSettings}
@@ -9,14 +8,9 @@ use Rattle.g1_race.specs.Members.{race_layout}
 use Rattle.g1_handles.specs.declared.code.Refusal.{Refusal}
 use Rattle.g1_handles.specs.declared.code.Refusal.TheVariants as refusal
 use Rattle.g1_handles.specs.declared.member.Member.{Member}
-use Rattle.g1_handles.specs.declared.member.Role.{Role}
-use Rattle.g1_handles.specs.declared.member.Role.TheVariants as roles
-use Rattle.g1_handles.specs.declared.member_handle.MemberHandle.{MemberHandle}
-use Rattle.g1_handles.specs.declared.over_handle.Remains.{Remains}
 use Rattle.g1_handles.specs.Codes.{OfOpen, IsStoreOf}
-use Rattle.g1_handles.specs.Racing.{held, racer_race_of, sweeper_race_of, AreClosed, AreCounts}
-use Rattle.g1_handles.specs.Racing.{role_of, members_of, OfMember, IsKept, KeepsMembers, OfRacer}
-use Rattle.g1_handles.specs.Racing.{OfSweeper, IsNoRacer, IsNoSweeper}
+use Rattle.g1_handles.specs.Racing.{racer_race_of, sweeper_race_of, OfRacer, OfSweeper}
+use Rattle.g1_handles.specs.Racing.{IsNoRacer, IsNoSweeper}
 
 -- the handle is closed
 abbrev pub SaysNotOpen : Option Machine → Refusal → Type 0
@@ -53,10 +47,6 @@ SaysNoPlace l slot target r = (r ≡ refusal.NoSlot) × (IsStoreOf l slot target
 -- the member's handle is closed
 abbrev pub SaysNoMember : Option Member → Refusal → Type 0
 SaysNoMember m r = (r ≡ refusal.NotOpen) × (m ≡ None)
-
--- nothing lies behind the handle that a close fills
-abbrev pub SaysNoRemains : Option Remains → Refusal → Type 0
-SaysNoRemains over r = (r ≡ refusal.NotOpen) × (over ≡ None)
 
 -- the handle is open, and not that of a racer, which is asked for
 abbrev pub SaysNoRacer : Option Member → Refusal → Type 0
@@ -144,48 +134,3 @@ abbrev pub IsRedirectRefused : Option Machine → ℕ → ℕ → ℕ → Refusa
 IsRedirectRefused handle from to room r =
     SaysNotOpen handle r ⊎ SaysNoRegion handle from r ⊎ SaysNoRegion handle to r
     ⊎ ((r ≡ refusal.SameRegion) × (from ≡ to)) ⊎ SaysNoRoom handle room r ⊎ (r ≡ refusal.NoMemory)
-
--- members of a race that are to be seated in these handles
-abbrev pub AreSeatsRefused : List MemberHandle → List MemberHandle → Refusal → Type 0
-AreSeatsRefused racers sweepers r =
-    ((r ≡ refusal.BadMembers) × (AreCounts (length racers) (length sweepers) → ⊥))
-    ⊎ ((r ≡ refusal.AlreadyOpen) × (AreClosed (held racers) → AreClosed (held sweepers) → ⊥))
-    ⊎ (r ≡ refusal.NoMemory)
-
--- a race over a heap of these counts, with a member for each of these handles
-abbrev pub IsRaceRefused : Shape → List MemberHandle → List MemberHandle → Refusal → Type 0
-IsRaceRefused l racers sweepers r =
-    ((r ≡ refusal.BadLayout) × (IsShape l → ⊥)) ⊎ AreSeatsRefused racers sweepers r
-
--- a race that begins with the core of a handle, with a member for each of the others
-abbrev pub IsResumeRefused : Option Machine → List MemberHandle → List MemberHandle → Refusal
-    → Type 0
-IsResumeRefused handle racers sweepers r = SaysNotOpen handle r ⊎ AreSeatsRefused racers sweepers r
-
--- a handle in a close, for a member of this role and of a race with this many members
-abbrev pub IsMemberRefused : Role → ℕ → Option Member → Refusal → Type 0
-IsMemberRefused role members m r =
-    SaysNoMember m r
-    ⊎ ((r ≡ refusal.OtherRole) × OfMember m (λ x. role_of x ≡ role → ⊥))
-    ⊎ ((r ≡ refusal.BadMembers) × OfMember m (λ x. members_of x ≡ members → ⊥))
-
--- a close of the race of these members, into this handle, before anything changes; that they are of
--- one race and that nobody else has a share of it is found out by counts, of which no proof knows
-abbrev pub IsCloseRefused : List (Option Member) → List (Option Member) → Option Remains → Refusal
-    → Type 0
-IsCloseRefused racers sweepers over r =
-    ((r ≡ refusal.BadMembers) × (AreCounts (length racers) (length sweepers) → ⊥))
-    ⊎ Any (λ m. IsMemberRefused roles.Racer (length racers + length sweepers) m r) racers
-    ⊎ Any (λ m. IsMemberRefused roles.Sweeper (length racers + length sweepers) m r) sweepers
-    ⊎ ((r ≡ refusal.AlreadyOpen) × IsSome over)
-    ⊎ (r ≡ refusal.OtherRace)
-    ⊎ (r ≡ refusal.NoMemory)
-
--- a core of what lies behind one handle, with these settings, into the other
-abbrev pub IsCoreRefused : Option Remains → Option Machine → Settings → Refusal → Type 0
-IsCoreRefused over handle s r =
-    ((r ≡ refusal.NotOpen) × (IsKept over → ⊥))
-    ⊎ ((r ≡ refusal.NotEnded) × KeepsMembers over)
-    ⊎ ((r ≡ refusal.AlreadyOpen) × IsSome handle)
-    ⊎ ((r ≡ refusal.BadSettings) × (AreSettings s → ⊥))
-    ⊎ (r ≡ refusal.NoMemory)

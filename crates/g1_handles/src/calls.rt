@@ -1,7 +1,7 @@
 //! Opening and closing a handle.
 ghost use Rattle.std.specs.Prelude.{◌≡◌, ◌↔◌, ◌<◌, Some, None, IfOk, IfErr, OnOk, OnErr, SomeIff};
-ghost use Rattle.std.specs.Prelude.{IsSome, IsTrue};
-ghost use Rattle.g1_core.specs.Machine.{Machine, new_machine};
+ghost use Rattle.std.specs.Prelude.{IsSome};
+ghost use Rattle.g1_core.specs.Machine.{new_machine};
 ghost use Rattle.g1_core.specs.Settings.{AreSettings};
 ghost use Rattle.g1_handles.specs.Codes.{layout_of, settings_of, IsRefusal};
 ghost use Rattle.g1_handles.specs.Refusals.{IsNewRefused, SaysNotOpen};
@@ -52,25 +52,13 @@ pub fn new_core(alloc: Global, counts: &Counts, hot: u32, ring: u32) -> Result<B
 }
 
 /// The settings of a core: these, and the defaults of the others.
-pub(crate) fn config(hot: u32, ring: u32) -> Option<Config>
+fn config(hot: u32, ring: u32) -> Option<Config>
     ensures { SomeIff result (AreSettings (settings_of hot ring)) (settings_of hot ring) }
 {
     let log = Config::LOG.default as usize;
     let limit = Config::LIMIT.default as usize;
     let start = Config::START.default as usize;
     Config::new(log, limit, hot, ring as usize, start)
-}
-
-/// Whether a handle is closed.
-pub(crate) fn is_closed(handle: Handle, alloc: Global) -> (Handle, bool)
-    ensures same { result.0.value ≡ handle.value }
-    ensures closed { IsTrue result.1 → handle.value ≡ None }
-    ensures open { handle.value ≡ None → IsTrue result.1 }
-{
-    match handle.into_raw_box() {
-        None => (Handle::closed(alloc), true),
-        Some(core) => (Handle::of(core), false),
-    }
 }
 
 /// Puts a core into a closed handle. Returns `AlreadyOpen` if the handle is open: it keeps its own

@@ -51,12 +51,10 @@ pub enum Refusal {
     OtherRole,
     /// A racer's log is full.
     LogFull,
-    /// There are not as many handles as the race has members, or as a race may have.
+    /// There are not as many handles as the heap has members, or a heap may not have as many.
     BadMembers,
-    /// The handles are not those of all members of one race, each given once.
+    /// The handles are not those of all members of the heap, each given once.
     OtherRace,
-    /// The members of a race are gathered; the race has another owner, so it has not ended.
-    NotEnded,
     /// The heap is not at a pause: its members are out.
     NotPaused,
     /// The heap is at a pause: its members are in.
@@ -89,10 +87,9 @@ impl Refusal {
             Refusal::LogFull => 22,
             Refusal::BadMembers => 23,
             Refusal::OtherRace => 24,
-            Refusal::NotEnded => 25,
-            Refusal::NotPaused => 26,
-            Refusal::NotRacing => 27,
-            Refusal::BadWord => 28,
+            Refusal::NotPaused => 25,
+            Refusal::NotRacing => 26,
+            Refusal::BadWord => 27,
         }
     }
 }

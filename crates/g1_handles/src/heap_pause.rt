@@ -1,14 +1,14 @@
 //! How a heap whose stores race comes to a pause.
-ghost use Rattle.std.specs.Prelude.{◌≡◌, ◌⊎◌, ◌≤◌, Some, None, All, Any, IfErr, OnOk, OnErr};
+ghost use Rattle.std.specs.Prelude.{◌≡◌, ◌≤◌, Some, None, All, IfErr, OnOk, OnErr};
 ghost use Rattle.std.specs.Prelude.{MatchOption, length, map, vec_capacity};
 ghost use Rattle.std.specs.Arc.{arc_value};
 ghost use Rattle.g1_race.specs.declared.race.Race.{Race};
 ghost use Rattle.g1_race.specs.Members.{racer_view, sweeper_view, racer_log};
 ghost use Rattle.g1_handles.specs.Life.{OfPaused, OfRacing, IsFor, IsPauseOf, IsPausedWith};
-ghost use Rattle.g1_handles.specs.Life.{IsPauseRefused, IsPartRefused, AreOfHeap, AreLikeOf};
+ghost use Rattle.g1_handles.specs.Life.{IsPauseRefused, AreOfHeap, AreLikeOf};
 ghost use Rattle.g1_handles.specs.Life.{AreRacersFor, AreSweepersFor, ComesIn, log_in, heap_race};
 ghost use Rattle.g1_handles.specs.Parked.{parked_race};
-ghost use Rattle.g1_handles.specs.Racing.{held, known_to, AreClosed, IsOf, HasRole, IsAmong};
+ghost use Rattle.g1_handles.specs.Racing.{held, known_to, AreClosed, IsOf, HasRole};
 ghost use Rattle.g1_handles.specs.Racing.{IfRacer, IfSweeper, racer_race_of, sweeper_race_of};
 
 use crate::code::Refusal;
@@ -89,8 +89,8 @@ fn pause_of(
         return Err(Refusal::BadMembers);
     }
     let members = under_way.race.members();
-    look_at_role(alloc, racers, Role::Racer, members)?;
-    look_at_role(alloc, sweepers, Role::Sweeper, members)?;
+    look_at(alloc, racers, Role::Racer, members)?;
+    look_at(alloc, sweepers, Role::Sweeper, members)?;
     let Some(share) = share_of_race(alloc, &under_way.race, racers, sweepers) else {
         return Err(Refusal::OtherRace);
     };
@@ -100,24 +100,6 @@ fn pause_of(
     take_in(alloc, under_way, racers, sweepers);
     replace_with(heap, share, come_in);
     Ok(())
-}
-
-/// Checks that each handle has a member of this role, of a race with this many members.
-fn look_at_role(
-    alloc: Global,
-    handles: &mut [MemberHandle],
-    role: Role,
-    members: usize,
-) -> Result<(), Refusal>
-    ensures same { held handles.new ≡ held handles.old }
-    ensures among { OnOk result (All (IsAmong role members) (held handles.old)) }
-    ensures why { IfErr result (λ refusal. (refusal ≡ Refusal.OtherRace)
-        ⊎ Any (λ m. IsPartRefused role m refusal) (held handles.old)) }
-{
-    match look_at(alloc, handles, role, members) {
-        Err(Refusal::BadMembers) => Err(Refusal::OtherRace),
-        answer => answer,
-    }
 }
 
 /// Takes the members of these handles in.

@@ -7,14 +7,14 @@
 //! - [`store`], [`batch`], [`refinement`] and [`pause`] are the path of a card.
 //! - [`clearing`] and [`redirection`] may follow an evacuation.
 //! - [`queries`] and [`members`] read what is known, and [`code`] has the codes that calls return.
-//! - Mutators that store lock-free have a race. [`member_handle`] and [`over_handle`] are its
-//!   handles. [`race_open`] and [`race_resume`] begin it, [`race_store`], [`race_log`] and
-//!   [`race_refine`] are the path of a card in it, and [`race_close`] and [`race_core`] make a core
-//!   of it. Before anything changes, a close checks that it was given all members of one race
-//!   (`look`, `one_race`).
 //! - [`racing_heap`] is a heap whose stores race, at a pause or with its members out, and
 //!   [`heap_handle`] its handle. [`heap_open`] begins and ends it, [`heap_resume`] hands its
-//!   members out, and [`heap_pause`] takes them in.
+//!   members out, and [`heap_pause`] takes them in. Before anything changes, a pause checks that
+//!   it was given all members of the heap (`look`, `one_race`).
+//! - [`member_handle`] is the handle of a member, a racer or a sweeper. [`race_store`],
+//!   [`race_log`] and [`race_refine`] are the path of a card while members are out.
+//! - [`heap_queries`], [`heap_drains`], [`heap_stores`], [`heap_evacuation`] and [`heap_words`] are
+//!   the collector's calls at a pause, on an [`at_pause::PausedHeap`].
 //!
 //! A function `.._in` takes what is behind one handle, and gives the handle back with a result. A
 //! call over several handles is one function. The crate `g1_c` exports each, in the file of the
@@ -30,7 +30,6 @@ pub mod batch;
 pub mod calls;
 pub mod clearing;
 pub mod code;
-pub mod gathered;
 pub mod handle;
 pub mod heap_drains;
 pub mod heap_evacuation;
@@ -47,15 +46,10 @@ pub mod member;
 pub mod member_handle;
 pub mod members;
 mod one_race;
-pub mod over_handle;
 pub mod pause;
 pub mod queries;
-pub mod race_close;
-pub mod race_core;
 pub mod race_log;
-pub mod race_open;
 pub mod race_refine;
-pub mod race_resume;
 pub mod race_store;
 pub mod racing_heap;
 pub mod redirection;

@@ -1,7 +1,7 @@
-//! What a close checks of each member of a race.
-ghost use Rattle.std.specs.Prelude.{◌≡◌, Some, All, Any, OnOk, IfErr};
-ghost use Rattle.g1_handles.specs.Racing.{held, role_of, members_of, IsAmong};
-ghost use Rattle.g1_handles.specs.Refusals.{IsMemberRefused};
+//! What a pause checks of each member of a race.
+ghost use Rattle.std.specs.Prelude.{◌≡◌, ◌⊎◌, Some, All, Any, OnOk, IfErr};
+ghost use Rattle.g1_handles.specs.Racing.{held, IsAmong};
+ghost use Rattle.g1_handles.specs.Life.{IsPartRefused};
 
 use crate::code::Refusal;
 use crate::member::{Member, Role};
@@ -19,8 +19,8 @@ pub(crate) fn look_at(
 ) -> Result<(), Refusal>
     ensures same { held handles.new ≡ held handles.old }
     ensures among { OnOk result (All (IsAmong role members) (held handles.old)) }
-    ensures why { IfErr result (λ refusal.
-        Any (λ m. IsMemberRefused role members m refusal) (held handles.old)) }
+    ensures why { IfErr result (λ refusal. (refusal ≡ Refusal.OtherRace)
+        ⊎ Any (λ m. IsPartRefused role m refusal) (held handles.old)) }
 {
     for i in 0..handles.len() {
         replace_with(&mut handles[i], (alloc, role, members), look_in)?;
@@ -35,7 +35,8 @@ fn look_in(
 ) -> (MemberHandle, Result<(), Refusal>)
     ensures same { result.0.value ≡ handle.value }
     ensures among { OnOk result.1 (IsAmong words.1 words.2 handle.value) }
-    ensures why { IfErr result.1 (λ refusal. IsMemberRefused words.1 words.2 handle.value refusal) }
+    ensures why { IfErr result.1 (λ refusal. (refusal ≡ Refusal.OtherRace)
+        ⊎ IsPartRefused words.1 handle.value refusal) }
 {
     let Some(member) = handle.into_raw_box() else {
         return (MemberHandle::closed(words.0), Err(Refusal::NotOpen));
@@ -47,7 +48,8 @@ fn look_in(
 
 fn look(member: &Member, role: Role, members: usize) -> Result<(), Refusal>
     ensures among { OnOk result (IsAmong role members (Some member.now)) }
-    ensures why { IfErr result (λ refusal. IsMemberRefused role members (Some member.now) refusal) }
+    ensures why { IfErr result (λ refusal. (refusal ≡ Refusal.OtherRace)
+        ⊎ IsPartRefused role (Some member.now) refusal) }
 {
     let (is, many) = match member {
         Member::Racer(racing) => (Role::Racer, racing.race.members()),
@@ -58,7 +60,7 @@ fn look(member: &Member, role: Role, members: usize) -> Result<(), Refusal>
         return Err(Refusal::OtherRole);
     }
     if many != members {
-        return Err(Refusal::BadMembers);
+        return Err(Refusal::OtherRace);
     }
     Ok(())
 }

@@ -14,8 +14,8 @@ use std::ptr::null_mut;
 /// A member of a race behind a pointer that C can hold, or nothing if the pointer is null.
 ///
 /// Contracts see what the handle holds: the member, or `None` if the handle is closed. C makes a
-/// closed handle of zeros. Dropping a handle frees nothing: `g1_race_close` and `g1_member_close`
-/// do.
+/// closed handle of zeros. Dropping a handle frees nothing: `g1_heap_close` does, once a pause has
+/// taken the member in.
 #[repr(C)]
 #[derive(Drop)]
 pub struct MemberHandle {

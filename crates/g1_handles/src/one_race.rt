@@ -1,14 +1,13 @@
-//! Whether members are all those of one race.
+//! Whether members are all those of one heap's race.
 //!
 //! A share of a race is a pointer, and the toolchain compares no pointers into two blocks, so this
-//! counts owners. One more share of the first member's race raises the count that another member
-//! sees if that member is of the same race, and only then. Each member also has a number, so that a
-//! member that is given twice is seen. No proof uses what the counts say: the clauses say only that
-//! nothing changes, and that a share is of the race of the racers if they are all of one race.
-ghost use Rattle.std.specs.Prelude.{◌≡◌, ◌<◌, Some, length, All, IfSome};
+//! counts owners. One more share of the heap's race raises the count that a member sees if that
+//! member is of the same race, and only then. Each member also has a number, so that a member that
+//! is given twice is seen. No proof uses what the counts say: the clauses say only that nothing
+//! changes, and that the returned share is of the heap's race.
+ghost use Rattle.std.specs.Prelude.{◌≡◌, IfSome};
 ghost use Rattle.std.specs.Arc.{arc_value};
-ghost use Rattle.g1_race.specs.declared.race.Race.{Race};
-ghost use Rattle.g1_handles.specs.Racing.{held, race_of, IsOf, OfMember};
+ghost use Rattle.g1_handles.specs.Racing.{held, race_of};
 
 use crate::member::Member;
 use crate::member_handle::MemberHandle;
@@ -17,26 +16,6 @@ use g1_race::Race;
 use raw_box::RawBox;
 use std::alloc::Global;
 use std::sync::Arc;
-
-/// Returns a share of the race of these members, if they are all those of one race, each given
-/// once, and the race has no other owner.
-pub(crate) fn share_of_all(
-    alloc: Global,
-    racers: &mut [MemberHandle],
-    sweepers: &mut [MemberHandle],
-) -> Option<Arc<Race, Global>>
-    requires { 0 < length racers.old }
-    ensures same { (held racers.new ≡ held racers.old) × (held sweepers.new ≡ held sweepers.old) }
-    ensures race { (race : Race) → All (IsOf race) (held racers.old) →
-        IfSome result (λ share. arc_value share ≡ race) }
-{
-    let share = replace_with(&mut racers[0], alloc, share_of)?;
-    if are_of(alloc, &share, racers) && are_of(alloc, &share, sweepers) {
-        Some(share)
-    } else {
-        None
-    }
-}
 
 /// Returns a share of this race, if these members are all those that it has, each given once, and
 /// it has no owner but the given one and its members.
@@ -54,20 +33,6 @@ pub(crate) fn share_of_race(
     } else {
         None
     }
-}
-
-/// A share of the race of a handle's member.
-fn share_of(handle: MemberHandle, alloc: Global) -> (MemberHandle, Option<Arc<Race, Global>>)
-    ensures same { result.0.value ≡ handle.value }
-    ensures race { IfSome result.1 (λ share.
-        OfMember handle.value (λ m. race_of m ≡ arc_value share)) }
-{
-    let Some(member) = handle.into_raw_box() else {
-        return (MemberHandle::closed(alloc), None);
-    };
-    let member = member.into_box();
-    let share = Arc::try_clone(race_in(&member)).ok();
-    (MemberHandle::of(RawBox::of(member)), share)
 }
 
 /// Whether each of these members is of the race of a share, and none is given twice.
