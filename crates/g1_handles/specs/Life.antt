@@ -104,6 +104,12 @@ heap_race None = None
 heap_race (Some (heap.Paused a)) = Some (arc_value a.race)
 heap_race (Some (heap.Racing b)) = Some (arc_value b.race)
 
+-- the handle is open, and it is so of the heap's race
+abbrev pub OfHeap : Option RacingHeap → (Race → Type 0) → Type 0
+OfHeap None P = ⊥
+OfHeap (Some (heap.Paused a)) P = P (arc_value a.race)
+OfHeap (Some (heap.Racing b)) P = P (arc_value b.race)
+
 -- the heap was opened for this many racers and sweepers
 abbrev pub IsFor : Option RacingHeap → ℕ → ℕ → Type 0
 IsFor None racers sweepers = ⊥

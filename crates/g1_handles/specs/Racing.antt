@@ -1,12 +1,13 @@
 -- What the calls on the members of a race do.
 use Rattle.std.specs.Prelude.{◌↔◌, Contains, ◌≡◌, ◌+◌, ℕ, List, [], ◌∷◌, ◌++◌, map}
-use Rattle.std.specs.Prelude.{All, Option, Some, None, if◌then◌else◌}
+use Rattle.std.specs.Prelude.{All, Option, Some, None, false, if◌then◌else◌}
 use Rattle.std.specs.Arc.{arc_value}
 use Rattle.g1_layout.specs.declared.kind.Kind.{Kind}
 use Rattle.g1_race.specs.declared.race.Race.{Race}
 use Rattle.g1_race_words.specs.declared.view.View.{View}
 use Rattle.g1_race.specs.Over.{Ended}
-use Rattle.g1_race_words.specs.Rule.{card_of}
+use Rattle.g1_race_words.specs.Rule.{IsWord, card_of}
+use Rattle.g1_race_words.specs.Seats.{IsFound}
 use Rattle.g1_race.specs.Race.{word_of, stored, IsKnown, IsOver}
 use Rattle.g1_race_words.specs.Steps.{nothing}
 use Rattle.g1_race.specs.Members.{race_layout, race_begun, race_shape, racer_view}
@@ -82,6 +83,15 @@ pub record Stores (a : Racing) (p : ℕ) (t : Option ℕ) (k : Kind) (b : Racing
 abbrev pub StoresWord : Racing → ℕ → ℕ → ℕ → Racing → Type 0
 StoresWord a slot target word b =
     (k : Kind) × (word ≡ kind_word k) × Stores a slot (reference_of target) k b
+
+-- a racer before and after it stored this word of data to slot p, which had the old word
+pub record StoresData (a : Racing) (p word old : ℕ) (b : Racing) : Type 0 where
+  pub race : racer_race_of b ≡ racer_race_of a
+  pub view : racer_view b.racer ≡ stored (race_shape (racer_race_of a)) (racer_view a.racer) p
+      word false
+  pub log : b.racer.log.items ≡ a.racer.log.items
+  pub found : IsFound (racer_view a.racer) p old
+  pub fits : IsWord (race_shape (racer_race_of a)) old
 
 -- a racer before and after its log was taken
 pub record TakesLog (a : Racing) (log : List ℕ) (b : Racing) : Type 0 where

@@ -1,5 +1,5 @@
 -- Why a call is refused: each refusal that it may answer, with what is so where it comes.
-use Rattle.std.specs.Prelude.{◌≡◌, ◌⊎◌, ◌<◌, ◌≤◌, ℕ, List, length, All, Option, None, IsSome}
+use Rattle.std.specs.Prelude.{◌≡◌, ◌⊎◌, ◌<◌, ◌≤◌, ◌^◌, ℕ, List, length, All, Option, None, IsSome}
 use Rattle.arrayvec.specs.ArrayVec.{array_vec_len}
 use Rattle.g1_layout.specs.Shape.{Shape, IsShape, slot_count, card_count}
 use Rattle.g1_core.specs.Settings.{Settings, AreSettings}
@@ -79,6 +79,14 @@ IsRaceStoreRefused m slot target r =
     SaysNoMember m r ⊎ SaysNoRacer m r
     ⊎ ((r ≡ refusal.LogFull) × OfRacer m (λ a. 256 ≤ array_vec_len a.racer.log))
     ⊎ OfRacer m (λ a. SaysNoPlace (race_layout (racer_race_of a)) slot target r)
+
+-- a store of data by the racer of a handle
+abbrev pub IsRaceDataRefused : Option Member → ℕ → ℕ → Refusal → Type 0
+IsRaceDataRefused m slot word r =
+    SaysNoMember m r ⊎ SaysNoRacer m r
+    ⊎ ((r ≡ refusal.NoSlot)
+        × OfRacer m (λ a. slot_count (race_layout (racer_race_of a)) ≤ slot))
+    ⊎ ((r ≡ refusal.BadWord) × (word < 2 ^ 32))
 
 -- the log of the racer of a handle
 abbrev pub IsLogRefused : Option Member → Refusal → Type 0

@@ -1,9 +1,43 @@
-//! Words at a pause: a slot may hold data, which refers to nothing.
-ghost use Rattle.std.specs.Prelude.{◌≡◌, ◌⊎◌, ◌<◌, ◌≤◌, IfOk, OnOk, IfErr, OnErr};
+//! The words of a heap: where they lie, and, at a pause, what a slot's is and a store of data, which
+//! refers to nothing.
+ghost use Rattle.std.specs.Prelude.{◌≡◌, ◌⊎◌, ◌<◌, ◌≤◌, Some, IfOk, OnOk, IfErr, OnErr};
+ghost use Rattle.g1_race.specs.Members.{race_words};
 ghost use Rattle.g1_handles.specs.AtPause.{IsKept, HasWord, StoresData, LacksSlot};
+ghost use Rattle.g1_handles.specs.Life.{OfHeap, SaysNoHeap};
 
 use crate::at_pause::PausedHeap;
 use crate::code::Refusal;
+use crate::heap_handle::HeapHandle;
+use crate::race_data::DATA;
+use crate::racing_heap::RacingHeap;
+use raw_box::RawBox;
+use std::alloc::Global;
+
+/// Returns the address of the words of the heap of a handle, at a pause or not: the word of each
+/// slot, in order. It stays the same for as long as the heap lasts. Returns `NotOpen` if the handle
+/// is closed.
+pub fn words_in(handle: HeapHandle, alloc: Global) -> (HeapHandle, Result<*const u64, Refusal>)
+    ensures words { IfOk result.1 (λ words.
+        OfHeap handle.value (λ race. words ≡ race_words race)) }
+    ensures why { IfErr result.1 (SaysNoHeap handle.value) }
+    ensures same { result.0.value ≡ handle.value }
+{
+    let Some(heap) = handle.into_raw_box() else {
+        return (HeapHandle::closed(alloc), Err(Refusal::NotOpen));
+    };
+    let heap = heap.into_box();
+    let words = words_of(&heap);
+    (HeapHandle::of(RawBox::of(heap)), Ok(words))
+}
+
+fn words_of(heap: &RacingHeap) -> *const u64
+    ensures { OfHeap (Some heap.now) (λ race. result ≡ race_words race) }
+{
+    match heap {
+        RacingHeap::Paused(at) => at.race.words(),
+        RacingHeap::Racing(under_way) => under_way.race.words(),
+    }
+}
 
 /// Returns a slot's word: 0 for null, the number of the slot that it refers to plus 1, or data from
 /// 2^32 on. Returns `NoSlot` if the call was refused.
@@ -33,7 +67,7 @@ pub fn store_data_at(heap: &mut PausedHeap, slot: u32, word: u64) -> Result<(), 
     let Some(slot) = heap.layout().slot(slot) else {
         return Err(Refusal::NoSlot);
     };
-    if word < 4_294_967_296 {
+    if word < DATA {
         return Err(Refusal::BadWord);
     }
     heap.store_data(slot, word);

@@ -12,7 +12,8 @@
 //!   members out, and [`heap_pause`] takes them in. Before anything changes, a pause checks that
 //!   it was given all members of the heap (`look`, `one_race`).
 //! - [`member_handle`] is the handle of a member, a racer or a sweeper. [`race_store`],
-//!   [`race_log`] and [`race_refine`] are the path of a card while members are out.
+//!   [`race_log`] and [`race_refine`] are the path of a card while members are out, and
+//!   [`race_data`] is a store of data.
 //! - [`heap_queries`], [`heap_drains`], [`heap_stores`], [`heap_evacuation`] and [`heap_words`] are
 //!   the collector's calls at a pause, on an [`at_pause::PausedHeap`].
 //!
@@ -48,6 +49,7 @@ pub mod members;
 mod one_race;
 pub mod pause;
 pub mod queries;
+pub mod race_data;
 pub mod race_log;
 pub mod race_refine;
 pub mod race_store;
