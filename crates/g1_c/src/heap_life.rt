@@ -25,19 +25,19 @@ use std::alloc::Global;
 #[unsafe(no_mangle)]
 pub extern "C" fn g1_heap_open(
     alloc: Global,
-    handle: &mut HeapHandle,
+    heap: &mut HeapHandle,
     counts: &Counts,
     racers: u32,
     sweepers: u32,
 ) -> u32
     ensures opened { result ≡ 0 →
-        OfPaused handle.new.value (IsNewHeap (layout_of counts.now) racers sweepers) }
-    ensures closed { result ≡ 0 → handle.old.value ≡ None }
+        OfPaused heap.new.value (IsNewHeap (layout_of counts.now) racers sweepers) }
+    ensures closed { result ≡ 0 → heap.old.value ≡ None }
     ensures why { 0 < result →
-        IsRefusal result (IsHeapRefused handle.old.value (layout_of counts.now) racers sweepers) }
-    ensures refused { 0 < result → handle.new.value ≡ handle.old.value }
+        IsRefusal result (IsHeapRefused heap.old.value (layout_of counts.now) racers sweepers) }
+    ensures refused { 0 < result → heap.new.value ≡ heap.old.value }
 {
-    match open_heap(alloc, handle, counts, racers, sweepers) {
+    match open_heap(alloc, heap, counts, racers, sweepers) {
         Ok(()) => DONE,
         Err(refusal) => refusal.word(),
     }
@@ -52,23 +52,23 @@ pub extern "C" fn g1_heap_open(
 #[unsafe(no_mangle)]
 pub extern "C" fn g1_heap_resume(
     alloc: Global,
-    handle: &mut HeapHandle,
+    heap: &mut HeapHandle,
     racers: &mut [MemberHandle],
     sweepers: &mut [MemberHandle],
 ) -> u32
-    ensures resumed { result ≡ 0 → OfPaused handle.old.value (λ p.
-        OfRacing handle.new.value (λ b.
+    ensures resumed { result ≡ 0 → OfPaused heap.old.value (λ p.
+        OfRacing heap.new.value (λ b.
         GoesOn p (arc_value b.race) (held racers.new) (held sweepers.new))) }
-    ensures same { result ≡ 0 → heap_race handle.new.value ≡ heap_race handle.old.value }
-    ensures members { result ≡ 0 → IsFor handle.old.value (length racers.old) (length sweepers.old)
-        × IsFor handle.new.value (length racers.old) (length sweepers.old) }
+    ensures same { result ≡ 0 → heap_race heap.new.value ≡ heap_race heap.old.value }
+    ensures members { result ≡ 0 → IsFor heap.old.value (length racers.old) (length sweepers.old)
+        × IsFor heap.new.value (length racers.old) (length sweepers.old) }
     ensures closed { result ≡ 0 → AreClosed (held racers.old) × AreClosed (held sweepers.old) }
     ensures why { 0 < result →
-        IsRefusal result (IsGoingRefused handle.old.value (held racers.old) (held sweepers.old)) }
-    ensures refused { 0 < result → (handle.new.value ≡ handle.old.value)
+        IsRefusal result (IsGoingRefused heap.old.value (held racers.old) (held sweepers.old)) }
+    ensures refused { 0 < result → (heap.new.value ≡ heap.old.value)
         × (held racers.new ≡ held racers.old) × (held sweepers.new ≡ held sweepers.old) }
 {
-    match resume_heap(alloc, handle, racers, sweepers) {
+    match resume_heap(alloc, heap, racers, sweepers) {
         Ok(()) => DONE,
         Err(refusal) => refusal.word(),
     }
@@ -88,27 +88,27 @@ pub extern "C" fn g1_heap_resume(
 #[unsafe(no_mangle)]
 pub extern "C" fn g1_heap_pause(
     alloc: Global,
-    handle: &mut HeapHandle,
+    heap: &mut HeapHandle,
     racers: &mut [MemberHandle],
     sweepers: &mut [MemberHandle],
 ) -> u32
-    requires one { IsFor handle.old.value (length racers.old) (length sweepers.old) →
-        AreLikeOf handle.old.value (held racers.old) (held sweepers.old) →
-        AreOfHeap handle.old.value (held racers.old) (held sweepers.old) }
-    ensures paused { result ≡ 0 → OfRacing handle.old.value (λ b. OfPaused handle.new.value
+    requires one { IsFor heap.old.value (length racers.old) (length sweepers.old) →
+        AreLikeOf heap.old.value (held racers.old) (held sweepers.old) →
+        AreOfHeap heap.old.value (held racers.old) (held sweepers.old) }
+    ensures paused { result ≡ 0 → OfRacing heap.old.value (λ b. OfPaused heap.new.value
         (IsPausedWith (arc_value b.race) (held racers.old) (held sweepers.old))) }
-    ensures same { result ≡ 0 → heap_race handle.new.value ≡ heap_race handle.old.value }
-    ensures members { result ≡ 0 → IsFor handle.old.value (length racers.old) (length sweepers.old)
-        × IsFor handle.new.value (length racers.old) (length sweepers.old) }
+    ensures same { result ≡ 0 → heap_race heap.new.value ≡ heap_race heap.old.value }
+    ensures members { result ≡ 0 → IsFor heap.old.value (length racers.old) (length sweepers.old)
+        × IsFor heap.new.value (length racers.old) (length sweepers.old) }
     ensures like { result ≡ 0 →
-        AreLikeOf handle.old.value (held racers.old) (held sweepers.old) }
+        AreLikeOf heap.old.value (held racers.old) (held sweepers.old) }
     ensures closed { result ≡ 0 → AreClosed (held racers.new) × AreClosed (held sweepers.new) }
     ensures why { 0 < result →
-        IsRefusal result (IsPauseRefused handle.old.value (held racers.old) (held sweepers.old)) }
-    ensures refused { 0 < result → (handle.new.value ≡ handle.old.value)
+        IsRefusal result (IsPauseRefused heap.old.value (held racers.old) (held sweepers.old)) }
+    ensures refused { 0 < result → (heap.new.value ≡ heap.old.value)
         × (held racers.new ≡ held racers.old) × (held sweepers.new ≡ held sweepers.old) }
 {
-    match pause_heap(alloc, handle, racers, sweepers) {
+    match pause_heap(alloc, heap, racers, sweepers) {
         Ok(()) => DONE,
         Err(refusal) => refusal.word(),
     }
@@ -119,13 +119,13 @@ pub extern "C" fn g1_heap_pause(
 /// Returns 0, or the word of `NotOpen`, or of `NotPaused` if its members are out: the handle has
 /// not changed.
 #[unsafe(no_mangle)]
-pub extern "C" fn g1_heap_close(alloc: Global, handle: &mut HeapHandle) -> u32
-    ensures closed { result ≡ 0 → handle.new.value ≡ None }
-    ensures paused { result ≡ 0 → OfPaused handle.old.value (λ p. Unit {0}) }
-    ensures why { 0 < result → IsRefusal result (IsEndRefused handle.old.value) }
-    ensures refused { 0 < result → handle.new.value ≡ handle.old.value }
+pub extern "C" fn g1_heap_close(alloc: Global, heap: &mut HeapHandle) -> u32
+    ensures closed { result ≡ 0 → heap.new.value ≡ None }
+    ensures paused { result ≡ 0 → OfPaused heap.old.value (λ p. Unit {0}) }
+    ensures why { 0 < result → IsRefusal result (IsEndRefused heap.old.value) }
+    ensures refused { 0 < result → heap.new.value ≡ heap.old.value }
 {
-    match close_heap(alloc, handle) {
+    match close_heap(alloc, heap) {
         Ok(()) => DONE,
         Err(refusal) => refusal.word(),
     }

@@ -1,16 +1,46 @@
-//! Words of a heap at a pause: a slot may hold data, which refers to nothing.
+//! The words of a heap: where they lie, and, at a pause, what a slot's is and a store of data.
 ghost use Rattle.std.specs.Prelude.{◌≡◌, ◌⊎◌, ◌<◌};
+ghost use Rattle.g1_race.specs.Members.{race_words};
 ghost use Rattle.g1_handles.specs.AtPause.{HasWord, StoresData, LacksSlot};
 ghost use Rattle.g1_handles.specs.Codes.{IsRefusal};
 ghost use Rattle.g1_handles.specs.HeapCalls.{IsHeapRefused};
-ghost use Rattle.g1_handles.specs.Life.{IsSameHeap};
+ghost use Rattle.g1_handles.specs.Life.{IsSameHeap, OfHeap, SaysNoHeap};
+ghost use denote.RawPtr.{null_ptr};
 
 use core::mem::replace_with;
 use g1_handles::at_pause::{PausedHeap, at_pause};
 use g1_handles::code::{DONE, Refusal};
 use g1_handles::heap_handle::HeapHandle;
-use g1_handles::heap_words::{store_data_at, word_at};
+use g1_handles::heap_words::{store_data_at, word_at, words_in};
 use std::alloc::Global;
+use std::ptr::null;
+
+/// Sets `words` to the address of the words of a heap, at a pause or not: the word of each slot, in
+/// order. It stays the same for as long as the heap lasts.
+///
+/// Returns 0, or the word of `NotOpen`: `words` is null.
+#[unsafe(no_mangle)]
+pub extern "C" fn g1_heap_words(
+    alloc: Global,
+    heap: &mut HeapHandle,
+    words: &mut *const u64,
+) -> u32
+    ensures words { result ≡ 0 → OfHeap heap.old.value (λ race. words.new ≡ race_words race) }
+    ensures none { 0 < result → words.new ≡ null_ptr }
+    ensures why { 0 < result → IsRefusal result (SaysNoHeap heap.old.value) }
+    ensures same { heap.new.value ≡ heap.old.value }
+{
+    match replace_with(heap, alloc, words_in) {
+        Err(refusal) => {
+            *words = null();
+            refusal.word()
+        }
+        Ok(found) => {
+            *words = found;
+            DONE
+        }
+    }
+}
 
 /// Sets `word` to a slot's word: 0 for null, the number of the slot that it refers to plus 1, or
 /// data from 2^32 on. Reads that word.
