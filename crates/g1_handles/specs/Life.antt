@@ -30,7 +30,7 @@ use Rattle.g1_handles.specs.declared.racing_heap.RacingHeap.{RacingHeap}
 use Rattle.g1_handles.specs.declared.racing_heap.RacingHeap.TheVariants as heap
 use Rattle.g1_handles.specs.Parked.{parked_race}
 use Rattle.g1_handles.specs.Racing.{AreClosed, OfRacer, OfSweeper, racer_race_of, sweeper_race_of}
-use Rattle.g1_handles.specs.Racing.{known_to, IsAmong, IsOf, HasRole, IsEndOf}
+use Rattle.g1_handles.specs.Racing.{known_to, IsAmong, IsOf, IsEndOf, OfMember, role_of}
 use Rattle.g1_handles.specs.Refusals.{SaysNoMember}
 
 -- the handle has a heap at a pause, and it is so of the pause
@@ -243,7 +243,7 @@ pub record ComesIn (old new : UnderWay) (rs ss : List (Option Member)) : Type 0 
 -- a handle in a pause, for a member of this role
 abbrev pub IsPartRefused : Role → Option Member → Refusal → Type 0
 IsPartRefused role m r =
-    SaysNoMember m r ⊎ ((r ≡ refusal.OtherRole) × (HasRole role m → ⊥))
+    SaysNoMember m r ⊎ ((r ≡ refusal.OtherRole) × OfMember m (λ x. role_of x ≡ role → ⊥))
 
 -- a pause of the heap of the first handle; that the members are of its race, each given once, is
 -- found out by counts, of which no proof knows
