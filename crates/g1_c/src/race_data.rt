@@ -16,8 +16,8 @@ use std::alloc::Global;
 /// whatever the other members of the race do. `old` is the slot's word before. Takes no memory,
 /// marks and logs nothing, and never waits.
 ///
-/// Returns 0, or the word of `BadWord`, `NoSlot`, `OtherRole` or `NotOpen`: nothing has changed, and
-/// `old` is 0.
+/// Returns 0, or the word of `BadWord`, `NoSlot`, `OtherRole` or `NotOpen`: nothing has changed,
+/// and `old` is 0.
 #[unsafe(no_mangle)]
 pub extern "C" fn g1_race_store_data(
     alloc: Global,

@@ -17,8 +17,8 @@ use std::sync::Arc;
 /// A heap at a pause. It holds a share of its race, so its members keep theirs.
 pub type PausedHeap = Paused<Arc<Race, Global>>;
 
-/// Makes a call on the heap of a handle, which is at a pause, and puts the heap back. `words` has the
-/// call. Returns `NotOpen` or `NotPaused` if there is no such heap: nothing has changed.
+/// Makes a call on the heap of a handle, which is at a pause, and puts the heap back. `words` has
+/// the call. Returns `NotOpen` or `NotPaused` if there is no such heap: nothing has changed.
 pub fn at_pause<A, F: FnOnce(&mut PausedHeap) -> Result<A, Refusal>>(
     handle: HeapHandle,
     words: (Global, F),

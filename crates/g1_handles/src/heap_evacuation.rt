@@ -15,8 +15,8 @@ use g1_layout::{Layout, Region};
 
 /// Empties the remembered set of a region, once no card is dirty and no slot outside the region
 /// refers into it. Returns the word of the reply and the number that goes with it, as
-/// [`clear_in`](crate::clearing::clear_in) does. Unless that word is 0, nothing has changed. Returns
-/// `NoRegion` if the call was refused.
+/// [`clear_in`](crate::clearing::clear_in) does. Unless that word is 0, nothing has changed.
+/// Returns `NoRegion` if the call was refused.
 #[tactic(auto, using(crate::proofs::KeptLemmas::kept_same, crate::proofs::KeptLemmas::kept_race))]
 pub fn clear_at(heap: &mut PausedHeap, region: u32) -> Result<(u32, u32), Refusal>
     ensures cleared { IfOk result (λ answer.

@@ -3,8 +3,8 @@
 ghost use Rattle.std.specs.Prelude.{◌≡◌, ◌<◌, ◌≤◌, ◌⊎◌, IfOk, IfErr};
 ghost use Rattle.g1_layout.specs.Shape.{slot_count};
 ghost use Rattle.g1_handles.specs.Codes.{reference_of};
-ghost use Rattle.g1_handles.specs.AtPause.{IsKept, SlotRefers, TellsPending, TellsStatus, TellsMembers};
-ghost use Rattle.g1_handles.specs.AtPause.{LacksSlot, LacksCard, LacksRegion};
+ghost use Rattle.g1_handles.specs.AtPause.{IsKept, SlotRefers, TellsPending, TellsStatus};
+ghost use Rattle.g1_handles.specs.AtPause.{TellsMembers, LacksSlot, LacksCard, LacksRegion};
 ghost use Rattle.g1_handles.specs.Queries.{Lists};
 
 use crate::at_pause::PausedHeap;

@@ -1,5 +1,5 @@
-//! The words of a heap: where they lie, and, at a pause, what a slot's is and a store of data, which
-//! refers to nothing.
+//! The words of a heap: where they lie, and, at a pause, what a slot's is and a store of data,
+//! which refers to nothing.
 ghost use Rattle.std.specs.Prelude.{◌≡◌, ◌⊎◌, ◌<◌, ◌≤◌, Some, IfOk, OnOk, IfErr, OnErr};
 ghost use Rattle.g1_race.specs.Members.{race_words};
 ghost use Rattle.g1_handles.specs.AtPause.{IsKept, HasWord, StoresData, LacksSlot};
