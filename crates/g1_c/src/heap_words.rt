@@ -20,11 +20,7 @@ use std::ptr::null;
 ///
 /// Returns 0, or the word of `NotOpen`: `words` is null.
 #[unsafe(no_mangle)]
-pub extern "C" fn g1_heap_words(
-    alloc: Global,
-    heap: &mut HeapHandle,
-    words: &mut *const u64,
-) -> u32
+pub extern "C" fn g1_heap_words(alloc: Global, heap: &mut HeapHandle, words: &mut *const u64) -> u32
     ensures words { result ≡ 0 → OfHeap heap.old.value (λ race. words.new ≡ race_words race) }
     ensures none { 0 < result → words.new ≡ null_ptr }
     ensures why { 0 < result → IsRefusal result (SaysNoHeap heap.old.value) }

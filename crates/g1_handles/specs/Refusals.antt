@@ -85,7 +85,7 @@ abbrev pub IsRaceDataRefused : Option Member → ℕ → ℕ → Refusal → Typ
 IsRaceDataRefused m slot word r =
     SaysNoMember m r ⊎ SaysNoRacer m r
     ⊎ ((r ≡ refusal.NoSlot)
-        × OfRacer m (λ a. slot_count (race_layout (racer_race_of a)) ≤ slot))
+    × OfRacer m (λ a. slot_count (race_layout (racer_race_of a)) ≤ slot))
     ⊎ ((r ≡ refusal.BadWord) × (word < 2 ^ 32))
 
 -- the log of the racer of a handle
