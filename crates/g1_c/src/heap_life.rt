@@ -3,7 +3,7 @@
 ghost use Rattle.std.specs.Prelude.{◌≡◌, ◌<◌, None, length};
 ghost use Rattle.std.specs.Arc.{arc_value};
 ghost use Rattle.g1_handles.specs.Codes.{layout_of, IsRefusal};
-ghost use Rattle.g1_handles.specs.Life.{OfPaused, OfRacing, IsFor, IsNewHeap, IsHeapRefused};
+ghost use Rattle.g1_handles.specs.Life.{OfPaused, OfRacing, IsFor, IsNewHeap, IsOpeningRefused};
 ghost use Rattle.g1_handles.specs.Life.{IsGoingRefused, IsPausedWith, IsPauseRefused, IsEndRefused};
 ghost use Rattle.g1_handles.specs.Life.{AreLikeOf, AreOfHeap, GoesOn, heap_race};
 ghost use Rattle.g1_handles.specs.Racing.{held, AreClosed};
@@ -34,7 +34,7 @@ pub extern "C" fn g1_heap_open(
         OfPaused heap.new.value (IsNewHeap (layout_of counts.now) racers sweepers) }
     ensures closed { result ≡ 0 → heap.old.value ≡ None }
     ensures why { 0 < result →
-        IsRefusal result (IsHeapRefused heap.old.value (layout_of counts.now) racers sweepers) }
+        IsRefusal result (IsOpeningRefused heap.old.value (layout_of counts.now) racers sweepers) }
     ensures refused { 0 < result → heap.new.value ≡ heap.old.value }
 {
     match open_heap(alloc, heap, counts, racers, sweepers) {

@@ -1,7 +1,7 @@
 //! The words of a heap: where they lie, and, at a pause, what a slot's is and a store of data.
-ghost use Rattle.std.specs.Prelude.{◌≡◌, ◌⊎◌, ◌<◌};
+ghost use Rattle.std.specs.Prelude.{◌≡◌, ◌⊎◌, ◌<◌, ◌^◌};
 ghost use Rattle.g1_race.specs.Members.{race_words};
-ghost use Rattle.g1_handles.specs.AtPause.{HasWord, StoresData, LacksSlot};
+ghost use Rattle.g1_handles.specs.AtPause.{HasWord, StoresDataAt, LacksSlot};
 ghost use Rattle.g1_handles.specs.Codes.{IsRefusal};
 ghost use Rattle.g1_handles.specs.HeapCalls.{IsHeapRefused};
 ghost use Rattle.g1_handles.specs.Life.{IsSameHeap, OfHeap, SaysNoHeap};
@@ -84,9 +84,9 @@ pub extern "C" fn g1_heap_store_data(
     word: u64,
 ) -> u32
     ensures stored { result ≡ 0 → IsSameHeap heap.old.value heap.new.value (λ old new.
-        StoresData old slot word new) }
+        StoresDataAt old slot word new) }
     ensures why { 0 < result → IsRefusal result (IsHeapRefused heap.old.value (λ old r.
-        LacksSlot old slot r ⊎ ((r ≡ Refusal.BadWord) × (word < 4294967296)))) }
+        LacksSlot old slot r ⊎ ((r ≡ Refusal.BadWord) × (word < 2 ^ 32)))) }
     ensures refused { 0 < result → heap.new.value ≡ heap.old.value }
 {
     match replace_with(

@@ -149,7 +149,7 @@ pub record HasWord (heap : Halt) (slot word : ℕ) : Type 0 where
   pub fits : IsWord heap.shape word
 
 -- data is stored into the slot, which is a store of null to the table
-pub record StoresData (old : Halt) (slot word : ℕ) (new : Halt) : Type 0 where
+pub record StoresDataAt (old : Halt) (slot word : ℕ) (new : Halt) : Type 0 where
   pub race : IsSameRace old new
   pub words : SlotsBecome (one_word slot word) old new
   pub table : halted new ≡ stored (halted old) slot None

@@ -87,8 +87,8 @@ pub record IsNewHeap (l : layout.Shape) (racers sweepers : ℕ) (p : Halt) : Typ
   pub members : p.sweepers ≡ sweepers
 
 -- a heap of these counts, with this many racers and sweepers, in this handle
-abbrev pub IsHeapRefused : Option RacingHeap → layout.Shape → ℕ → ℕ → Refusal → Type 0
-IsHeapRefused h l racers sweepers r =
+abbrev pub IsOpeningRefused : Option RacingHeap → layout.Shape → ℕ → ℕ → Refusal → Type 0
+IsOpeningRefused h l racers sweepers r =
     ((r ≡ refusal.BadMembers) × (AreHeapCounts racers sweepers → ⊥))
     ⊎ ((r ≡ refusal.AlreadyOpen) × IsSome h)
     ⊎ ((r ≡ refusal.BadLayout) × (IsShape l → ⊥))

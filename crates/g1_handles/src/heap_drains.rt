@@ -12,7 +12,7 @@ use std::alloc::Global;
 /// Refines every dirty card, and returns the remembered set of a region, or how many cards it has
 /// if the caller's array, of length `room`, is shorter. Returns `NoRegion` or `NoMemory` if the
 /// call was refused: nothing has changed.
-#[tactic(auto, using(crate::proofs::KeptLemmas::kept_same, crate::proofs::KeptLemmas::kept_refined))]
+#[tactic(auto, using(crate::proofs::Kept::kept_same, crate::proofs::Kept::kept_refined))]
 pub fn drain_at(
     heap: &mut PausedHeap,
     alloc: Global,
@@ -40,7 +40,7 @@ pub fn drain_at(
 }
 
 /// Refines every dirty card. The members of each region are exact then.
-#[tactic(auto, using(crate::proofs::KeptLemmas::kept_refined))]
+#[tactic(auto, using(crate::proofs::Kept::kept_refined))]
 pub fn refine_at(heap: &mut PausedHeap)
     ensures refined { Refines heap.old heap.new }
     ensures kept { IsKept heap.old heap.new }

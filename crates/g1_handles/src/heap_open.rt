@@ -3,7 +3,7 @@ ghost use Rattle.std.specs.Prelude.{◌≡◌, ◌≤◌, IsTrue, Some, None, Al
 ghost use Rattle.std.specs.Prelude.{vec_len};
 ghost use Rattle.std.specs.Arc.{arc_value};
 ghost use Rattle.g1_handles.specs.Codes.{layout_of};
-ghost use Rattle.g1_handles.specs.Life.{IsNewHeap, IsHeapRefused, AreHeapCounts, OfPaused};
+ghost use Rattle.g1_handles.specs.Life.{IsNewHeap, IsOpeningRefused, AreHeapCounts, OfPaused};
 ghost use Rattle.g1_handles.specs.Life.{IsEndRefused};
 ghost use Rattle.g1_handles.specs.Parked.{parked_race};
 
@@ -34,7 +34,7 @@ pub fn open_heap(
         (OfPaused handle.new.value (IsNewHeap (layout_of counts.now) racers sweepers)) }
     ensures closed { OnOk result (handle.old.value ≡ None) }
     ensures why { IfErr result (λ refusal.
-        IsHeapRefused handle.old.value (layout_of counts.now) racers sweepers refusal) }
+        IsOpeningRefused handle.old.value (layout_of counts.now) racers sweepers refusal) }
     ensures refused { OnErr result (handle.new.value ≡ handle.old.value) }
 {
     if !are_heap_counts(racers, sweepers) {

@@ -15,7 +15,7 @@ use g1_core::Status;
 use std::alloc::Global;
 
 /// Returns the word of what a slot refers to, or `NoSlot`.
-#[tactic(auto, using(crate::proofs::KeptLemmas::kept_same))]
+#[tactic(auto, using(crate::proofs::Kept::kept_same))]
 pub fn target_at(heap: &mut PausedHeap, slot: u32) -> Result<u32, Refusal>
     ensures target { IfOk result (λ word. SlotRefers heap.old slot (reference_of word)) }
     ensures why { IfErr result (LacksSlot heap.old slot) }
@@ -30,7 +30,7 @@ pub fn target_at(heap: &mut PausedHeap, slot: u32) -> Result<u32, Refusal>
 }
 
 /// Returns whether a card is pending, or `NoCard`.
-#[tactic(auto, using(crate::proofs::KeptLemmas::kept_same))]
+#[tactic(auto, using(crate::proofs::Kept::kept_same))]
 pub fn is_pending_at(heap: &mut PausedHeap, card: u32) -> Result<bool, Refusal>
     ensures pending { IfOk result (TellsPending heap.old card) }
     ensures why { IfErr result (LacksCard heap.old card) }
@@ -44,7 +44,7 @@ pub fn is_pending_at(heap: &mut PausedHeap, card: u32) -> Result<bool, Refusal>
 }
 
 /// Returns how much is pending and recorded.
-#[tactic(auto, using(crate::proofs::KeptLemmas::kept_same))]
+#[tactic(auto, using(crate::proofs::Kept::kept_same))]
 pub fn status_at(heap: &mut PausedHeap) -> Status
     ensures status { TellsStatus heap.old result }
     ensures same { heap.new ≡ heap.old }
@@ -56,7 +56,7 @@ pub fn status_at(heap: &mut PausedHeap) -> Status
 /// Returns the remembered set of a region as it is recorded, or how many cards it has if the
 /// caller's array, of length `room`, is shorter. Returns `NoRegion` or `NoMemory` if the call was
 /// refused.
-#[tactic(auto, using(crate::proofs::KeptLemmas::kept_same))]
+#[tactic(auto, using(crate::proofs::Kept::kept_same))]
 pub fn members_at(
     heap: &mut PausedHeap,
     alloc: Global,

@@ -1,8 +1,8 @@
 //! The words of a heap: where they lie, and, at a pause, what a slot's is and a store of data,
 //! which refers to nothing.
-ghost use Rattle.std.specs.Prelude.{◌≡◌, ◌⊎◌, ◌<◌, ◌≤◌, Some, IfOk, OnOk, IfErr, OnErr};
+ghost use Rattle.std.specs.Prelude.{◌≡◌, ◌⊎◌, ◌<◌, ◌≤◌, ◌^◌, Some, IfOk, OnOk, IfErr, OnErr};
 ghost use Rattle.g1_race.specs.Members.{race_words};
-ghost use Rattle.g1_handles.specs.AtPause.{IsKept, HasWord, StoresData, LacksSlot};
+ghost use Rattle.g1_handles.specs.AtPause.{IsKept, HasWord, StoresDataAt, LacksSlot};
 ghost use Rattle.g1_handles.specs.Life.{OfHeap, SaysNoHeap};
 
 use crate::at_pause::PausedHeap;
@@ -41,7 +41,7 @@ fn words_of(heap: &RacingHeap) -> *const u64
 
 /// Returns a slot's word: 0 for null, the number of the slot that it refers to plus 1, or data from
 /// 2^32 on. Returns `NoSlot` if the call was refused.
-#[tactic(auto, using(crate::proofs::KeptLemmas::kept_same))]
+#[tactic(auto, using(crate::proofs::Kept::kept_same))]
 pub fn word_at(heap: &mut PausedHeap, slot: u32) -> Result<u64, Refusal>
     ensures word { IfOk result (HasWord heap.old slot) }
     ensures why { IfErr result (LacksSlot heap.old slot) }
@@ -56,11 +56,11 @@ pub fn word_at(heap: &mut PausedHeap, slot: u32) -> Result<u64, Refusal>
 
 /// Stores data into a slot: a word from 2^32 on, which refers to nothing. Returns `NoSlot`, or
 /// `BadWord` for a lower word, if the call was refused: nothing has changed.
-#[tactic(auto, using(crate::proofs::KeptLemmas::kept_same, crate::proofs::KeptLemmas::kept_race))]
+#[tactic(auto, using(crate::proofs::Kept::kept_same, crate::proofs::Kept::kept_race))]
 pub fn store_data_at(heap: &mut PausedHeap, slot: u32, word: u64) -> Result<(), Refusal>
-    ensures stored { OnOk result (StoresData heap.old slot word heap.new) }
+    ensures stored { OnOk result (StoresDataAt heap.old slot word heap.new) }
     ensures why { IfErr result (λ refusal. LacksSlot heap.old slot refusal
-        ⊎ ((refusal ≡ Refusal.BadWord) × (word < 4294967296))) }
+        ⊎ ((refusal ≡ Refusal.BadWord) × (word < 2 ^ 32))) }
     ensures refused { OnErr result (heap.new ≡ heap.old) }
     ensures kept { IsKept heap.old heap.new }
 {
