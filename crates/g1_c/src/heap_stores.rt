@@ -1,9 +1,8 @@
 //! The collector's own stores into a heap at a pause.
 ghost use Rattle.std.specs.Prelude.{◌≡◌, ◌⊎◌, ◌<◌, ◌≤◌, length, take};
-ghost use Rattle.g1_layout.specs.declared.kind.Kind.{Kind};
 ghost use Rattle.g1_handles.specs.AtPause.{StoresAt, StoresAllAt};
 ghost use Rattle.g1_handles.specs.Batch.{IsFaultAt};
-ghost use Rattle.g1_handles.specs.Codes.{IsRefusal, kind_word, reference_of};
+ghost use Rattle.g1_handles.specs.Codes.{IsRefusal, OfKind, reference_of};
 ghost use Rattle.g1_handles.specs.HeapCalls.{IsHeapRefused};
 ghost use Rattle.g1_handles.specs.Life.{IsSameHeap, OfPaused};
 ghost use Rattle.g1_handles.specs.Refusals.{SaysNoPlace};
@@ -30,7 +29,7 @@ pub extern "C" fn g1_heap_store(
     kind: &mut u32,
 ) -> u32
     ensures stored { result ≡ 0 → IsSameHeap heap.old.value heap.new.value (λ old new.
-        (k : Kind) × (kind.new ≡ kind_word k) × StoresAt old slot (reference_of target) k new) }
+        OfKind kind.new (λ k. StoresAt old slot (reference_of target) k new)) }
     ensures none { 0 < result → kind.new ≡ 0 }
     ensures why { 0 < result → IsRefusal result (IsHeapRefused heap.old.value (λ old.
         SaysNoPlace old.layout slot target)) }

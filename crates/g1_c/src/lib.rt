@@ -10,8 +10,9 @@
 //! - [`clearing`] and [`redirection`] may follow an evacuation.
 //! - [`queries`] and [`members`] read what is known.
 //! - [`heap_life`] opens a heap whose stores race, lets it go on, pauses it, and closes it.
-//! - [`race_store`], [`race_log`] and [`race_refine`] are the path of a card in a race, and
-//!   [`race_data`] is a store of data.
+//! - [`race_store`], [`race_log`] and [`race_refine`] are the path of a card in a race.
+//!   [`race_exchange`] has the stores that tell what a slot referred to or depend on it,
+//!   [`race_batch`] several stores by one call, and [`race_data`] a store of data.
 //! - [`heap_queries`], [`heap_drains`], [`heap_stores`], [`heap_evacuation`] and [`heap_words`] are
 //!   the collector's calls on such a heap, at a pause.
 //!
@@ -35,7 +36,9 @@ pub mod heap_words;
 pub mod members;
 pub mod pause;
 pub mod queries;
+pub mod race_batch;
 pub mod race_data;
+pub mod race_exchange;
 pub mod race_log;
 pub mod race_refine;
 pub mod race_store;

@@ -46,18 +46,35 @@ pub extern "C" fn g1_target(alloc: Global, handle: &mut Handle, slot: u32, targe
     }
 }
 
-/// Returns whether a card is pending: 1 if it is, 0 if it is not, or the word of `NotOpen` or
-/// `NoCard`. Changes nothing.
+/// Sets `pending` to 1 if a card is pending, and to 0 if it is not. Changes nothing.
+///
+/// Returns 0, or the word of `NotOpen` or `NoCard`: `pending` is 0.
 #[unsafe(no_mangle)]
-pub extern "C" fn g1_is_pending(alloc: Global, handle: &mut Handle, card: u32) -> u32
-    ensures pending { result ≤ 1 → OfOpen handle.old.value (λ machine.
-        IsToldPending machine card (result == 1)) }
+pub extern "C" fn g1_is_pending(
+    alloc: Global,
+    handle: &mut Handle,
+    card: u32,
+    pending: &mut u32,
+) -> u32
+    ensures pending { result ≡ 0 → OfOpen handle.old.value (λ machine.
+        IsToldPending machine card (pending.new == 1)) }
+    ensures word { pending.new ≤ 1 }
+    ensures none { 0 < result → pending.new ≡ 0 }
     ensures answered { IfSome handle.old.value (λ machine.
-        card < card_count machine.state.table.layout → result ≤ 1) }
-    ensures why { 1 < result → IsRefusal result (IsPendingRefused handle.old.value card) }
+        card < card_count machine.state.table.layout → result ≡ 0) }
+    ensures why { 0 < result → IsRefusal result (IsPendingRefused handle.old.value card) }
     ensures same { handle.new.value ≡ handle.old.value }
 {
-    replace_with(handle, (alloc, card), is_pending_in)
+    match replace_with(handle, (alloc, card), is_pending_in) {
+        Err(refusal) => {
+            *pending = 0;
+            refusal.word()
+        }
+        Ok(answer) => {
+            *pending = answer as u32;
+            DONE
+        }
+    }
 }
 
 /// Sets `totals` to how many cards are pending and how many pairs are recorded. Changes nothing.

@@ -1,39 +1,50 @@
 //! Lock-free stores in a race.
-ghost use Rattle.std.specs.Prelude.{◌≡◌, ◌<◌, ◌≤◌};
+ghost use Rattle.std.specs.Prelude.{◌≡◌, ◌<◌};
 ghost use Rattle.arrayvec.specs.ArrayVec.{array_vec_len};
 ghost use Rattle.g1_race.specs.Members.{race_layout};
-ghost use Rattle.g1_handles.specs.Codes.{IsRefusal, IsStoreOf};
-ghost use Rattle.g1_handles.specs.Racing.{OfRacer, IfRacer, StoresWord, racer_race_of};
+ghost use Rattle.g1_handles.specs.Codes.{IsRefusal, IsStoreOf, OfKind, reference_of};
+ghost use Rattle.g1_handles.specs.Racing.{OfRacer, IfRacer, Stores, racer_race_of};
 ghost use Rattle.g1_handles.specs.Refusals.{IsRaceStoreRefused};
 
 use core::mem::replace_with;
+use g1_handles::code::{DONE, kind_word};
 use g1_handles::member_handle::MemberHandle;
 use g1_handles::race_store::store_in;
 use std::alloc::Global;
 
 /// A racer stores a reference, or null, into a slot, concurrently with whatever the other members
-/// of the race do. Takes no memory and never waits.
+/// of the race do. `kind` is the kind of the store: 0 null, 1 same region, 2 dirty, 3 logged. If it
+/// is 3, the slot's card is last in the racer's log, which has room for 256 cards. Takes no memory
+/// and never waits.
 ///
-/// Returns:
-///
-/// - The kind of the store: 0 null, 1 same region, 2 dirty, 3 logged. If it is 3, the slot's card
-///   is last in the racer's log, which has room for 256 cards.
-/// - The word of `LogFull`, of `NoSlot` for the slot or the target, of `OtherRole` or of `NotOpen`:
-///   nothing has changed.
+/// Returns 0, or the word of `LogFull`, of `NoSlot` for the slot or the target, of `OtherRole` or
+/// of `NotOpen`: nothing has changed, and `kind` is 0.
 #[unsafe(no_mangle)]
 pub extern "C" fn g1_race_store(
     alloc: Global,
     member: &mut MemberHandle,
     slot: u32,
     target: u32,
+    kind: &mut u32,
 ) -> u32
-    ensures stored { result ≤ 3 → OfRacer member.old.value (λ a.
-        OfRacer member.new.value (λ b. StoresWord a slot target result b)) }
+    ensures stored { result ≡ 0 → OfRacer member.old.value (λ a.
+        OfRacer member.new.value (λ b. OfKind kind.new (λ k.
+        Stores a slot (reference_of target) k b))) }
     ensures taken { IfRacer member.old.value (λ a. array_vec_len a.racer.log < 256
-        → IsStoreOf (race_layout (racer_race_of a)) slot target → result ≤ 3) }
-    ensures why { 3 < result →
+        → IsStoreOf (race_layout (racer_race_of a)) slot target → result ≡ 0) }
+    ensures none { 0 < result → kind.new ≡ 0 }
+    ensures why { 0 < result →
         IsRefusal result (IsRaceStoreRefused member.old.value slot target) }
-    ensures refused { 3 < result → member.new.value ≡ member.old.value }
+    ensures refused { 0 < result → member.new.value ≡ member.old.value }
 {
-    replace_with(member, (alloc, slot, target), store_in)
+    match replace_with(member, (alloc, slot, target), store_in) {
+        Err(refusal) => {
+            *kind = 0;
+            refusal.word()
+        }
+        Ok(stored) => {
+            *kind = kind_word(stored);
+            DONE
+        }
+    }
 }

@@ -46,6 +46,10 @@ kind_word SameRegion = 1
 kind_word AlreadyDirty = 2
 kind_word Logged = 3
 
+-- The word is that of a kind of store of which this holds.
+abbrev pub OfKind : ℕ → (Kind → Type 0) → Type 0
+OfKind word Q = (k : Kind) × (word ≡ kind_word k) × Q k
+
 -- the reference that a word stands for: the greatest word is null
 abbrev pub reference_of : ℕ → Option ℕ
 reference_of word = if word == 4294967295 then None else Some word

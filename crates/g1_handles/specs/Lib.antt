@@ -5,6 +5,7 @@ pub mod Replies
 pub mod Queries
 pub mod Batch
 pub mod Racing
+pub mod RaceStores
 pub mod AtPause
 pub mod Parked
 pub mod Life

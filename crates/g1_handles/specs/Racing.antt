@@ -1,5 +1,5 @@
 -- What the calls on the members of a race do.
-use Rattle.std.specs.Prelude.{◌↔◌, Contains, ◌≡◌, ◌+◌, ℕ, List, [], ◌∷◌, ◌++◌, map}
+use Rattle.std.specs.Prelude.{◌↔◌, Contains, ◌≡◌, ℕ, List, [], ◌∷◌, ◌++◌, map}
 use Rattle.std.specs.Prelude.{All, Option, Some, None, false, if◌then◌else◌}
 use Rattle.std.specs.Arc.{arc_value}
 use Rattle.g1_layout.specs.declared.kind.Kind.{Kind}
@@ -19,7 +19,6 @@ use Rattle.g1_handles.specs.declared.member.Member.TheVariants as member
 use Rattle.g1_handles.specs.declared.member.Role.{Role}
 use Rattle.g1_handles.specs.declared.member.Role.TheVariants as roles
 use Rattle.g1_handles.specs.declared.member_handle.MemberHandle.{MemberHandle}
-use Rattle.g1_handles.specs.Codes.{reference_of, kind_word}
 
 -- the handle is a racer's, and it is so of the racer
 abbrev pub OfRacer : Option Member → (Racing → Type 0) → Type 0
@@ -78,11 +77,6 @@ pub record Stores (a : Racing) (p : ℕ) (t : Option ℕ) (k : Kind) (b : Racing
   pub log : b.racer.log.items ≡ (if is_logged k
       then a.racer.log.items ++ card_of (race_shape (racer_race_of a)) p ∷ []
       else a.racer.log.items)
-
--- a racer before and after a store whose kind has this word
-abbrev pub StoresWord : Racing → ℕ → ℕ → ℕ → Racing → Type 0
-StoresWord a slot target word b =
-    (k : Kind) × (word ≡ kind_word k) × Stores a slot (reference_of target) k b
 
 -- a racer before and after it stored this word of data to slot p, which had the old word
 pub record StoresData (a : Racing) (p word old : ℕ) (b : Racing) : Type 0 where

@@ -8,6 +8,7 @@ use Rattle.g1_race.specs.Members.{race_layout}
 use Rattle.g1_handles.specs.declared.code.Refusal.{Refusal}
 use Rattle.g1_handles.specs.declared.code.Refusal.TheVariants as refusal
 use Rattle.g1_handles.specs.declared.member.Member.{Member}
+use Rattle.g1_handles.specs.declared.member.Racing.{Racing}
 use Rattle.g1_handles.specs.Codes.{OfOpen, IsStoreOf}
 use Rattle.g1_handles.specs.Racing.{racer_race_of, sweeper_race_of, OfRacer, OfSweeper}
 use Rattle.g1_handles.specs.Racing.{IsNoRacer, IsNoSweeper}
@@ -73,12 +74,25 @@ IsPendingRefused handle card r =
     SaysNotOpen handle r
     ⊎ ((r ≡ refusal.NoCard) × OfOpen handle (λ m. card_count m.state.table.layout ≤ card))
 
+-- the racer's log is full, or the heap lacks the slot, or the place of the target
+abbrev pub SaysNoStore : Racing → ℕ → ℕ → Refusal → Type 0
+SaysNoStore a slot target r =
+    ((r ≡ refusal.LogFull) × (256 ≤ array_vec_len a.racer.log))
+    ⊎ SaysNoPlace (race_layout (racer_race_of a)) slot target r
+
+-- a call by the racer of a handle, which is refused of the racer for this
+abbrev pub IsRacerRefused : Option Member → (Racing → Refusal → Type 0) → Refusal → Type 0
+IsRacerRefused m Why r = SaysNoMember m r ⊎ SaysNoRacer m r ⊎ OfRacer m (λ a. Why a r)
+
 -- a store of the target into the slot by the racer of a handle
 abbrev pub IsRaceStoreRefused : Option Member → ℕ → ℕ → Refusal → Type 0
-IsRaceStoreRefused m slot target r =
-    SaysNoMember m r ⊎ SaysNoRacer m r
-    ⊎ ((r ≡ refusal.LogFull) × OfRacer m (λ a. 256 ≤ array_vec_len a.racer.log))
-    ⊎ OfRacer m (λ a. SaysNoPlace (race_layout (racer_race_of a)) slot target r)
+IsRaceStoreRefused m slot target = IsRacerRefused m (λ a. SaysNoStore a slot target)
+
+-- a compare-and-swap of what is expected for the target
+abbrev pub IsRaceExchangeRefused : Option Member → ℕ → ℕ → ℕ → Refusal → Type 0
+IsRaceExchangeRefused m slot expected target =
+    IsRacerRefused m (λ a r. SaysNoStore a slot target r
+    ⊎ SaysNoPlace (race_layout (racer_race_of a)) slot expected r)
 
 -- a store of data by the racer of a handle
 abbrev pub IsRaceDataRefused : Option Member → ℕ → ℕ → Refusal → Type 0

@@ -10,9 +10,16 @@ pub const DONE: u32 = 0;
 /// Memory was refused midway: the work that is reported was done, and no more.
 pub const SHORT: u32 = 1;
 
+/// The slot has something else than was expected. Nothing was stored.
+pub const DIFFERS: u32 = 2;
+
 /// One of several stores names a slot or a target that the heap does not have. Those before it were
 /// made. It and the later ones were not.
 pub const STOPPED: u32 = 3;
+
+/// The racer's log is full before one of several stores. Those before it were made. It and the
+/// later ones were not.
+pub const FULL: u32 = 4;
 
 /// The word for null.
 pub const NULL: u32 = 4_294_967_295;

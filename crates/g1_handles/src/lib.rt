@@ -12,8 +12,9 @@
 //!   members out, and [`heap_pause`] takes them in. Before anything changes, a pause checks that
 //!   it was given all members of the heap (`look`, `one_race`).
 //! - [`member_handle`] is the handle of a member, a racer or a sweeper. [`race_store`],
-//!   [`race_log`] and [`race_refine`] are the path of a card while members are out, and
-//!   [`race_data`] is a store of data.
+//!   [`race_log`] and [`race_refine`] are the path of a card while members are out.
+//!   [`race_exchange`] has the stores that return what a slot referred to or depend on it,
+//!   [`race_batch`] several stores by one call, and [`race_data`] a store of data.
 //! - [`heap_queries`], [`heap_drains`], [`heap_stores`], [`heap_evacuation`] and [`heap_words`] are
 //!   the collector's calls at a pause, on an [`at_pause::PausedHeap`].
 //!
@@ -49,7 +50,9 @@ pub mod members;
 mod one_race;
 pub mod pause;
 pub mod queries;
+pub mod race_batch;
 pub mod race_data;
+pub mod race_exchange;
 pub mod race_log;
 pub mod race_refine;
 pub mod race_store;

@@ -1,7 +1,7 @@
 //! Queries: what a slot refers to, whether a card is pending, and how much is pending and recorded.
-ghost use Rattle.std.specs.Prelude.{◌≡◌, ◌<◌, ◌≤◌, ◌==◌, IfOk, IfErr, OnErr, IfSome, IsSome};
+ghost use Rattle.std.specs.Prelude.{◌≡◌, ◌<◌, ◌≤◌, IfOk, IfErr, OnErr, IsOk, IfSome, IsSome};
 ghost use Rattle.g1_layout.specs.Shape.{slot_count, card_count};
-ghost use Rattle.g1_handles.specs.Codes.{Between, IsRefusal, OfOpen, reference_of};
+ghost use Rattle.g1_handles.specs.Codes.{Between, OfOpen, reference_of};
 ghost use Rattle.g1_handles.specs.Queries.{RefersTo, IsToldPending, HasStatus};
 ghost use Rattle.g1_handles.specs.Refusals.{IsPendingRefused, IsTargetRefused, SaysNotOpen};
 
@@ -56,34 +56,34 @@ pub(crate) fn word_of(layout: Layout, target: Option<Slot>) -> u32
     }
 }
 
-/// Returns whether a card is pending at the core of a handle, as a word: 1 or 0, or the word of
-/// `NotOpen` or `NoCard`. The core stays as it is.
-pub fn is_pending_in(handle: Handle, words: (Global, u32)) -> (Handle, u32)
-    ensures pending { result.1 ≤ 1
-        → OfOpen handle.value (λ machine. IsToldPending machine words.1 (result.1 == 1)) }
+/// Returns whether a card is pending at the core of a handle, or `NotOpen` or `NoCard`. The core
+/// stays as it is.
+pub fn is_pending_in(handle: Handle, words: (Global, u32)) -> (Handle, Result<bool, Refusal>)
+    ensures pending { IfOk result.1 (λ answer.
+        OfOpen handle.value (λ machine. IsToldPending machine words.1 answer)) }
     ensures answered { IfSome handle.value (λ machine.
-        words.1 < card_count machine.state.table.layout → result.1 ≤ 1) }
-    ensures why { 1 < result.1 → IsRefusal result.1 (IsPendingRefused handle.value words.1) }
+        words.1 < card_count machine.state.table.layout → IsOk result.1) }
+    ensures why { IfErr result.1 (IsPendingRefused handle.value words.1) }
     ensures same { result.0.value ≡ handle.value }
 {
     let Some(core) = handle.into_raw_box() else {
-        return (Handle::closed(words.0), Refusal::NotOpen.word());
+        return (Handle::closed(words.0), Err(Refusal::NotOpen));
     };
     let core = core.into_box();
     let answer = is_pending_one(&core, words.1);
     (Handle::of(RawBox::of(core)), answer)
 }
 
-fn is_pending_one(core: &Core, card: u32) -> u32
-    ensures pending { result ≤ 1 → IsToldPending core.now card (result == 1) }
-    ensures answered { card < card_count core.now.state.table.layout → result ≤ 1 }
-    ensures why { 1 < result → IsRefusal result (λ refusal.
+fn is_pending_one(core: &Core, card: u32) -> Result<bool, Refusal>
+    ensures pending { IfOk result (IsToldPending core.now card) }
+    ensures answered { card < card_count core.now.state.table.layout → IsOk result }
+    ensures why { IfErr result (λ refusal.
         (refusal ≡ Refusal.NoCard) × (card_count core.now.state.table.layout ≤ card)) }
 {
     let Some(card) = core.layout().card(card) else {
-        return Refusal::NoCard.word();
+        return Err(Refusal::NoCard);
     };
-    core.is_pending(card) as u32
+    Ok(core.is_pending(card))
 }
 
 /// Returns how much is pending and recorded at the core of a handle, or `NotOpen`. The core stays

@@ -1,73 +1,91 @@
 //! Lock-free stores in a race.
-ghost use Rattle.std.specs.Prelude.{◌≡◌, ◌⊎◌, ◌<◌, ◌≤◌, Some};
+ghost use Rattle.std.specs.Prelude.{◌≡◌, ◌⊎◌, ◌<◌, ◌≤◌, Some, IfOk, IfErr, IsOk, OnErr};
 ghost use Rattle.arrayvec.specs.ArrayVec.{array_vec_len};
 ghost use Rattle.g1_race.specs.Members.{race_layout};
-ghost use Rattle.g1_handles.specs.Codes.{IsStoreOf, IsRefusal};
-ghost use Rattle.g1_handles.specs.Racing.{OfRacer, IfRacer, StoresWord, racer_race_of};
-ghost use Rattle.g1_handles.specs.Refusals.{IsRaceStoreRefused, SaysNoPlace};
+ghost use Rattle.g1_handles.specs.Codes.{IsStoreOf, reference_of};
+ghost use Rattle.g1_handles.specs.Racing.{OfRacer, IfRacer, Stores, racer_race_of};
+ghost use Rattle.g1_handles.specs.Refusals.{IsRaceStoreRefused, SaysNoStore};
 
-use crate::code::{Refusal, kind_word};
+use crate::code::Refusal;
 use crate::member::{Member, Racing};
 use crate::member_handle::MemberHandle;
 use crate::store::reference;
+use g1_layout::{Kind, Slot};
 use raw_box::RawBox;
 use std::alloc::Global;
 
-/// Stores a target into a slot by the racer of a handle, which stays open. Returns the word of the
-/// kind of the store, or that of `NotOpen`, `OtherRole`, `LogFull` or `NoSlot`, for the slot or the
-/// target: nothing has changed.
-pub fn store_in(member: MemberHandle, words: (Global, u32, u32)) -> (MemberHandle, u32)
-    ensures stored { result.1 ≤ 3
-        → OfRacer member.value (λ a.
-        OfRacer result.0.value (λ b. StoresWord a words.1 words.2 result.1 b)) }
+/// Stores a target into a slot by the racer of a handle, which stays open. Returns the kind of the
+/// store, or `NotOpen`, `OtherRole`, `LogFull`, or `NoSlot` for the slot or the target: nothing has
+/// changed.
+pub fn store_in(
+    member: MemberHandle,
+    words: (Global, u32, u32),
+) -> (MemberHandle, Result<Kind, Refusal>)
+    ensures stored { IfOk result.1 (λ kind. OfRacer member.value (λ a.
+        OfRacer result.0.value (λ b. Stores a words.1 (reference_of words.2) kind b))) }
     ensures taken { IfRacer member.value (λ a. array_vec_len a.racer.log < 256
-        → IsStoreOf (race_layout (racer_race_of a)) words.1 words.2 → result.1 ≤ 3) }
-    ensures why { 3 < result.1 →
-        IsRefusal result.1 (IsRaceStoreRefused member.value words.1 words.2) }
-    ensures refused { 3 < result.1 → result.0.value ≡ member.value }
+        → IsStoreOf (race_layout (racer_race_of a)) words.1 words.2 → IsOk result.1) }
+    ensures why { IfErr result.1 (IsRaceStoreRefused member.value words.1 words.2) }
+    ensures refused { OnErr result.1 (result.0.value ≡ member.value) }
 {
     let Some(member) = member.into_raw_box() else {
-        return (MemberHandle::closed(words.0), Refusal::NotOpen.word());
+        return (MemberHandle::closed(words.0), Err(Refusal::NotOpen));
     };
     let mut member = member.into_box();
-    let code = store_of(&mut member, words.1, words.2);
-    (MemberHandle::of(RawBox::of(member)), code)
+    let answer = store_of(&mut member, words.1, words.2);
+    (MemberHandle::of(RawBox::of(member)), answer)
 }
 
-fn store_of(member: &mut Member, slot: u32, target: u32) -> u32
-    ensures stored { result ≤ 3 → OfRacer (Some member.old) (λ a.
-        OfRacer (Some member.new) (λ b. StoresWord a slot target result b)) }
+fn store_of(member: &mut Member, slot: u32, target: u32) -> Result<Kind, Refusal>
+    ensures stored { IfOk result (λ kind. OfRacer (Some member.old) (λ a.
+        OfRacer (Some member.new) (λ b. Stores a slot (reference_of target) kind b))) }
     ensures taken { IfRacer (Some member.old) (λ a. array_vec_len a.racer.log < 256
-        → IsStoreOf (race_layout (racer_race_of a)) slot target → result ≤ 3) }
-    ensures why { 3 < result →
-        IsRefusal result (IsRaceStoreRefused (Some member.old) slot target) }
-    ensures refused { 3 < result → member.new ≡ member.old }
+        → IsStoreOf (race_layout (racer_race_of a)) slot target → IsOk result) }
+    ensures why { IfErr result (IsRaceStoreRefused (Some member.old) slot target) }
+    ensures refused { OnErr result (member.new ≡ member.old) }
 {
     let Member::Racer(racing) = member else {
-        return Refusal::OtherRole.word();
+        return Err(Refusal::OtherRole);
     };
     store_by(racing, slot, target)
 }
 
-fn store_by(racing: &mut Racing, slot: u32, target: u32) -> u32
-    ensures stored { result ≤ 3 → StoresWord racing.old slot target result racing.new }
+/// Stores a target into a slot by a racer. Returns the kind of the store, or `LogFull`, or `NoSlot`
+/// for the slot or the target: nothing has changed.
+pub(crate) fn store_by(racing: &mut Racing, slot: u32, target: u32) -> Result<Kind, Refusal>
+    ensures stored { IfOk result (λ kind.
+        Stores racing.old slot (reference_of target) kind racing.new) }
     ensures taken { array_vec_len racing.old.racer.log < 256
-        → IsStoreOf (race_layout (racer_race_of racing.old)) slot target → result ≤ 3 }
-    ensures why { 3 < result → IsRefusal result (λ refusal.
-        ((refusal ≡ Refusal.LogFull) × (256 ≤ array_vec_len racing.old.racer.log))
-        ⊎ SaysNoPlace (race_layout (racer_race_of racing.old)) slot target refusal) }
-    ensures refused { 3 < result → racing.new ≡ racing.old }
+        → IsStoreOf (race_layout (racer_race_of racing.old)) slot target → IsOk result }
+    ensures why { IfErr result (SaysNoStore racing.old slot target) }
+    ensures refused { OnErr result (racing.new ≡ racing.old) }
+{
+    let (slot, target) = may_store(racing, slot, target)?;
+    Ok(racing.racer.store(&racing.race, slot, target))
+}
+
+/// Returns the slot and the target of a store that a racer can make, or `LogFull` or `NoSlot`.
+pub(crate) fn may_store(
+    racing: &Racing,
+    slot: u32,
+    target: u32,
+) -> Result<(Slot, Option<Slot>), Refusal>
+    ensures room { IsOk result → array_vec_len racing.now.racer.log < 256 }
+    ensures places { IfOk result (λ store. (store.0 ≡ slot) × (store.1 ≡ reference_of target)) }
+    ensures within { IsOk result → IsStoreOf (race_layout (racer_race_of racing.now)) slot target }
+    ensures taken { array_vec_len racing.now.racer.log < 256
+        → IsStoreOf (race_layout (racer_race_of racing.now)) slot target → IsOk result }
+    ensures why { IfErr result (SaysNoStore racing.now slot target) }
 {
     if !racing.racer.has_room() {
-        return Refusal::LogFull.word();
+        return Err(Refusal::LogFull);
     }
     let layout = racing.race.layout();
     let Some(slot) = layout.slot(slot) else {
-        return Refusal::NoSlot.word();
+        return Err(Refusal::NoSlot);
     };
     let Some(target) = reference(layout, target) else {
-        return Refusal::NoSlot.word();
+        return Err(Refusal::NoSlot);
     };
-    let kind = racing.racer.store(&racing.race, slot, target);
-    kind_word(kind)
+    Ok((slot, target))
 }

@@ -1,0 +1,63 @@
+-- What a racer's stores do that return what was there, depend on it, or are several.
+use Rattle.std.specs.Prelude.{◌≡◌, ◌+◌, ◌<◌, ◌≤◌, ℕ, List, [], ◌∷◌, All, length, take, Option}
+use Rattle.arrayvec.specs.ArrayVec.{array_vec_len}
+use Rattle.g1_layout.specs.declared.kind.Kind.{Kind}
+use Rattle.g1_race_words.specs.Seats.{IsFound}
+use Rattle.g1_race.specs.Members.{HasReferred, HasDiffered, HasNotStored, race_layout, racer_view}
+use Rattle.g1_race.specs.Race.{word_of}
+use Rattle.g1_handles.specs.declared.batch.Store.{Store}
+use Rattle.g1_handles.specs.declared.member.Racing.{Racing}
+use Rattle.g1_handles.specs.declared.race_batch.BatchEnd.{BatchEnd}
+use Rattle.g1_handles.specs.declared.race_batch.BatchEnd.TheVariants.{Whole, Stopped, Full}
+use Rattle.g1_handles.specs.declared.race_batch.RaceBatch.{RaceBatch}
+use Rattle.g1_handles.specs.declared.race_exchange.Exchange.{Exchange}
+use Rattle.g1_handles.specs.declared.race_exchange.Exchange.TheVariants as exchange
+use Rattle.g1_handles.specs.Batch.{IsFaultAt}
+use Rattle.g1_handles.specs.Codes.{IsStoreOf, reference_of}
+use Rattle.g1_handles.specs.Racing.{Stores, racer_race_of}
+
+-- a racer before and after a store of the place t to slot p, which referred to the old one
+pub record Swaps (a : Racing) (p : ℕ) (t old : Option ℕ) (k : Kind) (b : Racing) : Type 0 where
+  pub stores : Stores a p t k b
+  pub referred : HasReferred (racer_view a.racer) p old
+
+-- a racer before and after such a store, where slot p had what was expected
+pub record Exchanges (a : Racing) (p : ℕ) (expected t : Option ℕ) (k : Kind) (b : Racing)
+    : Type 0 where
+  pub stores : Stores a p t k b
+  pub had : IsFound (racer_view a.racer) p (word_of expected)
+
+-- a racer before and after it stored nothing to slot p, which had something else than was expected
+-- and referred to what was found
+pub record FindsOther (a : Racing) (p : ℕ) (expected found : Option ℕ) (b : Racing) : Type 0 where
+  pub race : racer_race_of b ≡ racer_race_of a
+  pub same : HasNotStored a.racer b.racer
+  pub differed : HasDiffered (racer_view a.racer) p expected found
+
+-- what a compare-and-swap came to
+abbrev pub IsExchange : Racing → ℕ → Option ℕ → Option ℕ → Exchange → Racing → Type 0
+IsExchange a p expected t (exchange.Stored k) b = Exchanges a p expected t k b
+IsExchange a p expected t (exchange.Differs word) b = FindsOther a p expected (reference_of word) b
+
+-- a racer before and after these stores, each after the one before
+abbrev pub StoresAll : Racing → List Store → Racing → Type 0
+StoresAll a [] b = b ≡ a
+StoresAll a (s ∷ stores) b =
+    (c : Racing) × (k : Kind) × Stores a s.slot (reference_of s.target) k c × StoresAll c stores b
+
+-- why a racer made so many of these stores, before and after them
+abbrev pub IsEnd : BatchEnd → Racing → List Store → ℕ → Racing → Type 0
+IsEnd Whole a stores count b = count ≡ length stores
+IsEnd Stopped a stores count b = IsFaultAt (race_layout (racer_race_of a)) stores count
+IsEnd Full a stores count b = (count < length stores) × (256 ≤ array_vec_len b.racer.log)
+
+-- a racer before and after the first of these stores, up to one that it cannot make
+pub record StoresFirst (a : Racing) (stores : List Store) (answer : RaceBatch) (b : Racing)
+    : Type 0 where
+  pub stored : StoresAll a (take answer.count stores) b
+  pub end : IsEnd answer.end a stores answer.count b
+
+-- the heap has each slot and each target, and the racer's log has room for all the slots' cards
+pub record CanStoreAll (a : Racing) (stores : List Store) : Type 0 where
+  pub places : All (λ s. IsStoreOf (race_layout (racer_race_of a)) s.slot s.target) stores
+  pub room : array_vec_len a.racer.log + length stores ≤ 256

@@ -1,0 +1,101 @@
+//! Several stores in a race by one call.
+ghost use Rattle.std.specs.Prelude.{◌≡◌, ◌≢◌, Some, IfOk, IfErr, IsOkAnd, OnErr};
+ghost use Rattle.g1_handles.specs.Racing.{OfRacer, IfRacer};
+ghost use Rattle.g1_handles.specs.RaceStores.{StoresFirst, CanStoreAll};
+ghost use Rattle.g1_handles.specs.Refusals.{IsRacerRefused};
+
+use crate::batch::Store;
+use crate::code::Refusal;
+use crate::member::{Member, Racing};
+use crate::member_handle::MemberHandle;
+use crate::race_store::store_by;
+use raw_box::RawBox;
+use std::alloc::Global;
+
+/// Why no more of several stores were made.
+#[derive(Clone, Copy)]
+pub enum BatchEnd {
+    /// All were made.
+    Whole,
+    /// The next one names a slot or a target that the heap does not have.
+    Stopped,
+    /// The racer's log is full before the next one.
+    Full,
+}
+
+/// How many of several stores were made, and why no more.
+#[derive(Clone, Copy)]
+pub struct RaceBatch {
+    /// How many stores were made: the first ones.
+    pub count: usize,
+    /// Why no more were.
+    pub end: BatchEnd,
+}
+
+/// Makes stores in order by the racer of a handle, which stays open, up to the first that it cannot
+/// make. Returns `NotOpen` or `OtherRole` if the call was refused: nothing has changed.
+pub fn store_all_in(
+    member: MemberHandle,
+    words: (Global, &[Store]),
+) -> (MemberHandle, Result<RaceBatch, Refusal>)
+    ensures stored { IfOk result.1 (λ answer. OfRacer member.value (λ a.
+        OfRacer result.0.value (λ b. StoresFirst a words.entry.1.now answer b))) }
+    ensures taken { IfRacer member.value (λ a. CanStoreAll a words.entry.1.now
+        → IsOkAnd result.1 (λ answer. answer.end ≡ BatchEnd.Whole)) }
+    ensures why { IfErr result.1 (IsRacerRefused member.value (λ a r. ⊥)) }
+    ensures refused { OnErr result.1 (result.0.value ≡ member.value) }
+{
+    let Some(member) = member.into_raw_box() else {
+        return (MemberHandle::closed(words.0), Err(Refusal::NotOpen));
+    };
+    let mut member = member.into_box();
+    let answer = store_all_of(&mut member, words.1);
+    (MemberHandle::of(RawBox::of(member)), answer)
+}
+
+fn store_all_of(member: &mut Member, stores: &[Store]) -> Result<RaceBatch, Refusal>
+    ensures stored { IfOk result (λ answer. OfRacer (Some member.old) (λ a.
+        OfRacer (Some member.new) (λ b. StoresFirst a stores.now answer b))) }
+    ensures taken { IfRacer (Some member.old) (λ a. CanStoreAll a stores.now
+        → IsOkAnd result (λ answer. answer.end ≡ BatchEnd.Whole)) }
+    ensures why { IfErr result (IsRacerRefused (Some member.old) (λ a r. ⊥)) }
+    ensures refused { OnErr result (member.new ≡ member.old) }
+{
+    let Member::Racer(racing) = member else {
+        return Err(Refusal::OtherRole);
+    };
+    Ok(store_all_by(racing, stores))
+}
+
+fn store_all_by(racing: &mut Racing, stores: &[Store]) -> RaceBatch
+    ensures stored { StoresFirst racing.old stores.now result racing.new }
+    ensures taken { CanStoreAll racing.old stores.now → result.end ≡ BatchEnd.Whole }
+{
+    for i in 0..stores.len() {
+        let store = stores[i];
+        match store_by(racing, store.slot, store.target) {
+            Ok(_) => {}
+            Err(refusal) => {
+                return RaceBatch {
+                    count: i,
+                    end: end_of(refusal),
+                };
+            }
+        }
+    }
+    RaceBatch {
+        count: stores.len(),
+        end: BatchEnd::Whole,
+    }
+}
+
+/// Why no more stores are made once one is refused.
+fn end_of(refusal: Refusal) -> BatchEnd
+    ensures full { refusal ≡ Refusal.LogFull → result ≡ BatchEnd.Full }
+    ensures stopped { refusal ≢ Refusal.LogFull → result ≡ BatchEnd.Stopped }
+{
+    match refusal {
+        Refusal::LogFull => BatchEnd::Full,
+        _ => BatchEnd::Stopped,
+    }
+}
