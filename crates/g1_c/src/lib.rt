@@ -13,8 +13,8 @@
 //! - [`race_store`], [`race_log`] and [`race_refine`] are the path of a card in a race.
 //!   [`race_exchange`] has the stores that tell what a slot referred to or depend on it,
 //!   [`race_batch`] several stores by one call, and [`race_data`] a store of data.
-//! - [`heap_queries`], [`heap_drains`], [`heap_stores`], [`heap_evacuation`] and [`heap_words`] are
-//!   the collector's calls on such a heap, at a pause.
+//! - [`heap_queries`], [`heap_drains`], [`heap_stores`], [`heap_copy`], [`heap_evacuation`] and
+//!   [`heap_words`] are the collector's calls on such a heap, at a pause.
 //!
 //! A call returns a word below 8 if it was made, and else the word of a
 //! [`Refusal`](g1_handles::code::Refusal).
@@ -27,6 +27,7 @@
 pub mod batch;
 pub mod calls;
 pub mod clearing;
+pub mod heap_copy;
 pub mod heap_drains;
 pub mod heap_evacuation;
 pub mod heap_life;

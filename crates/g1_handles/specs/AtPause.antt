@@ -1,5 +1,5 @@
 -- What the collector's calls on a heap at a pause do, and why they are refused.
-use Rattle.std.specs.Prelude.{◌≡◌, ◌≢◌, ◌≤◌, ℕ, Bool, List, length, fold, Option, None}
+use Rattle.std.specs.Prelude.{◌≡◌, ◌≢◌, ◌+◌, ◌<◌, ◌≤◌, ℕ, Bool, List, length, fold, Option, None}
 use Rattle.std.specs.FinSet as set
 use mathlib.Core.Option.{some}
 use lib.ListN.{get_elem?}
@@ -18,7 +18,7 @@ use Rattle.g1_race.specs.Race.{word_of}
 use Rattle.g1_race.specs.Over.{Halt, halted}
 use Rattle.g1_race.specs.Evacuating.{IsSameRace, IsRefinedRace, SlotsBecome, same_word, one_word}
 use Rattle.g1_race.specs.Evacuating.{wiped_word, wiped, forgotten, plain_reply, AreAllRefined}
-use Rattle.g1_race.specs.Evacuating.{IsExactAtPause}
+use Rattle.g1_race.specs.Evacuating.{IsExactAtPause, copied_word, copied}
 use Rattle.g1_race.specs.Moving.{word_after, IsRedirected}
 use Rattle.g1_handles.specs.declared.batch.Store.{Store}
 use Rattle.g1_handles.specs.declared.code.Refusal.{Refusal}
@@ -36,6 +36,10 @@ LacksCard heap card r = (r ≡ refusal.NoCard) × (card_count heap.layout ≤ ca
 -- the heap has no region of this number
 abbrev pub LacksRegion : Halt → ℕ → Refusal → Type 0
 LacksRegion heap region r = (r ≡ refusal.NoRegion) × (heap.layout.regions ≤ region)
+
+-- the heap has not as many slots from the first one on
+abbrev pub LacksSlots : Halt → ℕ → ℕ → Refusal → Type 0
+LacksSlots heap first count r = (r ≡ refusal.NoSlot) × (slot_count heap.layout < first + count)
 
 -- whose words these are, how they are laid out, and how many members there are is as it was
 pub record IsKept (old new : Halt) : Type 0 where
@@ -155,3 +159,9 @@ pub record StoresDataAt (old : Halt) (slot word : ℕ) (new : Halt) : Type 0 whe
   pub table : halted new ≡ stored (halted old) slot None
   pub step : (caller : ℕ)
       → IsStep (halted old) (store_entry caller slot None (plain_reply kinds.Null)) (halted new)
+
+-- as many words, from the one slot on, are copied to as many slots from the other one on
+pub record Copies (old : Halt) (from to count : ℕ) (new : Halt) : Type 0 where
+  pub race : IsSameRace old new
+  pub words : SlotsBecome (copied_word old.words from to count) old new
+  pub table : halted new ≡ copied from to count (halted old)

@@ -15,8 +15,8 @@
 //!   [`race_log`] and [`race_refine`] are the path of a card while members are out.
 //!   [`race_exchange`] has the stores that return what a slot referred to or depend on it,
 //!   [`race_batch`] several stores by one call, and [`race_data`] a store of data.
-//! - [`heap_queries`], [`heap_drains`], [`heap_stores`], [`heap_evacuation`] and [`heap_words`] are
-//!   the collector's calls at a pause, on an [`at_pause::PausedHeap`].
+//! - [`heap_queries`], [`heap_drains`], [`heap_stores`], [`heap_copy`], [`heap_evacuation`] and
+//!   [`heap_words`] are the collector's calls at a pause, on an [`at_pause::PausedHeap`].
 //!
 //! A function `.._in` takes what is behind one handle, and gives the handle back with a result. A
 //! call over several handles is one function. The crate `g1_c` exports each, in the file of the
@@ -33,6 +33,7 @@ pub mod calls;
 pub mod clearing;
 pub mod code;
 pub mod handle;
+pub mod heap_copy;
 pub mod heap_drains;
 pub mod heap_evacuation;
 pub mod heap_handle;

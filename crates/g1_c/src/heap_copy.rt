@@ -1,0 +1,50 @@
+//! A range of slots of a heap at a pause is copied to another one.
+ghost use Rattle.std.specs.Prelude.{◌≡◌, ◌⊎◌, ◌+◌, ◌<◌, ◌≤◌};
+ghost use Rattle.g1_layout.specs.Shape.{slot_count};
+ghost use Rattle.g1_handles.specs.AtPause.{Copies, LacksSlots};
+ghost use Rattle.g1_handles.specs.Codes.{IsRefusal};
+ghost use Rattle.g1_handles.specs.HeapCalls.{IsHeapRefused};
+ghost use Rattle.g1_handles.specs.Life.{IsSameHeap, OfPaused};
+
+use core::mem::replace_with;
+use g1_handles::at_pause::{PausedHeap, at_pause};
+use g1_handles::code::DONE;
+use g1_handles::heap_copy::copy_at;
+use g1_handles::heap_handle::HeapHandle;
+use std::alloc::Global;
+
+/// Copies the words of `count` slots, from the slot `from` on, into as many from the slot `to` on:
+/// references, null and data. The two ranges may overlap: each slot gets the word that its source
+/// had before the call. A slot's card becomes dirty if the reference crosses regions from there,
+/// and no log gets the card. Takes time in proportion to `count`, and no memory.
+///
+/// Returns 0, or the word of `NotOpen`, `NotPaused`, or `NoSlot` if one of the ranges leaves the
+/// heap: nothing has changed.
+#[unsafe(no_mangle)]
+pub extern "C" fn g1_heap_copy(
+    alloc: Global,
+    heap: &mut HeapHandle,
+    from: u32,
+    to: u32,
+    count: u32,
+) -> u32
+    ensures copied { result ≡ 0 → IsSameHeap heap.old.value heap.new.value (λ old new.
+        Copies old from to count new) }
+    ensures answered { OfPaused heap.old.value (λ old. (from + count ≤ slot_count old.layout)
+        × (to + count ≤ slot_count old.layout)) → result ≡ 0 }
+    ensures why { 0 < result → IsRefusal result (IsHeapRefused heap.old.value (λ old r.
+        LacksSlots old from count r ⊎ LacksSlots old to count r)) }
+    ensures refused { 0 < result → heap.new.value ≡ heap.old.value }
+{
+    match replace_with(
+        heap,
+        (
+            alloc,
+            |heap: &mut PausedHeap| copy_at(heap, from, to, count),
+        ),
+        at_pause,
+    ) {
+        Err(refusal) => refusal.word(),
+        Ok(()) => DONE,
+    }
+}
