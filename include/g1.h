@@ -397,6 +397,12 @@ uint32_t g1_redirect(struct g1 *handle, uint32_t from, uint32_t to, uint32_t *mo
  *     first drain at a pause at the latest. A log that was not taken stays with its racer over a
  *     pause, and is empty if the pause has refined.
  *
+ * Threads may begin and end while the members race. So a heap is opened with as many racers as
+ * there may be mutators at once, and the runtime keeps the handles that no thread uses, in a list
+ * under a lock of its own. A thread that begins takes a racer's handle from there. Before it ends
+ * it takes the racer's log and hands it on, or leaves it in the racer, and puts the handle back. A
+ * racer that waits there holds nothing up. The next pause takes it in with all others.
+ *
  * Besides what every call relies on, these calls rely on the following:
  *   - A call writes its handle, so each thread keeps its member's in a local, and not in a row that
  *     threads share: a row of handles is a cache line that all of them write. The thread copies its
