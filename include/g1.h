@@ -432,6 +432,10 @@ uint32_t g1_redirect(struct g1 *handle, uint32_t from, uint32_t to, uint32_t *mo
  * read after that call found its write. A thread goes round again only if another one has stored to
  * the slot meanwhile; how often is not bounded.
  *
+ * What g1_race_swap and g1_race_compare_exchange find in a slot is what the library was told last.
+ * So for a runtime with references of its own they are of use only where it orders the stores to
+ * the slot.
+ *
  * A runtime whose fields are the library's words keeps no references of its own. Slot n is the word
  * words[n] of g1_heap_words, of 8 bytes: 0 for null; the number of the slot that it refers to plus
  * 1; or data, from G1_DATA on, which refers to nothing (a tagged integer, for instance).
