@@ -36,14 +36,14 @@
  * Every call relies on the following, which nothing can test:
  *   - A handle was made of zeros (struct g1 handle = {0};), is in one place at a time, and was
  *     written by these calls alone.
- *   - One call at a time uses a handle. The caller orders the calls of several threads, for
- *     instance by a lock. A thread that is stopped inside a call, as by a signal, still uses its
- *     handle, so a pause waits until it has left the call. No thread is cancelled, and none jumps
- *     away, inside a call.
+ *   - One call at a time uses a handle. A handle may go from thread to thread: the caller orders
+ *     their calls, for instance by a lock or a join. A thread that is stopped inside a call, as by
+ *     a signal, still uses its handle, so a pause waits until it has left the call. No thread is
+ *     cancelled, and none jumps away, inside a call.
  *   - No pause begins between a runtime's own store and the call that reports it: a drain knows
  *     what was reported.
  *   - Each pointer points to what its type says. A pointer to an array points to as many elements
- *     as the length after it says. No pointer is null, even for a length of 0. No array that a call
+ *     as the length after it says. No pointer is null, even for a length of 0. Nothing that a call
  *     writes overlaps anything else that is passed.
  *   - malloc, realloc and free are of one allocator, and align as C asks. Several threads may call
  *     them at once, and one may free what another took.

@@ -58,9 +58,6 @@ pub struct Heap {
     numbers: Numbers,
 }
 
-// SAFETY: the prover has shown of what a handle has that it may go to another thread.
-unsafe impl Send for Heap {}
-
 impl Drop for Heap {
     fn drop(&mut self) {
         // SAFETY: the handle is closed, or one that the library wrote.

@@ -45,6 +45,12 @@ pub struct HeapHandle {
     pub heap: *mut c_void,
 }
 
+// SAFETY: the prover has shown of what each handle has that it may go to another thread.
+unsafe impl Send for Handle {}
+unsafe impl Send for HeapHandle {}
+unsafe impl Send for RacerHandle {}
+unsafe impl Send for SweeperHandle {}
+
 extern "C" {
     pub fn g1_open(handle: *mut Handle, counts: *const Counts, hot: u32, ring: u32) -> u32;
     pub fn g1_close(handle: *mut Handle) -> u32;

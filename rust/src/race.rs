@@ -94,9 +94,6 @@ struct Life {
     sweepers: usize,
 }
 
-// SAFETY: the prover has shown of what a handle has that it may go to another thread.
-unsafe impl Send for Life {}
-
 impl Drop for Life {
     fn drop(&mut self) {
         // SAFETY: the handle is closed, or one that the library wrote.
@@ -111,9 +108,6 @@ struct Seat<Handle> {
     numbers: Numbers,
     words: Words,
 }
-
-// SAFETY: the prover has shown of what a handle has that it may go to another thread.
-unsafe impl<Handle> Send for Seat<Handle> {}
 
 /// A heap at a pause, which the collector has.
 pub struct Paused {
