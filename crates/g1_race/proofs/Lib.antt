@@ -30,4 +30,5 @@ pub mod MovedTable
 pub mod Counting
 pub mod Blocks
 pub mod SlotWords
+pub mod Copying
 pub mod Held

@@ -29,8 +29,8 @@ use Rattle.g1_race.specs.Over.{ended, refs_of, table_of, target_of}
 use Rattle.g1_race.specs.Evacuating.{plain_reply}
 use Rattle.g1_race_words.proofs.CoverStores.{mark_apart}
 use Rattle.std.proofs.lemmas.Nat.{mul-add-lt}
-use Rattle.g1_race_words.proofs.Places.{at_take, reads_as}
-use Rattle.g1_race.proofs.Ends.{target_data, refs_here, crosses_apart, recorded_set, set_recorded, target_some}
+use Rattle.g1_race_words.proofs.Places.{at_take}
+use Rattle.g1_race.proofs.Ends.{target_data, crosses_apart, recorded_set, set_recorded, target_some, word_gives}
 use Rattle.g1_race_words.proofs.Crossing.{crosses_reference}
 use Rattle.g1_race_words.proofs.PairBits.{bit_as, card_below, same_bits}
 use Rattle.g1_race.proofs.PauseTable.{pending_word, refs_same, slots_are, table_is, word_pending}
@@ -46,9 +46,10 @@ slot_in k region i shaped lt below =
     let r : ℕ = region * k.span in let all : ℕ = k.span * k.regions in let same : ℕ = k.regions * k.span in
     let a : r + i < all = mul-add-lt region k.span i k.regions lt below in let e : k.slots ≡ same = shaped.6 in let f : all ≡ same = omega arith in omega arith
 
-pub null_target : (k : Shape) (l : layout.Shape) (words : List ℕ) (p : ℕ) → k ≡ shape_of l k.members → p < k.slots → get_elem? words p ≡ some 0 → get_or (refs_of (ended l k words)) p None ≡ None
-null_target k l words p laid lt at = let slots : k.slots ≡ slot_count l = ap (λ (s : Shape). s.slots) laid in
-    reads_as (refs_of (ended l k words)) p None None (refs_here (ended l k words) p 0 (omega (arith, lt, slots)) (at_take words (k.slots + k.cards) p 0 (omega (arith, lt)) at))
+-- what a slot with this word refers to
+pub slot_gives : (k : Shape) (l : layout.Shape) (words : List ℕ) (p n : ℕ) → k ≡ shape_of l k.members → p < k.slots → get_elem? words p ≡ some n → get_or (refs_of (ended l k words)) p None ≡ target_of n
+slot_gives k l words p n laid lt at = let slots : k.slots ≡ slot_count l = ap (λ (s : Shape). s.slots) laid in
+    word_gives (ended l k words) p n (omega (arith, lt, slots)) (at_take words (k.slots + k.cards) p n (omega (arith, lt)) at)
 
 module _ (k : Shape) (l : layout.Shape) (laid : k ≡ shape_of l k.members) (p : ℕ) (lt : p < k.slots) (target : Option ℕ) (n : ℕ) (back : target_of n ≡ target) where
   span_is : k.span ≡ l.cards * l.slots

@@ -1,6 +1,7 @@
 -- What the calls of an evacuation pause do to the plain table.
 use Rattle.std.specs.Prelude.{◌≡◌, ◌⊎◌, ℕ, ◌+◌, ◌*◌, ◌/◌, ◌<◌, ◌≤◌, ◌==◌, not, if◌then◌else◌, zero}
 use Rattle.std.specs.Prelude.{suc, false, List, [], None, Contains, length, replicate, slice_index}
+use Rattle.std.specs.Prelude.{◌-◌, ◌&&◌, nat_le, nat_lt}
 use mathlib.Core.Option.{some}
 use lib.ListN.{get_elem?}
 use Rattle.std.specs.FinSet as set
@@ -11,6 +12,7 @@ use Rattle.g1_layout.specs.Shape.{region_of_card}
 use Rattle.g1_core.specs.declared.reply.Fill.TheVariants.{No}
 use Rattle.g1_core.specs.declared.reply.StoreReply.{StoreReply}
 use Rattle.g1_core.specs.Table.{Table, Holds, IsRecorded, IsCovered, AreRefinable, refined}
+use Rattle.g1_core.specs.Table.{target_of}
 use Rattle.g1_core.specs.Run.{IsStep, drained, stored}
 use Rattle.g1_race_words.specs.declared.view.Shape.{Shape}
 use Rattle.g1_race.specs.Over.{Halt}
@@ -53,6 +55,12 @@ one_word place new slot word = if slot == place then new else word
 abbrev pub wiped_word : Shape → ℕ → ℕ → ℕ → ℕ
 wiped_word heap region slot word = if slot / heap.span == region then 0 else word
 
+-- those of as many slots, from one on, become the old words of those from another on
+abbrev pub copied_word : List ℕ → ℕ → ℕ → ℕ → ℕ → ℕ → ℕ
+copied_word old from to count slot word =
+    if nat_le to slot && nat_lt slot (to + count) then slice_index old (from + (slot - to))
+    else word
+
 -- all that was pending is refined, which are these cards
 pub record AreAllRefined (old : Table) (cards : List ℕ) (new : Table) : Type 0 where
   pub refinable : AreRefinable old cards
@@ -85,6 +93,12 @@ abbrev pub wiped : ℕ → Table → Table
 wiped region table =
     nulled (region * (table.layout.cards * table.layout.slots))
     (table.layout.cards * table.layout.slots) table
+
+-- what as many slots, from one on, refer to in this table is stored to those from another on
+abbrev pub copied : ℕ → ℕ → ℕ → Table → Table
+copied from to zero table = table
+copied from to (suc count) table =
+    stored (copied from to count table) (to + count) (target_of table (from + count))
 
 -- the first ones of these cards stand in the slice, as far as it reaches, and behind them it is as
 -- it was

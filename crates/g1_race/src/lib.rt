@@ -43,6 +43,7 @@ mod address;
 mod begin;
 mod bits;
 mod clear;
+mod copy;
 mod data;
 mod drain;
 mod ended;

@@ -7,6 +7,8 @@ mod again;
 #[cfg(test)]
 mod by_hand;
 #[cfg(test)]
+mod copy;
+#[cfg(test)]
 mod cycles;
 #[cfg(test)]
 mod data;

@@ -5,7 +5,7 @@ use Rattle.g1_core.specs.Table.{Table, target_of}
 use Rattle.g1_race_words.specs.declared.view.Shape.{Shape}
 use Rattle.g1_race.specs.Over.{Halt, halted}
 use Rattle.g1_race.specs.Evacuating.{WordsBecome, wiped, wiped_word}
-use Rattle.g1_race.proofs.PauseStores.{null_target, slot_in}
+use Rattle.g1_race.proofs.PauseStores.{slot_in, slot_gives}
 use Rattle.g1_race.proofs.SlotWords.{wiped_words}
 use Rattle.g1_race.proofs.Held.{held_table, lent_view}
 use Rattle.g1_race.proofs.paused.Paused.wipe.Goals as goal
@@ -24,7 +24,7 @@ returns-clause-null g c =
     let on : slot / k.span ≡ c.number.result = ap (λ (s : ℕ). slot / s) span ∙ (e ∙ sym c.number.ensures) in
     let is : c.number.result * k.span + slot % k.span ≡ slot = ap (λ (r : ℕ). r * k.span + slot % k.span) (sym on) ∙ div-add-mod' slot k.span in
     let below : slot % k.span < k.span = mod-lt slot race.shaped.2 in
-    ap (λ (t : Table). target_of t slot) (sym (held_table words c.race.ensures)) ∙ null_target k race.layout words slot race.laid (subst (λ (s : ℕ). s < k.slots) is (slot_in k c.number.result (slot % k.span) race.shaped low below)) (subst (λ (s : ℕ). get_elem? words s ≡ some 0) is (c.wipe_slots.ensures.null (slot % k.span) below))
+    ap (λ (t : Table). target_of t slot) (sym (held_table words c.race.ensures)) ∙ slot_gives k race.layout words slot 0 race.laid (subst (λ (s : ℕ). s < k.slots) is (slot_in k c.number.result (slot % k.span) race.shaped low below)) (subst (λ (s : ℕ). get_elem? words s ≡ some 0) is (c.wipe_slots.ensures.null (slot % k.span) below))
 
 pub returns-clause-words : goal.returns-clause-words
 returns-clause-words g c =

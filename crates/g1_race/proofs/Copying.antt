@@ -1,0 +1,216 @@
+-- A range of slots that is copied, slot by slot.
+use Rattle.std.proofs.Common.{◌≡◌, ◌≢◌, ◌⊎◌, ℕ, zero, suc, ◌+◌, ◌-◌, ◌<◌, ◌≤◌, ◌&&◌, ltb, leb, eqb, get_or, length, List, Bool, cond, true, false, Option, Some, None, refl, sym, ap, ◌∙◌, subst, inl, inr, arith, eq-eqb, ne_eqb}
+use mathlib.Core.Option.{some}
+use Rattle.std.specs.FinSet as fin
+use Rattle.std.specs.Ordering.{nat_cmp}
+use Rattle.std.specs.Cmp.{Equal-is}
+use Rattle.std.proofs.lemmas.Bool.{and_from, and_left, and_right, cases_eq, cases_lt, le-leb, le-ltb, lt-leb, lt-ltb, or_cases}
+use Rattle.std.proofs.lemmas.Cmp.{nat_cmp_total}
+use Rattle.std.proofs.lemmas.List.{get_or-set_other, set_comm}
+use Rattle.std.proofs.lemmas.Map.Lookups.{exact_unsigned}
+use Rattle.g1_layout.specs.declared.kind.Kind.{Kind}
+use Rattle.g1_layout.specs.declared.kind.Kind.TheVariants.{SameRegion, Null, AlreadyDirty, Logged}
+use Rattle.g1_layout.specs.Shape.{card_of, region_of}
+use Rattle.g1_layout.specs.Sets.{CardSet}
+use Rattle.g1_core.specs.Table.{Table, IsPending, target_of}
+use Rattle.g1_core.specs.Run.{kind_of, pending_after, stored}
+use Rattle.g1_core.proofs.SetLemmas.{same_cards}
+use Rattle.g1_core.proofs.TableLemmas.{pending_grows, store_marks}
+use Rattle.g1_race_words.proofs.Plain.{false_is, read_at, read_is, true_is}
+use Rattle.g1_race_words.specs.declared.view.Shape.{Shape}
+use Rattle.g1_race.specs.Over.{Halt, halted}
+use Rattle.g1_race.specs.Evacuating.{IsSameRace, SlotsBecome, copied, copied_word, one_word}
+
+-- two stores into different slots may change places
+
+-- the store dirties the card, since the target lies in another region
+abbrev Dirties : Table → ℕ → Option ℕ → ℕ → Type 0
+Dirties t slot target card = (place : ℕ) × (target ≡ Some place) × (region_of t.layout slot ≢ region_of t.layout place) × (card ≡ card_of t.layout slot)
+
+joined : (kind : Kind) (pending : CardSet) (card c : ℕ) → fin.contains (pending_after kind pending card) c ≡ true → (fin.contains pending c ≡ true) ⊎ ((kind ≡ Logged) × (c ≡ card))
+joined Logged pending card c h = elim (or_cases _ _ (sym (fin.contains-insert nat_cmp_total pending card c) ∙ h)) [
+  | inl eq ↦ inr (refl, exact_unsigned c card ((Equal-is (nat_cmp c card)).0 eq))
+  | inr old ↦ inl old
+]
+joined SameRegion pending card c h = inl h
+joined Null pending card c h = inl h
+joined AlreadyDirty pending card c h = inl h
+
+within_region : (t : Table) (slot place : ℕ) → region_of t.layout slot ≡ region_of t.layout place → kind_of t slot (Some place) ≡ SameRegion
+within_region t slot place e = true_is (eqb (region_of t.layout slot) (region_of t.layout place)) SameRegion _ (eq-eqb _ _ e)
+
+was_pending : (t : Table) (slot : ℕ) (target : Option ℕ) (c : ℕ) → IsPending (stored t slot target) c → IsPending t c ⊎ Dirties t slot target c
+was_pending t slot None c h = inl h
+was_pending t slot (Some place) c h = elim (joined (kind_of t slot (Some place)) t.pending (card_of t.layout slot) c h) [
+  | inl old ↦ inl old
+  | inr new ↦ inr (place, refl, (λ e. absurd (let f : SameRegion ≡ Logged = sym (within_region t slot place e) ∙ new.0 in cc f)), new.1)
+]
+
+still_pending : (t : Table) (slot : ℕ) (target : Option ℕ) (c : ℕ) → IsPending t c → IsPending (stored t slot target) c
+still_pending t slot target c = pending_grows (kind_of t slot target) t.pending (card_of t.layout slot) c
+
+newly_pending : (t : Table) (slot : ℕ) (target : Option ℕ) (c : ℕ) → Dirties t slot target c → IsPending (stored t slot target) c
+newly_pending t slot target c d = subst (λ (x : Option ℕ × ℕ). IsPending (stored t slot x.0) x.1) (λ i. (sym d.1 i, sym d.3 i)) (store_marks t slot d.0 d.2)
+
+swapped : (t : Table) (a b : ℕ) (x y : Option ℕ) (c : ℕ) → IsPending (stored (stored t a x) b y) c → IsPending (stored (stored t b y) a x) c
+swapped t a b x y c h = elim (was_pending (stored t a x) b y c h) [
+  | inl first ↦ elim (was_pending t a x c first) [
+    | inl old ↦ still_pending (stored t b y) a x c (still_pending t b y c old)
+    | inr d ↦ newly_pending (stored t b y) a x c d
+  ]
+  | inr d ↦ still_pending (stored t b y) a x c (newly_pending t b y c d)
+]
+
+stores_apart : (t : Table) (a b : ℕ) (x y : Option ℕ) → a ≢ b → stored (stored t a x) b y ≡ stored (stored t b y) a x
+stores_apart t a b x y ne = λ i. record {
+  layout = t.layout;
+  refs = set_comm t.refs a b x y ne i;
+  pending = same_cards (stored (stored t a x) b y).pending (stored (stored t b y) a x).pending (swapped t a b x y) (swapped t b a y x) i;
+  recorded = t.recorded;
+}
+
+-- the first slot may be copied last
+copied_first : (from to count : ℕ) (t : Table) → copied from to (suc count) t ≡ stored (copied (suc from) (suc to) count t) to (target_of t from)
+copied_first from to zero t = λ i. stored t ((let e : to + 0 ≡ to = omega arith in e) i) (target_of t ((let e : from + 0 ≡ from = omega arith in e) i))
+copied_first from to (suc count) t =
+    let rest : Table = copied (suc from) (suc to) count t in
+    let last : to + suc count ≡ suc to + count = omega arith in
+    let source : from + suc count ≡ suc from + count = omega arith in
+    ap (λ (u : Table). stored u (to + suc count) (target_of t (from + suc count))) (copied_first from to count t)
+    ∙ (stores_apart rest to (to + suc count) (target_of t from) (target_of t (from + suc count)) (λ e. absurd (omega (arith, e)))
+    ∙ (λ i. stored (stored rest (last i) (target_of t (source i))) to (target_of t from)))
+
+-- the other slots keep their targets
+copied_other : (from to count : ℕ) (t : Table) (p : ℕ) → (p < to) ⊎ (to + count ≤ p) → target_of (copied from to count t) p ≡ target_of t p
+copied_other from to zero t p out = refl
+copied_other from to (suc count) t p out =
+    let apart : (p ≢ to + count) × ((p < to) ⊎ (to + count ≤ p)) = elim out [
+      | inl low ↦ ((λ e. absurd (omega (arith, low, e))), inl low)
+      | inr high ↦ ((λ e. absurd (omega (arith, high, e))), inr (omega (arith, high)))
+    ] in
+    get_or-set_other (copied from to count t).refs (to + count) p (target_of t (from + count)) None apart.0 ∙ copied_other from to count t p apart.1
+
+-- the words
+
+copied_in : (ws : List ℕ) (from to count p n : ℕ) → to ≤ p → p < to + count → copied_word ws from to count p n ≡ get_or ws (from + (p - to)) 0
+copied_in ws from to count p n low high = true_is (leb to p && ltb p (to + count)) _ n (and_from _ _ (le-leb to p low) (lt-ltb p (to + count) high))
+
+copied_out : (ws : List ℕ) (from to count p n : ℕ) → (p < to) ⊎ (to + count ≤ p) → copied_word ws from to count p n ≡ n
+copied_out ws from to count p n (inl low) = false_is (leb to p && ltb p (to + count)) _ n (and_left _ _ (lt-leb to p low))
+copied_out ws from to count p n (inr high) = false_is (leb to p && ltb p (to + count)) _ n (and_right _ _ (le-ltb p (to + count) high))
+
+-- a slot of the range, or outside
+in_or_out : (to count p : ℕ) → ((to ≤ p) × (p < to + count)) ⊎ ((p < to) ⊎ (to + count ≤ p))
+in_or_out to count p = elim (cases_lt p to) [
+  | inl low ↦ inr (inl low)
+  | inr from ↦ elim (cases_lt p (to + count)) [ inl below ↦ inl (from, below) | inr past ↦ inr (inr past) ]
+]
+
+-- as many slots are copied so far
+pub record Copied (old new : Halt) (from to count : ℕ) : Type 0 where
+  pub race : IsSameRace old new
+  pub words : SlotsBecome (copied_word old.words from to count) old new
+  pub table : halted new ≡ copied from to count (halted old)
+
+-- one slot is copied
+pub record CopiesOne (old new : Halt) (from to : ℕ) : Type 0 where
+  pub race : IsSameRace old new
+  pub words : SlotsBecome (one_word to (get_or old.words from 0)) old new
+  pub table : halted new ≡ stored (halted old) to (target_of (halted old) from)
+
+pub copied_none : (halt : Halt) (from to : ℕ) → Copied halt halt from to 0
+copied_none halt from to = record {
+  race = record { layout = refl; shape = refl; address = refl; table_id = refl; logs = refl; sweepers = refl };
+  words = λ p n lt at. at ∙ ap (λ (m : ℕ). some m) (sym (copied_out halt.words from to 0 p n (out p)));
+  table = refl;
+}
+  where
+    out : (p : ℕ) → (p < to) ⊎ (to + 0 ≤ p)
+    out p = elim (cases_lt p to) [ inl low ↦ inl low | inr high ↦ inr (omega (arith, high)) ]
+
+race_then : (old mid new : Halt) → IsSameRace old mid → IsSameRace mid new → IsSameRace old new
+race_then old mid new a b = record {
+  layout = b.layout ∙ a.layout;
+  shape = b.shape ∙ a.shape;
+  address = b.address ∙ a.address;
+  table_id = b.table_id ∙ a.table_id;
+  logs = b.logs ∙ a.logs;
+  sweepers = b.sweepers ∙ a.sweepers;
+}
+
+module _ (old mid new : Halt) (full : old.shape.slots ≤ length old.words) where
+  -- a slot outside the range still has its word
+  read_before : (from to count p : ℕ) → Copied old mid from to count → p < old.shape.slots → (p < to) ⊎ (to + count ≤ p) → get_or mid.words p 0 ≡ get_or old.words p 0
+  read_before from to count p so lt out =
+      let n : ℕ = get_or old.words p 0 in
+      read_is mid.words p n (so.words p n lt (read_at old.words p (omega (arith, lt, full))) ∙ ap (λ (m : ℕ). some m) (copied_out old.words from to count p n out))
+
+  word_by_word : (change last : ℕ → ℕ → ℕ) (slot word : ℕ) → mid.shape ≡ old.shape → SlotsBecome change old mid → SlotsBecome (one_word slot word) mid new
+      → ((n : ℕ) → word ≡ last slot n) → ((p n : ℕ) → p ≢ slot → change p n ≡ last p n) → SlotsBecome last old new
+  word_by_word change last slot word same a b here other p n lt at =
+      b p (change p n) (subst (λ (k : Shape). p < k.slots) (sym same) lt) (a p n lt at) ∙ ap (λ (m : ℕ). some m) (elim (cases_eq p slot) [
+        | inl e ↦ true_is (eqb p slot) word (change p n) (eq-eqb p slot e) ∙ (here n ∙ ap (λ (q : ℕ). last q n) (sym e))
+        | inr ne ↦ false_is (eqb p slot) word (change p n) (ne_eqb p slot ne) ∙ other p n ne
+      ])
+
+  -- the next slot behind those that are copied
+  pub copied_up : (from to count : ℕ) → to ≤ from → from + count < old.shape.slots → Copied old mid from to count → CopiesOne mid new (from + count) (to + count) → Copied old new from to (suc count)
+  copied_up from to count le lt so one =
+      let out : (from + count < to) ⊎ (to + count ≤ from + count) = inr (omega (arith, le)) in
+      record {
+        race = race_then old mid new so.race one.race;
+        words = word_by_word (copied_word old.words from to count) (copied_word old.words from to (suc count)) (to + count) (get_or mid.words (from + count) 0) so.race.shape so.words one.words
+            (λ n. read_before from to count (from + count) so lt out ∙ (ap (λ (i : ℕ). get_or old.words (from + i) 0) (let e : count ≡ to + count - to = omega arith in e) ∙ sym (copied_in old.words from to (suc count) (to + count) n (omega arith) (omega arith))))
+            (λ p n ne. elim (in_or_out to count p) [
+              | inl i ↦ copied_in old.words from to count p n i.0 i.1 ∙ sym (copied_in old.words from to (suc count) p n i.0 (omega (arith, i.1)))
+              | inr o ↦ copied_out old.words from to count p n o ∙ sym (copied_out old.words from to (suc count) p n (elim o [ inl low ↦ inl low | inr high ↦ inr (omega (arith, high, ne)) ]))
+            ]);
+        table = one.table ∙ (ap (λ (u : Table). stored u (to + count) (target_of u (from + count))) so.table ∙ ap (λ (o : Option ℕ). stored (copied from to count (halted old)) (to + count) o) (copied_other from to count (halted old) (from + count) out));
+      }
+
+  -- the slot before those that are copied
+  pub copied_down : (from to count : ℕ) → from < to → from < old.shape.slots → Copied old mid (suc from) (suc to) count → CopiesOne mid new from to → Copied old new from to (suc count)
+  copied_down from to count less lt so one =
+      let out : (from < suc to) ⊎ (suc to + count ≤ from) = inl (omega (arith, less)) in
+      record {
+        race = race_then old mid new so.race one.race;
+        words = word_by_word (copied_word old.words (suc from) (suc to) count) (copied_word old.words from to (suc count)) to (get_or mid.words from 0) so.race.shape so.words one.words
+            (λ n. read_before (suc from) (suc to) count from so lt out ∙ (ap (λ (i : ℕ). get_or old.words i 0) (let e : from ≡ from + (to - to) = omega arith in e) ∙ sym (copied_in old.words from to (suc count) to n (omega arith) (omega arith))))
+            (λ p n ne. elim (in_or_out (suc to) count p) [
+              | inl i ↦ copied_in old.words (suc from) (suc to) count p n i.0 i.1
+                  ∙ (ap (λ (q : ℕ). get_or old.words q 0) (let low : suc to ≤ p = i.0 in let e : suc from + (p - suc to) ≡ from + (p - to) = omega (arith, low) in e) ∙ sym (copied_in old.words from to (suc count) p n (omega (arith, i.0)) (omega (arith, i.1))))
+              | inr o ↦ copied_out old.words (suc from) (suc to) count p n o ∙ sym (copied_out old.words from to (suc count) p n (elim o [ inl low ↦ inl (omega (arith, low, ne)) | inr high ↦ inr (omega (arith, high)) ]))
+            ]);
+        table = one.table ∙ (ap (λ (u : Table). stored u to (target_of u from)) so.table
+            ∙ (ap (λ (o : Option ℕ). stored (copied (suc from) (suc to) count (halted old)) to o) (copied_other (suc from) (suc to) count (halted old) from out) ∙ sym (copied_first from to count (halted old))));
+      }
+
+-- the same places, by other terms
+copied_at : (old new : Halt) (from to count : ℕ) (place : ℕ × ℕ) (all : ℕ) → from ≡ place.0 → to ≡ place.1 → count ≡ all → Copied old new from to count → Copied old new place.0 place.1 all
+copied_at old new from to count place all e f h = subst (λ (x : ℕ × (ℕ × ℕ)). Copied old new x.0 x.1.0 x.1.1) (λ i. (e i, (f i, h i)))
+
+-- how far behind the first slot the copied ones begin: from the first one on, or up to the last one
+abbrev pub first_of : Bool → ℕ → ℕ → ℕ
+first_of upwards count done = cond upwards 0 (count - done)
+
+pub copied_on : (old mid new : Halt) → old.shape.slots ≤ length old.words → (upwards : Bool) (from to count i next : ℕ) → (upwards ≡ true → to ≤ from) → (upwards ≡ false → from < to) → i < count → from + count ≤ old.shape.slots
+    → Copied old mid (from + first_of upwards count i) (to + first_of upwards count i) i → (upwards ≡ true → next ≡ i) → (upwards ≡ false → next ≡ count - 1 - i) → CopiesOne mid new (from + next) (to + next)
+    → Copied old new (from + first_of upwards count (i + 1)) (to + first_of upwards count (i + 1)) (i + 1)
+copied_on old mid new full true from to count i next up down lt all so here there one =
+    let e : next ≡ i = here refl in
+    let le : to ≤ from = up refl in
+    copied_at old new from to (suc i) (from + 0, to + 0) (i + 1) (omega arith) (omega arith) (omega arith)
+    (copied_up old mid new full from to i le (omega (arith, lt, all))
+    (copied_at old mid (from + 0) (to + 0) i (from, to) i (omega arith) (omega arith) refl so)
+    (subst (λ (n : ℕ). CopiesOne mid new (from + n) (to + n)) e one))
+copied_on old mid new full false from to count i next up down lt all so here there one =
+    let e : next ≡ count - 1 - i = there refl in
+    let less : from < to = down refl in
+    copied_at old new (from + next) (to + next) (suc i) (from + (count - (i + 1)), to + (count - (i + 1))) (i + 1) (omega (arith, e, lt)) (omega (arith, e, lt)) (omega arith)
+    (copied_down old mid new full (from + next) (to + next) i (omega (arith, less)) (omega (arith, e, lt, all))
+    (copied_at old mid (from + (count - i)) (to + (count - i)) i (suc (from + next), suc (to + next)) i (omega (arith, e, lt)) (omega (arith, e, lt)) refl so)
+    one)
+
+pub copied_all : (old new : Halt) (upwards : Bool) (from to count i : ℕ) → i ≡ count → Copied old new (from + first_of upwards count i) (to + first_of upwards count i) i → Copied old new from to count
+copied_all old new true from to count i e = copied_at old new (from + 0) (to + 0) i (from, to) count (omega arith) (omega arith) e
+copied_all old new false from to count i e = copied_at old new (from + (count - i)) (to + (count - i)) i (from, to) count (omega (arith, e)) (omega (arith, e)) e

@@ -1,0 +1,56 @@
+use Rattle.std.proofs.Common.{◌≡◌, ◌⊎◌, ◌^◌, ◌≤◌, ◌<◌, ℕ, None, sym, ap, ◌∙◌, subst, arith}
+use mathlib.Core.Option.{some}
+use lib.ListN.{get_elem?}
+use Rattle.g1_layout.specs.Shape.{slot_count}
+use Rattle.g1_core.specs.Table.{target_of}
+use Rattle.g1_core.specs.Run.{stored}
+use Rattle.g1_race_words.specs.declared.view.Shape.{Shape}
+use Rattle.g1_race_words.proofs.Plain.{read_is}
+use Rattle.g1_race.specs.Race.{shape_of, word_of}
+use Rattle.g1_race.specs.Over.{Halt, halted}
+use Rattle.g1_race.specs.Over as over
+use Rattle.g1_race.specs.Evacuating.{SlotsBecome, one_word}
+use Rattle.g1_race.proofs.Ends.{target_data, target_word}
+use Rattle.g1_race.proofs.PauseStores.{slot_gives}
+use Rattle.g1_race.proofs.Held.{lent_view}
+use Rattle.g1_race.proofs.paused.Paused.copy_slot.Goals as goal
+
+abbrev IsLaid : Halt → Type 0
+IsLaid halt = halt.shape ≡ shape_of halt.layout halt.shape.members
+
+-- what the slot refers to
+reads : (halt : Halt) → IsLaid halt → (slot word : ℕ) → slot < slot_count halt.layout → get_elem? halt.words slot ≡ some word → target_of (halted halt) slot ≡ over.target_of word
+reads halt laid slot word lt at = slot_gives halt.shape halt.layout halt.words slot word laid (let e : halt.shape.slots ≡ slot_count halt.layout = ap (λ (k : Shape). k.slots) laid in omega (arith, e, lt)) at
+
+-- the word that is stored is the slot's
+stores : (old read new : Halt) (to word stored : ℕ) → read ≡ old → stored ≡ word → SlotsBecome (one_word to stored) read new → SlotsBecome (one_word to word) old new
+stores old read new to word stored same is = subst (λ (x : Halt × ℕ). SlotsBecome (one_word to x.1) x.0 new) (λ i. (same i, is i))
+
+pub returns-then-word-clause-words : goal.returns-then-word-clause-words
+returns-then-word-clause-words g c =
+    stores c.args.self.now c.word-word.new.self c.store_data.new.self c.args.to _ c.word-word.result c.word-word.ensures.same
+    (sym (read_is c.args.self.now.words c.args.from c.word-word.result c.word-word.ensures.word)) c.store_data.ensures.words
+
+pub returns-then-word-clause-table : goal.returns-then-word-clause-table
+returns-then-word-clause-table g c =
+    let laid : IsLaid c.args.self.now = subst IsLaid (lent_view c.race.ensures c.self.view_is) c.race.result.now.laid in
+    let none : target_of (halted c.args.self.now) c.args.from ≡ None = reads c.args.self.now laid c.args.from c.word-word.result c.requires.from c.word-word.ensures.word ∙ target_data c.word-word.result (omega (arith, c.if-word.true)) in
+    c.store_data.ensures.table ∙ (λ i. stored (halted (c.word-word.ensures.same i)) c.args.to (sym none i))
+
+pub refers_to-target-requires-clause-word : goal.refers_to-target-requires-clause-word
+refers_to-target-requires-clause-word g c =
+    let race = c.race.result.now in
+    let shape : c.args.self.now.shape.slots ≡ slot_count race.layout = ap (λ (h : Halt). h.shape.slots) (sym (lent_view c.race.ensures c.self.view_is)) ∙ ap (λ (k : Shape). k.slots) race.laid in
+    subst (λ (n : ℕ). (c.word-word.result ≤ n) ⊎ (2 ^ 32 ≤ c.word-word.result)) shape c.word-word.ensures.fits
+
+pub returns-clause-words : goal.returns-clause-words
+returns-clause-words g c =
+    let low : c.word-word.result < 2 ^ 32 = omega (arith, c.if-word.false) in
+    stores c.args.self.now c.word-word.new.self c.store.new.self c.args.to _ (word_of c.refers_to-target.result) c.word-word.ensures.same
+    (ap word_of c.refers_to-target.ensures.target ∙ (target_word c.word-word.result low ∙ sym (read_is c.args.self.now.words c.args.from c.word-word.result c.word-word.ensures.word))) c.store.ensures.words
+
+pub returns-clause-table : goal.returns-clause-table
+returns-clause-table g c =
+    let laid : IsLaid c.args.self.now = subst IsLaid (lent_view c.race.ensures c.self.view_is) c.race.result.now.laid in
+    let read : target_of (halted c.args.self.now) c.args.from ≡ c.refers_to-target.result = reads c.args.self.now laid c.args.from c.word-word.result c.requires.from c.word-word.ensures.word ∙ sym c.refers_to-target.ensures.target in
+    c.store.ensures.table ∙ (λ i. stored (halted (c.word-word.ensures.same i)) c.args.to (sym read i))
