@@ -14,9 +14,9 @@
  *
  * The path of a card in a struct g1:
  *   - If g1_store stores a reference into another region and the slot's card is clean, it marks
- *     the card dirty and returns G1_STORED_LOGGED. The caller puts the card into its thread's dirty
- *     card queue, an array of its own, and hands full queues to g1_refine, which records the
- *     regions that the card refers into.
+ *     the card dirty, and the kind of the store is G1_STORED_LOGGED. The caller puts the card into
+ *     its thread's dirty card queue, an array of its own, and hands full queues to g1_refine, which
+ *     records the regions that the card refers into.
  *   - An evacuation pause calls g1_drain for each region of the collection set. A drain refines all
  *     that is still pending, and returns the remembered set of the region. Once the region is
  *     evacuated, g1_clear empties that set; or g1_redirect empties it, and moves the references
@@ -36,14 +36,14 @@
  * Every call relies on the following, which nothing can test:
  *   - A handle was made of zeros (struct g1 handle = {0};), is in one place at a time, and was
  *     written by these calls alone.
- *   - One call at a time uses a handle. The caller orders the calls of several threads, for
- *     instance by a lock. A thread that is stopped inside a call, as by a signal, still uses its
- *     handle, so a pause waits until it has left the call. No thread is cancelled, and none jumps
- *     away, inside a call.
+ *   - One call at a time uses a handle. A handle may go from thread to thread: the caller orders
+ *     their calls, for instance by a lock or a join. A thread that is stopped inside a call, as by
+ *     a signal, still uses its handle, so a pause waits until it has left the call. No thread is
+ *     cancelled, and none jumps away, inside a call.
  *   - No pause begins between a runtime's own store and the call that reports it: a drain knows
  *     what was reported.
  *   - Each pointer points to what its type says. A pointer to an array points to as many elements
- *     as the length after it says. No pointer is null, even for a length of 0. No array that a call
+ *     as the length after it says. No pointer is null, even for a length of 0. Nothing that a call
  *     writes overlaps anything else that is passed.
  *   - malloc, realloc and free are of one allocator, and align as C asks. Several threads may call
  *     them at once, and one may free what another took.
@@ -63,11 +63,12 @@ extern "C" {
 #endif
 
 /* The version of the library. Its first number changes where programs must be compiled again. */
-#define G1_VERSION "1.0.0"
+#define G1_VERSION "2.0.0"
 
 /*
- * Marks a call that may be refused although its caller keeps every rule (by memory, a full log or
- * what is pending), and g1_is_pending: the compiler warns if what it returns is thrown away.
+ * Marks a call that may be refused, or do less than it was asked for, although its caller keeps
+ * every rule (by memory, a full log, what is pending or what a slot has): the compiler warns if
+ * the code that it returns is thrown away.
  */
 #ifdef __GNUC__
 #define G1_MUST_USE __attribute__((__warn_unused_result__))
@@ -92,17 +93,18 @@ enum g1_kind {
 };
 
 /*
- * What the other calls return. A code of 8 or more means that the call was refused and that nothing
- * has changed, except for G1_NO_ROOM of g1_heap_drain; each call says what its results hold then.
- * g1_store, g1_race_store and g1_is_pending return these codes too if they are refused, and values
- * of their own if not.
+ * What each call returns. A code of 8 or more means that the call was refused and that nothing has
+ * changed, except for G1_NO_ROOM of g1_heap_drain; each call says what its results hold then.
  */
 enum g1_code {
     G1_DONE = 0,
     G1_SHORT = 1,             /* memory was refused midway: the work that is reported was done,
                                  and no more */
+    G1_DIFFERS = 2,           /* a slot has something else than was expected: nothing was stored */
     G1_STOPPED = 3,           /* one of several stores names no slot of the heap: those before it
                                  were made, and it and the later ones were not */
+    G1_FULL = 4,              /* the racer's log is full before one of several stores: those before
+                                 it were made. Take the log, and go on from there */
     G1_NOT_OPEN = 8,          /* the handle is closed */
     G1_ALREADY_OPEN = 9,      /* the handle that was to be opened is open */
     G1_NO_MEMORY = 10,        /* memory was refused before anything changed */
@@ -117,7 +119,6 @@ enum g1_code {
     G1_STILL_PENDING = 19,    /* a clear, while cards are pending */
     G1_STILL_REFERENCED = 20, /* a clear, while a slot outside the region refers into it; or
                                  g1_heap_forget, while one inside refers out of it */
-    G1_OTHER_ROLE = 21,       /* a sweeper's handle was passed for a racer's, or the reverse */
     G1_LOG_FULL = 22,         /* the racer's log has G1_LOG cards: take it, and store again */
     G1_BAD_MEMBERS = 23,      /* not as many members as the heap has, or as a heap may have */
     G1_OTHER_RACE = 24,       /* the handles are not those of all members of one heap, each given
@@ -129,14 +130,15 @@ enum g1_code {
 
 /*
  * What a code means, in a few words without a full stop: a string that is never freed. A number
- * that is no code has a text too. A kind of store is no code: ask only about a word of 8 or more if
- * it comes from g1_store, g1_race_store or g1_is_pending.
+ * that is no code has a text too.
  */
 static inline const char *g1_code_text(uint32_t code) {
     switch (code) {
     case G1_DONE: return "done";
     case G1_SHORT: return "memory was refused midway";
+    case G1_DIFFERS: return "the slot has something else than was expected";
     case G1_STOPPED: return "a store names no slot of the heap, and those before it were made";
+    case G1_FULL: return "the racer's log is full, and the stores before that were made";
     case G1_NOT_OPEN: return "a handle is closed";
     case G1_ALREADY_OPEN: return "a handle that was to be opened is open";
     case G1_NO_MEMORY: return "memory was refused before anything changed";
@@ -150,7 +152,6 @@ static inline const char *g1_code_text(uint32_t code) {
     case G1_SAME_REGION: return "references were to be moved from a region to itself";
     case G1_STILL_PENDING: return "cards are pending";
     case G1_STILL_REFERENCED: return "a reference still enters the region, or leaves it";
-    case G1_OTHER_ROLE: return "a racer was passed for a sweeper, or a sweeper for a racer";
     case G1_LOG_FULL: return "the racer's log is full";
     case G1_BAD_MEMBERS: return "the heap has, or may have, another number of members";
     case G1_OTHER_RACE: return "the handles are not those of all members of one heap";
@@ -223,13 +224,16 @@ uint32_t g1_open(struct g1 *handle, const struct g1_counts *counts, uint32_t hot
 uint32_t g1_close(struct g1 *handle);
 
 /*
- * Stores a reference to the place `target`, or null (G1_NULL), into a slot. It takes constant time
- * and no memory.
+ * Stores a reference to the place `target`, or null (G1_NULL), into a slot. `kind` is the kind of
+ * store (enum g1_kind). If it is G1_STORED_LOGGED, the caller puts card slot / slots into its dirty
+ * card queue. The call takes constant time and no memory.
  *
- * Returns the kind of store (enum g1_kind), G1_NOT_OPEN, or G1_NO_SLOT for the slot or the target.
- * If the kind is G1_STORED_LOGGED, the caller puts card slot / slots into its dirty card queue.
+ * Returns:
+ *   - G1_DONE.
+ *   - G1_NOT_OPEN, or G1_NO_SLOT for the slot or the target: nothing has changed, and `kind` is
+ *     G1_STORED_NULL.
  */
-uint32_t g1_store(struct g1 *handle, uint32_t slot, uint32_t target);
+uint32_t g1_store(struct g1 *handle, uint32_t slot, uint32_t target, uint32_t *kind);
 
 /*
  * Makes at most G1_LOG stores in order, each as g1_store does. The first batch->logged elements of
@@ -295,13 +299,14 @@ uint32_t g1_drain(struct g1 *handle, uint32_t region, uint32_t *cards, size_t ca
 uint32_t g1_target(struct g1 *handle, uint32_t slot, uint32_t *target);
 
 /*
- * Tells whether a card is pending, that is, dirty or held in the hot ring. It takes constant time
- * and no memory.
+ * Sets `pending` to 1 if a card is pending, that is, dirty or held in the hot ring, and to 0 if it
+ * is not. It takes constant time and no memory.
  *
- * Returns 1 if the card is pending, 0 if it is not, G1_NOT_OPEN or G1_NO_CARD.
+ * Returns:
+ *   - G1_DONE.
+ *   - G1_NOT_OPEN or G1_NO_CARD: `pending` is 0.
  */
-G1_MUST_USE
-uint32_t g1_is_pending(struct g1 *handle, uint32_t card);
+uint32_t g1_is_pending(struct g1 *handle, uint32_t card, uint32_t *pending);
 
 /*
  * Sets `totals` to how many cards are pending and how many pairs of a card and a region are
@@ -385,17 +390,21 @@ uint32_t g1_redirect(struct g1 *handle, uint32_t from, uint32_t to, uint32_t *mo
  *
  * The path of a card that a racer logs:
  *   - If g1_race_store stores a reference into another region, it marks the slot's card dirty. If
- *     it returns G1_STORED_LOGGED, the card is in the racer's own log.
+ *     the kind of the store is G1_STORED_LOGGED, the card is in the racer's own log.
  *   - The caller takes the log (g1_race_take_log) and hands its cards to a sweeper, by a queue of
  *     its own (g1_refiner.h has one). The sweeper refines each of them (g1_race_refine).
  *   - A log that is lost costs only time. Each of its cards stays dirty until it is refined, by the
  *     first drain at a pause at the latest. A log that was not taken stays with its racer over a
  *     pause, and is empty if the pause has refined.
  *
+ * Threads may begin and end while the members race. So a heap is opened with as many racers as
+ * there may be mutators at once, and the runtime keeps the handles that no thread uses, in a list
+ * under a lock of its own. A thread that begins takes a racer's handle from there. Before it ends
+ * it takes the racer's log and hands it on, or leaves it in the racer, and puts the handle back. A
+ * racer that waits there holds nothing up. The next pause takes it in with all others.
+ *
  * Besides what every call relies on, these calls rely on the following:
- *   - A heap's handle stays on one thread. One call at a time uses a member's handle, which may go
- *     from thread to thread, by a lock, a join or the like.
- *   - A call writes its handle, so each thread keeps its own in a local, and not in a row that
+ *   - A call writes its handle, so each thread keeps its member's in a local, and not in a row that
  *     threads share: a row of handles is a cache line that all of them write. The thread copies its
  *     local back into the row before the pause. A copy that was left behind is not to be used.
  *   - The runtime's references are the library's words, as below. Or they are in memory of the
@@ -413,7 +422,7 @@ uint32_t g1_redirect(struct g1 *handle, uint32_t from, uint32_t to, uint32_t *mo
  *     atomic_store(&memory[slot], target);
  *     do {
  *         told = target;
- *         g1_race_store(racer, slot, told);    (and once more if the log was full and was taken)
+ *         g1_race_store(racer, slot, told, &kind);   (once more if the log was full and was taken)
  *         target = atomic_load(&memory[slot]);
  *     } while (target != told);
  *
@@ -423,27 +432,35 @@ uint32_t g1_redirect(struct g1 *handle, uint32_t from, uint32_t to, uint32_t *mo
  * read after that call found its write. A thread goes round again only if another one has stored to
  * the slot meanwhile; how often is not bounded.
  *
+ * What g1_race_swap and g1_race_compare_exchange find in a slot is what the library was told last.
+ * So for a runtime with references of its own they are of use only where it orders the stores to
+ * the slot.
+ *
  * A runtime whose fields are the library's words keeps no references of its own. Slot n is the word
  * words[n] of g1_heap_words, of 8 bytes: 0 for null; the number of the slot that it refers to plus
  * 1; or data, from G1_DATA on, which refers to nothing (a tagged integer, for instance).
- *   - The runtime only reads these words. Each store is a call: g1_race_store or g1_race_store_data
- *     by a racer, g1_heap_store or g1_heap_store_data at a pause. The call is the store itself, so
- *     stores to one slot need no order and no loop.
+ *   - The runtime only reads these words. Each store is a call, of a racer (g1_race_store,
+ *     g1_race_swap, ..) or at a pause (g1_heap_store, g1_heap_copy, ..). The call is the store
+ *     itself, so stores to one slot need no order and no loop.
  *   - A read is one aligned atomic load of 8 bytes. It needs the order acquire (__ATOMIC_ACQUIRE,
  *     memory_order_acquire) where it may find a new object of another thread, so that what was
  *     written into the object before the store is found there too. Elsewhere a relaxed one does.
  *   - The words stay at their place until the heap is closed.
  */
 
-/* A handle of a heap whose stores race. It is closed if the pointer is null. It stays on one
-   thread. */
+/* A handle of a heap whose stores race. It is closed if the pointer is null. */
 struct g1_heap {
     void *heap;
 };
 
-/* A handle of a racer or a sweeper. It is closed if the pointer is null. */
-struct g1_member {
-    void *member;
+/* A handle of a racer. It is closed if the pointer is null. */
+struct g1_racer {
+    void *racer;
+};
+
+/* A handle of a sweeper. It is closed if the pointer is null. */
+struct g1_sweeper {
+    void *sweeper;
 };
 
 /* The most racers and the most sweepers that a heap has. It has at least one of each. */
@@ -481,8 +498,8 @@ uint32_t g1_heap_open(struct g1_heap *heap, const struct g1_counts *counts, uint
  *   - G1_NOT_OPEN for the heap's handle, G1_NOT_PAUSED, G1_BAD_MEMBERS (not the numbers of handles
  *     that the heap was opened with) or G1_ALREADY_OPEN for a member's handle: nothing has changed.
  */
-uint32_t g1_heap_resume(struct g1_heap *heap, struct g1_member *racers, size_t racers_length,
-                        struct g1_member *sweepers, size_t sweepers_length);
+uint32_t g1_heap_resume(struct g1_heap *heap, struct g1_racer *racers, size_t racers_length,
+                        struct g1_sweeper *sweepers, size_t sweepers_length);
 
 /*
  * Begins a pause. All racers and sweepers of the heap are handed in, in any order, and none of them
@@ -492,11 +509,11 @@ uint32_t g1_heap_resume(struct g1_heap *heap, struct g1_member *racers, size_t r
  * Returns:
  *   - G1_DONE: the members' handles are closed, and the collector's calls may be made.
  *   - G1_NOT_OPEN for any of the handles, G1_NOT_RACING, G1_BAD_MEMBERS (not the numbers of handles
- *     that the heap was opened with), G1_OTHER_ROLE for a member's handle, or G1_OTHER_RACE (a
- *     member of another heap, or one that is given twice): nothing has changed.
+ *     that the heap was opened with) or G1_OTHER_RACE (a member of another heap, or one that is
+ *     given twice): nothing has changed.
  */
-uint32_t g1_heap_pause(struct g1_heap *heap, struct g1_member *racers, size_t racers_length,
-                       struct g1_member *sweepers, size_t sweepers_length);
+uint32_t g1_heap_pause(struct g1_heap *heap, struct g1_racer *racers, size_t racers_length,
+                       struct g1_sweeper *sweepers, size_t sweepers_length);
 
 /*
  * Closes the handle of a heap at a pause, and frees all its memory. The handle may be opened again.
@@ -509,16 +526,66 @@ uint32_t g1_heap_close(struct g1_heap *heap);
 
 /*
  * A racer stores a reference to the place `target`, or null (G1_NULL), into a slot, concurrently
- * with whatever the other members do. It takes constant time and no memory, and never waits.
+ * with whatever the other members do. `kind` is the kind of store (enum g1_kind). If it is
+ * G1_STORED_LOGGED, the slot's card is last in the racer's log. The call takes constant time and no
+ * memory, and never waits.
  *
  * Returns:
- *   - the kind of store (enum g1_kind). If it is G1_STORED_LOGGED, the slot's card is last in the
- *     racer's log.
+ *   - G1_DONE.
  *   - G1_LOG_FULL (for any store, of null too, while the log is full), G1_NO_SLOT for the slot or
- *     the target, G1_OTHER_ROLE or G1_NOT_OPEN: nothing has changed.
+ *     the target, or G1_NOT_OPEN: nothing has changed, and `kind` is G1_STORED_NULL.
  */
 G1_MUST_USE
-uint32_t g1_race_store(struct g1_member *member, uint32_t slot, uint32_t target);
+uint32_t g1_race_store(struct g1_racer *racer, uint32_t slot, uint32_t target, uint32_t *kind);
+
+/*
+ * A racer stores as g1_race_store does, and `old` is what the slot referred to before: the place,
+ * or G1_NULL for null or data. One atomic step reads that and writes the slot, so no other store
+ * falls between them. It is for a collector that marks from a snapshot. The call costs what that
+ * store does.
+ *
+ * Returns:
+ *   - G1_DONE.
+ *   - G1_LOG_FULL, G1_NO_SLOT or G1_NOT_OPEN, as g1_race_store does: nothing has changed, `old` is
+ *     G1_NULL, and `kind` is G1_STORED_NULL.
+ */
+G1_MUST_USE
+uint32_t g1_race_swap(struct g1_racer *racer, uint32_t slot, uint32_t target, uint32_t *old,
+                      uint32_t *kind);
+
+/*
+ * A racer stores as g1_race_store does, if the slot refers to the place `expected`, or has null if
+ * that is G1_NULL. One atomic step compares and writes. `found` is what the slot referred to: the
+ * place, or G1_NULL for null or data. The call takes constant time and no memory, and never waits.
+ *
+ * Returns:
+ *   - G1_DONE: the slot had `expected`, which `found` is too, and it has `target` now.
+ *   - G1_DIFFERS: the slot had something else, such as data where null was expected. Nothing was
+ *     stored, and `kind` is G1_STORED_NULL.
+ *   - G1_LOG_FULL (whatever the slot has, while the log is full), G1_NO_SLOT for the slot,
+ *     `expected` or the target, or G1_NOT_OPEN: nothing has changed, `found` is G1_NULL, and `kind`
+ *     is G1_STORED_NULL.
+ */
+G1_MUST_USE
+uint32_t g1_race_compare_exchange(struct g1_racer *racer, uint32_t slot, uint32_t expected,
+                                  uint32_t target, uint32_t *found, uint32_t *kind);
+
+/*
+ * A racer makes stores in order, each as g1_race_store does, and as many as the caller likes. The
+ * cards of those that are logged are last in the racer's log, in order. The call takes no memory,
+ * and never waits.
+ *
+ * Returns:
+ *   - G1_DONE: `stored` is stores_length.
+ *   - G1_STOPPED: the store at index `stored` names a slot or a target that the heap does not have.
+ *     The stores before it were made; it and the later ones were not.
+ *   - G1_FULL: the log is full before the store at index `stored`. The stores before it were made;
+ *     it and the later ones were not. Take the log, and go on with this store.
+ *   - G1_NOT_OPEN: nothing has changed, and `stored` is 0.
+ */
+G1_MUST_USE
+uint32_t g1_race_store_all(struct g1_racer *racer, const struct g1_reference *stores,
+                           size_t stores_length, size_t *stored);
 
 /*
  * A racer stores data, a word from G1_DATA on, into a slot, concurrently with whatever the other
@@ -527,10 +594,9 @@ uint32_t g1_race_store(struct g1_member *member, uint32_t slot, uint32_t target)
  *
  * Returns:
  *   - G1_DONE.
- *   - G1_BAD_WORD, G1_NO_SLOT, G1_OTHER_ROLE or G1_NOT_OPEN: nothing has changed, and `old` is 0.
+ *   - G1_BAD_WORD, G1_NO_SLOT or G1_NOT_OPEN: nothing has changed, and `old` is 0.
  */
-uint32_t g1_race_store_data(struct g1_member *member, uint32_t slot, uint64_t word,
-                            uint64_t *old);
+uint32_t g1_race_store_data(struct g1_racer *racer, uint32_t slot, uint64_t word, uint64_t *old);
 
 /*
  * Takes the cards of a racer's log, and leaves the log empty. The first `count` elements of `cards`
@@ -538,9 +604,9 @@ uint32_t g1_race_store_data(struct g1_member *member, uint32_t slot, uint64_t wo
  *
  * Returns:
  *   - G1_DONE.
- *   - G1_NO_ROOM, G1_OTHER_ROLE or G1_NOT_OPEN: `count` is 0, and the log is as it was.
+ *   - G1_NO_ROOM or G1_NOT_OPEN: `count` is 0, and the log is as it was.
  */
-uint32_t g1_race_take_log(struct g1_member *member, uint32_t *cards, size_t cards_length,
+uint32_t g1_race_take_log(struct g1_racer *racer, uint32_t *cards, size_t cards_length,
                           uint32_t *count);
 
 /*
@@ -551,9 +617,9 @@ uint32_t g1_race_take_log(struct g1_member *member, uint32_t *cards, size_t card
  *
  * Returns:
  *   - G1_DONE.
- *   - G1_NO_CARD, G1_OTHER_ROLE or G1_NOT_OPEN: nothing has changed.
+ *   - G1_NO_CARD or G1_NOT_OPEN: nothing has changed.
  */
-uint32_t g1_race_refine(struct g1_member *member, uint32_t card);
+uint32_t g1_race_refine(struct g1_sweeper *sweeper, uint32_t card);
 
 /*
  * Sets `words` to the words of the slots, in order, for a runtime whose fields they are. They may
@@ -673,6 +739,16 @@ uint32_t g1_heap_store_all(struct g1_heap *heap, const struct g1_reference *stor
  * Returns G1_DONE, or G1_BAD_WORD or G1_NO_SLOT: nothing has changed.
  */
 uint32_t g1_heap_store_data(struct g1_heap *heap, uint32_t slot, uint64_t word);
+
+/*
+ * The collector copies the words of `count` slots, references and data, from the slot `from` on to
+ * the slots from `to` on, as if all were read before any is written: the ranges may overlap. Cards
+ * become dirty as by g1_heap_store, and no log has them. The call takes time in `count`, and no
+ * memory.
+ *
+ * Returns G1_DONE, or G1_NO_SLOT if either range ends behind the last slot: nothing has changed.
+ */
+uint32_t g1_heap_copy(struct g1_heap *heap, uint32_t from, uint32_t to, uint32_t count);
 
 /*
  * Empties the remembered set of a region, once no card is dirty and no slot outside the region

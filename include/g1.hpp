@@ -4,9 +4,8 @@
 // call does, what it relies on and what it returns. What is added here:
 //   - A handle begins closed, can be moved and not copied, and closes itself at its end. A member's
 //     handle has no end of its own: it goes back into a pause.
-//   - Racers and sweepers are two types.
-//   - A code is a g1_code and not a plain number; only the stores return a kind or a code. The
-//     compiler warns where a code is thrown away that has to be looked at. Nothing throws.
+//   - A code is a g1_code, a kind a g1_kind, and whether a card is pending a bool. The compiler
+//     warns where a code is thrown away that has to be looked at. Nothing throws.
 //   - An array is any container with std::data and std::size, of std::uint32_t (of g1_reference
 //     for several stores), and may be empty. One that a call writes has its size before the call:
 //     nothing here grows it.
@@ -31,6 +30,21 @@ namespace internal {
 inline g1_code code(std::uint32_t word) noexcept {
     return static_cast<g1_code>(word);
 }
+
+// Where a call writes a word that stands for a kind, or for whether something is so.
+template <typename Value> class Out {
+public:
+    explicit Out(Value &place) noexcept : value(place) {}
+    Out(const Out &) = delete;
+    Out &operator=(const Out &) = delete;
+    ~Out() { value = static_cast<Value>(word); }
+
+    operator std::uint32_t *() noexcept { return &word; }
+
+private:
+    Value &value;
+    std::uint32_t word = 0;
+};
 
 // The elements of a container. Those of an empty one may be at null, which g1.h does not allow.
 template <typename Container> auto elements(Container &container) noexcept {
@@ -100,9 +114,9 @@ public:
         return internal::code(g1_open(get(), &counts, hot, ring));
     }
 
-    // g1_store: returns a kind or a code.
-    std::uint32_t store(std::uint32_t slot, std::uint32_t target) noexcept {
-        return g1_store(get(), slot, target);
+    // g1_store
+    g1_code store(std::uint32_t slot, std::uint32_t target, g1_kind &kind) noexcept {
+        return internal::code(g1_store(get(), slot, target, internal::Out(kind)));
     }
 
     // g1_store_all
@@ -133,11 +147,9 @@ public:
         return internal::code(g1_target(get(), slot, &target));
     }
 
-    // g1_is_pending: sets `pending`, to false if the call is refused.
-    [[nodiscard]] g1_code is_pending(std::uint32_t card, bool &pending) noexcept {
-        const std::uint32_t word = g1_is_pending(get(), card);
-        pending = word == 1;
-        return word <= 1 ? G1_DONE : internal::code(word);
+    // g1_is_pending
+    g1_code is_pending(std::uint32_t card, bool &pending) noexcept {
+        return internal::code(g1_is_pending(get(), card, internal::Out(pending)));
     }
 
     // g1_status
@@ -167,11 +179,32 @@ public:
 
 // A member of a heap that stores. A thread moves it into a local, and back before a pause. If it is
 // destroyed while it is open, its heap can't be paused any more.
-class Racer : public Moved<g1_member> {
+class Racer : public Moved<g1_racer> {
 public:
-    // g1_race_store: returns a kind or a code.
-    [[nodiscard]] std::uint32_t store(std::uint32_t slot, std::uint32_t target) noexcept {
-        return g1_race_store(get(), slot, target);
+    // g1_race_store
+    [[nodiscard]] g1_code store(std::uint32_t slot, std::uint32_t target, g1_kind &kind) noexcept {
+        return internal::code(g1_race_store(get(), slot, target, internal::Out(kind)));
+    }
+
+    // g1_race_swap
+    [[nodiscard]] g1_code swap(std::uint32_t slot, std::uint32_t target, std::uint32_t &old,
+                               g1_kind &kind) noexcept {
+        return internal::code(g1_race_swap(get(), slot, target, &old, internal::Out(kind)));
+    }
+
+    // g1_race_compare_exchange
+    [[nodiscard]] g1_code compare_exchange(std::uint32_t slot, std::uint32_t expected,
+                                           std::uint32_t target, std::uint32_t &found,
+                                           g1_kind &kind) noexcept {
+        return internal::code(g1_race_compare_exchange(get(), slot, expected, target, &found,
+                                                       internal::Out(kind)));
+    }
+
+    // g1_race_store_all
+    template <typename Stores>
+    [[nodiscard]] g1_code store_all(const Stores &stores, std::size_t &stored) noexcept {
+        return internal::code(
+            g1_race_store_all(get(), internal::elements(stores), std::size(stores), &stored));
     }
 
     // g1_race_store_data
@@ -188,7 +221,7 @@ public:
 
 // A member of a heap that refines. A thread moves it into a local, and back before a pause. If it
 // is destroyed while it is open, its heap can't be paused any more.
-class Sweeper : public Moved<g1_member> {
+class Sweeper : public Moved<g1_sweeper> {
 public:
     // g1_race_refine
     g1_code refine(std::uint32_t card) noexcept {
@@ -199,11 +232,11 @@ public:
 // The handles of a container of racers or of sweepers in an array, as g1.h (and g1_refiner.h) takes
 // them. They are in the array from its beginning on, and at its end they are their owners' again.
 // If the container has more members than `most`, none of its handles is in the array.
-template <typename Members, std::size_t most> class Row {
+template <typename Members, typename Handle, std::size_t most> class Row {
 public:
     explicit Row(Members &owners) noexcept : members(owners) {
         if (fits()) {
-            g1_member *handle = handles;
+            Handle *handle = handles;
             for (auto &member : members) {
                 *handle++ = member.release();
             }
@@ -215,7 +248,7 @@ public:
 
     ~Row() {
         if (fits()) {
-            const g1_member *handle = handles;
+            const Handle *handle = handles;
             for (auto &member : members) {
                 member.reset(*handle++);
             }
@@ -224,23 +257,21 @@ public:
 
     bool fits() const noexcept { return std::size(members) <= most; }
     std::size_t size() const noexcept { return std::size(members); }
-    g1_member *data() noexcept { return handles; }
+    Handle *data() noexcept { return handles; }
 
 private:
     Members &members;
-    g1_member handles[most]{};
+    Handle handles[most]{};
 };
 
-template <typename Racers> using RacerRow = Row<Racers, G1_RACERS>;
-template <typename Sweepers> using SweeperRow = Row<Sweepers, G1_SWEEPERS>;
+template <typename Racers> using RacerRow = Row<Racers, g1_racer, G1_RACERS>;
+template <typename Sweepers> using SweeperRow = Row<Sweepers, g1_sweeper, G1_SWEEPERS>;
 
 namespace internal {
 
 // Makes a call that takes all members, or refuses more of them than an array here holds.
 template <typename Racers, typename Sweepers, typename Call>
 g1_code with_members(Racers &racers, Sweepers &sweepers, Call call) noexcept {
-    static_assert(std::is_same_v<decltype(*std::begin(racers)), Racer &>);
-    static_assert(std::is_same_v<decltype(*std::begin(sweepers)), Sweeper &>);
     RacerRow<Racers> racing(racers);
     SweeperRow<Sweepers> sweeping(sweepers);
     if (!racing.fits() || !sweeping.fits()) {
@@ -291,12 +322,9 @@ public:
         return internal::code(g1_heap_word(get(), slot, &word));
     }
 
-    // g1_heap_is_pending: sets `pending`, to false if the call is refused.
+    // g1_heap_is_pending
     g1_code is_pending(std::uint32_t card, bool &pending) noexcept {
-        std::uint32_t word = 0;
-        const g1_code answer = internal::code(g1_heap_is_pending(get(), card, &word));
-        pending = word == 1;
-        return answer;
+        return internal::code(g1_heap_is_pending(get(), card, internal::Out(pending)));
     }
 
     // g1_heap_status
@@ -324,10 +352,7 @@ public:
 
     // g1_heap_store
     g1_code store(std::uint32_t slot, std::uint32_t target, g1_kind &kind) noexcept {
-        std::uint32_t word = 0;
-        const g1_code answer = internal::code(g1_heap_store(get(), slot, target, &word));
-        kind = static_cast<g1_kind>(word);
-        return answer;
+        return internal::code(g1_heap_store(get(), slot, target, internal::Out(kind)));
     }
 
     // g1_heap_store_all
@@ -340,6 +365,11 @@ public:
     // g1_heap_store_data
     g1_code store_data(std::uint32_t slot, std::uint64_t word) noexcept {
         return internal::code(g1_heap_store_data(get(), slot, word));
+    }
+
+    // g1_heap_copy
+    g1_code copy(std::uint32_t from, std::uint32_t to, std::uint32_t count) noexcept {
+        return internal::code(g1_heap_copy(get(), from, to, count));
     }
 
     // g1_heap_clear

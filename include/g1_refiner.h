@@ -54,8 +54,8 @@ enum g1_queued {
 struct g1_refiner_thread {
     struct g1_refiner *refiner;
     pthread_t id;
-    struct g1_member sweeper; /* the thread's, in a local of its own, while it is running */
-    int is_running;           /* from a resume until the thread has given its sweeper back */
+    struct g1_sweeper sweeper; /* the thread's, in a local of its own, while it is running */
+    int is_running;            /* from a resume until the thread has given its sweeper back */
 };
 
 /*
@@ -96,7 +96,7 @@ static inline int g1_refiner_next(struct g1_refiner *refiner, struct g1_log *log
 }
 
 /* Private: refines logs until the thread is to stop. It has the lock, but not while it refines. */
-static inline void g1_refiner_refine(struct g1_refiner *refiner, struct g1_member *sweeper) {
+static inline void g1_refiner_refine(struct g1_refiner *refiner, struct g1_sweeper *sweeper) {
     struct g1_log log;
     while (g1_refiner_next(refiner, &log)) {
         uint32_t refined = 0, code = G1_DONE;
@@ -123,8 +123,8 @@ static inline void *g1_refiner_run(void *place) {
             pthread_cond_wait(&refiner->work, &refiner->lock);
             continue;
         }
-        struct g1_member sweeper = thread->sweeper;
-        thread->sweeper.member = NULL;
+        struct g1_sweeper sweeper = thread->sweeper;
+        thread->sweeper.sweeper = NULL;
         g1_refiner_refine(refiner, &sweeper);
         thread->sweeper = sweeper;
         thread->is_running = 0;
@@ -200,12 +200,12 @@ static inline int g1_refiner_open(struct g1_refiner *refiner, struct g1_log *log
  * Lets refinement begin. `sweepers` are open handles of sweepers, one for each thread. The threads
  * take the sweepers over, and these handles are closed. It waits for nothing but the lock.
  */
-static inline void g1_refiner_resume(struct g1_refiner *refiner, struct g1_member *sweepers) {
+static inline void g1_refiner_resume(struct g1_refiner *refiner, struct g1_sweeper *sweepers) {
     pthread_mutex_lock(&refiner->lock);
     for (size_t i = 0; i < refiner->threads_length; i++) {
         refiner->threads[i].sweeper = sweepers[i];
         refiner->threads[i].is_running = 1;
-        sweepers[i].member = NULL;
+        sweepers[i].sweeper = NULL;
     }
     refiner->running = refiner->threads_length;
     refiner->is_paused = 0;
@@ -225,7 +225,7 @@ static inline void g1_refiner_resume(struct g1_refiner *refiner, struct g1_membe
  * rest of that card's log was not refined.
  */
 static inline uint32_t g1_refiner_pause(struct g1_refiner *refiner, enum g1_queued queued,
-                                        struct g1_member *sweepers) {
+                                        struct g1_sweeper *sweepers) {
     pthread_mutex_lock(&refiner->lock);
     refiner->is_paused = 1;
     if (queued == G1_DROP_QUEUED) {
@@ -256,7 +256,7 @@ static inline uint32_t g1_refiner_pause(struct g1_refiner *refiner, enum g1_queu
  *
  * Returns G1_DONE, or the code with which g1_race_take_log refused; then nothing has changed.
  */
-static inline uint32_t g1_refiner_hand_on(struct g1_refiner *refiner, struct g1_member *racer) {
+static inline uint32_t g1_refiner_hand_on(struct g1_refiner *refiner, struct g1_racer *racer) {
     struct g1_log log;
     uint32_t code = g1_race_take_log(racer, log.cards, G1_LOG, &log.count);
     if (code != G1_DONE || log.count == 0) {
@@ -277,16 +277,16 @@ static inline uint32_t g1_refiner_hand_on(struct g1_refiner *refiner, struct g1_
 /*
  * A mutator's store: g1_race_store, and if the racer's log is full, first g1_refiner_hand_on.
  *
- * Returns what g1_race_store returns, but never G1_LOG_FULL.
+ * Returns what g1_race_store returns, but never G1_LOG_FULL; `kind` is as that call sets it.
  */
-static inline uint32_t g1_refiner_store(struct g1_refiner *refiner, struct g1_member *racer,
-                                        uint32_t slot, uint32_t target) {
-    uint32_t kind = g1_race_store(racer, slot, target);
-    if (kind != G1_LOG_FULL) {
-        return kind;
+static inline uint32_t g1_refiner_store(struct g1_refiner *refiner, struct g1_racer *racer,
+                                        uint32_t slot, uint32_t target, uint32_t *kind) {
+    uint32_t code = g1_race_store(racer, slot, target, kind);
+    if (code != G1_LOG_FULL) {
+        return code;
     }
-    uint32_t code = g1_refiner_hand_on(refiner, racer);
-    return code == G1_DONE ? g1_race_store(racer, slot, target) : code;
+    code = g1_refiner_hand_on(refiner, racer);
+    return code == G1_DONE ? g1_race_store(racer, slot, target, kind) : code;
 }
 
 #ifdef __cplusplus

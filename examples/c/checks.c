@@ -47,6 +47,27 @@ static uint32_t redirect(struct g1 *handle, uint32_t from, uint32_t to) {
     return g1_redirect(handle, from, to, &moved, refined, 65536, &refined_count);
 }
 
+// The kind of a store that is made.
+static uint32_t store(struct g1 *handle, uint32_t slot, uint32_t target) {
+    uint32_t kind = 7;
+    answers(g1_store(handle, slot, target, &kind), G1_DONE, "a store");
+    return kind;
+}
+
+// The code of a store that is refused.
+static uint32_t refused_store(struct g1 *handle, uint32_t slot, uint32_t target) {
+    uint32_t kind = 7, code = g1_store(handle, slot, target, &kind);
+    check(kind == G1_STORED_NULL, "the kind of a refused store");
+    return code;
+}
+
+// Whether a card of the heap is pending.
+static uint32_t is_pending(struct g1 *handle, uint32_t card) {
+    uint32_t pending = 7;
+    answers(g1_is_pending(handle, card, &pending), G1_DONE, "whether a card is pending");
+    return pending;
+}
+
 // What a slot refers to, or a word that is neither a place nor null where the call was refused.
 static uint32_t target_of(struct g1 *handle, uint32_t slot) {
     uint32_t target = 0;
@@ -65,7 +86,7 @@ static void closed_handles(void) {
     struct g1_totals totals = {7, 7};
     uint32_t one[1] = {0}, word = 7;
     for (int round = 0; round < 2; round++) {
-        answers(g1_store(&handle, 0, 8), G1_NOT_OPEN, "store on a closed handle");
+        answers(refused_store(&handle, 0, 8), G1_NOT_OPEN, "store on a closed handle");
         answers(g1_refine(&handle, one, 1, refined, 1, &tally), G1_NOT_OPEN, "refine on a closed handle");
         check(tally.refined == 0 && tally.hot == 0 && tally.skipped == 0, "the tally of a refused refinement");
         count = refined_count = 7;
@@ -76,7 +97,8 @@ static void closed_handles(void) {
         check(totals.pending == 0 && totals.recorded == 0, "the totals of a refused status");
         answers(g1_target(&handle, 0, &word), G1_NOT_OPEN, "target on a closed handle");
         check(word == G1_NULL, "the target of a refused call");
-        answers(g1_is_pending(&handle, 0), G1_NOT_OPEN, "is_pending on a closed handle");
+        answers(g1_is_pending(&handle, 0, &word), G1_NOT_OPEN, "is_pending on a closed handle");
+        check(word == 0, "no card of a closed handle is pending");
         count = 7;
         answers(members(&handle, 0, 65536), G1_NOT_OPEN, "members on a closed handle");
         check(count == 0, "the count of refused members");
@@ -91,7 +113,7 @@ static void closed_handles(void) {
         answers(g1_open(&handle, &small, 4, 8), G1_DONE, "open");
         check(handle.core != NULL, "an open handle has a word");
         answers(g1_open(&handle, &small, 4, 8), G1_ALREADY_OPEN, "open of an open handle");
-        answers(g1_store(&handle, 0, 8), G1_STORED_LOGGED, "the heap is new, and was not opened twice");
+        answers(store(&handle, 0, 8), G1_STORED_LOGGED, "the heap is new, and was not opened twice");
         answers(g1_close(&handle), G1_DONE, "close");
         check(handle.core == NULL, "close leaves zeros");
     }
@@ -118,28 +140,28 @@ static void counts_and_settings(void) {
     check(handle.core == NULL, "a refused open leaves zeros");
     struct g1_counts greatest = {256, 64, 64};
     answers(g1_open(&handle, &greatest, 255, 4096), G1_DONE, "a heap of 1,048,576 slots");
-    answers(g1_store(&handle, 1048575, 0), G1_STORED_LOGGED, "its last slot");
-    answers(g1_store(&handle, 1048576, 0), G1_NO_SLOT, "the slot after it");
+    answers(store(&handle, 1048575, 0), G1_STORED_LOGGED, "its last slot");
+    answers(refused_store(&handle, 1048576, 0), G1_NO_SLOT, "the slot after it");
     answers(g1_close(&handle), G1_DONE, "close of that heap");
     struct g1_counts large = {2, 65536, 1};
     answers(g1_open(&handle, &large, 255, 4096), G1_DONE, "a heap of the largest regions");
-    answers(g1_store(&handle, 131071, 65535), G1_STORED_LOGGED, "its last slot, into the other region");
-    answers(g1_store(&handle, 131071, 65536), G1_STORED_SAME_REGION, "and into its own");
-    answers(g1_store(&handle, 131072, 0), G1_NO_SLOT, "the slot after it");
+    answers(store(&handle, 131071, 65535), G1_STORED_LOGGED, "its last slot, into the other region");
+    answers(store(&handle, 131071, 65536), G1_STORED_SAME_REGION, "and into its own");
+    answers(refused_store(&handle, 131072, 0), G1_NO_SLOT, "the slot after it");
     answers(g1_close(&handle), G1_DONE, "close of the heap of the largest regions");
 }
 
 static void stores(void) {
     struct g1 handle = {0};
     answers(g1_open(&handle, &small, 4, 8), G1_DONE, "open");
-    answers(g1_store(&handle, 0, G1_NULL), G1_STORED_NULL, "null");
-    answers(g1_store(&handle, 0, 7), G1_STORED_SAME_REGION, "same region");
-    answers(g1_store(&handle, 0, 8), G1_STORED_LOGGED, "across regions");
-    answers(g1_store(&handle, 3, 31), G1_STORED_DIRTY, "across regions on a dirty card");
-    answers(g1_store(&handle, 32, 0), G1_NO_SLOT, "no such slot");
-    answers(g1_store(&handle, ALL, 0), G1_NO_SLOT, "the greatest slot");
-    answers(g1_store(&handle, 4, 32), G1_NO_SLOT, "no such target");
-    answers(g1_store(&handle, 4, ALL - 1), G1_NO_SLOT, "a target one below null");
+    answers(store(&handle, 0, G1_NULL), G1_STORED_NULL, "null");
+    answers(store(&handle, 0, 7), G1_STORED_SAME_REGION, "same region");
+    answers(store(&handle, 0, 8), G1_STORED_LOGGED, "across regions");
+    answers(store(&handle, 3, 31), G1_STORED_DIRTY, "across regions on a dirty card");
+    answers(refused_store(&handle, 32, 0), G1_NO_SLOT, "no such slot");
+    answers(refused_store(&handle, ALL, 0), G1_NO_SLOT, "the greatest slot");
+    answers(refused_store(&handle, 4, 32), G1_NO_SLOT, "no such target");
+    answers(refused_store(&handle, 4, ALL - 1), G1_NO_SLOT, "a target one below null");
     answers(drain(&handle, 1), G1_DONE, "drain");
     check(count == 1 && cards[0] == 0, "the card that refers into region 1");
     check(refined_count == 1 && refined[0] == 0, "and it alone was pending");
@@ -188,7 +210,7 @@ static void rooms(void) {
     struct g1_tally tally;
     uint32_t log[257] = {0};
     answers(g1_open(&handle, &small, 4, 8), G1_DONE, "open");
-    g1_store(&handle, 0, 8);
+    store(&handle, 0, 8);
     answers(drain(&handle, 4), G1_NO_REGION, "no such region");
     answers(drain(&handle, ALL), G1_NO_REGION, "the greatest region");
     answers(g1_drain(&handle, 1, cards, 7, &count, refined, 8, &refined_count), G1_NO_ROOM, "room for 7 of 8 cards");
@@ -200,7 +222,7 @@ static void rooms(void) {
     answers(g1_refine(&handle, log, 2, refined, 2, &tally), G1_NO_CARD, "no such card");
     log[1] = ALL;
     answers(g1_refine(&handle, log, 2, refined, 2, &tally), G1_NO_CARD, "the greatest card");
-    answers(g1_store(&handle, 1, 9), G1_STORED_DIRTY, "nothing of all that has refined the card");
+    answers(store(&handle, 1, 9), G1_STORED_DIRTY, "nothing of all that has refined the card");
     log[1] = 1;
     answers(g1_refine(&handle, log, 0, refined, 0, &tally), G1_DONE, "an empty log");
     check(tally.refined == 0 && tally.skipped == 0, "nothing is refined of it");
@@ -217,37 +239,39 @@ static void questions(void) {
     answers(g1_open(&handle, &small, 4, 8), G1_DONE, "open");
     check(has(&handle, 0, 0), "a new heap has nothing pending or recorded");
     check(target_of(&handle, 0) == G1_NULL && target_of(&handle, 31) == G1_NULL, "a new heap is all null");
-    g1_store(&handle, 0, 8);
-    g1_store(&handle, 1, 31);
-    g1_store(&handle, 4, 6);
-    g1_store(&handle, 9, 0);
+    store(&handle, 0, 8);
+    store(&handle, 1, 31);
+    store(&handle, 4, 6);
+    store(&handle, 9, 0);
     check(target_of(&handle, 0) == 8 && target_of(&handle, 1) == 31 && target_of(&handle, 4) == 6, "what was stored");
-    answers(g1_is_pending(&handle, 0), 1, "a card with a store across regions");
-    answers(g1_is_pending(&handle, 1), 0, "a card with a store in one region");
-    answers(g1_is_pending(&handle, 2), 1, "another card with a store across regions");
+    answers(is_pending(&handle, 0), 1, "a card with a store across regions");
+    answers(is_pending(&handle, 1), 0, "a card with a store in one region");
+    answers(is_pending(&handle, 2), 1, "another card with a store across regions");
     check(has(&handle, 2, 0), "two cards are pending, and nothing is recorded");
     answers(members(&handle, 1, 8), G1_DONE, "members before a drain");
     check(count == 0, "a pending card is not recorded yet");
     drain(&handle, 1);
     check(has(&handle, 0, 3), "card 0 is recorded for regions 1 and 3, and card 2 for region 0");
-    answers(g1_is_pending(&handle, 0), 0, "a drained card");
-    answers(g1_store(&handle, 0, G1_NULL), G1_STORED_NULL, "null in its place");
+    answers(is_pending(&handle, 0), 0, "a drained card");
+    answers(store(&handle, 0, G1_NULL), G1_STORED_NULL, "null in its place");
     check(target_of(&handle, 0) == G1_NULL, "is what the slot refers to");
     word = 7;
     answers(g1_target(&handle, 32, &word), G1_NO_SLOT, "target of no such slot");
     check(word == G1_NULL, "the target of no such slot");
     answers(g1_target(&handle, ALL, &word), G1_NO_SLOT, "target of the greatest slot");
-    answers(g1_is_pending(&handle, 8), G1_NO_CARD, "no such card is pending");
-    answers(g1_is_pending(&handle, ALL), G1_NO_CARD, "the greatest card is not pending");
+    word = 7;
+    answers(g1_is_pending(&handle, 8, &word), G1_NO_CARD, "no such card is pending");
+    check(word == 0, "whether no such card is pending");
+    answers(g1_is_pending(&handle, ALL, &word), G1_NO_CARD, "the greatest card is not pending");
     g1_close(&handle);
 }
 
 static void member_rooms(void) {
     struct g1 handle = {0};
     answers(g1_open(&handle, &small, 4, 8), G1_DONE, "open");
-    g1_store(&handle, 20, 8);
-    g1_store(&handle, 0, 8);
-    g1_store(&handle, 28, 9);
+    store(&handle, 20, 8);
+    store(&handle, 0, 8);
+    store(&handle, 28, 9);
     drain(&handle, 0);
     cards[0] = cards[1] = cards[2] = 77;
     answers(members(&handle, 1, 2), G1_NO_ROOM, "room for 2 of 3 members");
@@ -272,15 +296,15 @@ static void clears(void) {
     answers(g1_open(&handle, &small, 4, 8), G1_DONE, "open");
     answers(g1_clear(&handle, 1, &detail), G1_DONE, "clear of a set that is empty");
     check(detail == 0, "no detail of a clear that is done");
-    g1_store(&handle, 20, 9);
-    g1_store(&handle, 3, 8);
+    store(&handle, 20, 9);
+    store(&handle, 3, 8);
     answers(g1_clear(&handle, 1, &detail), G1_STILL_PENDING, "clear while cards are pending");
     check(detail == 2, "two cards are pending");
     answers(g1_clear(&handle, 2, &detail), G1_STILL_PENDING, "clear of another region");
     drain(&handle, 1);
     answers(g1_clear(&handle, 1, &detail), G1_STILL_REFERENCED, "clear while a slot refers into the region");
     check(detail == 3, "slot 3 is the least");
-    g1_store(&handle, 3, G1_NULL);
+    store(&handle, 3, G1_NULL);
     answers(g1_clear(&handle, 1, &detail), G1_STILL_REFERENCED, "clear while another slot does");
     check(detail == 20, "slot 20 is left");
     detail = 7;
@@ -288,7 +312,7 @@ static void clears(void) {
     check(detail == 0, "no detail of no such region");
     answers(g1_clear(&handle, ALL, &detail), G1_NO_REGION, "clear of the greatest region");
     check(has(&handle, 0, 2), "the refused clears left both pairs");
-    g1_store(&handle, 20, G1_NULL);
+    store(&handle, 20, G1_NULL);
     answers(g1_clear(&handle, 1, &detail), G1_DONE, "clear once no slot does");
     check(has(&handle, 0, 0), "nothing is recorded any more");
     answers(members(&handle, 1, 8), G1_DONE, "members after a clear");
@@ -300,9 +324,9 @@ static void clears(void) {
 static void redirects(void) {
     struct g1 handle = {0};
     answers(g1_open(&handle, &small, 4, 8), G1_DONE, "open");
-    g1_store(&handle, 20, 9);
-    g1_store(&handle, 3, 8);
-    g1_store(&handle, 9, 10);
+    store(&handle, 20, 9);
+    store(&handle, 3, 8);
+    store(&handle, 9, 10);
     answers(redirect(&handle, 1, 1), G1_SAME_REGION, "redirect from a region to itself");
     answers(redirect(&handle, 4, 1), G1_NO_REGION, "redirect from no such region");
     answers(redirect(&handle, 1, 4), G1_NO_REGION, "redirect to no such region");
@@ -334,8 +358,8 @@ static void ring(void) {
     struct g1_tally tally;
     uint32_t log[2] = {0, 1};
     answers(g1_open(&handle, &small, 0, 1), G1_DONE, "open");
-    g1_store(&handle, 0, 8);
-    g1_store(&handle, 4, 8);
+    store(&handle, 0, 8);
+    store(&handle, 4, 8);
     answers(g1_refine(&handle, log, 2, refined, 2, &tally), G1_DONE, "two hot cards, and a ring of one");
     check(tally.hot == 2 && tally.refined == 1 && refined[0] == 0, "the first is pushed out");
     answers(drain(&handle, 1), G1_DONE, "drain of a ring");
@@ -439,7 +463,7 @@ static void random_calls(long calls) {
     struct g1 handle = {0};
     struct g1_counts counts = {REGIONS, CARDS, SLOTS};
     struct g1_tally tally;
-    uint32_t log[G1_LOG], length = 0;
+    uint32_t log[G1_LOG], length = 0, kind, pending;
     long drains = 0, refinements = 0, refusals = 0, wrong = 0, answered = 0;
     answers(g1_open(&handle, &counts, 2, 6), G1_DONE, "open");
     memset(table, 255, sizeof table);
@@ -464,11 +488,11 @@ static void random_calls(long calls) {
                 length = 0;
             }
         } else if (choice < 20) {
-            wrong += g1_store(&handle, ALL_SLOTS + below(1000), below(ALL_SLOTS)) != G1_NO_SLOT;
+            wrong += g1_store(&handle, ALL_SLOTS + below(1000), below(ALL_SLOTS), &kind) != G1_NO_SLOT;
             refusals++;
         } else {
             uint32_t slot = below(ALL_SLOTS), target = choice < 250 ? G1_NULL : below(ALL_SLOTS);
-            uint32_t kind = g1_store(&handle, slot, target);
+            wrong += g1_store(&handle, slot, target, &kind) != G1_DONE;
             table[slot] = target;
             if (target == G1_NULL) {
                 wrong += kind != G1_STORED_NULL;
@@ -478,8 +502,8 @@ static void random_calls(long calls) {
                 wrong += kind != G1_STORED_DIRTY && kind != G1_STORED_LOGGED;
                 held[slot / SLOTS][region_of(target)] = 1;
             }
-            wrong += kind == G1_STORED_LOGGED && g1_is_pending(&handle, slot / SLOTS) != 1;
             if (kind == G1_STORED_LOGGED) {
+                wrong += g1_is_pending(&handle, slot / SLOTS, &pending) != G1_DONE || pending != 1;
                 log[length++] = slot / SLOTS;
             }
         }
@@ -494,11 +518,11 @@ static void random_calls(long calls) {
     check(calls < 100000 || (drains > 100 && answered > 1000 && refinements > 100), "random calls of every sort");
 }
 
-// Words from 8 to the last code are codes, and of those below just three.
+// The words up to G1_FULL are codes, and those from G1_NOT_OPEN on except 21.
 static void texts(void) {
     const char *none = g1_code_text(UINT32_MAX);
     for (uint32_t code = 0; code < 40; code++) {
-        int is_code = code == G1_DONE || code == G1_SHORT || code == G1_STOPPED || (code >= G1_NOT_OPEN && code <= G1_BAD_WORD);
+        int is_code = code <= G1_FULL || (code >= G1_NOT_OPEN && code <= G1_BAD_WORD && code != 21);
         check((strcmp(g1_code_text(code), none) != 0) == is_code, "each code has a text, and no other word has one");
     }
     check(strcmp(g1_code_text(G1_LOG_FULL), "the racer's log is full") == 0, "the text of a full log");

@@ -16,7 +16,9 @@ static uint32_t handed_over[G1_LOG];
 __attribute__((noinline)) static size_t run(struct g1 *heap, size_t stores) {
     size_t sum = 0;
     for (size_t i = 0; i < stores; i++) {
-        sum += g1_store(heap, slots[i], targets[i]);
+        uint32_t kind;
+        sum += g1_store(heap, slots[i], targets[i], &kind);
+        sum += kind;
     }
     return sum;
 }
@@ -25,7 +27,8 @@ __attribute__((noinline)) static size_t run_queued(struct g1 *heap, size_t store
     uint32_t queue[G1_LOG];
     size_t length = 0, sum = 0;
     for (size_t i = 0; i < stores; i++) {
-        uint32_t kind = g1_store(heap, slots[i], targets[i]);
+        uint32_t kind;
+        sum += g1_store(heap, slots[i], targets[i], &kind);
         sum += kind;
         if (kind == G1_STORED_LOGGED) {
             queue[length++] = slots[i] / SLOTS;
@@ -47,18 +50,22 @@ __attribute__((noinline)) static size_t run_drain(struct g1 *heap) {
     return code == G1_DONE ? refined_count : 0;
 }
 
+// Stores one reference on each of these cards.
+static void store_across(struct g1 *heap, size_t cards_length) {
+    for (uint32_t i = 0; i < cards_length; i++) {
+        uint32_t kind;
+        g1_store(heap, i * SLOTS, (i * SLOTS + ALL_SLOTS / 2) % ALL_SLOTS, &kind);
+    }
+}
+
 // Makes cards pending whose references are recorded.
 static size_t drain(struct g1 *heap, size_t pending) {
-    for (uint32_t i = 0; i < ALL_CARDS; i++) {
-        g1_store(heap, i * SLOTS, (i * SLOTS + ALL_SLOTS / 2) % ALL_SLOTS);
-    }
+    store_across(heap, ALL_CARDS);
     uint32_t count, refined_count;
     if (g1_drain(heap, 0, cards, ALL_CARDS, &count, refined, ALL_CARDS, &refined_count) != G1_DONE) {
         return 0;
     }
-    for (uint32_t i = 0; i < pending; i++) {
-        g1_store(heap, i * SLOTS, (i * SLOTS + ALL_SLOTS / 2) % ALL_SLOTS);
-    }
+    store_across(heap, pending);
     return run_drain(heap);
 }
 
@@ -67,7 +74,8 @@ static void set_up(struct g1 *heap, uint32_t kind) {
         slots[i] = i * SLOTS;
         targets[i] = (slots[i] + ALL_SLOTS / 2) % ALL_SLOTS;
         if (kind == G1_STORED_DIRTY) {
-            g1_store(heap, slots[i], targets[i]);
+            uint32_t first;
+            g1_store(heap, slots[i], targets[i], &first);
         } else if (kind == G1_STORED_NULL) {
             targets[i] = G1_NULL;
         } else if (kind == G1_STORED_SAME_REGION) {

@@ -16,8 +16,8 @@ int main(void) {
     // a thread's dirty card queue
     uint32_t queue[G1_LOG];
     size_t length = 0;
-    uint32_t slot = 0, target = 8;
-    if (g1_store(&heap, slot, target) == G1_STORED_LOGGED) {
+    uint32_t slot = 0, target = 8, kind;
+    if (g1_store(&heap, slot, target, &kind) == G1_DONE && kind == G1_STORED_LOGGED) {
         queue[length++] = slot / SLOTS;
     }
     if (length == G1_LOG) {

@@ -5,9 +5,9 @@
 #include <stdio.h>
 #include <string.h>
 
-// Three heaps of two racers and two sweepers, and a closed handle: each place of a pause gets each
-// of these choices.
-enum { HEAPS = 3, EACH = 2, MEMBERS = 2 * EACH, CLOSED = HEAPS * MEMBERS, CHOICES = CLOSED + 1 };
+// Three heaps of two racers and two sweepers. Each place of a pause gets each racer, or each
+// sweeper, of all of them, and a closed handle.
+enum { HEAPS = 3, EACH = 2, PLACES = 2 * EACH, CLOSED = HEAPS * EACH, CHOICES = CLOSED + 1 };
 
 static unsigned passed, failed;
 
@@ -30,17 +30,10 @@ static void answers(uint32_t answer, uint32_t expected, const char *what) {
 // Heaps of different sizes: region 1 begins at slot 1, 8 and 4096.
 static const struct g1_counts counts[HEAPS] = {{2, 1, 1}, {4, 2, 4}, {256, 256, 16}};
 
-// The racers of each heap and then its sweepers, heap by heap; the last one stays closed.
-static struct g1_member members[CHOICES];
+// The racers and the sweepers of all heaps, heap by heap; the last of each stay closed.
+static struct g1_racer all_racers[CHOICES];
+static struct g1_sweeper all_sweepers[CHOICES];
 static struct g1_heap heaps[HEAPS];
-
-static struct g1_member *racers_of(int heap) {
-    return members + heap * MEMBERS;
-}
-
-static struct g1_member *sweepers_of(int heap) {
-    return racers_of(heap) + EACH;
-}
 
 static uint64_t bit(uint32_t code, int holds) {
     return holds ? UINT64_C(1) << code : 0;
@@ -53,9 +46,8 @@ static uint64_t refusals(int heap, const int *chosen, int racers, int all) {
     for (int i = 0; i < all; i++) {
         int is_open = chosen[i] != CLOSED;
         codes |= bit(G1_NOT_OPEN, !is_open);
-        codes |= bit(G1_OTHER_ROLE, is_open && (chosen[i] % MEMBERS >= EACH) != (i >= racers));
-        codes |= bit(G1_OTHER_RACE, is_open && chosen[i] / MEMBERS != heap);
-        for (int j = 0; j < i; j++) {
+        codes |= bit(G1_OTHER_RACE, is_open && chosen[i] / EACH != heap);
+        for (int j = i < racers ? 0 : racers; j < i; j++) {
             codes |= bit(G1_OTHER_RACE, is_open && chosen[i] == chosen[j]);
         }
     }
@@ -64,19 +56,26 @@ static uint64_t refusals(int heap, const int *chosen, int racers, int all) {
 
 // Whether the pause is refused as it is to be, with the handles as they were.
 static int is_refused(int heap, const int *chosen, int racers, int all, uint64_t codes) {
-    struct g1_member given[MEMBERS] = {{0}}, before[MEMBERS];
-    for (int i = 0; i < all; i++) {
-        given[i] = members[chosen[i]];
+    struct {
+        struct g1_racer racers[PLACES];
+        struct g1_sweeper sweepers[PLACES];
+    } given = {0}, before;
+    for (int i = 0; i < racers; i++) {
+        given.racers[i] = all_racers[chosen[i]];
     }
-    memcpy(before, given, sizeof given);
-    size_t some = (size_t)racers, few = (size_t)(all - racers);
-    uint32_t answer = g1_heap_pause(&heaps[heap], given, some, given + racers, few);
-    return memcmp(before, given, sizeof given) == 0 && answer < 64 && (codes & bit(answer, 1)) != 0;
+    for (int i = racers; i < all; i++) {
+        given.sweepers[i - racers] = all_sweepers[chosen[i]];
+    }
+    memcpy(&before, &given, sizeof given);
+    uint32_t answer = g1_heap_pause(&heaps[heap], given.racers, (size_t)racers, given.sweepers,
+                                    (size_t)(all - racers));
+    int are_same = memcmp(&before, &given, sizeof given) == 0;
+    return are_same && answer < 64 && (codes & bit(answer, 1)) != 0;
 }
 
 // Every choice of members for these numbers of racers and sweepers, but for those of a pause.
 static void mix(int heap, int racers, int sweepers) {
-    int chosen[MEMBERS] = {0}, all = racers + sweepers, at;
+    int chosen[PLACES] = {0}, all = racers + sweepers, at;
     unsigned refused = 0, wrong = 0, whole = 0;
     do {
         uint64_t codes = refusals(heap, chosen, racers, all);
@@ -95,13 +94,21 @@ static void mix(int heap, int racers, int sweepers) {
     check(whole == (racers == EACH && sweepers == EACH ? 4 : 0), "four orders of its members");
 }
 
+// Stores a reference into another region, from a clean card.
+static void stores(struct g1_racer *racer, uint32_t slot, uint32_t target) {
+    uint32_t kind = 7;
+    answers(g1_race_store(racer, slot, target, &kind), G1_DONE, "a store");
+    check(kind == G1_STORED_LOGGED, "it is logged");
+}
+
 static void open_heaps(void) {
     for (int heap = 0; heap < HEAPS; heap++) {
-        struct g1_member *racers = racers_of(heap), *sweepers = sweepers_of(heap);
+        struct g1_racer *racers = all_racers + heap * EACH;
+        struct g1_sweeper *sweepers = all_sweepers + heap * EACH;
         const uint32_t region_1 = counts[heap].cards * counts[heap].slots;
         answers(g1_heap_open(&heaps[heap], &counts[heap], EACH, EACH), G1_DONE, "open");
         answers(g1_heap_resume(&heaps[heap], racers, EACH, sweepers, EACH), G1_DONE, "resume");
-        answers(g1_race_store(racers, 0, region_1), G1_STORED_LOGGED, "a store");
+        stores(racers, 0, region_1);
         answers(g1_race_refine(sweepers, 0), G1_DONE, "a refinement");
     }
 }
@@ -111,11 +118,12 @@ static void pause_heaps(void) {
     for (int heap = 0; heap < HEAPS; heap++) {
         struct g1_heap *handle = &heaps[heap];
         const uint32_t region_1 = counts[heap].cards * counts[heap].slots;
-        struct g1_member racers[EACH] = {racers_of(heap)[1], racers_of(heap)[0]};
-        struct g1_member sweepers[EACH] = {sweepers_of(heap)[1], sweepers_of(heap)[0]};
-        answers(g1_race_store(racers, region_1, 0), G1_STORED_LOGGED, "a store behind pauses");
+        const int first = heap * EACH;
+        struct g1_racer racers[EACH] = {all_racers[first + 1], all_racers[first]};
+        struct g1_sweeper sweepers[EACH] = {all_sweepers[first + 1], all_sweepers[first]};
+        stores(racers, region_1, 0);
         answers(g1_heap_pause(handle, racers, EACH, sweepers, EACH), G1_DONE, "the pause");
-        check(racers[0].member == NULL && sweepers[1].member == NULL, "members are closed");
+        check(racers[0].racer == NULL && sweepers[1].sweeper == NULL, "members are closed");
         uint32_t target, card, count, pending;
         answers(g1_heap_target(handle, 0, &target), G1_DONE, "target");
         check(target == region_1, "what was stored before");
@@ -133,7 +141,7 @@ int main(void) {
     open_heaps();
     for (int heap = 0; heap < HEAPS; heap++) {
         for (int racers = 1; racers <= 3; racers++) {
-            for (int sweepers = 1; racers + sweepers <= MEMBERS; sweepers++) {
+            for (int sweepers = 1; racers + sweepers <= PLACES; sweepers++) {
                 mix(heap, racers, sweepers);
             }
         }

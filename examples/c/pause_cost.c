@@ -18,7 +18,8 @@ enum { CARDS = 256, SLOTS = 16, REGION_SLOTS = CARDS * SLOTS, CALLS = 6 };
 static uint32_t regions, all_cards, all_slots, wrong;
 static uint32_t *cards;
 static struct g1_heap heap;
-static struct g1_member racer, sweeper;
+static struct g1_racer racer;
+static struct g1_sweeper sweeper;
 
 static double seconds(clockid_t clock) {
     struct timespec now;
@@ -56,13 +57,13 @@ static void close_heap(void) {
 
 // Stores, and refines the log that is full then, or lets it go.
 static unsigned long store(uint32_t slot, uint32_t target, int refines) {
-    uint32_t log[G1_LOG], count = 0;
-    uint32_t kind = g1_race_store(&racer, slot, target);
-    if (kind == G1_LOG_FULL) {
+    uint32_t log[G1_LOG], count = 0, kind;
+    uint32_t code = g1_race_store(&racer, slot, target, &kind);
+    if (code == G1_LOG_FULL) {
         wrong += g1_race_take_log(&racer, log, G1_LOG, &count) != G1_DONE;
-        kind = g1_race_store(&racer, slot, target);
+        code = g1_race_store(&racer, slot, target, &kind);
     }
-    wrong += kind > G1_STORED_LOGGED;
+    wrong += code != G1_DONE;
     for (uint32_t i = 0; refines && i < count; i++) {
         wrong += g1_race_refine(&sweeper, log[i]) != G1_DONE;
     }

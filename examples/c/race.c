@@ -28,9 +28,9 @@ struct log {
     uint32_t count;
 };
 
-// A thread, with the place of its handle while it does not run.
+// A thread, with the number of its racer or sweeper.
 struct seat {
-    struct g1_member *member;
+    size_t number;
     uint64_t state;
     unsigned wrong;
 };
@@ -43,7 +43,8 @@ static unsigned taken, put, dropped;
 static int over;
 
 static struct g1_heap heap;
-static struct g1_member racers[RACERS], sweepers[SWEEPERS];
+static struct g1_racer racers[RACERS]; // a thread has its own in a local until it ends
+static struct g1_sweeper sweepers[SWEEPERS];
 static long stores = 20000;
 
 static uint32_t below(uint64_t *state, uint32_t most) {
@@ -54,9 +55,9 @@ static uint32_t below(uint64_t *state, uint32_t most) {
 }
 
 // Hands the log of a racer on.
-static void hand_on(struct g1_member *member, unsigned *wrong) {
+static void hand_on(struct g1_racer *racer, unsigned *wrong) {
     struct log log;
-    *wrong += g1_race_take_log(member, log.cards, G1_LOG, &log.count) != G1_DONE;
+    *wrong += g1_race_take_log(racer, log.cards, G1_LOG, &log.count) != G1_DONE;
     pthread_mutex_lock(&lock);
     if (put - taken < LOGS) {
         logs[put++ % LOGS] = log;
@@ -68,21 +69,21 @@ static void hand_on(struct g1_member *member, unsigned *wrong) {
 
 static void *mutate(void *place) {
     struct seat *seat = place;
-    struct g1_member member = *seat->member;
+    struct g1_racer racer = racers[seat->number];
     uint64_t state = seat->state;
     unsigned wrong = 0;
     for (long i = 0; i < stores; i++) {
         uint32_t slot = below(&state, ALL_SLOTS);
         uint32_t target = below(&state, 8) == 0 ? G1_NULL : below(&state, ALL_SLOTS);
-        uint32_t kind = g1_race_store(&member, slot, target);
-        if (kind == G1_LOG_FULL) {
-            hand_on(&member, &wrong);
-            kind = g1_race_store(&member, slot, target);
+        uint32_t kind, code = g1_race_store(&racer, slot, target, &kind);
+        if (code == G1_LOG_FULL) {
+            hand_on(&racer, &wrong);
+            code = g1_race_store(&racer, slot, target, &kind);
         }
-        wrong += kind > G1_STORED_LOGGED;
+        wrong += code != G1_DONE;
     }
-    hand_on(&member, &wrong);
-    *seat->member = member;
+    hand_on(&racer, &wrong);
+    racers[seat->number] = racer;
     seat->state = state;
     seat->wrong += wrong;
     return NULL;
@@ -90,7 +91,7 @@ static void *mutate(void *place) {
 
 static void *refine_logs(void *place) {
     struct seat *seat = place;
-    struct g1_member member = *seat->member;
+    struct g1_sweeper sweeper = sweepers[seat->number];
     struct log log;
     for (int goes_on = 1; goes_on;) {
         pthread_mutex_lock(&lock);
@@ -101,10 +102,10 @@ static void *refine_logs(void *place) {
         goes_on = found || !over;
         pthread_mutex_unlock(&lock);
         for (uint32_t i = 0; found && i < log.count; i++) {
-            seat->wrong += g1_race_refine(&member, log.cards[i]) != G1_DONE;
+            seat->wrong += g1_race_refine(&sweeper, log.cards[i]) != G1_DONE;
         }
     }
-    *seat->member = member;
+    sweepers[seat->number] = sweeper;
     return NULL;
 }
 
@@ -172,7 +173,7 @@ int main(int number, char **words) {
     stores = number > 1 ? atol(words[1]) : stores;
     unsigned cycles = number > 2 ? (unsigned)atol(words[2]) : 10;
     for (unsigned i = 0; i < RACERS + SWEEPERS; i++) {
-        seats[i].member = i < RACERS ? &racers[i] : &sweepers[i - RACERS];
+        seats[i].number = i < RACERS ? i : i - RACERS;
         seats[i].state = 88172645463325252u + i * 1000003u;
     }
     unsigned wrong = g1_heap_open(&heap, &counts, RACERS, SWEEPERS) != G1_DONE;

@@ -1,8 +1,8 @@
 // Each call of heaps whose stores race, beside tables of the program's own: `race_checks [CALLS]`.
 //
 // The calls have random arguments: numbers that a heap does not have, closed handles, handles of
-// the other role or of another heap, too many or too few of them, one twice, and arrays without
-// room. A refused call has to return a code that is so, and to change nothing.
+// another heap, too many or too few of them, one twice, and arrays without room. A refused call has
+// to return a code that is so, and to change nothing.
 #include "g1.h"
 
 #include <stdio.h>
@@ -11,16 +11,17 @@
 
 enum { REGIONS = 4, CARDS = 2, SLOTS = 4, REGION_SLOTS = CARDS * SLOTS };
 enum { ALL_CARDS = REGIONS * CARDS, ALL_SLOTS = ALL_CARDS * SLOTS };
-enum { HEAPS = 2, EACH = 2, MEMBERS = 2 * EACH, MOST = EACH + 1 };
+enum { HEAPS = 2, EACH = 2, MOST = EACH + 1, BATCH = 4 };
 
 struct log {
     uint32_t count, cards[G1_LOG];
 };
 
-// A heap, and what it has to have. Its racers' handles come first, and its sweepers' from EACH on.
+// A heap, and what it has to have.
 struct heap {
     struct g1_heap handle;
-    struct g1_member members[MEMBERS];
+    struct g1_racer racing[EACH];
+    struct g1_sweeper sweeping[EACH];
     int is_open, is_racing;
     uint32_t racers, sweepers;
     uint64_t words[ALL_SLOTS];
@@ -199,34 +200,40 @@ static void close_heap(struct heap *heap) {
     }
 }
 
-// Handles for a resume or a pause, and where they come from: the number of a member of all heaps,
-// or -1 for a closed one.
+// Handles for a resume or a pause, and where they come from: the number of a racer, or of a
+// sweeper, of all heaps, or -1 for a closed one.
 struct given {
-    struct g1_member members[2][MOST];
+    struct g1_racer racers[MOST];
+    struct g1_sweeper sweepers[MOST];
     int from[2][MOST];
     size_t lengths[2];
 };
 
-static struct g1_member *member_at(int number) {
-    return &heaps[number / MEMBERS].members[number % MEMBERS];
+// Puts a handle at a place of a row of racers (0) or of sweepers (1), and where it comes from.
+static void put_in(struct given *given, int role, int place, int from) {
+    const struct heap *heap = &heaps[from < 0 ? 0 : from / EACH];
+    if (role == 0 && from >= 0) {
+        given->racers[place] = heap->racing[from % EACH];
+    } else if (from >= 0) {
+        given->sweepers[place] = heap->sweeping[from % EACH];
+    }
+    int is_closed = role == 0 ? given->racers[place].racer == NULL
+                              : given->sweepers[place].sweeper == NULL;
+    given->from[role][place] = is_closed ? -1 : from;
 }
 
 // The members of a heap in some order, or as many closed handles, one in four times with something
 // else among them.
 static struct given give(const struct heap *heap, int are_closed) {
     struct given given = {.lengths = {heap->racers, heap->sweepers}};
-    int turn = (int)below(2), first = (int)(heap - heaps) * MEMBERS;
+    int turn = (int)below(2), first = (int)(heap - heaps) * EACH;
     for (int role = 0; role < 2; role++) {
         given.lengths[role] += below(16) == 0;
         given.lengths[role] -= given.lengths[role] > 0 && below(16) == 0;
         for (int i = 0; i < MOST; i++) {
-            int own = first + role * EACH + (heap->racers == EACH ? (i + turn) % EACH : i % EACH);
+            int own = first + (heap->racers == EACH ? (i + turn) % EACH : i % EACH);
             int from = are_closed ? -1 : own;
-            from = below(12) == 0 ? (int)below(HEAPS * MEMBERS + 1) - 1 : from;
-            given.from[role][i] = from >= 0 && member_at(from)->member != NULL ? from : -1;
-            if (given.from[role][i] >= 0) {
-                given.members[role][i] = *member_at(from);
-            }
+            put_in(&given, role, i, below(12) == 0 ? (int)below(HEAPS * EACH + 1) - 1 : from);
         }
     }
     return given;
@@ -251,20 +258,20 @@ static void resume(struct heap *heap) {
     size_t closed = closed_in(&given, 0) + closed_in(&given, 1);
     uint64_t refusals = at_pause(heap) | bit(G1_BAD_MEMBERS, is_bad_number(heap, &given)) |
                         bit(G1_ALREADY_OPEN, closed != given.lengths[0] + given.lengths[1]);
-    uint32_t code = g1_heap_resume(&heap->handle, given.members[0], given.lengths[0],
-                                   given.members[1], given.lengths[1]);
+    uint32_t code = g1_heap_resume(&heap->handle, given.racers, given.lengths[0], given.sweepers,
+                                   given.lengths[1]);
     if (!answers(code, refusals, "resume")) {
         check(memcmp(&given, &before, sizeof given) == 0, "the handles of a refused resume");
         return;
     }
     heap->is_racing = 1;
     for (uint32_t i = 0; i < heap->racers; i++) {
-        heap->members[i] = given.members[0][i];
-        check(heap->members[i].member != NULL, "a resume opens the racers' handles");
+        heap->racing[i] = given.racers[i];
+        check(heap->racing[i].racer != NULL, "a resume opens the racers' handles");
     }
     for (uint32_t i = 0; i < heap->sweepers; i++) {
-        heap->members[EACH + i] = given.members[1][i];
-        check(heap->members[EACH + i].member != NULL, "a resume opens the sweepers' handles");
+        heap->sweeping[i] = given.sweepers[i];
+        check(heap->sweeping[i].sweeper != NULL, "a resume opens the sweepers' handles");
     }
 }
 
@@ -273,8 +280,7 @@ static uint64_t refusals_of(const struct heap *heap, const struct given *given, 
     uint64_t refusals = bit(G1_NOT_OPEN, closed_in(given, role) > 0);
     for (size_t i = 0; i < given->lengths[role]; i++) {
         int from = given->from[role][i];
-        refusals |= bit(G1_OTHER_ROLE, from >= 0 && from % MEMBERS / EACH != role);
-        refusals |= bit(G1_OTHER_RACE, from >= 0 && &heaps[from / MEMBERS] != heap);
+        refusals |= bit(G1_OTHER_RACE, from >= 0 && &heaps[from / EACH] != heap);
         for (size_t j = 0; j < i; j++) {
             refusals |= bit(G1_OTHER_RACE, from >= 0 && from == given->from[role][j]);
         }
@@ -288,57 +294,114 @@ static void pause_heap(struct heap *heap) {
                         bit(G1_NOT_RACING, heap->is_open && !heap->is_racing) |
                         bit(G1_BAD_MEMBERS, is_bad_number(heap, &given)) |
                         refusals_of(heap, &given, 0) | refusals_of(heap, &given, 1);
-    uint32_t code = g1_heap_pause(&heap->handle, given.members[0], given.lengths[0],
-                                  given.members[1], given.lengths[1]);
+    uint32_t code = g1_heap_pause(&heap->handle, given.racers, given.lengths[0], given.sweepers,
+                                  given.lengths[1]);
     if (!answers(code, refusals, "pause")) {
         check(memcmp(&given, &before, sizeof given) == 0, "the handles of a refused pause");
         return;
     }
     struct log logs[EACH];
-    for (int role = 0; role < 2; role++) {
-        for (size_t i = 0; i < given.lengths[role]; i++) {
-            check(given.members[role][i].member == NULL, "a pause closes the handles");
-            if (role == 0) {
-                logs[i] = heap->logs[given.from[0][i] % MEMBERS];
-            }
-        }
+    for (size_t i = 0; i < heap->racers; i++) {
+        check(given.racers[i].racer == NULL, "a pause closes the racers' handles");
+        logs[i] = heap->logs[given.from[0][i] % EACH];
+    }
+    for (size_t i = 0; i < heap->sweepers; i++) {
+        check(given.sweepers[i].sweeper == NULL, "a pause closes the sweepers' handles");
     }
     memcpy(heap->logs, logs, heap->racers * sizeof logs[0]);
     heap->is_racing = 0;
-    memset(heap->members, 0, sizeof heap->members);
+    memset(heap->racing, 0, sizeof heap->racing);
+    memset(heap->sweeping, 0, sizeof heap->sweeping);
 }
 
-// Why a member's call may be refused, whatever it is given.
-static uint64_t of_role(const struct heap *heap, int number, int role) {
-    int is_closed = heap->members[number].member == NULL;
-    return bit(G1_NOT_OPEN, is_closed) | bit(G1_OTHER_ROLE, !is_closed && number / EACH != role);
+static int is_store(uint32_t slot, uint32_t target) {
+    return is_slot(slot) && (target == G1_NULL || is_slot(target));
 }
 
-static void race_store(struct heap *heap) {
-    int number = (int)below(MEMBERS);
-    uint32_t slot = some_slot(), target = some_target();
-    uint64_t refusals = of_role(heap, number, 0) |
-                        bit(G1_NO_SLOT, !is_slot(slot) || (target != G1_NULL && !is_slot(target)));
-    struct log *log = &heap->logs[number % EACH];
-    refusals |= bit(G1_LOG_FULL, refusals == 0 && log->count == G1_LOG);
-    uint32_t kind = g1_race_store(&heap->members[number], slot, target);
-    if (refusals != 0) {
-        answers(kind, refusals, "store");
-        return;
-    }
-    check(kind == put(heap, slot, word_of(target)), "the kind of a store");
+// Why a racer's store may be refused.
+static uint64_t of_store(const struct heap *heap, uint32_t number, uint32_t slot, uint32_t target) {
+    int is_closed = heap->racing[number].racer == NULL;
+    return bit(G1_NOT_OPEN, is_closed) | bit(G1_NO_SLOT, !is_store(slot, target)) |
+           bit(G1_LOG_FULL, !is_closed && heap->logs[number].count == G1_LOG);
+}
+
+// Makes a racer's store, and returns its kind.
+static uint32_t put_by(struct heap *heap, uint32_t number, uint32_t slot, uint32_t target) {
+    struct log *log = &heap->logs[number];
+    uint32_t kind = put(heap, slot, word_of(target));
     if (kind == G1_STORED_LOGGED) {
         log->cards[log->count++] = slot / SLOTS;
     }
+    return kind;
+}
+
+static void race_store(struct heap *heap) {
+    uint32_t number = below(EACH), slot = some_slot(), target = some_target(), kind = 7;
+    uint64_t refusals = of_store(heap, number, slot, target);
+    uint32_t code = g1_race_store(&heap->racing[number], slot, target, &kind);
+    int is_made = answers(code, refusals, "store");
+    check(kind == (is_made ? put_by(heap, number, slot, target) : 0), "the kind of a store");
+}
+
+static void race_swap(struct heap *heap) {
+    uint32_t number = below(EACH), slot = some_slot(), target = some_target(), kind = 7, old = 7;
+    uint64_t refusals = of_store(heap, number, slot, target);
+    uint32_t code = g1_race_swap(&heap->racing[number], slot, target, &old, &kind);
+    int is_made = answers(code, refusals, "swap");
+    check(old == (is_made ? target_of(heap->words[slot]) : G1_NULL), "what a swap overwrites");
+    check(kind == (is_made ? put_by(heap, number, slot, target) : 0), "the kind of a swap");
+}
+
+// Expects what the slot has, or something else.
+static void race_compare_exchange(struct heap *heap) {
+    uint32_t number = below(EACH), slot = some_slot(), target = some_target(), kind = 7, found = 7;
+    uint32_t had = is_slot(slot) ? target_of(heap->words[slot]) : G1_NULL;
+    uint32_t expected = below(3) == 0 ? some_target() : had;
+    uint64_t refusals = of_store(heap, number, slot, target) |
+                        bit(G1_NO_SLOT, !is_store(slot, expected));
+    int differs = refusals == 0 && heap->words[slot] != word_of(expected);
+    uint32_t code = g1_race_compare_exchange(&heap->racing[number], slot, expected, target, &found,
+                                             &kind);
+    int is_made = answers(code, refusals | bit(G1_DIFFERS, differs), "exchange");
+    check(found == (refusals == 0 ? had : G1_NULL), "what an exchange finds");
+    check(kind == (is_made ? put_by(heap, number, slot, target) : 0), "the kind of an exchange");
+}
+
+// Fills an array with stores, and returns how many of them come before the first that names no slot
+// or target of the heap.
+static uint32_t some_stores(struct g1_reference *stores, uint32_t length) {
+    uint32_t good = 0;
+    for (uint32_t i = 0; i < length; i++) {
+        stores[i].slot = some_slot();
+        stores[i].target = some_target();
+        good += good == i && is_store(stores[i].slot, stores[i].target);
+    }
+    return good;
+}
+
+static void race_store_all(struct heap *heap) {
+    struct g1_reference stores[BATCH];
+    uint32_t number = below(EACH), length = below(BATCH + 1), made = 0;
+    uint32_t good = some_stores(stores, length);
+    uint64_t refusals = bit(G1_NOT_OPEN, heap->racing[number].racer == NULL);
+    size_t stored = 7;
+    uint32_t code = g1_race_store_all(&heap->racing[number], stores, length, &stored);
+    while (refusals == 0 && made < good && heap->logs[number].count < G1_LOG) {
+        put_by(heap, number, stores[made].slot, stores[made].target);
+        made++;
+    }
+    int is_cut = refusals == 0 && made < length, is_full = heap->logs[number].count == G1_LOG;
+    uint64_t ends = bit(G1_FULL, is_cut && is_full) | bit(G1_STOPPED, is_cut && made == good);
+    answers(code, refusals | ends, "several stores of a racer");
+    check(stored == made, "how many stores a racer made");
 }
 
 static void race_store_data(struct heap *heap) {
-    int number = (int)below(MEMBERS);
-    uint32_t slot = some_slot();
+    uint32_t number = below(EACH), slot = some_slot();
     uint64_t word = below(4) == 0 ? below(9) : G1_DATA + below(9), old = 7;
-    uint64_t refusals = of_role(heap, number, 0) | bit(G1_NO_SLOT, !is_slot(slot)) |
-                        bit(G1_BAD_WORD, word < G1_DATA);
-    uint32_t code = g1_race_store_data(&heap->members[number], slot, word, &old);
+    uint64_t refusals = bit(G1_NOT_OPEN, heap->racing[number].racer == NULL) |
+                        bit(G1_NO_SLOT, !is_slot(slot)) | bit(G1_BAD_WORD, word < G1_DATA);
+    uint32_t code = g1_race_store_data(&heap->racing[number], slot, word, &old);
     if (answers(code, refusals, "store of data")) {
         check(old == heap->words[slot], "the word that a store of data overwrites");
         put(heap, slot, word);
@@ -348,11 +411,11 @@ static void race_store_data(struct heap *heap) {
 }
 
 static void take_log(struct heap *heap) {
-    int number = (int)below(MEMBERS);
-    uint32_t cards[G1_LOG], count = 7;
+    uint32_t number = below(EACH), cards[G1_LOG], count = 7;
     size_t room = below(4) == 0 ? G1_LOG - 1 : G1_LOG;
-    uint64_t refusals = of_role(heap, number, 0) | bit(G1_NO_ROOM, room < G1_LOG);
-    uint32_t code = g1_race_take_log(&heap->members[number], cards, room, &count);
+    uint64_t refusals = bit(G1_NOT_OPEN, heap->racing[number].racer == NULL) |
+                        bit(G1_NO_ROOM, room < G1_LOG);
+    uint32_t code = g1_race_take_log(&heap->racing[number], cards, room, &count);
     if (!answers(code, refusals, "log")) {
         check(count == 0, "the count of a refused log");
         return;
@@ -364,10 +427,10 @@ static void take_log(struct heap *heap) {
 }
 
 static void race_refine(struct heap *heap) {
-    int number = (int)below(MEMBERS);
-    uint32_t card = below(ALL_CARDS + 1);
-    uint64_t refusals = of_role(heap, number, 1) | bit(G1_NO_CARD, card >= ALL_CARDS);
-    if (answers(g1_race_refine(&heap->members[number], card), refusals, "refinement")) {
+    uint32_t number = below(EACH), card = below(ALL_CARDS + 1);
+    uint64_t refusals = bit(G1_NOT_OPEN, heap->sweeping[number].sweeper == NULL) |
+                        bit(G1_NO_CARD, card >= ALL_CARDS);
+    if (answers(g1_race_refine(&heap->sweeping[number], card), refusals, "refinement")) {
         refine(heap, card);
     }
 }
@@ -408,16 +471,9 @@ static void list(struct heap *heap, int drains) {
 }
 
 static void collector_stores(struct heap *heap) {
-    struct g1_reference stores[4];
-    uint32_t length = below(5), kind = 7, good = 0;
+    struct g1_reference stores[BATCH];
+    uint32_t length = below(BATCH + 1), kind = 7, good = some_stores(stores, length);
     size_t stored = 7;
-    for (uint32_t i = 0; i < length; i++) {
-        stores[i].slot = some_slot();
-        stores[i].target = some_target();
-        int is_good = is_slot(stores[i].slot) &&
-                      (stores[i].target == G1_NULL || is_slot(stores[i].target));
-        good += good == i && is_good;
-    }
     if (length == 1) {
         uint64_t refusals = at_pause(heap) | bit(G1_NO_SLOT, heap->is_open && good == 0);
         uint32_t code = g1_heap_store(&heap->handle, stores[0].slot, stores[0].target, &kind);
@@ -442,6 +498,19 @@ static void collector_stores_data(struct heap *heap) {
                         bit(G1_BAD_WORD, word < G1_DATA);
     if (answers(g1_heap_store_data(&heap->handle, slot, word), refusals, "data")) {
         put(heap, slot, word);
+    }
+}
+
+static void copy(struct heap *heap) {
+    uint32_t from = below(ALL_SLOTS + 2), to = below(ALL_SLOTS + 2);
+    uint32_t count = below(16) == 0 ? UINT32_MAX - below(ALL_SLOTS) : below(REGION_SLOTS);
+    uint64_t words[ALL_SLOTS], end = (uint64_t)(from > to ? from : to) + count;
+    uint64_t refusals = at_pause(heap) | bit(G1_NO_SLOT, heap->is_open && end > ALL_SLOTS);
+    if (answers(g1_heap_copy(&heap->handle, from, to, count), refusals, "copy")) {
+        memcpy(words, &heap->words[from], count * sizeof words[0]);
+        for (uint32_t i = 0; i < count; i++) {
+            put(heap, to + i, words[i]);
+        }
     }
 }
 
@@ -510,7 +579,7 @@ static void refine_at_pause(struct heap *heap) {
 }
 
 static void random_call(struct heap *heap) {
-    switch (below(22)) {
+    switch (below(28)) {
     case 0: open_heap(heap); break;
     case 1: close_heap(heap); break;
     case 2: resume(heap); break;
@@ -528,38 +597,82 @@ static void random_call(struct heap *heap) {
     case 14: redirect(heap); break;
     case 15: wipe(heap); break;
     case 16: forget(heap); break;
+    case 17: copy(heap); break;
+    case 18: race_swap(heap); break;
+    case 19: race_compare_exchange(heap); break;
+    case 20: race_store_all(heap); break;
     default: race_store(heap); break;
     }
     compare(heap);
 }
 
+// With a full log each store is refused, and several stores end before the first of them.
+static void store_with_full_log(struct g1_racer *racer) {
+    static const struct g1_reference stores[] = {{0, G1_NULL}, {1, 9}};
+    uint32_t kind = 7, found = 7;
+    size_t stored = 7;
+    answers(g1_race_store(racer, 0, 9, &kind), bit(G1_LOG_FULL, 1), "a store with a full log");
+    uint32_t code = g1_race_swap(racer, 0, 9, &found, &kind);
+    answers(code, bit(G1_LOG_FULL, 1), "a swap with a full log");
+    code = g1_race_compare_exchange(racer, 0, 9, 9, &found, &kind);
+    answers(code, bit(G1_LOG_FULL, 1), "an exchange with a full log");
+    check(kind == G1_STORED_NULL && found == G1_NULL, "what is found with a full log");
+    answers(g1_race_store_all(racer, stores, 2, &stored), bit(G1_FULL, 1), "several stores then");
+    check(stored == 0, "none of them is made");
+    answers(g1_race_store_all(racer, stores, 0, &stored), 0, "no stores with a full log");
+}
+
+// Fills all but one place of a log. The first of several stores takes that, and the second is not
+// made: it is once the log is taken.
+static void fill_by_several(struct g1_racer *racer, struct g1_sweeper *sweeper) {
+    static const struct g1_reference stores[] = {{0, 8}, {SLOTS, 9}, {ALL_SLOTS, 0}};
+    uint32_t cards[G1_LOG], count, kind;
+    size_t stored = 7;
+    for (int i = 1; i < G1_LOG; i++) {
+        answers(g1_race_refine(sweeper, 0), 0, "refinement");
+        answers(g1_race_store(racer, 0, 8, &kind), 0, "a store that is logged");
+    }
+    answers(g1_race_refine(sweeper, 0), 0, "refinement");
+    answers(g1_race_store_all(racer, stores, 3, &stored), bit(G1_FULL, 1), "stores of a full log");
+    check(stored == 1, "the first of them has room in the log");
+    answers(g1_race_take_log(racer, cards, G1_LOG, &count), 0, "log");
+    check(count == G1_LOG, "it fills the log");
+    answers(g1_race_store_all(racer, stores + 1, 2, &stored), bit(G1_STOPPED, 1), "the rest");
+    check(stored == 1, "the second store of three");
+    answers(g1_race_take_log(racer, cards, G1_LOG, &count), 0, "log");
+    check(count == 1 && cards[0] == 1, "its card");
+}
+
 // Cleans and dirties one card until the racer's log is full.
 static void full_log(void) {
     struct g1_heap heap = {0};
-    struct g1_member racer = {0}, sweeper = {0};
-    uint32_t cards[G1_LOG], count;
+    struct g1_racer racer = {0};
+    struct g1_sweeper sweeper = {0};
+    uint32_t cards[G1_LOG], count, kind;
     answers(g1_heap_open(&heap, &small, 1, 1), 0, "open");
     answers(g1_heap_resume(&heap, &racer, 1, &sweeper, 1), 0, "resume");
     for (int i = 0; i < G1_LOG; i++) {
         answers(g1_race_refine(&sweeper, 0), 0, "refinement");
-        check(g1_race_store(&racer, 0, 8) == G1_STORED_LOGGED, "a store that is logged");
+        answers(g1_race_store(&racer, 0, 8, &kind), 0, "a store");
+        check(kind == G1_STORED_LOGGED, "a store that is logged");
     }
-    answers(g1_race_store(&racer, 0, 9), bit(G1_LOG_FULL, 1), "a store with a full log");
+    store_with_full_log(&racer);
     answers(g1_heap_pause(&heap, &racer, 1, &sweeper, 1), 0, "pause");
     answers(g1_heap_resume(&heap, &racer, 1, &sweeper, 1), 0, "resume");
-    answers(g1_race_store(&racer, 0, G1_NULL), bit(G1_LOG_FULL, 1), "a log over a pause");
+    answers(g1_race_store(&racer, 0, G1_NULL, &kind), bit(G1_LOG_FULL, 1), "a log over a pause");
     answers(g1_race_take_log(&racer, cards, G1_LOG, &count), 0, "log");
     check(count == G1_LOG && cards[0] == 0 && cards[G1_LOG - 1] == 0, "a full log has 256 cards");
+    fill_by_several(&racer, &sweeper);
     answers(g1_heap_pause(&heap, &racer, 1, &sweeper, 1), 0, "pause");
     answers(g1_heap_close(&heap), 0, "close");
 }
 
 static void all_codes(void) {
     static const uint32_t codes[] = {
-        G1_DONE, G1_STOPPED, G1_NOT_OPEN, G1_ALREADY_OPEN, G1_BAD_LAYOUT, G1_NO_SLOT, G1_NO_CARD,
-        G1_NO_REGION, G1_NO_ROOM, G1_SAME_REGION, G1_STILL_PENDING, G1_STILL_REFERENCED,
-        G1_OTHER_ROLE, G1_LOG_FULL, G1_BAD_MEMBERS, G1_OTHER_RACE, G1_NOT_PAUSED, G1_NOT_RACING,
-        G1_BAD_WORD};
+        G1_DONE, G1_DIFFERS, G1_STOPPED, G1_FULL, G1_NOT_OPEN, G1_ALREADY_OPEN, G1_BAD_LAYOUT,
+        G1_NO_SLOT, G1_NO_CARD, G1_NO_REGION, G1_NO_ROOM, G1_SAME_REGION, G1_STILL_PENDING,
+        G1_STILL_REFERENCED, G1_LOG_FULL, G1_BAD_MEMBERS, G1_OTHER_RACE, G1_NOT_PAUSED,
+        G1_NOT_RACING, G1_BAD_WORD};
     uint64_t all = 0;
     for (size_t i = 0; i < sizeof codes / sizeof codes[0]; i++) {
         check((seen & bit(codes[i], 1)) != 0, g1_code_text(codes[i]));
@@ -571,8 +684,7 @@ static void all_codes(void) {
 // Pauses a heap, if its members race, and closes it.
 static void end(struct heap *heap) {
     if (heap->is_racing) {
-        struct g1_member *racers = heap->members, *sweepers = racers + EACH;
-        uint32_t code = g1_heap_pause(&heap->handle, racers, heap->racers, sweepers,
+        uint32_t code = g1_heap_pause(&heap->handle, heap->racing, heap->racers, heap->sweeping,
                                       heap->sweepers);
         answers(code, 0, "the last pause");
     }

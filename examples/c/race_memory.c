@@ -13,7 +13,8 @@ enum { RACERS = 2, CARDS = 8 };
 // All that the caller keeps of the library.
 struct handles {
     struct g1_heap heap;
-    struct g1_member racers[RACERS], sweeper;
+    struct g1_racer racers[RACERS];
+    struct g1_sweeper sweeper;
 };
 
 static struct handles all;
@@ -63,7 +64,8 @@ static void pause_heap(void) {
 }
 
 static void stores(int racer, uint32_t slot, uint32_t target, uint32_t kind) {
-    expect(g1_race_store(&all.racers[racer], slot, target) == kind, "store");
+    uint32_t found = 7, code = g1_race_store(&all.racers[racer], slot, target, &found);
+    expect(code == G1_DONE && found == kind, "store");
 }
 
 // Refines a card in the race, which takes no memory.

@@ -34,7 +34,7 @@ static struct g1_heap heap;
 // The lock has these.
 static pthread_mutex_t lock = PTHREAD_MUTEX_INITIALIZER;
 static pthread_cond_t has_stopped = PTHREAD_COND_INITIALIZER, goes_on = PTHREAD_COND_INITIALIZER;
-static struct g1_member racers[MUTATORS]; // a mutator has its own in a local until it stops
+static struct g1_racer racers[MUTATORS]; // a mutator has its own in a local until it stops
 static unsigned stopped, stores, wrong;
 static int is_pausing = 1, is_over;
 
@@ -46,21 +46,21 @@ static uint32_t below(uint64_t *state, uint32_t most) {
 }
 
 // Makes stores at random, and returns how many were refused.
-static unsigned store_batch(struct g1_member *racer, uint64_t *state) {
+static unsigned store_batch(struct g1_racer *racer, uint64_t *state) {
     unsigned refused = 0;
     for (int i = 0; i < BATCH; i++) {
         uint32_t slot = below(state, ALL_SLOTS);
-        uint32_t target = below(state, 8) == 0 ? G1_NULL : below(state, ALL_SLOTS);
+        uint32_t target = below(state, 8) == 0 ? G1_NULL : below(state, ALL_SLOTS), kind;
         pthread_mutex_lock(&slot_locks[slot % LOCKS]);
         table[slot] = target;
-        refused += g1_refiner_store(&refiner, racer, slot, target) > G1_STORED_LOGGED;
+        refused += g1_refiner_store(&refiner, racer, slot, target, &kind) != G1_DONE;
         pthread_mutex_unlock(&slot_locks[slot % LOCKS]);
     }
     return refused;
 }
 
 // Waits, with the lock, until the pause is over, and takes the racer. Returns 0 at the end.
-static int wait_for_race(size_t self, struct g1_member *racer) {
+static int wait_for_race(size_t self, struct g1_racer *racer) {
     stopped++;
     pthread_cond_signal(&has_stopped);
     while (is_pausing && !is_over) {
@@ -68,12 +68,12 @@ static int wait_for_race(size_t self, struct g1_member *racer) {
     }
     stopped--;
     *racer = racers[self];
-    racers[self].member = NULL;
+    racers[self].racer = NULL;
     return !is_over;
 }
 
 // A safepoint: gives the racer back if a pause is due.
-static int safepoint(size_t self, struct g1_member *racer, unsigned refused) {
+static int safepoint(size_t self, struct g1_racer *racer, unsigned refused) {
     int is_running = 1;
     pthread_mutex_lock(&lock);
     wrong += refused;
@@ -90,7 +90,7 @@ static int safepoint(size_t self, struct g1_member *racer, unsigned refused) {
 static void *mutate(void *number) {
     size_t self = (size_t)(uintptr_t)number;
     uint64_t state = 88172645463325252u + self * 1000003u;
-    struct g1_member racer;
+    struct g1_racer racer;
     pthread_mutex_lock(&lock);
     int is_running = wait_for_race(self, &racer);
     pthread_mutex_unlock(&lock);
@@ -168,7 +168,7 @@ static void empty(void) {
 
 // Runs races with a pause after each, and returns how many cards the drains returned.
 static unsigned run(unsigned pauses) {
-    struct g1_member sweepers[SWEEPERS] = {{0}};
+    struct g1_sweeper sweepers[SWEEPERS] = {{0}};
     unsigned members = 0;
     for (unsigned i = 0; i < pauses; i++) {
         wrong += g1_heap_resume(&heap, racers, MUTATORS, sweepers, SWEEPERS) != G1_DONE;

@@ -35,7 +35,8 @@ static void check(int holds, const char *what) {
 // A heap whose cards have one slot each, so that slot n is on card n.
 static const struct g1_counts counts = {REGIONS, CARDS, 1};
 static struct g1_heap heap;
-static struct g1_member racer, sweepers[SWEEPERS];
+static struct g1_racer racer;
+static struct g1_sweeper sweepers[SWEEPERS];
 static struct g1_log logs[LOGS];
 static struct g1_refiner refiner;
 static uint64_t handed_on; // logs of one card each
@@ -43,8 +44,10 @@ static unsigned char is_stored[ALL_CARDS];
 
 // Stores a reference into the next region, and returns the kind of the store.
 static uint32_t store(uint32_t slot) {
+    uint32_t kind, target = (slot + CARDS) % ALL_CARDS;
     is_stored[slot] = 1;
-    return g1_refiner_store(&refiner, &racer, slot, (slot + CARDS) % ALL_CARDS);
+    check(g1_refiner_store(&refiner, &racer, slot, target, &kind) == G1_DONE, "a store");
+    return kind;
 }
 
 // Makes such stores from a slot on, and hands on the card of each that is logged as a log of its
@@ -62,6 +65,7 @@ static uint32_t hand_on_each(uint32_t from, uint32_t stores) {
 }
 
 static void openings(void) {
+    uint32_t kind = 7;
     check(g1_refiner_open(&refiner, logs, 0, 1) == EINVAL, "no room in the queue");
     check(g1_refiner_open(&refiner, logs, LOGS, 0) == EINVAL, "no sweeper");
     check(g1_refiner_open(&refiner, logs, LOGS, G1_SWEEPERS + 1) == EINVAL, "too many sweepers");
@@ -73,11 +77,11 @@ static void openings(void) {
     asked = refused = 0;
     check(g1_refiner_open(&refiner, logs, LOGS, SWEEPERS) == 0, "open");
     check(asked == 3 + SWEEPERS, "a lock, two conditions and a thread for each sweeper");
-    check(store(0) == G1_NOT_OPEN, "a store by a closed handle");
+    check(g1_refiner_store(&refiner, &racer, 0, 1, &kind) == G1_NOT_OPEN, "a closed handle");
+    check(kind == G1_STORED_NULL, "the kind of a refused store");
     check(g1_refiner_hand_on(&refiner, &racer) == G1_NOT_OPEN, "a log of a closed handle");
     check(g1_heap_open(&heap, &counts, 1, SWEEPERS) == G1_DONE, "the heap");
     check(g1_heap_resume(&heap, &racer, 1, sweepers, SWEEPERS) == G1_DONE, "the race");
-    check(g1_refiner_hand_on(&refiner, sweepers) == G1_OTHER_ROLE, "a log of a sweeper");
     hand_on_each(ALL_CARDS - 1, 1);
     check(refiner.dropped == 1 && handed_on == 1, "a paused refiner drops a log");
     check(g1_refiner_hand_on(&refiner, &racer) == G1_DONE, "an empty log");
@@ -86,7 +90,7 @@ static void openings(void) {
 
 static void pause_refiner(enum g1_queued queued, uint32_t code) {
     check(g1_refiner_pause(&refiner, queued, sweepers) == code, "the code of a pause");
-    check(sweepers[0].member != NULL, "a pause gives the sweeper back");
+    check(sweepers[0].sweeper != NULL, "a pause gives the sweeper back");
 }
 
 // In each round some cards are handed on: their logs are refined, dropped for want of room, or
@@ -96,10 +100,10 @@ static void rounds(void) {
         enum g1_queued way = round % 2 == 0 ? G1_REFINE_QUEUED : G1_DROP_QUEUED;
         uint64_t queued = refiner.queued, refined = refiner.refined;
         g1_refiner_resume(&refiner, sweepers);
-        check(sweepers[0].member == NULL && sweepers[1].member == NULL, "a resume takes sweepers");
+        check(sweepers[0].sweeper == NULL && sweepers[1].sweeper == NULL, "a resume takes sweepers");
         check(hand_on_each(round * STORES, STORES) == STORES, "the cards of a round are clean");
         pause_refiner(way, G1_DONE);
-        check(sweepers[1].member != NULL, "a pause gives each sweeper back");
+        check(sweepers[1].sweeper != NULL, "a pause gives each sweeper back");
         check(refiner.refined + refiner.dropped == handed_on, "each log is refined or dropped");
         queued = refiner.queued - queued;
         refined = refiner.refined - refined;
@@ -138,21 +142,19 @@ static void sleeping(void) {
     pause_refiner(G1_REFINE_QUEUED, G1_DONE);
 }
 
-// A racer in a sweeper's place is found by the pause, and refines nothing.
+// A closed handle in a sweeper's place is found by the pause, and refines nothing.
 static void refusals(void) {
-    struct g1_member racers[2] = {{0}};
+    struct g1_sweeper closed = {0};
     uint64_t before = refiner.refined;
-    check(g1_heap_open(&heap, &counts, 2, 1) == G1_DONE, "another heap");
-    check(g1_heap_resume(&heap, racers, 2, sweepers, 1) == G1_DONE, "its race");
-    racer = racers[0];
-    g1_refiner_resume(&refiner, &racers[1]);
+    check(g1_heap_open(&heap, &counts, 1, 1) == G1_DONE, "another heap");
+    check(g1_heap_resume(&heap, &racer, 1, sweepers, 1) == G1_DONE, "its race");
+    g1_refiner_resume(&refiner, &closed);
     hand_on_each(7, 1);
-    check(g1_refiner_pause(&refiner, G1_REFINE_QUEUED, &racers[1]) == G1_OTHER_ROLE, "a racer");
+    check(g1_refiner_pause(&refiner, G1_REFINE_QUEUED, &closed) == G1_NOT_OPEN, "a closed handle");
     check(refiner.refined == before && store(7) == G1_STORED_DIRTY, "the card stays dirty");
     g1_refiner_resume(&refiner, sweepers);
     pause_refiner(G1_REFINE_QUEUED, G1_DONE);
-    racers[0] = racer;
-    check(g1_heap_pause(&heap, racers, 2, sweepers, 1) == G1_DONE, "the pause of that heap");
+    check(g1_heap_pause(&heap, &racer, 1, sweepers, 1) == G1_DONE, "the pause of that heap");
     check(g1_heap_close(&heap) == G1_DONE, "its close");
 }
 

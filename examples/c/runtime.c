@@ -28,7 +28,7 @@ enum {
 
 struct mutator {
     size_t number;
-    struct g1_member racer;
+    struct g1_racer racer;
     uint32_t top; // where it allocates
     uint64_t state;
 };
@@ -42,8 +42,9 @@ static _Atomic uint32_t taken;   // regions that were taken since the start
 static uint32_t freed;           // regions of these that pauses freed
 static struct g1_heap heap;
 static struct g1_refiner refiner;
-static struct g1_member racers[MUTATORS], sweepers[SWEEPERS]; // while no thread has them
-static pthread_barrier_t all_threads; // where a pause begins, and where it ends
+static struct g1_racer racers[MUTATORS];     // while no thread has them
+static struct g1_sweeper sweepers[SWEEPERS]; // and these
+static pthread_barrier_t all_threads;        // where a pause begins, and where it ends
 static int is_over;
 
 // Of a pause. A card has a bit for each region of the collection set whose drain returned it.
@@ -87,7 +88,8 @@ static uint32_t allocate(uint32_t *top) {
 
 // The write barrier, which is the store. With numbers of the heap it is never refused.
 static void store(struct mutator *self, uint32_t slot, uint32_t target) {
-    g1_refiner_store(&refiner, &self->racer, slot, target);
+    uint32_t kind;
+    done(g1_refiner_store(&refiner, &self->racer, slot, target, &kind));
 }
 
 static uint32_t grow(struct mutator *self, uint32_t height) {
@@ -166,10 +168,7 @@ static void set(uint32_t slot, uint32_t target) {
 static uint32_t evacuate(uint32_t object) {
     if (target_of(object) == G1_NULL) {
         uint32_t copy = allocate(&survivors);
-        done(g1_heap_store_data(&heap, copy, word_of(object)));
-        for (uint32_t field = 1; field < SIZE; field++) {
-            set(copy + field, target_of(object + field));
-        }
+        done(g1_heap_copy(&heap, object, copy, SIZE));
         set(object, copy);
     }
     return target_of(object);

@@ -30,13 +30,16 @@ static _Atomic uint32_t memory[ALL_SLOTS];
 static atomic_int is_over;
 static struct g1_heap heap;
 
-// A member in a thread: its handle is here only while the thread does not run.
+// A racer in a thread: its handle is here only while the thread does not run.
 struct seat {
-    struct g1_member member;
+    struct g1_racer racer;
     uint64_t state;
     unsigned long stores, repeats;
     unsigned wrong;
 };
+
+static struct g1_sweeper sweeper;
+static unsigned refused; // of the sweeper's refinements
 
 static uint32_t below(uint64_t *state, uint32_t most) {
     *state ^= *state << 13;
@@ -46,14 +49,14 @@ static uint32_t below(uint64_t *state, uint32_t most) {
 }
 
 // Tells the library of a store. A full log is let go: its cards stay dirty.
-static unsigned tell(struct g1_member *racer, uint32_t slot, uint32_t target) {
-    uint32_t log[G1_LOG], count;
-    uint32_t kind = g1_race_store(racer, slot, target);
-    if (kind == G1_LOG_FULL) {
+static unsigned tell(struct g1_racer *racer, uint32_t slot, uint32_t target) {
+    uint32_t log[G1_LOG], count, kind;
+    uint32_t code = g1_race_store(racer, slot, target, &kind);
+    if (code == G1_LOG_FULL) {
         g1_race_take_log(racer, log, G1_LOG, &count);
-        kind = g1_race_store(racer, slot, target);
+        code = g1_race_store(racer, slot, target, &kind);
     }
-    return kind > G1_STORED_LOGGED;
+    return code != G1_DONE;
 }
 
 // Stores to memory, and tells the library until it was told what memory holds.
@@ -62,7 +65,7 @@ static void store(struct seat *seat, uint32_t slot, uint32_t target) {
     atomic_store(&memory[slot], target);
     do {
         told = target;
-        seat->wrong += tell(&seat->member, slot, told);
+        seat->wrong += tell(&seat->racer, slot, told);
         target = atomic_load(&memory[slot]);
         seat->repeats += target != told;
     } while (target != told);
@@ -79,23 +82,22 @@ static void *mutate(void *place) {
     return NULL;
 }
 
-static void *refine(void *place) {
-    struct seat seat = *(struct seat *)place;
+static void *refine(void *unused) {
+    (void)unused;
     while (!atomic_load(&is_over)) {
         for (uint32_t card = 0; card < ALL_CARDS; card++) {
-            seat.wrong += g1_race_refine(&seat.member, card) != G1_DONE;
+            refused += g1_race_refine(&sweeper, card) != G1_DONE;
         }
     }
-    *(struct seat *)place = seat;
     return NULL;
 }
 
 // Runs a race for some milliseconds.
-static void run(struct seat *racers, struct seat *sweeper) {
+static void run(struct seat *racers) {
     struct timespec some = {0, 2000000};
     pthread_t threads[RACERS], sweeping;
     atomic_store(&is_over, 0);
-    pthread_create(&sweeping, NULL, refine, sweeper);
+    pthread_create(&sweeping, NULL, refine, NULL);
     for (int i = 0; i < RACERS; i++) {
         pthread_create(&threads[i], NULL, mutate, &racers[i]);
     }
@@ -139,17 +141,17 @@ static unsigned missed(uint32_t region) {
 }
 
 // A race, and a pause that compares the library with memory.
-static unsigned cycle(struct seat *racers, struct seat *sweeper) {
-    struct g1_member racing[RACERS] = {{0}};
-    unsigned wrong = g1_heap_resume(&heap, racing, RACERS, &sweeper->member, 1) != G1_DONE;
+static unsigned cycle(struct seat *racers) {
+    struct g1_racer racing[RACERS] = {{0}};
+    unsigned wrong = g1_heap_resume(&heap, racing, RACERS, &sweeper, 1) != G1_DONE;
     for (int i = 0; i < RACERS; i++) {
-        racers[i].member = racing[i];
+        racers[i].racer = racing[i];
     }
-    run(racers, sweeper);
+    run(racers);
     for (int i = 0; i < RACERS; i++) {
-        racing[i] = racers[i].member;
+        racing[i] = racers[i].racer;
     }
-    wrong += g1_heap_pause(&heap, racing, RACERS, &sweeper->member, 1) != G1_DONE;
+    wrong += g1_heap_pause(&heap, racing, RACERS, &sweeper, 1) != G1_DONE;
     wrong += differing();
     for (uint32_t region = 0; region < REGIONS; region++) {
         wrong += missed(region);
@@ -158,7 +160,7 @@ static unsigned cycle(struct seat *racers, struct seat *sweeper) {
 }
 
 int main(int number, char **words) {
-    static struct seat racers[RACERS], sweeper;
+    static struct seat racers[RACERS];
     struct g1_counts counts = {REGIONS, CARDS, SLOTS};
     unsigned long stores = 0, repeats = 0;
     long cycles = number > 1 ? atol(words[1]) : 100;
@@ -170,14 +172,14 @@ int main(int number, char **words) {
         racers[i].state = 88172645463325252u + i * 1000003u;
     }
     for (long i = 0; i < cycles; i++) {
-        wrong += cycle(racers, &sweeper);
+        wrong += cycle(racers);
     }
     for (unsigned i = 0; i < RACERS; i++) {
         stores += racers[i].stores;
         repeats += racers[i].repeats;
         wrong += racers[i].wrong;
     }
-    wrong += sweeper.wrong + (g1_heap_close(&heap) != G1_DONE);
+    wrong += refused + (g1_heap_close(&heap) != G1_DONE);
     printf("%ld cycles of %d threads: %lu stores to %d slots, %lu told again, %u wrong\n", cycles, RACERS, stores, CONTESTED, repeats, wrong);
     int holds = wrong == 0 && stores > 0;
     printf("%d passed, %d failed\n", holds, !holds);

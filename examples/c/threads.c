@@ -57,8 +57,8 @@ static void *mutate(void *number) {
         uint32_t target = below(&state, 8) == 0 ? G1_NULL : below(&state, ALL_SLOTS);
         pthread_mutex_lock(&lock);
         table[slot] = target;
-        uint32_t kind = g1_store(&heap, slot, target);
-        wrong += kind > G1_STORED_LOGGED;
+        uint32_t kind;
+        wrong += g1_store(&heap, slot, target, &kind) != G1_DONE;
         if (kind == G1_STORED_LOGGED) {
             log[length++] = slot / SLOTS;
         }

@@ -45,9 +45,10 @@ static void cores() {
     check(heap.is_pending(0, pending) == G1_NOT_OPEN && !pending, "a closed handle");
     check(heap.open(counts, 4, 16) == G1_DONE, "open");
     check(heap.open(counts, 4, 16) == G1_ALREADY_OPEN, "open again");
-    check(heap.store(0, 64) == G1_STORED_LOGGED, "a store across regions");
+    g1_kind kind = G1_STORED_NULL;
+    check(heap.store(0, 64, kind) == G1_DONE && kind == G1_STORED_LOGGED, "a store across regions");
     Core other(std::move(heap));
-    check(heap.store(0, 64) == G1_NOT_OPEN, "a handle that was moved away");
+    check(heap.store(0, 64, kind) == G1_NOT_OPEN && kind == G1_STORED_NULL, "a moved handle");
     check(other.is_pending(0, pending) == G1_DONE && pending, "its card is pending elsewhere");
     check(other.is_pending(1, pending) == G1_DONE && !pending, "a clean card");
     check(other.is_pending(all_cards, pending) == G1_NO_CARD && !pending, "no card of the heap");
@@ -83,10 +84,12 @@ static void run(std::vector<Racer> &racers, std::vector<Sweeper> &sweepers) {
     Cards cards{};
     std::uint32_t count = 0, logged = 0;
     std::thread([&, racer = std::move(racers[0])]() mutable {
+        g1_kind kind = G1_STORED_NULL;
         for (std::uint32_t slot = 0; slot < all_cards; slot++) {
-            logged += racer.store(slot, (slot + 64) % all_cards) == G1_STORED_LOGGED;
+            check(racer.store(slot, (slot + 64) % all_cards, kind) == G1_DONE, "a store");
+            logged += kind == G1_STORED_LOGGED;
         }
-        check(racer.store(0, 1) == G1_LOG_FULL, "a full log");
+        check(racer.store(0, 1, kind) == G1_LOG_FULL, "a full log");
         check(racer.take_log(cards, count) == G1_DONE && count == G1_LOG, "its cards");
         racers[0] = std::move(racer);
     }).join();
@@ -106,11 +109,26 @@ static void refine(std::vector<Racer> &racers, std::vector<Sweeper> &sweepers) {
     check(g1_refiner_open(&refiner, logs.data(), logs.size(), sweepers.size()) == 0, "open");
     garbage_first::SweeperRow<std::vector<Sweeper>> row(sweepers);
     g1_refiner_resume(&refiner, row.data());
-    check(g1_refiner_store(&refiner, racers[1].get(), 0, 64) == G1_STORED_LOGGED, "a clean card");
+    std::uint32_t kind = 0;
+    check(g1_refiner_store(&refiner, racers[1].get(), 0, 64, &kind) == G1_DONE, "a store");
+    check(kind == G1_STORED_LOGGED, "a clean card");
     check(g1_refiner_hand_on(&refiner, racers[1].get()) == G1_DONE, "a log of one card");
     check(g1_refiner_pause(&refiner, G1_REFINE_QUEUED, row.data()) == G1_DONE, "a pause");
     check(refiner.refined == 1, "its card is refined");
     g1_refiner_close(&refiner);
+}
+
+// A racer's stores that depend on what a slot had, or are several.
+static void exchange(Racer &racer) {
+    g1_kind kind = G1_STORED_NULL;
+    std::uint32_t old = 0;
+    std::size_t stored = 0;
+    check(racer.swap(0, 65, old, kind) == G1_DONE && old == 64, "a swap");
+    check(racer.compare_exchange(0, 64, 1, old, kind) == G1_DIFFERS && old == 65, "a difference");
+    check(racer.compare_exchange(0, 65, 1, old, kind) == G1_DONE && old == 65, "an exchange");
+    check(kind == G1_STORED_SAME_REGION, "its kind");
+    const std::array<g1_reference, 3> stores{{{1, G1_NULL}, {0, 64}, {all_cards, 0}}};
+    check(racer.store_all(stores, stored) == G1_STOPPED && stored == 2, "two stores of three");
 }
 
 // A pause, with each call of the collector's.
@@ -135,7 +153,8 @@ static void collect(Heap &heap) {
     check(heap.store_all(stores, stored) == G1_STOPPED && stored == 1, "one store of two");
     check(heap.store_data(2, G1_DATA - 1) == G1_BAD_WORD, "no data");
     check(heap.store_data(2, G1_DATA) == G1_DONE, "data");
-    check(heap.word(2, word) == G1_DONE && word == G1_DATA, "its word");
+    check(heap.copy(2, 1, 1) == G1_DONE && heap.copy(2, all_cards, 1) == G1_NO_SLOT, "a copy");
+    check(heap.word(1, word) == G1_DONE && word == G1_DATA, "its word");
     check(heap.redirect(1, 2, moved) == G1_DONE && moved == 62, "a redirect");
     check(heap.target(3, detail) == G1_DONE && detail == 131, "a reference that was moved");
     check(heap.clear(1, detail) == G1_DONE, "a clear");
@@ -158,9 +177,11 @@ static void races() {
     check(heap.close() == G1_NOT_PAUSED, "a close while its members race");
     check(heap.pause(racers, crowd) == G1_BAD_MEMBERS, "too many sweepers");
     check(heap.pause(racers, sweepers) == G1_DONE, "pause");
-    check(racers[0].store(0, 1) == G1_NOT_OPEN, "a racer at a pause");
+    g1_kind kind = G1_STORED_NULL;
+    check(racers[0].store(0, 1, kind) == G1_NOT_OPEN, "a racer at a pause");
     collect(heap);
     check(heap.resume(racers, sweepers) == G1_DONE, "resume again");
+    exchange(racers[1]);
     std::uint64_t old = 0;
     check(racers[1].store_data(0, G1_DATA, old) == G1_DONE && old == 65, "data over a reference");
     const std::uint64_t *words = nullptr;

@@ -5,7 +5,7 @@
 //! evacuates the oldest. References into these are roots, or on drained cards: a scan of all fields
 //! checks that, and a full trace the evacuation.
 use ninkoda::race::{Paused, Racer, Sweeper, Word};
-use ninkoda::{Card, Cleared, Counts, Refusal};
+use ninkoda::{Card, Cleared, Counts, Refusal, Slot};
 use std::error::Error;
 use std::sync::atomic::{AtomicU32, AtomicUsize, Ordering::SeqCst};
 use std::sync::mpsc::{channel, Receiver, Sender};
@@ -239,14 +239,18 @@ impl Pause<'_> {
         Ok(())
     }
 
+    fn slot(&self, number: u32) -> Slot {
+        self.heap.slot(number).expect("a slot of the heap")
+    }
+
     fn field(&mut self, slot: u32) -> Result<u32, Refusal> {
-        let slot = self.heap.slot(slot).expect("a slot of the heap");
-        Ok(self.heap.target(slot)?.map_or(NULL, |place| place.number()))
+        let target = self.heap.target(self.slot(slot))?;
+        Ok(target.map_or(NULL, |place| place.number()))
     }
 
     fn set(&mut self, slot: u32, target: u32) -> Result<(), Refusal> {
-        let slot = self.heap.slot(slot).expect("a slot of the heap");
-        self.heap.store(slot, self.heap.slot(target)).map(drop)
+        let target = self.heap.slot(target);
+        self.heap.store(self.slot(slot), target).map(drop)
     }
 
     /// The address of an object's copy. The object is copied when it is first met.
@@ -257,10 +261,8 @@ impl Pause<'_> {
             return Ok(word & !FORWARDED);
         }
         let copy = self.runtime.allocate(&mut self.survivors, word);
-        for field in 0..FIELDS {
-            let target = self.field(object + field)?;
-            self.set(copy + field, target)?;
-        }
+        let (from, to) = (self.slot(object), self.slot(copy));
+        self.heap.copy(from, to, FIELDS)?;
         header.store(FORWARDED | copy, SeqCst);
         Ok(copy)
     }

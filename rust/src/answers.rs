@@ -13,6 +13,8 @@ pub enum Refusal {
     BadLayout,
     /// The hot limit or the size of the ring is outside its limits.
     BadSettings,
+    /// A range of slots ends behind the last one.
+    NoSlot,
     /// More than [`LOG`](crate::LOG) cards at once.
     TooManyCards,
     /// References were to be moved from a region to itself.
@@ -39,6 +41,7 @@ impl Refusal {
             library::NO_MEMORY => Refusal::NoMemory,
             library::BAD_LAYOUT => Refusal::BadLayout,
             library::BAD_SETTINGS => Refusal::BadSettings,
+            library::NO_SLOT => Refusal::NoSlot,
             library::TOO_MANY_CARDS => Refusal::TooManyCards,
             library::SAME_REGION => Refusal::SameRegion,
             library::LOG_FULL => Refusal::LogFull,
@@ -56,6 +59,7 @@ impl fmt::Display for Refusal {
             Refusal::NoMemory => "no memory",
             Refusal::BadLayout => "counts outside the limits of a heap",
             Refusal::BadSettings => "a setting outside its limits",
+            Refusal::NoSlot => "no such slot",
             Refusal::TooManyCards => "more cards than a queue has",
             Refusal::SameRegion => "the same region twice",
             Refusal::LogFull => "the log is full",
@@ -127,9 +131,19 @@ impl Kind {
             library::STORED_SAME_REGION => Ok(Kind::SameRegion),
             library::STORED_DIRTY => Ok(Kind::Dirty),
             library::STORED_LOGGED => Ok(Kind::Logged(card)),
-            word => Err(Refusal::of(word)),
+            word => Err(Refusal::Unexpected(word)),
         }
     }
+}
+
+/// What an exchange did that expected something of a slot.
+#[derive(Clone, Copy, Debug, PartialEq, Eq)]
+pub enum Exchanged {
+    /// The slot had what was expected, and the store was made.
+    Stored(Kind),
+    /// Nothing was stored: this is what the slot refers to. It is `None` for null, and also for
+    /// data, which is not the null that may have been expected.
+    Differs(Option<Slot>),
 }
 
 /// What a refinement did.

@@ -37,13 +37,14 @@ mod library;
 mod numbers;
 pub mod race;
 
-pub use answers::{Cleared, Drained, Kind, Redirected, Refined, Refusal, Refused, Totals};
+pub use answers::{
+    Cleared, Drained, Exchanged, Kind, Redirected, Refined, Refusal, Refused, Totals,
+};
 pub use numbers::{Card, Counts, Region, Slot};
 
 use library::{
     g1_clear, g1_close, g1_drain, g1_is_pending, g1_members, g1_open, g1_redirect, g1_refine,
-    g1_status, g1_store, g1_store_all, g1_target, Batch, Handle, Reference, Tally, DONE, NULL,
-    SHORT,
+    g1_status, g1_store, g1_store_all, g1_target, Batch, Handle, Tally, DONE, NULL, SHORT,
 };
 use numbers::{numbers_of, Home, Numbers};
 use std::ptr::null_mut;
@@ -56,9 +57,6 @@ pub struct Heap {
     handle: Handle,
     numbers: Numbers,
 }
-
-// SAFETY: the prover has shown of what a handle has that it may go to another thread.
-unsafe impl Send for Heap {}
 
 impl Drop for Heap {
     fn drop(&mut self) {
@@ -93,9 +91,11 @@ impl Heap {
     ///
     /// Refused with [`Refusal::OtherHeap`].
     pub fn store(&mut self, slot: Slot, target: Option<Slot>) -> Result<Kind, Refusal> {
-        let (word, target) = self.numbers.words_of(slot, target)?;
-        let kind = unsafe { g1_store(&mut self.handle, word, target) };
-        Kind::of(kind, self.numbers.card_of(slot))
+        let ((word, target), mut kind) = (self.numbers.words_of(slot, target)?, 0);
+        match unsafe { g1_store(&mut self.handle, word, target, &mut kind) } {
+            DONE => Kind::of(kind, self.numbers.card_of(slot)),
+            word => Err(Refusal::of(word)),
+        }
     }
 
     /// Makes these stores in order, and returns the cards of those that were logged, in order, for
@@ -103,16 +103,8 @@ impl Heap {
     ///
     /// Refused with [`Refusal::OtherHeap`] if any slot or target is another heap's.
     pub fn store_all(&mut self, stores: &[(Slot, Option<Slot>)]) -> Result<Vec<Card>, Refusal> {
-        let reference = |&(slot, target): &(Slot, Option<Slot>)| {
-            let (slot, target) = self.numbers.words_of(slot, target)?;
-            Ok(Reference { slot, target })
-        };
-        let references: Vec<Reference> = stores
-            .iter()
-            .map(reference)
-            .collect::<Result<_, Refusal>>()?;
         let mut logged = Vec::new();
-        for some in references.chunks(LOG) {
+        for some in self.numbers.references(stores)?.chunks(LOG) {
             let (mut cards, mut batch) = ([0; LOG], Batch::default());
             let (given, room) = (some.as_ptr(), cards.as_mut_ptr());
             match unsafe {
@@ -203,9 +195,9 @@ impl Heap {
     /// Refused with [`Refusal::OtherHeap`].
     pub fn is_pending(&mut self, card: Card) -> Result<bool, Refusal> {
         self.numbers.has(card.home)?;
-        match unsafe { g1_is_pending(&mut self.handle, card.number) } {
-            0 => Ok(false),
-            1 => Ok(true),
+        let mut pending = 0;
+        match unsafe { g1_is_pending(&mut self.handle, card.number, &mut pending) } {
+            DONE => Ok(pending == 1),
             word => Err(Refusal::of(word)),
         }
     }

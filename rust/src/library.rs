@@ -30,8 +30,14 @@ pub struct Handle {
 
 #[repr(C)]
 #[derive(Clone, Copy)]
-pub struct Member {
-    pub member: *mut c_void,
+pub struct RacerHandle {
+    pub racer: *mut c_void,
+}
+
+#[repr(C)]
+#[derive(Clone, Copy)]
+pub struct SweeperHandle {
+    pub sweeper: *mut c_void,
 }
 
 #[repr(C)]
@@ -39,10 +45,16 @@ pub struct HeapHandle {
     pub heap: *mut c_void,
 }
 
+// SAFETY: the prover has shown of what each handle has that it may go to another thread.
+unsafe impl Send for Handle {}
+unsafe impl Send for HeapHandle {}
+unsafe impl Send for RacerHandle {}
+unsafe impl Send for SweeperHandle {}
+
 extern "C" {
     pub fn g1_open(handle: *mut Handle, counts: *const Counts, hot: u32, ring: u32) -> u32;
     pub fn g1_close(handle: *mut Handle) -> u32;
-    pub fn g1_store(handle: *mut Handle, slot: u32, target: u32) -> u32;
+    pub fn g1_store(handle: *mut Handle, slot: u32, target: u32, kind: *mut u32) -> u32;
     pub fn g1_store_all(
         handle: *mut Handle,
         stores: *const Reference,
@@ -70,7 +82,7 @@ extern "C" {
         refined_count: *mut u32,
     ) -> u32;
     pub fn g1_target(handle: *mut Handle, slot: u32, target: *mut u32) -> u32;
-    pub fn g1_is_pending(handle: *mut Handle, card: u32) -> u32;
+    pub fn g1_is_pending(handle: *mut Handle, card: u32, pending: *mut u32) -> u32;
     pub fn g1_status(handle: *mut Handle, totals: *mut Totals) -> u32;
     pub fn g1_members(
         handle: *mut Handle,
@@ -97,16 +109,16 @@ extern "C" {
     ) -> u32;
     pub fn g1_heap_resume(
         heap: *mut HeapHandle,
-        racers: *mut Member,
+        racers: *mut RacerHandle,
         racers_length: usize,
-        sweepers: *mut Member,
+        sweepers: *mut SweeperHandle,
         sweepers_length: usize,
     ) -> u32;
     pub fn g1_heap_pause(
         heap: *mut HeapHandle,
-        racers: *mut Member,
+        racers: *mut RacerHandle,
         racers_length: usize,
-        sweepers: *mut Member,
+        sweepers: *mut SweeperHandle,
         sweepers_length: usize,
     ) -> u32;
     pub fn g1_heap_close(heap: *mut HeapHandle) -> u32;
@@ -138,19 +150,41 @@ extern "C" {
         stored: *mut usize,
     ) -> u32;
     pub fn g1_heap_store_data(heap: *mut HeapHandle, slot: u32, word: u64) -> u32;
+    pub fn g1_heap_copy(heap: *mut HeapHandle, from: u32, to: u32, count: u32) -> u32;
     pub fn g1_heap_clear(heap: *mut HeapHandle, region: u32, detail: *mut u32) -> u32;
     pub fn g1_heap_redirect(heap: *mut HeapHandle, from: u32, to: u32, moved: *mut u32) -> u32;
     pub fn g1_heap_wipe(heap: *mut HeapHandle, region: u32) -> u32;
     pub fn g1_heap_forget(heap: *mut HeapHandle, region: u32) -> u32;
-    pub fn g1_race_store(member: *mut Member, slot: u32, target: u32) -> u32;
-    pub fn g1_race_store_data(member: *mut Member, slot: u32, word: u64, old: *mut u64) -> u32;
+    pub fn g1_race_store(racer: *mut RacerHandle, slot: u32, target: u32, kind: *mut u32) -> u32;
+    pub fn g1_race_swap(
+        racer: *mut RacerHandle,
+        slot: u32,
+        target: u32,
+        old: *mut u32,
+        kind: *mut u32,
+    ) -> u32;
+    pub fn g1_race_compare_exchange(
+        racer: *mut RacerHandle,
+        slot: u32,
+        expected: u32,
+        target: u32,
+        found: *mut u32,
+        kind: *mut u32,
+    ) -> u32;
+    pub fn g1_race_store_all(
+        racer: *mut RacerHandle,
+        stores: *const Reference,
+        stores_length: usize,
+        stored: *mut usize,
+    ) -> u32;
+    pub fn g1_race_store_data(racer: *mut RacerHandle, slot: u32, word: u64, old: *mut u64) -> u32;
     pub fn g1_race_take_log(
-        member: *mut Member,
+        racer: *mut RacerHandle,
         cards: *mut u32,
         cards_length: usize,
         count: *mut u32,
     ) -> u32;
-    pub fn g1_race_refine(member: *mut Member, card: u32) -> u32;
+    pub fn g1_race_refine(sweeper: *mut SweeperHandle, card: u32) -> u32;
 }
 
 pub const NULL: u32 = 4_294_967_295;
@@ -162,9 +196,12 @@ pub const STORED_LOGGED: u32 = 3;
 
 pub const DONE: u32 = 0;
 pub const SHORT: u32 = 1;
+pub const DIFFERS: u32 = 2;
+pub const FULL: u32 = 4;
 pub const NO_MEMORY: u32 = 10;
 pub const BAD_LAYOUT: u32 = 11;
 pub const BAD_SETTINGS: u32 = 12;
+pub const NO_SLOT: u32 = 13;
 pub const TOO_MANY_CARDS: u32 = 17;
 pub const SAME_REGION: u32 = 18;
 pub const STILL_PENDING: u32 = 19;

@@ -1,5 +1,5 @@
 //! Numbers of one heap.
-use crate::library::NULL;
+use crate::library::{Reference, NULL};
 use crate::Refusal;
 use std::sync::atomic::{AtomicU64, Ordering};
 
@@ -152,5 +152,13 @@ impl Numbers {
         };
         self.has(target.home)?;
         Ok((slot.number, target.number))
+    }
+    /// These stores as the library takes them.
+    pub fn references(&self, stores: &[(Slot, Option<Slot>)]) -> Result<Vec<Reference>, Refusal> {
+        let reference = |&(slot, target): &(Slot, Option<Slot>)| {
+            let (slot, target) = self.words_of(slot, target)?;
+            Ok(Reference { slot, target })
+        };
+        stores.iter().map(reference).collect()
     }
 }

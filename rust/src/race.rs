@@ -31,14 +31,15 @@
 //! }
 //! ```
 use crate::library::{
-    g1_heap_clear, g1_heap_close, g1_heap_drain, g1_heap_forget, g1_heap_is_pending,
+    g1_heap_clear, g1_heap_close, g1_heap_copy, g1_heap_drain, g1_heap_forget, g1_heap_is_pending,
     g1_heap_members, g1_heap_open, g1_heap_pause, g1_heap_redirect, g1_heap_refine, g1_heap_resume,
     g1_heap_status, g1_heap_store, g1_heap_store_all, g1_heap_store_data, g1_heap_target,
-    g1_heap_wipe, g1_heap_word, g1_heap_words, g1_race_refine, g1_race_store, g1_race_store_data,
-    g1_race_take_log, HeapHandle, Member, Reference, DONE, NULL,
+    g1_heap_wipe, g1_heap_word, g1_heap_words, g1_race_compare_exchange, g1_race_refine,
+    g1_race_store, g1_race_store_all, g1_race_store_data, g1_race_swap, g1_race_take_log,
+    HeapHandle, RacerHandle, SweeperHandle, DIFFERS, DONE, FULL, NULL,
 };
 use crate::numbers::{numbers_of, Home, Numbers};
-use crate::{Card, Cleared, Counts, Kind, Refusal, Refused, Region, Slot, Totals, LOG};
+use crate::{Card, Cleared, Counts, Exchanged, Kind, Refusal, Refused, Region, Slot, Totals, LOG};
 use std::ptr::{null, null_mut};
 use std::sync::atomic::{AtomicU64, Ordering::Acquire};
 
@@ -102,16 +103,13 @@ impl Drop for Life {
 
 /// A member's handle, on a cache line of its own, since each of its calls writes it.
 #[repr(align(64))]
-struct Seat {
-    handle: Member,
+struct Seat<Handle> {
+    handle: Handle,
     numbers: Numbers,
     words: Words,
 }
 
-// SAFETY: the prover has shown of what a handle has that it may go to another thread.
-unsafe impl Send for Seat {}
-
-/// A heap at a pause, which the collector has. It stays on its thread.
+/// A heap at a pause, which the collector has.
 pub struct Paused {
     life: Life,
     // Empty, with room for the members, so that a resume takes no memory.
@@ -119,7 +117,7 @@ pub struct Paused {
     sweepers: Vec<Sweeper>,
 }
 
-/// A heap while its members race. It stays on its thread.
+/// A heap while its members race.
 ///
 /// A member that is dropped never comes back, so that its heap can't be paused. The memory of a
 /// heap that is dropped while it races is not freed.
@@ -129,12 +127,12 @@ pub struct Racing {
 
 /// A mutator of a heap: it stores, and has a log of [`LOG`] cards.
 pub struct Racer {
-    seat: Seat,
+    seat: Seat<RacerHandle>,
 }
 
 /// A refinement thread of a heap.
 pub struct Sweeper {
-    seat: Seat,
+    seat: Seat<SweeperHandle>,
 }
 
 numbers_of!(Paused, life.numbers);
@@ -142,11 +140,17 @@ numbers_of!(Racing, life.numbers);
 numbers_of!(Racer, seat.numbers);
 numbers_of!(Sweeper, seat.numbers);
 
-const CLOSED: Member = Member { member: null_mut() };
+const NO_RACER: RacerHandle = RacerHandle { racer: null_mut() };
+const NO_SWEEPER: SweeperHandle = SweeperHandle {
+    sweeper: null_mut(),
+};
 
 /// These handles, and closed ones behind them.
-fn row<const MOST: usize>(handles: impl Iterator<Item = Member>) -> [Member; MOST] {
-    let mut row = [CLOSED; MOST];
+fn row<Handle: Copy, const MOST: usize>(
+    closed: Handle,
+    handles: impl Iterator<Item = Handle>,
+) -> [Handle; MOST] {
+    let mut row = [closed; MOST];
     for (place, handle) in row.iter_mut().zip(handles) {
         *place = handle;
     }
@@ -154,7 +158,7 @@ fn row<const MOST: usize>(handles: impl Iterator<Item = Member>) -> [Member; MOS
 }
 
 impl Life {
-    fn seat(&self, handle: &Member) -> Seat {
+    fn seat<Handle: Copy>(&self, handle: &Handle) -> Seat<Handle> {
         Seat {
             handle: *handle,
             numbers: self.numbers,
@@ -190,15 +194,15 @@ impl Racing {
 
     fn take_in(&mut self, racers: &[Racer], sweepers: &[Sweeper]) -> Result<(), Refusal> {
         let life = &mut self.life;
-        let seats = racers.iter().map(|racer| &racer.seat);
-        for seat in seats.chain(sweepers.iter().map(|sweeper| &sweeper.seat)) {
-            life.numbers.has(seat.numbers.home)?;
+        let homes = racers.iter().map(|racer| racer.seat.numbers.home);
+        for home in homes.chain(sweepers.iter().map(|sweeper| sweeper.seat.numbers.home)) {
+            life.numbers.has(home)?;
         }
         if (racers.len(), sweepers.len()) != (life.racers, life.sweepers) {
             return Err(Refusal::MembersOut);
         }
-        let mut racing = row::<RACERS>(racers.iter().map(|racer| racer.seat.handle));
-        let mut sweeping = row::<SWEEPERS>(sweepers.iter().map(|sweeper| sweeper.seat.handle));
+        let mut racing: [_; RACERS] = row(NO_RACER, racers.iter().map(|it| it.seat.handle));
+        let mut sweeping: [_; SWEEPERS] = row(NO_SWEEPER, sweepers.iter().map(|it| it.seat.handle));
         let (some, few) = (racing.as_mut_ptr(), sweeping.as_mut_ptr());
         // SAFETY: the arrays have at least as many handles as the lengths say. They are all of this
         // heap, as no other call of a pause is given them.
@@ -248,7 +252,7 @@ impl Paused {
             mut racers,
             mut sweepers,
         } = self;
-        let (mut racing, mut sweeping) = ([CLOSED; RACERS], [CLOSED; SWEEPERS]);
+        let (mut racing, mut sweeping) = ([NO_RACER; RACERS], [NO_SWEEPER; SWEEPERS]);
         let (some, few) = (racing.as_mut_ptr(), sweeping.as_mut_ptr());
         let word =
             unsafe { g1_heap_resume(&mut life.handle, some, life.racers, few, life.sweepers) };
@@ -362,24 +366,15 @@ impl Paused {
     pub fn store(&mut self, slot: Slot, target: Option<Slot>) -> Result<Kind, Refusal> {
         let (word, target) = self.life.numbers.words_of(slot, target)?;
         let mut kind = 0;
-        match unsafe { g1_heap_store(&mut self.life.handle, word, target, &mut kind) } {
-            DONE => Kind::of(kind, self.life.numbers.card_of(slot)),
-            word => Err(Refusal::of(word)),
-        }
+        done(unsafe { g1_heap_store(&mut self.life.handle, word, target, &mut kind) })?;
+        Kind::of(kind, self.life.numbers.card_of(slot))
     }
 
     /// Makes these stores in order, each as [`Paused::store`] does.
     ///
     /// Refused with [`Refusal::OtherHeap`] if any slot or target is another heap's.
     pub fn store_all(&mut self, stores: &[(Slot, Option<Slot>)]) -> Result<(), Refusal> {
-        let reference = |&(slot, target): &(Slot, Option<Slot>)| {
-            let (slot, target) = self.life.numbers.words_of(slot, target)?;
-            Ok(Reference { slot, target })
-        };
-        let stores: Vec<Reference> = stores
-            .iter()
-            .map(reference)
-            .collect::<Result<_, Refusal>>()?;
+        let stores = self.life.numbers.references(stores)?;
         let (given, mut stored) = (stores.as_ptr(), 0);
         let handle = &mut self.life.handle;
         done(unsafe { g1_heap_store_all(handle, given, stores.len(), &mut stored) })
@@ -391,6 +386,18 @@ impl Paused {
     pub fn store_data(&mut self, slot: Slot, word: u64) -> Result<(), Refusal> {
         self.life.numbers.has(slot.home)?;
         done(unsafe { g1_heap_store_data(&mut self.life.handle, slot.number, word) })
+    }
+
+    /// Copies what `count` slots have, references and data, from the slot `from` on to the slots
+    /// from `to` on, as if all were read before any is written. A card becomes dirty as by
+    /// [`Paused::store`]. Time in `count`, no memory.
+    ///
+    /// Refused with [`Refusal::OtherHeap`], or [`Refusal::NoSlot`] if either range ends behind the
+    /// last slot.
+    pub fn copy(&mut self, from: Slot, to: Slot, count: u32) -> Result<(), Refusal> {
+        self.life.numbers.has(from.home)?;
+        self.life.numbers.has(to.home)?;
+        done(unsafe { g1_heap_copy(&mut self.life.handle, from.number, to.number, count) })
     }
 
     /// Empties the remembered set of a region, once no card is dirty and no slot outside the region
@@ -443,17 +450,69 @@ fn done(word: u32) -> Result<(), Refusal> {
     }
 }
 
+// SAFETY of each call below: the handle is open, `&mut self` has no other call use it, and an array
+// is one of the wrapper's, of the length that is passed.
 impl Racer {
     /// Stores a reference, or null, and never waits. A card that is logged is last in the log.
     ///
     /// Refused with [`Refusal::LogFull`] (any store, of null too, while the log is full) or
     /// [`Refusal::OtherHeap`]. Constant time, no memory.
     pub fn store(&mut self, slot: Slot, target: Option<Slot>) -> Result<Kind, Refusal> {
-        let numbers = self.seat.numbers;
-        let (word, target) = numbers.words_of(slot, target)?;
-        // SAFETY: the handle is open, and this call alone uses it.
-        let kind = unsafe { g1_race_store(&mut self.seat.handle, word, target) };
-        Kind::of(kind, numbers.card_of(slot))
+        let ((word, target), mut kind) = (self.seat.numbers.words_of(slot, target)?, 0);
+        done(unsafe { g1_race_store(&mut self.seat.handle, word, target, &mut kind) })?;
+        Kind::of(kind, self.seat.numbers.card_of(slot))
+    }
+
+    /// Stores as [`Racer::store`] does, and also returns what the slot referred to before, `None`
+    /// for null or data, for a collector that marks from a snapshot. It is read and written in one
+    /// atomic step.
+    ///
+    /// Refused as the store is. Constant time, no memory.
+    pub fn swap(
+        &mut self,
+        slot: Slot,
+        target: Option<Slot>,
+    ) -> Result<(Kind, Option<Slot>), Refusal> {
+        let ((word, target), mut kind) = (self.seat.numbers.words_of(slot, target)?, 0);
+        let (handle, mut old) = (&mut self.seat.handle, NULL);
+        done(unsafe { g1_race_swap(handle, word, target, &mut old, &mut kind) })?;
+        let kind = Kind::of(kind, self.seat.numbers.card_of(slot))?;
+        Ok((kind, self.slot(old)))
+    }
+
+    /// Stores as [`Racer::store`] does, if the slot refers to the place that is expected, or has
+    /// the null that is. One atomic step compares and writes.
+    ///
+    /// Refused as the store is. Constant time, no memory.
+    pub fn compare_exchange(
+        &mut self,
+        slot: Slot,
+        expected: Option<Slot>,
+        target: Option<Slot>,
+    ) -> Result<Exchanged, Refusal> {
+        let (_, expected) = self.seat.numbers.words_of(slot, expected)?;
+        let ((word, target), mut kind) = (self.seat.numbers.words_of(slot, target)?, 0);
+        let (handle, mut found) = (&mut self.seat.handle, NULL);
+        match unsafe {
+            g1_race_compare_exchange(handle, word, expected, target, &mut found, &mut kind)
+        } {
+            DONE => Kind::of(kind, self.seat.numbers.card_of(slot)).map(Exchanged::Stored),
+            DIFFERS => Ok(Exchanged::Differs(self.slot(found))),
+            word => Err(Refusal::of(word)),
+        }
+    }
+
+    /// Makes stores in order, each as [`Racer::store`] does, and returns how many it made. Those
+    /// are all, or the ones before the log was full: take it, and go on from there.
+    ///
+    /// Refused with [`Refusal::OtherHeap`] if any slot or target is another heap's.
+    pub fn store_all(&mut self, stores: &[(Slot, Option<Slot>)]) -> Result<usize, Refusal> {
+        let stores = self.seat.numbers.references(stores)?;
+        let (given, handle, mut stored) = (stores.as_ptr(), &mut self.seat.handle, 0);
+        match unsafe { g1_race_store_all(handle, given, stores.len(), &mut stored) } {
+            DONE | FULL => Ok(stored),
+            word => Err(Refusal::of(word)),
+        }
     }
 
     /// Stores data, a word from [`DATA`] on, and returns what the slot had. It logs nothing, and
@@ -463,7 +522,6 @@ impl Racer {
     pub fn store_data(&mut self, slot: Slot, word: u64) -> Result<Word, Refusal> {
         self.seat.numbers.has(slot.home)?;
         let mut old = 0;
-        // SAFETY: the handle is open, and this call alone uses it.
         done(unsafe { g1_race_store_data(&mut self.seat.handle, slot.number, word, &mut old) })?;
         Ok(Word::of(old, &self.seat.numbers))
     }
@@ -485,7 +543,6 @@ impl Racer {
     pub fn take_log(&mut self) -> Result<Vec<Card>, Refusal> {
         let (mut cards, mut count) = ([0; LOG], 0);
         let room = cards.as_mut_ptr();
-        // SAFETY: the handle is open, and the array has as much room as its length says.
         match unsafe { g1_race_take_log(&mut self.seat.handle, room, LOG, &mut count) } {
             DONE => Ok(self.seat.numbers.cards_of(&cards, count)),
             word => Err(Refusal::of(word)),

@@ -1,6 +1,6 @@
 //! A heap whose stores race: its members handed out, taken in, missing, and of another heap.
 use ninkoda::race::{Paused, Racer, Racing, Sweeper, Word, DATA, RACERS, SWEEPERS};
-use ninkoda::{Cleared, Counts, Kind, Refusal, Slot, LOG};
+use ninkoda::{Cleared, Counts, Exchanged, Kind, Refusal, Slot, LOG};
 use std::thread;
 
 const COUNTS: Counts = Counts {
@@ -66,6 +66,9 @@ fn takes_no_member_and_no_number_of_another_heap() {
     let near = one.slot(0).expect("a slot");
     assert_eq!(racers[0].store(near, Some(far)), Err(Refusal::OtherHeap));
     assert_eq!(racers[0].word(far), Err(Refusal::OtherHeap));
+    let swapped = racers[0].compare_exchange(near, Some(far), None);
+    assert_eq!(swapped, Err(Refusal::OtherHeap));
+    assert_eq!(racers[0].store_all(&[(far, None)]), Err(Refusal::OtherHeap));
     let card = other.card(0).expect("a card");
     assert_eq!(sweepers[0].refine(card), Err(Refusal::OtherHeap));
     std::mem::swap(&mut racers[1], &mut others[0]);
@@ -89,11 +92,59 @@ fn says_when_a_log_is_full() {
     }
     let last = near(LOG as u32);
     assert_eq!(racer.store(last, None), Err(Refusal::LogFull));
+    assert_eq!(racer.store_all(&[(last, None)]), Ok(0));
     assert_eq!(racer.store_data(last, DATA), Ok(Word::Null));
     let log = racer.take_log().expect("a log");
     assert_eq!(log.len(), LOG);
     assert_eq!(racer.store(last, None), Ok(Kind::Null));
     assert!(heap.pause(racers, sweepers).is_ok());
+}
+
+#[test]
+fn swaps_and_compares() {
+    let (heap, mut racers, sweepers) = race();
+    let racer = &mut racers[0];
+    let near = heap.slot(0).expect("a slot");
+    let (some, other) = (heap.slot(512), heap.slot(513));
+    let logged = Kind::Logged(heap.card(0).expect("a card"));
+    assert_eq!(racer.swap(near, some), Ok((logged, None)));
+    let differs = Ok(Exchanged::Differs(some));
+    assert_eq!(racer.compare_exchange(near, None, other), differs);
+    let stored = Ok(Exchanged::Stored(Kind::Dirty));
+    assert_eq!(racer.compare_exchange(near, some, other), stored);
+    assert_eq!(racer.swap(near, None), Ok((Kind::Null, other)));
+    assert_eq!(racer.store_data(near, DATA), Ok(Word::Null));
+    // (data is not the null that is expected)
+    let differs = Ok(Exchanged::Differs(None));
+    assert_eq!(racer.compare_exchange(near, None, other), differs);
+    assert_eq!(racer.word(near), Ok(Word::Data(DATA)));
+    assert_eq!(racer.store_all(&[(near, some), (near, other)]), Ok(2));
+    assert_eq!(
+        racer.word(near),
+        other.map(Word::Reference).ok_or(Refusal::NoSlot)
+    );
+    assert!(heap.pause(racers, sweepers).is_ok());
+}
+
+#[test]
+fn copies_at_a_pause_of_another_thread() {
+    let mut heap = heap();
+    let numbers: Vec<Slot> = (0..4).map(|number| slot(&heap, number)).collect();
+    let (last, far) = (slot(&heap, 1023), slot(&heap, 512));
+    assert_eq!(heap.store(numbers[0], Some(far)).map(|_| ()), Ok(()));
+    assert_eq!(heap.store_data(numbers[1], DATA), Ok(()));
+    let copied = thread::spawn(move || heap.copy(numbers[0], numbers[1], 3).map(|_| heap));
+    let mut heap = copied.join().expect("it does not panic").expect("a copy");
+    let words: Vec<_> = (0..4).map(|n| heap.word(slot(&heap, n))).collect();
+    let reference = Ok(Word::Reference(far));
+    assert_eq!(
+        words,
+        [reference, reference, Ok(Word::Data(DATA)), Ok(Word::Null)]
+    );
+    let dirty = heap.card(1).expect("a card");
+    assert_eq!(heap.is_pending(dirty), Ok(true));
+    assert_eq!(heap.copy(last, far, 1), Ok(()));
+    assert_eq!(heap.copy(last, far, 2), Err(Refusal::NoSlot));
 }
 
 #[test]

@@ -94,7 +94,7 @@ wiped region table =
     nulled (region * (table.layout.cards * table.layout.slots))
     (table.layout.cards * table.layout.slots) table
 
--- what as many slots, from one on, refer to in this table is stored to those from another on
+-- the old targets of as many slots, from one on, are stored to those from another on
 abbrev pub copied : ℕ → ℕ → ℕ → Table → Table
 copied from to zero table = table
 copied from to (suc count) table =
