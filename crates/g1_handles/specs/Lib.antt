@@ -6,6 +6,5 @@ pub mod Queries
 pub mod Batch
 pub mod Racing
 pub mod AtPause
-pub mod Parked
 pub mod Life
 pub mod HeapCalls
