@@ -13,7 +13,7 @@ use Rattle.g1_handles.specs.declared.code.Refusal.TheVariants as refusal
 use Rattle.g1_handles.specs.declared.race_batch.BatchEnd.{BatchEnd}
 use Rattle.g1_handles.specs.declared.race_batch.BatchEnd.TheVariants.{Whole, Stopped, Full}
 use Rattle.g1_handles.specs.declared.batch.Store.{Store}
-use Rattle.g1_handles.specs.declared.member.Racing.{Racing}
+use Rattle.g1_handles.specs.Racing.{Racing}
 use Rattle.g1_handles.specs.Codes.{IsStoreOf, reference_of}
 use Rattle.g1_handles.specs.Racing.{Stores, racer_race_of}
 use Rattle.g1_handles.specs.RaceStores.{StoresAll, CanStoreAll, IsEnd}

@@ -11,7 +11,6 @@ use Rattle.g1_handles.specs.declared.code.Refusal.TheVariants as refusal
 use Rattle.g1_handles.specs.declared.racing_heap.AtPause.{AtPause}
 use Rattle.g1_handles.specs.declared.racing_heap.RacingHeap.{RacingHeap}
 use Rattle.g1_handles.specs.declared.racing_heap.RacingHeap.TheVariants as heap
-use Rattle.g1_handles.specs.Parked.{parked_race}
 use Rattle.g1_handles.specs.Life.{OfPaused, IsSameBut, IsSameHeap, SaysNoHeap, SaysNotPaused}
 use Rattle.g1_handles.specs.HeapCalls.{IsCalled, IsHeapRefused}
 
@@ -26,8 +25,8 @@ same_at a b same e = λ i. record {
   laid = is_prop→PathP (λ j. race_layout (arc_value (same.race j)) ≡ (e j).layout) (λ j. hlevel props) b.laid a.laid i;
   racer_boxes = is_prop→PathP (λ j. vec_len (same.racers j) ≡ length (e j).logs) (λ j. hlevel props) b.racer_boxes a.racer_boxes i;
   sweeper_boxes = is_prop→PathP (λ j. vec_len (same.sweepers j) ≡ (e j).sweepers) (λ j. hlevel props) b.sweeper_boxes a.sweeper_boxes i;
-  racers_parked = is_prop→PathP (λ j. All (λ m. parked_race m.value ≡ Some (arc_value (same.race j))) (same.racers j).items) (λ j. hlevel props) b.racers_parked a.racers_parked i;
-  sweepers_parked = is_prop→PathP (λ j. All (λ m. parked_race m.value ≡ Some (arc_value (same.race j))) (same.sweepers j).items) (λ j. hlevel props) b.sweepers_parked a.sweepers_parked i;
+  racers_wait = is_prop→PathP (λ j. All (λ m. arc_value m.value.race ≡ arc_value (same.race j)) (same.racers j).items) (λ j. hlevel props) b.racers_wait a.racers_wait i;
+  sweepers_wait = is_prop→PathP (λ j. All (λ m. arc_value m.value.race ≡ arc_value (same.race j)) (same.sweepers j).items) (λ j. hlevel props) b.sweepers_wait a.sweepers_wait i;
 }
 
 abbrev is_ok : {A : Type 0} → Result A Refusal → Type 0

@@ -4,15 +4,15 @@ use Rattle.std.specs.Prelude.{Option}
 use Rattle.std.specs.Global.{Global}
 use Rattle.std.proofs.lemmas.List.{get_or-take, get_or-set_same, get_or-set_other}
 use Rattle.std.proofs.lemmas.List.Elements.{All-map}
+use Rattle.std.specs.Arc.{arc_value}
 use Rattle.g1_race.specs.declared.race.Race.{Race}
 use Rattle.g1_handles.specs.declared.member.Member.{Member}
-use Rattle.g1_handles.specs.declared.member_handle.MemberHandle.{MemberHandle}
-use Rattle.g1_handles.specs.Parked.{parked_race}
-use Rattle.g1_handles.specs.Racing.{held, IsOf}
+use Rattle.g1_handles.specs.declared.member.Part.{Ghosts}
+use Rattle.g1_handles.specs.Racing.{IsOf}
 
 -- the member is of the race that its box waited for
-abbrev pub WaitedAs : Member → Option Member → Type 0
-WaitedAs parked m = (race : Race) → parked_race parked ≡ Some race → IsOf race m
+abbrev pub WaitedAs : {P : Type 0} {g : Ghosts P} → Member P g → Option (Member P g) → Type 0
+WaitedAs waiting m = (race : Race) → arc_value waiting.race ≡ race → IsOf race m
 
 -- what is popped stands last in what is left of a list
 pub popped : {T : Type 0} (xs ys : List T) (n m : ℕ) (x d : T) → 0 < n → m ≡ n
@@ -30,36 +30,36 @@ still {T} xs ys zs n m some same rest is k d below =
     ap (λ (l : List T). slice_index_or l k d) is ∙ (get_or-take (m - 1) ys k d (omega arith) ∙ rest k d (omega arith))
 
 -- the handles hold these, in their order
-pub all_found : {T : Type 0} (f : Option Member → Option T) (hs : List MemberHandle) (ys : List T) → length hs ≡ length ys
-    → ((k : ℕ) (d : MemberHandle) (y : T) → k < length hs → f (slice_index_or hs k d).value ≡ Some (slice_index_or ys k y))
-    → map f (held hs) ≡ map (λ y. Some y) ys
-all_found f [] [] e all = refl
-all_found f [] (y ∷ ys) e all = absurd (omega (arith, e))
-all_found f (h ∷ hs) [] e all = absurd (omega (arith, e))
-all_found {T} f (h ∷ hs) (y ∷ ys) e all =
-    let here : f h.value ≡ Some y = all 0 h y (omega arith) in
-    let later : map f (held hs) ≡ map (λ (y : T). Some y) ys = all_found f hs ys (omega (arith, e)) (λ k d z below. all (suc k) d z (omega (arith, below))) in
+pub all_found : {H V T : Type 0} (value : H → V) (f : V → Option T) (hs : List H) (ys : List T) → length hs ≡ length ys
+    → ((k : ℕ) (d : H) (y : T) → k < length hs → f (value (slice_index_or hs k d)) ≡ Some (slice_index_or ys k y))
+    → map f (map value hs) ≡ map (λ y. Some y) ys
+all_found value f [] [] e all = refl
+all_found value f [] (y ∷ ys) e all = absurd (omega (arith, e))
+all_found value f (h ∷ hs) [] e all = absurd (omega (arith, e))
+all_found {H} {V} {T} value f (h ∷ hs) (y ∷ ys) e all =
+    let here : f (value h) ≡ Some y = all 0 h y (omega arith) in
+    let later : map f (map value hs) ≡ map (λ (y : T). Some y) ys = all_found value f hs ys (omega (arith, e)) (λ k d z below. all (suc k) d z (omega (arith, below))) in
     cc
 
 -- the handles' members are of the race that the boxes waited for
-pub all_of : (race : Race) (hs : List MemberHandle) (bs : List (Box Member Global)) → length hs ≡ length bs
-    → ((k : ℕ) (d : MemberHandle) (m : Box Member Global) → k < length hs → WaitedAs (slice_index_or bs k m).value (slice_index_or hs k d).value)
-    → All (λ m. parked_race m.value ≡ Some race) bs → All (IsOf race) (held hs)
-all_of race hs [] e waited parked =
-    All-map (IsOf race) (λ (h : MemberHandle). h.value) hs (λ k d below. absurd (omega (arith, below, e)))
-all_of race hs (b ∷ bs) e waited parked =
-    All-map (IsOf race) (λ (h : MemberHandle). h.value) hs (λ k d below. waited k d b below race (parked k b (subst (λ n. k < n) e below)))
+pub all_of : {P H : Type 0} {g : Ghosts P} (value : H → Option (Member P g)) (race : Race) (hs : List H) (bs : List (Box (Member P g) Global)) → length hs ≡ length bs
+    → ((k : ℕ) (d : H) (m : Box (Member P g) Global) → k < length hs → WaitedAs (slice_index_or bs k m).value (value (slice_index_or hs k d)))
+    → All (λ m. arc_value m.value.race ≡ race) bs → All (IsOf race) (map value hs)
+all_of value race hs [] e waited waiting =
+    All-map (IsOf race) value hs (λ k d below. absurd (omega (arith, below, e)))
+all_of value race hs (b ∷ bs) e waited waiting =
+    All-map (IsOf race) value hs (λ k d below. waited k d b below race (waiting k b (subst (λ n. k < n) e below)))
 
 -- what is so of the handle that is set at the next place from the end, and was so of the later ones
-placed_by : (P : MemberHandle → ℕ → Type 0) (hs : List MemberHandle) (n k : ℕ) (h d : MemberHandle) → n - 1 < length hs
+placed_by : {H : Type 0} (P : H → ℕ → Type 0) (hs : List H) (n k : ℕ) (h d : H) → n - 1 < length hs
     → k < length hs → P h (n - 1) → (n ≤ k → k < length hs → P (slice_index_or hs k d) k) → (k ≡ n - 1) ⊎ ((n ≤ k) × (n - 1 < k))
     → P (slice_index_or (set hs (n - 1) h) k d) k
-placed_by P hs n k h d here below new old (inl e) =
-    subst (λ j. P (slice_index_or (set hs (n - 1) h) j d) j) (sym e) (subst (λ (y : MemberHandle). P y (n - 1)) (sym (get_or-set_same hs (n - 1) h d here)) new)
-placed_by P hs n k h d here below new old (inr after) =
-    subst (λ (y : MemberHandle). P y k) (sym (get_or-set_other hs (n - 1) k h d (omega (arith, after.1)))) (old after.0 below)
+placed_by {H} P hs n k h d here below new old (inl e) =
+    subst (λ j. P (slice_index_or (set hs (n - 1) h) j d) j) (sym e) (subst (λ (y : H). P y (n - 1)) (sym (get_or-set_same hs (n - 1) h d here)) new)
+placed_by {H} P hs n k h d here below new old (inr after) =
+    subst (λ (y : H). P y k) (sym (get_or-set_other hs (n - 1) k h d (omega (arith, after.1)))) (old after.0 below)
 
-pub placed : (P : MemberHandle → ℕ → Type 0) (hs : List MemberHandle) (n k : ℕ) (h d : MemberHandle) → 0 < n → n - 1 < length hs
+pub placed : {H : Type 0} (P : H → ℕ → Type 0) (hs : List H) (n k : ℕ) (h d : H) → 0 < n → n - 1 < length hs
     → n - 1 ≤ k → k < length hs → P h (n - 1) → (n ≤ k → k < length hs → P (slice_index_or hs k d) k)
     → P (slice_index_or (set hs (n - 1) h) k d) k
 placed P hs n k h d some here from below new old =

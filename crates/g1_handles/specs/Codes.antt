@@ -27,7 +27,6 @@ refusal_word refusal.TooManyCards = 17
 refusal_word refusal.SameRegion = 18
 refusal_word refusal.StillPending = 19
 refusal_word refusal.StillReferenced = 20
-refusal_word refusal.OtherRole = 21
 refusal_word refusal.LogFull = 22
 refusal_word refusal.BadMembers = 23
 refusal_word refusal.OtherRace = 24

@@ -7,6 +7,5 @@ pub mod Batch
 pub mod Racing
 pub mod RaceStores
 pub mod AtPause
-pub mod Parked
 pub mod Life
 pub mod HeapCalls

@@ -16,21 +16,19 @@ use Rattle.g1_race.specs.declared.race.Racer.{Racer}
 use Rattle.g1_race.specs.declared.race.Sweeper.{Sweeper}
 use Rattle.g1_race.specs.Drain.{began}
 use Rattle.g1_race.specs.Members.{race_id, race_layout, racer_log, IsNewRacer, IsNewSweeper}
-use Rattle.g1_race.specs.Members.{racer_race, sweeper_race, racer_view, sweeper_view, race_shape}
+use Rattle.g1_race.specs.Members.{racer_view, sweeper_view, race_shape}
 use Rattle.g1_race.specs.Over.{Halt, halted, start_at, ended_of}
 use Rattle.g1_handles.specs.declared.code.Refusal.{Refusal}
 use Rattle.g1_handles.specs.declared.code.Refusal.TheVariants as refusal
+use Rattle.g1_handles.specs.declared.member.Part.{Ghosts}
 use Rattle.g1_handles.specs.declared.member.Member.{Member}
-use Rattle.g1_handles.specs.declared.member.Member.TheVariants as member
-use Rattle.g1_handles.specs.declared.member.Role.{Role}
-use Rattle.g1_handles.specs.declared.member.Role.TheVariants as roles
 use Rattle.g1_handles.specs.declared.racing_heap.AtPause.{AtPause}
 use Rattle.g1_handles.specs.declared.racing_heap.UnderWay.{UnderWay}
 use Rattle.g1_handles.specs.declared.racing_heap.RacingHeap.{RacingHeap}
 use Rattle.g1_handles.specs.declared.racing_heap.RacingHeap.TheVariants as heap
-use Rattle.g1_handles.specs.Parked.{parked_race}
+use Rattle.g1_handles.specs.Own.{RacerMember, SweeperMember}
 use Rattle.g1_handles.specs.Racing.{AreClosed, OfRacer, OfSweeper, racer_race_of, sweeper_race_of}
-use Rattle.g1_handles.specs.Racing.{known_to, IsAmong, IsOf, IsEndOf, OfMember, role_of}
+use Rattle.g1_handles.specs.Racing.{known_to, part_in, IsAmong, IsOf, IsEndOf}
 use Rattle.g1_handles.specs.Refusals.{SaysNoMember}
 
 -- the handle has a heap at a pause, and it is so of the pause
@@ -118,69 +116,49 @@ IsFor (Some (heap.Paused a)) racers sweepers =
 IsFor (Some (heap.Racing b)) racers sweepers =
     (racers ≡ b.racers.count) × (sweepers ≡ b.sweepers.count)
 
--- the racer, or the sweeper, behind a member's handle
-abbrev pub racer_in : Option Member → Option Racer
-racer_in None = None
-racer_in (Some (member.Racer a)) = Some a.racer
-racer_in (Some (member.Sweeper b)) = None
-racer_in (Some (member.Parked k)) = None
-
-abbrev pub sweeper_in : Option Member → Option Sweeper
-sweeper_in None = None
-sweeper_in (Some (member.Racer a)) = None
-sweeper_in (Some (member.Sweeper b)) = Some b.sweeper
-sweeper_in (Some (member.Parked k)) = None
-
 -- the log of a racer, if there is one
 abbrev pub log_of : Option Racer → List ℕ
 log_of None = []
 log_of (Some racer) = racer_log racer
 
 -- the log of the racer behind a member's handle
-abbrev pub log_in : Option Member → List ℕ
-log_in m = log_of (racer_in m)
+abbrev pub log_in : Option RacerMember → List ℕ
+log_in m = log_of (part_in m)
 
 -- the handle is a racer's of this race, which has stored nothing since the race began so
-abbrev pub IsNewRacing : Race → Start → Option Member → Type 0
+abbrev pub IsNewRacing : Race → Start → Option RacerMember → Type 0
 IsNewRacing race begin m = OfRacer m (λ a. (racer_race_of a ≡ race)
     × IsNewRacer race.table.table_id begin a.racer)
 
 -- the handle is a sweeper's of this race, which has swept nothing since the race began so
-abbrev pub IsNewSweeping : Race → Start → Option Member → Type 0
+abbrev pub IsNewSweeping : Race → Start → Option SweeperMember → Type 0
 IsNewSweeping race begin m = OfSweeper m (λ b. (sweeper_race_of b ≡ race)
     × IsNewSweeper race.table.table_id begin b.sweeper)
 
 -- the race goes on from the pause with its table, and all its racers and sweepers are behind these
 -- handles, each racer with the log that it had
-pub record GoesOn (p : Halt) (race : Race) (racers sweepers : List (Option Member)) : Type 0 where
+pub record GoesOn (p : Halt) (race : Race) (racers : List (Option RacerMember))
+    (sweepers : List (Option SweeperMember)) : Type 0 where
   pub began : began (race_layout race) (beginning (start_at p)) ≡ halted p
   pub racing : All (IsNewRacing race (start_at p)) racers
   pub sweeping : All (IsNewSweeping race (start_at p)) sweepers
   pub logs : map log_in racers ≡ p.logs
 
--- as many racers of the race, and as many boxes that wait for it
-pub record AreRacersFor (race : Race) (count : ℕ) (boxes : Vec (Box Member Global) Global)
-    (racers : Vec Racer Global) : Type 0 where
+-- as many racers or sweepers of the race, and as many boxes of members that wait for them
+pub record AreFor {P : Type 0} {g : Ghosts P} (race : Race) (count : ℕ)
+    (boxes : Vec (Box (Member P g) Global) Global) (parts : Vec P Global) : Type 0 where
   pub box_count : vec_len boxes ≡ count
-  pub part_count : vec_len racers ≡ count
-  pub parked : All (λ m. parked_race m.value ≡ Some race) boxes.items
-  pub racing : All (λ r. racer_race r ≡ race_id race) racers.items
-
--- as many sweepers of the race, and as many boxes that wait for it
-pub record AreSweepersFor (race : Race) (count : ℕ) (boxes : Vec (Box Member Global) Global)
-    (sweepers : Vec Sweeper Global) : Type 0 where
-  pub box_count : vec_len boxes ≡ count
-  pub part_count : vec_len sweepers ≡ count
-  pub parked : All (λ m. parked_race m.value ≡ Some race) boxes.items
-  pub racing : All (λ w. sweeper_race w ≡ race_id race) sweepers.items
+  pub part_count : vec_len parts ≡ count
+  pub waiting : All (λ m. arc_value m.value.race ≡ race) boxes.items
+  pub of : All (λ part. g.of part ≡ race_id race) parts.items
 
 -- the pause has ended, and the members are still to be handed out
 pub record LetsGo (a : AtPause) (b : UnderWay) : Type 0 where
   pub race : arc_value b.race ≡ arc_value a.race
   pub racer_count : b.racers.count ≡ length a.pause.logs
   pub sweeper_count : b.sweepers.count ≡ a.pause.sweepers
-  pub racers : AreRacersFor (arc_value b.race) b.racers.count b.racers.boxes b.racers.parts
-  pub sweepers : AreSweepersFor (arc_value b.race) b.sweepers.count b.sweepers.boxes
+  pub racers : AreFor (arc_value b.race) b.racers.count b.racers.boxes b.racers.parts
+  pub sweepers : AreFor (arc_value b.race) b.sweepers.count b.sweepers.boxes
       b.sweepers.parts
   pub racing : All (IsNewRacer (arc_value b.race).table.table_id (start_at a.pause))
       b.racers.parts.items
@@ -196,21 +174,23 @@ IsLetGo (heap.Paused a) (heap.Paused c) = ⊥
 IsLetGo (heap.Racing b) new = ⊥
 
 -- a resume of the heap of the first handle, with the members' handles
-abbrev pub IsGoingRefused : Option RacingHeap → List (Option Member) → List (Option Member)
+abbrev pub IsGoingRefused : Option RacingHeap → List (Option RacerMember) → List (Option SweeperMember)
     → Refusal → Type 0
 IsGoingRefused h racers sweepers r =
     SaysNoHeap h r ⊎ SaysNotPaused h r
     ⊎ ((r ≡ refusal.BadMembers) × (IsFor h (length racers) (length sweepers) → ⊥))
     ⊎ ((r ≡ refusal.AlreadyOpen) × (AreClosed racers → AreClosed sweepers → ⊥))
 
--- these members have their roles, and are of races with as many members as that of the heap
-abbrev pub AreLikeOf : Option RacingHeap → List (Option Member) → List (Option Member) → Type 0
+-- these members are of races with as many members as that of the heap
+abbrev pub AreLikeOf : Option RacingHeap → List (Option RacerMember)
+    → List (Option SweeperMember) → Type 0
 AreLikeOf h racers sweepers = OfRacing h (λ b.
-    All (IsAmong roles.Racer (race_shape (arc_value b.race)).members) racers
-    × All (IsAmong roles.Sweeper (race_shape (arc_value b.race)).members) sweepers)
+    All (IsAmong (race_shape (arc_value b.race)).members) racers
+    × All (IsAmong (race_shape (arc_value b.race)).members) sweepers)
 
 -- these members are of the heap's race
-abbrev pub AreOfHeap : Option RacingHeap → List (Option Member) → List (Option Member) → Type 0
+abbrev pub AreOfHeap : Option RacingHeap → List (Option RacerMember)
+    → List (Option SweeperMember) → Type 0
 AreOfHeap h racers sweepers = OfRacing h (λ b.
     All (IsOf (arc_value b.race)) racers × All (IsOf (arc_value b.race)) sweepers)
 
@@ -223,35 +203,32 @@ pub record IsPauseOf (race : Race) (racers sweepers : List View) (logs : List (L
   pub kept : p.logs ≡ logs
 
 -- a pause of the race with the members of these handles
-abbrev pub IsPausedWith : Race → List (Option Member) → List (Option Member) → Halt → Type 0
+abbrev pub IsPausedWith : Race → List (Option RacerMember) → List (Option SweeperMember) → Halt
+    → Type 0
 IsPausedWith race racers sweepers p =
     IsPauseOf race (map known_to racers) (map known_to sweepers) (map log_in racers) p
 
 -- the members of these handles are in, and the pause is still to begin
-pub record ComesIn (old new : UnderWay) (rs ss : List (Option Member)) : Type 0 where
+pub record ComesIn (old new : UnderWay) (rs : List (Option RacerMember))
+    (ss : List (Option SweeperMember)) : Type 0 where
   pub race : arc_value new.race ≡ arc_value old.race
   pub racer_count : new.racers.count ≡ old.racers.count
   pub sweeper_count : new.sweepers.count ≡ old.sweepers.count
-  pub racers : AreRacersFor (arc_value new.race) new.racers.count new.racers.boxes
+  pub racers : AreFor (arc_value new.race) new.racers.count new.racers.boxes
       new.racers.parts
-  pub sweepers : AreSweepersFor (arc_value new.race) new.sweepers.count new.sweepers.boxes
+  pub sweepers : AreFor (arc_value new.race) new.sweepers.count new.sweepers.boxes
       new.sweepers.parts
   pub racer_views : map racer_view new.racers.parts.items ≡ map known_to rs
   pub sweeper_views : map sweeper_view new.sweepers.parts.items ≡ map known_to ss
   pub logs : map racer_log new.racers.parts.items ≡ map log_in rs
 
--- a handle in a pause, for a member of this role
-abbrev pub IsPartRefused : Role → Option Member → Refusal → Type 0
-IsPartRefused role m r =
-    SaysNoMember m r ⊎ ((r ≡ refusal.OtherRole) × OfMember m (λ x. role_of x ≡ role → ⊥))
-
 -- a pause of the heap of the first handle; that the members are of its race, each given once, is
 -- found out by counts, of which no proof knows
-abbrev pub IsPauseRefused : Option RacingHeap → List (Option Member) → List (Option Member)
+abbrev pub IsPauseRefused : Option RacingHeap → List (Option RacerMember) → List (Option SweeperMember)
     → Refusal → Type 0
 IsPauseRefused h racers sweepers r =
     SaysNoHeap h r ⊎ SaysNotRacing h r
     ⊎ ((r ≡ refusal.BadMembers) × (IsFor h (length racers) (length sweepers) → ⊥))
-    ⊎ Any (λ m. IsPartRefused roles.Racer m r) racers
-    ⊎ Any (λ m. IsPartRefused roles.Sweeper m r) sweepers
+    ⊎ Any (λ m. SaysNoMember m r) racers
+    ⊎ Any (λ m. SaysNoMember m r) sweepers
     ⊎ (r ≡ refusal.OtherRace)

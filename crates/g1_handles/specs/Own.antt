@@ -6,11 +6,15 @@ use denote.RawPtr.{Ptr, block_ptr, null_ptr}
 use Rattle.std.specs.declared.alloc.Global.{Global}
 use Rattle.std.specs.contracts.impls.GlobalAllocator.TheImpl.{ghosts}
 use Rattle.std_alloc.specs.Box.Ownership.{box_owns}
-use Rattle.g1_core.specs.Machine.{Machine}
 use Rattle.g1_core.specs.contracts.machinery.Core as core
+use Rattle.g1_race.specs.declared.race.Racer.{Racer}
+use Rattle.g1_race.specs.declared.race.Sweeper.{Sweeper}
+use Rattle.g1_race.specs.contracts.race.Racer as racer
+use Rattle.g1_race.specs.contracts.race.Sweeper as sweeper
 use Rattle.g1_handles.specs.declared.member.Member.{Member}
 use Rattle.g1_handles.specs.contracts.member.Member as member
-use Rattle.g1_handles.specs.declared.racing_heap.RacingHeap.{RacingHeap}
+use Rattle.g1_handles.specs.contracts.member.RacerPart.TheImpl.{ghosts as racers}
+use Rattle.g1_handles.specs.contracts.member.SweeperPart.TheImpl.{ghosts as sweepers}
 use Rattle.g1_handles.specs.contracts.racing_heap.RacingHeap as racing_heap
 
 -- the value at the pointer, and the right to free its block
@@ -23,14 +27,22 @@ holds R a null_ptr v = feq (Option R.Denot) v None
 holds R a (block_ptr b o) v =
     fex R.Denot (λ x. fsep (feq (Option R.Denot) v (Some x)) (owns_boxed R a (block_ptr b o) x))
 
--- what the handle of a heap owns: a core
-abbrev pub holds_core : Global → Ptr → Option Machine → Fml
-holds_core a p v = holds core.the_row a p v
+-- a racer, and a sweeper, as a member of a race
+abbrev pub RacerMember : Type 0
+RacerMember = Member Racer racers
 
--- what the handle of a racer or a sweeper owns
-abbrev pub holds_member : Global → Ptr → Option Member → Fml
-holds_member a p v = holds member.the_row a p v
+abbrev pub SweeperMember : Type 0
+SweeperMember = Member Sweeper sweepers
 
--- what the handle of a heap whose stores race owns
-abbrev pub holds_heap : Global → Ptr → Option RacingHeap → Fml
-holds_heap a p v = holds racing_heap.the_row a p v
+-- what each kind of handle holds: a core, a heap whose stores race, a racer, or a sweeper
+abbrev pub core_row : RattleType
+core_row = core.the_row
+
+abbrev pub heap_row : RattleType
+heap_row = racing_heap.the_row
+
+abbrev pub racer_row : RattleType
+racer_row = member.the_row racer.the_row racers
+
+abbrev pub sweeper_row : RattleType
+sweeper_row = member.the_row sweeper.the_row sweepers

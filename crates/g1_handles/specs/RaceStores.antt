@@ -6,7 +6,7 @@ use Rattle.g1_race_words.specs.Seats.{IsFound}
 use Rattle.g1_race.specs.Members.{HasReferred, HasDiffered, HasNotStored, race_layout, racer_view}
 use Rattle.g1_race.specs.Race.{word_of}
 use Rattle.g1_handles.specs.declared.batch.Store.{Store}
-use Rattle.g1_handles.specs.declared.member.Racing.{Racing}
+use Rattle.g1_handles.specs.Racing.{Racing}
 use Rattle.g1_handles.specs.declared.race_batch.BatchEnd.{BatchEnd}
 use Rattle.g1_handles.specs.declared.race_batch.BatchEnd.TheVariants.{Whole, Stopped, Full}
 use Rattle.g1_handles.specs.declared.race_batch.RaceBatch.{RaceBatch}

@@ -1,9 +1,12 @@
 -- What the calls on the members of a race do.
 use Rattle.std.specs.Prelude.{◌↔◌, Contains, ◌≡◌, ℕ, List, [], ◌∷◌, ◌++◌, map}
-use Rattle.std.specs.Prelude.{All, Option, Some, None, false, if◌then◌else◌}
+use Rattle.std.specs.Prelude.{All, Option, Some, None, IsSome, IsSomeAnd, IfSome, false}
+use Rattle.std.specs.Prelude.{if◌then◌else◌}
 use Rattle.std.specs.Arc.{arc_value}
 use Rattle.g1_layout.specs.declared.kind.Kind.{Kind}
 use Rattle.g1_race.specs.declared.race.Race.{Race}
+use Rattle.g1_race.specs.declared.race.Racer.{Racer}
+use Rattle.g1_race.specs.declared.race.Sweeper.{Sweeper}
 use Rattle.g1_race_words.specs.declared.view.View.{View}
 use Rattle.g1_race.specs.Over.{Ended}
 use Rattle.g1_race_words.specs.Rule.{IsWord, card_of}
@@ -12,61 +15,53 @@ use Rattle.g1_race.specs.Race.{word_of, stored, IsKnown, IsOver}
 use Rattle.g1_race_words.specs.Steps.{nothing}
 use Rattle.g1_race.specs.Members.{race_layout, race_begun, race_shape, racer_view}
 use Rattle.g1_race.specs.Members.{sweeper_start, sweeper_view, IsKind, is_logged}
-use Rattle.g1_handles.specs.declared.member.Racing.{Racing}
-use Rattle.g1_handles.specs.declared.member.Sweeping.{Sweeping}
+use Rattle.g1_handles.specs.declared.member.Part.{Ghosts}
 use Rattle.g1_handles.specs.declared.member.Member.{Member}
-use Rattle.g1_handles.specs.declared.member.Member.TheVariants as member
-use Rattle.g1_handles.specs.declared.member.Role.{Role}
-use Rattle.g1_handles.specs.declared.member.Role.TheVariants as roles
-use Rattle.g1_handles.specs.declared.member_handle.MemberHandle.{MemberHandle}
+use Rattle.g1_handles.specs.declared.racer_handle.RacerHandle.{RacerHandle}
+use Rattle.g1_handles.specs.declared.sweeper_handle.SweeperHandle.{SweeperHandle}
+use Rattle.g1_handles.specs.Own.{RacerMember, SweeperMember}
 
--- the handle is a racer's, and it is so of the racer
-abbrev pub OfRacer : Option Member → (Racing → Type 0) → Type 0
+-- a racer with its race
+pub record Racing : Type 0 where
+  pub race : Race
+  pub racer : Racer
+
+-- a sweeper with its race
+pub record Sweeping : Type 0 where
+  pub race : Race
+  pub sweeper : Sweeper
+
+abbrev pub racing : Race → Racer → Racing
+racing race racer = record { race = race; racer = racer }
+
+abbrev sweeping : SweeperMember → Sweeper → Sweeping
+sweeping m sweeper = record { race = arc_value m.race; sweeper = sweeper }
+
+-- the handle has a racer, and it is so of it
+abbrev pub OfRacer : Option RacerMember → (Racing → Type 0) → Type 0
 OfRacer None P = ⊥
-OfRacer (Some (member.Racer a)) P = P a
-OfRacer (Some (member.Sweeper b)) P = ⊥
-OfRacer (Some (member.Parked k)) P = ⊥
+OfRacer (Some m) P = IsSomeAnd m.part (λ r. P (racing (arc_value m.race) r))
 
--- the handle is a sweeper's, and it is so of the sweeper
-abbrev pub OfSweeper : Option Member → (Sweeping → Type 0) → Type 0
+-- the handle has a sweeper, and it is so of it
+abbrev pub OfSweeper : Option SweeperMember → (Sweeping → Type 0) → Type 0
 OfSweeper None P = ⊥
-OfSweeper (Some (member.Racer a)) P = ⊥
-OfSweeper (Some (member.Sweeper b)) P = P b
-OfSweeper (Some (member.Parked k)) P = ⊥
+OfSweeper (Some m) P = IsSomeAnd m.part (λ w. P (sweeping m w))
 
--- if the handle is a racer's, it is so of the racer
-abbrev pub IfRacer : Option Member → (Racing → Type 0) → Type 0
+-- if the handle has a racer, it is so of it
+abbrev pub IfRacer : Option RacerMember → (Racing → Type 0) → Type 0
 IfRacer None P = Unit {0}
-IfRacer (Some (member.Racer a)) P = P a
-IfRacer (Some (member.Sweeper b)) P = Unit {0}
-IfRacer (Some (member.Parked k)) P = Unit {0}
+IfRacer (Some m) P = IfSome m.part (λ r. P (racing (arc_value m.race) r))
 
--- if the handle is a sweeper's, it is so of the sweeper
-abbrev pub IfSweeper : Option Member → (Sweeping → Type 0) → Type 0
+-- if the handle has a sweeper, it is so of it
+abbrev pub IfSweeper : Option SweeperMember → (Sweeping → Type 0) → Type 0
 IfSweeper None P = Unit {0}
-IfSweeper (Some (member.Racer a)) P = Unit {0}
-IfSweeper (Some (member.Sweeper b)) P = P b
-IfSweeper (Some (member.Parked k)) P = Unit {0}
-
--- the handle is open, and no racer's
-abbrev pub IsNoRacer : Option Member → Type 0
-IsNoRacer None = ⊥
-IsNoRacer (Some (member.Racer a)) = ⊥
-IsNoRacer (Some (member.Sweeper b)) = Unit {0}
-IsNoRacer (Some (member.Parked k)) = Unit {0}
-
--- the handle is open, and no sweeper's
-abbrev pub IsNoSweeper : Option Member → Type 0
-IsNoSweeper None = ⊥
-IsNoSweeper (Some (member.Racer a)) = Unit {0}
-IsNoSweeper (Some (member.Sweeper b)) = ⊥
-IsNoSweeper (Some (member.Parked k)) = Unit {0}
+IfSweeper (Some m) P = IfSome m.part (λ w. P (sweeping m w))
 
 abbrev pub racer_race_of : Racing → Race
-racer_race_of a = arc_value a.race
+racer_race_of a = a.race
 
 abbrev pub sweeper_race_of : Sweeping → Race
-sweeper_race_of b = arc_value b.race
+sweeper_race_of b = b.race
 
 -- a racer before and after a store of the place t to slot p
 pub record Stores (a : Racing) (p : ℕ) (t : Option ℕ) (k : Kind) (b : Racing) : Type 0 where
@@ -101,51 +96,39 @@ pub record Sweeps (a : Sweeping) (card : ℕ) (b : Sweeping) : Type 0 where
   pub swept : (sweeper_view b.sweeper).swept ≡ card ∷ (sweeper_view a.sweeper).swept
 
 -- what the handles hold
-abbrev pub held : List MemberHandle → List (Option Member)
-held hs = map (λ h. h.value) hs
+abbrev pub held_racers : List RacerHandle → List (Option RacerMember)
+held_racers hs = map (λ h. h.value) hs
+
+abbrev pub held_sweepers : List SweeperHandle → List (Option SweeperMember)
+held_sweepers hs = map (λ h. h.value) hs
+
+-- what this racer or sweeper knows
+abbrev pub view_of : {P : Type 0} → Ghosts P → Option P → View
+view_of g None = nothing
+view_of g (Some part) = g.view part
 
 -- the handles are closed
-abbrev pub AreClosed : List (Option Member) → Type 0
-AreClosed members = All (λ m. m ≡ None) members
+abbrev pub AreClosed : {A : Type 0} → List (Option A) → Type 0
+AreClosed values = All (λ v. v ≡ None) values
 
--- the handle is open, and it is so of its member
-abbrev pub OfMember : Option Member → (Member → Type 0) → Type 0
-OfMember None P = ⊥
-OfMember (Some m) P = P m
+module _ {P : Type 0} {g : Ghosts P} where
+  -- the racer or the sweeper behind a handle, if there is one
+  abbrev pub part_in : Option (Member P g) → Option P
+  part_in None = None
+  part_in (Some m) = m.part
 
-abbrev pub role_of : Member → Role
-role_of (member.Racer a) = roles.Racer
-role_of (member.Sweeper b) = roles.Sweeper
-role_of (member.Parked k) = roles.Parked
+  -- the handle has a member with its part, whose race has this many members
+  abbrev pub IsAmong : ℕ → Option (Member P g) → Type 0
+  IsAmong members m =
+      IsSomeAnd m (λ x. IsSome x.part × ((race_shape (arc_value x.race)).members ≡ members))
 
--- the race that a member is of
-abbrev pub race_of : Member → Race
-race_of (member.Racer a) = racer_race_of a
-race_of (member.Sweeper b) = sweeper_race_of b
-race_of (member.Parked k) = arc_value k.race
+  -- the handle's member is of this race
+  abbrev pub IsOf : Race → Option (Member P g) → Type 0
+  IsOf race m = IsSomeAnd m (λ x. arc_value x.race ≡ race)
 
--- how many members its race has
-abbrev pub members_of : Member → ℕ
-members_of m = (race_shape (race_of m)).members
-
--- the handle's member has this role
-abbrev pub HasRole : Role → Option Member → Type 0
-HasRole role m = OfMember m (λ x. role_of x ≡ role)
-
--- the handle's member has this role, and its race has this many members
-abbrev pub IsAmong : Role → ℕ → Option Member → Type 0
-IsAmong role members m = OfMember m (λ x. (role_of x ≡ role) × (members_of x ≡ members))
-
--- the handle's member is of this race
-abbrev pub IsOf : Race → Option Member → Type 0
-IsOf race m = OfMember m (λ x. race_of x ≡ race)
-
--- what the member knows
-abbrev pub known_to : Option Member → View
-known_to None = nothing
-known_to (Some (member.Racer a)) = racer_view a.racer
-known_to (Some (member.Sweeper b)) = sweeper_view b.sweeper
-known_to (Some (member.Parked k)) = nothing
+  -- what the racer or the sweeper behind a handle knows
+  abbrev pub known_to : Option (Member P g) → View
+  known_to m = view_of g (part_in m)
 
 -- what is left of a race that ended with racers and sweepers who know this
 pub record IsEndOf (race : Race) (racers sweepers : List View) (e : Ended) : Type 0 where

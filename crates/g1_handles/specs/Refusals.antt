@@ -7,11 +7,11 @@ use Rattle.g1_core.specs.Machine.{Machine}
 use Rattle.g1_race.specs.Members.{race_layout}
 use Rattle.g1_handles.specs.declared.code.Refusal.{Refusal}
 use Rattle.g1_handles.specs.declared.code.Refusal.TheVariants as refusal
+use Rattle.g1_handles.specs.declared.member.Part.{Ghosts}
 use Rattle.g1_handles.specs.declared.member.Member.{Member}
-use Rattle.g1_handles.specs.declared.member.Racing.{Racing}
+use Rattle.g1_handles.specs.Own.{RacerMember, SweeperMember}
 use Rattle.g1_handles.specs.Codes.{OfOpen, IsStoreOf}
-use Rattle.g1_handles.specs.Racing.{racer_race_of, sweeper_race_of, OfRacer, OfSweeper}
-use Rattle.g1_handles.specs.Racing.{IsNoRacer, IsNoSweeper}
+use Rattle.g1_handles.specs.Racing.{Racing, racer_race_of, sweeper_race_of, OfRacer, OfSweeper, part_in}
 
 -- the handle is closed
 abbrev pub SaysNotOpen : Option Machine → Refusal → Type 0
@@ -45,17 +45,9 @@ SaysTooMany given r = (r ≡ refusal.TooManyCards) × (256 < given)
 abbrev pub SaysNoPlace : Shape → ℕ → ℕ → Refusal → Type 0
 SaysNoPlace l slot target r = (r ≡ refusal.NoSlot) × (IsStoreOf l slot target → ⊥)
 
--- the member's handle is closed
-abbrev pub SaysNoMember : Option Member → Refusal → Type 0
-SaysNoMember m r = (r ≡ refusal.NotOpen) × (m ≡ None)
-
--- the handle is open, and not that of a racer, which is asked for
-abbrev pub SaysNoRacer : Option Member → Refusal → Type 0
-SaysNoRacer m r = (r ≡ refusal.OtherRole) × IsNoRacer m
-
--- the handle is open, and not that of a sweeper, which is asked for
-abbrev pub SaysNoSweeper : Option Member → Refusal → Type 0
-SaysNoSweeper m r = (r ≡ refusal.OtherRole) × IsNoSweeper m
+-- the member's handle is closed: a member in a handle has its racer or its sweeper
+abbrev pub SaysNoMember : {P : Type 0} {g : Ghosts P} → Option (Member P g) → Refusal → Type 0
+SaysNoMember m r = (r ≡ refusal.NotOpen) × (part_in m ≡ None)
 
 -- a store of the target into the slot, which takes no memory
 abbrev pub IsStoreRefused : Option Machine → ℕ → ℕ → Refusal → Type 0
@@ -81,35 +73,31 @@ SaysNoStore a slot target r =
     ⊎ SaysNoPlace (race_layout (racer_race_of a)) slot target r
 
 -- a call by the racer of a handle, which is refused of the racer for this
-abbrev pub IsRacerRefused : Option Member → (Racing → Refusal → Type 0) → Refusal → Type 0
-IsRacerRefused m Why r = SaysNoMember m r ⊎ SaysNoRacer m r ⊎ OfRacer m (λ a. Why a r)
+abbrev pub IsRacerRefused : Option RacerMember → (Racing → Refusal → Type 0) → Refusal → Type 0
+IsRacerRefused m Why r = SaysNoMember m r ⊎ OfRacer m (λ a. Why a r)
 
 -- a store of the target into the slot by the racer of a handle
-abbrev pub IsRaceStoreRefused : Option Member → ℕ → ℕ → Refusal → Type 0
+abbrev pub IsRaceStoreRefused : Option RacerMember → ℕ → ℕ → Refusal → Type 0
 IsRaceStoreRefused m slot target = IsRacerRefused m (λ a. SaysNoStore a slot target)
 
 -- a compare-and-swap of what is expected for the target
-abbrev pub IsRaceExchangeRefused : Option Member → ℕ → ℕ → ℕ → Refusal → Type 0
+abbrev pub IsRaceExchangeRefused : Option RacerMember → ℕ → ℕ → ℕ → Refusal → Type 0
 IsRaceExchangeRefused m slot expected target =
     IsRacerRefused m (λ a r. SaysNoStore a slot target r
     ⊎ SaysNoPlace (race_layout (racer_race_of a)) slot expected r)
 
 -- a store of data by the racer of a handle
-abbrev pub IsRaceDataRefused : Option Member → ℕ → ℕ → Refusal → Type 0
+abbrev pub IsRaceDataRefused : Option RacerMember → ℕ → ℕ → Refusal → Type 0
 IsRaceDataRefused m slot word r =
-    SaysNoMember m r ⊎ SaysNoRacer m r
+    SaysNoMember m r
     ⊎ ((r ≡ refusal.NoSlot)
     × OfRacer m (λ a. slot_count (race_layout (racer_race_of a)) ≤ slot))
     ⊎ ((r ≡ refusal.BadWord) × (word < 2 ^ 32))
 
--- the log of the racer of a handle
-abbrev pub IsLogRefused : Option Member → Refusal → Type 0
-IsLogRefused m r = SaysNoMember m r ⊎ SaysNoRacer m r
-
 -- the refinement of the card by the sweeper of a handle, which takes no memory
-abbrev pub IsSweepRefused : Option Member → ℕ → Refusal → Type 0
+abbrev pub IsSweepRefused : Option SweeperMember → ℕ → Refusal → Type 0
 IsSweepRefused m card r =
-    SaysNoMember m r ⊎ SaysNoSweeper m r
+    SaysNoMember m r
     ⊎ ((r ≡ refusal.NoCard)
     × OfSweeper m (λ b. card_count (race_layout (sweeper_race_of b)) ≤ card))
 

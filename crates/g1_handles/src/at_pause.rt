@@ -6,6 +6,7 @@ ghost use Rattle.g1_handles.specs.declared.code.Refusal.{Refusal};
 ghost use Rattle.g1_handles.specs.AtPause.{IsKept};
 ghost use Rattle.g1_handles.specs.HeapCalls.{IsCalled};
 
+use crate::any_handle::AnyHandle;
 use crate::code::Refusal;
 use crate::heap_handle::HeapHandle;
 use crate::racing_heap::RacingHeap;

@@ -54,8 +54,6 @@ pub enum Refusal {
     StillPending,
     /// A clear, while a slot outside the region refers into it.
     StillReferenced,
-    /// A sweeper's handle was passed for a racer's, or a racer's for a sweeper's.
-    OtherRole,
     /// A racer's log is full.
     LogFull,
     /// There are not as many handles as the heap has members, or a heap may not have as many.
@@ -90,7 +88,6 @@ impl Refusal {
             Refusal::SameRegion => 18,
             Refusal::StillPending => 19,
             Refusal::StillReferenced => 20,
-            Refusal::OtherRole => 21,
             Refusal::LogFull => 22,
             Refusal::BadMembers => 23,
             Refusal::OtherRace => 24,

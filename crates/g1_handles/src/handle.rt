@@ -22,9 +22,9 @@ pub struct Handle {
 }
 
 impl Model for Handle {
-    ghost use Rattle.g1_handles.specs.Own.{holds_core};
+    ghost use Rattle.g1_handles.specs.Own.{holds, core_row};
 
-    ghost also_owns = { λ h. holds_core h.alloc h.at h.value };
+    ghost also_owns = { λ h. holds core_row h.alloc h.at h.value };
 }
 
 impl Handle {
@@ -67,10 +67,3 @@ impl Handle {
 
 /// A core may go to another thread.
 unsafe impl Send for Handle {}
-
-fn sent<T: Send>(_value: &T) {}
-
-/// This compiles only if a handle may go to another thread.
-pub fn is_sent(handle: &Handle) {
-    sent(handle);
-}

@@ -1,17 +1,18 @@
 //! How a heap whose stores race begins and ends: at a pause.
-ghost use Rattle.std.specs.Prelude.{◌≡◌, ◌≤◌, IsTrue, Some, None, All, IfOk, IfErr, OnOk, OnErr};
+ghost use Rattle.std.specs.Prelude.{◌≡◌, IsTrue, Some, None, All, IfOk, IfErr, OnOk, OnErr};
 ghost use Rattle.std.specs.Prelude.{vec_len};
 ghost use Rattle.std.specs.Arc.{arc_value};
 ghost use Rattle.g1_handles.specs.Codes.{layout_of};
 ghost use Rattle.g1_handles.specs.Life.{IsNewHeap, IsOpeningRefused, AreHeapCounts, OfPaused};
 ghost use Rattle.g1_handles.specs.Life.{IsEndRefused};
-ghost use Rattle.g1_handles.specs.Parked.{parked_race};
 
+use crate::any_handle::AnyHandle;
 use crate::calls::Counts;
 use crate::code::Refusal;
 use crate::heap_handle::HeapHandle;
-use crate::member::{Member, Parking};
+use crate::member::{Member, Part};
 use crate::racing_heap::{AtPause, RacingHeap};
+use crate::seats::is_closed;
 use core::mem::replace_with;
 use g1_layout::{Layout, NoMemory};
 use g1_race::{Paused, Race};
@@ -40,7 +41,7 @@ pub fn open_heap(
     if !are_heap_counts(racers, sweepers) {
         return Err(Refusal::BadMembers);
     }
-    if !replace_with(handle, alloc, is_closed) {
+    if !is_closed(alloc, handle) {
         return Err(Refusal::AlreadyOpen);
     }
     let Some(layout) = Layout::large(counts.regions, counts.cards, counts.slots) else {
@@ -49,7 +50,7 @@ pub fn open_heap(
     let Ok(heap) = new_heap(alloc, layout, racers, sweepers) else {
         return Err(Refusal::NoMemory);
     };
-    replace_with(handle, heap, put_in);
+    *handle = HeapHandle::of(RawBox::of(heap));
     Ok(())
 }
 
@@ -59,23 +60,6 @@ fn are_heap_counts(racers: u32, sweepers: u32) -> bool
     ensures none { AreHeapCounts racers sweepers → IsTrue result }
 {
     1 <= racers && racers <= 64 && 1 <= sweepers && sweepers <= 64
-}
-
-fn is_closed(handle: HeapHandle, alloc: Global) -> (HeapHandle, bool)
-    ensures same { result.0.value ≡ handle.value }
-    ensures closed { IsTrue result.1 → handle.value ≡ None }
-    ensures open { handle.value ≡ None → IsTrue result.1 }
-{
-    match handle.into_raw_box() {
-        None => (HeapHandle::closed(alloc), true),
-        Some(heap) => (HeapHandle::of(heap), false),
-    }
-}
-
-fn put_in(_handle: HeapHandle, heap: Box<RacingHeap>) -> (HeapHandle, ())
-    ensures { result.0.value ≡ Some heap.value }
-{
-    (HeapHandle::of(RawBox::of(heap)), ())
 }
 
 fn new_heap(
@@ -89,8 +73,8 @@ fn new_heap(
 {
     let paused = Paused::open(alloc, layout, racers, sweepers)?;
     let (pause, race) = paused.shared(alloc)?;
-    let racers = parked(alloc, &race, racers as usize)?;
-    let sweepers = parked(alloc, &race, sweepers as usize)?;
+    let racers = waiting(alloc, &race, racers as usize)?;
+    let sweepers = waiting(alloc, &race, sweepers as usize)?;
     let at = AtPause {
         race,
         pause,
@@ -101,20 +85,25 @@ fn new_heap(
 }
 
 /// As many members that wait, each in its box.
-fn parked(
+fn waiting<P: Part>(
     alloc: Global,
     race: &Arc<Race, Global>,
     count: usize,
-) -> Result<Vec<Box<Member>>, NoMemory>
+) -> Result<Vec<Box<Member<P>>>, NoMemory>
     ensures count { IfOk result (λ members. vec_len members ≡ count) }
-    ensures parked { IfOk result (λ members.
-        All (λ m. parked_race m.value ≡ Some (arc_value race.now)) members.items) }
+    ensures race { IfOk result (λ members.
+        All (λ m. arc_value m.value.race ≡ arc_value race.now) members.items) }
 {
     let mut members = Vec::with_capacity(alloc, count)?;
     for number in 0..count {
         let race = Arc::try_clone(race)?;
-        let member = Box::new(alloc, Member::Parked(Parking { race, number }))?;
-        members.push(member)?;
+        let member = Member {
+            race,
+            number,
+            part: None,
+            apart: [0; 8],
+        };
+        members.push(Box::new(alloc, member)?)?;
     }
     Ok(members)
 }

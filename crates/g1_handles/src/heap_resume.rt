@@ -3,21 +3,19 @@ ghost use Rattle.std.specs.Prelude.{◌≡◌, Some, All, IfErr, OnOk, OnErr, le
 ghost use Rattle.std.specs.Prelude.{vec_capacity};
 ghost use Rattle.std.specs.Arc.{arc_value};
 ghost use Rattle.g1_race.specs.declared.race.Race.{Race};
-ghost use Rattle.g1_race.specs.Members.{race_id, racer_race, sweeper_race};
 ghost use Rattle.g1_handles.specs.Life.{OfPaused, OfRacing, GoesOn, LetsGo, IsLetGo, IsFor};
-ghost use Rattle.g1_handles.specs.Life.{IsGoingRefused, AreRacersFor, AreSweepersFor, racer_in};
-ghost use Rattle.g1_handles.specs.Life.{heap_race, sweeper_in};
-ghost use Rattle.g1_handles.specs.Parked.{parked_race};
-ghost use Rattle.g1_handles.specs.Racing.{held, AreClosed, IsOf};
+ghost use Rattle.g1_handles.specs.Life.{IsGoingRefused, AreFor, heap_race};
+ghost use Rattle.g1_handles.specs.Racing.{held_racers, held_sweepers, part_in, AreClosed, IsOf};
 
+use crate::any_handle::AnyHandle;
 use crate::code::Refusal;
 use crate::heap_handle::HeapHandle;
-use crate::member::{Member, Parking, Racing, Sweeping};
-use crate::member_handle::MemberHandle;
+use crate::member::{Member, Part};
+use crate::racer_handle::RacerHandle;
 use crate::racing_heap::{AtPause, RacingHeap, Room, UnderWay};
-use crate::seats::{are_closed, put_in};
+use crate::seats::are_closed;
+use crate::sweeper_handle::SweeperHandle;
 use core::mem::{replace, replace_with};
-use g1_race::{Racer, Sweeper};
 use raw_box::RawBox;
 use std::alloc::Global;
 
@@ -30,20 +28,20 @@ use std::alloc::Global;
 pub fn resume_heap(
     alloc: Global,
     handle: &mut HeapHandle,
-    racers: &mut [MemberHandle],
-    sweepers: &mut [MemberHandle],
+    racers: &mut [RacerHandle],
+    sweepers: &mut [SweeperHandle],
 ) -> Result<(), Refusal>
     ensures resumed { OnOk result (OfPaused handle.old.value (λ p.
         OfRacing handle.new.value (λ b.
-        GoesOn p (arc_value b.race) (held racers.new) (held sweepers.new)))) }
+        GoesOn p (arc_value b.race) (held_racers racers.new) (held_sweepers sweepers.new)))) }
     ensures same { OnOk result (heap_race handle.new.value ≡ heap_race handle.old.value) }
     ensures members { OnOk result (IsFor handle.old.value (length racers.old) (length sweepers.old)
         × IsFor handle.new.value (length racers.old) (length sweepers.old)) }
-    ensures closed { OnOk result (AreClosed (held racers.old) × AreClosed (held sweepers.old)) }
+    ensures closed { OnOk result (AreClosed (held_racers racers.old) × AreClosed (held_sweepers sweepers.old)) }
     ensures why { IfErr result (λ refusal.
-        IsGoingRefused handle.old.value (held racers.old) (held sweepers.old) refusal) }
+        IsGoingRefused handle.old.value (held_racers racers.old) (held_sweepers sweepers.old) refusal) }
     ensures refused { OnErr result ((handle.new.value ≡ handle.old.value)
-        × (held racers.new ≡ held racers.old) × (held sweepers.new ≡ held sweepers.old)) }
+        × (held_racers racers.new ≡ held_racers racers.old) × (held_sweepers sweepers.new ≡ held_sweepers sweepers.old)) }
 {
     let Some(heap) = replace(handle, HeapHandle::closed(alloc)).into_raw_box() else {
         return Err(Refusal::NotOpen);
@@ -57,20 +55,20 @@ pub fn resume_heap(
 fn resume_of(
     alloc: Global,
     heap: &mut RacingHeap,
-    racers: &mut [MemberHandle],
-    sweepers: &mut [MemberHandle],
+    racers: &mut [RacerHandle],
+    sweepers: &mut [SweeperHandle],
 ) -> Result<(), Refusal>
     ensures resumed { OnOk result (OfPaused (Some heap.old) (λ p.
         OfRacing (Some heap.new) (λ b.
-        GoesOn p (arc_value b.race) (held racers.new) (held sweepers.new)))) }
+        GoesOn p (arc_value b.race) (held_racers racers.new) (held_sweepers sweepers.new)))) }
     ensures same { OnOk result (heap_race (Some heap.new) ≡ heap_race (Some heap.old)) }
     ensures members { OnOk result (IsFor (Some heap.old) (length racers.old) (length sweepers.old)
         × IsFor (Some heap.new) (length racers.old) (length sweepers.old)) }
-    ensures closed { OnOk result (AreClosed (held racers.old) × AreClosed (held sweepers.old)) }
+    ensures closed { OnOk result (AreClosed (held_racers racers.old) × AreClosed (held_sweepers sweepers.old)) }
     ensures why { IfErr result (λ refusal.
-        IsGoingRefused (Some heap.old) (held racers.old) (held sweepers.old) refusal) }
+        IsGoingRefused (Some heap.old) (held_racers racers.old) (held_sweepers sweepers.old) refusal) }
     ensures refused { OnErr result ((heap.new ≡ heap.old)
-        × (held racers.new ≡ held racers.old) × (held sweepers.new ≡ held sweepers.old)) }
+        × (held_racers racers.new ≡ held_racers racers.old) × (held_sweepers sweepers.new ≡ held_sweepers sweepers.old)) }
 {
     let RacingHeap::Paused(at) = &*heap else {
         return Err(Refusal::NotPaused);
@@ -129,42 +127,42 @@ fn begin(at: AtPause) -> UnderWay
 }
 
 /// Gives each handle a member of a heap that has just been let go.
-fn hand_out(under_way: &mut UnderWay, racers: &mut [MemberHandle], sweepers: &mut [MemberHandle])
-    requires racers { AreRacersFor (arc_value under_way.old.race) (length racers.old)
+fn hand_out(under_way: &mut UnderWay, racers: &mut [RacerHandle], sweepers: &mut [SweeperHandle])
+    requires racers { AreFor (arc_value under_way.old.race) (length racers.old)
         under_way.old.racers.boxes under_way.old.racers.parts }
-    requires sweepers { AreSweepersFor (arc_value under_way.old.race) (length sweepers.old)
+    requires sweepers { AreFor (arc_value under_way.old.race) (length sweepers.old)
         under_way.old.sweepers.boxes under_way.old.sweepers.parts }
     ensures same { (arc_value under_way.new.race ≡ arc_value under_way.old.race)
         × (under_way.new.racers.count ≡ under_way.old.racers.count)
         × (under_way.new.sweepers.count ≡ under_way.old.sweepers.count) }
-    ensures racers { map racer_in (held racers.new)
+    ensures racers { map part_in (held_racers racers.new)
         ≡ map Some under_way.old.racers.parts.items }
-    ensures sweepers { map sweeper_in (held sweepers.new)
+    ensures sweepers { map part_in (held_sweepers sweepers.new)
         ≡ map Some under_way.old.sweepers.parts.items }
-    ensures race { All (IsOf (arc_value under_way.old.race)) (held racers.new)
-        × All (IsOf (arc_value under_way.old.race)) (held sweepers.new) }
+    ensures race { All (IsOf (arc_value under_way.old.race)) (held_racers racers.new)
+        × All (IsOf (arc_value under_way.old.race)) (held_sweepers sweepers.new) }
 {
     let UnderWay {
         race: _,
         racers: racing,
         sweepers: sweeping,
     } = under_way;
-    hand_out_racers(&mut racing.boxes, &mut racing.parts, racers);
-    hand_out_sweepers(&mut sweeping.boxes, &mut sweeping.parts, sweepers);
+    hand_out_to(racers, &mut racing.boxes, &mut racing.parts);
+    hand_out_to(sweepers, &mut sweeping.boxes, &mut sweeping.parts);
 }
 
-/// Gives each handle the racer of its place, in the box of that place.
-fn hand_out_racers(
-    boxes: &mut Vec<Box<Member>>,
-    racers: &mut Vec<Racer>,
-    handles: &mut [MemberHandle],
+/// Gives each handle the part of its place, in the box of that place.
+fn hand_out_to<P: Part, H: AnyHandle<Value = Member<P>>>(
+    handles: &mut [H],
+    boxes: &mut Vec<Box<Member<P>>>,
+    parts: &mut Vec<P>,
 )
-    requires { (race : Race) × AreRacersFor race (length handles.old) boxes.old racers.old }
-    ensures racers { map racer_in (held handles.new) ≡ map Some racers.old.items }
-    ensures race { (race : Race) → All (λ m. parked_race m.value ≡ Some race) boxes.old.items →
-        All (IsOf race) (held handles.new) }
+    requires { (race : Race) × AreFor race (length handles.old) boxes.old parts.old }
+    ensures parts { map part_in (map H.value handles.new) ≡ map Some parts.old.items }
+    ensures race { (race : Race) → All (λ m. arc_value m.value.race ≡ race) boxes.old.items →
+        All (IsOf race) (map H.value handles.new) }
     ensures capacity { (vec_capacity boxes.new ≡ vec_capacity boxes.old)
-        × (vec_capacity racers.new ≡ vec_capacity racers.old) }
+        × (vec_capacity parts.new ≡ vec_capacity parts.old) }
 {
     let mut left = handles.len();
     while left > 0 {
@@ -172,82 +170,10 @@ fn hand_out_racers(
         let Some(mut member) = boxes.pop() else {
             unreachable!()
         };
-        let Some(racer) = racers.pop() else {
+        let Some(part) = parts.pop() else {
             unreachable!()
         };
-        replace_with(&mut *member, racer, seat_racer);
-        replace_with(&mut handles[left], member, put_in);
-    }
-}
-
-/// Makes a racer of what waits for it.
-fn seat_racer(member: Member, racer: Racer) -> (Member, ())
-    requires { (race : Race) × (parked_race member ≡ Some race)
-        × (racer_race racer ≡ race_id race) }
-    ensures racer { racer_in (Some result.0) ≡ Some racer }
-    ensures race { (race : Race) → parked_race member ≡ Some race → IsOf race (Some result.0) }
-{
-    match member {
-        Member::Parked(parking) => {
-            let Parking { race, number } = parking;
-            let racing = Racing {
-                race,
-                racer,
-                number,
-                apart: [0; 8],
-            };
-            (Member::Racer(racing), ())
-        }
-        Member::Racer(_) => unreachable!(),
-        Member::Sweeper(_) => unreachable!(),
-    }
-}
-
-/// Gives each handle the sweeper of its place, in the box of that place.
-fn hand_out_sweepers(
-    boxes: &mut Vec<Box<Member>>,
-    sweepers: &mut Vec<Sweeper>,
-    handles: &mut [MemberHandle],
-)
-    requires { (race : Race) × AreSweepersFor race (length handles.old) boxes.old sweepers.old }
-    ensures sweepers { map sweeper_in (held handles.new) ≡ map Some sweepers.old.items }
-    ensures race { (race : Race) → All (λ m. parked_race m.value ≡ Some race) boxes.old.items →
-        All (IsOf race) (held handles.new) }
-    ensures capacity { (vec_capacity boxes.new ≡ vec_capacity boxes.old)
-        × (vec_capacity sweepers.new ≡ vec_capacity sweepers.old) }
-{
-    let mut left = handles.len();
-    while left > 0 {
-        left -= 1;
-        let Some(mut member) = boxes.pop() else {
-            unreachable!()
-        };
-        let Some(sweeper) = sweepers.pop() else {
-            unreachable!()
-        };
-        replace_with(&mut *member, sweeper, seat_sweeper);
-        replace_with(&mut handles[left], member, put_in);
-    }
-}
-
-/// Makes a sweeper of what waits for it.
-fn seat_sweeper(member: Member, sweeper: Sweeper) -> (Member, ())
-    requires { (race : Race) × (parked_race member ≡ Some race)
-        × (sweeper_race sweeper ≡ race_id race) }
-    ensures sweeper { sweeper_in (Some result.0) ≡ Some sweeper }
-    ensures race { (race : Race) → parked_race member ≡ Some race → IsOf race (Some result.0) }
-{
-    match member {
-        Member::Parked(parking) => {
-            let Parking { race, number } = parking;
-            let sweeping = Sweeping {
-                race,
-                sweeper,
-                number,
-            };
-            (Member::Sweeper(sweeping), ())
-        }
-        Member::Racer(_) => unreachable!(),
-        Member::Sweeper(_) => unreachable!(),
+        member.seat(part);
+        handles[left] = H::of(RawBox::of(member));
     }
 }

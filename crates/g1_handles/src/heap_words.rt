@@ -5,6 +5,7 @@ ghost use Rattle.g1_race.specs.Members.{race_words};
 ghost use Rattle.g1_handles.specs.AtPause.{IsKept, HasWord, StoresDataAt, LacksSlot};
 ghost use Rattle.g1_handles.specs.Life.{OfHeap, SaysNoHeap};
 
+use crate::any_handle::AnyHandle;
 use crate::at_pause::PausedHeap;
 use crate::code::Refusal;
 use crate::heap_handle::HeapHandle;

@@ -3,7 +3,8 @@
 //! The library is a checked shadow of a runtime's references: it must be told of each store. Its
 //! modules:
 //!
-//! - [`handle`] has the handle of a core, and [`calls`] opens and closes it.
+//! - [`handle`] has the handle of a core, and [`calls`] opens and closes it. [`any_handle`] says what
+//!   the other handles have in common, and [`sent`] that each may go to another thread.
 //! - [`store`], [`batch`], [`refinement`] and [`pause`] are the path of a card.
 //! - [`clearing`] and [`redirection`] may follow an evacuation.
 //! - [`queries`] and [`members`] read what is known, and [`code`] has the codes that calls return.
@@ -11,10 +12,10 @@
 //!   [`heap_handle`] its handle. [`heap_open`] begins and ends it, [`heap_resume`] hands its
 //!   members out, and [`heap_pause`] takes them in. Before anything changes, a pause checks that
 //!   it was given all members of the heap (`look`, `one_race`).
-//! - [`member_handle`] is the handle of a member, a racer or a sweeper. [`race_store`],
-//!   [`race_log`] and [`race_refine`] are the path of a card while members are out.
-//!   [`race_exchange`] has the stores that return what a slot referred to or depend on it,
-//!   [`race_batch`] several stores by one call, and [`race_data`] a store of data.
+//! - [`member`] is a racer or a sweeper with its race, and [`racer_handle`] and [`sweeper_handle`]
+//!   are their handles. [`race_store`], [`race_log`] and [`race_refine`] are the path of a card
+//!   while members are out. [`race_exchange`] has the stores that return what a slot referred to or
+//!   depend on it, [`race_batch`] several stores by one call, and [`race_data`] a store of data.
 //! - [`heap_queries`], [`heap_drains`], [`heap_stores`], [`heap_copy`], [`heap_evacuation`] and
 //!   [`heap_words`] are the collector's calls at a pause, on an [`at_pause::PausedHeap`].
 //!
@@ -27,6 +28,7 @@
 //! before it is made.) There is no text, no callback, no thread and no lock inside.
 #![tactic(auto)]
 
+pub mod any_handle;
 pub mod at_pause;
 pub mod batch;
 pub mod calls;
@@ -46,7 +48,6 @@ pub mod heap_words;
 pub mod list;
 mod look;
 pub mod member;
-pub mod member_handle;
 pub mod members;
 mod one_race;
 pub mod pause;
@@ -57,8 +58,11 @@ pub mod race_exchange;
 pub mod race_log;
 pub mod race_refine;
 pub mod race_store;
+pub mod racer_handle;
 pub mod racing_heap;
 pub mod redirection;
 pub mod refinement;
 mod seats;
+pub mod sent;
 pub mod store;
+pub mod sweeper_handle;

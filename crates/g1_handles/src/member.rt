@@ -1,68 +1,71 @@
-//! A member of a race: a racer or a sweeper, with its share of the race, or what waits for one.
-ghost use Rattle.std.specs.Prelude.{◌≡◌};
+//! A member of a race: a racer or a sweeper, with its share of the race.
+ghost use Rattle.std.specs.Prelude.{◌≡◌, Some, None};
+ghost use Rattle.std.specs.Option.{ForSome};
 ghost use Rattle.std.specs.Arc.{arc_value};
-ghost use Rattle.g1_race.specs.Members.{race_id, racer_race, sweeper_race};
+ghost use Rattle.g1_race.specs.Members.{race_id};
 
 use g1_race::{Race, Racer, Sweeper};
 use std::alloc::Global;
 use std::sync::Arc;
 
-/// A racer and its race.
-#[derive(Drop)]
-pub struct Racing {
-    pub(crate) race: Arc<Race, Global>,
-    pub(crate) racer: Racer,
-    // Its number among the racers of its race.
-    pub(crate) number: usize,
-    // Padding of a cache line: boxes of racers lie side by side, and a store writes the end of its
-    // racer.
-    pub(crate) apart: [u64; 8],
-    ghost same: { racer_race racer ≡ race_id (arc_value race) },
+/// What a member takes part by: a racer stores, and a sweeper refines.
+pub trait Part: Drop {
+    ghost use Rattle.atomic_table.specs.Seated.{TableId};
+    ghost use Rattle.g1_race_words.specs.declared.view.Shape.{Shape};
+    ghost use Rattle.g1_race_words.specs.declared.view.View.{View};
+
+    /// The race that it is of.
+    ghost of: { Self → TableId × Shape };
+
+    /// What it knows.
+    ghost view: { Self → View };
 }
 
-/// A sweeper and its race.
-#[derive(Drop)]
-pub struct Sweeping {
-    pub(crate) race: Arc<Race, Global>,
-    pub(crate) sweeper: Sweeper,
-    // Its number among the sweepers of its race.
-    pub(crate) number: usize,
-    ghost same: { sweeper_race sweeper ≡ race_id (arc_value race) },
+impl Part for Racer {
+    ghost use Rattle.g1_race.specs.Members.{racer_race, racer_view};
+
+    ghost of = { racer_race };
+
+    ghost view = { racer_view };
 }
 
-/// What is left of a racer or of a sweeper while its heap is at a pause.
-#[derive(Drop)]
-pub struct Parking {
-    pub(crate) race: Arc<Race, Global>,
-    // Its number among the racers or the sweepers of its race.
-    pub(crate) number: usize,
+impl Part for Sweeper {
+    ghost use Rattle.g1_race.specs.Members.{sweeper_race, sweeper_view};
+
+    ghost of = { sweeper_race };
+
+    ghost view = { sweeper_view };
 }
 
 /// A member of a race.
 #[derive(Drop)]
-pub enum Member {
-    /// It stores.
-    Racer(Racing),
-    /// It refines.
-    Sweeper(Sweeping),
-    /// It waits for the end of a pause, in no handle.
-    Parked(Parking),
+pub struct Member<P: Part> {
+    pub(crate) race: Arc<Race, Global>,
+    // Its number among the racers or the sweepers of its race.
+    pub(crate) number: usize,
+    // None while its heap is at a pause: the member waits then, in no handle.
+    pub(crate) part: Option<P>,
+    // Padding of a cache line: boxes of racers lie side by side, and a store writes the end of its
+    // racer.
+    pub(crate) apart: [u64; 8],
+    ghost same: { ForSome part (λ p. P.of p ≡ race_id (arc_value race)) },
 }
 
-/// What a member does.
-#[derive(Clone, Copy, PartialEq, Eq)]
-pub enum Role {
-    /// It stores.
-    Racer,
-    /// It refines.
-    Sweeper,
-    /// It waits.
-    Parked,
-}
+impl<P: Part> Member<P> {
+    /// Takes its part, and leaves it waiting.
+    pub(crate) fn park(&mut self) -> Option<P>
+        ensures part { result ≡ self.old.part }
+        ensures race { arc_value self.new.race ≡ arc_value self.old.race }
+    {
+        self.part.take()
+    }
 
-fn sent<T: Send>(_value: &T) {}
-
-/// This compiles only if a member may go to another thread.
-pub fn is_member_sent(member: &Member) {
-    sent(member);
+    /// Gives it a part.
+    pub(crate) fn seat(&mut self, part: P)
+        requires { P.of part ≡ race_id (arc_value self.old.race) }
+        ensures part { self.new.part ≡ Some part }
+        ensures race { arc_value self.new.race ≡ arc_value self.old.race }
+    {
+        self.part = Some(part);
+    }
 }

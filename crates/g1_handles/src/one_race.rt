@@ -5,13 +5,15 @@
 //! member is of the same race, and only then. Each member also has a number, so that a member that
 //! is given twice is seen. No proof uses what the counts say: the clauses say only that nothing
 //! changes, and that the returned share is of the heap's race.
-ghost use Rattle.std.specs.Prelude.{◌≡◌, IfSome};
+ghost use Rattle.std.specs.Prelude.{◌≡◌, IfSome, map};
 ghost use Rattle.std.specs.Arc.{arc_value};
-ghost use Rattle.g1_handles.specs.Racing.{held, race_of};
+ghost use Rattle.g1_handles.specs.Racing.{held_racers, held_sweepers};
 
-use crate::member::Member;
-use crate::member_handle::MemberHandle;
-use core::mem::replace_with;
+use crate::any_handle::AnyHandle;
+use crate::member::{Member, Part};
+use crate::racer_handle::RacerHandle;
+use crate::sweeper_handle::SweeperHandle;
+use core::mem::replace;
 use g1_race::Race;
 use raw_box::RawBox;
 use std::alloc::Global;
@@ -22,10 +24,11 @@ use std::sync::Arc;
 pub(crate) fn share_of_race(
     alloc: Global,
     race: &Arc<Race, Global>,
-    racers: &mut [MemberHandle],
-    sweepers: &mut [MemberHandle],
+    racers: &mut [RacerHandle],
+    sweepers: &mut [SweeperHandle],
 ) -> Option<Arc<Race, Global>>
-    ensures same { (held racers.new ≡ held racers.old) × (held sweepers.new ≡ held sweepers.old) }
+    ensures same { (held_racers racers.new ≡ held_racers racers.old)
+        × (held_sweepers sweepers.new ≡ held_sweepers sweepers.old) }
     ensures race { IfSome result (λ share. arc_value share ≡ arc_value race.now) }
 {
     if are_of(alloc, race, racers) && are_of(alloc, race, sweepers) {
@@ -36,12 +39,16 @@ pub(crate) fn share_of_race(
 }
 
 /// Whether each of these members is of the race of a share, and none is given twice.
-fn are_of(alloc: Global, share: &Arc<Race, Global>, handles: &mut [MemberHandle]) -> bool
-    ensures { held handles.new ≡ held handles.old }
+fn are_of<P: Part, H: AnyHandle<Value = Member<P>>>(
+    alloc: Global,
+    share: &Arc<Race, Global>,
+    handles: &mut [H],
+) -> bool
+    ensures { map H.value handles.new ≡ map H.value handles.old }
 {
     let mut given = [false; 64];
     for i in 0..handles.len() {
-        let Some(number) = replace_with(&mut handles[i], (alloc, share), number_in) else {
+        let Some(number) = number_in(alloc, share, &mut handles[i]) else {
             return false;
         };
         if number >= given.len() || given[number] {
@@ -52,24 +59,19 @@ fn are_of(alloc: Global, share: &Arc<Race, Global>, handles: &mut [MemberHandle]
     true
 }
 
-/// Returns the number of a handle's member among those of its role, if it is of the race of a
-/// share.
-fn number_in(
-    handle: MemberHandle,
-    words: (Global, &Arc<Race, Global>),
-) -> (MemberHandle, Option<usize>)
-    ensures { result.0.value ≡ handle.value }
+/// Returns the number of a handle's member among the racers or the sweepers, if it is of the race
+/// of a share.
+fn number_in<P: Part, H: AnyHandle<Value = Member<P>>>(
+    alloc: Global,
+    share: &Arc<Race, Global>,
+    handle: &mut H,
+) -> Option<usize>
+    ensures { H.value handle.new ≡ H.value handle.old }
 {
-    let Some(member) = handle.into_raw_box() else {
-        return (MemberHandle::closed(words.0), None);
-    };
-    let member = member.into_box();
-    let number = if is_same(race_in(&member), words.1) {
-        Some(number_of(&member))
-    } else {
-        None
-    };
-    (MemberHandle::of(RawBox::of(member)), number)
+    let member = replace(handle, H::closed(alloc)).into_raw_box()?.into_box();
+    let number = is_same(&member.race, share).then_some(member.number);
+    *handle = H::of(RawBox::of(member));
+    number
 }
 
 /// Whether a member's race is that of a share, and has no owners but the share and its members.
@@ -79,22 +81,4 @@ fn is_same(race: &Arc<Race, Global>, share: &Arc<Race, Global>) -> bool {
         return false;
     };
     owners - 1 == race.members() && Arc::strong_count(race) - 1 == owners
-}
-
-fn race_in(member: &Member) -> &Arc<Race, Global>
-    ensures { arc_value result.now ≡ race_of member.now }
-{
-    match member {
-        Member::Racer(racing) => &racing.race,
-        Member::Sweeper(sweeping) => &sweeping.race,
-        Member::Parked(parking) => &parking.race,
-    }
-}
-
-fn number_of(member: &Member) -> usize {
-    match member {
-        Member::Racer(racing) => racing.number,
-        Member::Sweeper(sweeping) => sweeping.number,
-        Member::Parked(parking) => parking.number,
-    }
 }

@@ -1,14 +1,17 @@
 //! Several stores in a race by one call.
 ghost use Rattle.std.specs.Prelude.{◌≡◌, ◌≢◌, Some, IfOk, IfErr, IsOkAnd, OnErr};
-ghost use Rattle.g1_handles.specs.Racing.{OfRacer, IfRacer};
+ghost use Rattle.g1_race.specs.Members.{race_id, racer_race};
+ghost use Rattle.g1_handles.specs.Racing.{OfRacer, IfRacer, racing};
 ghost use Rattle.g1_handles.specs.RaceStores.{StoresFirst, CanStoreAll};
-ghost use Rattle.g1_handles.specs.Refusals.{IsRacerRefused};
+ghost use Rattle.g1_handles.specs.Refusals.{SaysNoMember};
 
+use crate::any_handle::AnyHandle;
 use crate::batch::Store;
 use crate::code::Refusal;
-use crate::member::{Member, Racing};
-use crate::member_handle::MemberHandle;
+use crate::member::Member;
 use crate::race_store::store_by;
+use crate::racer_handle::RacerHandle;
+use g1_race::{Race, Racer};
 use raw_box::RawBox;
 use std::alloc::Global;
 
@@ -33,47 +36,51 @@ pub struct RaceBatch {
 }
 
 /// Makes stores in order by the racer of a handle, which stays open, up to the first that it cannot
-/// make. Returns `NotOpen` or `OtherRole` if the call was refused: nothing has changed.
+/// make. Returns `NotOpen` if the call was refused: nothing has changed.
 pub fn store_all_in(
-    member: MemberHandle,
+    member: RacerHandle,
     words: (Global, &[Store]),
-) -> (MemberHandle, Result<RaceBatch, Refusal>)
+) -> (RacerHandle, Result<RaceBatch, Refusal>)
     ensures stored { IfOk result.1 (λ answer. OfRacer member.value (λ a.
         OfRacer result.0.value (λ b. StoresFirst a words.entry.1.now answer b))) }
     ensures taken { IfRacer member.value (λ a. CanStoreAll a words.entry.1.now
         → IsOkAnd result.1 (λ answer. answer.end ≡ BatchEnd.Whole)) }
-    ensures why { IfErr result.1 (IsRacerRefused member.value (λ a r. ⊥)) }
+    ensures why { IfErr result.1 (SaysNoMember member.value) }
     ensures refused { OnErr result.1 (result.0.value ≡ member.value) }
 {
     let Some(member) = member.into_raw_box() else {
-        return (MemberHandle::closed(words.0), Err(Refusal::NotOpen));
+        return (RacerHandle::closed(words.0), Err(Refusal::NotOpen));
     };
     let mut member = member.into_box();
     let answer = store_all_of(&mut member, words.1);
-    (MemberHandle::of(RawBox::of(member)), answer)
+    (RacerHandle::of(RawBox::of(member)), answer)
 }
 
-fn store_all_of(member: &mut Member, stores: &[Store]) -> Result<RaceBatch, Refusal>
+fn store_all_of(member: &mut Member<Racer>, stores: &[Store]) -> Result<RaceBatch, Refusal>
     ensures stored { IfOk result (λ answer. OfRacer (Some member.old) (λ a.
         OfRacer (Some member.new) (λ b. StoresFirst a stores.now answer b))) }
     ensures taken { IfRacer (Some member.old) (λ a. CanStoreAll a stores.now
         → IsOkAnd result (λ answer. answer.end ≡ BatchEnd.Whole)) }
-    ensures why { IfErr result (IsRacerRefused (Some member.old) (λ a r. ⊥)) }
+    ensures why { IfErr result (SaysNoMember (Some member.old)) }
     ensures refused { OnErr result (member.new ≡ member.old) }
 {
-    let Member::Racer(racing) = member else {
-        return Err(Refusal::OtherRole);
+    let Some(racer) = &mut member.part else {
+        return Err(Refusal::NotOpen);
     };
-    Ok(store_all_by(racing, stores))
+    Ok(store_all_by(&member.race, racer, stores))
 }
 
-fn store_all_by(racing: &mut Racing, stores: &[Store]) -> RaceBatch
-    ensures stored { StoresFirst racing.old stores.now result racing.new }
-    ensures taken { CanStoreAll racing.old stores.now → result.end ≡ BatchEnd.Whole }
+fn store_all_by(race: &Race, racer: &mut Racer, stores: &[Store]) -> RaceBatch
+    requires same { racer_race racer.old ≡ race_id race.now }
+    ensures same { racer_race racer.new ≡ racer_race racer.old }
+    ensures stored { StoresFirst (racing race.now racer.old) stores.now result
+        (racing race.now racer.new) }
+    ensures taken { CanStoreAll (racing race.now racer.old) stores.now
+        → result.end ≡ BatchEnd.Whole }
 {
     for i in 0..stores.len() {
         let store = stores[i];
-        match store_by(racing, store.slot, store.target) {
+        match store_by(race, racer, store.slot, store.target) {
             Ok(_) => {}
             Err(refusal) => {
                 return RaceBatch {

@@ -1,20 +1,22 @@
 //! Stores in a race that return what the slot referred to before, or depend on it.
 ghost use Rattle.std.specs.Prelude.{◌≡◌, ◌⊎◌, ◌<◌, ◌≤◌, Some, IfOk, IfErr, IsOk, OnErr};
 ghost use Rattle.arrayvec.specs.ArrayVec.{array_vec_len};
-ghost use Rattle.g1_race.specs.Members.{race_layout};
+ghost use Rattle.g1_race.specs.Members.{race_id, race_layout, racer_race};
 ghost use Rattle.g1_handles.specs.Codes.{IsStoreOf, reference_of};
 ghost use Rattle.g1_handles.specs.RaceStores.{Swaps, IsExchange};
-ghost use Rattle.g1_handles.specs.Racing.{OfRacer, IfRacer, racer_race_of};
+ghost use Rattle.g1_handles.specs.Racing.{OfRacer, IfRacer, racer_race_of, racing};
 ghost use Rattle.g1_handles.specs.Refusals.{IsRaceStoreRefused, IsRaceExchangeRefused};
 ghost use Rattle.g1_handles.specs.Refusals.{SaysNoStore, SaysNoPlace};
 
+use crate::any_handle::AnyHandle;
 use crate::code::Refusal;
-use crate::member::{Member, Racing};
-use crate::member_handle::MemberHandle;
+use crate::member::Member;
 use crate::queries::word_of;
 use crate::race_store::may_store;
+use crate::racer_handle::RacerHandle;
 use crate::store::reference;
 use g1_layout::Kind;
+use g1_race::{Race, Racer};
 use raw_box::RawBox;
 use std::alloc::Global;
 
@@ -38,12 +40,12 @@ pub enum Exchange {
 }
 
 /// Stores a target into a slot by the racer of a handle, which stays open. Returns also what the
-/// slot referred to. Returns `NotOpen`, `OtherRole`, `LogFull`, or `NoSlot` for the slot or the
+/// slot referred to. Returns `NotOpen`, `LogFull`, or `NoSlot` for the slot or the
 /// target, if the call was refused: nothing has changed.
 pub fn swap_in(
-    member: MemberHandle,
+    member: RacerHandle,
     words: (Global, u32, u32),
-) -> (MemberHandle, Result<Swapped, Refusal>)
+) -> (RacerHandle, Result<Swapped, Refusal>)
     ensures swapped { IfOk result.1 (λ swapped. OfRacer member.value (λ a.
         OfRacer result.0.value (λ b. Swaps a words.1 (reference_of words.2)
         (reference_of swapped.old) swapped.kind b))) }
@@ -53,14 +55,14 @@ pub fn swap_in(
     ensures refused { OnErr result.1 (result.0.value ≡ member.value) }
 {
     let Some(member) = member.into_raw_box() else {
-        return (MemberHandle::closed(words.0), Err(Refusal::NotOpen));
+        return (RacerHandle::closed(words.0), Err(Refusal::NotOpen));
     };
     let mut member = member.into_box();
     let answer = swap_of(&mut member, words.1, words.2);
-    (MemberHandle::of(RawBox::of(member)), answer)
+    (RacerHandle::of(RawBox::of(member)), answer)
 }
 
-fn swap_of(member: &mut Member, slot: u32, target: u32) -> Result<Swapped, Refusal>
+fn swap_of(member: &mut Member<Racer>, slot: u32, target: u32) -> Result<Swapped, Refusal>
     ensures swapped { IfOk result (λ swapped. OfRacer (Some member.old) (λ a.
         OfRacer (Some member.new) (λ b. Swaps a slot (reference_of target)
         (reference_of swapped.old) swapped.kind b))) }
@@ -69,34 +71,37 @@ fn swap_of(member: &mut Member, slot: u32, target: u32) -> Result<Swapped, Refus
     ensures why { IfErr result (IsRaceStoreRefused (Some member.old) slot target) }
     ensures refused { OnErr result (member.new ≡ member.old) }
 {
-    let Member::Racer(racing) = member else {
-        return Err(Refusal::OtherRole);
+    let Some(racer) = &mut member.part else {
+        return Err(Refusal::NotOpen);
     };
-    swap_by(racing, slot, target)
+    swap_by(&member.race, racer, slot, target)
 }
 
-fn swap_by(racing: &mut Racing, slot: u32, target: u32) -> Result<Swapped, Refusal>
-    ensures swapped { IfOk result (λ swapped. Swaps racing.old slot (reference_of target)
-        (reference_of swapped.old) swapped.kind racing.new) }
-    ensures taken { array_vec_len racing.old.racer.log < 256
-        → IsStoreOf (race_layout (racer_race_of racing.old)) slot target → IsOk result }
-    ensures why { IfErr result (SaysNoStore racing.old slot target) }
-    ensures refused { OnErr result (racing.new ≡ racing.old) }
+fn swap_by(race: &Race, racer: &mut Racer, slot: u32, target: u32) -> Result<Swapped, Refusal>
+    requires same { racer_race racer.old ≡ race_id race.now }
+    ensures same { racer_race racer.new ≡ racer_race racer.old }
+    ensures swapped { IfOk result (λ swapped. Swaps (racing race.now racer.old) slot
+        (reference_of target) (reference_of swapped.old) swapped.kind
+        (racing race.now racer.new)) }
+    ensures taken { array_vec_len racer.old.log < 256
+        → IsStoreOf (race_layout race.now) slot target → IsOk result }
+    ensures why { IfErr result (SaysNoStore (racing race.now racer.old) slot target) }
+    ensures refused { OnErr result (racer.new ≡ racer.old) }
 {
-    let (slot, target) = may_store(racing, slot, target)?;
-    let (kind, old) = racing.racer.swap(&racing.race, slot, target);
-    let old = word_of(racing.race.layout(), old);
+    let (slot, target) = may_store(race, racer, slot, target)?;
+    let (kind, old) = racer.swap(race, slot, target);
+    let old = word_of(race.layout(), old);
     Ok(Swapped { kind, old })
 }
 
 /// Stores a target into a slot, if the slot has what is expected, by the racer of a handle, which
 /// stays open. The words are of the slot, of what is expected, and of the target. Returns
-/// `NotOpen`, `OtherRole`, `LogFull`, or `NoSlot` for one of the words, if the call was refused:
+/// `NotOpen`, `LogFull`, or `NoSlot` for one of the words, if the call was refused:
 /// nothing has changed.
 pub fn compare_exchange_in(
-    member: MemberHandle,
+    member: RacerHandle,
     words: (Global, u32, u32, u32),
-) -> (MemberHandle, Result<Exchange, Refusal>)
+) -> (RacerHandle, Result<Exchange, Refusal>)
     ensures exchange { IfOk result.1 (λ exchange. OfRacer member.value (λ a.
         OfRacer result.0.value (λ b. IsExchange a words.1 (reference_of words.2)
         (reference_of words.3) exchange b))) }
@@ -108,15 +113,15 @@ pub fn compare_exchange_in(
     ensures refused { OnErr result.1 (result.0.value ≡ member.value) }
 {
     let Some(member) = member.into_raw_box() else {
-        return (MemberHandle::closed(words.0), Err(Refusal::NotOpen));
+        return (RacerHandle::closed(words.0), Err(Refusal::NotOpen));
     };
     let mut member = member.into_box();
     let answer = compare_exchange_of(&mut member, words.1, words.2, words.3);
-    (MemberHandle::of(RawBox::of(member)), answer)
+    (RacerHandle::of(RawBox::of(member)), answer)
 }
 
 fn compare_exchange_of(
-    member: &mut Member,
+    member: &mut Member<Racer>,
     slot: u32,
     expected: u32,
     target: u32,
@@ -130,36 +135,36 @@ fn compare_exchange_of(
     ensures why { IfErr result (IsRaceExchangeRefused (Some member.old) slot expected target) }
     ensures refused { OnErr result (member.new ≡ member.old) }
 {
-    let Member::Racer(racing) = member else {
-        return Err(Refusal::OtherRole);
+    let Some(racer) = &mut member.part else {
+        return Err(Refusal::NotOpen);
     };
-    compare_exchange_by(racing, slot, expected, target)
+    compare_exchange_by(&member.race, racer, slot, expected, target)
 }
 
 fn compare_exchange_by(
-    racing: &mut Racing,
+    race: &Race,
+    racer: &mut Racer,
     slot: u32,
     expected: u32,
     target: u32,
 ) -> Result<Exchange, Refusal>
-    ensures exchange { IfOk result (λ exchange. IsExchange racing.old slot
-        (reference_of expected) (reference_of target) exchange racing.new) }
-    ensures taken { array_vec_len racing.old.racer.log < 256
-        → IsStoreOf (race_layout (racer_race_of racing.old)) slot expected
-        → IsStoreOf (race_layout (racer_race_of racing.old)) slot target → IsOk result }
-    ensures why { IfErr result (λ r. SaysNoStore racing.old slot target r
-        ⊎ SaysNoPlace (race_layout (racer_race_of racing.old)) slot expected r) }
-    ensures refused { OnErr result (racing.new ≡ racing.old) }
+    requires same { racer_race racer.old ≡ race_id race.now }
+    ensures same { racer_race racer.new ≡ racer_race racer.old }
+    ensures exchange { IfOk result (λ exchange. IsExchange (racing race.now racer.old) slot
+        (reference_of expected) (reference_of target) exchange (racing race.now racer.new)) }
+    ensures taken { array_vec_len racer.old.log < 256
+        → IsStoreOf (race_layout race.now) slot expected
+        → IsStoreOf (race_layout race.now) slot target → IsOk result }
+    ensures why { IfErr result (λ r. SaysNoStore (racing race.now racer.old) slot target r
+        ⊎ SaysNoPlace (race_layout race.now) slot expected r) }
+    ensures refused { OnErr result (racer.new ≡ racer.old) }
 {
-    let (slot, target) = may_store(racing, slot, target)?;
-    let layout = racing.race.layout();
+    let (slot, target) = may_store(race, racer, slot, target)?;
+    let layout = race.layout();
     let Some(expected) = reference(layout, expected) else {
         return Err(Refusal::NoSlot);
     };
-    match racing
-        .racer
-        .compare_exchange(&racing.race, slot, expected, target)
-    {
+    match racer.compare_exchange(race, slot, expected, target) {
         Ok(kind) => Ok(Exchange::Stored(kind)),
         Err(found) => Ok(Exchange::Differs(word_of(layout, found))),
     }

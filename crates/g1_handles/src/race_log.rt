@@ -2,13 +2,15 @@
 ghost use Rattle.std.specs.Prelude.{◌≡◌, ◌<◌, Some, IfOk, IfErr, IsOk, OnErr};
 ghost use Rattle.g1_handles.specs.Racing.{OfRacer, IfRacer, TakesLog};
 ghost use Rattle.g1_handles.specs.Codes.{IsRefusal};
-ghost use Rattle.g1_handles.specs.Refusals.{IsLogRefused};
+ghost use Rattle.g1_handles.specs.Refusals.{SaysNoMember};
 
+use crate::any_handle::AnyHandle;
 use crate::code::Refusal;
 use crate::member::Member;
-use crate::member_handle::MemberHandle;
+use crate::racer_handle::RacerHandle;
 use arrayvec::ArrayVec;
 use g1_layout::Card;
+use g1_race::Racer;
 use raw_box::RawBox;
 use std::alloc::Global;
 
@@ -16,36 +18,36 @@ use std::alloc::Global;
 pub const LOG: usize = 256;
 
 /// Takes the log of the racer of a handle, which stays open with an empty one. Returns the cards,
-/// oldest first, or the word of `NotOpen` or `OtherRole`: nothing has changed.
+/// oldest first, or the word of `NotOpen`: nothing has changed.
 pub fn take_in(
-    member: MemberHandle,
+    member: RacerHandle,
     alloc: Global,
-) -> (MemberHandle, Result<ArrayVec<Card, LOG>, u32>)
+) -> (RacerHandle, Result<ArrayVec<Card, LOG>, u32>)
     ensures log { IfOk result.1 (λ log.
         OfRacer member.value (λ a. OfRacer result.0.value (λ b. TakesLog a log.items b))) }
     ensures taken { IfRacer member.value (λ a. IsOk result.1) }
     ensures word { IfErr result.1 (λ word. 0 < word) }
-    ensures why { IfErr result.1 (λ word. IsRefusal word (IsLogRefused member.value)) }
+    ensures why { IfErr result.1 (λ word. IsRefusal word (SaysNoMember member.value)) }
     ensures refused { OnErr result.1 (result.0.value ≡ member.value) }
 {
     let Some(member) = member.into_raw_box() else {
-        return (MemberHandle::closed(alloc), Err(Refusal::NotOpen.word()));
+        return (RacerHandle::closed(alloc), Err(Refusal::NotOpen.word()));
     };
     let mut member = member.into_box();
     let log = take_of(&mut member);
-    (MemberHandle::of(RawBox::of(member)), log)
+    (RacerHandle::of(RawBox::of(member)), log)
 }
 
-fn take_of(member: &mut Member) -> Result<ArrayVec<Card, LOG>, u32>
+fn take_of(member: &mut Member<Racer>) -> Result<ArrayVec<Card, LOG>, u32>
     ensures log { IfOk result (λ log.
         OfRacer (Some member.old) (λ a. OfRacer (Some member.new) (λ b. TakesLog a log.items b))) }
     ensures taken { IfRacer (Some member.old) (λ a. IsOk result) }
     ensures word { IfErr result (λ word. 0 < word) }
-    ensures why { IfErr result (λ word. IsRefusal word (IsLogRefused (Some member.old))) }
+    ensures why { IfErr result (λ word. IsRefusal word (SaysNoMember (Some member.old))) }
     ensures refused { OnErr result (member.new ≡ member.old) }
 {
-    let Member::Racer(racing) = member else {
-        return Err(Refusal::OtherRole.word());
+    let Some(racer) = &mut member.part else {
+        return Err(Refusal::NotOpen.word());
     };
-    Ok(racing.racer.take_log())
+    Ok(racer.take_log())
 }

@@ -1,26 +1,27 @@
 //! Lock-free stores in a race.
 ghost use Rattle.std.specs.Prelude.{◌≡◌, ◌⊎◌, ◌<◌, ◌≤◌, Some, IfOk, IfErr, IsOk, OnErr};
 ghost use Rattle.arrayvec.specs.ArrayVec.{array_vec_len};
-ghost use Rattle.g1_race.specs.Members.{race_layout};
+ghost use Rattle.g1_race.specs.Members.{race_id, race_layout, racer_race};
 ghost use Rattle.g1_handles.specs.Codes.{IsStoreOf, reference_of};
-ghost use Rattle.g1_handles.specs.Racing.{OfRacer, IfRacer, Stores, racer_race_of};
+ghost use Rattle.g1_handles.specs.Racing.{OfRacer, IfRacer, Stores, racer_race_of, racing};
 ghost use Rattle.g1_handles.specs.Refusals.{IsRaceStoreRefused, SaysNoStore};
 
+use crate::any_handle::AnyHandle;
 use crate::code::Refusal;
-use crate::member::{Member, Racing};
-use crate::member_handle::MemberHandle;
+use crate::member::Member;
+use crate::racer_handle::RacerHandle;
 use crate::store::reference;
 use g1_layout::{Kind, Slot};
+use g1_race::{Race, Racer};
 use raw_box::RawBox;
 use std::alloc::Global;
 
 /// Stores a target into a slot by the racer of a handle, which stays open. Returns the kind of the
-/// store, or `NotOpen`, `OtherRole`, `LogFull`, or `NoSlot` for the slot or the target: nothing has
-/// changed.
+/// store, or `NotOpen`, `LogFull`, or `NoSlot` for the slot or the target: nothing has changed.
 pub fn store_in(
-    member: MemberHandle,
+    member: RacerHandle,
     words: (Global, u32, u32),
-) -> (MemberHandle, Result<Kind, Refusal>)
+) -> (RacerHandle, Result<Kind, Refusal>)
     ensures stored { IfOk result.1 (λ kind. OfRacer member.value (λ a.
         OfRacer result.0.value (λ b. Stores a words.1 (reference_of words.2) kind b))) }
     ensures taken { IfRacer member.value (λ a. array_vec_len a.racer.log < 256
@@ -29,14 +30,14 @@ pub fn store_in(
     ensures refused { OnErr result.1 (result.0.value ≡ member.value) }
 {
     let Some(member) = member.into_raw_box() else {
-        return (MemberHandle::closed(words.0), Err(Refusal::NotOpen));
+        return (RacerHandle::closed(words.0), Err(Refusal::NotOpen));
     };
     let mut member = member.into_box();
     let answer = store_of(&mut member, words.1, words.2);
-    (MemberHandle::of(RawBox::of(member)), answer)
+    (RacerHandle::of(RawBox::of(member)), answer)
 }
 
-fn store_of(member: &mut Member, slot: u32, target: u32) -> Result<Kind, Refusal>
+fn store_of(member: &mut Member<Racer>, slot: u32, target: u32) -> Result<Kind, Refusal>
     ensures stored { IfOk result (λ kind. OfRacer (Some member.old) (λ a.
         OfRacer (Some member.new) (λ b. Stores a slot (reference_of target) kind b))) }
     ensures taken { IfRacer (Some member.old) (λ a. array_vec_len a.racer.log < 256
@@ -44,45 +45,53 @@ fn store_of(member: &mut Member, slot: u32, target: u32) -> Result<Kind, Refusal
     ensures why { IfErr result (IsRaceStoreRefused (Some member.old) slot target) }
     ensures refused { OnErr result (member.new ≡ member.old) }
 {
-    let Member::Racer(racing) = member else {
-        return Err(Refusal::OtherRole);
+    let Some(racer) = &mut member.part else {
+        return Err(Refusal::NotOpen);
     };
-    store_by(racing, slot, target)
+    store_by(&member.race, racer, slot, target)
 }
 
-/// Stores a target into a slot by a racer. Returns the kind of the store, or `LogFull`, or `NoSlot`
-/// for the slot or the target: nothing has changed.
+/// Stores a target into a slot by a racer of the race. Returns the kind of the store, or `LogFull`,
+/// or `NoSlot` for the slot or the target: nothing has changed.
 #[inline(always)]
-pub(crate) fn store_by(racing: &mut Racing, slot: u32, target: u32) -> Result<Kind, Refusal>
-    ensures stored { IfOk result (λ kind.
-        Stores racing.old slot (reference_of target) kind racing.new) }
-    ensures taken { array_vec_len racing.old.racer.log < 256
-        → IsStoreOf (race_layout (racer_race_of racing.old)) slot target → IsOk result }
-    ensures why { IfErr result (SaysNoStore racing.old slot target) }
-    ensures refused { OnErr result (racing.new ≡ racing.old) }
+pub(crate) fn store_by(
+    race: &Race,
+    racer: &mut Racer,
+    slot: u32,
+    target: u32,
+) -> Result<Kind, Refusal>
+    requires same { racer_race racer.old ≡ race_id race.now }
+    ensures same { racer_race racer.new ≡ racer_race racer.old }
+    ensures stored { IfOk result (λ kind. Stores (racing race.now racer.old) slot
+        (reference_of target) kind (racing race.now racer.new)) }
+    ensures taken { array_vec_len racer.old.log < 256
+        → IsStoreOf (race_layout race.now) slot target → IsOk result }
+    ensures why { IfErr result (SaysNoStore (racing race.now racer.old) slot target) }
+    ensures refused { OnErr result (racer.new ≡ racer.old) }
 {
-    let (slot, target) = may_store(racing, slot, target)?;
-    Ok(racing.racer.store(&racing.race, slot, target))
+    let (slot, target) = may_store(race, racer, slot, target)?;
+    Ok(racer.store(race, slot, target))
 }
 
 /// Returns the slot and the target of a store that a racer can make, or `LogFull` or `NoSlot`.
 #[inline(always)]
 pub(crate) fn may_store(
-    racing: &Racing,
+    race: &Race,
+    racer: &Racer,
     slot: u32,
     target: u32,
 ) -> Result<(Slot, Option<Slot>), Refusal>
-    ensures room { IsOk result → array_vec_len racing.now.racer.log < 256 }
+    ensures room { IsOk result → array_vec_len racer.now.log < 256 }
     ensures places { IfOk result (λ store. (store.0 ≡ slot) × (store.1 ≡ reference_of target)) }
-    ensures within { IsOk result → IsStoreOf (race_layout (racer_race_of racing.now)) slot target }
-    ensures taken { array_vec_len racing.now.racer.log < 256
-        → IsStoreOf (race_layout (racer_race_of racing.now)) slot target → IsOk result }
-    ensures why { IfErr result (SaysNoStore racing.now slot target) }
+    ensures within { IsOk result → IsStoreOf (race_layout race.now) slot target }
+    ensures taken { array_vec_len racer.now.log < 256
+        → IsStoreOf (race_layout race.now) slot target → IsOk result }
+    ensures why { IfErr result (SaysNoStore (racing race.now racer.now) slot target) }
 {
-    if !racing.racer.has_room() {
+    if !racer.has_room() {
         return Err(Refusal::LogFull);
     }
-    let layout = racing.race.layout();
+    let layout = race.layout();
     let Some(slot) = layout.slot(slot) else {
         return Err(Refusal::NoSlot);
     };

@@ -1,10 +1,9 @@
 //! A heap whose stores race, from its birth to its end: at a pause, or with its members out.
-ghost use Rattle.std.specs.Prelude.{◌≡◌, ◌+◌, ◌≤◌, All, Some, length, vec_len, vec_capacity};
+ghost use Rattle.std.specs.Prelude.{◌≡◌, ◌+◌, ◌≤◌, All, length, vec_len, vec_capacity};
 ghost use Rattle.std.specs.Arc.{arc_value};
 ghost use Rattle.g1_race.specs.Members.{race_id, race_layout, race_shape};
-ghost use Rattle.g1_handles.specs.Parked.{parked_race};
 
-use crate::member::Member;
+use crate::member::{Member, Part};
 use g1_race::{Paused, Race, Racer, Sweeper};
 use std::alloc::Global;
 use std::sync::Arc;
@@ -14,25 +13,24 @@ use std::sync::Arc;
 pub struct AtPause {
     pub(crate) race: Arc<Race, Global>,
     pub(crate) pause: Paused<Arc<Race, Global>>,
-    // What is left of its racers and of its sweepers, each in the box that its handle gets back.
-    pub(crate) racers: Vec<Box<Member>>,
-    pub(crate) sweepers: Vec<Box<Member>>,
+    // Its racers and its sweepers wait, each in the box that its handle gets back.
+    pub(crate) racers: Vec<Box<Member<Racer>>>,
+    pub(crate) sweepers: Vec<Box<Member<Sweeper>>>,
     ghost id: { race_id (arc_value race) ≡ (pause.table_id, pause.shape) },
     ghost laid: { race_layout (arc_value race) ≡ pause.layout },
     ghost racer_boxes: { vec_len racers ≡ length pause.logs },
     ghost sweeper_boxes: { vec_len sweepers ≡ pause.sweepers },
-    ghost racers_parked: { All (λ m. parked_race m.value ≡ Some (arc_value race)) racers.items },
-    ghost sweepers_parked: { All (λ m. parked_race m.value ≡ Some (arc_value race))
-        sweepers.items },
+    ghost racers_wait: { All (λ m. arc_value m.value.race ≡ arc_value race) racers.items },
+    ghost sweepers_wait: { All (λ m. arc_value m.value.race ≡ arc_value race) sweepers.items },
 }
 
-/// Room for the members of one role that are out, so that a pause takes no memory.
+/// Room for the racers or the sweepers that are out, so that a pause takes no memory.
 #[derive(Drop)]
-pub struct Room<T: Drop> {
+pub struct Room<P: Part> {
     pub(crate) count: usize,
     // Both are empty between two calls.
-    pub(crate) parts: Vec<T>,
-    pub(crate) boxes: Vec<Box<Member>>,
+    pub(crate) parts: Vec<P>,
+    pub(crate) boxes: Vec<Box<Member<P>>>,
     ghost part_room: { count ≤ vec_capacity parts },
     ghost box_room: { count ≤ vec_capacity boxes },
 }

@@ -1,41 +1,34 @@
-//! Handles that members of a race are put into.
-ghost use Rattle.std.specs.Prelude.{◌≡◌, Some, None, IsTrue};
-ghost use Rattle.g1_handles.specs.Racing.{held, AreClosed};
+//! Whether handles are closed.
+ghost use Rattle.std.specs.Prelude.{◌≡◌, None, IsTrue, map};
+ghost use Rattle.g1_handles.specs.Racing.{AreClosed};
 
-use crate::member::Member;
-use crate::member_handle::MemberHandle;
-use core::mem::replace_with;
-use raw_box::RawBox;
+use crate::any_handle::AnyHandle;
+use core::mem::replace;
 use std::alloc::Global;
 
 /// Whether all handles are closed.
-pub(crate) fn are_closed(alloc: Global, handles: &mut [MemberHandle]) -> bool
-    ensures same { held handles.new ≡ held handles.old }
-    ensures closed { IsTrue result → AreClosed (held handles.old) }
-    ensures open { AreClosed (held handles.old) → IsTrue result }
+pub(crate) fn are_closed<H: AnyHandle>(alloc: Global, handles: &mut [H]) -> bool
+    ensures same { map H.value handles.new ≡ map H.value handles.old }
+    ensures closed { IsTrue result → AreClosed (map H.value handles.old) }
+    ensures open { AreClosed (map H.value handles.old) → IsTrue result }
 {
     for i in 0..handles.len() {
-        if !replace_with(&mut handles[i], alloc, is_closed) {
+        if !is_closed(alloc, &mut handles[i]) {
             return false;
         }
     }
     true
 }
 
-fn is_closed(handle: MemberHandle, alloc: Global) -> (MemberHandle, bool)
-    ensures same { result.0.value ≡ handle.value }
-    ensures closed { IsTrue result.1 → handle.value ≡ None }
-    ensures open { handle.value ≡ None → IsTrue result.1 }
+/// Whether a handle is closed.
+pub(crate) fn is_closed<H: AnyHandle>(alloc: Global, handle: &mut H) -> bool
+    ensures same { H.value handle.new ≡ H.value handle.old }
+    ensures closed { IsTrue result → H.value handle.old ≡ None }
+    ensures open { H.value handle.old ≡ None → IsTrue result }
 {
-    match handle.into_raw_box() {
-        None => (MemberHandle::closed(alloc), true),
-        Some(member) => (MemberHandle::of(member), false),
-    }
-}
-
-/// Puts a member into a handle.
-pub(crate) fn put_in(_handle: MemberHandle, member: Box<Member>) -> (MemberHandle, ())
-    ensures { result.0.value ≡ Some member.value }
-{
-    (MemberHandle::of(RawBox::of(member)), ())
+    let Some(boxed) = replace(handle, H::closed(alloc)).into_raw_box() else {
+        return true;
+    };
+    *handle = H::of(boxed);
+    false
 }

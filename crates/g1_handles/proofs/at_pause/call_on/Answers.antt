@@ -15,6 +15,6 @@ invariant_of-at g c =
       laid = at.laid ∙ sym kept.layout;
       racer_boxes = at.racer_boxes ∙ sym kept.racers;
       sweeper_boxes = at.sweeper_boxes ∙ sym kept.sweepers;
-      racers_parked = at.racers_parked;
-      sweepers_parked = at.sweepers_parked;
+      racers_wait = at.racers_wait;
+      sweepers_wait = at.sweepers_wait;
     }

@@ -1,6 +1,6 @@
 -- One store more, or why there is none.
 use Rattle.std.proofs.Common.{subst, sym}
-use Rattle.g1_handles.specs.declared.member.Racing.{Racing}
+use Rattle.g1_handles.specs.Racing.{Racing}
 use Rattle.g1_handles.specs.RaceStores.{StoresFirst, IsEnd}
 use Rattle.g1_handles.proofs.BatchLemmas.{stores_next, stores_end, stores_whole}
 use Rattle.g1_handles.proofs.race_batch.store_all_by.Goals as goal

@@ -1,0 +1,46 @@
+-- A member and its part.
+use Rattle.std.proofs.Common.{◌≡◌, List, [], ◌∷◌, Some, None, map, refl, ap, ◌∙◌, sym, subst}
+use Rattle.std.proofs.Props.{props}
+use Rattle.std.specs.Prelude.{Option, IsSome, IsSomeAnd}
+use Rattle.std.specs.Option.{ForSome}
+use Rattle.std.specs.Arc.{arc_value}
+use mathlib.Core.HLevel.{is_prop→PathP}
+use Rattle.g1_race.specs.declared.race.Race.{Race}
+use Rattle.g1_race.specs.Members.{race_id}
+use Rattle.g1_handles.specs.declared.member.Part.{Ghosts}
+use Rattle.g1_handles.specs.declared.member.Member.{Member}
+use Rattle.g1_handles.specs.Racing.{part_in, IsOf}
+
+-- a member is its share, its number and its part, with padding
+pub same_member : {P : Type 0} {g : Ghosts P} (m n : Member P g) → m.race ≡ n.race → m.number ≡ n.number → m.part ≡ n.part → m.apart ≡ n.apart → m ≡ n
+same_member {P} {g} m n race number part apart = λ i. record {
+  race = race i;
+  number = number i;
+  part = part i;
+  apart = apart i;
+  same = is_prop→PathP (λ j. ForSome (part j) (λ p. g.of p ≡ race_id (arc_value (race j)))) (λ j. hlevel props) m.same n.same i;
+}
+
+pub of_some : {A : Type 0} (P : A → Type 0) (o : Option A) (x : A) → o ≡ Some x → P x → IsSomeAnd o P
+of_some {A} P o x e is = subst (λ (q : Option A). IsSomeAnd q P) (sym e) is
+
+-- the part of a member is of its race
+pub part_is_of : {P : Type 0} {g : Ghosts P} (m : Member P g) (part : P) (race : Race) → m.part ≡ Some part → IsOf race (Some m) → g.of part ≡ race_id race
+part_is_of m part race is of = m.same part is ∙ ap race_id of
+
+pub none_is_some : {P : Type 0} (o : Option P) → IsSome o → o ≡ None → ⊥
+none_is_some None some e = cc
+none_is_some (Some part) some e = cc
+
+-- what is seen of each part in a list is what is seen of each handle, if the parts are the handles'
+pub seen_alike : {P B M : Type 0} (find : M → Option P) (f : P → B) (g : Option P → B) → ((part : P) → g (Some part) ≡ f part) → (ms : List M) (parts : List P)
+    → map (λ part. Some part) parts ≡ map find ms → map f parts ≡ map (λ m. g (find m)) ms
+seen_alike find f g same [] [] e = refl
+seen_alike find f g same [] (part ∷ parts) e = absurd cc
+seen_alike find f g same (m ∷ ms) [] e = absurd cc
+seen_alike find f g same (m ∷ ms) (part ∷ parts) e =
+    let first : Some part ≡ find m = cc in
+    let later : map (λ part. Some part) parts ≡ map find ms = cc in
+    let here : f part ≡ g (find m) = sym (same part) ∙ ap g first in
+    let there = seen_alike find f g same ms parts later in
+    cc

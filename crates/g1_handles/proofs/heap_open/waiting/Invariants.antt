@@ -1,0 +1,10 @@
+-- The members that are in the list are of the race.
+use Rattle.std.proofs.Common.{◌≡◌, All, vec_len}
+use Rattle.std.specs.Arc.{arc_value}
+use Rattle.g1_handles.proofs.heap_open.waiting.Given as goal
+
+abbrev pub invariant-loop-number : goal.invariant-loop-number
+invariant-loop-number g l = record {
+  count : vec_len l.members ≡ l.number;
+  race : All (λ m. arc_value m.value.race ≡ arc_value l.race) l.members.items;
+}
