@@ -8,20 +8,20 @@ ghost use Rattle.g1_handles.specs.Refusals.{IsRaceDataRefused};
 
 use core::mem::replace_with;
 use g1_handles::code::DONE;
-use g1_handles::member_handle::MemberHandle;
 use g1_handles::race_data::store_data_in;
+use g1_handles::racer_handle::RacerHandle;
 use std::alloc::Global;
 
 /// A racer stores data into a slot, a word from 2^32 on, which refers to nothing, concurrently with
 /// whatever the other members of the race do. `old` is the slot's word before. Takes no memory,
 /// marks and logs nothing, and never waits.
 ///
-/// Returns 0, or the word of `BadWord`, `NoSlot`, `OtherRole` or `NotOpen`: nothing has changed,
-/// and `old` is 0.
+/// Returns 0, or the word of `BadWord`, `NoSlot` or `NotOpen`: nothing has changed, and `old` is
+/// 0.
 #[unsafe(no_mangle)]
 pub extern "C" fn g1_race_store_data(
     alloc: Global,
-    member: &mut MemberHandle,
+    member: &mut RacerHandle,
     slot: u32,
     word: u64,
     old: &mut u64,

@@ -7,17 +7,17 @@ ghost use Rattle.g1_handles.specs.Codes.{IsRefusal};
 ghost use Rattle.g1_handles.specs.Refusals.{IsSweepRefused};
 
 use core::mem::replace_with;
-use g1_handles::member_handle::MemberHandle;
 use g1_handles::race_refine::refine_in;
+use g1_handles::sweeper_handle::SweeperHandle;
 use std::alloc::Global;
 
 /// A sweeper refines a card, concurrently with whatever the other members of the race do. It makes
 /// the card clean, and then reads its slots and records the region of each reference into another
 /// region, whether the card was dirty or not. Takes no memory and never waits.
 ///
-/// Returns 0, or the word of `NoCard`, `OtherRole` or `NotOpen`: nothing has changed.
+/// Returns 0, or the word of `NoCard` or `NotOpen`: nothing has changed.
 #[unsafe(no_mangle)]
-pub extern "C" fn g1_race_refine(alloc: Global, member: &mut MemberHandle, card: u32) -> u32
+pub extern "C" fn g1_race_refine(alloc: Global, member: &mut SweeperHandle, card: u32) -> u32
     ensures refined { result ≡ 0 → OfSweeper member.old.value (λ a.
         OfSweeper member.new.value (λ b. Sweeps a card b)) }
     ensures taken { IfSweeper member.old.value (λ a.

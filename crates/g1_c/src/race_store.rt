@@ -7,8 +7,8 @@ ghost use Rattle.g1_handles.specs.Racing.{OfRacer, IfRacer, StoresWord, racer_ra
 ghost use Rattle.g1_handles.specs.Refusals.{IsRaceStoreRefused};
 
 use core::mem::replace_with;
-use g1_handles::member_handle::MemberHandle;
 use g1_handles::race_store::store_in;
+use g1_handles::racer_handle::RacerHandle;
 use std::alloc::Global;
 
 /// A racer stores a reference, or null, into a slot, concurrently with whatever the other members
@@ -18,12 +18,12 @@ use std::alloc::Global;
 ///
 /// - The kind of the store: 0 null, 1 same region, 2 dirty, 3 logged. If it is 3, the slot's card
 ///   is last in the racer's log, which has room for 256 cards.
-/// - The word of `LogFull`, of `NoSlot` for the slot or the target, of `OtherRole` or of `NotOpen`:
-///   nothing has changed.
+/// - The word of `LogFull`, of `NoSlot` for the slot or the target, or of `NotOpen`: nothing has
+///   changed.
 #[unsafe(no_mangle)]
 pub extern "C" fn g1_race_store(
     alloc: Global,
-    member: &mut MemberHandle,
+    member: &mut RacerHandle,
     slot: u32,
     target: u32,
 ) -> u32
