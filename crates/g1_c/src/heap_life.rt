@@ -6,7 +6,7 @@ ghost use Rattle.g1_handles.specs.Codes.{layout_of, IsRefusal};
 ghost use Rattle.g1_handles.specs.Life.{OfPaused, OfRacing, IsFor, IsNewHeap, IsOpeningRefused};
 ghost use Rattle.g1_handles.specs.Life.{IsGoingRefused, IsPausedWith, IsPauseRefused, IsEndRefused};
 ghost use Rattle.g1_handles.specs.Life.{AreLikeOf, AreOfHeap, GoesOn, heap_race};
-ghost use Rattle.g1_handles.specs.Racing.{held, AreClosed};
+ghost use Rattle.g1_handles.specs.Racing.{held_racers, held_sweepers, AreClosed};
 
 use g1_handles::calls::Counts;
 use g1_handles::code::DONE;
@@ -14,7 +14,8 @@ use g1_handles::heap_handle::HeapHandle;
 use g1_handles::heap_open::{close_heap, open_heap};
 use g1_handles::heap_pause::pause_heap;
 use g1_handles::heap_resume::resume_heap;
-use g1_handles::member_handle::MemberHandle;
+use g1_handles::racer_handle::RacerHandle;
+use g1_handles::sweeper_handle::SweeperHandle;
 use std::alloc::Global;
 
 /// Opens a heap at a pause in a closed handle, for this many racers and sweepers, 1 to 64 of each.
@@ -53,20 +54,23 @@ pub extern "C" fn g1_heap_open(
 pub extern "C" fn g1_heap_resume(
     alloc: Global,
     heap: &mut HeapHandle,
-    racers: &mut [MemberHandle],
-    sweepers: &mut [MemberHandle],
+    racers: &mut [RacerHandle],
+    sweepers: &mut [SweeperHandle],
 ) -> u32
     ensures resumed { result ≡ 0 → OfPaused heap.old.value (λ p.
         OfRacing heap.new.value (λ b.
-        GoesOn p (arc_value b.race) (held racers.new) (held sweepers.new))) }
+        GoesOn p (arc_value b.race) (held_racers racers.new) (held_sweepers sweepers.new))) }
     ensures same { result ≡ 0 → heap_race heap.new.value ≡ heap_race heap.old.value }
     ensures members { result ≡ 0 → IsFor heap.old.value (length racers.old) (length sweepers.old)
         × IsFor heap.new.value (length racers.old) (length sweepers.old) }
-    ensures closed { result ≡ 0 → AreClosed (held racers.old) × AreClosed (held sweepers.old) }
+    ensures closed { result ≡ 0 → AreClosed (held_racers racers.old)
+        × AreClosed (held_sweepers sweepers.old) }
     ensures why { 0 < result →
-        IsRefusal result (IsGoingRefused heap.old.value (held racers.old) (held sweepers.old)) }
+        IsRefusal result (IsGoingRefused heap.old.value (held_racers racers.old)
+        (held_sweepers sweepers.old)) }
     ensures refused { 0 < result → (heap.new.value ≡ heap.old.value)
-        × (held racers.new ≡ held racers.old) × (held sweepers.new ≡ held sweepers.old) }
+        × (held_racers racers.new ≡ held_racers racers.old)
+        × (held_sweepers sweepers.new ≡ held_sweepers sweepers.old) }
 {
     match resume_heap(alloc, heap, racers, sweepers) {
         Ok(()) => DONE,
@@ -78,35 +82,37 @@ pub extern "C" fn g1_heap_resume(
 /// closed. Takes no memory.
 ///
 /// Returns 0, or the word of `NotOpen`, also for a member's handle, `NotRacing`, `BadMembers` if
-/// there are not as many handles as the heap was opened for, `OtherRole`, or `OtherRace` for a
-/// member of another heap or one that is given twice: nothing has changed.
+/// there are not as many handles as the heap was opened for, or `OtherRace` for a member of another
+/// heap or one that is given twice: nothing has changed.
 ///
 /// Members of other heaps are refused before anything changes, by counts of each race's owners. No
 /// proof knows what these counts say, so the condition `one` takes their place: members whose
-/// roles and numbers fit are of this heap's race. Nothing relies on the condition before the counts
-/// are taken.
+/// numbers fit are of this heap's race. Nothing relies on the condition before the counts are taken.
 #[unsafe(no_mangle)]
 pub extern "C" fn g1_heap_pause(
     alloc: Global,
     heap: &mut HeapHandle,
-    racers: &mut [MemberHandle],
-    sweepers: &mut [MemberHandle],
+    racers: &mut [RacerHandle],
+    sweepers: &mut [SweeperHandle],
 ) -> u32
     requires one { IsFor heap.old.value (length racers.old) (length sweepers.old) →
-        AreLikeOf heap.old.value (held racers.old) (held sweepers.old) →
-        AreOfHeap heap.old.value (held racers.old) (held sweepers.old) }
+        AreLikeOf heap.old.value (held_racers racers.old) (held_sweepers sweepers.old) →
+        AreOfHeap heap.old.value (held_racers racers.old) (held_sweepers sweepers.old) }
     ensures paused { result ≡ 0 → OfRacing heap.old.value (λ b. OfPaused heap.new.value
-        (IsPausedWith (arc_value b.race) (held racers.old) (held sweepers.old))) }
+        (IsPausedWith (arc_value b.race) (held_racers racers.old) (held_sweepers sweepers.old))) }
     ensures same { result ≡ 0 → heap_race heap.new.value ≡ heap_race heap.old.value }
     ensures members { result ≡ 0 → IsFor heap.old.value (length racers.old) (length sweepers.old)
         × IsFor heap.new.value (length racers.old) (length sweepers.old) }
     ensures like { result ≡ 0 →
-        AreLikeOf heap.old.value (held racers.old) (held sweepers.old) }
-    ensures closed { result ≡ 0 → AreClosed (held racers.new) × AreClosed (held sweepers.new) }
+        AreLikeOf heap.old.value (held_racers racers.old) (held_sweepers sweepers.old) }
+    ensures closed { result ≡ 0 → AreClosed (held_racers racers.new)
+        × AreClosed (held_sweepers sweepers.new) }
     ensures why { 0 < result →
-        IsRefusal result (IsPauseRefused heap.old.value (held racers.old) (held sweepers.old)) }
+        IsRefusal result (IsPauseRefused heap.old.value (held_racers racers.old)
+        (held_sweepers sweepers.old)) }
     ensures refused { 0 < result → (heap.new.value ≡ heap.old.value)
-        × (held racers.new ≡ held racers.old) × (held sweepers.new ≡ held sweepers.old) }
+        × (held_racers racers.new ≡ held_racers racers.old)
+        × (held_sweepers sweepers.new ≡ held_sweepers sweepers.old) }
 {
     match pause_heap(alloc, heap, racers, sweepers) {
         Ok(()) => DONE,

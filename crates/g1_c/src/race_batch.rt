@@ -6,13 +6,13 @@ ghost use Rattle.g1_handles.specs.Batch.{IsFaultAt};
 ghost use Rattle.g1_handles.specs.Codes.{IsRefusal};
 ghost use Rattle.g1_handles.specs.RaceStores.{StoresAll, CanStoreAll};
 ghost use Rattle.g1_handles.specs.Racing.{OfRacer, IfRacer, racer_race_of};
-ghost use Rattle.g1_handles.specs.Refusals.{IsRacerRefused};
+ghost use Rattle.g1_handles.specs.Refusals.{SaysNoMember};
 
 use core::mem::replace_with;
 use g1_handles::batch::Store;
 use g1_handles::code::{DONE, FULL, STOPPED};
-use g1_handles::member_handle::MemberHandle;
 use g1_handles::race_batch::{BatchEnd, store_all_in};
+use g1_handles::racer_handle::RacerHandle;
 use std::alloc::Global;
 
 /// A racer makes stores in order, each as [`g1_race_store`] does, up to the first that it cannot
@@ -24,30 +24,30 @@ use std::alloc::Global;
 /// - 3: the store at index `stored` names a slot or a target that the heap does not have.
 /// - 4: the racer's log is full before the store at index `stored`. Once the log is taken, the
 ///   stores from there on can be made.
-/// - The word of `OtherRole` or `NotOpen`: nothing has changed, and `stored` is 0.
+/// - The word of `NotOpen`: nothing has changed, and `stored` is 0.
 ///
 /// [`g1_race_store`]: crate::race_store::g1_race_store
 #[unsafe(no_mangle)]
 pub extern "C" fn g1_race_store_all(
     alloc: Global,
-    member: &mut MemberHandle,
+    racer: &mut RacerHandle,
     stores: &[Store],
     stored: &mut usize,
 ) -> u32
-    ensures stored { result ≤ 4 → OfRacer member.old.value (λ a.
-        OfRacer member.new.value (λ b. StoresAll a (take stored.new stores.now) b)) }
+    ensures stored { result ≤ 4 → OfRacer racer.old.value (λ a.
+        OfRacer racer.new.value (λ b. StoresAll a (take stored.new stores.now) b)) }
     ensures whole { result ≡ 0 → stored.new ≡ length stores.now }
-    ensures stopped { result ≡ 3 → OfRacer member.old.value (λ a.
+    ensures stopped { result ≡ 3 → OfRacer racer.old.value (λ a.
         IsFaultAt (race_layout (racer_race_of a)) stores.now stored.new) }
     ensures full { result ≡ 4 → (stored.new < length stores.now)
-        × OfRacer member.new.value (λ b. 256 ≤ array_vec_len b.racer.log) }
+        × OfRacer racer.new.value (λ b. 256 ≤ array_vec_len b.racer.log) }
     ensures done { result ≤ 4 → (result ≡ 0) ⊎ (result ≡ 3) ⊎ (result ≡ 4) }
-    ensures taken { IfRacer member.old.value (λ a. CanStoreAll a stores.now → result ≡ 0) }
+    ensures taken { IfRacer racer.old.value (λ a. CanStoreAll a stores.now → result ≡ 0) }
     ensures none { 4 < result → stored.new ≡ 0 }
-    ensures why { 4 < result → IsRefusal result (IsRacerRefused member.old.value (λ a r. ⊥)) }
-    ensures refused { 4 < result → member.new.value ≡ member.old.value }
+    ensures why { 4 < result → IsRefusal result (SaysNoMember racer.old.value) }
+    ensures refused { 4 < result → racer.new.value ≡ racer.old.value }
 {
-    match replace_with(member, (alloc, stores), store_all_in) {
+    match replace_with(racer, (alloc, stores), store_all_in) {
         Err(refusal) => {
             *stored = 0;
             refusal.word()

@@ -8,33 +8,33 @@ ghost use Rattle.g1_handles.specs.Refusals.{IsRaceDataRefused};
 
 use core::mem::replace_with;
 use g1_handles::code::DONE;
-use g1_handles::member_handle::MemberHandle;
 use g1_handles::race_data::store_data_in;
+use g1_handles::racer_handle::RacerHandle;
 use std::alloc::Global;
 
 /// A racer stores data into a slot, a word from 2^32 on, which refers to nothing, concurrently with
 /// whatever the other members of the race do. `old` is the slot's word before. Takes no memory,
 /// marks and logs nothing, and never waits.
 ///
-/// Returns 0, or the word of `BadWord`, `NoSlot`, `OtherRole` or `NotOpen`: nothing has changed,
-/// and `old` is 0.
+/// Returns 0, or the word of `BadWord`, `NoSlot` or `NotOpen`: nothing has changed, and `old` is
+/// 0.
 #[unsafe(no_mangle)]
 pub extern "C" fn g1_race_store_data(
     alloc: Global,
-    member: &mut MemberHandle,
+    racer: &mut RacerHandle,
     slot: u32,
     word: u64,
     old: &mut u64,
 ) -> u32
-    ensures stored { result ≡ 0 → OfRacer member.old.value (λ a.
-        OfRacer member.new.value (λ b. StoresData a slot word old.new b)) }
-    ensures taken { IfRacer member.old.value (λ a. slot < slot_count (race_layout (racer_race_of a))
+    ensures stored { result ≡ 0 → OfRacer racer.old.value (λ a.
+        OfRacer racer.new.value (λ b. StoresData a slot word old.new b)) }
+    ensures taken { IfRacer racer.old.value (λ a. slot < slot_count (race_layout (racer_race_of a))
         → 2 ^ 32 ≤ word → result ≡ 0) }
     ensures none { 0 < result → old.new ≡ 0 }
-    ensures why { 0 < result → IsRefusal result (IsRaceDataRefused member.old.value slot word) }
-    ensures refused { 0 < result → member.new.value ≡ member.old.value }
+    ensures why { 0 < result → IsRefusal result (IsRaceDataRefused racer.old.value slot word) }
+    ensures refused { 0 < result → racer.new.value ≡ racer.old.value }
 {
-    match replace_with(member, (alloc, slot, word), store_data_in) {
+    match replace_with(racer, (alloc, slot, word), store_data_in) {
         Err(refusal) => {
             *old = 0;
             refusal.word()

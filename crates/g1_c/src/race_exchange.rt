@@ -9,38 +9,38 @@ ghost use Rattle.g1_handles.specs.Refusals.{IsRaceStoreRefused, IsRaceExchangeRe
 
 use core::mem::replace_with;
 use g1_handles::code::{DIFFERS, DONE, NULL, kind_word};
-use g1_handles::member_handle::MemberHandle;
 use g1_handles::race_exchange::{Exchange, compare_exchange_in, swap_in};
+use g1_handles::racer_handle::RacerHandle;
 use std::alloc::Global;
 
 /// A racer stores a reference, or null, into a slot, as [`g1_race_store`] does. `old` is what the
 /// slot referred to before: the number of a slot, or the word for null also where it had data. One
 /// atomic step reads the one and writes the other. Takes no memory and never waits.
 ///
-/// Returns 0, or the word of `LogFull`, of `NoSlot` for the slot or the target, of `OtherRole` or
-/// of `NotOpen`: nothing has changed, `old` is the word for null, and `kind` is 0.
+/// Returns 0, or the word of `LogFull`, of `NoSlot` for the slot or the target, or of `NotOpen`:
+/// nothing has changed, `old` is the word for null, and `kind` is 0.
 ///
 /// [`g1_race_store`]: crate::race_store::g1_race_store
 #[unsafe(no_mangle)]
 pub extern "C" fn g1_race_swap(
     alloc: Global,
-    member: &mut MemberHandle,
+    racer: &mut RacerHandle,
     slot: u32,
     target: u32,
     old: &mut u32,
     kind: &mut u32,
 ) -> u32
-    ensures swapped { result ≡ 0 → OfRacer member.old.value (λ a.
-        OfRacer member.new.value (λ b. OfKind kind.new (λ k.
+    ensures swapped { result ≡ 0 → OfRacer racer.old.value (λ a.
+        OfRacer racer.new.value (λ b. OfKind kind.new (λ k.
         Swaps a slot (reference_of target) (reference_of old.new) k b))) }
-    ensures taken { IfRacer member.old.value (λ a. array_vec_len a.racer.log < 256
+    ensures taken { IfRacer racer.old.value (λ a. array_vec_len a.racer.log < 256
         → IsStoreOf (race_layout (racer_race_of a)) slot target → result ≡ 0) }
     ensures none { 0 < result → (old.new ≡ 4294967295) × (kind.new ≡ 0) }
     ensures why { 0 < result →
-        IsRefusal result (IsRaceStoreRefused member.old.value slot target) }
-    ensures refused { 0 < result → member.new.value ≡ member.old.value }
+        IsRefusal result (IsRaceStoreRefused racer.old.value slot target) }
+    ensures refused { 0 < result → racer.new.value ≡ racer.old.value }
 {
-    match replace_with(member, (alloc, slot, target), swap_in) {
+    match replace_with(racer, (alloc, slot, target), swap_in) {
         Err(refusal) => {
             *old = NULL;
             *kind = 0;
@@ -63,40 +63,39 @@ pub extern "C" fn g1_race_swap(
 ///   is the kind of the store.
 /// - 2: the slot has something else, and nothing was stored. `found` is what it refers to, the word
 ///   for null also where it has data, and `kind` is 0.
-/// - The word of `LogFull`, of `NoSlot` for the slot, what is expected or the target, of
-///   `OtherRole` or of `NotOpen`: nothing has changed, `found` is the word for null, and `kind` is
-///   0.
+/// - The word of `LogFull`, of `NoSlot` for the slot, what is expected or the target, or of
+///   `NotOpen`: nothing has changed, `found` is the word for null, and `kind` is 0.
 ///
 /// [`g1_race_store`]: crate::race_store::g1_race_store
 #[unsafe(no_mangle)]
 pub extern "C" fn g1_race_compare_exchange(
     alloc: Global,
-    member: &mut MemberHandle,
+    racer: &mut RacerHandle,
     slot: u32,
     expected: u32,
     target: u32,
     found: &mut u32,
     kind: &mut u32,
 ) -> u32
-    ensures stored { result ≡ 0 → OfRacer member.old.value (λ a.
-        OfRacer member.new.value (λ b. OfKind kind.new (λ k.
+    ensures stored { result ≡ 0 → OfRacer racer.old.value (λ a.
+        OfRacer racer.new.value (λ b. OfKind kind.new (λ k.
         Exchanges a slot (reference_of expected) (reference_of target) k b))) }
     ensures found { result ≡ 0 → found.new ≡ expected }
-    ensures differs { result ≡ 2 → OfRacer member.old.value (λ a.
-        OfRacer member.new.value (λ b.
+    ensures differs { result ≡ 2 → OfRacer racer.old.value (λ a.
+        OfRacer racer.new.value (λ b.
         FindsOther a slot (reference_of expected) (reference_of found.new) b)) }
     ensures done { result ≤ 2 → (result ≡ 0) ⊎ (result ≡ 2) }
-    ensures taken { IfRacer member.old.value (λ a. array_vec_len a.racer.log < 256
+    ensures taken { IfRacer racer.old.value (λ a. array_vec_len a.racer.log < 256
         → IsStoreOf (race_layout (racer_race_of a)) slot expected
         → IsStoreOf (race_layout (racer_race_of a)) slot target → result ≤ 2) }
     ensures none { 0 < result → kind.new ≡ 0 }
     ensures null { 2 < result → found.new ≡ 4294967295 }
     ensures why { 2 < result →
-        IsRefusal result (IsRaceExchangeRefused member.old.value slot expected target) }
-    ensures refused { 2 < result → member.new.value ≡ member.old.value }
+        IsRefusal result (IsRaceExchangeRefused racer.old.value slot expected target) }
+    ensures refused { 2 < result → racer.new.value ≡ racer.old.value }
 {
     *kind = 0;
-    match replace_with(member, (alloc, slot, expected, target), compare_exchange_in) {
+    match replace_with(racer, (alloc, slot, expected, target), compare_exchange_in) {
         Err(refusal) => {
             *found = NULL;
             refusal.word()

@@ -2,42 +2,41 @@
 ghost use Rattle.std.specs.Prelude.{◌≡◌, ◌⊎◌, ◌<◌, ◌≤◌, length, take};
 ghost use Rattle.g1_handles.specs.Racing.{OfRacer, IfRacer, TakesLog};
 ghost use Rattle.g1_handles.specs.Codes.{IsRefusal};
-ghost use Rattle.g1_handles.specs.Refusals.{IsLogRefused};
+ghost use Rattle.g1_handles.specs.Refusals.{SaysNoMember};
 
 use core::mem::replace_with;
 use g1_handles::code::{DONE, Refusal};
 use g1_handles::list::put;
-use g1_handles::member_handle::MemberHandle;
 use g1_handles::race_log::{LOG, take_in};
+use g1_handles::racer_handle::RacerHandle;
 use std::alloc::Global;
 
 /// Takes the cards of a racer's log, and leaves the log empty. The first `count` elements of
 /// `cards` are these cards, oldest first. `cards` has room for 256. The marks stay: each of the
 /// cards is dirty until a sweeper of the race refines it, or a drain after the race.
 ///
-/// Returns 0, or the word of `NoRoom`, `OtherRole` or `NotOpen`: `count` is 0, and the log is as it
-/// was.
+/// Returns 0, or the word of `NoRoom` or `NotOpen`: `count` is 0, and the log is as it was.
 #[unsafe(no_mangle)]
 pub extern "C" fn g1_race_take_log(
     alloc: Global,
-    member: &mut MemberHandle,
+    racer: &mut RacerHandle,
     cards: &mut [u32],
     count: &mut u32,
 ) -> u32
-    ensures log { result ≡ 0 → OfRacer member.old.value (λ a.
-        OfRacer member.new.value (λ b. TakesLog a (take count.new cards.new) b)) }
-    ensures taken { IfRacer member.old.value (λ a. 256 ≤ length cards.old → result ≡ 0) }
+    ensures log { result ≡ 0 → OfRacer racer.old.value (λ a.
+        OfRacer racer.new.value (λ b. TakesLog a (take count.new cards.new) b)) }
+    ensures taken { IfRacer racer.old.value (λ a. 256 ≤ length cards.old → result ≡ 0) }
     ensures none { 0 < result → count.new ≡ 0 }
-    ensures why { 0 < result → IsRefusal result (λ refusal. IsLogRefused member.old.value refusal
+    ensures why { 0 < result → IsRefusal result (λ refusal. SaysNoMember racer.old.value refusal
         ⊎ ((refusal ≡ Refusal.NoRoom) × (length cards.old < 256))) }
-    ensures refused { 0 < result → member.new.value ≡ member.old.value }
+    ensures refused { 0 < result → racer.new.value ≡ racer.old.value }
     ensures unwritten { 0 < result → cards.new ≡ cards.old }
 {
     *count = 0;
     if cards.len() < LOG {
         return Refusal::NoRoom.word();
     }
-    match replace_with(member, alloc, take_in) {
+    match replace_with(racer, alloc, take_in) {
         Err(word) => word,
         Ok(log) => {
             put(log.as_slice(), cards);

@@ -7,23 +7,23 @@ ghost use Rattle.g1_handles.specs.Codes.{IsRefusal};
 ghost use Rattle.g1_handles.specs.Refusals.{IsSweepRefused};
 
 use core::mem::replace_with;
-use g1_handles::member_handle::MemberHandle;
 use g1_handles::race_refine::refine_in;
+use g1_handles::sweeper_handle::SweeperHandle;
 use std::alloc::Global;
 
 /// A sweeper refines a card, concurrently with whatever the other members of the race do. It makes
 /// the card clean, and then reads its slots and records the region of each reference into another
 /// region, whether the card was dirty or not. Takes no memory and never waits.
 ///
-/// Returns 0, or the word of `NoCard`, `OtherRole` or `NotOpen`: nothing has changed.
+/// Returns 0, or the word of `NoCard` or `NotOpen`: nothing has changed.
 #[unsafe(no_mangle)]
-pub extern "C" fn g1_race_refine(alloc: Global, member: &mut MemberHandle, card: u32) -> u32
-    ensures refined { result ≡ 0 → OfSweeper member.old.value (λ a.
-        OfSweeper member.new.value (λ b. Sweeps a card b)) }
-    ensures taken { IfSweeper member.old.value (λ a.
+pub extern "C" fn g1_race_refine(alloc: Global, sweeper: &mut SweeperHandle, card: u32) -> u32
+    ensures refined { result ≡ 0 → OfSweeper sweeper.old.value (λ a.
+        OfSweeper sweeper.new.value (λ b. Sweeps a card b)) }
+    ensures taken { IfSweeper sweeper.old.value (λ a.
         card < card_count (race_layout (sweeper_race_of a)) → result ≡ 0) }
-    ensures why { 0 < result → IsRefusal result (IsSweepRefused member.old.value card) }
-    ensures refused { 0 < result → member.new.value ≡ member.old.value }
+    ensures why { 0 < result → IsRefusal result (IsSweepRefused sweeper.old.value card) }
+    ensures refused { 0 < result → sweeper.new.value ≡ sweeper.old.value }
 {
-    replace_with(member, (alloc, card), refine_in)
+    replace_with(sweeper, (alloc, card), refine_in)
 }

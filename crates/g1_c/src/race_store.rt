@@ -8,8 +8,8 @@ ghost use Rattle.g1_handles.specs.Refusals.{IsRaceStoreRefused};
 
 use core::mem::replace_with;
 use g1_handles::code::{DONE, kind_word};
-use g1_handles::member_handle::MemberHandle;
 use g1_handles::race_store::store_in;
+use g1_handles::racer_handle::RacerHandle;
 use std::alloc::Global;
 
 /// A racer stores a reference, or null, into a slot, concurrently with whatever the other members
@@ -17,27 +17,27 @@ use std::alloc::Global;
 /// is 3, the slot's card is last in the racer's log, which has room for 256 cards. Takes no memory
 /// and never waits.
 ///
-/// Returns 0, or the word of `LogFull`, of `NoSlot` for the slot or the target, of `OtherRole` or
-/// of `NotOpen`: nothing has changed, and `kind` is 0.
+/// Returns 0, or the word of `LogFull`, of `NoSlot` for the slot or the target, or of `NotOpen`:
+/// nothing has changed, and `kind` is 0.
 #[unsafe(no_mangle)]
 pub extern "C" fn g1_race_store(
     alloc: Global,
-    member: &mut MemberHandle,
+    racer: &mut RacerHandle,
     slot: u32,
     target: u32,
     kind: &mut u32,
 ) -> u32
-    ensures stored { result ≡ 0 → OfRacer member.old.value (λ a.
-        OfRacer member.new.value (λ b. OfKind kind.new (λ k.
+    ensures stored { result ≡ 0 → OfRacer racer.old.value (λ a.
+        OfRacer racer.new.value (λ b. OfKind kind.new (λ k.
         Stores a slot (reference_of target) k b))) }
-    ensures taken { IfRacer member.old.value (λ a. array_vec_len a.racer.log < 256
+    ensures taken { IfRacer racer.old.value (λ a. array_vec_len a.racer.log < 256
         → IsStoreOf (race_layout (racer_race_of a)) slot target → result ≡ 0) }
     ensures none { 0 < result → kind.new ≡ 0 }
     ensures why { 0 < result →
-        IsRefusal result (IsRaceStoreRefused member.old.value slot target) }
-    ensures refused { 0 < result → member.new.value ≡ member.old.value }
+        IsRefusal result (IsRaceStoreRefused racer.old.value slot target) }
+    ensures refused { 0 < result → racer.new.value ≡ racer.old.value }
 {
-    match replace_with(member, (alloc, slot, target), store_in) {
+    match replace_with(racer, (alloc, slot, target), store_in) {
         Err(refusal) => {
             *kind = 0;
             refusal.word()

@@ -45,12 +45,16 @@ pub fn pause_heap(
     ensures same { OnOk result (heap_race handle.new.value ≡ heap_race handle.old.value) }
     ensures members { OnOk result (IsFor handle.old.value (length racers.old) (length sweepers.old)
         × IsFor handle.new.value (length racers.old) (length sweepers.old)) }
-    ensures like { OnOk result (AreLikeOf handle.old.value (held_racers racers.old) (held_sweepers sweepers.old)) }
-    ensures closed { OnOk result (AreClosed (held_racers racers.new) × AreClosed (held_sweepers sweepers.new)) }
+    ensures like { OnOk result (AreLikeOf handle.old.value (held_racers racers.old)
+        (held_sweepers sweepers.old)) }
+    ensures closed { OnOk result (AreClosed (held_racers racers.new)
+        × AreClosed (held_sweepers sweepers.new)) }
     ensures why { IfErr result (λ refusal.
-        IsPauseRefused handle.old.value (held_racers racers.old) (held_sweepers sweepers.old) refusal) }
+        IsPauseRefused handle.old.value (held_racers racers.old)
+        (held_sweepers sweepers.old) refusal) }
     ensures refused { OnErr result ((handle.new.value ≡ handle.old.value)
-        × (held_racers racers.new ≡ held_racers racers.old) × (held_sweepers sweepers.new ≡ held_sweepers sweepers.old)) }
+        × (held_racers racers.new ≡ held_racers racers.old)
+        × (held_sweepers sweepers.new ≡ held_sweepers sweepers.old)) }
 {
     let Some(heap) = replace(handle, HeapHandle::closed(alloc)).into_raw_box() else {
         return Err(Refusal::NotOpen);
@@ -75,12 +79,16 @@ fn pause_of(
     ensures same { OnOk result (heap_race (Some heap.new) ≡ heap_race (Some heap.old)) }
     ensures members { OnOk result (IsFor (Some heap.old) (length racers.old) (length sweepers.old)
         × IsFor (Some heap.new) (length racers.old) (length sweepers.old)) }
-    ensures like { OnOk result (AreLikeOf (Some heap.old) (held_racers racers.old) (held_sweepers sweepers.old)) }
-    ensures closed { OnOk result (AreClosed (held_racers racers.new) × AreClosed (held_sweepers sweepers.new)) }
+    ensures like { OnOk result (AreLikeOf (Some heap.old) (held_racers racers.old)
+        (held_sweepers sweepers.old)) }
+    ensures closed { OnOk result (AreClosed (held_racers racers.new)
+        × AreClosed (held_sweepers sweepers.new)) }
     ensures why { IfErr result (λ refusal.
-        IsPauseRefused (Some heap.old) (held_racers racers.old) (held_sweepers sweepers.old) refusal) }
+        IsPauseRefused (Some heap.old) (held_racers racers.old)
+        (held_sweepers sweepers.old) refusal) }
     ensures refused { OnErr result ((heap.new ≡ heap.old)
-        × (held_racers racers.new ≡ held_racers racers.old) × (held_sweepers sweepers.new ≡ held_sweepers sweepers.old)) }
+        × (held_racers racers.new ≡ held_racers racers.old)
+        × (held_sweepers sweepers.new ≡ held_sweepers sweepers.old)) }
 {
     let RacingHeap::Racing(under_way) = &*heap else {
         return Err(Refusal::NotRacing);
@@ -115,7 +123,8 @@ fn take_in(
     requires sweepers { (length sweepers.old ≡ under_way.old.sweepers.count)
         × All (λ m. IsSome (part_in m)) (held_sweepers sweepers.old)
         × All (IsOf (arc_value under_way.old.race)) (held_sweepers sweepers.old) }
-    ensures came { ComesIn under_way.old under_way.new (held_racers racers.old) (held_sweepers sweepers.old) }
+    ensures came { ComesIn under_way.old under_way.new (held_racers racers.old)
+        (held_sweepers sweepers.old) }
     ensures closed { AreClosed (held_racers racers.new) × AreClosed (held_sweepers sweepers.new) }
 {
     let UnderWay {

@@ -37,11 +37,14 @@ pub fn resume_heap(
     ensures same { OnOk result (heap_race handle.new.value ≡ heap_race handle.old.value) }
     ensures members { OnOk result (IsFor handle.old.value (length racers.old) (length sweepers.old)
         × IsFor handle.new.value (length racers.old) (length sweepers.old)) }
-    ensures closed { OnOk result (AreClosed (held_racers racers.old) × AreClosed (held_sweepers sweepers.old)) }
+    ensures closed { OnOk result (AreClosed (held_racers racers.old)
+        × AreClosed (held_sweepers sweepers.old)) }
     ensures why { IfErr result (λ refusal.
-        IsGoingRefused handle.old.value (held_racers racers.old) (held_sweepers sweepers.old) refusal) }
+        IsGoingRefused handle.old.value (held_racers racers.old)
+        (held_sweepers sweepers.old) refusal) }
     ensures refused { OnErr result ((handle.new.value ≡ handle.old.value)
-        × (held_racers racers.new ≡ held_racers racers.old) × (held_sweepers sweepers.new ≡ held_sweepers sweepers.old)) }
+        × (held_racers racers.new ≡ held_racers racers.old)
+        × (held_sweepers sweepers.new ≡ held_sweepers sweepers.old)) }
 {
     let Some(heap) = replace(handle, HeapHandle::closed(alloc)).into_raw_box() else {
         return Err(Refusal::NotOpen);
@@ -64,11 +67,14 @@ fn resume_of(
     ensures same { OnOk result (heap_race (Some heap.new) ≡ heap_race (Some heap.old)) }
     ensures members { OnOk result (IsFor (Some heap.old) (length racers.old) (length sweepers.old)
         × IsFor (Some heap.new) (length racers.old) (length sweepers.old)) }
-    ensures closed { OnOk result (AreClosed (held_racers racers.old) × AreClosed (held_sweepers sweepers.old)) }
+    ensures closed { OnOk result (AreClosed (held_racers racers.old)
+        × AreClosed (held_sweepers sweepers.old)) }
     ensures why { IfErr result (λ refusal.
-        IsGoingRefused (Some heap.old) (held_racers racers.old) (held_sweepers sweepers.old) refusal) }
+        IsGoingRefused (Some heap.old) (held_racers racers.old)
+        (held_sweepers sweepers.old) refusal) }
     ensures refused { OnErr result ((heap.new ≡ heap.old)
-        × (held_racers racers.new ≡ held_racers racers.old) × (held_sweepers sweepers.new ≡ held_sweepers sweepers.old)) }
+        × (held_racers racers.new ≡ held_racers racers.old)
+        × (held_sweepers sweepers.new ≡ held_sweepers sweepers.old)) }
 {
     let RacingHeap::Paused(at) = &*heap else {
         return Err(Refusal::NotPaused);
