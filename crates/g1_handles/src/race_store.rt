@@ -52,6 +52,7 @@ fn store_of(member: &mut Member, slot: u32, target: u32) -> Result<Kind, Refusal
 
 /// Stores a target into a slot by a racer. Returns the kind of the store, or `LogFull`, or `NoSlot`
 /// for the slot or the target: nothing has changed.
+#[inline(always)]
 pub(crate) fn store_by(racing: &mut Racing, slot: u32, target: u32) -> Result<Kind, Refusal>
     ensures stored { IfOk result (λ kind.
         Stores racing.old slot (reference_of target) kind racing.new) }
@@ -65,6 +66,7 @@ pub(crate) fn store_by(racing: &mut Racing, slot: u32, target: u32) -> Result<Ki
 }
 
 /// Returns the slot and the target of a store that a racer can make, or `LogFull` or `NoSlot`.
+#[inline(always)]
 pub(crate) fn may_store(
     racing: &Racing,
     slot: u32,
