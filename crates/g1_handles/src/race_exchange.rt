@@ -1,5 +1,5 @@
 //! Stores in a race that return what the slot referred to before, or depend on it.
-ghost use Rattle.std.specs.Prelude.{◌≡◌, ◌⊎◌, ◌<◌, ◌≤◌, Some, IfOk, IfErr, IsOk, OnErr};
+ghost use Rattle.std.specs.Prelude.{◌≡◌, ◌⊎◌, ◌<◌, Some, IfOk, IfErr, IsOk, OnErr};
 ghost use Rattle.arrayvec.specs.ArrayVec.{array_vec_len};
 ghost use Rattle.g1_race.specs.Members.{race_id, race_layout, racer_race};
 ghost use Rattle.g1_handles.specs.Codes.{IsStoreOf, reference_of};
