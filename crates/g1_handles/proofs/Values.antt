@@ -1,21 +1,26 @@
 -- The machine values of handles. Assumes `Logic`.
-use Rattle.std.proofs.Common.{◌≡◌, ℕ, List, [], ◌∷◌, refl, lit<}
+use Rattle.std.proofs.Common.{◌≡◌, ℕ, List, [], ◌∷◌, ◌++◌, refl, subst, lit<}
 use Rattle.std.specs.Prelude.{Option, Some, None}
 use lib.Dec.{T}
 use mathlib.Core.Bool.{true, ◌&&◌}
 use seplogic.Ra.Ura.{Ura}
-use mir.Syntax.{impl, tnil, dnil}
+use mir.Syntax.{Sym, Lifetime, impl, tnil, dnil}
 use mir.Raw.{raw as bare}
-use mir.Val.{Val, vnull, has_ty, WT}
+use mir.Val.{Val, vptr, vnull, vstruct, of_list, has_ty, WT}
+use base.Fml.{Fml, fsep, feq}
 use base.Logic.{ent, guard, guard_i, snd∗, via}
 use types.Logic.{Logic, sem}
-use types.Kit.{Item, Goal, Seq, ‵, given, ◌$◌, fsplit, fpick, learn, use1, feq_l}
+use types.Kit.{Item, Goal, Seq, Step, step, ‵, given, ◌$◌, move, drop, fsplit, fjoin, fpick, fpack, learn, use1, feq_i, feq_l}
 use contract.Monad.{fact_use}
-use denote.RattleType.{RattleType}
+use denote.RattleType.{RattleType, Valss}
+use denote.Builtin.{RawPtr}
+use denote.Steps.{nothing}
+use denote.Struct.Struct.{Shape, Struct, within}
+use denote.Struct.Owning.{fields}
 use denote.Memory.{lone}
-use denote.RawPtr.{Ptr, block_ptr, null_ptr, lies_at, Testable}
+use denote.RawPtr.{Ptr, block_ptr, null_ptr, ptr_val, lies_at, Testable}
 use denote.Param.{layout}
-use Rattle.std.proofs.alloc.Calls.{Al}
+use Rattle.std.proofs.alloc.Calls.{Al, handle_tells}
 use Rattle.std.proofs.cell.Inside.{Good}
 use Rattle.std.proofs.GlobalToken.{dealloc_token-Testable}
 use Rattle.std.specs.Borrow.{full_share}
@@ -26,6 +31,7 @@ use Rattle.std.proofs.alloc.Global.TheLaws as laws
 use Rattle.std_alloc.proofs.ResultValues.{and_tt}
 use Rattle.raw_box.proofs.Values.{both}
 use Rattle.g1_handles.specs.Own.{holds, owns_boxed}
+use Rattle.g1_handles.specs.contracts.handle.Handle as core
 
 abbrev pub Z : RattleType
 Z = global.the_row
@@ -53,3 +59,39 @@ module _ (R : RattleType) {M : Type 1} {𝓤 : Ura M} {𝓛 : Logic 𝓤} {K : T
   either t a null_ptr v none one = feq_l t (λ e. none refl e)
   either t a (block_ptr b o) v none one = fpick t (λ x. fsplit t $ feq_l t (λ e.
       use1 𝓛 (given (Testable (block_ptr b o)) (‵ (owns_boxed R a (block_ptr b o) x))) (tested R 𝓛 a (block_ptr b o) x) $ learn t (λ may. one b o x refl e may)))
+
+-- a handle with this name: a pointer and an allocator, and what they own
+module _ (R : RattleType) (n : Sym) where
+  abbrev shape : Shape
+  shape = record { name = n; args = []; types = []; fields = fields core.the_type }
+
+  abbrev pub owned : Ptr → Global → Option R.Denot → List Val → Fml
+  owned p a v vs = fsep ((Struct shape).own_val (p, (((a.memory.seal, tt), tt), tt)) vs) (holds R a p v)
+
+  module _ {M : Type 1} {𝓤 : Ura M} {𝓛 : Logic 𝓤} {K : Type 0} {Γ : List (Item 𝓤)} {G : Goal 𝓤 𝓛.H} where
+    pub handle_out : K → (p : Ptr) (a : Global) (v : Option R.Denot) (vs : List Val)
+        → ((h : Val) → v ≡ None → vs ≡ both vnull h ∷ [] → Good (layout Z) h → Seq K 𝓛 (‵ (Z.own_val a (h ∷ [])) ∷ Γ) G)
+        → ((b o : ℕ) (x : R.Denot) (h : Val) → v ≡ Some x → Testable (block_ptr b o) → vs ≡ both (vptr b o) h ∷ [] → Good (layout Z) h → Seq K 𝓛 (‵ (owns_boxed R a (block_ptr b o) x) ∷ ‵ (Z.own_val a (h ∷ [])) ∷ Γ) G)
+        → Seq K 𝓛 (‵ (owned p a v vs) ∷ Γ) G
+    handle_out t p a v vs none one =
+        fsplit t $ fpick t (λ vss. fsplit t $ feq_l t (λ ev. fsplit t $ feq_l t (λ ep. fsplit t $ handle_tells al t a vss.1.0 (λ h ea fits. move t (1 ∷ []) $ drop t $ move t (1 ∷ []) $
+        let words : (q : Ptr) → p ≡ q → vs ≡ both (ptr_val q) h ∷ [] = λ q e.
+        subst (λ (r : Ptr). vs ≡ vstruct (of_list (ptr_val r ∷ h ∷ [])) ∷ []) e
+        (subst (λ (ws : List Val). vs ≡ vstruct (of_list (ptr_val p ∷ (ws ++ []))) ∷ []) ea (subst (λ (ps : List Val). vs ≡ vstruct (of_list (ps ++ (vss.1.0 ++ []))) ∷ []) ep ev)) in
+        either R t a p v
+        (λ e is. none h is (words null_ptr e) fits)
+        (λ b o x e is may. one b o x h is may (words (block_ptr b o) e) fits)))))
+
+    pub handle_in : K → (b o : ℕ) (h : Val) (a : Z.Denot) (x : R.Denot)
+        → Step K 𝓛 (‵ (owned (block_ptr b o) a (Some x) (both (vptr b o) h ∷ [])) ∷ Γ) G (‵ (owns_boxed R a (block_ptr b o) x) ∷ ‵ (Z.own_val a (h ∷ [])) ∷ Γ) G
+    handle_in t b o h a x = step (λ s. let v : Val = both (vptr b o) h in
+        feq_i t (Option R.Denot) (Some x) (Some x) refl $ fjoin t $ fpack t R.Denot (λ y. fsep (feq (Option R.Denot) (Some x) (Some y)) (owns_boxed R a (block_ptr b o) y)) x $
+        nothing t $ move t (2 ∷ 0 ∷ []) $ fjoin t $ feq_i t (List Val) (vptr b o ∷ []) (vptr b o ∷ []) refl $ fjoin t $ feq_i t (List Val) (v ∷ []) (v ∷ []) refl $ fjoin t $
+        fpack t (Valss (RawPtr ∷ Z ∷ [])) (within shape (block_ptr b o, (((a.memory.seal, tt), tt), tt)) (v ∷ [])) (vptr b o ∷ [], (h ∷ [], tt)) $ fjoin t $ s)
+
+    pub closed_in : K → (h : Val) (a : Z.Denot)
+        → Step K 𝓛 (‵ (owned null_ptr a None (both vnull h ∷ [])) ∷ Γ) G (‵ (Z.own_val a (h ∷ [])) ∷ Γ) G
+    closed_in t h a = step (λ s. let v : Val = both vnull h in
+        feq_i t (Option R.Denot) None None refl $
+        nothing t $ move t (2 ∷ 0 ∷ []) $ fjoin t $ feq_i t (List Val) (vnull ∷ []) (vnull ∷ []) refl $ fjoin t $ feq_i t (List Val) (v ∷ []) (v ∷ []) refl $ fjoin t $
+        fpack t (Valss (RawPtr ∷ Z ∷ [])) (within shape (null_ptr, (((a.memory.seal, tt), tt), tt)) (v ∷ [])) (vnull ∷ [], (h ∷ [], tt)) $ fjoin t $ s)

@@ -6,7 +6,7 @@ use Rattle.std_alloc.proofs.SendSync.{quiet}
 use Rattle.std.proofs.alloc.Global.TheSendSync as global
 use Rattle.g1_core.proofs.machinery.Core.TheSendSync.{the_send as home}
 use Rattle.g1_handles.proofs.Sending.{keyless}
-use Rattle.g1_handles.proofs.CoreValues.{R}
+use Rattle.g1_handles.specs.Own.{core_row as R}
 use Rattle.g1_handles.specs.contracts.handle.Handle.{the_row, the_type}
 
 pub send : IsSend the_row

@@ -22,8 +22,9 @@ use Rattle.std.proofs.cell.Inside.{one}
 use Rattle.std.proofs.raw_atomic.Walks.{proved_at, leaves}
 use Rattle.std.proofs.alloc.Global.TheLaws as laws
 use Rattle.raw_box.proofs.Values.{both}
-use Rattle.g1_handles.proofs.Values.{Z, closed_good}
-use Rattle.g1_handles.proofs.HeapValues.{closed_in}
+use Rattle.g1_handles.specs.Own.{heap_row as R}
+use Rattle.g1_handles.specs.contracts.heap_handle.HeapHandle as handle
+use Rattle.g1_handles.proofs.Values.{Z, closed_good, closed_in}
 use Rattle.g1_handles.specs.contracts.heap_handle.HeapHandleAnyHandle.closed.{ended, clauses}
 use Rattle.g1_handles.specs.contracts.heap_handle.HeapHandleAnyHandle.closed.Key.{name as #self}
 use Rattle.g1_handles.proofs.heap_handle.HeapHandleAnyHandle.closed.Statement.{statement}
@@ -42,6 +43,6 @@ closed_spec 𝓤 𝓛 𝓜 𝓡 wired =
     suffices ! (Run (h.0 ∷ [])) (subst (λ (us : List Val). ent 𝓤 (Run (h.0 ∷ [])) (Run us)) (sym (λ i. h.1 i ++ [])) (id⊢ 𝓤 (Run (h.0 ∷ [])))) $
     enter ! C Λ fn (h.0 ∷ []) Post $ alloc_all ! (λ l. pass_all ! refl (h.2, tt) $
     sets ! (agg ! (and_then ! (lit ! tt) (and_then ! (get ! refl) (no_more !)))) refl typed $
-    returns ! (look_at ! 0 refl) $ free_all ! refl $ closed_in ! h.0 a $
+    returns ! (look_at ! 0 refl) $ free_all ! refl $ closed_in R handle.the_type.name ! h.0 a $
     use0 𝓛 (raw (fact 𝓤 (None ≡ None))) (fact_i 𝓤 (None ≡ None) (emp 𝓤) refl) $ nothing ! $ nothing ! $ fjoin ! $ keep ! (4 ∷ 0 ∷ 2 ∷ 1 ∷ []) $
     by ! (leaves 𝓛 En hs c z (both vnull h.0) (record { at = null_ptr; alloc = a; value = None }) (tt, tt) (tt, tt))))

@@ -27,10 +27,10 @@ use Rattle.std.proofs.raw_atomic.Walks.{proved_at, leaves}
 use Rattle.std.specs.contracts.impls.GlobalAllocator.TheImpl.{ghosts}
 use Rattle.std.proofs.alloc.Global.TheLaws as laws
 use Rattle.std_alloc.proofs.ResultValues.{and_tt}
-use Rattle.g1_handles.specs.contracts.heap_handle.HeapHandle as handle
 use Rattle.raw_box.proofs.Values.{both, RawBox, raw_box_good, raw_box_in}
-use Rattle.g1_handles.proofs.Values.{Z, closed_good}
-use Rattle.g1_handles.proofs.HeapValues.{R, handle_out}
+use Rattle.g1_handles.specs.Own.{heap_row as R}
+use Rattle.g1_handles.specs.contracts.heap_handle.HeapHandle as handle
+use Rattle.g1_handles.proofs.Values.{Z, closed_good, handle_out}
 use Rattle.g1_handles.specs.contracts.heap_handle.HeapHandleAnyHandle.into_raw_box.{ended, clauses}
 use Rattle.g1_handles.specs.contracts.heap_handle.HeapHandleAnyHandle.into_raw_box.Key.{name as #self}
 use Rattle.g1_handles.proofs.heap_handle.HeapHandleAnyHandle.into_raw_box.Statement.{statement}
@@ -44,7 +44,7 @@ into_raw_box_spec 𝓤 𝓛 𝓜 𝓡 wired =
     proved_at 𝓛 En hs c 𝓜 𝓡 (Goes-blank 𝓛 0 (plain (λ _. handle.the_row)) En.kept.0 (λ κs x f. tt), tt) #self fn (code.unfolded 𝓤 H 𝓜 𝓡 wired) (λ z are.
     let Post : Val → SProp 𝓤 = (walk_of 𝓛 En hs c).post z in let a = z.0.3 in let vss = z.0.4 in let v = a.0 in let Out : RattleType = type_at En.signature.result z.0.0 in
     qed 𝓛 ((raw (alive 𝓛 En.signature z.0.0 z.0.1) ⊛ ‵ (owns (types_at En.signature.params z.0.0) a vss)) ∷ raw ((c z.0.0 a).requires z.1) ∷ []) ∵ move ! (1 ∷ []) $ drop ! $ split ! $ move ! (1 ∷ []) $ fsplit ! $
-    handle_out ! v vss.0
+    handle_out R handle.the_type.name ! v.at v.alloc v.value vss.0
     (λ h e ws fits. let typed = closed_good h fits in
     regoal ! (λ (us : List Val). prop (WpFn 𝓤 H C Λ fn us Post)) (λ i. ws i ++ []) refl $
     enter ! C Λ fn (both vnull h ∷ []) Post $ alloc_all ! (λ l. pass_all ! refl (typed, tt) $ let Ev = env fn.locals l in

@@ -8,7 +8,7 @@ use Rattle.g1_race.proofs.race.Racer.TheSendSync.{the_send as part}
 use Rattle.g1_handles.proofs.member.Member.TheSendSync as member
 use Rattle.g1_handles.specs.contracts.member.RacerPart.TheImpl.{ghosts}
 use Rattle.g1_handles.proofs.Sending.{keyless}
-use Rattle.g1_handles.proofs.RacerValues.{R}
+use Rattle.g1_handles.specs.Own.{racer_row as R}
 use Rattle.g1_handles.specs.contracts.racer_handle.RacerHandle.{the_row, the_type}
 
 pub send : IsSend the_row

@@ -8,7 +8,7 @@ use Rattle.g1_race.proofs.race.Sweeper.TheSendSync.{the_send as part}
 use Rattle.g1_handles.proofs.member.Member.TheSendSync as member
 use Rattle.g1_handles.specs.contracts.member.SweeperPart.TheImpl.{ghosts}
 use Rattle.g1_handles.proofs.Sending.{keyless}
-use Rattle.g1_handles.proofs.SweeperValues.{R}
+use Rattle.g1_handles.specs.Own.{sweeper_row as R}
 use Rattle.g1_handles.specs.contracts.sweeper_handle.SweeperHandle.{the_row, the_type}
 
 pub send : IsSend the_row

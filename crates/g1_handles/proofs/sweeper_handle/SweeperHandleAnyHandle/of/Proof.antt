@@ -23,8 +23,9 @@ use Rattle.std.proofs.raw_atomic.Walks.{proved_at, leaves}
 use Rattle.std.specs.contracts.impls.GlobalAllocator.TheImpl.{ghosts}
 use Rattle.std.proofs.alloc.Global.TheLaws as laws
 use Rattle.raw_box.proofs.Values.{both, RawBox, raw_box_good, raw_box_out}
-use Rattle.g1_handles.proofs.Values.{Z}
-use Rattle.g1_handles.proofs.SweeperValues.{R, handle_in}
+use Rattle.g1_handles.specs.Own.{sweeper_row as R}
+use Rattle.g1_handles.specs.contracts.sweeper_handle.SweeperHandle as handle
+use Rattle.g1_handles.proofs.Values.{Z, handle_in}
 use Rattle.g1_handles.specs.contracts.sweeper_handle.SweeperHandleAnyHandle.of.{ended, clauses}
 use Rattle.g1_handles.specs.contracts.sweeper_handle.SweeperHandleAnyHandle.of.Key.{name as #self}
 use Rattle.g1_handles.proofs.sweeper_handle.SweeperHandleAnyHandle.of.Statement.{statement}
@@ -46,6 +47,6 @@ of_spec 𝓤 𝓛 𝓜 𝓡 wired =
     sets ! (of_opd ! (get_in ! (fld ! refl (stop !)) (sub ! 1 refl (whole !)))) refl fits $
     sets ! (of_opd ! (get ! refl)) refl (tt, tt) $
     sets ! (agg ! (and_then ! (get ! refl) (and_then ! (get ! refl) (no_more !)))) refl typed $
-    returns ! (look_at ! 0 refl) $ free_all ! refl $ handle_in ! b o h v.alloc v.value $
+    returns ! (look_at ! 0 refl) $ free_all ! refl $ handle_in R handle.the_type.name ! b o h v.alloc v.value $
     use0 𝓛 (raw (fact 𝓤 (Some v.value ≡ Some v.value))) (fact_i 𝓤 (Some v.value ≡ Some v.value) (emp 𝓤) refl) $ nothing ! $ nothing ! $ fjoin ! $ keep ! (4 ∷ 0 ∷ 2 ∷ 1 ∷ []) $
     by ! (leaves 𝓛 En hs c z (both (vptr b o) h) (record { at = block_ptr b o; alloc = v.alloc; value = Some v.value }) (tt, tt) (tt, tt)))))
