@@ -1,7 +1,7 @@
 -- A member and its part.
 use Rattle.std.proofs.Common.{◌≡◌, List, [], ◌∷◌, Some, None, map, refl, ap, ◌∙◌, sym, subst}
 use Rattle.std.proofs.Props.{props}
-use Rattle.std.specs.Prelude.{Option, IsSome, IsSomeAnd}
+use Rattle.std.specs.Prelude.{Option, Result, Ok, Err, OnErr, IsSome, IsSomeAnd}
 use Rattle.std.specs.Option.{ForSome}
 use Rattle.std.specs.Arc.{arc_value}
 use mathlib.Core.HLevel.{is_prop→PathP}
@@ -20,6 +20,11 @@ same_member {P} {g} m n race number part apart = λ i. record {
   apart = apart i;
   same = is_prop→PathP (λ j. ForSome (part j) (λ p. g.of p ≡ race_id (arc_value (race j)))) (λ j. hlevel props) m.same n.same i;
 }
+
+-- a call that is refused leaves what it was made on
+pub on_err : {A E P Q : Type 0} (r : Result A E) → (P → Q) → OnErr r P → OnErr r Q
+on_err (Ok a) f h = h
+on_err (Err e) f h = f h
 
 pub of_some : {A : Type 0} (P : A → Type 0) (o : Option A) (x : A) → o ≡ Some x → P x → IsSomeAnd o P
 of_some {A} P o x e is = subst (λ (q : Option A). IsSomeAnd q P) (sym e) is
