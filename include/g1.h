@@ -5,12 +5,13 @@
  * store beside refinement threads, lock-free, and pauses are for the collector (see "A heap whose
  * stores race" below).
  *
- * Either is a checked shadow of a runtime's references. The heap has regions, each region has
- * cards, and each card has slots. Regions, cards and slots are each numbered from 0 in the order of
- * the heap: card c has the slots from c * slots on, and region r has the cards from r * cards on. A
- * slot holds null or refers to a place, which is named by the number of its slot. The runtime
- * reports each reference store to the library. Refinement and pauses read the references that were
- * reported, and no memory of the runtime's.
+ * Either keeps a table of a runtime's references. The heap has regions, each region has cards, and
+ * each card has slots. Regions, cards and slots are each numbered from 0 in the order of the heap:
+ * card c has the slots from c * slots on, and region r has the cards from r * cards on. A slot
+ * holds null or refers to a place, which is named by the number of its slot. The runtime reports
+ * each reference store to the library. Refinement and pauses read the references that were
+ * reported, and no memory of the runtime's. The table of a struct g1_heap may also be the
+ * references themselves: then a report is the store.
  *
  * The path of a card in a struct g1:
  *   - If g1_store stores a reference into another region and the slot's card is clean, it marks

@@ -86,8 +86,9 @@ pub extern "C" fn g1_heap_resume(
 /// heap or one that is given twice: nothing has changed.
 ///
 /// Members of other heaps are refused before anything changes, by counts of each race's owners. No
-/// proof knows what these counts say, so the condition `one` takes their place: members whose
-/// numbers fit are of this heap's race. Nothing relies on the condition before the counts are taken.
+/// proof knows what these counts say, so the condition `one` takes their place: members that
+/// are as many as the heap's are of its race. Nothing relies on the condition before the counts are
+/// taken.
 #[unsafe(no_mangle)]
 pub extern "C" fn g1_heap_pause(
     alloc: Global,

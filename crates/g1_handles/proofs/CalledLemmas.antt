@@ -1,5 +1,5 @@
 -- What a call on the handle of a heap says once its result is known.
-use Rattle.std.proofs.Common.{◌≡◌, refl, sym, ap, ◌∙◌, subst, inl, inr}
+use Rattle.std.proofs.Common.{◌≡◌, refl, ap, subst, inl, inr}
 use Rattle.std.proofs.Props.{props}
 use Rattle.std.specs.Prelude.{Option, Some, None, Result, Ok, Err, All, length, vec_len}
 use Rattle.std.specs.Arc.{arc_value}
@@ -7,11 +7,10 @@ use mathlib.Core.HLevel.{is_prop→PathP}
 use Rattle.g1_race.specs.Members.{race_id, race_layout}
 use Rattle.g1_race.specs.Over.{Halt}
 use Rattle.g1_handles.specs.declared.code.Refusal.{Refusal}
-use Rattle.g1_handles.specs.declared.code.Refusal.TheVariants as refusal
 use Rattle.g1_handles.specs.declared.racing_heap.AtPause.{AtPause}
 use Rattle.g1_handles.specs.declared.racing_heap.RacingHeap.{RacingHeap}
 use Rattle.g1_handles.specs.declared.racing_heap.RacingHeap.TheVariants as heap
-use Rattle.g1_handles.specs.Life.{OfPaused, IsSameBut, IsSameHeap, SaysNoHeap, SaysNotPaused}
+use Rattle.g1_handles.specs.Life.{IsSameBut, IsSameHeap}
 use Rattle.g1_handles.specs.HeapCalls.{IsCalled, IsHeapRefused}
 
 -- a heap at a pause is its share, its pause and its boxes

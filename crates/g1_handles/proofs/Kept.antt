@@ -1,5 +1,5 @@
 -- What a call at a pause keeps.
-use Rattle.std.proofs.Common.{◌≡◌, List, [], ℕ, refl, sym, ap, ◌∙◌, subst, length, replicate}
+use Rattle.std.proofs.Common.{◌≡◌, [], ap, ◌∙◌, length}
 use Rattle.std.proofs.lemmas.List.{length-replicate}
 use Rattle.g1_race.specs.Over.{Halt}
 use Rattle.g1_race.specs.Evacuating.{IsSameRace, IsRefinedRace}

@@ -9,7 +9,7 @@ use Rattle.g1_race.specs.declared.race.Race.{Race}
 use Rattle.g1_race.specs.Members.{race_id}
 use Rattle.g1_handles.specs.declared.member.Part.{Ghosts}
 use Rattle.g1_handles.specs.declared.member.Member.{Member}
-use Rattle.g1_handles.specs.Racing.{part_in, IsOf}
+use Rattle.g1_handles.specs.Racing.{IsOf}
 
 -- a member is its share, its number and its part, with padding
 pub same_member : {P : Type 0} {g : Ghosts P} (m n : Member P g) → m.race ≡ n.race → m.number ≡ n.number → m.part ≡ n.part → m.apart ≡ n.apart → m ≡ n

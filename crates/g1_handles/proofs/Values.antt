@@ -4,7 +4,7 @@ use Rattle.std.specs.Prelude.{Option, Some, None}
 use lib.Dec.{T}
 use mathlib.Core.Bool.{true, ◌&&◌}
 use seplogic.Ra.Ura.{Ura}
-use mir.Syntax.{Sym, Lifetime, impl, tnil, dnil}
+use mir.Syntax.{Sym, impl, tnil, dnil}
 use mir.Raw.{raw as bare}
 use mir.Val.{Val, vptr, vnull, vstruct, of_list, has_ty, WT}
 use base.Fml.{Fml, fsep, feq}

@@ -13,7 +13,6 @@ use Rattle.g1_race_words.specs.Rule.{beginning}
 use Rattle.g1_race_words.specs.declared.view.View.{View}
 use Rattle.g1_race.specs.declared.race.Race.{Race}
 use Rattle.g1_race.specs.declared.race.Racer.{Racer}
-use Rattle.g1_race.specs.declared.race.Sweeper.{Sweeper}
 use Rattle.g1_race.specs.Drain.{began}
 use Rattle.g1_race.specs.Members.{race_id, race_layout, racer_log, IsNewRacer, IsNewSweeper}
 use Rattle.g1_race.specs.Members.{racer_view, sweeper_view, race_shape}
@@ -174,8 +173,8 @@ IsLetGo (heap.Paused a) (heap.Paused c) = ⊥
 IsLetGo (heap.Racing b) new = ⊥
 
 -- a resume of the heap of the first handle, with the members' handles
-abbrev pub IsGoingRefused : Option RacingHeap → List (Option RacerMember) → List (Option SweeperMember)
-    → Refusal → Type 0
+abbrev pub IsGoingRefused : Option RacingHeap → List (Option RacerMember)
+    → List (Option SweeperMember) → Refusal → Type 0
 IsGoingRefused h racers sweepers r =
     SaysNoHeap h r ⊎ SaysNotPaused h r
     ⊎ ((r ≡ refusal.BadMembers) × (IsFor h (length racers) (length sweepers) → ⊥))
@@ -224,8 +223,8 @@ pub record ComesIn (old new : UnderWay) (rs : List (Option RacerMember))
 
 -- a pause of the heap of the first handle; that the members are of its race, each given once, is
 -- found out by counts, of which no proof knows
-abbrev pub IsPauseRefused : Option RacingHeap → List (Option RacerMember) → List (Option SweeperMember)
-    → Refusal → Type 0
+abbrev pub IsPauseRefused : Option RacingHeap → List (Option RacerMember)
+    → List (Option SweeperMember) → Refusal → Type 0
 IsPauseRefused h racers sweepers r =
     SaysNoHeap h r ⊎ SaysNotRacing h r
     ⊎ ((r ≡ refusal.BadMembers) × (IsFor h (length racers) (length sweepers) → ⊥))

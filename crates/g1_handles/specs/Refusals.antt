@@ -45,7 +45,7 @@ SaysTooMany given r = (r ≡ refusal.TooManyCards) × (256 < given)
 abbrev pub SaysNoPlace : Shape → ℕ → ℕ → Refusal → Type 0
 SaysNoPlace l slot target r = (r ≡ refusal.NoSlot) × (IsStoreOf l slot target → ⊥)
 
--- the member's handle is closed: a member in a handle has its racer or its sweeper
+-- the handle has no racer or sweeper: it is closed, since no member waits in a handle
 abbrev pub SaysNoMember : {P : Type 0} {g : Ghosts P} → Option (Member P g) → Refusal → Type 0
 SaysNoMember m r = (r ≡ refusal.NotOpen) × (part_in m ≡ None)
 

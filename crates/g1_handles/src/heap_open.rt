@@ -6,13 +6,12 @@ ghost use Rattle.g1_handles.specs.Codes.{layout_of};
 ghost use Rattle.g1_handles.specs.Life.{IsNewHeap, IsOpeningRefused, AreHeapCounts, OfPaused};
 ghost use Rattle.g1_handles.specs.Life.{IsEndRefused};
 
-use crate::any_handle::AnyHandle;
+use crate::any_handle::{AnyHandle, is_closed};
 use crate::calls::Counts;
 use crate::code::Refusal;
 use crate::heap_handle::HeapHandle;
 use crate::member::{Member, Part};
 use crate::racing_heap::{AtPause, RacingHeap};
-use crate::seats::is_closed;
 use core::mem::replace_with;
 use g1_layout::{Layout, NoMemory};
 use g1_race::{Paused, Race};

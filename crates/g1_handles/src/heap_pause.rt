@@ -28,9 +28,9 @@ use std::sync::Arc;
 /// handles are closed. Takes no memory.
 ///
 /// Returns `NotOpen`, also for a member's handle, `NotRacing`, `BadMembers` if there are not as
-/// many handles as the heap was opened for, or `OtherRace` for a member of another
-/// heap or one that is given twice: nothing has changed. Members of other heaps are refused before
-/// anything relies on the condition `one`.
+/// many handles as the heap was opened for, or `OtherRace` for a member of another heap or one that
+/// is given twice: nothing has changed. Members of other heaps are refused before anything relies
+/// on the condition `one`.
 pub fn pause_heap(
     alloc: Global,
     handle: &mut HeapHandle,

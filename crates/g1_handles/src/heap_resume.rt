@@ -7,13 +7,12 @@ ghost use Rattle.g1_handles.specs.Life.{OfPaused, OfRacing, GoesOn, LetsGo, IsLe
 ghost use Rattle.g1_handles.specs.Life.{IsGoingRefused, AreFor, heap_race};
 ghost use Rattle.g1_handles.specs.Racing.{held_racers, held_sweepers, part_in, AreClosed, IsOf};
 
-use crate::any_handle::AnyHandle;
+use crate::any_handle::{AnyHandle, are_closed};
 use crate::code::Refusal;
 use crate::heap_handle::HeapHandle;
 use crate::member::{Member, Part};
 use crate::racer_handle::RacerHandle;
 use crate::racing_heap::{AtPause, RacingHeap, Room, UnderWay};
-use crate::seats::are_closed;
 use crate::sweeper_handle::SweeperHandle;
 use core::mem::{replace, replace_with};
 use raw_box::RawBox;

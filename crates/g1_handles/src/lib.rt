@@ -1,10 +1,10 @@
 //! The work of each call of the C library, and the handles that C keeps.
 //!
-//! The library is a checked shadow of a runtime's references: it must be told of each store. Its
-//! modules:
+//! The library keeps a table of a runtime's references, and must be told of each store; in a heap
+//! whose stores race, that table may be the references themselves. Its modules:
 //!
-//! - [`handle`] has the handle of a core, and [`calls`] opens and closes it. [`any_handle`] says what
-//!   the other handles have in common, and [`sent`] that each may go to another thread.
+//! - [`handle`] has the handle of a core, and [`calls`] opens and closes it. [`any_handle`] says
+//!   what the other handles have in common, and [`sent`] that each may go to another thread.
 //! - [`store`], [`batch`], [`refinement`] and [`pause`] are the path of a card.
 //! - [`clearing`] and [`redirection`] may follow an evacuation.
 //! - [`queries`] and [`members`] read what is known, and [`code`] has the codes that calls return.
@@ -62,7 +62,6 @@ pub mod racer_handle;
 pub mod racing_heap;
 pub mod redirection;
 pub mod refinement;
-mod seats;
 pub mod sent;
 pub mod store;
 pub mod sweeper_handle;

@@ -1,7 +1,5 @@
 -- The call keeps what the boxes and the share are tied to.
-use Rattle.std.proofs.Common.{◌≡◌, refl, sym, ap, ◌∙◌}
-use Rattle.std.specs.Fn.{FnOnceReturnsAtMut}
-use Rattle.g1_race.specs.Over.{Halt}
+use Rattle.std.proofs.Common.{refl, sym, ap, ◌∙◌}
 use Rattle.g1_handles.specs.AtPause.{IsKept}
 use Rattle.g1_handles.proofs.at_pause.call_on.Goals as goal
 

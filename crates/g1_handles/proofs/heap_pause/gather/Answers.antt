@@ -1,6 +1,6 @@
 -- The next handle gives its part, and its box waits.
-use Rattle.std.proofs.Common.{◌≡◌, ◌<◌, Some, None, Box, All, length, map, slice_index_or, sym, ap, ◌∙◌, subst, arith}
-use Rattle.std.specs.Prelude.{Option, IsSome}
+use Rattle.std.proofs.Common.{◌≡◌, ◌<◌, Some, None, Box, All, length, slice_index_or, sym, ap, ◌∙◌, subst, arith}
+use Rattle.std.specs.Prelude.{IsSome}
 use Rattle.std.specs.Global.{Global}
 use Rattle.std.specs.Arc.{arc_value}
 use Rattle.std.proofs.lemmas.List.{length-set, get_or-set_other}

@@ -1,5 +1,5 @@
 -- What is known of the parts is what was known of the handles.
-use Rattle.std.proofs.Common.{◌≡◌, ℕ, refl, subst}
+use Rattle.std.proofs.Common.{ℕ, refl, subst}
 use Rattle.std.specs.Arc.{arc_value}
 use Rattle.g1_race.specs.Members.{racer_view, sweeper_view, racer_log}
 use Rattle.g1_handles.specs.contracts.member.RacerPart.TheImpl.{ghosts as racers}

@@ -1,5 +1,5 @@
 -- The race goes on as the pause left it, with the members that are handed out.
-use Rattle.std.proofs.Common.{◌≡◌, ◌<◌, ℕ, List, [], ◌∷◌, Some, None, All, length, map, slice_index_or, sym, ap, ◌∙◌, subst, refl, arith}
+use Rattle.std.proofs.Common.{◌≡◌, ◌<◌, List, Some, None, All, map, sym, ◌∙◌, subst, refl}
 use Rattle.std.specs.Prelude.{Option, IsSomeAnd}
 use Rattle.std.specs.Arc.{arc_value}
 use Rattle.std.proofs.lemmas.List.{length-map}
@@ -7,8 +7,6 @@ use Rattle.std.proofs.Math.ListN.{get_or-map}
 use Rattle.std.proofs.lemmas.List.Elements.{All-map}
 use Rattle.g1_race_words.specs.Begin.{Start}
 use Rattle.g1_race.specs.declared.race.Race.{Race}
-use Rattle.g1_race.specs.declared.race.Racer.{Racer}
-use Rattle.g1_race.specs.declared.race.Sweeper.{Sweeper}
 use Rattle.g1_race.specs.Members.{racer_log, IsNewRacer, IsNewSweeper}
 use Rattle.g1_race.specs.Over.{start_at}
 use Rattle.g1_handles.specs.declared.racing_heap.AtPause.{AtPause}

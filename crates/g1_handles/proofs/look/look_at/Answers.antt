@@ -1,5 +1,5 @@
 -- A handle is put back as it was found.
-use Rattle.std.proofs.Common.{◌<◌, All, length, map, slice_index_or, sym, ◌∙◌, subst, arith}
+use Rattle.std.proofs.Common.{◌<◌, All, length, slice_index_or, sym, ◌∙◌, subst, arith}
 use Rattle.std.proofs.lemmas.List.{length-set}
 use Rattle.std.proofs.lemmas.List.Elements.{All-map, AllWithin-more_set, All-from_all_within, AllWithin-upto}
 use Rattle.std.proofs.Math.Seq.{map-set_same}

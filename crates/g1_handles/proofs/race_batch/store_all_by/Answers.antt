@@ -9,9 +9,10 @@ use Rattle.g1_handles.proofs.race_batch.store_all_by.Goals as goal
 
 pub loop-i-preserved : goal.loop-i-preserved
 loop-i-preserved c =
-    let at : Racer → Racing = λ r. racing c.args.race.now r in
-    (c.store_by.ensures.same ∙ c.loop-i.invariant.0,
-    stores_next (at c.args.racer.now) (at c.loop-i.racer) (at c.store_by.new.racer) c.args.stores.now c.loop-i.i _ c.in-Ok.field-0 c.loop-i-test.true c.loop-i.invariant.1 c.in-Ok.ensures.stored)
+    let at : Racer → Racing = λ r. racing c.args.race.now r in (
+      c.store_by.ensures.same ∙ c.loop-i.invariant.0,
+      stores_next (at c.args.racer.now) (at c.loop-i.racer) (at c.store_by.new.racer) c.args.stores.now c.loop-i.i _ c.in-Ok.field-0 c.loop-i-test.true c.loop-i.invariant.1 c.in-Ok.ensures.stored,
+    )
 
 pub returns-in-Err : goal.returns-in-Err
 returns-in-Err c =

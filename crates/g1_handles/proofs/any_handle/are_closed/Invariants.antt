@@ -1,7 +1,7 @@
 -- The handles hold what they held, and the first i are closed.
 use Rattle.std.proofs.Common.{◌≡◌, None, length, map}
 use Rattle.std.specs.List.{AllWithin}
-use Rattle.g1_handles.proofs.seats.are_closed.Given as goal
+use Rattle.g1_handles.proofs.any_handle.are_closed.Given as goal
 
 abbrev pub invariant-loop-i : goal.invariant-loop-i
 invariant-loop-i g l = record {

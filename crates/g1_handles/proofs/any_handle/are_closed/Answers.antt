@@ -6,7 +6,7 @@ use Rattle.std.proofs.Math.Seq.{map-set_same}
 use Rattle.std.specs.Prelude.{IsTrue}
 use Rattle.g1_handles.specs.Racing.{AreClosed}
 use Rattle.g1_handles.proofs.Rows.{at_handle}
-use Rattle.g1_handles.proofs.seats.are_closed.Goals as goal
+use Rattle.g1_handles.proofs.any_handle.are_closed.Goals as goal
 
 pub loop-i-preserved : goal.loop-i-preserved
 loop-i-preserved g c =
