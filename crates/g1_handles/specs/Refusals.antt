@@ -11,7 +11,8 @@ use Rattle.g1_handles.specs.declared.member.Part.{Ghosts}
 use Rattle.g1_handles.specs.declared.member.Member.{Member}
 use Rattle.g1_handles.specs.Own.{RacerMember, SweeperMember}
 use Rattle.g1_handles.specs.Codes.{OfOpen, IsStoreOf}
-use Rattle.g1_handles.specs.Racing.{Racing, racer_race_of, sweeper_race_of, OfRacer, OfSweeper, part_in}
+use Rattle.g1_handles.specs.Racing.{Racing, racer_race_of, sweeper_race_of, part_in}
+use Rattle.g1_handles.specs.Racing.{OfRacer, OfSweeper}
 
 -- the handle is closed
 abbrev pub SaysNotOpen : Option Machine → Refusal → Type 0
