@@ -58,9 +58,10 @@ static long rounds;
 
 // The words are read as a runtime reads fields that are the library's words.
 __attribute__((noinline)) static unsigned load(struct seat *seat, uint32_t expected) {
+    const uint64_t *fields = library_words;
     uint64_t sum = 0;
     for (size_t i = 0; i < STORES; i++) {
-        sum += __atomic_load_n(&library_words[seat->slots[i]], __ATOMIC_ACQUIRE);
+        sum += __atomic_load_n(&fields[seat->slots[i]], __ATOMIC_ACQUIRE);
     }
     return sum == UINT64_MAX && expected == 0;
 }
