@@ -503,7 +503,8 @@ impl Racer {
     }
 
     /// Makes stores in order, each as [`Racer::store`] does, and returns how many it made. Those
-    /// are all, or the ones before the log was full: take it, and go on from there.
+    /// are all, or the ones before the log was full: take it, and go on from there. It takes memory
+    /// for a copy of the stores.
     ///
     /// Refused with [`Refusal::OtherHeap`] if any slot or target is another heap's.
     pub fn store_all(&mut self, stores: &[(Slot, Option<Slot>)]) -> Result<usize, Refusal> {
