@@ -104,12 +104,11 @@ impl Heap {
     /// Refused with [`Refusal::OtherHeap`] if any slot or target is another heap's.
     pub fn store_all(&mut self, stores: &[(Slot, Option<Slot>)]) -> Result<Vec<Card>, Refusal> {
         let mut logged = Vec::new();
-        for some in self.numbers.references(stores)?.chunks(LOG) {
+        for block in self.numbers.blocks(stores)? {
             let (mut cards, mut batch) = ([0; LOG], Batch::default());
-            let (given, room) = (some.as_ptr(), cards.as_mut_ptr());
-            match unsafe {
-                g1_store_all(&mut self.handle, given, some.len(), room, LOG, &mut batch)
-            } {
+            let (some, room) = (block.stores(), cards.as_mut_ptr());
+            let (given, count) = (some.as_ptr(), some.len());
+            match unsafe { g1_store_all(&mut self.handle, given, count, room, LOG, &mut batch) } {
                 DONE => logged.extend(self.numbers.cards_of(&cards, batch.logged)),
                 word => return Err(Refusal::of(word)),
             }

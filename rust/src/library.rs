@@ -11,6 +11,7 @@ pub struct Tally {
 }
 
 #[repr(C)]
+#[derive(Clone, Copy)]
 pub struct Reference {
     pub slot: u32,
     pub target: u32,

@@ -1,6 +1,6 @@
 //! Numbers of one heap.
 use crate::library::{Reference, NULL};
-use crate::Refusal;
+use crate::{Refusal, LOG};
 use std::sync::atomic::{AtomicU64, Ordering};
 
 /// How many regions a heap has, how many cards a region, and slots a card.
@@ -147,18 +147,57 @@ impl Numbers {
     /// The words of a store.
     pub fn words_of(&self, slot: Slot, target: Option<Slot>) -> Result<(u32, u32), Refusal> {
         self.has(slot.home)?;
-        let Some(target) = target else {
-            return Ok((slot.number, NULL));
-        };
-        self.has(target.home)?;
-        Ok((slot.number, target.number))
+        if let Some(target) = target {
+            self.has(target.home)?;
+        }
+        let Reference { slot, target } = Reference::of(slot, target);
+        Ok((slot, target))
     }
-    /// These stores as the library takes them.
-    pub fn references(&self, stores: &[(Slot, Option<Slot>)]) -> Result<Vec<Reference>, Refusal> {
-        let reference = |&(slot, target): &(Slot, Option<Slot>)| {
-            let (slot, target) = self.words_of(slot, target)?;
-            Ok(Reference { slot, target })
+
+    /// These stores as the library takes them, by blocks that lie on the stack.
+    ///
+    /// Refused with [`Refusal::OtherHeap`] if any slot or target is another heap's.
+    pub fn blocks<'a>(
+        &self,
+        stores: &'a [(Slot, Option<Slot>)],
+    ) -> Result<impl Iterator<Item = Block> + 'a, Refusal> {
+        for &(slot, target) in stores {
+            self.words_of(slot, target)?;
+        }
+        Ok(stores.chunks(LOG).map(Block::of))
+    }
+}
+
+/// At most [`LOG`] stores, as the library takes them.
+pub struct Block {
+    room: [Reference; LOG],
+    count: usize,
+}
+
+impl Block {
+    fn of(stores: &[(Slot, Option<Slot>)]) -> Block {
+        let none = Reference {
+            slot: 0,
+            target: NULL,
         };
-        stores.iter().map(reference).collect()
+        let mut room = [none; LOG];
+        for (word, &(slot, target)) in room.iter_mut().zip(stores) {
+            *word = Reference::of(slot, target);
+        }
+        let count = stores.len();
+        Block { room, count }
+    }
+
+    pub fn stores(&self) -> &[Reference] {
+        &self.room[..self.count]
+    }
+}
+
+impl Reference {
+    fn of(slot: Slot, target: Option<Slot>) -> Reference {
+        Reference {
+            slot: slot.number,
+            target: target.map_or(NULL, |target| target.number),
+        }
     }
 }

@@ -370,14 +370,16 @@ impl Paused {
         Kind::of(kind, self.life.numbers.card_of(slot))
     }
 
-    /// Makes these stores in order, each as [`Paused::store`] does.
+    /// Makes these stores in order, each as [`Paused::store`] does. It takes no memory.
     ///
     /// Refused with [`Refusal::OtherHeap`] if any slot or target is another heap's.
     pub fn store_all(&mut self, stores: &[(Slot, Option<Slot>)]) -> Result<(), Refusal> {
-        let stores = self.life.numbers.references(stores)?;
-        let (given, mut stored) = (stores.as_ptr(), 0);
-        let handle = &mut self.life.handle;
-        done(unsafe { g1_heap_store_all(handle, given, stores.len(), &mut stored) })
+        for block in self.life.numbers.blocks(stores)? {
+            let (some, mut stored) = (block.stores(), 0);
+            let (handle, given) = (&mut self.life.handle, some.as_ptr());
+            done(unsafe { g1_heap_store_all(handle, given, some.len(), &mut stored) })?;
+        }
+        Ok(())
     }
 
     /// The collector stores data, a word from [`DATA`] on. Constant time, no memory.
@@ -503,17 +505,24 @@ impl Racer {
     }
 
     /// Makes stores in order, each as [`Racer::store`] does, and returns how many it made. Those
-    /// are all, or the ones before the log was full: take it, and go on from there. It takes memory
-    /// for a copy of the stores.
+    /// are all, or the ones before the log was full: take it, and go on from there. It takes no
+    /// memory.
     ///
     /// Refused with [`Refusal::OtherHeap`] if any slot or target is another heap's.
     pub fn store_all(&mut self, stores: &[(Slot, Option<Slot>)]) -> Result<usize, Refusal> {
-        let stores = self.seat.numbers.references(stores)?;
-        let (given, handle, mut stored) = (stores.as_ptr(), &mut self.seat.handle, 0);
-        match unsafe { g1_race_store_all(handle, given, stores.len(), &mut stored) } {
-            DONE | FULL => Ok(stored),
-            word => Err(Refusal::of(word)),
+        let mut made = 0;
+        for block in self.seat.numbers.blocks(stores)? {
+            let (some, mut stored) = (block.stores(), 0);
+            let (handle, given) = (&mut self.seat.handle, some.as_ptr());
+            let word = unsafe { g1_race_store_all(handle, given, some.len(), &mut stored) };
+            made += stored;
+            match word {
+                DONE => {}
+                FULL => break,
+                word => return Err(Refusal::of(word)),
+            }
         }
+        Ok(made)
     }
 
     /// Stores data, a word from [`DATA`] on, and returns what the slot had. It logs nothing, and
