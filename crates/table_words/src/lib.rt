@@ -1,6 +1,4 @@
 //! Where the words of an atomic table lie, for a reader that is not Rattle's.
-//!
-//! A crate of its own for the gate: its proof alone names a field of the kit's table.
 #![tactic(auto)]
 
 ghost use Rattle.std.specs.Prelude.{◌≡◌};
