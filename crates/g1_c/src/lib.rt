@@ -3,7 +3,11 @@
 //!
 //! Here is what C sees and nothing else: the exported functions, each with what it promises, and
 //! the structs that they fill. The handles and the work of each call are in the crate `g1_handles`,
-//! in the file of the same name. The modules:
+//! in the file of the same name.
+//!
+//! A crate of its own for the gate: each check of a static library links all crates below it.
+//!
+//! The modules:
 //!
 //! - [`calls`] opens and closes a handle.
 //! - [`store`], [`batch`], [`refinement`] and [`pause`] are the path of a card.

@@ -1,9 +1,0 @@
-//! Tests of [`g1_book`], [`g1_steps`] and [`g1_shared`]: of a book and its entries, the steps of
-//! callers at a lent book, workers and crews, and the callers of a shared book.
-//!
-//! They make public calls alone, and stand in a crate of their own so that a proof of the tests
-//! does not prove the libraries again.
-#![tactic(auto)]
-
-#[cfg(test)]
-mod tests;

@@ -1,6 +1,0 @@
-use Rattle.std.proofs.Common.{◌≡◌}
-use Rattle.g1_shared.specs.Callers.{mark_of}
-use Rattle.g1_shared_tests.proofs.tests.refine.Given as goal
-
-abbrev pub invariant-loop-number : goal.invariant-loop-number
-invariant-loop-number g l = mark_of l.caller ≡ mark_of l.fn.caller

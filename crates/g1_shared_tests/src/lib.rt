@@ -1,8 +1,0 @@
-//! Tests of [`g1_shared`]: a core that threads share without a history.
-//!
-//! They make public calls alone, and stand in a crate of their own so that a proof of the tests
-//! does not prove the library again.
-#![tactic(auto)]
-
-#[cfg(test)]
-mod tests;

@@ -1,6 +1,0 @@
-use Rattle.std.proofs.Common.{◌≡◌}
-use Rattle.g1_race.specs.Members.{sweeper_race}
-use Rattle.growths.proofs.race.refined.Given as goal
-
-abbrev pub invariant-loop-number : goal.invariant-loop-number
-invariant-loop-number l = sweeper_race l.sweeper ≡ sweeper_race l.fn.sweeper

@@ -1,6 +1,0 @@
-use Rattle.std.proofs.Common.{◌≡◌}
-use Rattle.g1_race.specs.Members.{racer_race}
-use Rattle.growths.proofs.race.stored.Given as goal
-
-abbrev pub invariant-loop-reference : goal.invariant-loop-reference
-invariant-loop-reference g l = racer_race l.racer ≡ racer_race l.fn.racer

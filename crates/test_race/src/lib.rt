@@ -1,0 +1,28 @@
+//! Tests of `g1_race` through its public calls: races played by hand, races that become cores and
+//! go on, races that pause in place, and races of threads.
+//!
+//! A crate of its own for the gate: a proof of the tests does not prove the library again.
+#![tactic(auto)]
+
+#[cfg(test)]
+mod again;
+#[cfg(test)]
+mod by_hand;
+#[cfg(test)]
+mod copy;
+#[cfg(test)]
+mod cycles;
+#[cfg(test)]
+mod data;
+#[cfg(test)]
+mod in_place;
+#[cfg(test)]
+mod in_threads;
+#[cfg(test)]
+mod paused;
+#[cfg(test)]
+mod readers;
+#[cfg(test)]
+mod shares;
+#[cfg(test)]
+mod small;

@@ -1,0 +1,31 @@
+//! Tests of `g1_replay` through its public calls, which no file of a trace can show: readers and
+//! writers that fail, tables of lines, and the texts of the command line. The worked traces are
+//! files, and the crate `gate_examples` replays them.
+//!
+//! A crate of its own for the gate: a proof of the tests does not prove the libraries again.
+#![tactic(auto)]
+
+#[cfg(test)]
+mod answers;
+#[cfg(test)]
+mod crew_and_run;
+#[cfg(test)]
+mod crews_and_races;
+#[cfg(test)]
+mod failing_ends;
+#[cfg(test)]
+mod grammar;
+#[cfg(test)]
+mod help;
+#[cfg(test)]
+mod line_faults;
+#[cfg(test)]
+mod options;
+#[cfg(test)]
+mod played;
+#[cfg(test)]
+mod reading;
+#[cfg(test)]
+mod spellings;
+#[cfg(test)]
+mod streams;
