@@ -31,4 +31,5 @@ pub mod Counting
 pub mod Blocks
 pub mod SlotWords
 pub mod Copying
+pub mod StoresApart
 pub mod Held
