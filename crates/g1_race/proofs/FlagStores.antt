@@ -1,5 +1,5 @@
 -- A store at a pause that dirties its card, whose flag is set before.
-use Rattle.std.proofs.Common.{◌≡◌, ℕ, ◌<◌, List, set, Option, true, sym, ap, ◌∙◌, arith}
+use Rattle.std.proofs.Common.{◌≡◌, ℕ, ◌<◌, List, set, Option, ap, ◌∙◌, arith}
 use mathlib.Core.Option.{some}
 use lib.ListN.{get_elem?}
 use Rattle.atomic_table.proofs.Lists.{set_here}
@@ -8,13 +8,13 @@ use Rattle.g1_layout.specs.Shape as layout
 use Rattle.g1_core.specs.Table.{Table}
 use Rattle.g1_core.specs.Run.{kind_of, stored}
 use Rattle.g1_race_words.specs.declared.view.Shape.{Shape}
-use Rattle.g1_race_words.specs.Rule.{IsBegun, card_of, crosses, mark_word, start}
+use Rattle.g1_race_words.specs.Rule.{IsBegun, card_of, mark_word, start}
 use Rattle.g1_race.specs.Over.{ended, table_of, target_of}
 use Rattle.g1_race.specs.Race.{shape_of}
 use Rattle.g1_race.specs.Refining.{IsDirtied}
 use Rattle.g1_race_words.proofs.PairBits.{card_below}
 use Rattle.g1_race.proofs.FlagWords.{flag_ended}
-use Rattle.g1_race.proofs.PauseStores.{kind_clean, logged_store}
+use Rattle.g1_race.proofs.PauseStores.{logged_store}
 
 module _ (k : Shape) (l : layout.Shape) (laid : k ≡ shape_of l k.members) (p : ℕ) (lt : p < k.slots) (target : Option ℕ) (n : ℕ) (back : target_of n ≡ target) where
   pub dirtied_here : (seen new : List ℕ) (card : ℕ) → card ≡ card_of k p → IsDirtied k seen new card → get_elem? new (mark_word k (card_of k p)) ≡ some 1
@@ -22,10 +22,9 @@ module _ (k : Shape) (l : layout.Shape) (laid : k ≡ shape_of l k.members) (p :
       let low = card_below k p d.begun.shaped lt in
       ap (λ (ws : List ℕ). get_elem? ws (mark_word k (card_of k p))) (d.marked ∙ ap (λ (c : ℕ). set d.mid (mark_word k c) 1) is) ∙ set_here d.mid (mark_word k (card_of k p)) 1 (omega (arith, d.begun.sized, low))
 
-  pub dirtied_store : (t : Table) (words seen new after : List ℕ) (card : ℕ) → seen ≡ words → card ≡ card_of k p → IsDirtied k seen new card → table_of (ended l k words) ≡ t → crosses k p n ≡ true → (get_elem? words (mark_word k (card_of k p)) ≡ some 1 → ⊥)
-      → after ≡ set new p n → IsBegun (start k after) → (Logged ≡ kind_of t p target) × (table_of (ended l k after) ≡ stored t p target)
-  dirtied_store t words seen new after card same is d was cr clean e h' =
-      let low = card_below k p d.begun.shaped lt in
-      let mark : get_elem? words (mark_word k (card_of k p)) ≡ get_elem? d.mid (mark_word k (card_of k p)) = ap (λ (ws : List ℕ). get_elem? ws (mark_word k (card_of k p))) (sym same) ∙ sym (d.flagged.front (mark_word k (card_of k p)) (omega (arith, low))) in
-      logged_store k l laid p lt target n back t d.mid after (ap table_of (flag_ended k l seen d.mid card d.flagged) ∙ (ap (λ (ws : List ℕ). table_of (ended l k ws)) same ∙ was))
-      (e ∙ ap (λ (ws : List ℕ). set ws p n) (d.marked ∙ ap (λ (c : ℕ). set d.mid (mark_word k c) 1) is)) d.begun h' (kind_clean k l laid p lt target n back d.mid cr (λ at. clean (mark ∙ at)))
+  pub dirtied_store : (words new after : List ℕ) (card : ℕ) → card ≡ card_of k p → IsDirtied k words new card → kind_of (table_of (ended l k words)) p target ≡ Logged
+      → after ≡ set new p n → IsBegun (start k after) → table_of (ended l k after) ≡ stored (table_of (ended l k words)) p target
+  dirtied_store words new after card is d kind e h' =
+      let same : table_of (ended l k d.mid) ≡ table_of (ended l k words) = ap table_of (flag_ended k l words d.mid card d.flagged) in
+      logged_store k l laid p lt target n back (table_of (ended l k words)) d.mid after same
+      (e ∙ ap (λ (ws : List ℕ). set ws p n) (d.marked ∙ ap (λ (c : ℕ). set d.mid (mark_word k c) 1) is)) d.begun h' (ap (λ (t : Table). kind_of t p target) same ∙ kind)

@@ -1,12 +1,12 @@
 -- A store at a pause as a step of the plain table.
-use Rattle.std.proofs.Common.{◌≤◌, ◌^◌, eqb, ◌≡◌, ◌≢◌, ℕ, ◌+◌, ◌-◌, ◌*◌, ◌/◌, ◌<◌, cond, Bool, true, false, List, set, take, map, get_or, Option, None, refl, sym, ap, ◌∙◌, subst, inl, inr, arith, eq-eqb, ne_eqb}
+use Rattle.std.proofs.Common.{◌≤◌, ◌^◌, eqb, ◌≡◌, ◌≢◌, ℕ, ◌+◌, ◌-◌, ◌*◌, ◌/◌, ◌<◌, cond, Bool, true, List, set, take, map, get_or, Option, None, refl, sym, ap, ◌∙◌, subst, inl, inr, arith, ne_eqb}
 use mathlib.Core.Option.{some}
 use lib.ListN.{get_elem?}
 use Rattle.std.specs.FinSet as fin
 use Rattle.std.specs.Ordering.{nat_cmp, eq_by_cmp}
 use Rattle.std.specs.Cmp.{Equal-is}
 use Rattle.std.proofs.Math.Seq.{take-set-lt}
-use Rattle.std.proofs.lemmas.Bool.{cases_eq, false_from_ne_true, or_cases, or_left, or_right}
+use Rattle.std.proofs.lemmas.Bool.{cases_Bool, cases_eq, or_cases, or_left, or_right}
 use Rattle.std.proofs.lemmas.Cmp.{nat_cmp_total, eq_by_cmp_equiv}
 use Rattle.std.proofs.lemmas.List.{map-set}
 use Rattle.std.proofs.lemmas.Map.Lookups.{exact_unsigned}
@@ -34,7 +34,6 @@ use Rattle.g1_race.proofs.Ends.{target_data, crosses_apart, recorded_set, set_re
 use Rattle.g1_race_words.proofs.Crossing.{crosses_reference}
 use Rattle.g1_race_words.proofs.PairBits.{bit_as, card_below, same_bits}
 use Rattle.g1_race.proofs.PauseTable.{pending_word, refs_same, slots_are, table_is, word_pending}
-use Rattle.g1_race.proofs.StoreCalls.{other_region}
 
 pub store_step : (t new : Table) (caller slot : ℕ) (target : Option ℕ) (kind : Kind) → slot < slot_count t.layout → IfSome target (λ place. place < slot_count t.layout) → kind ≡ kind_of t slot target → new ≡ stored t slot target → IsStep t (store_entry caller slot target (plain_reply kind)) new
 store_step t new caller slot target kind lt within is e = record { allowed = record { numbers = (lt, within); refines = none_refinable (stored t slot target); answers = (is, λ h. refl) }; after = e ∙ sym (refined_none (stored t slot target)) }
@@ -68,12 +67,6 @@ module _ (k : Shape) (l : layout.Shape) (laid : k ≡ shape_of l k.members) (p :
 
   kind_some : (words : List ℕ) → IsReference n → kind_of (table_of (ended l k words)) p target ≡ kind_at words (eqb (region_of l p) (region_of l (n - 1)))
   kind_some words is = ap (kind_of (table_of (ended l k words)) p) (sym back ∙ target_some n is)
-
-  pub kind_same : (words : List ℕ) → IsReference n → crosses k p n ≡ false → kind_of (table_of (ended l k words)) p target ≡ SameRegion
-  kind_same words is within = kind_some words is ∙ elim (cases_eq (region_of l p) (region_of l (n - 1))) [
-    | inl e ↦ ap (kind_at words) (eq-eqb _ _ e)
-    | inr apart ↦ absurd (let yes_it : crosses k p n ≡ true = other_region k p (n - 1) n (let ne = is.0 in omega arith) is.1 (λ q. apart (ap (λ (s : ℕ). p / s) (sym span_is) ∙ (q ∙ ap (λ (s : ℕ). (n - 1) / s) span_is))) in cc (yes_it, within))
-  ]
 
   pub kind_across : (words : List ℕ) → crosses k p n ≡ true → kind_of (table_of (ended l k words)) p target ≡ cond (fin.contains (table_of (ended l k words)).pending (layout.card_of l p)) AlreadyDirty Logged
   kind_across words cr = kind_some words (crosses_reference k p n cr)
@@ -183,11 +176,12 @@ module _ (k : Shape) (l : layout.Shape) (laid : k ≡ shape_of l k.members) (p :
   card_is : card_of k p ≡ layout.card_of l p
   card_is = ap (λ (s : Shape). p / s.size) laid
 
-  pub kind_dirty : (words : List ℕ) → IsBegun (start k words) → crosses k p n ≡ true → get_elem? words (mark_word k (card_of k p)) ≡ some 1 → kind_of (table_of (ended l k words)) p target ≡ AlreadyDirty
-  kind_dirty words h cr at = kind_across words cr ∙ ap (λ (b : Bool). cond b AlreadyDirty Logged) (subst (λ (c : ℕ). fin.contains (table_of (ended l k words)).pending c ≡ true) card_is (word_pending k l laid words (card_of k p) (card_below k p h.shaped lt) at))
-
-  pub kind_clean : (words : List ℕ) → crosses k p n ≡ true → (get_elem? words (mark_word k (card_of k p)) ≡ some 1 → ⊥) → kind_of (table_of (ended l k words)) p target ≡ Logged
-  kind_clean words cr clean = kind_across words cr ∙ ap (λ (b : Bool). cond b AlreadyDirty Logged) (false_from_ne_true _ (λ q. clean (pending_word k l laid words (card_of k p) (subst (λ (c : ℕ). fin.contains (table_of (ended l k words)).pending c ≡ true) (sym card_is) q)).1))
+  -- where a store dirties nothing, a reference that crosses regions has its card dirty
+  pub quiet_marked : (words : List ℕ) → (kind_of (table_of (ended l k words)) p target ≡ Logged → ⊥) → crosses k p n ≡ true → get_elem? words (mark_word k (card_of k p)) ≡ some 1
+  quiet_marked words quiet cr = elim (cases_Bool (fin.contains (table_of (ended l k words)).pending (layout.card_of l p))) [
+    | inl dirty ↦ (pending_word k l laid words (card_of k p) (subst (λ (c : ℕ). fin.contains (table_of (ended l k words)).pending c ≡ true) (sym card_is) dirty)).1
+    | inr clean ↦ absurd (quiet (kind_across words cr ∙ ap (λ (b : Bool). cond b AlreadyDirty Logged) clean))
+  ]
 
   pub quiet_store : (t : Table) (words after : List ℕ) → table_of (ended l k words) ≡ t → after ≡ set words p n → IsBegun (start k words) → IsBegun (start k after) → (kind : Kind) → kind_of (table_of (ended l k words)) p target ≡ kind → (kind ≡ Logged → ⊥) → (kind ≡ kind_of t p target) × (table_of (ended l k after) ≡ stored t p target)
   quiet_store t words after was is h h' kind kind_is plain = (
@@ -195,8 +189,6 @@ module _ (k : Shape) (l : layout.Shape) (laid : k ≡ shape_of l k.members) (p :
     ap (λ (ws : List ℕ). table_of (ended l k ws)) is ∙ (kind_table words h (subst (λ (ws : List ℕ). IsBegun (start k ws)) is h') kind kind_is plain ∙ ap (λ (x : Table). stored x p target) was),
   )
 
-  pub logged_store : (t : Table) (words after : List ℕ) → table_of (ended l k words) ≡ t → after ≡ set (set words (mark_word k (card_of k p)) 1) p n → IsBegun (start k words) → IsBegun (start k after) → kind_of (table_of (ended l k words)) p target ≡ Logged → (Logged ≡ kind_of t p target) × (table_of (ended l k after) ≡ stored t p target)
-  logged_store t words after was is h h' kind_is = (
-    sym kind_is ∙ ap (λ (x : Table). kind_of x p target) was,
-    ap (λ (ws : List ℕ). table_of (ended l k ws)) is ∙ (logged_table words h (subst (λ (ws : List ℕ). IsBegun (start k ws)) is h') kind_is ∙ ap (λ (x : Table). stored x p target) was),
-  )
+  pub logged_store : (t : Table) (words after : List ℕ) → table_of (ended l k words) ≡ t → after ≡ set (set words (mark_word k (card_of k p)) 1) p n → IsBegun (start k words) → IsBegun (start k after) → kind_of (table_of (ended l k words)) p target ≡ Logged → table_of (ended l k after) ≡ stored t p target
+  logged_store t words after was is h h' kind_is =
+      ap (λ (ws : List ℕ). table_of (ended l k ws)) is ∙ (logged_table words h (subst (λ (ws : List ℕ). IsBegun (start k ws)) is h') kind_is ∙ ap (λ (x : Table). stored x p target) was)

@@ -11,7 +11,7 @@ ghost use Rattle.g1_race_words.specs.Rule.{IsBegun, start, crosses, word_count};
 ghost use Rattle.g1_race.specs.Race.{shape_of, word_of};
 ghost use Rattle.g1_race.specs.Over.{halted};
 ghost use Rattle.g1_race.specs.Reading.{table_known};
-ghost use Rattle.g1_race.specs.Evacuating.{IsSameRace, SlotsBecome, one_word, plain_reply};
+ghost use Rattle.g1_race.specs.Evacuating.{IsSameRace, SlotsBecome, WordsBecome, one_word, plain_reply};
 ghost use Rattle.g1_race.specs.Refining.{IsDirtied};
 ghost use Rattle.g1_race_words.specs.Seats.{IsPaused};
 ghost use Rattle.g1_race_words.specs.Readers.{IsReading};
@@ -63,26 +63,51 @@ impl<R: Holds> Paused<R> {
             (halted self.new) }
     {
         let race = self.race.race();
-        let across = crosses(race.layout, &slot, &target);
-        let word = word_of(target);
-        let place = slot.number() as usize;
-        if !across {
-            put(race, &mut self.seat, place, word);
-            if word == 0 {
-                return Kind::Null;
-            }
-            return Kind::SameRegion;
-        }
-        let card = race.layout.card_of(slot).number() as usize;
-        let mark = race.shape.slots + card;
-        if see(race, &mut self.seat, mark) == 1 {
-            put(race, &mut self.seat, place, word);
-            return Kind::AlreadyDirty;
-        }
-        dirty(race, &mut self.seat, card);
-        put(race, &mut self.seat, place, word);
-        Kind::Logged
+        let kind = kind_of(race, &mut self.seat, &slot, &target);
+        store_as(race, &mut self.seat, slot, target, kind);
+        kind
     }
+}
+
+// Which kind of store it would be.
+fn kind_of(race: &Race, seat: &mut Place, slot: &Slot, target: &Option<Slot>) -> Kind
+    requires seat { IsReading race.now.table.table_id race.now.shape seat.old }
+    requires slot { slot.now < slot_count race.now.layout }
+    requires target { IfSome target.now (λ place. place < slot_count race.now.layout) }
+    ensures kind { result ≡ kind_of (table_known race.now seat.old) slot.now target.now }
+    ensures seat { (seat.new.table_id ≡ seat.old.table_id) × (seat.new.me ≡ seat.old.me) }
+{
+    let Some(target) = target else {
+        return Kind::Null;
+    };
+    if race.layout.region_of(*slot).number() == race.layout.region_of(*target).number() {
+        return Kind::SameRegion;
+    }
+    if is_dirty(race, seat, race.layout.card_of(*slot)) {
+        return Kind::AlreadyDirty;
+    }
+    Kind::Logged
+}
+
+// Makes a store of this kind.
+fn store_as(race: &Race, seat: &mut Place, slot: Slot, target: Option<Slot>, kind: Kind)
+    requires seat { IsPaused race.now.table.table_id race.now.shape seat.old }
+    requires slot { slot < slot_count race.now.layout }
+    requires target { IfSome target (λ place. place < slot_count race.now.layout) }
+    requires kind { kind ≡ kind_of (table_known race.now seat.old) slot target }
+    ensures seat { IsPaused race.now.table.table_id race.now.shape seat.new }
+    ensures words { WordsBecome (one_word slot (word_of target)) race.now.shape
+        seat.old.me.0.began_words seat.new.me.0.began_words }
+    ensures table { table_known race.now seat.new
+        ≡ stored (table_known race.now seat.old) slot target }
+{
+    let (number, word) = (slot.number() as usize, word_of(target));
+    let Kind::Logged = kind else {
+        put(race, seat, number, word);
+        return;
+    };
+    dirty(race, seat, race.layout.card_of(slot).number() as usize);
+    put(race, seat, number, word);
 }
 
 // What the slot refers to.
