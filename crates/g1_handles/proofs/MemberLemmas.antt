@@ -9,7 +9,7 @@ use Rattle.g1_race.specs.declared.race.Race.{Race}
 use Rattle.g1_race.specs.Members.{race_id}
 use Rattle.g1_handles.specs.declared.member.Part.{Ghosts}
 use Rattle.g1_handles.specs.declared.member.Member.{Member}
-use Rattle.g1_handles.specs.Racing.{IsOf}
+use Rattle.g1_handles.specs.Racing.{IsOf, part_in}
 
 -- a member is its share, its number and its part, with padding
 pub same_member : {P : Type 0} {g : Ghosts P} (m n : Member P g) → m.race ≡ n.race → m.number ≡ n.number → m.part ≡ n.part → m.apart ≡ n.apart → m ≡ n
@@ -20,6 +20,15 @@ same_member {P} {g} m n race number part apart = λ i. record {
   apart = apart i;
   same = is_prop→PathP (λ j. ForSome (part j) (λ p. g.of p ≡ race_id (arc_value (race j)))) (λ j. hlevel props) m.same n.same i;
 }
+
+-- a handle whose member has the part that it had holds what it held
+pub handed_back : {P : Type 0} {g : Ghosts P} {old new : Option (Member P g)} {m n k : Member P g} → new ≡ Some n → old ≡ Some m → k ≡ m
+    → n.race ≡ k.race → n.number ≡ k.number → n.part ≡ k.part → n.apart ≡ k.apart → new ≡ old
+handed_back {n = n} {k = k} new old lent race number part apart = new ∙ (ap (λ m. Some m) (same_member n k race number part apart ∙ lent) ∙ sym old)
+
+-- a member without its part is no member
+pub no_part : {P : Type 0} {g : Ghosts P} {v : Option (Member P g)} {m k : Member P g} → v ≡ Some m → k ≡ m → k.part ≡ None → part_in v ≡ None
+no_part v lent none = ap part_in v ∙ (ap (λ m. m.part) (sym lent) ∙ none)
 
 -- a call that is refused leaves what it was made on
 pub on_err : {A E P Q : Type 0} (r : Result A E) → (P → Q) → OnErr r P → OnErr r Q

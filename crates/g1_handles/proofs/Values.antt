@@ -1,4 +1,4 @@
--- The machine values of handles. Assumes `Logic`.
+-- The machine values of nullable boxes and of handles. Assumes `Logic`.
 use Rattle.std.proofs.Common.{◌≡◌, ℕ, List, [], ◌∷◌, ◌++◌, refl, subst, lit<}
 use Rattle.std.specs.Prelude.{Option, Some, None}
 use lib.Dec.{T}
@@ -6,7 +6,7 @@ use mathlib.Core.Bool.{true, ◌&&◌}
 use seplogic.Ra.Ura.{Ura}
 use mir.Syntax.{Sym, impl, tnil, dnil}
 use mir.Raw.{raw as bare}
-use mir.Val.{Val, vptr, vnull, vstruct, of_list, has_ty, WT}
+use mir.Val.{Val, vnull, vstruct, of_list, has_ty, WT}
 use base.Fml.{Fml, fsep, feq}
 use base.Logic.{ent, guard, guard_i, snd∗, via}
 use types.Logic.{Logic, sem}
@@ -29,9 +29,9 @@ use Rattle.std.specs.contracts.alloc.Global as global
 use Rattle.std.specs.contracts.impls.GlobalAllocator.TheImpl.{ghosts}
 use Rattle.std.proofs.alloc.Global.TheLaws as laws
 use Rattle.std_alloc.proofs.ResultValues.{and_tt}
-use Rattle.raw_box.proofs.Values.{both}
+use Rattle.g1_handles.proofs.RawBoxes.{both, raw_box_good}
 use Rattle.g1_handles.specs.Own.{holds, owns_boxed}
-use Rattle.g1_handles.specs.contracts.handle.Handle as core
+use Rattle.g1_handles.specs.contracts.nullable_box.NullableBox as boxed
 
 abbrev pub Z : RattleType
 Z = global.the_row
@@ -39,7 +39,7 @@ Z = global.the_row
 abbrev pub al : Al
 al = record { row = Z; laws = laws.the_row_laws; g = ghosts; d = impl [] tnil dnil; drops = impl [] tnil dnil }
 
--- a handle that is closed, in its words
+-- null with an allocator, in its words
 pub closed_good : (h : Val) → Good (layout Z) h → T (has_ty (layout Z) h && true) × WT (both vnull h)
 closed_good h fits = (and_tt (has_ty (layout Z) h) fits.0, (record { fits = lit< tt }, (fits.1, tt)))
 
@@ -51,7 +51,7 @@ module _ (R : RattleType) {M : Type 1} {𝓤 : Ura M} (𝓛 : Logic 𝓤) where
       (guard_i 𝓤 (Testable p) (sem 𝓛 (owns_boxed R a p x)))
 
 module _ (R : RattleType) {M : Type 1} {𝓤 : Ura M} {𝓛 : Logic 𝓤} {K : Type 0} {Γ : List (Item 𝓤)} {G : Goal 𝓤 𝓛.H} where
-  -- a handle holds nothing, at null, or a value
+  -- it holds nothing, at null, or a value
   pub either : K → (a : Global) (p : Ptr) (v : Option R.Denot)
       → (p ≡ null_ptr → v ≡ None → Seq K 𝓛 Γ G)
       → ((b o : ℕ) (x : R.Denot) → p ≡ block_ptr b o → v ≡ Some x → Testable (block_ptr b o) → Seq K 𝓛 (‵ (owns_boxed R a (block_ptr b o) x) ∷ Γ) G)
@@ -60,38 +60,35 @@ module _ (R : RattleType) {M : Type 1} {𝓤 : Ura M} {𝓛 : Logic 𝓤} {K : T
   either t a (block_ptr b o) v none one = fpick t (λ x. fsplit t $ feq_l t (λ e.
       use1 𝓛 (given (Testable (block_ptr b o)) (‵ (owns_boxed R a (block_ptr b o) x))) (tested R 𝓛 a (block_ptr b o) x) $ learn t (λ may. one b o x refl e may)))
 
--- a handle with this name: a pointer and an allocator, and what they own
-module _ (R : RattleType) (n : Sym) where
-  abbrev shape : Shape
-  shape = record { name = n; args = []; types = []; fields = fields core.the_type }
+-- a nullable box or a handle, with this name: a pointer and an allocator, and what they own
+module _ (R : RattleType) (n : Sym) (ts : List RattleType) where
+  abbrev pub shape : Shape
+  shape = record { name = n; args = []; types = ts; fields = fields (boxed.the_type R) }
 
   abbrev pub owned : Ptr → Global → Option R.Denot → List Val → Fml
   owned p a v vs = fsep ((Struct shape).own_val (p, (((a.memory.seal, tt), tt), tt)) vs) (holds R a p v)
 
+  pub words_good : (p : Ptr) (h : Val) → Good (layout Z) h → Good (layout (Struct shape)) (both (ptr_val p) h)
+  words_good null_ptr h fits = closed_good h fits
+  words_good (block_ptr b o) h fits = raw_box_good R Z laws.the_row_laws ghosts b o h fits
+
   module _ {M : Type 1} {𝓤 : Ura M} {𝓛 : Logic 𝓤} {K : Type 0} {Γ : List (Item 𝓤)} {G : Goal 𝓤 𝓛.H} where
-    pub handle_out : K → (p : Ptr) (a : Global) (v : Option R.Denot) (vs : List Val)
-        → ((h : Val) → v ≡ None → vs ≡ both vnull h ∷ [] → Good (layout Z) h → Seq K 𝓛 (‵ (Z.own_val a (h ∷ [])) ∷ Γ) G)
-        → ((b o : ℕ) (x : R.Denot) (h : Val) → v ≡ Some x → Testable (block_ptr b o) → vs ≡ both (vptr b o) h ∷ [] → Good (layout Z) h → Seq K 𝓛 (‵ (owns_boxed R a (block_ptr b o) x) ∷ ‵ (Z.own_val a (h ∷ [])) ∷ Γ) G)
+    pub words_out : K → (p : Ptr) (a : Global) (v : Option R.Denot) (vs : List Val)
+        → ((h : Val) → vs ≡ both (ptr_val p) h ∷ [] → Good (layout Z) h → Seq K 𝓛 (‵ (holds R a p v) ∷ ‵ (Z.own_val a (h ∷ [])) ∷ Γ) G)
         → Seq K 𝓛 (‵ (owned p a v vs) ∷ Γ) G
-    handle_out t p a v vs none one =
+    words_out t p a v vs k =
         fsplit t $ fpick t (λ vss. fsplit t $ feq_l t (λ ev. fsplit t $ feq_l t (λ ep. fsplit t $ handle_tells al t a vss.1.0 (λ h ea fits. move t (1 ∷ []) $ drop t $ move t (1 ∷ []) $
-        let words : (q : Ptr) → p ≡ q → vs ≡ both (ptr_val q) h ∷ [] = λ q e.
-        subst (λ (r : Ptr). vs ≡ vstruct (of_list (ptr_val r ∷ h ∷ [])) ∷ []) e
-        (subst (λ (ws : List Val). vs ≡ vstruct (of_list (ptr_val p ∷ (ws ++ []))) ∷ []) ea (subst (λ (ps : List Val). vs ≡ vstruct (of_list (ps ++ (vss.1.0 ++ []))) ∷ []) ep ev)) in
-        either R t a p v
-        (λ e is. none h is (words null_ptr e) fits)
-        (λ b o x e is may. one b o x h is may (words (block_ptr b o) e) fits)))))
+        k h (subst (λ (ws : List Val). vs ≡ vstruct (of_list (ptr_val p ∷ (ws ++ []))) ∷ []) ea (subst (λ (ps : List Val). vs ≡ vstruct (of_list (ps ++ (vss.1.0 ++ []))) ∷ []) ep ev)) fits))))
 
-    pub handle_in : K → (b o : ℕ) (h : Val) (a : Z.Denot) (x : R.Denot)
-        → Step K 𝓛 (‵ (owned (block_ptr b o) a (Some x) (both (vptr b o) h ∷ [])) ∷ Γ) G (‵ (owns_boxed R a (block_ptr b o) x) ∷ ‵ (Z.own_val a (h ∷ [])) ∷ Γ) G
-    handle_in t b o h a x = step (λ s. let v : Val = both (vptr b o) h in
-        feq_i t (Option R.Denot) (Some x) (Some x) refl $ fjoin t $ fpack t R.Denot (λ y. fsep (feq (Option R.Denot) (Some x) (Some y)) (owns_boxed R a (block_ptr b o) y)) x $
-        nothing t $ move t (2 ∷ 0 ∷ []) $ fjoin t $ feq_i t (List Val) (vptr b o ∷ []) (vptr b o ∷ []) refl $ fjoin t $ feq_i t (List Val) (v ∷ []) (v ∷ []) refl $ fjoin t $
-        fpack t (Valss (RawPtr ∷ Z ∷ [])) (within shape (block_ptr b o, (((a.memory.seal, tt), tt), tt)) (v ∷ [])) (vptr b o ∷ [], (h ∷ [], tt)) $ fjoin t $ s)
+    pub words_in : K → (p : Ptr) (a : Global) (v : Option R.Denot) (h : Val)
+        → Step K 𝓛 (‵ (owned p a v (both (ptr_val p) h ∷ [])) ∷ Γ) G (‵ (holds R a p v) ∷ ‵ (Z.own_val a (h ∷ [])) ∷ Γ) G
+    words_in t p a v h = step (λ s. let w : Val = both (ptr_val p) h in
+        nothing t $ move t (2 ∷ 0 ∷ []) $ fjoin t $ feq_i t (List Val) (ptr_val p ∷ []) (ptr_val p ∷ []) refl $ fjoin t $ feq_i t (List Val) (w ∷ []) (w ∷ []) refl $ fjoin t $
+        fpack t (Valss (RawPtr ∷ Z ∷ [])) (within shape (p, (((a.memory.seal, tt), tt), tt)) (w ∷ [])) (ptr_val p ∷ [], (h ∷ [], tt)) $ fjoin t $ s)
 
-    pub closed_in : K → (h : Val) (a : Z.Denot)
-        → Step K 𝓛 (‵ (owned null_ptr a None (both vnull h ∷ [])) ∷ Γ) G (‵ (Z.own_val a (h ∷ [])) ∷ Γ) G
-    closed_in t h a = step (λ s. let v : Val = both vnull h in
-        feq_i t (Option R.Denot) None None refl $
-        nothing t $ move t (2 ∷ 0 ∷ []) $ fjoin t $ feq_i t (List Val) (vnull ∷ []) (vnull ∷ []) refl $ fjoin t $ feq_i t (List Val) (v ∷ []) (v ∷ []) refl $ fjoin t $
-        fpack t (Valss (RawPtr ∷ Z ∷ [])) (within shape (null_ptr, (((a.memory.seal, tt), tt), tt)) (v ∷ [])) (vnull ∷ [], (h ∷ [], tt)) $ fjoin t $ s)
+-- what a nullable box holds, or a handle
+module _ (R : RattleType) {M : Type 1} {𝓤 : Ura M} {𝓛 : Logic 𝓤} {K : Type 0} {Γ : List (Item 𝓤)} {G : Goal 𝓤 𝓛.H} where
+  pub some_in : K → (b o : ℕ) (a : Global) (x : R.Denot)
+      → Step K 𝓛 (‵ (holds R a (block_ptr b o) (Some x)) ∷ Γ) G (‵ (owns_boxed R a (block_ptr b o) x) ∷ Γ) G
+  some_in t b o a x = step (λ s.
+      feq_i t (Option R.Denot) (Some x) (Some x) refl $ fjoin t $ fpack t R.Denot (λ y. fsep (feq (Option R.Denot) (Some x) (Some y)) (owns_boxed R a (block_ptr b o) y)) x $ s)

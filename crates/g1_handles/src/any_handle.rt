@@ -1,17 +1,18 @@
-//! What the handles of heaps and of members have in common.
-ghost use Rattle.std.specs.Prelude.{◌≡◌, None, IsTrue, map};
+//! What the handles have in common.
+ghost use Rattle.std.specs.Prelude.{◌≡◌, Some, None, MatchOption, IsTrue, map};
 ghost use Rattle.g1_handles.specs.Racing.{AreClosed};
 
+use crate::nullable_box::NullableBox;
+use crate::raw_box::RawBox;
 use core::mem::replace;
-use raw_box::RawBox;
 use std::alloc::Global;
 
 /// A handle that C keeps: a value behind a pointer, or nothing if the pointer is null.
 ///
 /// C makes a closed handle of zeros. Dropping a handle frees nothing. An exported function takes no
 /// type with parameters, so each kind of handle is a struct of its own.
-pub trait AnyHandle: Drop {
-    ghost use Rattle.std.specs.Prelude.{◌≡◌, Option, Some, None, MatchOption};
+pub trait AnyHandle: Drop + Sized {
+    ghost use Rattle.std.specs.Prelude.{◌≡◌, Option};
 
     /// What an open handle holds.
     type Value: Drop;
@@ -19,17 +20,36 @@ pub trait AnyHandle: Drop {
     /// What it holds, or `None` if it is closed.
     ghost value: { Self → Option Self.Value };
 
-    /// Takes over a value.
-    fn of(boxed: RawBox<Self::Value, Global>) -> Self
-        ensures { value result ≡ Some boxed.value };
+    /// The handle of these words.
+    fn from_nullable(boxed: NullableBox<Self::Value>) -> Self
+        ensures { value result ≡ boxed.value };
 
-    /// A handle that holds nothing.
-    fn closed(alloc: Global) -> Self
-        ensures { value result ≡ None };
+    /// The words of a handle.
+    fn into_nullable(self) -> NullableBox<Self::Value>
+        ensures { result.value ≡ value self };
+}
 
-    /// Gives the value back, if there is one.
-    fn into_raw_box(self) -> Option<RawBox<Self::Value, Global>>
-        ensures { MatchOption result (value self ≡ None) (λ boxed. value self ≡ Some boxed.value) };
+/// Returns an open handle, which takes over a value.
+pub(crate) fn opened<H: AnyHandle>(boxed: Box<H::Value>) -> H
+    ensures { H.value result ≡ Some boxed.value }
+{
+    H::from_nullable(NullableBox::of(RawBox::of(boxed)))
+}
+
+/// Returns a handle that holds nothing.
+pub(crate) fn closed<H: AnyHandle>(alloc: Global) -> H
+    ensures { H.value result ≡ None }
+{
+    H::from_nullable(NullableBox::null(alloc))
+}
+
+/// Gives the value of a handle back, if there is one.
+pub(crate) fn into_box<H: AnyHandle>(handle: H) -> Option<Box<H::Value>>
+    ensures { MatchOption result (H.value handle ≡ None)
+        (λ boxed. H.value handle ≡ Some boxed.value) }
+{
+    let boxed = handle.into_nullable().into_raw_box()?;
+    Some(boxed.into_box())
 }
 
 /// Whether all handles are closed.
@@ -52,9 +72,9 @@ pub(crate) fn is_closed<H: AnyHandle>(alloc: Global, handle: &mut H) -> bool
     ensures closed { IsTrue result → H.value handle.old ≡ None }
     ensures open { H.value handle.old ≡ None → IsTrue result }
 {
-    let Some(boxed) = replace(handle, H::closed(alloc)).into_raw_box() else {
+    let Some(boxed) = into_box(replace(handle, closed(alloc))) else {
         return true;
     };
-    *handle = H::of(boxed);
+    *handle = opened(boxed);
     false
 }

@@ -6,12 +6,11 @@ ghost use Rattle.g1_handles.specs.declared.code.Refusal.{Refusal};
 ghost use Rattle.g1_handles.specs.AtPause.{IsKept};
 ghost use Rattle.g1_handles.specs.HeapCalls.{IsCalled};
 
-use crate::any_handle::AnyHandle;
+use crate::any_handle::{closed, into_box, opened};
 use crate::code::Refusal;
 use crate::heap_handle::HeapHandle;
 use crate::racing_heap::RacingHeap;
 use g1_race::{Paused, Race};
-use raw_box::RawBox;
 use std::alloc::Global;
 use std::sync::Arc;
 
@@ -30,12 +29,11 @@ pub fn at_pause<A, F: FnOnce(&mut PausedHeap) -> Result<A, Refusal>>(
     ensures { IsCalled (FnOnceReturnsAtMut F.FnOnce words.1) handle.value result.1 result.0.value }
 {
     let (alloc, call) = words;
-    let Some(heap) = handle.into_raw_box() else {
-        return (HeapHandle::closed(alloc), Err(Refusal::NotOpen));
+    let Some(mut heap) = into_box(handle) else {
+        return (closed(alloc), Err(Refusal::NotOpen));
     };
-    let mut heap = heap.into_box();
     let answer = call_on(&mut heap, call);
-    (HeapHandle::of(RawBox::of(heap)), answer)
+    (opened(heap), answer)
 }
 
 fn call_on<A, F: FnOnce(&mut PausedHeap) -> Result<A, Refusal>>(

@@ -5,6 +5,7 @@ ghost use Rattle.g1_handles.specs.Codes.{Between, IsStoreOf};
 ghost use Rattle.g1_handles.specs.Refusals.{AreStoresRefused};
 ghost use Rattle.g1_handles.specs.Batch.{Made, made, made_all, cards_of, IsFaultAt};
 
+use crate::any_handle::{closed, into_box, opened};
 use crate::code::Refusal;
 use crate::handle::Handle;
 use crate::store::reference;
@@ -12,7 +13,6 @@ use arrayvec::ArrayVec;
 use g1_core::Core;
 use g1_layout::{Card, Kind};
 use g1_log::Log;
-use raw_box::RawBox;
 use std::alloc::Global;
 
 /// One store: a slot and its target.
@@ -63,18 +63,17 @@ pub fn store_all_in(
         AreStoresRefused handle.value (length words.entry.1.now) words.entry.2 refusal) }
     ensures refused { OnErr result.1 (result.0.value ≡ handle.value) }
 {
-    let Some(core) = handle.into_raw_box() else {
-        return (Handle::closed(words.0), Err(Refusal::NotOpen));
+    let Some(mut core) = into_box(handle) else {
+        return (closed(words.0), Err(Refusal::NotOpen));
     };
-    let mut core = core.into_box();
     if words.2 < words.1.len() {
-        return (Handle::of(RawBox::of(core)), Err(Refusal::NoRoom));
+        return (opened(core), Err(Refusal::NoRoom));
     }
     if 256 < words.1.len() {
-        return (Handle::of(RawBox::of(core)), Err(Refusal::TooManyCards));
+        return (opened(core), Err(Refusal::TooManyCards));
     }
     let stored = store_each(&mut core, words.1);
-    (Handle::of(RawBox::of(core)), Ok(stored))
+    (opened(core), Ok(stored))
 }
 
 fn store_each(core: &mut Core, stores: &[Store]) -> Stored

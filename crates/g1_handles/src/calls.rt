@@ -6,11 +6,11 @@ ghost use Rattle.g1_core.specs.Settings.{AreSettings};
 ghost use Rattle.g1_handles.specs.Codes.{layout_of, settings_of, IsRefusal};
 ghost use Rattle.g1_handles.specs.Refusals.{IsNewRefused, SaysNotOpen};
 
+use crate::any_handle::{closed, into_box, opened};
 use crate::code::{DONE, Refusal};
 use crate::handle::Handle;
 use g1_core::{Config, Core};
 use g1_layout::Layout;
-use raw_box::RawBox;
 use std::alloc::Global;
 
 /// The counts of a heap: how many regions it has, cards a region, and slots a card.
@@ -69,9 +69,9 @@ pub fn open_in(handle: Handle, core: Box<Core>) -> (Handle, Result<(), Refusal>)
         (refusal ≡ Refusal.AlreadyOpen) × IsSome handle.value) }
     ensures refused { OnErr result.1 (result.0.value ≡ handle.value) }
 {
-    match handle.into_raw_box() {
-        Some(kept) => (Handle::of(kept), Err(Refusal::AlreadyOpen)),
-        None => (Handle::of(RawBox::of(core)), Ok(())),
+    match into_box(handle) {
+        Some(kept) => (opened(kept), Err(Refusal::AlreadyOpen)),
+        None => (opened(core), Ok(())),
     }
 }
 
@@ -83,9 +83,8 @@ pub fn close_in(handle: Handle, alloc: Global) -> (Handle, u32)
     ensures refused { (0 < result.1) ↔ (handle.value ≡ None) }
     ensures why { 0 < result.1 → IsRefusal result.1 (SaysNotOpen handle.value) }
 {
-    let Some(core) = handle.into_raw_box() else {
-        return (Handle::closed(alloc), Refusal::NotOpen.word());
+    let Some(_core) = into_box(handle) else {
+        return (closed(alloc), Refusal::NotOpen.word());
     };
-    let _core = core.into_box();
-    (Handle::closed(alloc), DONE)
+    (closed(alloc), DONE)
 }

@@ -5,10 +5,10 @@ ghost use Rattle.g1_handles.specs.Codes.{Between, cleared_of, IsClearWord};
 ghost use Rattle.g1_handles.specs.Refusals.{IsClearRefused};
 ghost use Rattle.g1_handles.specs.Replies.{ClearsTo, IsLeft};
 
+use crate::any_handle::{closed, into_box, opened};
 use crate::code::{DONE, Refusal};
 use crate::handle::Handle;
 use g1_core::{ClearReply, Core};
-use raw_box::RawBox;
 use std::alloc::Global;
 
 /// Clears a region at the core of a handle. Returns the word of the reply and the number that goes
@@ -29,12 +29,11 @@ pub fn clear_in(handle: Handle, words: (Global, u32)) -> (Handle, Result<(u32, u
     ensures why { IfErr result.1 (λ refusal. IsClearRefused handle.value words.1 refusal) }
     ensures refused { OnErr result.1 (result.0.value ≡ handle.value) }
 {
-    let Some(core) = handle.into_raw_box() else {
-        return (Handle::closed(words.0), Err(Refusal::NotOpen));
+    let Some(mut core) = into_box(handle) else {
+        return (closed(words.0), Err(Refusal::NotOpen));
     };
-    let mut core = core.into_box();
     let answer = clear_one(&mut core, words.1);
-    (Handle::of(RawBox::of(core)), answer)
+    (opened(core), answer)
 }
 
 fn clear_one(core: &mut Core, region: u32) -> Result<(u32, u32), Refusal>

@@ -1,13 +1,13 @@
 //! The handle that C keeps: a core behind a pointer, or nothing if the pointer is null.
-ghost use Rattle.std.specs.Prelude.{◌≡◌, Option, Some, None, MatchOption};
+ghost use Rattle.std.specs.Prelude.{◌≡◌, Option};
 ghost use Rattle.std.specs.Coded.{coded_option};
 ghost use Rattle.g1_core.specs.Machine.{Machine, machine_code};
 
+use crate::any_handle::AnyHandle;
+use crate::nullable_box::NullableBox;
 use g1_core::Core;
-use raw_box::RawBox;
 use std::alloc::Global;
 use std::marker::Model;
-use std::ptr::null_mut;
 
 /// A core behind a pointer that C can hold, or nothing if the pointer is null.
 ///
@@ -27,40 +27,28 @@ impl Model for Handle {
     ghost also_owns = { λ h. holds core_row h.alloc h.at h.value };
 }
 
-impl Handle {
-    /// Takes over a core.
-    pub(crate) fn of(core: RawBox<Core, Global>) -> Handle
-        ensures { result.value ≡ Some core.value }
+impl AnyHandle for Handle {
+    type Value = Core;
+
+    ghost value = { λ h. h.value };
+
+    fn from_nullable(boxed: NullableBox<Core>) -> Handle
+        ensures { result.value ≡ boxed.value }
     {
-        let RawBox { at, alloc } = core;
+        let NullableBox { at, alloc } = boxed;
         Handle {
             at: at as *mut u8,
             alloc,
         }
     }
 
-    /// A handle that holds nothing.
-    pub(crate) fn closed(alloc: Global) -> Handle
-        ensures { result.value ≡ None }
-    {
-        Handle {
-            at: null_mut(),
-            alloc,
-        }
-    }
-
-    /// Gives the core back, if there is one.
-    pub(crate) fn into_raw_box(self) -> Option<RawBox<Core, Global>>
-        ensures { MatchOption result (self.value ≡ None) (λ core. self.value ≡ Some core.value) }
+    fn into_nullable(self) -> NullableBox<Core>
+        ensures { result.value ≡ self.value }
     {
         let Handle { at, alloc } = self;
-        if at.is_null() {
-            None
-        } else {
-            Some(RawBox {
-                at: at as *mut Core,
-                alloc,
-            })
+        NullableBox {
+            at: at as *mut Core,
+            alloc,
         }
     }
 }

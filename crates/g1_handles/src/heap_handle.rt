@@ -1,15 +1,14 @@
 //! The handle of a heap whose stores race.
-ghost use Rattle.std.specs.Prelude.{◌≡◌, Option, Some, None, MatchOption};
+ghost use Rattle.std.specs.Prelude.{◌≡◌, Option};
 ghost use Rattle.std.specs.Coded.{coded_option};
 ghost use Rattle.g1_handles.specs.declared.racing_heap.RacingHeap.{RacingHeap};
 ghost use Rattle.g1_handles.specs.Own.{heap_row};
 
 use crate::any_handle::AnyHandle;
+use crate::nullable_box::NullableBox;
 use crate::racing_heap::RacingHeap;
-use raw_box::RawBox;
 use std::alloc::Global;
 use std::marker::Model;
-use std::ptr::null_mut;
 
 /// A heap whose stores race behind a pointer that C can hold, or nothing if the pointer is null.
 ///
@@ -34,36 +33,23 @@ impl AnyHandle for HeapHandle {
 
     ghost value = { λ h. h.value };
 
-    fn of(boxed: RawBox<RacingHeap, Global>) -> HeapHandle
-        ensures { result.value ≡ Some boxed.value }
+    fn from_nullable(boxed: NullableBox<RacingHeap>) -> HeapHandle
+        ensures { result.value ≡ boxed.value }
     {
-        let RawBox { at, alloc } = boxed;
+        let NullableBox { at, alloc } = boxed;
         HeapHandle {
             at: at as *mut u8,
             alloc,
         }
     }
 
-    fn closed(alloc: Global) -> HeapHandle
-        ensures { result.value ≡ None }
-    {
-        HeapHandle {
-            at: null_mut(),
-            alloc,
-        }
-    }
-
-    fn into_raw_box(self) -> Option<RawBox<RacingHeap, Global>>
-        ensures { MatchOption result (self.value ≡ None) (λ boxed. self.value ≡ Some boxed.value) }
+    fn into_nullable(self) -> NullableBox<RacingHeap>
+        ensures { result.value ≡ self.value }
     {
         let HeapHandle { at, alloc } = self;
-        if at.is_null() {
-            None
-        } else {
-            Some(RawBox {
-                at: at as *mut RacingHeap,
-                alloc,
-            })
+        NullableBox {
+            at: at as *mut RacingHeap,
+            alloc,
         }
     }
 }

@@ -6,7 +6,7 @@ ghost use Rattle.g1_handles.specs.Codes.{layout_of};
 ghost use Rattle.g1_handles.specs.Life.{IsNewHeap, IsOpeningRefused, AreHeapCounts, OfPaused};
 ghost use Rattle.g1_handles.specs.Life.{IsEndRefused};
 
-use crate::any_handle::{AnyHandle, is_closed};
+use crate::any_handle::{closed, into_box, is_closed, opened};
 use crate::calls::Counts;
 use crate::code::Refusal;
 use crate::heap_handle::HeapHandle;
@@ -15,7 +15,6 @@ use crate::racing_heap::{AtPause, RacingHeap};
 use core::mem::replace_with;
 use g1_layout::{Layout, NoMemory};
 use g1_race::{Paused, Race};
-use raw_box::RawBox;
 use std::alloc::Global;
 use std::sync::Arc;
 
@@ -49,7 +48,7 @@ pub fn open_heap(
     let Ok(heap) = new_heap(alloc, layout, racers, sweepers) else {
         return Err(Refusal::NoMemory);
     };
-    *handle = HeapHandle::of(RawBox::of(heap));
+    *handle = opened(heap);
     Ok(())
 }
 
@@ -125,14 +124,13 @@ fn close_in(handle: HeapHandle, alloc: Global) -> (HeapHandle, Result<(), Refusa
     ensures why { IfErr result.1 (λ refusal. IsEndRefused handle.value refusal) }
     ensures refused { OnErr result.1 (result.0.value ≡ handle.value) }
 {
-    let Some(heap) = handle.into_raw_box() else {
-        return (HeapHandle::closed(alloc), Err(Refusal::NotOpen));
+    let Some(heap) = into_box(handle) else {
+        return (closed(alloc), Err(Refusal::NotOpen));
     };
-    let heap = heap.into_box();
     if is_paused(&heap) {
-        (HeapHandle::closed(alloc), Ok(()))
+        (closed(alloc), Ok(()))
     } else {
-        (HeapHandle::of(RawBox::of(heap)), Err(Refusal::NotPaused))
+        (opened(heap), Err(Refusal::NotPaused))
     }
 }
 

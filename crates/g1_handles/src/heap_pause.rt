@@ -9,7 +9,7 @@ ghost use Rattle.g1_handles.specs.Life.{IsPauseRefused, AreOfHeap, AreLikeOf, Ar
 ghost use Rattle.g1_handles.specs.Life.{heap_race};
 ghost use Rattle.g1_handles.specs.Racing.{held_racers, held_sweepers, part_in, AreClosed, IsOf};
 
-use crate::any_handle::AnyHandle;
+use crate::any_handle::{AnyHandle, closed, into_box, opened};
 use crate::code::Refusal;
 use crate::heap_handle::HeapHandle;
 use crate::look::look_at;
@@ -20,7 +20,6 @@ use crate::racing_heap::{AtPause, RacingHeap, UnderWay};
 use crate::sweeper_handle::SweeperHandle;
 use core::mem::{replace, replace_with};
 use g1_race::{Paused, Race};
-use raw_box::RawBox;
 use std::alloc::Global;
 use std::sync::Arc;
 
@@ -56,12 +55,11 @@ pub fn pause_heap(
         × (held_racers racers.new ≡ held_racers racers.old)
         × (held_sweepers sweepers.new ≡ held_sweepers sweepers.old)) }
 {
-    let Some(heap) = replace(handle, HeapHandle::closed(alloc)).into_raw_box() else {
+    let Some(mut heap) = into_box(replace(handle, closed(alloc))) else {
         return Err(Refusal::NotOpen);
     };
-    let mut heap = heap.into_box();
     let answer = pause_of(alloc, &mut heap, racers, sweepers);
-    *handle = HeapHandle::of(RawBox::of(heap));
+    *handle = opened(heap);
     answer
 }
 
@@ -203,10 +201,9 @@ fn gather<P: Part, H: AnyHandle<Value = Member<P>>>(
     parts.clear();
     boxes.clear();
     for i in 0..handles.len() {
-        let Some(boxed) = replace(&mut handles[i], H::closed(alloc)).into_raw_box() else {
+        let Some(mut member) = into_box(replace(&mut handles[i], closed(alloc))) else {
             unreachable!()
         };
-        let mut member = boxed.into_box();
         let Some(part) = member.park() else {
             unreachable!()
         };

@@ -7,7 +7,7 @@ ghost use Rattle.g1_handles.specs.Life.{OfPaused, OfRacing, GoesOn, LetsGo, IsLe
 ghost use Rattle.g1_handles.specs.Life.{IsGoingRefused, AreFor, heap_race};
 ghost use Rattle.g1_handles.specs.Racing.{held_racers, held_sweepers, part_in, AreClosed, IsOf};
 
-use crate::any_handle::{AnyHandle, are_closed};
+use crate::any_handle::{AnyHandle, are_closed, closed, into_box, opened};
 use crate::code::Refusal;
 use crate::heap_handle::HeapHandle;
 use crate::member::{Member, Part};
@@ -15,7 +15,6 @@ use crate::racer_handle::RacerHandle;
 use crate::racing_heap::{AtPause, RacingHeap, Room, UnderWay};
 use crate::sweeper_handle::SweeperHandle;
 use core::mem::{replace, replace_with};
-use raw_box::RawBox;
 use std::alloc::Global;
 
 /// Lets the heap of a handle go on, and puts its racers and its sweepers into handles that are
@@ -45,12 +44,11 @@ pub fn resume_heap(
         × (held_racers racers.new ≡ held_racers racers.old)
         × (held_sweepers sweepers.new ≡ held_sweepers sweepers.old)) }
 {
-    let Some(heap) = replace(handle, HeapHandle::closed(alloc)).into_raw_box() else {
+    let Some(mut heap) = into_box(replace(handle, closed(alloc))) else {
         return Err(Refusal::NotOpen);
     };
-    let mut heap = heap.into_box();
     let answer = resume_of(alloc, &mut heap, racers, sweepers);
-    *handle = HeapHandle::of(RawBox::of(heap));
+    *handle = opened(heap);
     answer
 }
 
@@ -179,6 +177,6 @@ fn hand_out_to<P: Part, H: AnyHandle<Value = Member<P>>>(
             unreachable!()
         };
         member.seat(part);
-        handles[left] = H::of(RawBox::of(member));
+        handles[left] = opened(member);
     }
 }

@@ -5,13 +5,12 @@ ghost use Rattle.g1_race.specs.Members.{race_words};
 ghost use Rattle.g1_handles.specs.AtPause.{IsKept, HasWord, StoresDataAt, LacksSlot};
 ghost use Rattle.g1_handles.specs.Life.{OfHeap, SaysNoHeap};
 
-use crate::any_handle::AnyHandle;
+use crate::any_handle::{closed, into_box, opened};
 use crate::at_pause::PausedHeap;
 use crate::code::Refusal;
 use crate::heap_handle::HeapHandle;
 use crate::race_data::DATA;
 use crate::racing_heap::RacingHeap;
-use raw_box::RawBox;
 use std::alloc::Global;
 
 /// Returns the address of the words of the heap of a handle, at a pause or not: the word of each
@@ -23,12 +22,11 @@ pub fn words_in(handle: HeapHandle, alloc: Global) -> (HeapHandle, Result<*const
     ensures why { IfErr result.1 (SaysNoHeap handle.value) }
     ensures same { result.0.value ≡ handle.value }
 {
-    let Some(heap) = handle.into_raw_box() else {
-        return (HeapHandle::closed(alloc), Err(Refusal::NotOpen));
+    let Some(heap) = into_box(handle) else {
+        return (closed(alloc), Err(Refusal::NotOpen));
     };
-    let heap = heap.into_box();
     let words = words_of(&heap);
-    (HeapHandle::of(RawBox::of(heap)), Ok(words))
+    (opened(heap), Ok(words))
 }
 
 fn words_of(heap: &RacingHeap) -> *const u64

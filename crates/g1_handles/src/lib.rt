@@ -4,7 +4,8 @@
 //! whose stores race, that table may be the references themselves. Its modules:
 //!
 //! - [`handle`] has the handle of a core, and [`calls`] opens and closes it. [`any_handle`] says
-//!   what the other handles have in common, and [`sent`] that each may go to another thread.
+//!   what all handles have in common, and [`sent`] that each may go to another thread. A handle has
+//!   the words of a box behind a pointer that may be null (`nullable_box`, `raw_box`).
 //! - [`store`], [`batch`], [`refinement`] and [`pause`] are the path of a card.
 //! - [`clearing`] and [`redirection`] may follow an evacuation.
 //! - [`queries`] and [`members`] read what is known, and [`code`] has the codes that calls return.
@@ -49,6 +50,7 @@ pub mod list;
 mod look;
 pub mod member;
 pub mod members;
+mod nullable_box;
 mod one_race;
 pub mod pause;
 pub mod queries;
@@ -60,6 +62,7 @@ pub mod race_refine;
 pub mod race_store;
 pub mod racer_handle;
 pub mod racing_heap;
+mod raw_box;
 pub mod redirection;
 pub mod refinement;
 pub mod sent;

@@ -3,11 +3,10 @@ ghost use Rattle.std.specs.Prelude.{◌≡◌, ◌⊎◌, Some, All, Any, OnOk, 
 ghost use Rattle.g1_handles.specs.Racing.{IsAmong};
 ghost use Rattle.g1_handles.specs.Refusals.{SaysNoMember};
 
-use crate::any_handle::AnyHandle;
+use crate::any_handle::{AnyHandle, closed, into_box, opened};
 use crate::code::Refusal;
 use crate::member::{Member, Part};
 use core::mem::replace;
-use raw_box::RawBox;
 use std::alloc::Global;
 
 /// Checks that each handle has a member of a race with this many members.
@@ -38,12 +37,11 @@ fn look_in<P: Part, H: AnyHandle<Value = Member<P>>>(
     ensures why { IfErr result (λ refusal. (refusal ≡ Refusal.OtherRace)
         ⊎ SaysNoMember (H.value handle.old) refusal) }
 {
-    let Some(boxed) = replace(handle, H::closed(alloc)).into_raw_box() else {
+    let Some(member) = into_box(replace(handle, closed(alloc))) else {
         return Err(Refusal::NotOpen);
     };
-    let member = boxed.into_box();
     let answer = look(&member, members);
-    *handle = H::of(RawBox::of(member));
+    *handle = opened(member);
     answer
 }
 

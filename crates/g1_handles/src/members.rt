@@ -4,10 +4,10 @@ ghost use Rattle.g1_handles.specs.Codes.{OfOpen};
 ghost use Rattle.g1_handles.specs.Queries.{IsListed, IsListOf};
 ghost use Rattle.g1_handles.specs.Refusals.{AreMembersRefused};
 
+use crate::any_handle::{closed, into_box, opened};
 use crate::code::Refusal;
 use crate::handle::Handle;
 use g1_core::{CardList, Core};
-use raw_box::RawBox;
 use std::alloc::Global;
 
 /// What C gets of the list of members.
@@ -31,12 +31,11 @@ pub fn members_in(handle: Handle, words: (Global, u32, usize)) -> (Handle, Resul
     ensures why { IfErr result.1 (λ refusal. AreMembersRefused handle.value words.1 refusal) }
     ensures same { result.0.value ≡ handle.value }
 {
-    let Some(core) = handle.into_raw_box() else {
-        return (Handle::closed(words.0), Err(Refusal::NotOpen));
+    let Some(core) = into_box(handle) else {
+        return (closed(words.0), Err(Refusal::NotOpen));
     };
-    let core = core.into_box();
     let answer = members_one(&core, words.1, words.2);
-    (Handle::of(RawBox::of(core)), answer)
+    (opened(core), answer)
 }
 
 fn members_one(core: &Core, region: u32, room: usize) -> Result<Listed, Refusal>

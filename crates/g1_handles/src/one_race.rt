@@ -9,13 +9,12 @@ ghost use Rattle.std.specs.Prelude.{◌≡◌, IfSome, map};
 ghost use Rattle.std.specs.Arc.{arc_value};
 ghost use Rattle.g1_handles.specs.Racing.{held_racers, held_sweepers};
 
-use crate::any_handle::AnyHandle;
+use crate::any_handle::{AnyHandle, closed, into_box, opened};
 use crate::member::{Member, Part};
 use crate::racer_handle::RacerHandle;
 use crate::sweeper_handle::SweeperHandle;
 use core::mem::replace;
 use g1_race::Race;
-use raw_box::RawBox;
 use std::alloc::Global;
 use std::sync::Arc;
 
@@ -68,9 +67,9 @@ fn number_in<P: Part, H: AnyHandle<Value = Member<P>>>(
 ) -> Option<usize>
     ensures { H.value handle.new ≡ H.value handle.old }
 {
-    let member = replace(handle, H::closed(alloc)).into_raw_box()?.into_box();
+    let member = into_box(replace(handle, closed(alloc)))?;
     let number = is_same(&member.race, share).then_some(member.number);
-    *handle = H::of(RawBox::of(member));
+    *handle = opened(member);
     number
 }
 

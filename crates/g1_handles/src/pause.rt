@@ -5,10 +5,10 @@ ghost use Rattle.g1_handles.specs.Codes.{Between};
 ghost use Rattle.g1_handles.specs.Refusals.{IsDrainRefused};
 ghost use Rattle.g1_handles.specs.Replies.{DrainsTo, FitIn};
 
+use crate::any_handle::{closed, into_box, opened};
 use crate::code::Refusal;
 use crate::handle::Handle;
 use g1_core::{Core, Drained};
-use raw_box::RawBox;
 use std::alloc::Global;
 
 /// Drains a region at the core of a handle ([`Core::drain`]). `words` has the region and the
@@ -28,12 +28,11 @@ pub fn drain_in(
         IsDrainRefused handle.value words.1 words.2 words.3 refusal) }
     ensures refused { OnErr result.1 (result.0.value ≡ handle.value) }
 {
-    let Some(core) = handle.into_raw_box() else {
-        return (Handle::closed(words.0), Err(Refusal::NotOpen));
+    let Some(mut core) = into_box(handle) else {
+        return (closed(words.0), Err(Refusal::NotOpen));
     };
-    let mut core = core.into_box();
     let answer = drain_one(&mut core, words.1, words.2, words.3);
-    (Handle::of(RawBox::of(core)), answer)
+    (opened(core), answer)
 }
 
 fn drain_one(

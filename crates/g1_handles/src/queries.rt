@@ -5,11 +5,11 @@ ghost use Rattle.g1_handles.specs.Codes.{Between, OfOpen, reference_of};
 ghost use Rattle.g1_handles.specs.Queries.{RefersTo, IsToldPending, HasStatus};
 ghost use Rattle.g1_handles.specs.Refusals.{IsPendingRefused, IsTargetRefused, SaysNotOpen};
 
+use crate::any_handle::{closed, into_box, opened};
 use crate::code::{NULL, Refusal};
 use crate::handle::Handle;
 use g1_core::{Core, Status};
 use g1_layout::{Layout, Slot};
-use raw_box::RawBox;
 use std::alloc::Global;
 
 /// Returns the word of what a slot refers to at the core of a handle. Returns `NotOpen` or `NoSlot`
@@ -23,12 +23,11 @@ pub fn target_in(handle: Handle, words: (Global, u32)) -> (Handle, Result<u32, R
     ensures why { IfErr result.1 (IsTargetRefused handle.value words.1) }
     ensures refused { OnErr result.1 (result.0.value ≡ handle.value) }
 {
-    let Some(core) = handle.into_raw_box() else {
-        return (Handle::closed(words.0), Err(Refusal::NotOpen));
+    let Some(mut core) = into_box(handle) else {
+        return (closed(words.0), Err(Refusal::NotOpen));
     };
-    let mut core = core.into_box();
     let answer = target_one(&mut core, words.1);
-    (Handle::of(RawBox::of(core)), answer)
+    (opened(core), answer)
 }
 
 fn target_one(core: &mut Core, slot: u32) -> Result<u32, Refusal>
@@ -66,12 +65,11 @@ pub fn is_pending_in(handle: Handle, words: (Global, u32)) -> (Handle, Result<bo
     ensures why { IfErr result.1 (IsPendingRefused handle.value words.1) }
     ensures same { result.0.value ≡ handle.value }
 {
-    let Some(core) = handle.into_raw_box() else {
-        return (Handle::closed(words.0), Err(Refusal::NotOpen));
+    let Some(core) = into_box(handle) else {
+        return (closed(words.0), Err(Refusal::NotOpen));
     };
-    let core = core.into_box();
     let answer = is_pending_one(&core, words.1);
-    (Handle::of(RawBox::of(core)), answer)
+    (opened(core), answer)
 }
 
 fn is_pending_one(core: &Core, card: u32) -> Result<bool, Refusal>
@@ -95,12 +93,11 @@ pub fn status_in(handle: Handle, alloc: Global) -> (Handle, Result<Status, Refus
     ensures why { IfErr result.1 (SaysNotOpen handle.value) }
     ensures same { result.0.value ≡ handle.value }
 {
-    let Some(core) = handle.into_raw_box() else {
-        return (Handle::closed(alloc), Err(Refusal::NotOpen));
+    let Some(core) = into_box(handle) else {
+        return (closed(alloc), Err(Refusal::NotOpen));
     };
-    let core = core.into_box();
     let status = status_one(&core);
-    (Handle::of(RawBox::of(core)), Ok(status))
+    (opened(core), Ok(status))
 }
 
 fn status_one(core: &Core) -> Status

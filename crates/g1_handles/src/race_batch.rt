@@ -1,18 +1,16 @@
 //! Several stores in a race by one call.
-ghost use Rattle.std.specs.Prelude.{◌≡◌, ◌≢◌, Some, IfOk, IfErr, IsOkAnd, OnErr};
+ghost use Rattle.std.specs.Prelude.{◌≡◌, ◌≢◌, IfOk, IfErr, IsOkAnd, OnErr};
 ghost use Rattle.g1_race.specs.Members.{race_id, racer_race};
 ghost use Rattle.g1_handles.specs.Racing.{OfRacer, IfRacer, racing};
 ghost use Rattle.g1_handles.specs.RaceStores.{StoresFirst, CanStoreAll};
 ghost use Rattle.g1_handles.specs.Refusals.{SaysNoMember};
 
-use crate::any_handle::AnyHandle;
+use crate::any_handle::{closed, into_box, opened};
 use crate::batch::Store;
 use crate::code::Refusal;
-use crate::member::Member;
 use crate::race_store::store_by;
 use crate::racer_handle::RacerHandle;
 use g1_race::{Race, Racer};
-use raw_box::RawBox;
 use std::alloc::Global;
 
 /// Why no more of several stores were made.
@@ -48,26 +46,15 @@ pub fn store_all_in(
     ensures why { IfErr result.1 (SaysNoMember member.value) }
     ensures refused { OnErr result.1 (result.0.value ≡ member.value) }
 {
-    let Some(member) = member.into_raw_box() else {
-        return (RacerHandle::closed(words.0), Err(Refusal::NotOpen));
+    let Some(mut member) = into_box(member) else {
+        return (closed(words.0), Err(Refusal::NotOpen));
     };
-    let mut member = member.into_box();
-    let answer = store_all_of(&mut member, words.1);
-    (RacerHandle::of(RawBox::of(member)), answer)
-}
-
-fn store_all_of(member: &mut Member<Racer>, stores: &[Store]) -> Result<RaceBatch, Refusal>
-    ensures stored { IfOk result (λ answer. OfRacer (Some member.old) (λ a.
-        OfRacer (Some member.new) (λ b. StoresFirst a stores.now answer b))) }
-    ensures taken { IfRacer (Some member.old) (λ a. CanStoreAll a stores.now
-        → IsOkAnd result (λ answer. answer.end ≡ BatchEnd.Whole)) }
-    ensures why { IfErr result (SaysNoMember (Some member.old)) }
-    ensures refused { OnErr result (member.new ≡ member.old) }
-{
-    let Some(racer) = &mut member.part else {
-        return Err(Refusal::NotOpen);
+    let inside = &mut *member;
+    let Some(racer) = &mut inside.part else {
+        return (opened(member), Err(Refusal::NotOpen));
     };
-    Ok(store_all_by(&member.race, racer, stores))
+    let answer = store_all_by(&inside.race, racer, words.1);
+    (opened(member), Ok(answer))
 }
 
 fn store_all_by(race: &Race, racer: &mut Racer, stores: &[Store]) -> RaceBatch

@@ -1,16 +1,13 @@
 //! Stores of data in a race: a slot may hold data, which refers to nothing.
-ghost use Rattle.std.specs.Prelude.{◌≡◌, ◌<◌, ◌≤◌, ◌^◌, Some, IsOk, IfOk, IfErr, OnErr};
+ghost use Rattle.std.specs.Prelude.{◌≡◌, ◌<◌, ◌≤◌, ◌^◌, IsOk, IfOk, IfErr, OnErr};
 ghost use Rattle.g1_layout.specs.Shape.{slot_count};
 ghost use Rattle.g1_race.specs.Members.{race_layout};
 ghost use Rattle.g1_handles.specs.Racing.{OfRacer, IfRacer, StoresData, racer_race_of};
 ghost use Rattle.g1_handles.specs.Refusals.{IsRaceDataRefused};
 
-use crate::any_handle::AnyHandle;
+use crate::any_handle::{closed, into_box, opened};
 use crate::code::Refusal;
-use crate::member::Member;
 use crate::racer_handle::RacerHandle;
-use g1_race::Racer;
-use raw_box::RawBox;
 use std::alloc::Global;
 
 /// The least word that is data.
@@ -30,30 +27,19 @@ pub fn store_data_in(
     ensures why { IfErr result.1 (IsRaceDataRefused member.value words.1 words.2) }
     ensures refused { OnErr result.1 (result.0.value ≡ member.value) }
 {
-    let Some(member) = member.into_raw_box() else {
-        return (RacerHandle::closed(words.0), Err(Refusal::NotOpen));
+    let Some(mut member) = into_box(member) else {
+        return (closed(words.0), Err(Refusal::NotOpen));
     };
-    let mut member = member.into_box();
-    let answer = store_data_of(&mut member, words.1, words.2);
-    (RacerHandle::of(RawBox::of(member)), answer)
-}
-
-fn store_data_of(member: &mut Member<Racer>, slot: u32, word: u64) -> Result<u64, Refusal>
-    ensures stored { IfOk result (λ old. OfRacer (Some member.old) (λ a.
-        OfRacer (Some member.new) (λ b. StoresData a slot word old b))) }
-    ensures taken { IfRacer (Some member.old) (λ a.
-        slot < slot_count (race_layout (racer_race_of a)) → 2 ^ 32 ≤ word → IsOk result) }
-    ensures why { IfErr result (IsRaceDataRefused (Some member.old) slot word) }
-    ensures refused { OnErr result (member.new ≡ member.old) }
-{
-    let Some(racer) = &mut member.part else {
-        return Err(Refusal::NotOpen);
+    let inside = &mut *member;
+    let Some(racer) = &mut inside.part else {
+        return (opened(member), Err(Refusal::NotOpen));
     };
-    let Some(slot) = member.race.layout().slot(slot) else {
-        return Err(Refusal::NoSlot);
+    let Some(slot) = inside.race.layout().slot(words.1) else {
+        return (opened(member), Err(Refusal::NoSlot));
     };
-    if word < DATA {
-        return Err(Refusal::BadWord);
+    if words.2 < DATA {
+        return (opened(member), Err(Refusal::BadWord));
     }
-    Ok(racer.store_data(&member.race, slot, word))
+    let old = racer.store_data(&inside.race, slot, words.2);
+    (opened(member), Ok(old))
 }

@@ -1,5 +1,5 @@
 //! Stores in a race that return what the slot referred to before, or depend on it.
-ghost use Rattle.std.specs.Prelude.{◌≡◌, ◌⊎◌, ◌<◌, Some, IfOk, IfErr, IsOk, OnErr};
+ghost use Rattle.std.specs.Prelude.{◌≡◌, ◌⊎◌, ◌<◌, IfOk, IfErr, IsOk, OnErr};
 ghost use Rattle.arrayvec.specs.ArrayVec.{array_vec_len};
 ghost use Rattle.g1_race.specs.Members.{race_id, race_layout, racer_race};
 ghost use Rattle.g1_handles.specs.Codes.{IsStoreOf, reference_of};
@@ -8,16 +8,14 @@ ghost use Rattle.g1_handles.specs.Racing.{OfRacer, IfRacer, racer_race_of, racin
 ghost use Rattle.g1_handles.specs.Refusals.{IsRaceStoreRefused, IsRaceExchangeRefused};
 ghost use Rattle.g1_handles.specs.Refusals.{SaysNoStore, SaysNoPlace};
 
-use crate::any_handle::AnyHandle;
+use crate::any_handle::{closed, into_box, opened};
 use crate::code::Refusal;
-use crate::member::Member;
 use crate::queries::word_of;
 use crate::race_store::may_store;
 use crate::racer_handle::RacerHandle;
 use crate::store::reference;
 use g1_layout::Kind;
 use g1_race::{Race, Racer};
-use raw_box::RawBox;
 use std::alloc::Global;
 
 /// What a swap did.
@@ -54,27 +52,15 @@ pub fn swap_in(
     ensures why { IfErr result.1 (IsRaceStoreRefused member.value words.1 words.2) }
     ensures refused { OnErr result.1 (result.0.value ≡ member.value) }
 {
-    let Some(member) = member.into_raw_box() else {
-        return (RacerHandle::closed(words.0), Err(Refusal::NotOpen));
+    let Some(mut member) = into_box(member) else {
+        return (closed(words.0), Err(Refusal::NotOpen));
     };
-    let mut member = member.into_box();
-    let answer = swap_of(&mut member, words.1, words.2);
-    (RacerHandle::of(RawBox::of(member)), answer)
-}
-
-fn swap_of(member: &mut Member<Racer>, slot: u32, target: u32) -> Result<Swapped, Refusal>
-    ensures swapped { IfOk result (λ swapped. OfRacer (Some member.old) (λ a.
-        OfRacer (Some member.new) (λ b. Swaps a slot (reference_of target)
-        (reference_of swapped.old) swapped.kind b))) }
-    ensures taken { IfRacer (Some member.old) (λ a. array_vec_len a.racer.log < 256
-        → IsStoreOf (race_layout (racer_race_of a)) slot target → IsOk result) }
-    ensures why { IfErr result (IsRaceStoreRefused (Some member.old) slot target) }
-    ensures refused { OnErr result (member.new ≡ member.old) }
-{
-    let Some(racer) = &mut member.part else {
-        return Err(Refusal::NotOpen);
+    let inside = &mut *member;
+    let Some(racer) = &mut inside.part else {
+        return (opened(member), Err(Refusal::NotOpen));
     };
-    swap_by(&member.race, racer, slot, target)
+    let answer = swap_by(&inside.race, racer, words.1, words.2);
+    (opened(member), answer)
 }
 
 fn swap_by(race: &Race, racer: &mut Racer, slot: u32, target: u32) -> Result<Swapped, Refusal>
@@ -112,33 +98,15 @@ pub fn compare_exchange_in(
         (IsRaceExchangeRefused member.value words.1 words.2 words.3) }
     ensures refused { OnErr result.1 (result.0.value ≡ member.value) }
 {
-    let Some(member) = member.into_raw_box() else {
-        return (RacerHandle::closed(words.0), Err(Refusal::NotOpen));
+    let Some(mut member) = into_box(member) else {
+        return (closed(words.0), Err(Refusal::NotOpen));
     };
-    let mut member = member.into_box();
-    let answer = compare_exchange_of(&mut member, words.1, words.2, words.3);
-    (RacerHandle::of(RawBox::of(member)), answer)
-}
-
-fn compare_exchange_of(
-    member: &mut Member<Racer>,
-    slot: u32,
-    expected: u32,
-    target: u32,
-) -> Result<Exchange, Refusal>
-    ensures exchange { IfOk result (λ exchange. OfRacer (Some member.old) (λ a.
-        OfRacer (Some member.new) (λ b. IsExchange a slot (reference_of expected)
-        (reference_of target) exchange b))) }
-    ensures taken { IfRacer (Some member.old) (λ a. array_vec_len a.racer.log < 256
-        → IsStoreOf (race_layout (racer_race_of a)) slot expected
-        → IsStoreOf (race_layout (racer_race_of a)) slot target → IsOk result) }
-    ensures why { IfErr result (IsRaceExchangeRefused (Some member.old) slot expected target) }
-    ensures refused { OnErr result (member.new ≡ member.old) }
-{
-    let Some(racer) = &mut member.part else {
-        return Err(Refusal::NotOpen);
+    let inside = &mut *member;
+    let Some(racer) = &mut inside.part else {
+        return (opened(member), Err(Refusal::NotOpen));
     };
-    compare_exchange_by(&member.race, racer, slot, expected, target)
+    let answer = compare_exchange_by(&inside.race, racer, words.1, words.2, words.3);
+    (opened(member), answer)
 }
 
 fn compare_exchange_by(

@@ -1,19 +1,17 @@
 //! Lock-free stores in a race.
-ghost use Rattle.std.specs.Prelude.{◌≡◌, ◌<◌, Some, IfOk, IfErr, IsOk, OnErr};
+ghost use Rattle.std.specs.Prelude.{◌≡◌, ◌<◌, IfOk, IfErr, IsOk, OnErr};
 ghost use Rattle.arrayvec.specs.ArrayVec.{array_vec_len};
 ghost use Rattle.g1_race.specs.Members.{race_id, race_layout, racer_race};
 ghost use Rattle.g1_handles.specs.Codes.{IsStoreOf, reference_of};
 ghost use Rattle.g1_handles.specs.Racing.{OfRacer, IfRacer, Stores, racer_race_of, racing};
 ghost use Rattle.g1_handles.specs.Refusals.{IsRaceStoreRefused, SaysNoStore};
 
-use crate::any_handle::AnyHandle;
+use crate::any_handle::{closed, into_box, opened};
 use crate::code::Refusal;
-use crate::member::Member;
 use crate::racer_handle::RacerHandle;
 use crate::store::reference;
 use g1_layout::{Kind, Slot};
 use g1_race::{Race, Racer};
-use raw_box::RawBox;
 use std::alloc::Global;
 
 /// Stores a target into a slot by the racer of a handle, which stays open. Returns the kind of the
@@ -29,26 +27,15 @@ pub fn store_in(
     ensures why { IfErr result.1 (IsRaceStoreRefused member.value words.1 words.2) }
     ensures refused { OnErr result.1 (result.0.value ≡ member.value) }
 {
-    let Some(member) = member.into_raw_box() else {
-        return (RacerHandle::closed(words.0), Err(Refusal::NotOpen));
+    let Some(mut member) = into_box(member) else {
+        return (closed(words.0), Err(Refusal::NotOpen));
     };
-    let mut member = member.into_box();
-    let answer = store_of(&mut member, words.1, words.2);
-    (RacerHandle::of(RawBox::of(member)), answer)
-}
-
-fn store_of(member: &mut Member<Racer>, slot: u32, target: u32) -> Result<Kind, Refusal>
-    ensures stored { IfOk result (λ kind. OfRacer (Some member.old) (λ a.
-        OfRacer (Some member.new) (λ b. Stores a slot (reference_of target) kind b))) }
-    ensures taken { IfRacer (Some member.old) (λ a. array_vec_len a.racer.log < 256
-        → IsStoreOf (race_layout (racer_race_of a)) slot target → IsOk result) }
-    ensures why { IfErr result (IsRaceStoreRefused (Some member.old) slot target) }
-    ensures refused { OnErr result (member.new ≡ member.old) }
-{
-    let Some(racer) = &mut member.part else {
-        return Err(Refusal::NotOpen);
+    let inside = &mut *member;
+    let Some(racer) = &mut inside.part else {
+        return (opened(member), Err(Refusal::NotOpen));
     };
-    store_by(&member.race, racer, slot, target)
+    let answer = store_by(&inside.race, racer, words.1, words.2);
+    (opened(member), answer)
 }
 
 /// Stores a target into a slot by a racer of the race. Returns the kind of the store, or `LogFull`,

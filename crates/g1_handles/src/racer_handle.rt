@@ -1,15 +1,14 @@
 //! The handle of a racer.
-ghost use Rattle.std.specs.Prelude.{◌≡◌, Option, Some, None, MatchOption};
+ghost use Rattle.std.specs.Prelude.{◌≡◌, Option};
 ghost use Rattle.std.specs.Coded.{coded_option};
 ghost use Rattle.g1_handles.specs.Own.{RacerMember, racer_row};
 
 use crate::any_handle::AnyHandle;
 use crate::member::Member;
+use crate::nullable_box::NullableBox;
 use g1_race::Racer;
-use raw_box::RawBox;
 use std::alloc::Global;
 use std::marker::Model;
-use std::ptr::null_mut;
 
 /// A racer behind a pointer that C can hold, or nothing if the pointer is null.
 ///
@@ -34,36 +33,23 @@ impl AnyHandle for RacerHandle {
 
     ghost value = { λ h. h.value };
 
-    fn of(boxed: RawBox<Member<Racer>, Global>) -> RacerHandle
-        ensures { result.value ≡ Some boxed.value }
+    fn from_nullable(boxed: NullableBox<Member<Racer>>) -> RacerHandle
+        ensures { result.value ≡ boxed.value }
     {
-        let RawBox { at, alloc } = boxed;
+        let NullableBox { at, alloc } = boxed;
         RacerHandle {
             at: at as *mut u8,
             alloc,
         }
     }
 
-    fn closed(alloc: Global) -> RacerHandle
-        ensures { result.value ≡ None }
-    {
-        RacerHandle {
-            at: null_mut(),
-            alloc,
-        }
-    }
-
-    fn into_raw_box(self) -> Option<RawBox<Member<Racer>, Global>>
-        ensures { MatchOption result (self.value ≡ None) (λ boxed. self.value ≡ Some boxed.value) }
+    fn into_nullable(self) -> NullableBox<Member<Racer>>
+        ensures { result.value ≡ self.value }
     {
         let RacerHandle { at, alloc } = self;
-        if at.is_null() {
-            None
-        } else {
-            Some(RawBox {
-                at: at as *mut Member<Racer>,
-                alloc,
-            })
+        NullableBox {
+            at: at as *mut Member<Racer>,
+            alloc,
         }
     }
 }

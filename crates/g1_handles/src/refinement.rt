@@ -6,13 +6,13 @@ ghost use Rattle.g1_handles.specs.Codes.{Between};
 ghost use Rattle.g1_handles.specs.Refusals.{IsRefinementRefused};
 ghost use Rattle.g1_handles.specs.Replies.{RefinesTo, reply_of};
 
+use crate::any_handle::{closed, into_box, opened};
 use crate::code::{DONE, Refusal, SHORT};
 use crate::handle::Handle;
 use arrayvec::ArrayVec;
 use g1_core::{Core, RefineReply};
 use g1_layout::{Card, Layout};
 use g1_log::Buffer;
-use raw_box::RawBox;
 use std::alloc::Global;
 
 /// The word of a reply: 0, or 1 if it is short.
@@ -45,12 +45,11 @@ pub fn refine_in(
         IsRefinementRefused handle.value words.entry.1.now words.entry.2 refusal) }
     ensures refused { OnErr result.1 (result.0.value ≡ handle.value) }
 {
-    let Some(core) = handle.into_raw_box() else {
-        return (Handle::closed(words.0), Err(Refusal::NotOpen));
+    let Some(mut core) = into_box(handle) else {
+        return (closed(words.0), Err(Refusal::NotOpen));
     };
-    let mut core = core.into_box();
     let answer = refine_one(&mut core, words.1, words.2);
-    (Handle::of(RawBox::of(core)), answer)
+    (opened(core), answer)
 }
 
 fn refine_one(core: &mut Core, cards: &[u32], room: usize) -> Result<RefineReply, Refusal>

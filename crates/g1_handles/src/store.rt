@@ -6,12 +6,12 @@ ghost use Rattle.g1_handles.specs.Codes.{reference_of, IsStoreOf, Between, OfOpe
 ghost use Rattle.g1_handles.specs.Codes.{stored_machine};
 ghost use Rattle.g1_handles.specs.Refusals.{IsStoreRefused, SaysNoPlace};
 
+use crate::any_handle::{closed, into_box, opened};
 use crate::code::{NULL, Refusal};
 use crate::handle::Handle;
 use g1_core::Core;
 use g1_layout::{Kind, Layout, Slot};
 use g1_log::Log;
-use raw_box::RawBox;
 use std::alloc::Global;
 
 /// Stores a target into a slot at the core of a handle, which stays open. Returns the kind of the
@@ -26,12 +26,11 @@ pub fn store_in(handle: Handle, words: (Global, u32, u32)) -> (Handle, Result<Ki
     ensures why { IfErr result.1 (IsStoreRefused handle.value words.1 words.2) }
     ensures refused { OnErr result.1 (result.0.value ≡ handle.value) }
 {
-    let Some(core) = handle.into_raw_box() else {
-        return (Handle::closed(words.0), Err(Refusal::NotOpen));
+    let Some(mut core) = into_box(handle) else {
+        return (closed(words.0), Err(Refusal::NotOpen));
     };
-    let mut core = core.into_box();
     let answer = store_one(&mut core, words.1, words.2);
-    (Handle::of(RawBox::of(core)), answer)
+    (opened(core), answer)
 }
 
 fn store_one(core: &mut Core, slot: u32, target: u32) -> Result<Kind, Refusal>

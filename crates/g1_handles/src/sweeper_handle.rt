@@ -1,15 +1,14 @@
 //! The handle of a sweeper.
-ghost use Rattle.std.specs.Prelude.{◌≡◌, Option, Some, None, MatchOption};
+ghost use Rattle.std.specs.Prelude.{◌≡◌, Option};
 ghost use Rattle.std.specs.Coded.{coded_option};
 ghost use Rattle.g1_handles.specs.Own.{SweeperMember, sweeper_row};
 
 use crate::any_handle::AnyHandle;
 use crate::member::Member;
+use crate::nullable_box::NullableBox;
 use g1_race::Sweeper;
-use raw_box::RawBox;
 use std::alloc::Global;
 use std::marker::Model;
-use std::ptr::null_mut;
 
 /// A sweeper behind a pointer that C can hold, or nothing if the pointer is null.
 ///
@@ -34,36 +33,23 @@ impl AnyHandle for SweeperHandle {
 
     ghost value = { λ h. h.value };
 
-    fn of(boxed: RawBox<Member<Sweeper>, Global>) -> SweeperHandle
-        ensures { result.value ≡ Some boxed.value }
+    fn from_nullable(boxed: NullableBox<Member<Sweeper>>) -> SweeperHandle
+        ensures { result.value ≡ boxed.value }
     {
-        let RawBox { at, alloc } = boxed;
+        let NullableBox { at, alloc } = boxed;
         SweeperHandle {
             at: at as *mut u8,
             alloc,
         }
     }
 
-    fn closed(alloc: Global) -> SweeperHandle
-        ensures { result.value ≡ None }
-    {
-        SweeperHandle {
-            at: null_mut(),
-            alloc,
-        }
-    }
-
-    fn into_raw_box(self) -> Option<RawBox<Member<Sweeper>, Global>>
-        ensures { MatchOption result (self.value ≡ None) (λ boxed. self.value ≡ Some boxed.value) }
+    fn into_nullable(self) -> NullableBox<Member<Sweeper>>
+        ensures { result.value ≡ self.value }
     {
         let SweeperHandle { at, alloc } = self;
-        if at.is_null() {
-            None
-        } else {
-            Some(RawBox {
-                at: at as *mut Member<Sweeper>,
-                alloc,
-            })
+        NullableBox {
+            at: at as *mut Member<Sweeper>,
+            alloc,
         }
     }
 }

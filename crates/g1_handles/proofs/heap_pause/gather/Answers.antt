@@ -24,7 +24,7 @@ loop-i-preserved g c =
     let here : n < length hs = omega (arith, c.loop-i-test.true, i.sized) in
     let member = c.deref_mut.result.now in
     let had : value (slice_index_or old n h) ≡ Some member =
-    sym (ap value (i.rest n h (omega arith))) ∙ (ap value (sym c.replace.ensures.value) ∙ (c.in-Some.ensures ∙ ap (λ (m : Member g.row.P.Denot g.P.Part). Some m) (sym (c.deref_mut.ensures.value ∙ c.into_box-member.ensures)))) in
+    sym (ap value (i.rest n h (omega arith))) ∙ (ap value (sym c.replace.ensures.value) ∙ (c.in-Some.ensures ∙ ap (λ (m : Member g.row.P.Denot g.P.Part). Some m) (sym c.deref_mut.ensures.value))) in
     let part : member.part ≡ Some c.in-Some-park.part = sym c.park.ensures.part ∙ c.in-Some-park.is in
     record {
       sized = length-set hs n _ ∙ i.sized;
@@ -84,5 +84,5 @@ unreachable-requires-in_default-park g c =
     let has = at_handle value (λ m. IsSome (part_in m)) old n h (omega (arith, c.loop-i-test.true, i.sized)) c.requires.parts in
     let member = c.deref_mut.result.now in
     let had : value (slice_index_or old n h) ≡ Some member =
-    sym (ap value (i.rest n h (omega arith))) ∙ (ap value (sym c.replace.ensures.value) ∙ (c.in-Some.ensures ∙ ap (λ (m : Member g.row.P.Denot g.P.Part). Some m) (sym (c.deref_mut.ensures.value ∙ c.into_box-member.ensures)))) in
+    sym (ap value (i.rest n h (omega arith))) ∙ (ap value (sym c.replace.ensures.value) ∙ (c.in-Some.ensures ∙ ap (λ (m : Member g.row.P.Denot g.P.Part). Some m) (sym c.deref_mut.ensures.value))) in
     none_is_some _ has (ap part_in had ∙ (sym c.park.ensures.part ∙ c.in_default-park.is))

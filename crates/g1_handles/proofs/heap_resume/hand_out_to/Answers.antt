@@ -36,9 +36,9 @@ loop-left-preserved g c =
     let here : n - 1 < length hs = omega (arith, i.below, some) in
     let m = c.in-Some.member in
     let part = c.in-Some-pop.part in
-    let h = c.of-in-loop-left.result in
+    let h = c.opened.result in
     let seated = c.seat.ensures in
-    let holds : value h ≡ Some c.seat.new.self = c.of-in-loop-left.ensures ∙ ap (λ (x : Member g.row.P.Denot g.P.Part). Some x) c.of.ensures in
+    let holds : value h ≡ Some c.seat.new.self = c.opened.ensures in
     let boxes = c.args.boxes.now.items in
     let parts = c.args.parts.now.items in
     record {
