@@ -2,3 +2,4 @@
 mod done;
 mod filling;
 mod line;
+mod line_in_threads;

@@ -19,6 +19,8 @@ mod in_place;
 #[cfg(test)]
 mod in_threads;
 #[cfg(test)]
+mod pause_calls;
+#[cfg(test)]
 mod paused;
 #[cfg(test)]
 mod readers;

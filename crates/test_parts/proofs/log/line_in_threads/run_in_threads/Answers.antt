@@ -2,7 +2,7 @@ use Rattle.std.proofs.Common.{◌≡◌, ℕ, ◌+◌, List, [], ◌∷◌, leng
 use Rattle.std.specs.List.{remove}
 use Rattle.std.proofs.lemmas.Result.{IfOk-at_ok}
 use Rattle.g1_log.specs.Ends.{sender_rights, taker_rights}
-use Rattle.test_parts.proofs.log.line.run_in_threads.Goals as goal
+use Rattle.test_parts.proofs.log.line_in_threads.run_in_threads.Goals as goal
 
 -- the sum over a list of two elements
 two : {X : Type 0} (f : X → ℕ) (xs : List X) → length xs ≡ 2 → (a b : X) → b ≡ get_or xs 1 b → a ≡ get_or (remove xs 1) 0 a → sum_by f xs ≡ f a + f b
