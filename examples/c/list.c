@@ -13,7 +13,7 @@
 #include <string.h>
 
 enum { CARDS = 32, SLOTS = 8, REGION_SLOTS = CARDS * SLOTS };
-enum { MUTATORS = 4, SWEEPERS = 2, LOGS = 8, EACH = 15 }; // regions of each mutator
+enum { MUTATORS = 8, SWEEPERS = 2, LOGS = 16, EACH = 15 }; // regions of each mutator
 enum { REGIONS = 1 + MUTATORS * EACH, ALL_CARDS = REGIONS * CARDS };
 enum { ALL_SLOTS = ALL_CARDS * SLOTS };
 enum {

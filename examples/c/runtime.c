@@ -14,11 +14,11 @@
 
 enum { REGIONS = 64, CARDS = 48, SLOTS = 16, REGION_SLOTS = CARDS * SLOTS };
 enum { ALL_CARDS = REGIONS * CARDS, ALL_SLOTS = ALL_CARDS * SLOTS };
-enum { MUTATORS = 4, SWEEPERS = 2, LOGS = 8 };
+enum { MUTATORS = 8, SWEEPERS = 2, LOGS = 16 };
 enum {
     FIELDS = 2,                    // of an object
     SIZE = 1 + FIELDS,             // of an object in words
-    HEIGHT = 10,                   // of a mutator's tree
+    HEIGHT = 9,                    // of a mutator's tree
     CHANGE = 4,                    // heights of the trees that are replaced there
     SET = 8,                       // regions that a pause evacuates, and at most fills
     DUE = REGIONS - SET - MUTATORS // regions in use at a pause; each mutator may take one before it

@@ -21,12 +21,12 @@ const COUNTS: Counts = Counts {
 };
 const REGION: u32 = COUNTS.cards * COUNTS.slots;
 const SLOTS: u32 = COUNTS.regions * REGION;
-const MUTATORS: usize = 4;
+const MUTATORS: usize = 8;
 const REFINERS: usize = 2;
 /// Fields of an object.
 const FIELDS: u32 = 2;
 /// The height of a mutator's tree.
-const HEIGHT: u32 = 10;
+const HEIGHT: u32 = 9;
 /// The heights of trees that are replaced there.
 const CHANGE: u32 = 4;
 /// Regions that a pause evacuates.
