@@ -188,6 +188,7 @@ impl Block {
         Block { room, count }
     }
 
+    /// The stores of the block, in order.
     pub fn stores(&self) -> &[Reference] {
         &self.room[..self.count]
     }

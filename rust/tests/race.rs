@@ -101,6 +101,30 @@ fn says_when_a_log_is_full() {
 }
 
 #[test]
+fn makes_more_stores_than_a_block() {
+    let (heap, mut racers, sweepers) = race();
+    let (racer, far) = (&mut racers[0], heap.slot(512));
+    let near = |number| heap.slot(number).expect("a slot");
+    let nulls = (0..200).map(|number| (near(number), None));
+    let stores: Vec<_> = nulls.chain((0..300).map(|n| (near(n), far))).collect();
+    let mut foreign = stores.clone();
+    foreign.push((slot(&self::heap(), 0), None));
+    assert_eq!(racer.store_all(&foreign), Err(Refusal::OtherHeap));
+    assert_eq!(racer.word(near(0)), Ok(Word::Null));
+    // (the log is full behind 200 stores of null and as many references as it has room for)
+    assert_eq!(racer.store_all(&stores), Ok(200 + LOG));
+    assert_eq!(racer.word(near(LOG as u32)), Ok(Word::Null));
+    assert_eq!(racer.take_log().map(|log| log.len()), Ok(LOG));
+    assert_eq!(racer.store_all(&stores[200 + LOG..]), Ok(300 - LOG));
+    let mut heap = heap.pause(racers, sweepers).expect("all are in");
+    let last = slot(&heap, 299);
+    assert_eq!(heap.target(last), Ok(far));
+    let back: Vec<_> = (0..300).map(|number| (slot(&heap, number), None)).collect();
+    assert_eq!(heap.store_all(&back), Ok(()));
+    assert_eq!(heap.target(last), Ok(None));
+}
+
+#[test]
 fn swaps_and_compares() {
     let (heap, mut racers, sweepers) = race();
     let racer = &mut racers[0];
