@@ -1,6 +1,8 @@
 //! The write barrier: what a reference store does to the card table and to its mutator's log.
-ghost use Rattle.std.specs.Prelude.{◌≡◌, ◌≢◌, ◌<◌, ◌+◌, ℕ, [], false, length, IfSome, IsNone};
+ghost use Rattle.std.specs.Prelude.{◌≡◌, ◌≢◌, ◌<◌, ℕ, [], false, IfSome, IsNone};
 ghost use Rattle.g1_layout.specs.Shape.{slot_count, card_count, card_of};
+ghost use Rattle.g1_log.specs.Log.{pushed, handed};
+ghost use Rattle.g1_core.specs.Barrier.{fill_of};
 
 use crate::list::CardList;
 use crate::machinery::Core;
@@ -84,7 +86,7 @@ impl Core {
         ensures cover { IsCovered self.new.state.table }
         ensures later { IsLater self.old self.new }
     {
-        let (kind, dirtied) = self.mark(slot, target);
+        let (kind, dirtied) = self.store_unlogged(slot, target);
         let Some(card) = dirtied else {
             return (plain_reply(self.alloc, kind, Fill::No), None);
         };
@@ -94,35 +96,52 @@ impl Core {
         (plain_reply(self.alloc, kind, Fill::Full), Some(buffer))
     }
 
-    /// Makes the same store as `store`, with a log that has room (`Log::has_room`). `fill` is `No`,
-    /// and no buffer is returned, so no room for one is made. The call takes no memory, reads no
-    /// slot, and takes constant time (docs/PROFILE.md, The barrier).
+    /// Makes the same store as `store`, and puts a completed buffer into the place that the caller
+    /// lends for it, in place of returning it (docs/PROFILE.md, The barrier).
+    ///
+    /// The place is empty before the call, so no buffer is lost. After it, `completed` has the buffer
+    /// if `fill` is `Full`, and is empty otherwise. A store that fills no log moves no buffer.
     #[inline(always)]
-    pub fn store_with_room(&mut self, log: &mut Log, slot: Slot, target: Option<Slot>) -> StoreReply
-        requires room { length log.old.cards + 1 < log.old.size }
+    pub fn store_into(
+        &mut self,
+        log: &mut Log,
+        completed: &mut Option<Buffer>,
+        slot: Slot,
+        target: Option<Slot>,
+    ) -> StoreReply
+        requires empty { IsNone completed.old }
         requires slot { slot < slot_count self.old.state.table.layout }
         requires target { IfSome target (λ place. place < slot_count self.old.state.table.layout) }
-        ensures reply { result ≡ unfilled (kind_of self.old.state.table slot target) }
+        ensures kind { result.kind ≡ kind_of self.old.state.table slot target }
+        ensures plain { (result.refined ≡ []) × (result.short ≡ false) }
+        ensures fill { result.fill ≡ fill_of completed.new }
         ensures machine { self.new ≡ stored_machine self.old slot target }
         ensures log { log.new ≡ logged result.kind log.old
             (card_of self.old.state.table.layout slot) }
+        ensures buffer { completed.new
+            ≡ buffer_of result.kind log.old (card_of self.old.state.table.layout slot) }
         ensures step { (caller : ℕ)
             → IsStep self.old.state.table (store_entry caller slot target result)
             self.new.state.table }
         ensures cover { IsCovered self.new.state.table }
         ensures later { IsLater self.old self.new }
     {
-        let (kind, dirtied) = self.mark(slot, target);
-        if let Some(card) = dirtied {
-            log.add(card);
-        }
-        plain_reply(self.alloc, kind, Fill::No)
+        let (kind, dirtied) = self.store_unlogged(slot, target);
+        let Some(card) = dirtied else {
+            return plain_reply(self.alloc, kind, Fill::No);
+        };
+        let fill = push_into(log, completed, card);
+        plain_reply(self.alloc, kind, fill)
     }
 
-    // What a store does besides the log: the slot gets the target, and the card of a logged store
-    // becomes dirty and is returned.
+    /// Makes the same store as `store` without a log, for a runtime that keeps the cards itself: a
+    /// logged store returns its card, which is dirty then, and every other `None` (docs/PROFILE.md,
+    /// The barrier).
+    ///
+    /// The marks alone say which cards are pending, so a card that the runtime forgets is still
+    /// refined by the next pause. The call takes no memory, reads no slot, and takes constant time.
     #[inline(always)]
-    fn mark(&mut self, slot: Slot, target: Option<Slot>) -> (Kind, Option<Card>)
+    pub fn store_unlogged(&mut self, slot: Slot, target: Option<Slot>) -> (Kind, Option<Card>)
         requires slot { slot < slot_count self.old.state.table.layout }
         requires target { IfSome target (λ place. place < slot_count self.old.state.table.layout) }
         ensures kind { result.0 ≡ kind_of self.old.state.table slot target }
@@ -130,6 +149,9 @@ impl Core {
             (result.0 ≡ Kind.Logged) × (card ≡ card_of self.old.state.table.layout slot)) }
         ensures none { IsNone result.1 → result.0 ≢ Kind.Logged }
         ensures machine { self.new ≡ stored_machine self.old slot target }
+        ensures step { (caller : ℕ)
+            → IsStep self.old.state.table (store_entry caller slot target (unfilled result.0))
+            self.new.state.table }
         ensures cover { IsCovered self.new.state.table }
         ensures later { IsLater self.old self.new }
     {
@@ -142,6 +164,22 @@ impl Core {
         self.pending += 1;
         (kind, Some(card))
     }
+}
+
+/// Appends a card to the log. If that fills the log, its cards go into the place.
+#[inline(always)]
+fn push_into(log: &mut Log, completed: &mut Option<Buffer>, card: Card) -> Fill
+    requires empty { IsNone completed.old }
+    ensures fill { result ≡ fill_of completed.new }
+    ensures log { log.new ≡ pushed log.old card }
+    ensures buffer { completed.new ≡ handed log.old card }
+{
+    if log.has_room() {
+        log.add(card);
+        return Fill::No;
+    }
+    *completed = log.push(card);
+    Fill::Full
 }
 
 /// The reply of a store, which refines nothing.

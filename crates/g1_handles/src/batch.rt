@@ -11,8 +11,7 @@ use crate::handle::Handle;
 use crate::store::reference;
 use arrayvec::ArrayVec;
 use g1_core::Core;
-use g1_layout::{Card, Kind};
-use g1_log::Log;
+use g1_layout::Card;
 use std::alloc::Global;
 
 /// One store: a slot and its target.
@@ -123,10 +122,6 @@ fn store_next(core: &mut Core, store: Store) -> Option<Option<Card>>
     let layout = core.layout();
     let slot = layout.slot(store.slot)?;
     let target = reference(layout, store.target)?;
-    let mut log = Log::new(256);
-    let (reply, _buffer) = core.store(&mut log, slot, target);
-    match reply.kind {
-        Kind::Logged => Some(Some(layout.card_of(slot))),
-        Kind::Null | Kind::SameRegion | Kind::AlreadyDirty => Some(None),
-    }
+    let (_kind, dirtied) = core.store_unlogged(slot, target);
+    Some(dirtied)
 }

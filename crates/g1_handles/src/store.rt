@@ -11,7 +11,6 @@ use crate::code::{NULL, Refusal};
 use crate::handle::Handle;
 use g1_core::Core;
 use g1_layout::{Kind, Layout, Slot};
-use g1_log::Log;
 use std::alloc::Global;
 
 /// Stores a target into a slot at the core of a handle, which stays open. Returns the kind of the
@@ -48,9 +47,8 @@ fn store_one(core: &mut Core, slot: u32, target: u32) -> Result<Kind, Refusal>
     let Some(target) = reference(layout, target) else {
         return Err(Refusal::NoSlot);
     };
-    let mut log = Log::new(256);
-    let (reply, _buffer) = core.store(&mut log, slot, target);
-    Ok(reply.kind)
+    let (kind, _dirtied) = core.store_unlogged(slot, target);
+    Ok(kind)
 }
 
 /// The reference of a word, or `None` if the heap has no such slot.

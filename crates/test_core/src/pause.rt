@@ -23,38 +23,52 @@ fn the_barrier_has_four_kinds_of_store(rt: HostRuntime) -> Result<(), Fail> {
     play(&rt, rt.alloc(), 4, 4, &steps)
 }
 
-/// Stores into a log that has room, which is answered the kind and no buffer.
-fn store_with_room(
-    rt: &impl Abort,
-    core: &mut Core,
-    log: &mut Log,
-    (from, to): (u32, u32),
-    kind: Kind,
-) {
-    assert!(rt; log.has_room());
-    let from = slot(rt, core, from);
-    let to = slot(rt, core, to);
-    let reply = core.store_with_room(log, from, Some(to));
-    assert_eq!(rt; (reply.kind, reply.fill), (kind, No));
-}
-
-// The third card would fill the log.
+// The third card fills the log, whose cards go into the lent place.
 #[test]
-fn a_log_of_three_has_room_for_two_cards(rt: HostRuntime) -> Result<(), Fail> {
+fn a_filled_log_goes_into_the_lent_place(rt: HostRuntime) -> Result<(), Fail> {
     let layout = Layout::new(4, 2, 4).ok_or("layout")?;
     let config = Config::new(3, 4, 4, 4, 5).ok_or("settings")?;
     let mut core = Core::new(rt.alloc(), layout, config)?;
     let mut log = Log::new(3);
-    for (from, to, kind) in [
-        (0, 8, Logged),
-        (1, 8, AlreadyDirty),
-        (4, 5, SameRegion),
-        (4, 8, Logged),
+    let mut completed = None;
+    for (from, to, kind, fill) in [
+        (0, 8, Logged, No),
+        (1, 8, AlreadyDirty, No),
+        (4, 5, SameRegion, No),
+        (4, 8, Logged, No),
+        (8, 0, Logged, Full),
     ] {
-        store_with_room(&rt, &mut core, &mut log, (from, to), kind);
+        assert!(rt; completed.is_none());
+        let from = slot(&rt, &core, from);
+        let to = slot(&rt, &core, to);
+        let reply = core.store_into(&mut log, &mut completed, from, Some(to));
+        assert_eq!(rt; (reply.kind, reply.fill), (kind, fill));
     }
-    assert!(rt; !log.has_room());
-    assert!(rt; numbers_of(&rt, log.cards()).as_slice() == [0, 1].as_slice());
+    let buffer = completed.ok_or("a completed buffer")?;
+    assert!(rt; numbers_of(&rt, buffer.cards()).as_slice() == [0, 1, 2].as_slice());
+    assert!(rt; log.is_empty());
+    Ok(())
+}
+
+// A runtime that keeps the cards itself: two of them, and each once.
+#[test]
+fn a_store_without_a_log_tells_its_card(rt: HostRuntime) -> Result<(), Fail> {
+    let layout = Layout::new(4, 2, 4).ok_or("layout")?;
+    let config = Config::new(3, 4, 4, 4, 5).ok_or("settings")?;
+    let mut core = Core::new(rt.alloc(), layout, config)?;
+    for (from, to, kind, number) in [
+        (0, 8, Logged, Some(0)),
+        (1, 8, AlreadyDirty, None),
+        (4, 5, SameRegion, None),
+        (8, 0, Logged, Some(2)),
+    ] {
+        let from = slot(&rt, &core, from);
+        let to = slot(&rt, &core, to);
+        let (found, dirtied) = core.store_unlogged(from, Some(to));
+        assert_eq!(rt; found, kind);
+        assert_eq!(rt; dirtied.map(|card| card.number()), number);
+    }
+    assert_eq!(rt; core.status().pending, 2);
     Ok(())
 }
 

@@ -5,9 +5,10 @@ use Rattle.g1_layout.specs.declared.kind.Kind.TheVariants.{Logged}
 use Rattle.g1_heap.specs.declared.mark.Mark.TheVariants.{Dirty}
 use Rattle.g1_heap.specs.Cells.{Cells, with_mark}
 use Rattle.g1_core.specs.Machine.{Machine}
-use Rattle.g1_core.proofs.StoreLemmas.{logged_at, plain_at, IsStored, few_cards}
+use Rattle.g1_core.specs.Barrier.{unfilled}
+use Rattle.g1_core.proofs.StoreLemmas.{logged_at, plain_at, IsStored, few_cards, stored_step}
 use Rattle.g1_core.proofs.SoundLemmas.{stored_later}
-use Rattle.g1_core.proofs.machinery.Core.mark.Goals as goal
+use Rattle.g1_core.proofs.machinery.Core.store_unlogged.Goals as goal
 
 pub overflow_add-self : goal.overflow_add-self
 overflow_add-self c = omega (arith, few_cards c.self.inside.heap c.self.inside.sets c.self.inside.hot c.self.inside.pending c.self.invariant)
@@ -36,6 +37,9 @@ invariant_of-self-2 c = (logged c).core
 pub returns-clause-machine : goal.returns-clause-machine
 returns-clause-machine c = (logged c).machine
 
+pub returns-clause-step : goal.returns-clause-step
+returns-clause-step c = λ caller. stored_step caller c.args.self.now.state.table _ c.args.slot c.args.target (unfilled c.kind-kind.result.0) (c.requires.slot, c.requires.target) c.kind-kind.ensures.kind refl (ap (λ (m : Machine). m.state.table) (logged c).machine)
+
 pub returns-clause-cover : goal.returns-clause-cover
 returns-clause-cover c = (logged c).core.parts.cover
 
@@ -55,6 +59,9 @@ invariant_of-self c = (plain c).core
 
 pub returns-in_default-clause-machine : goal.returns-in_default-clause-machine
 returns-in_default-clause-machine c = (plain c).machine
+
+pub returns-in_default-clause-step : goal.returns-in_default-clause-step
+returns-in_default-clause-step c = λ caller. stored_step caller c.args.self.now.state.table _ c.args.slot c.args.target (unfilled c.kind-kind.result.0) (c.requires.slot, c.requires.target) c.kind-kind.ensures.kind refl (ap (λ (m : Machine). m.state.table) (plain c).machine)
 
 pub returns-in_default-clause-cover : goal.returns-in_default-clause-cover
 returns-in_default-clause-cover c = (plain c).core.parts.cover
