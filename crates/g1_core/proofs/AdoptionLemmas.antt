@@ -12,7 +12,7 @@ use Rattle.g1_heap.specs.Cells.{Cells, AreCells}
 use Rattle.g1_sets.specs.Pairs.{Pairs}
 use Rattle.g1_hot.specs.Ring.{Ring, new_ring}
 use Rattle.g1_core.specs.Table.{Table, IsCovered, AreOutside}
-use Rattle.g1_core.specs.Settings.{Settings}
+use Rattle.g1_core.specs.declared.config.Settings.{Settings}
 use Rattle.g1_core.specs.Machine.{IsCore, AreParts, pending_of, table_from, machine_from}
 use Rattle.g1_core.specs.Adoption.{IsPairOf, mark_for, marks_for, table_with, adopted_machine}
 use Rattle.g1_core.proofs.SetLemmas.{All_by_member, in_pairs, to_pairs}

@@ -13,7 +13,7 @@ use Rattle.g1_heap.specs.Cells.{Cells}
 use Rattle.g1_sets.specs.Pairs.{Pairs, AreTied, list_at, without}
 use Rattle.g1_hot.specs.Ring.{Ring}
 use Rattle.g1_core.specs.Table.{Table, Enters, IsCovered, IsRecorded, AreOutside}
-use Rattle.g1_core.specs.Settings.{Settings}
+use Rattle.g1_core.specs.declared.config.Settings.{Settings}
 use Rattle.g1_core.specs.Machine.{Machine, IsCore, AreParts, pending_of, table_from, machine_from}
 use Rattle.g1_core.specs.declared.entry.Call.TheVariants.{Clear}
 use Rattle.g1_core.specs.declared.entry.Reply.TheVariants as reply

@@ -8,7 +8,7 @@ use Rattle.g1_heap.specs.declared.mark.Mark.TheVariants.{Clean, Dirty}
 use Rattle.g1_heap.specs.Cells.{Cells, with_mark, with_reads, HasNoDirty, IsFirstDirty}
 use Rattle.g1_sets.specs.Pairs.{Pairs}
 use Rattle.g1_hot.specs.Ring.{Ring, popped}
-use Rattle.g1_core.specs.Settings.{Settings}
+use Rattle.g1_core.specs.declared.config.Settings.{Settings}
 use Rattle.g1_core.specs.Table.{Table, IsPending, refined}
 use Rattle.g1_core.specs.Machine.{State, Machine, AreParts, IsCore, table_from, state_from, machine_from, pending_of, gained}
 use Rattle.g1_core.specs.Turns.{is_dirty}

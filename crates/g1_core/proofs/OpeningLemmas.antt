@@ -14,7 +14,7 @@ use Rattle.g1_heap.specs.Cells.{new_cells, Cells}
 use Rattle.g1_sets.specs.Pairs.{Pairs, new_pairs}
 use Rattle.g1_hot.specs.Ring.{Ring, new_ring}
 use Rattle.g1_core.specs.Table.{Table, IsCovered, AreRefinable, refined, opening}
-use Rattle.g1_core.specs.Settings.{Settings}
+use Rattle.g1_core.specs.declared.config.Settings.{Settings}
 use Rattle.g1_core.specs.Machine.{new_machine, State, IsCore, AreParts, pending_of, state_from, machine_from}
 use Rattle.g1_core.specs.Run.{IsStep}
 use Rattle.g1_core.specs.declared.reply.RefineReply.{RefineReply}

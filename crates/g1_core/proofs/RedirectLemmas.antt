@@ -17,7 +17,7 @@ use Rattle.g1_heap.specs.Cells.{Cells, reads_after}
 use Rattle.g1_layout.specs.Sets.{PairSet}
 use Rattle.g1_hot.specs.Ring.{Ring, reset}
 use Rattle.g1_sets.specs.Pairs.{Pairs, AreTied, list_at, of_region, without}
-use Rattle.g1_core.specs.Settings.{Settings}
+use Rattle.g1_core.specs.declared.config.Settings.{Settings}
 use Rattle.g1_core.specs.Clearing.{AreRead, member_count}
 use Rattle.g1_core.specs.declared.reply.Redirected.TheVariants as answers
 use Rattle.g1_core.specs.Calls.{redirect_entry}

@@ -13,7 +13,7 @@ use Rattle.g1_hot.specs.declared.offer.Offer.TheVariants.{Cold, Kept, Out}
 use Rattle.g1_hot.specs.Ring.{Ring, answer, offered, cards_after, popped}
 use Rattle.g1_layout.specs.Sets.{PairSet}
 use Rattle.g1_core.specs.Table.{refined}
-use Rattle.g1_core.specs.Settings.{Settings}
+use Rattle.g1_core.specs.declared.config.Settings.{Settings}
 use Rattle.g1_core.specs.Machine.{Machine, State, IsCore, AreParts, pending_of, table_from, state_from, machine_from, gained}
 use Rattle.g1_core.specs.Turns.{Round, turn_by, turn, turns, start, offer_to, state_after, refined_by, hot_by, skipped_by}
 use Rattle.g1_core.proofs.MarkLemmas.{held_clean, dirty_clean, to_pending, is_card, mark_there, some_member}

@@ -3,7 +3,7 @@ use Rattle.std.proofs.Common.{◌≡◌, ◌∙◌, ℕ, ◌<◌, ◌≤◌, len
 use Rattle.g1_sets.specs.Pairs.{Pairs}
 use Rattle.g1_heap.specs.Cells.{Cells}
 use Rattle.g1_hot.specs.Ring.{Ring}
-use Rattle.g1_core.specs.Settings.{Settings}
+use Rattle.g1_core.specs.declared.config.Settings.{Settings}
 use Rattle.g1_core.specs.Table.{Table}
 use Rattle.g1_core.specs.Machine.{State, Machine, IsCore, IsSound, IsLater, state_from, machine_from}
 use Rattle.g1_core.specs.declared.entry.Entry.{Entry}

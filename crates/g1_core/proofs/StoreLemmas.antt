@@ -17,7 +17,7 @@ use Rattle.g1_heap.specs.Cells.{Cells, AreCells, with_ref, with_mark}
 use Rattle.g1_sets.specs.Pairs.{Pairs}
 use Rattle.g1_hot.specs.Ring.{Ring}
 use Rattle.g1_core.specs.Table.{Table, IsCovered, AreRefinable, refined}
-use Rattle.g1_core.specs.Settings.{Settings}
+use Rattle.g1_core.specs.declared.config.Settings.{Settings}
 use Rattle.g1_core.specs.Machine.{Machine, State, IsCore, AreParts, pending_of, table_from, state_from, machine_from}
 use Rattle.g1_core.specs.declared.entry.Call.TheVariants.{Store}
 use Rattle.g1_core.specs.Run.{IsStep, IsCallOf, kind_of, stored, pending_after}

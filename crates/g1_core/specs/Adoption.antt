@@ -6,7 +6,7 @@ use Rattle.g1_heap.specs.declared.mark.Mark.{Mark}
 use Rattle.g1_heap.specs.declared.mark.Mark.TheVariants.{Clean, Dirty}
 use Rattle.g1_hot.specs.Ring.{new_ring}
 use Rattle.g1_core.specs.Table.{Table}
-use Rattle.g1_core.specs.Settings.{Settings}
+use Rattle.g1_core.specs.declared.config.Settings.{Settings}
 use Rattle.g1_core.specs.Machine.{Machine, pending_of}
 
 -- a marked card is dirty, and every other one is clean

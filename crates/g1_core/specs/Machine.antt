@@ -13,7 +13,8 @@ use Rattle.g1_heap.specs.Cells.{Cells, AreCells}
 use Rattle.g1_sets.specs.Pairs.{Pairs}
 use Rattle.g1_hot.specs.Ring.{Ring, ring_code, new_ring}
 use Rattle.g1_core.specs.Table.{Table, IsCovered, IsPending, AreOutside, refined, opening}
-use Rattle.g1_core.specs.Settings.{Settings, settings_code}
+use Rattle.g1_core.specs.declared.config.Settings.{Settings}
+use Rattle.g1_core.specs.Settings.{settings_code}
 
 -- what a refusal leaves as it was
 pub record State : Type 0 where

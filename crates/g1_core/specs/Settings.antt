@@ -2,14 +2,8 @@
 use Rattle.std.specs.Prelude.{ℕ, ◌≤◌, refl}
 use Rattle.std.specs.Coded.{Coded, code_by, coded×, coded_ℕ}
 use Rattle.g1_core.specs.declared.config.Limits.{Limits}
+use Rattle.g1_core.specs.declared.config.Settings.{Settings}
 use Rattle.g1_core.specs.declared.config.TheConstants.Config.{LOG, LIMIT, HOT, RING, START}
-
-pub record Settings : Type 0 where
-  pub log : ℕ  -- how many cards fill a log
-  pub limit : ℕ  -- how many completed buffers the line holds
-  pub hot : ℕ  -- the count from which on a card is hot
-  pub ring : ℕ  -- how many cards the hot ring holds
-  pub start : ℕ  -- at how many completed buffers a round begins
 
 abbrev pub IsWithin : Limits → ℕ → Type 0
 IsWithin limits number = (limits.least ≤ number) × (number ≤ limits.most)

@@ -2,7 +2,8 @@
 ghost use Rattle.std.specs.Prelude.{◌≡◌, ◌↔◌, [], IsTrue};
 ghost use Rattle.std.specs.Option.{SomeIff};
 ghost use Rattle.g1_log.specs.Log.{Cards};
-ghost use Rattle.g1_core.specs.Settings.{Settings, AreSettings, IsWithin, default_settings};
+ghost use Rattle.g1_core.specs.declared.config.Settings.{Settings as Chosen};
+ghost use Rattle.g1_core.specs.Settings.{AreSettings, IsWithin, default_settings};
 
 use g1_log::Log;
 use std::marker::Model;
@@ -27,44 +28,55 @@ impl Limits {
     }
 }
 
+/// Numbers for the settings of a core, by their names: those that a program chooses, and the
+/// defaults for the rest, as `Settings { log: 64, ..Settings::default() }`. [`Config::of`] tests
+/// them.
+#[derive(Clone, Copy, Debug, PartialEq, Eq)]
+pub struct Settings {
+    /// How many cards fill a log ([`Config::LOG`]).
+    pub log: usize,
+    /// How many completed buffers their queue holds at most ([`Config::LIMIT`]).
+    pub limit: usize,
+    /// The count of refinements from which on a card is hot ([`Config::HOT`]).
+    pub hot: u32,
+    /// How many cards the hot ring holds at most ([`Config::RING`]).
+    pub ring: usize,
+    /// At how many completed buffers a round of refinement begins ([`Config::START`]).
+    pub start: usize,
+}
+
+impl Default for Settings {
+    ghost is_default = { λ s. s ≡ default_settings };
+
+    /// The defaults of all settings.
+    fn default() -> Settings {
+        Settings {
+            log: Config::LOG.default as usize,
+            limit: Config::LIMIT.default as usize,
+            hot: Config::HOT.default,
+            ring: Config::RING.default as usize,
+            start: Config::START.default as usize,
+        }
+    }
+}
+
 /// The settings of a core, each within its limits (docs/PROFILE.md, Limits).
 #[derive(Clone, Copy, Debug, PartialEq, Eq)]
 pub struct Config {
-    log: usize,
-    limit: usize,
-    hot: u32,
-    ring: usize,
-    start: usize,
+    settings: Settings,
 }
 
 impl Model for Config {
-    ghost use Rattle.g1_core.specs.Settings.{Settings, AreSettings};
+    ghost use Rattle.g1_core.specs.Settings.{AreSettings};
+    ghost use Rattle.g1_core.specs.declared.config.Settings.{Settings as Chosen};
 
-    ghost Value = { Settings };
+    ghost Value = { Chosen };
 
-    ghost view = { λ a. record {
-      log = a.log;
-      limit = a.limit;
-      hot = a.hot;
-      ring = a.ring;
-      start = a.start;
-    } };
+    ghost view = { λ a. a.settings };
 
-    ghost invariant = { λ a. AreSettings (record {
-      log = a.log;
-      limit = a.limit;
-      hot = a.hot;
-      ring = a.ring;
-      start = a.start;
-    }) };
+    ghost invariant = { λ a. AreSettings a.settings };
 
-    ghost inverse = { λ s. record {
-      log = s.log;
-      limit = s.limit;
-      hot = s.hot;
-      ring = s.ring;
-      start = s.start;
-    } };
+    ghost inverse = { λ s. record { settings = s } };
 }
 
 impl Config {
@@ -104,13 +116,11 @@ impl Config {
         default: 5,
     };
 
-    /// Makes settings of these numbers: `log` in cards ([`Config::LOG`]), `limit` in completed
-    /// buffers ([`Config::LIMIT`]), `hot` in refinements of a card ([`Config::HOT`]), `ring` in
-    /// cards ([`Config::RING`]), `start` in completed buffers ([`Config::START`]).
+    /// Makes settings of these numbers, in the order of the fields of [`Settings`].
     ///
     /// Returns `None` exactly if one of them is outside its limits.
     pub fn new(log: usize, limit: usize, hot: u32, ring: usize, start: usize) -> Option<Config>
-        ensures { let s : Settings = record {
+        ensures { let s : Chosen = record {
           log = log;
           limit = limit;
           hot = hot;
@@ -118,15 +128,7 @@ impl Config {
           start = start;
         } in SomeIff result (AreSettings s) s }
     {
-        let within = Config::LOG.contain(log)
-            && Config::LIMIT.contain(limit)
-            && Config::HOT.contain(hot as usize)
-            && Config::RING.contain(ring)
-            && Config::START.contain(start);
-        if !within {
-            return None;
-        }
-        Some(Config {
+        Config::of(Settings {
             log,
             limit,
             hot,
@@ -135,12 +137,29 @@ impl Config {
         })
     }
 
+    /// Makes settings of these numbers, which name what they are for.
+    ///
+    /// Returns `None` exactly if one of them is outside its limits.
+    pub fn of(settings: Settings) -> Option<Config>
+        ensures { SomeIff result (AreSettings settings) settings }
+    {
+        let within = Config::LOG.contain(settings.log)
+            && Config::LIMIT.contain(settings.limit)
+            && Config::HOT.contain(settings.hot as usize)
+            && Config::RING.contain(settings.ring)
+            && Config::START.contain(settings.start);
+        if !within {
+            return None;
+        }
+        Some(Config { settings })
+    }
+
     /// How many cards fill a log.
     pub fn log(&self) -> usize
         ensures cards { result ≡ self.now.log }
         ensures within { IsWithin Config.LOG result }
     {
-        self.log
+        self.settings.log
     }
 
     /// How many completed buffers their queue holds at most.
@@ -148,7 +167,7 @@ impl Config {
         ensures buffers { result ≡ self.now.limit }
         ensures within { IsWithin Config.LIMIT result }
     {
-        self.limit
+        self.settings.limit
     }
 
     /// The count of refinements from which on a card is hot.
@@ -156,7 +175,7 @@ impl Config {
         ensures count { result ≡ self.now.hot }
         ensures within { IsWithin Config.HOT result }
     {
-        self.hot
+        self.settings.hot
     }
 
     /// How many cards the hot ring holds at most.
@@ -164,7 +183,7 @@ impl Config {
         ensures cards { result ≡ self.now.ring }
         ensures within { IsWithin Config.RING result }
     {
-        self.ring
+        self.settings.ring
     }
 
     /// At how many completed buffers a round of refinement begins.
@@ -172,14 +191,14 @@ impl Config {
         ensures buffers { result ≡ self.now.start }
         ensures within { IsWithin Config.START result }
     {
-        self.start
+        self.settings.start
     }
 
     /// Makes an empty log for a mutator. As many cards fill it as these settings say.
     pub fn new_log(&self) -> Log
         ensures { let log : Cards = record { size = self.now.log; cards = [] } in result ≡ log }
     {
-        Log::new(self.log)
+        Log::new(self.settings.log)
     }
 }
 
@@ -190,11 +209,7 @@ impl Default for Config {
     /// on, the ring holds 1,024 cards, and a round begins at 5 completed buffers.
     fn default() -> Config {
         Config {
-            log: Config::LOG.default as usize,
-            limit: Config::LIMIT.default as usize,
-            hot: Config::HOT.default,
-            ring: Config::RING.default as usize,
-            start: Config::START.default as usize,
+            settings: Settings::default(),
         }
     }
 }

@@ -27,7 +27,7 @@ pub mod redirection;
 pub mod refinement;
 pub mod reply;
 
-pub use config::{Config, Limits};
+pub use config::{Config, Limits, Settings};
 pub use entry::{Call, Entry, Reply};
 pub use g1_layout::{Card, Kind, Layout, NoMemory, Region, Slot};
 pub use g1_log::{Buffer, Log};

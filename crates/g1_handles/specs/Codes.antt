@@ -5,7 +5,7 @@ use Rattle.g1_layout.specs.declared.kind.Kind.{Kind}
 use Rattle.g1_layout.specs.declared.kind.Kind.TheVariants.{Null, SameRegion, AlreadyDirty, Logged}
 use Rattle.g1_core.specs.declared.reply.ClearReply.{ClearReply}
 use Rattle.g1_core.specs.declared.reply.ClearReply.TheVariants.{Cleared, Pending, StillReferenced}
-use Rattle.g1_core.specs.Settings.{Settings}
+use Rattle.g1_core.specs.declared.config.Settings.{Settings}
 use Rattle.g1_core.specs.Machine.{Machine}
 use Rattle.g1_core.specs.Run.{stored}
 use Rattle.g1_handles.specs.declared.calls.Counts.{Counts}

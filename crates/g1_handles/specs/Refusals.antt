@@ -2,7 +2,8 @@
 use Rattle.std.specs.Prelude.{◌≡◌, ◌⊎◌, ◌<◌, ◌≤◌, ◌^◌, ℕ, List, length, All, Option, None, IsSome}
 use Rattle.arrayvec.specs.ArrayVec.{array_vec_len}
 use Rattle.g1_layout.specs.Shape.{Shape, IsShape, slot_count, card_count}
-use Rattle.g1_core.specs.Settings.{Settings, AreSettings}
+use Rattle.g1_core.specs.declared.config.Settings.{Settings}
+use Rattle.g1_core.specs.Settings.{AreSettings}
 use Rattle.g1_core.specs.Machine.{Machine}
 use Rattle.g1_race.specs.Members.{race_layout}
 use Rattle.g1_handles.specs.declared.code.Refusal.{Refusal}

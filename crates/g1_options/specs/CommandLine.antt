@@ -8,7 +8,7 @@ use Rattle.clap.specs.Simple.{on_top}
 use Rattle.clap.specs.declared.builder.command.Command.{Command}
 use Rattle.clap.specs.declared.builder.command.Command.TheViews.{out-Command}
 use Rattle.clap.specs.declared.builder.value_parser.ValueParser.TheVariants.{Signed}
-use Rattle.g1_core.specs.Settings.{Settings}
+use Rattle.g1_core.specs.declared.config.Settings.{Settings}
 use Rattle.g1_trace.specs.declared.mode.Mode.{Mode}
 use Rattle.g1_trace.specs.declared.mode.Mode.TheVariants.{Run, Crew, Race}
 use Rattle.g1_options.specs.declared.options.Options.{Options}

@@ -1,7 +1,7 @@
 -- Pieces behind pieces, and plays that follow each other.
 use Rattle.std.proofs.Common.{◌≡◌, ℕ, List, [], ◌∷◌, ◌++◌, refl, sym, ◌∙◌, ap, subst, append_assoc}
 use Rattle.std.proofs.Common.{append-nil}
-use Rattle.g1_core.specs.Settings.{Settings}
+use Rattle.g1_core.specs.declared.config.Settings.{Settings}
 use Rattle.g1_core.specs.declared.entry.Entry.{Entry}
 use Rattle.g1_book.specs.History.{History, Terms, layout_in}
 use Rattle.g1_steps.specs.Lent.{Grows}

@@ -1,5 +1,5 @@
 use Rattle.std.proofs.Common.{◌≡◌, ◌<◌, ◌∙◌, ℕ, ap, subst, slice_index_or}
-use Rattle.g1_core.specs.Settings.{Settings}
+use Rattle.g1_core.specs.declared.config.Settings.{Settings}
 use Rattle.g1_book.specs.History.{Terms}
 use Rattle.g1_shared.specs.Callers.{Standing, IsNewCaller}
 use Rattle.g1_shared.proofs.shared.core_opening.SharedCore+M+S.open_core.Goals as goal
