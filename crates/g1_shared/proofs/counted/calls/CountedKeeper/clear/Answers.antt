@@ -7,30 +7,9 @@ use Rattle.g1_shared.proofs.counted.calls.CountedKeeper.clear.Goals as goal
 pub clear-requires : goal.clear-requires
 clear-requires g c = known (λ (l : Shape). c.args.region < l.regions) _ c.self.inside.book c.self.invariant.2 c.requires
 
-pub raise_made-requires : goal.raise_made-requires
-raise_made-requires g c = record { fits = total_fits _ _ _ _ _ _ c.self.invariant c.in_ok-answer.ensures.entered c.entries-entries.ensures.history }
-
-pub invariant_of-self : goal.invariant_of-self
-invariant_of-self g c = same_counted _ _ _ _ _ c.self.invariant c.in_err-answer.ensures.err
-
-pub invariant_of-self-2 : goal.invariant_of-self-2
-invariant_of-self-2 g c = call_counted _ _ _ _ _ _ _ c.self.invariant c.in_ok-answer.ensures.entered refl c.raise_made.ensures.total
-
-pub invariant_of-caller : goal.invariant_of-caller
-invariant_of-caller g c = still_some _ _ _ _ c.caller.invariant c.raise_made.ensures.counts
-
 -- a refused call leaves book and caller as they were
-pub returns-in_err-answer-clause-entered : goal.returns-in_err-answer-clause-entered
-returns-in_err-answer-clause-entered g c = if_refused _ _ c.from_residual.ensures.0
-
 pub returns-in_err-answer-clause-reads : goal.returns-in_err-answer-clause-reads
 returns-in_err-answer-clause-reads g c = reads_as _ c.self.inside.book c.args.self.now c.clear.new.self _ c.self.invariant.2 c.self.view_is c.in_err-answer.ensures.reads
-
-pub returns-in_err-answer-clause-ok : goal.returns-in_err-answer-clause-ok
-returns-in_err-answer-clause-ok g c = on_refused _ _ c.from_residual.ensures.0
-
-pub returns-in_err-answer-clause-err : goal.returns-in_err-answer-clause-err
-returns-in_err-answer-clause-err g c = err_refused _ _ _ _ _ c.self.view_is c.in_err-answer.ensures.err
 
 -- one call more
 pub returns-clause-entered : goal.returns-clause-entered
@@ -38,9 +17,3 @@ returns-clause-entered g c = entered_by _ _ _ _ _ _ (λ n. clear_entry n c.args.
 
 pub returns-clause-reads : goal.returns-clause-reads
 returns-clause-reads g c = reads_as _ c.self.inside.book c.args.self.now c.clear.new.self _ c.self.invariant.2 c.self.view_is c.in_ok-answer.ensures.reads
-
-pub returns-clause-ok : goal.returns-clause-ok
-returns-clause-ok g c = called _ _ _ _ _ c.caller.view_is c.raise_made.ensures.counts
-
-pub returns-clause-full : goal.returns-clause-full
-returns-clause-full g c = full_as _ _ _ c.self.view_is c.in_ok-answer.ensures.full
