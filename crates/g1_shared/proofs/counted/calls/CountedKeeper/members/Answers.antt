@@ -2,7 +2,7 @@ use Rattle.std.proofs.Common.{◌<◌, refl}
 use Rattle.g1_layout.specs.Shape.{Shape}
 use Rattle.g1_core.specs.Calls.{members_entry}
 use Rattle.g1_shared.proofs.CallLemmas.{same_counted, call_counted, total_fits, entered_by, called, full_as, still_some, known, if_refused, on_refused, err_refused}
-use Rattle.g1_shared.proofs.counted.Counted.members.Goals as goal
+use Rattle.g1_shared.proofs.counted.calls.CountedKeeper.members.Goals as goal
 
 pub members-requires : goal.members-requires
 members-requires g c = known (λ (l : Shape). c.args.region < l.regions) _ c.self.inside.book c.self.invariant.2 c.requires
@@ -23,8 +23,8 @@ invariant_of-caller g c = still_some _ _ _ _ c.caller.invariant c.raise_made.ens
 pub returns-in_err-cards-clause-entered : goal.returns-in_err-cards-clause-entered
 returns-in_err-cards-clause-entered g c = if_refused _ _ c.from_residual.ensures.0
 
-pub returns-in_err-cards-clause-made : goal.returns-in_err-cards-clause-made
-returns-in_err-cards-clause-made g c = on_refused _ _ c.from_residual.ensures.0
+pub returns-in_err-cards-clause-ok : goal.returns-in_err-cards-clause-ok
+returns-in_err-cards-clause-ok g c = on_refused _ _ c.from_residual.ensures.0
 
 pub returns-in_err-cards-clause-err : goal.returns-in_err-cards-clause-err
 returns-in_err-cards-clause-err g c = err_refused _ _ _ _ _ c.self.view_is c.in_err-cards.ensures.err
@@ -33,8 +33,8 @@ returns-in_err-cards-clause-err g c = err_refused _ _ _ _ _ c.self.view_is c.in_
 pub returns-clause-entered : goal.returns-clause-entered
 returns-clause-entered g c = entered_by _ _ _ _ _ _ (λ n. members_entry n c.args.region c.in_ok-cards.cards) c.self.view_is c.caller.view_is c.number.ensures c.in_ok-cards.ensures.entered
 
-pub returns-clause-made : goal.returns-clause-made
-returns-clause-made g c = called _ _ _ _ _ c.caller.view_is c.raise_made.ensures.counts
+pub returns-clause-ok : goal.returns-clause-ok
+returns-clause-ok g c = called _ _ _ _ _ c.caller.view_is c.raise_made.ensures.counts
 
 pub returns-clause-full : goal.returns-clause-full
 returns-clause-full g c = full_as _ _ _ c.self.view_is c.in_ok-cards.ensures.full

@@ -1,9 +1,8 @@
-use Rattle.std.proofs.Common.{refl, ap}
-use Rattle.g1_core.specs.declared.reply.StoreReply.{StoreReply}
+use Rattle.std.proofs.Common.{refl}
 use Rattle.g1_core.specs.Calls.{store_entry}
 use Rattle.g1_shared.proofs.CallLemmas.{same_counted, store_counted, total_fits, entered_of, store_tallied, full_as, if_refused, on_refused}
 use Rattle.g1_shared.proofs.KindLemmas.{kind_at}
-use Rattle.g1_shared.proofs.counted.Counted.store_with_room_by.Goals as goal
+use Rattle.g1_shared.proofs.counted.calls.CountedKeeper.store_by.Goals as goal
 
 pub invariant_of-self : goal.invariant_of-self
 invariant_of-self g c = same_counted _ _ _ _ _ c.self.invariant c.in_err-reply.ensures.err.0
@@ -21,8 +20,14 @@ invariant_of-counts g c = (c.raise.ensures.parts, c.raise.ensures.amount, c.rais
 pub returns-in_err-reply-clause-entered : goal.returns-in_err-reply-clause-entered
 returns-in_err-reply-clause-entered g c = if_refused _ _ c.from_residual.ensures.0
 
-pub returns-in_err-reply-clause-reply : goal.returns-in_err-reply-clause-reply
-returns-in_err-reply-clause-reply g c = if_refused _ _ c.from_residual.ensures.0
+pub returns-in_err-reply-clause-fill : goal.returns-in_err-reply-clause-fill
+returns-in_err-reply-clause-fill g c = if_refused _ _ c.from_residual.ensures.0
+
+pub returns-in_err-reply-clause-plain : goal.returns-in_err-reply-clause-plain
+returns-in_err-reply-clause-plain g c = if_refused _ _ c.from_residual.ensures.0
+
+pub returns-in_err-reply-clause-buffer : goal.returns-in_err-reply-clause-buffer
+returns-in_err-reply-clause-buffer g c = if_refused _ _ c.from_residual.ensures.0
 
 pub returns-in_err-reply-clause-log : goal.returns-in_err-reply-clause-log
 returns-in_err-reply-clause-log g c = if_refused _ _ c.from_residual.ensures.0
@@ -45,5 +50,4 @@ pub returns-in_err-reply-clause-fits : goal.returns-in_err-reply-clause-fits
 returns-in_err-reply-clause-fits g c = if_refused _ _ c.from_residual.ensures.0
 
 pub returns-clause-fits : goal.returns-clause-fits
-returns-clause-fits g c =
-    kind_at _ _ _ c.self.inside.book _ _ _ c.self.invariant (ap (λ (x : StoreReply). x.kind) c.in_ok-reply.ensures.reply)
+returns-clause-fits g c = kind_at _ _ _ c.self.inside.book _ _ _ c.self.invariant c.in_ok-reply.ensures.kind

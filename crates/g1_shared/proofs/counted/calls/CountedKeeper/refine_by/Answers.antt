@@ -2,7 +2,7 @@ use Rattle.std.proofs.Common.{refl, ap}
 use Rattle.g1_core.specs.Calls.{refine_entry}
 use Rattle.g1_book.specs.History.{Terms}
 use Rattle.g1_shared.proofs.CallLemmas.{same_counted, call_counted, total_fits, entered_of, call_tallied, refined_as, read_as, full_as, if_refused, on_refused, err_refused}
-use Rattle.g1_shared.proofs.counted.Counted.refine_by.Goals as goal
+use Rattle.g1_shared.proofs.counted.calls.CountedKeeper.refine_by.Goals as goal
 
 pub raise-requires : goal.raise-requires
 raise-requires g c = record { part = c.counts.invariant.0; same = c.counts.invariant.1; fits = total_fits _ _ _ _ _ _ c.self.invariant c.in_ok-reply.ensures.entered c.entries-entries.ensures.history }

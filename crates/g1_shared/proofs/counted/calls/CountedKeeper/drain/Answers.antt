@@ -1,14 +1,11 @@
 use Rattle.std.proofs.Common.{◌<◌, refl}
 use Rattle.g1_layout.specs.Shape.{Shape}
-use Rattle.g1_core.specs.Calls.{redirect_entry}
+use Rattle.g1_core.specs.Calls.{drain_entry}
 use Rattle.g1_shared.proofs.CallLemmas.{same_counted, call_counted, total_fits, entered_by, called, full_as, still_some, known, if_refused, on_refused, err_refused}
-use Rattle.g1_shared.proofs.counted.Counted.redirect.Goals as goal
+use Rattle.g1_shared.proofs.counted.calls.CountedKeeper.drain.Goals as goal
 
-pub redirect-requires-clause-from : goal.redirect-requires-clause-from
-redirect-requires-clause-from g c = known (λ (l : Shape). c.args.from < l.regions) _ c.self.inside.book c.self.invariant.2 c.requires.from
-
-pub redirect-requires-clause-to : goal.redirect-requires-clause-to
-redirect-requires-clause-to g c = known (λ (l : Shape). c.args.to < l.regions) _ c.self.inside.book c.self.invariant.2 c.requires.to
+pub drain-requires : goal.drain-requires
+drain-requires g c = known (λ (l : Shape). c.args.region < l.regions) _ c.self.inside.book c.self.invariant.2 c.requires
 
 pub raise_made-requires : goal.raise_made-requires
 raise_made-requires g c = record { fits = total_fits _ _ _ _ _ _ c.self.invariant c.in_ok-answer.ensures.entered c.entries-entries.ensures.history }
@@ -26,18 +23,18 @@ invariant_of-caller g c = still_some _ _ _ _ c.caller.invariant c.raise_made.ens
 pub returns-in_err-answer-clause-entered : goal.returns-in_err-answer-clause-entered
 returns-in_err-answer-clause-entered g c = if_refused _ _ c.from_residual.ensures.0
 
-pub returns-in_err-answer-clause-made : goal.returns-in_err-answer-clause-made
-returns-in_err-answer-clause-made g c = on_refused _ _ c.from_residual.ensures.0
+pub returns-in_err-answer-clause-ok : goal.returns-in_err-answer-clause-ok
+returns-in_err-answer-clause-ok g c = on_refused _ _ c.from_residual.ensures.0
 
 pub returns-in_err-answer-clause-err : goal.returns-in_err-answer-clause-err
 returns-in_err-answer-clause-err g c = err_refused _ _ _ _ _ c.self.view_is c.in_err-answer.ensures.err
 
 -- one call more
 pub returns-clause-entered : goal.returns-clause-entered
-returns-clause-entered g c = entered_by _ _ _ _ _ _ (λ n. redirect_entry n c.args.from c.args.to c.in_ok-answer.answer) c.self.view_is c.caller.view_is c.number.ensures c.in_ok-answer.ensures.entered
+returns-clause-entered g c = entered_by _ _ _ _ _ _ (λ n. drain_entry n c.args.region c.in_ok-answer.answer) c.self.view_is c.caller.view_is c.number.ensures c.in_ok-answer.ensures.entered
 
-pub returns-clause-made : goal.returns-clause-made
-returns-clause-made g c = called _ _ _ _ _ c.caller.view_is c.raise_made.ensures.counts
+pub returns-clause-ok : goal.returns-clause-ok
+returns-clause-ok g c = called _ _ _ _ _ c.caller.view_is c.raise_made.ensures.counts
 
 pub returns-clause-full : goal.returns-clause-full
 returns-clause-full g c = full_as _ _ _ c.self.view_is c.in_ok-answer.ensures.full

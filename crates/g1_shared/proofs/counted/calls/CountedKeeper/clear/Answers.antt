@@ -2,7 +2,7 @@ use Rattle.std.proofs.Common.{◌<◌, refl}
 use Rattle.g1_layout.specs.Shape.{Shape}
 use Rattle.g1_core.specs.Calls.{clear_entry}
 use Rattle.g1_shared.proofs.CallLemmas.{same_counted, call_counted, total_fits, entered_by, called, full_as, still_some, known, reads_as, if_refused, on_refused, err_refused}
-use Rattle.g1_shared.proofs.counted.Counted.clear.Goals as goal
+use Rattle.g1_shared.proofs.counted.calls.CountedKeeper.clear.Goals as goal
 
 pub clear-requires : goal.clear-requires
 clear-requires g c = known (λ (l : Shape). c.args.region < l.regions) _ c.self.inside.book c.self.invariant.2 c.requires
@@ -26,8 +26,8 @@ returns-in_err-answer-clause-entered g c = if_refused _ _ c.from_residual.ensure
 pub returns-in_err-answer-clause-reads : goal.returns-in_err-answer-clause-reads
 returns-in_err-answer-clause-reads g c = reads_as _ c.self.inside.book c.args.self.now c.clear.new.self _ c.self.invariant.2 c.self.view_is c.in_err-answer.ensures.reads
 
-pub returns-in_err-answer-clause-made : goal.returns-in_err-answer-clause-made
-returns-in_err-answer-clause-made g c = on_refused _ _ c.from_residual.ensures.0
+pub returns-in_err-answer-clause-ok : goal.returns-in_err-answer-clause-ok
+returns-in_err-answer-clause-ok g c = on_refused _ _ c.from_residual.ensures.0
 
 pub returns-in_err-answer-clause-err : goal.returns-in_err-answer-clause-err
 returns-in_err-answer-clause-err g c = err_refused _ _ _ _ _ c.self.view_is c.in_err-answer.ensures.err
@@ -39,8 +39,8 @@ returns-clause-entered g c = entered_by _ _ _ _ _ _ (λ n. clear_entry n c.args.
 pub returns-clause-reads : goal.returns-clause-reads
 returns-clause-reads g c = reads_as _ c.self.inside.book c.args.self.now c.clear.new.self _ c.self.invariant.2 c.self.view_is c.in_ok-answer.ensures.reads
 
-pub returns-clause-made : goal.returns-clause-made
-returns-clause-made g c = called _ _ _ _ _ c.caller.view_is c.raise_made.ensures.counts
+pub returns-clause-ok : goal.returns-clause-ok
+returns-clause-ok g c = called _ _ _ _ _ c.caller.view_is c.raise_made.ensures.counts
 
 pub returns-clause-full : goal.returns-clause-full
 returns-clause-full g c = full_as _ _ _ c.self.view_is c.in_ok-answer.ensures.full

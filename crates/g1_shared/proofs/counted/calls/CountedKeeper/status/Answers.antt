@@ -1,7 +1,7 @@
 use Rattle.std.proofs.Common.{refl}
 use Rattle.g1_core.specs.Calls.{status_entry}
 use Rattle.g1_shared.proofs.CallLemmas.{same_counted, call_counted, total_fits, entered_by, called, full_as, still_some, if_refused, on_refused, err_refused}
-use Rattle.g1_shared.proofs.counted.Counted.status.Goals as goal
+use Rattle.g1_shared.proofs.counted.calls.CountedKeeper.status.Goals as goal
 
 pub raise_made-requires : goal.raise_made-requires
 raise_made-requires g c = record { fits = total_fits _ _ _ _ _ _ c.self.invariant c.in_ok-status.ensures.entered c.entries-entries.ensures.history }
@@ -19,8 +19,8 @@ invariant_of-caller g c = still_some _ _ _ _ c.caller.invariant c.raise_made.ens
 pub returns-in_err-status-clause-entered : goal.returns-in_err-status-clause-entered
 returns-in_err-status-clause-entered g c = if_refused _ _ c.from_residual.ensures.0
 
-pub returns-in_err-status-clause-made : goal.returns-in_err-status-clause-made
-returns-in_err-status-clause-made g c = on_refused _ _ c.from_residual.ensures.0
+pub returns-in_err-status-clause-ok : goal.returns-in_err-status-clause-ok
+returns-in_err-status-clause-ok g c = on_refused _ _ c.from_residual.ensures.0
 
 pub returns-in_err-status-clause-err : goal.returns-in_err-status-clause-err
 returns-in_err-status-clause-err g c = err_refused _ _ _ _ _ c.self.view_is c.in_err-status.ensures.err
@@ -29,8 +29,8 @@ returns-in_err-status-clause-err g c = err_refused _ _ _ _ _ c.self.view_is c.in
 pub returns-clause-entered : goal.returns-clause-entered
 returns-clause-entered g c = entered_by _ _ _ _ _ _ (λ n. status_entry n c.in_ok-status.status) c.self.view_is c.caller.view_is c.number.ensures c.in_ok-status.ensures.entered
 
-pub returns-clause-made : goal.returns-clause-made
-returns-clause-made g c = called _ _ _ _ _ c.caller.view_is c.raise_made.ensures.counts
+pub returns-clause-ok : goal.returns-clause-ok
+returns-clause-ok g c = called _ _ _ _ _ c.caller.view_is c.raise_made.ensures.counts
 
 pub returns-clause-full : goal.returns-clause-full
 returns-clause-full g c = full_as _ _ _ c.self.view_is c.in_ok-status.ensures.full
