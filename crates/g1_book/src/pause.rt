@@ -90,7 +90,7 @@ impl Book {
 }
 
 /// The reply of this clear.
-fn clear_reply(answer: &ClearReply) -> Reply
+pub(crate) fn clear_reply(answer: &ClearReply) -> Reply
     ensures { result ≡ Reply.Clear answer.now }
 {
     Reply::Clear(*answer)
@@ -114,6 +114,16 @@ fn drained_reply(room: Vec<Card>, answer: &Drained) -> Reply
 {
     match answer {
         Drained::Cards { cards, .. } => Reply::Cards(copied(room, cards)),
+        Drained::Short { .. } => Reply::Short,
+    }
+}
+
+/// The reply of this drain, with the list itself.
+pub(crate) fn drain_reply(answer: Drained) -> Reply
+    ensures { result ≡ drain_reply answer }
+{
+    match answer {
+        Drained::Cards { cards, .. } => Reply::Cards(cards),
         Drained::Short { .. } => Reply::Short,
     }
 }

@@ -4,6 +4,8 @@ ghost use Rattle.std.specs.FinSet as set;
 ghost use Rattle.g1_layout.specs.Shape.{slot_count, card_count};
 
 use crate::book::Book;
+use crate::pause::{clear_reply, drain_reply};
+use crate::redirection::redirected_reply;
 use crate::refusal::Refusal;
 use crate::room::{enter, make_room};
 use g1_core::{Call, CardList, Reply, Status};
@@ -13,6 +15,7 @@ impl Book {
     ghost use Rattle.g1_core.specs.Table.{target_of, AreMembers};
     ghost use Rattle.g1_core.specs.Calls.{target_entry, pending_entry, members_entry, status_entry};
     ghost use Rattle.g1_book.specs.History.{IsEntered, table_in, layout_in};
+    ghost use Rattle.g1_book.specs.Asked.{IsAsked, IsEnteredAs};
 
     /// Returns the place that a slot refers to, or `None` if it is null, and enters the call. One
     /// slot is read.
@@ -125,6 +128,31 @@ impl Book {
         let reply = Reply::Status(status);
         enter(&mut self.entries, caller, Call::Status, reply, none);
         Ok(status)
+    }
+
+    /// Makes any call but a store and a refinement, and returns its reply as it is entered.
+    ///
+    /// The call is made by the function of its name: `target` makes a `Call::Target`, and so on.
+    /// Returns `BookFull` exactly if the history is full, `NoMemory` if room for the entry or for a
+    /// list was refused. Either changes nothing. Its time and its memory are those of that
+    /// function.
+    pub fn ask(&mut self, caller: u32, call: Call) -> Result<Reply, Refusal>
+        requires { IsAsked (layout_in self.old) call }
+        ensures entered { IfOk result (λ reply. IsEnteredAs self.old caller call reply self.new) }
+        ensures full { (result ≡ Err Refusal.BookFull)
+            ↔ (length self.old.entries ≡ self.old.limit) }
+        ensures err { OnErr result (self.new ≡ self.old) }
+    {
+        match call {
+            Call::Target(slot) => Ok(target_reply(&self.target(caller, slot)?)),
+            Call::Pending(card) => Ok(Reply::Pending(self.is_pending(caller, card)?)),
+            Call::Members(region) => Ok(Reply::Cards(self.members(caller, region)?)),
+            Call::Status => Ok(Reply::Status(self.status(caller)?)),
+            Call::Drain(region) => Ok(drain_reply(self.drain(caller, region)?)),
+            Call::Clear(region) => Ok(clear_reply(&self.clear(caller, region)?)),
+            Call::Redirect { from, to } => Ok(redirected_reply(&self.redirect(caller, from, to)?)),
+            Call::Store { .. } | Call::Refine => unreachable!(),
+        }
     }
 }
 

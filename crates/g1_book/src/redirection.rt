@@ -55,7 +55,7 @@ fn redirected_cards(answer: &Redirected) -> &CardList
 }
 
 /// What the redirect returned beside them.
-fn redirected_reply(answer: &Redirected) -> Reply
+pub(crate) fn redirected_reply(answer: &Redirected) -> Reply
     ensures { result ≡ redirect_reply answer.now }
 {
     match answer {

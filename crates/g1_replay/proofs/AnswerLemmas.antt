@@ -1,17 +1,15 @@
 -- The calls of a command, and the line of what they answer.
-use Rattle.std.proofs.Common.{ℕ, List, [], ◌∷◌, ◌++◌, ◌+◌, ◌-◌, Option, Some, None, true, false, ◌≡◌, ◌≢◌, ◌≤◌, ◌⊎◌, inl, inr, ◌∙◌, refl, subst, sym, ap, length, map, arith}
-use Rattle.std.specs.Prelude.{Bool, Result, Ok, Err, IsSome, All, get_or}
+use Rattle.std.proofs.Common.{ℕ, List, [], ◌∷◌, ◌++◌, ◌+◌, Option, Some, None, true, false, ◌≡◌, ◌≢◌, ◌≤◌, ◌⊎◌, inl, inr, ◌∙◌, refl, subst, sym, ap, length, map, arith}
+use Rattle.std.specs.Prelude.{Bool, Result, Ok, Err, IsSome, All}
 use Rattle.std.proofs.lemmas.List.Elements.{All-nil, All-cons}
-use Rattle.std.specs.List.{slice_get}
-use Rattle.std.proofs.Math.Seq.{get_or-append_seam}
-use Rattle.std.proofs.lemmas.List.{length-append, length-map}
-use Rattle.std.proofs.lemmas.Option.{get_or_from_slice_get}
+use Rattle.std.proofs.lemmas.List.{length-map}
 use Rattle.std.specs.Io.KnownBytes.{Appends}
 use Rattle.std.proofs.KnownBytes.{Appends-nil}
 use Rattle.g1_core.specs.declared.reply.Fill.TheVariants.{Full, Helped}
 use Rattle.g1_core.specs.declared.reply.StoreReply.{StoreReply}
 use Rattle.g1_core.specs.declared.reply.RefineReply.{RefineReply}
 use Rattle.g1_core.specs.declared.entry.Call.{Call}
+use Rattle.g1_core.specs.declared.entry.Reply.{Reply}
 use Rattle.g1_core.specs.declared.entry.Entry.{Entry}
 use Rattle.g1_core.specs.Calls.{store_entry, refine_entry}
 use Rattle.g1_core.specs.Machine.{State}
@@ -20,7 +18,8 @@ use Rattle.g1_log.specs.declared.parcel.Parcel.{Parcel}
 use Rattle.g1_steps.specs.declared.steps.mutator.FlushReply.{FlushReply}
 use Rattle.g1_book.specs.declared.refusal.Refusal.{Refusal}
 use Rattle.g1_book.specs.declared.refusal.Refusal.TheVariants.{NoMemory, BookFull}
-use Rattle.g1_book.specs.History.{History, IsEntered}
+use Rattle.g1_book.specs.History.{History}
+use Rattle.g1_book.specs.Asked.{IsEnteredAs}
 use Rattle.g1_steps.specs.Made.{Made, Stored, Refined, AreCalls, entries_of as calls_entries}
 use Rattle.g1_steps.specs.Lent.{Grows, IsBookCall}
 use Rattle.g1_steps.specs.Steps.{Help, IsStored, help_calls, store_answer, flush_answer, nothing_flushed, filled, called}
@@ -33,10 +32,10 @@ use Rattle.g1_trace.specs.Text.{store_text, refine_text, work_text, call_line}
 use Rattle.g1_replay.specs.declared.stop.Stop.{Stop}
 use Rattle.g1_replay.specs.declared.stop.Stop.TheVariants.{WriteFailed}
 use Rattle.g1_replay.specs.Laws.{played_one}
-use Rattle.g1_replay.specs.Playing.{HasPlayed, IsCalled, IsRefused, IsFull, Does}
+use Rattle.g1_replay.specs.Playing.{HasPlayed, IsRefused, IsFull, Does}
 use Rattle.g1_replay.specs.Stops.{stop_of}
 use Rattle.g1_replay.specs.Flush.{flush_text}
-use Rattle.g1_replay.specs.Pieces.{Piece, plain_piece, IsCallBy, IsOfBuffer, IsOfNone, IsLineOf, IsSetBy}
+use Rattle.g1_replay.specs.Pieces.{Piece, plain_piece, IsOfBuffer, IsOfNone, IsLineOf, IsSetBy}
 use Rattle.g1_replay.proofs.PieceLemmas.{Takes, store_says, store_helped_says, store_refused_says, flush_none_says, flush_says, flush_helped_says, flush_refused_says, refine_says, work_says}
 
 -- some calls of the command, with a line
@@ -124,21 +123,14 @@ work_made did s before most reply after t r old new seen within is h = (
   (seen, within, rounds_within r.turns most (round_size old.machine.settings.start seen) r.within is),
 )
 
--- one call of the first caller
-pub call_made : (old : History) (e : Entry) (new : History) (call : Call) → IsEntered old e new → IsCallBy 0 call e → IsCalled old new call (Ok tt)
-call_made old e new call h by = (e, grows_entered old e new h, by)
+-- one call of the first caller, and the line of its reply
+pub call_says : (old new : History) (call : Call) (reply : Reply) → IsEnteredAs old 0 call reply new → Says old new (command.Call call) (call_line call reply)
+call_says old new call reply p = (plain_piece (p.0 ∷ []), grows_entered old p.0 new p.1, record { piece = (p.2, p.3); line = λ i. call_line (sym p.3 i) (sym p.4 i) }, tt)
 
--- its line is that of the last entry
-last_is : (es : List Entry) (e last : Entry) → slice_get (es ++ e ∷ []) (length (es ++ e ∷ []) - 1) ≡ Some last → last ≡ e
-last_is es e last h =
-    let n : length (es ++ e ∷ []) ≡ length es + 1 = length-append es (e ∷ []) in
-    let at : length (es ++ e ∷ []) - 1 ≡ length es = omega (arith, n) in
-    sym (get_or_from_slice_get (es ++ e ∷ []) _ last e h) ∙ ap (λ k. get_or (es ++ e ∷ []) k e) at ∙ get_or-append_seam es e [] e
-
-pub call_says : (old new : History) (call : Call) (p : IsCalled old new call (Ok tt)) (last : Entry) → slice_get new.entries (length new.entries - 1) ≡ Some last → Says old new (command.Call call) (call_line last.call last.reply)
-call_says old new call p last h =
-    let same : last ≡ p.0 = last_is old.entries p.0 last (subst (λ es. slice_get es (length es - 1) ≡ Some last) p.1.entries h) in
-    (plain_piece (p.0 ∷ []), p.1, record { piece = p.2; line = ap (λ (e : Entry). call_line e.call e.reply) same }, tt)
+-- a call that was refused left the book, and its history was full if that is why
+pub call_refused : (old new : History) (refusal : Refusal) → new ≡ old → (refusal ≡ BookFull → length old.entries ≡ old.limit) → IsRefused old new refusal
+call_refused old new NoMemory same full = subst (λ (b : History). Grows old [] b) (sym same) (grows_none old)
+call_refused old new BookFull same full = subst (λ (b : History). Grows old [] b × IsFull b) (sym same) (grows_none old, full refl)
 
 played_by : (old new : History) (c : Command) (text : List ℕ) → Says old new c text → HasPlayed old (c ∷ []) text new
 played_by old new c text p = subst (λ (t : List ℕ). HasPlayed old (c ∷ []) t new) (sym p.2.line) (played_one old new c p.0 p.2.piece p.3 p.1)

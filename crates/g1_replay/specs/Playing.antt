@@ -3,8 +3,6 @@
 use Rattle.std.specs.Prelude.{◌≡◌, ◌≤◌, ℕ, List, [], ◌∷◌, ◌++◌, Bool, Result, Ok, Err, Option, Some}
 use Rattle.std.specs.Prelude.{length}
 use Rattle.g1_layout.specs.Shape.{Shape}
-use Rattle.g1_core.specs.declared.entry.Call.{Call}
-use Rattle.g1_core.specs.declared.entry.Entry.{Entry}
 use Rattle.g1_log.specs.declared.line.Line.{Line}
 use Rattle.g1_log.specs.Ends.{capacity_of}
 use Rattle.g1_book.specs.History.{History, opened, layout_in}
@@ -17,7 +15,7 @@ use Rattle.g1_options.specs.declared.options.Options.{Options}
 use Rattle.g1_trace.specs.Bytes.{Puts}
 use Rattle.g1_replay.specs.declared.stop.Stop.{Stop}
 use Rattle.g1_replay.specs.declared.stop.Stop.TheVariants.{NoMemory, BookFull, WriteFailed}
-use Rattle.g1_replay.specs.Pieces.{Piece, IsCallBy, IsLineOf, IsSetBy, AreSetBy, Walks, lines_of}
+use Rattle.g1_replay.specs.Pieces.{Piece, IsLineOf, IsSetBy, AreSetBy, Walks, lines_of}
 use Rattle.g1_replay.specs.Pieces.{entries_of}
 use Rattle.g1_replay.specs.Reading.{Reads}
 
@@ -52,11 +50,6 @@ abbrev pub IsAnswered : {V : Type 0} → (V → List ℕ) → History → Histor
     → Type 0
 IsAnswered text old new c (Ok answer) = IsDone text old new c answer
 IsAnswered text old new c (Err refusal) = IsRefused old new refusal
-
--- One call of the first caller was made and entered, or it was refused.
-abbrev pub IsCalled : History → History → Call → Result (Unit {0}) Refusal → Type 0
-IsCalled old new call (Ok done) = (e : Entry) × Grows old (e ∷ []) new × IsCallBy 0 call e
-IsCalled old new call (Err refusal) = IsRefused old new refusal
 
 -- The calls of these commands were made and entered, as the settings of the book allow, and this is
 -- their text.

@@ -5,11 +5,11 @@ ghost use Rattle.g1_book.specs.History.{layout_in};
 ghost use Rattle.g1_trace.specs.Bytes.{Puts};
 ghost use Rattle.g1_trace.specs.Grammar.{IsCallOf};
 ghost use Rattle.g1_trace.specs.Text.{call_line};
-ghost use Rattle.g1_replay.specs.Playing.{Does, HasPlayed, IsCalled, IsFull, MayStop};
+ghost use Rattle.g1_replay.specs.Playing.{Does, HasPlayed, IsFull, MayStop};
 ghost use Rattle.g1_replay.specs.Reading.{more_may_come};
 
 use crate::stop::Stop;
-use g1_book::{Book, Refusal};
+use g1_book::Book;
 use g1_core::{Call, Reply};
 use g1_trace::{
     Command, WriteFailed, put, put_cards, put_clear_reply, put_either, put_redirected, put_status,
@@ -17,50 +17,15 @@ use g1_trace::{
 };
 use std::io::Write;
 
-/// Makes the call and writes the line of its entry.
+/// Makes the call and writes the line of its reply.
 pub(crate) fn play_call<W: Write>(book: &mut Book, call: Call, output: &mut W) -> Result<(), Stop>
     requires { IsCallOf (layout_in book.old) call }
     ensures played { Does HasPlayed IsFull (Command.Call call ∷ []) book.old book.new
         (W.contents output.old) (W.contents output.new) (more_may_come result) }
     ensures stops { IfErr result MayStop }
 {
-    make_call(book, call)?;
-    let Some(entry) = book.entries().last() else {
-        unreachable!()
-    };
-    put_call(output, entry.call, &entry.reply)?;
-    Ok(())
-}
-
-// The call of the book. Its reply is in the entry.
-fn make_call(book: &mut Book, call: Call) -> Result<(), Refusal>
-    requires { IsCallOf (layout_in book.old) call }
-    ensures { IsCalled book.old book.new call result }
-{
-    match call {
-        Call::Target(slot) => {
-            book.target(0, slot)?;
-        }
-        Call::Pending(card) => {
-            book.is_pending(0, card)?;
-        }
-        Call::Members(region) => {
-            book.members(0, region)?;
-        }
-        Call::Status => {
-            book.status(0)?;
-        }
-        Call::Drain(region) => {
-            book.drain(0, region)?;
-        }
-        Call::Clear(region) => {
-            book.clear(0, region)?;
-        }
-        Call::Redirect { from, to } => {
-            book.redirect(0, from, to)?;
-        }
-        Call::Store { .. } | Call::Refine => unreachable!(),
-    }
+    let reply = book.ask(0, call)?;
+    put_call(output, &call, &reply)?;
     Ok(())
 }
 
@@ -68,11 +33,11 @@ fn make_call(book: &mut Book, call: Call) -> Result<(), Refusal>
 /// no such call has.
 pub(crate) fn put_call<W: Write>(
     output: &mut W,
-    call: Call,
+    call: &Call,
     reply: &Reply,
 ) -> Result<(), WriteFailed>
     ensures { Puts (W.contents output.old) (W.contents output.new) result
-        (call_line call reply.now) }
+        (call_line call.now reply.now) }
 {
     match (call, reply) {
         (Call::Target(_), Reply::Target(place)) => put_target(output, *place),

@@ -49,7 +49,7 @@ impl Drains for Core {
 
     fn put_drain<W: Write>(&mut self, region: Region, output: &mut W) -> Result<(), Stop> {
         let answer = self.drain(region)?;
-        put_call(output, Call::Drain(region), &reply_of(answer))?;
+        put_call(output, &Call::Drain(region), &reply_of(answer))?;
         Ok(())
     }
 

@@ -1,9 +1,11 @@
 -- What a line of a trace means: the header, or a command.
-use Rattle.std.specs.Prelude.{◌≢◌, ℕ, ◌<◌, ◌*◌, List, [], ◌∷◌, ◌==◌, nat_lt, ◌&&◌, if◌then◌else◌}
+use Rattle.std.specs.Prelude.{ℕ, ◌<◌, ◌*◌, List, [], ◌∷◌, ◌==◌, nat_lt, ◌&&◌, if◌then◌else◌}
 use Rattle.std.specs.Prelude.{Bool, true, false, Result, Ok, Err, Option, Some, None, IfSome, codes}
 use Rattle.std.specs.Str.{bytes_eq}
-use Rattle.g1_layout.specs.Shape.{Shape, slot_count, card_count}
+use Rattle.g1_layout.specs.Shape.{Shape, slot_count}
 use Rattle.g1_core.specs.declared.entry.Call.{Call}
+use Rattle.g1_core.specs.Run as run
+use Rattle.g1_core.specs.declared.entry.Call.TheVariants as calls
 use Rattle.g1_core.specs.declared.entry.Call.TheVariants.{Target, Pending, Members, Status, Drain}
 use Rattle.g1_core.specs.declared.entry.Call.TheVariants.{Clear, Redirect}
 use Rattle.g1_trace.specs.declared.command.Command.{Command}
@@ -105,14 +107,9 @@ read_header line = header_words (words_from [] line)
 
 -- the call is a question, a drain, a clear or a redirect, and its numbers are those of the heap
 abbrev pub IsCallOf : Shape → Call → Type 0
-IsCallOf l (Target slot) = slot < slot_count l
-IsCallOf l (Pending card) = card < card_count l
-IsCallOf l (Members region) = region < l.regions
-IsCallOf l Status = Unit {0}
-IsCallOf l (Drain region) = region < l.regions
-IsCallOf l (Clear region) = region < l.regions
-IsCallOf l (Redirect from to) = (from < l.regions) × (to < l.regions) × (from ≢ to)
-IsCallOf l _ = ⊥
+IsCallOf l (calls.Store slot target) = ⊥
+IsCallOf l calls.Refine = ⊥
+IsCallOf l c = run.IsCallOf l c
 
 -- the command's numbers are those of mutators and of the heap
 abbrev pub IsCommandOf : Shape → ℕ → Command → Type 0
