@@ -1,6 +1,6 @@
 //! Stores of references that are entered in the history.
-ghost use Rattle.std.specs.Prelude.{◌≡◌, ◌+◌, ◌<◌, ◌↔◌, [], ◌∷◌, ◌++◌, false, length, IfOk, OnErr};
-ghost use Rattle.std.specs.Prelude.{IfSome, vec_len, vec_capacity};
+ghost use Rattle.std.specs.Prelude.{◌≡◌, ◌<◌, ◌↔◌, [], ◌∷◌, ◌++◌, false, length, IfOk, OnErr};
+ghost use Rattle.std.specs.Prelude.{IfSome, IsNone, vec_len, vec_capacity};
 ghost use Rattle.g1_layout.specs.Shape.{slot_count, card_of};
 
 use crate::book::Book;
@@ -12,8 +12,8 @@ use g1_log::{Buffer, Log};
 use std::alloc::Global;
 
 impl Book {
-    ghost use Rattle.g1_core.specs.Run.{kind_of, stored};
-    ghost use Rattle.g1_core.specs.Barrier.{logged, buffer_of, fill_of, unfilled, stored_machine};
+    ghost use Rattle.g1_core.specs.Run.{kind_of};
+    ghost use Rattle.g1_core.specs.Barrier.{logged, buffer_of, fill_of, stored_machine};
     ghost use Rattle.g1_core.specs.Calls.{store_entry};
     ghost use Rattle.g1_book.specs.History.{IsEntered, table_in, layout_in};
 
@@ -45,15 +45,7 @@ impl Book {
         ensures fill { IfOk result (λ answer. answer.0.fill ≡ fill_of answer.1) }
         ensures plain { IfOk result (λ answer. (answer.0.refined ≡ []) × (answer.0.short ≡ false)) }
         ensures machine { IfOk result (λ _.
-            self.new.machine
-            ≡ record {
-              state = record {
-                table = stored (table_in self.old) slot target;
-                ring = self.old.machine.state.ring;
-              };
-              settings = self.old.machine.settings;
-              reads = self.old.machine.reads;
-            }) }
+            self.new.machine ≡ stored_machine self.old.machine slot target) }
         ensures log { IfOk result (λ answer.
             log.new ≡ logged answer.0.kind log.old (card_of (layout_in self.old) slot)) }
         ensures buffer { IfOk result (λ answer.
@@ -63,51 +55,55 @@ impl Book {
         ensures err { OnErr result (self.new ≡ self.old) }
         ensures err_log { OnErr result (log.new ≡ log.old) }
     {
-        // No empty `Option<Buffer>`, which is a kilobyte, is moved then.
-        if log.has_room() {
-            let reply = self.store_with_room(caller, log, slot, target)?;
-            return Ok((reply, None));
+        let mut completed = None;
+        let reply = self.store_into(caller, log, &mut completed, slot, target)?;
+        match completed {
+            // No kilobyte is moved then.
+            None => Ok((reply, None)),
+            filled => Ok((reply, filled)),
         }
-        make_room(&mut self.entries, self.limit)?;
-        let call = store_call(slot, &target);
-        let (reply, buffer) = self.core.store(log, slot, target);
-        enter_store(&mut self.entries, self.alloc, caller, call, &reply);
-        Ok((reply, buffer))
     }
 
-    /// Stores and enters as `store` does, with a log that one more card does not fill
-    /// (`Log::has_room`): `fill` is `No`, and no buffer is handed out (docs/PROFILE.md, The
-    /// barrier).
+    /// Stores and enters as `store` does, and puts a completed buffer into the place that the
+    /// caller lends for it, in place of returning it (docs/PROFILE.md, The barrier).
     ///
-    /// `BookFull` and `NoMemory` are returned as by `store`, and leave book and log as they were.
-    /// Constant time except for the growth of the history.
+    /// The place is empty before the call, so no buffer is lost. After it, `completed` has the
+    /// buffer if `fill` is `Full`, and is empty otherwise. `BookFull` and `NoMemory` are returned
+    /// as by `store`, and leave book, log and place as they were. Constant time except for the
+    /// growth of the history.
     #[inline(always)]
-    pub fn store_with_room(
+    pub fn store_into(
         &mut self,
         caller: u32,
         log: &mut Log,
+        completed: &mut Option<Buffer>,
         slot: Slot,
         target: Option<Slot>,
     ) -> Result<StoreReply, Refusal>
         requires caller { caller < self.old.mutators }
-        requires room { length log.old.cards + 1 < log.old.size }
+        requires empty { IsNone completed.old }
         requires slot { slot < slot_count (layout_in self.old) }
         requires target { IfSome target (λ place. place < slot_count (layout_in self.old)) }
         ensures entered { IfOk result (λ reply.
             IsEntered self.old (store_entry caller slot target reply) self.new) }
-        ensures reply { IfOk result (λ reply.
-            reply ≡ unfilled (kind_of (table_in self.old) slot target)) }
+        ensures kind { IfOk result (λ reply.
+            reply.kind ≡ kind_of (table_in self.old) slot target) }
+        ensures fill { IfOk result (λ reply. reply.fill ≡ fill_of completed.new) }
+        ensures plain { IfOk result (λ reply. (reply.refined ≡ []) × (reply.short ≡ false)) }
         ensures machine { IfOk result (λ _.
             self.new.machine ≡ stored_machine self.old.machine slot target) }
         ensures log { IfOk result (λ reply.
             log.new ≡ logged reply.kind log.old (card_of (layout_in self.old) slot)) }
+        ensures buffer { IfOk result (λ reply.
+            completed.new ≡ buffer_of reply.kind log.old (card_of (layout_in self.old) slot)) }
         ensures full { (result ≡ Err Refusal.BookFull)
             ↔ (length self.old.entries ≡ self.old.limit) }
-        ensures err { OnErr result ((self.new ≡ self.old) × (log.new ≡ log.old)) }
+        ensures err { OnErr result ((self.new ≡ self.old) × (log.new ≡ log.old)
+            × (completed.new ≡ completed.old)) }
     {
         make_room(&mut self.entries, self.limit)?;
         let call = store_call(slot, &target);
-        let reply = self.core.store_with_room(log, slot, target);
+        let reply = self.core.store_into(log, completed, slot, target);
         enter_store(&mut self.entries, self.alloc, caller, call, &reply);
         Ok(reply)
     }

@@ -1,30 +1,25 @@
 //! A book with the totals of its calls and of its stores: what a shared book keeps under its lock.
-ghost use Rattle.std.specs.Prelude.{◌≡◌, ◌≢◌, ◌+◌, ◌-◌, ◌*◌, ◌<◌, ◌≤◌, ◌^◌, ◌↔◌, [], false, length};
-ghost use Rattle.std.specs.Prelude.{min, count_by, IfOk, OnErr, OnOk, IfSome, option_map};
-ghost use Rattle.std.specs.FinSet as set;
-ghost use Rattle.g1_layout.specs.Shape.{slot_count, card_count, card_of};
-ghost use Rattle.g1_core.specs.Barrier.{logged, buffer_of, fill_of, unfilled, stored_machine};
-ghost use Rattle.g1_core.specs.Calls.{store_entry, refine_entry, target_entry, pending_entry};
-ghost use Rattle.g1_core.specs.Calls.{members_entry, status_entry, drain_entry, clear_entry};
-ghost use Rattle.g1_core.specs.Calls.{redirect_entry};
-ghost use Rattle.g1_core.specs.Clearing.{member_count};
-ghost use Rattle.g1_core.specs.Machine.{IsOnlyRead};
-ghost use Rattle.g1_core.specs.Pause.{IsDrainOf};
-ghost use Rattle.g1_core.specs.Redirect.{IsRedirectOf};
+//! Its calls are in [`calls`].
+ghost use Rattle.std.specs.Prelude.{◌≡◌, ◌+◌, ◌-◌, ◌<◌, ◌≤◌, ◌↔◌, [], false, length};
+ghost use Rattle.std.specs.Prelude.{count_by, IfOk, OnErr, OnOk, IfSome, option_map};
+ghost use Rattle.g1_layout.specs.Shape.{slot_count, card_of};
+ghost use Rattle.g1_core.specs.Barrier.{logged, buffer_of, fill_of, stored_machine};
+ghost use Rattle.g1_core.specs.Calls.{store_entry, refine_entry};
 ghost use Rattle.g1_core.specs.Refinement.{IsRefined, AreCardsRead};
 ghost use Rattle.g1_core.specs.Run.{kind_of};
-ghost use Rattle.g1_core.specs.Table.{target_of, AreMembers};
-ghost use Rattle.g1_shared.specs.Answers.{IsKindAt, IsReplyAt};
-ghost use Rattle.g1_shared.specs.Counts.{one_call, one_store, is_store};
+ghost use Rattle.g1_shared.specs.Counts.{one_store, is_store};
 ghost use Rattle.g1_shared.specs.Callers.{called_once, HandsOut};
-ghost use Rattle.g1_book.specs.History.{IsEntered, AnswersExactly, table_in, terms_of};
+ghost use Rattle.g1_book.specs.History.{IsEntered, table_in, terms_of};
+
+mod calls;
 
 use crate::caller::{Caller, Counts};
-use crate::ledgers::{Frame, raise};
+use crate::keeper::Keeper;
+use crate::ledgers::Frame;
 use g1_book::{Book, Refusal};
-use g1_core::{CardList, ClearReply, Drained, Redirected, RefineReply, Status, StoreReply};
-use g1_layout::{Card, Region, Slot};
-use g1_log::{Buffer, Log};
+use g1_core::{RefineReply, StoreReply};
+use g1_layout::Slot;
+use g1_log::Buffer;
 use g1_steps::Mutator;
 use std::marker::Model;
 use std::sync::ledger;
@@ -75,113 +70,6 @@ impl<M: Frame, S: Ledger> Counted<M, S> {
         ensures terms { terms_of self.now ≡ M.terms }
     {
         &self.book
-    }
-
-    /// As the book's store, by these counts' caller and with the given log.
-    pub(crate) fn store_by(
-        &mut self,
-        counts: &mut Counts<M, S>,
-        log: &mut Log,
-        slot: Slot,
-        target: Option<Slot>,
-    ) -> Result<(StoreReply, Option<Buffer>), Refusal>
-        requires caller { counts.old.number < M.terms.mutators }
-        requires slot { slot < slot_count M.terms.layout }
-        requires target { IfSome target (λ place. place < slot_count M.terms.layout) }
-        ensures entered { IfOk result (λ answer.
-            IsEntered self.old (store_entry counts.old.number slot target answer.0) self.new) }
-        ensures kind { IfOk result (λ answer.
-            answer.0.kind ≡ kind_of (table_in self.old) slot target) }
-        ensures fits { IfOk result (λ answer.
-            IsKindAt M.terms.layout slot target answer.0.kind) }
-        ensures machine { IfOk result (λ _.
-            self.new.machine ≡ stored_machine self.old.machine slot target) }
-        ensures fill { IfOk result (λ answer. answer.0.fill ≡ fill_of answer.1) }
-        ensures plain { IfOk result (λ answer. (answer.0.refined ≡ []) × (answer.0.short ≡ false)) }
-        ensures log { IfOk result (λ answer.
-            log.new ≡ logged answer.0.kind log.old (card_of M.terms.layout slot)) }
-        ensures buffer { IfOk result (λ answer.
-            answer.1 ≡ buffer_of answer.0.kind log.old (card_of M.terms.layout slot)) }
-        ensures counts { OnOk result (counts.new ≡ one_store counts.old) }
-        ensures full { (result ≡ Err Refusal.BookFull)
-            ↔ (length self.old.entries ≡ self.old.limit) }
-        ensures err { OnErr result ((self.new ≡ self.old) × (counts.new ≡ counts.old)
-            × (log.new ≡ log.old)) }
-    {
-        let answer = self.book.store(counts.number(), log, slot, target)?;
-        let _entries = self.book.entries();
-        raise(&mut self.made, &mut counts.made_share, &mut counts.made);
-        raise(
-            &mut self.stored,
-            &mut counts.stored_share,
-            &mut counts.stored,
-        );
-        Ok(answer)
-    }
-
-    /// As the book's store with room, by these counts' caller and with the given log.
-    pub(crate) fn store_with_room_by(
-        &mut self,
-        counts: &mut Counts<M, S>,
-        log: &mut Log,
-        slot: Slot,
-        target: Option<Slot>,
-    ) -> Result<StoreReply, Refusal>
-        requires caller { counts.old.number < M.terms.mutators }
-        requires room { length log.old.cards + 1 < log.old.size }
-        requires slot { slot < slot_count M.terms.layout }
-        requires target { IfSome target (λ place. place < slot_count M.terms.layout) }
-        ensures entered { IfOk result (λ reply.
-            IsEntered self.old (store_entry counts.old.number slot target reply) self.new) }
-        ensures fits { IfOk result (λ reply. IsKindAt M.terms.layout slot target reply.kind) }
-        ensures reply { IfOk result (λ reply. reply ≡ unfilled reply.kind) }
-        ensures log { IfOk result (λ reply.
-            log.new ≡ logged reply.kind log.old (card_of M.terms.layout slot)) }
-        ensures counts { OnOk result (counts.new ≡ one_store counts.old) }
-        ensures full { (result ≡ Err Refusal.BookFull)
-            ↔ (length self.old.entries ≡ self.old.limit) }
-        ensures err { OnErr result ((self.new ≡ self.old) × (counts.new ≡ counts.old)
-            × (log.new ≡ log.old)) }
-    {
-        let reply = self
-            .book
-            .store_with_room(counts.number(), log, slot, target)?;
-        let _entries = self.book.entries();
-        raise(&mut self.made, &mut counts.made_share, &mut counts.made);
-        raise(
-            &mut self.stored,
-            &mut counts.stored_share,
-            &mut counts.stored,
-        );
-        Ok(reply)
-    }
-
-    /// As the book's refinement, by these counts' caller.
-    pub(crate) fn refine_by(
-        &mut self,
-        counts: &mut Counts<M, S>,
-        buffer: Option<&Buffer>,
-    ) -> Result<RefineReply, Refusal>
-        ensures entered { IfOk result (λ reply.
-            IsEntered self.old (refine_entry counts.old.number reply) self.new) }
-        ensures refined { IfOk result (λ reply.
-            IsRefined self.old.machine.state
-            (option_map (λ b. b.now) buffer.entry) reply self.new.machine.state) }
-        ensures reads { IfOk result (λ reply.
-            AreCardsRead self.old.machine reply self.new.machine) }
-        ensures numbers { IfOk result (λ reply.
-            (reply.taken ≤ 1) × (length reply.refined + reply.skipped ≤ 256) × (reply.hot ≤ 256)) }
-        ensures answer { IfOk result (λ reply.
-            IsReplyAt M.terms.layout (option_map (λ b. b.now) buffer.entry) reply) }
-        ensures counts { OnOk result (counts.new ≡ one_call counts.old) }
-        ensures full { (result ≡ Err Refusal.BookFull)
-            ↔ (length self.old.entries ≡ self.old.limit) }
-        ensures err { OnErr result ((self.new ≡ self.old) × (counts.new ≡ counts.old)) }
-    {
-        let reply = self.book.refine(counts.number(), buffer)?;
-        let _entries = self.book.entries();
-        raise(&mut self.made, &mut counts.made_share, &mut counts.made);
-        Ok(reply)
     }
 
     /// Stores a reference, or null, with this caller's log, as `Book::store` does.
@@ -248,7 +136,9 @@ impl<M: Frame, S: Ledger> Counted<M, S> {
         ensures err { OnErr result ((self.new ≡ self.old) × (counts.new ≡ counts.old)
             × (mutator.new.log ≡ mutator.old.log)) }
     {
-        self.store_by(counts, &mut mutator.log, slot, target)
+        let mut completed = None;
+        let reply = self.store_by(counts, &mut mutator.log, &mut completed, slot, target)?;
+        Ok((reply, completed))
     }
 
     /// Refines a buffer for this caller, as `Book::refine` does.
@@ -274,157 +164,6 @@ impl<M: Frame, S: Ledger> Counted<M, S> {
         self.refine_by(&mut caller.counts, buffer)
     }
 
-    /// Returns what a slot refers to, as `Book::target` does, for this caller.
-    pub fn target(&mut self, caller: &mut Caller<M, S>, slot: Slot) -> Result<Option<Slot>, Refusal>
-        requires { slot < slot_count M.terms.layout }
-        ensures entered { IfOk result (λ target.
-            IsEntered self.old (target_entry caller.old.counts.number slot target) self.new) }
-        ensures target { IfOk result (λ target. target ≡ target_of (table_in self.old) slot) }
-        ensures machine { IfOk result (λ _.
-            self.new.machine
-            ≡ record self.old.machine { reads = min (self.old.machine.reads + 1) (2 ^ 64 - 1) }) }
-        ensures made { OnOk result (caller.new ≡ called_once caller.old) }
-        ensures full { (result ≡ Err Refusal.BookFull)
-            ↔ (length self.old.entries ≡ self.old.limit) }
-        ensures err { OnErr result ((self.new ≡ self.old) × (caller.new ≡ caller.old)) }
-    {
-        let target = self.book.target(caller.counts.number(), slot)?;
-        let _entries = self.book.entries();
-        raise_made(&mut self.made, &mut caller.counts);
-        Ok(target)
-    }
-
-    /// Returns whether a card is pending, as `Book::is_pending` does, for this caller.
-    pub fn is_pending(&mut self, caller: &mut Caller<M, S>, card: Card) -> Result<bool, Refusal>
-        requires { card < card_count M.terms.layout }
-        ensures entered { IfOk result (λ answer.
-            IsEntered self.old (pending_entry caller.old.counts.number card answer) self.new) }
-        ensures pending { IfOk result (λ answer.
-            answer ≡ set.contains (table_in self.old).pending card) }
-        ensures machine { self.new.machine ≡ self.old.machine }
-        ensures made { OnOk result (caller.new ≡ called_once caller.old) }
-        ensures full { (result ≡ Err Refusal.BookFull)
-            ↔ (length self.old.entries ≡ self.old.limit) }
-        ensures err { OnErr result ((self.new ≡ self.old) × (caller.new ≡ caller.old)) }
-    {
-        let answer = self.book.is_pending(caller.counts.number(), card)?;
-        let _entries = self.book.entries();
-        raise_made(&mut self.made, &mut caller.counts);
-        Ok(answer)
-    }
-
-    /// Returns the recorded remembered set of a region, as `Book::members` does, for this caller.
-    pub fn members(
-        &mut self,
-        caller: &mut Caller<M, S>,
-        region: Region,
-    ) -> Result<CardList, Refusal>
-        requires { region < M.terms.layout.regions }
-        ensures entered { IfOk result (λ cards.
-            IsEntered self.old (members_entry caller.old.counts.number region cards) self.new) }
-        ensures members { IfOk result (λ cards. AreMembers (table_in self.old) region cards) }
-        ensures machine { self.new.machine ≡ self.old.machine }
-        ensures made { OnOk result (caller.new ≡ called_once caller.old) }
-        ensures full { (result ≡ Err Refusal.BookFull)
-            ↔ (length self.old.entries ≡ self.old.limit) }
-        ensures err { OnErr result ((self.new ≡ self.old) × (caller.new ≡ caller.old)) }
-    {
-        let cards = self.book.members(caller.counts.number(), region)?;
-        let _entries = self.book.entries();
-        raise_made(&mut self.made, &mut caller.counts);
-        Ok(cards)
-    }
-
-    /// Returns how much is pending and recorded, as `Book::status` does, for this caller.
-    pub fn status(&mut self, caller: &mut Caller<M, S>) -> Result<Status, Refusal>
-        ensures entered { IfOk result (λ status.
-            IsEntered self.old (status_entry caller.old.counts.number status) self.new) }
-        ensures counts { IfOk result (λ status.
-            (status.pending ≡ set.len (table_in self.old).pending)
-            × (status.recorded ≡ set.len (table_in self.old).recorded)) }
-        ensures machine { self.new.machine ≡ self.old.machine }
-        ensures made { OnOk result (caller.new ≡ called_once caller.old) }
-        ensures full { (result ≡ Err Refusal.BookFull)
-            ↔ (length self.old.entries ≡ self.old.limit) }
-        ensures err { OnErr result ((self.new ≡ self.old) × (caller.new ≡ caller.old)) }
-    {
-        let status = self.book.status(caller.counts.number())?;
-        let _entries = self.book.entries();
-        raise_made(&mut self.made, &mut caller.counts);
-        Ok(status)
-    }
-
-    /// Drains a region, as `Book::drain` does, for this caller. The list of a whole drain is exact.
-    pub fn drain(&mut self, caller: &mut Caller<M, S>, region: Region) -> Result<Drained, Refusal>
-        requires { region < M.terms.layout.regions }
-        ensures entered { IfOk result (λ answer.
-            IsEntered self.old (drain_entry caller.old.counts.number region answer) self.new) }
-        ensures exact { IfOk result (λ answer. AnswersExactly self.old region answer) }
-        ensures drained { IfOk result (λ answer.
-            IsDrainOf self.old.machine region answer self.new.machine) }
-        ensures made { OnOk result (caller.new ≡ called_once caller.old) }
-        ensures full { (result ≡ Err Refusal.BookFull)
-            ↔ (length self.old.entries ≡ self.old.limit) }
-        ensures err { OnErr result ((self.new ≡ self.old) × (caller.new ≡ caller.old)) }
-    {
-        let answer = self.book.drain(caller.counts.number(), region)?;
-        let _entries = self.book.entries();
-        raise_made(&mut self.made, &mut caller.counts);
-        Ok(answer)
-    }
-
-    /// Clears the remembered set of a region, as `Book::clear` does, for this caller.
-    pub fn clear(
-        &mut self,
-        caller: &mut Caller<M, S>,
-        region: Region,
-    ) -> Result<ClearReply, Refusal>
-        requires { region < M.terms.layout.regions }
-        ensures entered { IfOk result (λ answer.
-            IsEntered self.old (clear_entry caller.old.counts.number region answer) self.new) }
-        ensures refused { IfOk result (λ answer.
-            answer ≢ ClearReply.Cleared → IsOnlyRead self.old.machine self.new.machine) }
-        ensures ring { self.new.machine.state.ring ≡ self.old.machine.state.ring }
-        ensures unread { 1 ≤ set.len (table_in self.old).pending
-            → self.new.machine.reads ≡ self.old.machine.reads }
-        ensures reads { self.new.machine.reads ≤ self.old.machine.reads
-            + member_count (table_in self.old) region * M.terms.layout.slots }
-        ensures made { OnOk result (caller.new ≡ called_once caller.old) }
-        ensures full { (result ≡ Err Refusal.BookFull)
-            ↔ (length self.old.entries ≡ self.old.limit) }
-        ensures err { OnErr result ((self.new ≡ self.old) × (caller.new ≡ caller.old)) }
-    {
-        let answer = self.book.clear(caller.counts.number(), region)?;
-        let _entries = self.book.entries();
-        raise_made(&mut self.made, &mut caller.counts);
-        Ok(answer)
-    }
-
-    /// Redirects a region's references, as `Book::redirect` does, for this caller.
-    pub fn redirect(
-        &mut self,
-        caller: &mut Caller<M, S>,
-        from: Region,
-        to: Region,
-    ) -> Result<Redirected, Refusal>
-        requires from { from < M.terms.layout.regions }
-        requires to { to < M.terms.layout.regions }
-        requires apart { from ≢ to }
-        ensures entered { IfOk result (λ answer.
-            IsEntered self.old (redirect_entry caller.old.counts.number from to answer) self.new) }
-        ensures redirected { IfOk result (λ answer.
-            IsRedirectOf self.old.machine from to answer self.new.machine) }
-        ensures made { OnOk result (caller.new ≡ called_once caller.old) }
-        ensures full { (result ≡ Err Refusal.BookFull)
-            ↔ (length self.old.entries ≡ self.old.limit) }
-        ensures err { OnErr result ((self.new ≡ self.old) × (caller.new ≡ caller.old)) }
-    {
-        let answer = self.book.redirect(caller.counts.number(), from, to)?;
-        let _entries = self.book.entries();
-        raise_made(&mut self.made, &mut caller.counts);
-        Ok(answer)
-    }
-
     /// The book, whose entries are as many as the shares with all parts say.
     pub(crate) fn audited(self, made: &mut Share<M>, stored: &mut Share<S>) -> Book
         requires made { made.old.parts ≡ M.parts }
@@ -442,13 +181,4 @@ impl<M: Frame, S: Ledger> Counted<M, S> {
         all_stored.audit(stored);
         book
     }
-}
-
-// One more call in the total of all calls and in the caller's counts.
-fn raise_made<M: Frame, S: Ledger>(total: &mut ledger::Book<M>, counts: &mut Counts<M, S>)
-    requires fits { total.old.total + 1 < 2 ^ 64 }
-    ensures total { total.new.total ≡ total.old.total + 1 }
-    ensures counts { counts.new ≡ one_call counts.old }
-{
-    raise(total, &mut counts.made_share, &mut counts.made);
 }

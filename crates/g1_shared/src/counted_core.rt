@@ -1,6 +1,6 @@
 //! A core with the totals of its calls and of its stores: what is under the lock of a shared core.
 //! Its calls are in [`calls`].
-ghost use Rattle.std.specs.Prelude.{◌≡◌, ◌+◌, ◌<◌, ◌≤◌, ◌↔◌, [], false, length, IfOk, OnErr, OnOk};
+ghost use Rattle.std.specs.Prelude.{◌≡◌, ◌<◌, ◌≤◌, ◌↔◌, [], false, IfOk, OnErr, OnOk};
 ghost use Rattle.std.specs.Prelude.{IfSome, option_map};
 ghost use Rattle.g1_layout.specs.Shape.{slot_count, card_of};
 ghost use Rattle.g1_core.specs.Barrier.{logged, buffer_of, fill_of, stored_machine};
@@ -147,7 +147,9 @@ impl<M: Frame, S: Ledger> CountedCore<M, S> {
         ensures err { OnErr result ((self.new ≡ self.old) × (counts.new ≡ counts.old)
             × (mutator.new.log ≡ mutator.old.log)) }
     {
-        self.store_by(counts, &mut mutator.log, slot, target)
+        let mut completed = None;
+        let reply = self.store_by(counts, &mut mutator.log, &mut completed, slot, target)?;
+        Ok((reply, completed))
     }
 
     /// As the core's refinement, by this caller.

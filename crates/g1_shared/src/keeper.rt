@@ -2,13 +2,12 @@
 ghost use Rattle.std.specs.Prelude.{◌≡◌, ◌≢◌, ◌+◌, ◌<◌, ◌≤◌, [], false, length, IfOk, OnErr, OnOk};
 ghost use Rattle.std.specs.Prelude.{IfSome, IsNone, option_map};
 ghost use Rattle.g1_layout.specs.Shape.{slot_count, card_count, card_of};
-ghost use Rattle.g1_core.specs.Barrier.{logged, buffer_of, fill_of, unfilled};
+ghost use Rattle.g1_core.specs.Barrier.{logged, buffer_of, fill_of};
 ghost use Rattle.g1_shared.specs.Counts.{one_call, one_store};
 ghost use Rattle.g1_shared.specs.Callers.{called_once};
 ghost use Rattle.g1_shared.specs.Answers.{IsKindAt, IsReplyAt};
 
 use crate::caller::{Caller, Counts};
-use crate::counted::Counted;
 use crate::ledgers::Frame;
 use g1_book::Refusal;
 use g1_core::{CardList, ClearReply, Drained, Redirected, RefineReply, Status, StoreReply};
@@ -19,51 +18,34 @@ use std::sync::ledger::Ledger;
 /// What a [`Shared`](crate::Shared) keeps under its lock: it makes the calls of the callers, and
 /// counts each call that it makes in the caller's counts.
 ///
-/// [`Counted`] keeps the history of its calls, [`CountedCore`](crate::CountedCore) their totals
-/// alone. The clauses here hold of both; by the guard (`lock`) the same calls have more.
+/// [`Counted`](crate::Counted) keeps the history of its calls, [`CountedCore`](crate::CountedCore)
+/// their totals alone. The clauses here hold of both; those of each say more, and hold of the calls
+/// that a guard (`lock`) makes.
 pub trait Keeper<M: Frame, S: Ledger>: Drop {
-    /// Stores by these counts' caller, with a lent log. A refusal leaves log and counts as they
-    /// were.
+    /// Stores by these counts' caller, with a lent log and a lent place for the buffer that the log
+    /// may complete. A refusal leaves counts, log and place as they were.
     fn store_by(
         &mut self,
         counts: &mut Counts<M, S>,
         log: &mut Log,
-        slot: Slot,
-        target: Option<Slot>,
-    ) -> Result<(StoreReply, Option<Buffer>), Refusal>
-        requires caller { counts.old.number < M.terms.mutators }
-        requires slot { slot < slot_count M.terms.layout }
-        requires target { IfSome target (λ place. place < slot_count M.terms.layout) }
-        ensures fits { IfOk result (λ answer.
-            IsKindAt M.terms.layout slot target answer.0.kind) }
-        ensures fill { IfOk result (λ answer. answer.0.fill ≡ fill_of answer.1) }
-        ensures plain { IfOk result (λ answer. (answer.0.refined ≡ []) × (answer.0.short ≡ false)) }
-        ensures log { IfOk result (λ answer.
-            log.new ≡ logged answer.0.kind log.old (card_of M.terms.layout slot)) }
-        ensures buffer { IfOk result (λ answer.
-            answer.1 ≡ buffer_of answer.0.kind log.old (card_of M.terms.layout slot)) }
-        ensures counts { OnOk result (counts.new ≡ one_store counts.old) }
-        ensures err { OnErr result ((counts.new ≡ counts.old) × (log.new ≡ log.old)) };
-
-    /// Stores as `store_by` does, with a log that has room for more than one card: no buffer is
-    /// handed out.
-    fn store_with_room_by(
-        &mut self,
-        counts: &mut Counts<M, S>,
-        log: &mut Log,
+        completed: &mut Option<Buffer>,
         slot: Slot,
         target: Option<Slot>,
     ) -> Result<StoreReply, Refusal>
         requires caller { counts.old.number < M.terms.mutators }
-        requires room { length log.old.cards + 1 < log.old.size }
+        requires empty { IsNone completed.old }
         requires slot { slot < slot_count M.terms.layout }
         requires target { IfSome target (λ place. place < slot_count M.terms.layout) }
         ensures fits { IfOk result (λ reply. IsKindAt M.terms.layout slot target reply.kind) }
-        ensures reply { IfOk result (λ reply. reply ≡ unfilled reply.kind) }
+        ensures fill { IfOk result (λ reply. reply.fill ≡ fill_of completed.new) }
+        ensures plain { IfOk result (λ reply. (reply.refined ≡ []) × (reply.short ≡ false)) }
         ensures log { IfOk result (λ reply.
             log.new ≡ logged reply.kind log.old (card_of M.terms.layout slot)) }
+        ensures buffer { IfOk result (λ reply.
+            completed.new ≡ buffer_of reply.kind log.old (card_of M.terms.layout slot)) }
         ensures counts { OnOk result (counts.new ≡ one_store counts.old) }
-        ensures err { OnErr result ((counts.new ≡ counts.old) × (log.new ≡ log.old)) };
+        ensures err { OnErr result ((counts.new ≡ counts.old) × (log.new ≡ log.old)
+            × (completed.new ≡ completed.old)) };
 
     /// Refines a lent buffer by these counts' caller; `None` refines nothing, and is a call too.
     fn refine_by(
@@ -127,71 +109,4 @@ pub trait Keeper<M: Frame, S: Ledger>: Drop {
         requires apart { from ≢ to }
         ensures ok { OnOk result (caller.new ≡ called_once caller.old) }
         ensures err { OnErr result (caller.new ≡ caller.old) };
-}
-
-/// Each call is that of [`Counted`].
-impl<M: Frame, S: Ledger> Keeper<M, S> for Counted<M, S> {
-    #[inline(always)]
-    fn store_by(
-        &mut self,
-        counts: &mut Counts<M, S>,
-        log: &mut Log,
-        slot: Slot,
-        target: Option<Slot>,
-    ) -> Result<(StoreReply, Option<Buffer>), Refusal> {
-        self.store_by(counts, log, slot, target)
-    }
-
-    #[inline(always)]
-    fn store_with_room_by(
-        &mut self,
-        counts: &mut Counts<M, S>,
-        log: &mut Log,
-        slot: Slot,
-        target: Option<Slot>,
-    ) -> Result<StoreReply, Refusal> {
-        self.store_with_room_by(counts, log, slot, target)
-    }
-
-    #[inline(always)]
-    fn refine_by(
-        &mut self,
-        counts: &mut Counts<M, S>,
-        buffer: Option<&Buffer>,
-    ) -> Result<RefineReply, Refusal> {
-        self.refine_by(counts, buffer)
-    }
-
-    fn target(&mut self, caller: &mut Caller<M, S>, slot: Slot) -> Result<Option<Slot>, Refusal> {
-        self.target(caller, slot)
-    }
-
-    fn is_pending(&mut self, caller: &mut Caller<M, S>, card: Card) -> Result<bool, Refusal> {
-        self.is_pending(caller, card)
-    }
-
-    fn members(&mut self, caller: &mut Caller<M, S>, region: Region) -> Result<CardList, Refusal> {
-        self.members(caller, region)
-    }
-
-    fn status(&mut self, caller: &mut Caller<M, S>) -> Result<Status, Refusal> {
-        self.status(caller)
-    }
-
-    fn drain(&mut self, caller: &mut Caller<M, S>, region: Region) -> Result<Drained, Refusal> {
-        self.drain(caller, region)
-    }
-
-    fn clear(&mut self, caller: &mut Caller<M, S>, region: Region) -> Result<ClearReply, Refusal> {
-        self.clear(caller, region)
-    }
-
-    fn redirect(
-        &mut self,
-        caller: &mut Caller<M, S>,
-        from: Region,
-        to: Region,
-    ) -> Result<Redirected, Refusal> {
-        self.redirect(caller, from, to)
-    }
 }

@@ -38,27 +38,17 @@ impl<'a, R: Wait, M: Frame, S: Ledger, K: Keeper<M, S>> Calls for LockedCalls<'a
         × (t.counts.now ≡ counted s.counts.now ms)
         × AreAnswersAt M.terms.layout ms };
 
+    #[inline(always)]
     fn store(
         &mut self,
         log: &mut Log,
-        slot: Slot,
-        target: Option<Slot>,
-    ) -> Result<(StoreReply, Option<Buffer>), Refusal> {
-        self.counted
-            .lock(self.rt)
-            .store_by(self.counts, log, slot, target)
-    }
-
-    #[inline(always)]
-    fn store_with_room(
-        &mut self,
-        log: &mut Log,
+        completed: &mut Option<Buffer>,
         slot: Slot,
         target: Option<Slot>,
     ) -> Result<StoreReply, Refusal> {
         self.counted
             .lock(self.rt)
-            .store_with_room_by(self.counts, log, slot, target)
+            .store_by(self.counts, log, completed, slot, target)
     }
 
     fn refine(&mut self, buffer: Option<&Buffer>) -> Result<RefineReply, Refusal> {

@@ -1,7 +1,6 @@
 -- Calls of one caller, as they were answered.
 use Rattle.std.specs.Prelude.{◌≡◌, ℕ, List, [], ◌∷◌, ◌++◌, Option, Result, Ok, Err}
 use Rattle.std.proofs.Common.{sym, subst}
-use Rattle.g1_log.specs.declared.buffer.Buffer.{Buffer}
 use Rattle.g1_core.specs.declared.reply.StoreReply.{StoreReply}
 use Rattle.g1_core.specs.declared.reply.RefineReply.{RefineReply}
 use Rattle.g1_core.specs.declared.entry.Entry.{Entry}
@@ -14,14 +13,10 @@ pub data Made : Type 0 where
   Refined : (buffer : Option (List ℕ)) (reply : RefineReply) → Made
   Refused : (refusal : Refusal) → Made
 
--- the call of a store, of one with room, and of a refinement, by its result
-abbrev pub stores : ℕ → Option ℕ → Result (StoreReply × Option Buffer) Refusal → Made
-stores slot target (Ok answer) = Stored slot target answer.0
+-- the call of a store, and of a refinement, by its result
+abbrev pub stores : ℕ → Option ℕ → Result StoreReply Refusal → Made
+stores slot target (Ok reply) = Stored slot target reply
 stores slot target (Err refusal) = Refused refusal
-
-abbrev pub stores_with_room : ℕ → Option ℕ → Result StoreReply Refusal → Made
-stores_with_room slot target (Ok reply) = Stored slot target reply
-stores_with_room slot target (Err refusal) = Refused refusal
 
 abbrev pub refines : Option (List ℕ) → Result RefineReply Refusal → Made
 refines buffer (Ok reply) = Refined buffer reply

@@ -2,8 +2,8 @@
 ghost use Rattle.std.specs.Prelude.{◌≡◌, ◌<◌, ◌≤◌, ◌+◌, ℕ, Bool, [], ◌∷◌, ◌++◌, List, true, false};
 ghost use Rattle.std.specs.Prelude.{length, IfOk, OnErr, IfSome, IsNone, option_map};
 ghost use Rattle.g1_layout.specs.Shape.{Shape, slot_count, card_of};
-ghost use Rattle.g1_core.specs.Barrier.{logged, buffer_of, fill_of, unfilled};
-ghost use Rattle.g1_steps.specs.Made.{Made, stores, stores_with_room, refines};
+ghost use Rattle.g1_core.specs.Barrier.{logged, buffer_of, fill_of};
+ghost use Rattle.g1_steps.specs.Made.{Made, stores, refines};
 
 use g1_book::Refusal;
 use g1_core::{RefineReply, StoreReply};
@@ -31,43 +31,28 @@ pub trait Calls {
 
     /// Stores a reference, or null, with the given log.
     ///
-    /// A logged store pushes its card into the log. If that fills the log, all its cards are
-    /// returned in a buffer, and the log is then empty. A refusal leaves the log as it was.
+    /// A logged store pushes its card into the log. If that fills the log, all its cards go as a
+    /// buffer into the place that is lent for it, which is empty before, and the log is then empty.
+    /// A refusal leaves log and place as they were.
     fn store(
         &mut self,
         log: &mut Log,
-        slot: Slot,
-        target: Option<Slot>,
-    ) -> Result<(StoreReply, Option<Buffer>), Refusal>
-        requires caller { may_store self.old ≡ true }
-        requires slot { slot < slot_count (layout self.old) }
-        requires target { IfSome target (λ place. place < slot_count (layout self.old)) }
-        ensures made { did self.old (stores slot target result ∷ []) self.new }
-        ensures fill { IfOk result (λ answer. answer.0.fill ≡ fill_of answer.1) }
-        ensures plain { IfOk result (λ answer. (answer.0.refined ≡ []) × (answer.0.short ≡ false)) }
-        ensures log { IfOk result (λ answer.
-            log.new ≡ logged answer.0.kind log.old (card_of (layout self.old) slot)) }
-        ensures buffer { IfOk result (λ answer.
-            answer.1 ≡ buffer_of answer.0.kind log.old (card_of (layout self.old) slot)) }
-        ensures err_log { OnErr result (log.new ≡ log.old) };
-
-    /// Stores as `store` does, with a log that one more card does not fill (`Log::has_room`): no
-    /// buffer is handed out. A refusal leaves the log as it was.
-    fn store_with_room(
-        &mut self,
-        log: &mut Log,
+        completed: &mut Option<Buffer>,
         slot: Slot,
         target: Option<Slot>,
     ) -> Result<StoreReply, Refusal>
         requires caller { may_store self.old ≡ true }
-        requires room { length log.old.cards + 1 < log.old.size }
+        requires empty { IsNone completed.old }
         requires slot { slot < slot_count (layout self.old) }
         requires target { IfSome target (λ place. place < slot_count (layout self.old)) }
-        ensures made { did self.old (stores_with_room slot target result ∷ []) self.new }
-        ensures reply { IfOk result (λ reply. reply ≡ unfilled reply.kind) }
+        ensures made { did self.old (stores slot target result ∷ []) self.new }
+        ensures fill { IfOk result (λ reply. reply.fill ≡ fill_of completed.new) }
+        ensures plain { IfOk result (λ reply. (reply.refined ≡ []) × (reply.short ≡ false)) }
         ensures log { IfOk result (λ reply.
             log.new ≡ logged reply.kind log.old (card_of (layout self.old) slot)) }
-        ensures err_log { OnErr result (log.new ≡ log.old) };
+        ensures buffer { IfOk result (λ reply.
+            completed.new ≡ buffer_of reply.kind log.old (card_of (layout self.old) slot)) }
+        ensures err { OnErr result ((log.new ≡ log.old) × (completed.new ≡ completed.old)) };
 
     /// Refines a buffer: its cards take their turns, oldest first. `None` refines nothing, and is a
     /// call too.

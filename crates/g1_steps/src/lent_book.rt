@@ -42,23 +42,16 @@ impl Calls for LentBook<'_> {
     ghost did = { λ s ms t. (t.book.ghost_name ≡ s.book.ghost_name) × (t.caller ≡ s.caller)
         × AreCalls (IsBookCall s.caller) s.book.now ms t.book.now };
 
+    #[inline(always)]
     fn store(
         &mut self,
         log: &mut Log,
-        slot: Slot,
-        target: Option<Slot>,
-    ) -> Result<(StoreReply, Option<Buffer>), Refusal> {
-        self.book.store(self.caller, log, slot, target)
-    }
-
-    #[inline(always)]
-    fn store_with_room(
-        &mut self,
-        log: &mut Log,
+        completed: &mut Option<Buffer>,
         slot: Slot,
         target: Option<Slot>,
     ) -> Result<StoreReply, Refusal> {
-        self.book.store_with_room(self.caller, log, slot, target)
+        self.book
+            .store_into(self.caller, log, completed, slot, target)
     }
 
     fn refine(&mut self, buffer: Option<&Buffer>) -> Result<RefineReply, Refusal> {

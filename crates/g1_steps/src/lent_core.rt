@@ -39,23 +39,15 @@ impl Calls for LentCore<'_> {
     ghost did = { λ s ms t. (t.core.ghost_name ≡ s.core.ghost_name)
         × AreCalls IsCoreCall s.core.now ms t.core.now };
 
+    #[inline(always)]
     fn store(
         &mut self,
         log: &mut Log,
-        slot: Slot,
-        target: Option<Slot>,
-    ) -> Result<(StoreReply, Option<Buffer>), Refusal> {
-        Ok(self.core.store(log, slot, target))
-    }
-
-    #[inline(always)]
-    fn store_with_room(
-        &mut self,
-        log: &mut Log,
+        completed: &mut Option<Buffer>,
         slot: Slot,
         target: Option<Slot>,
     ) -> Result<StoreReply, Refusal> {
-        Ok(self.core.store_with_room(log, slot, target))
+        Ok(self.core.store_into(log, completed, slot, target))
     }
 
     fn refine(&mut self, buffer: Option<&Buffer>) -> Result<RefineReply, Refusal> {

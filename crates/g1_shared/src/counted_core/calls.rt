@@ -3,7 +3,7 @@ ghost use Rattle.std.specs.Prelude.{◌≡◌, ◌≢◌, ◌+◌, ◌-◌, ◌*
 ghost use Rattle.std.specs.Prelude.{min, All, IfOk, OnErr, OnOk, IfSome, IsNone, option_map};
 ghost use Rattle.std.specs.FinSet as set;
 ghost use Rattle.g1_layout.specs.Shape.{slot_count, card_count, card_of};
-ghost use Rattle.g1_core.specs.Barrier.{logged, buffer_of, fill_of, unfilled, stored_machine};
+ghost use Rattle.g1_core.specs.Barrier.{logged, buffer_of, fill_of, stored_machine};
 ghost use Rattle.g1_core.specs.Calls.{store_entry, refine_entry, target_entry, pending_entry};
 ghost use Rattle.g1_core.specs.Calls.{members_entry, status_entry, drain_cards, drain_entry};
 ghost use Rattle.g1_core.specs.Calls.{clear_entry, redirect_entry};
@@ -31,77 +31,45 @@ use std::sync::ledger::Ledger;
 
 /// The calls of the core, each counted once.
 impl<M: Frame, S: Ledger> Keeper<M, S> for CountedCore<M, S> {
-    /// As the core's store, by these counts' caller and with a lent log.
+    /// As the core's store, by these counts' caller, with a lent log and a lent place.
+    #[inline(always)]
     fn store_by(
         &mut self,
         counts: &mut Counts<M, S>,
         log: &mut Log,
-        slot: Slot,
-        target: Option<Slot>,
-    ) -> Result<(StoreReply, Option<Buffer>), Refusal>
-        requires caller { counts.old.number < M.terms.mutators }
-        requires slot { slot < slot_count M.terms.layout }
-        requires target { IfSome target (λ place. place < slot_count M.terms.layout) }
-        ensures kind { IfOk result (λ answer.
-            answer.0.kind ≡ kind_of self.old.machine.state.table slot target) }
-        ensures machine { OnOk result (self.new.machine
-            ≡ stored_machine self.old.machine slot target) }
-        ensures fits { IfOk result (λ answer.
-            IsKindAt M.terms.layout slot target answer.0.kind) }
-        ensures fill { IfOk result (λ answer. answer.0.fill ≡ fill_of answer.1) }
-        ensures plain { IfOk result (λ answer. (answer.0.refined ≡ []) × (answer.0.short ≡ false)) }
-        ensures log { IfOk result (λ answer.
-            log.new ≡ logged answer.0.kind log.old (card_of M.terms.layout slot)) }
-        ensures buffer { IfOk result (λ answer.
-            answer.1 ≡ buffer_of answer.0.kind log.old (card_of M.terms.layout slot)) }
-        ensures step { IfOk result (λ answer.
-            IsCoreStep self.old (λ number. store_entry number slot target answer.0) self.new) }
-        ensures later { OnOk result (IsLater self.old.machine self.new.machine) }
-        ensures totals { OnOk result (self.new.totals ≡ with_store self.old.totals) }
-        ensures counts { OnOk result (counts.new ≡ one_store counts.old) }
-        ensures full { (result ≡ Err Refusal.BookFull) ↔ IsFull self.old }
-        ensures err { OnErr result ((self.new ≡ self.old) × (counts.new ≡ counts.old)
-            × (log.new ≡ log.old)) }
-    {
-        if self.counters.is_full() {
-            return Err(Refusal::BookFull);
-        }
-        let answer = self.core.store(log, slot, target);
-        self.counters.store(counts);
-        Ok(answer)
-    }
-
-    /// As the core's store with room, by these counts' caller and with a lent log.
-    #[inline(always)]
-    fn store_with_room_by(
-        &mut self,
-        counts: &mut Counts<M, S>,
-        log: &mut Log,
+        completed: &mut Option<Buffer>,
         slot: Slot,
         target: Option<Slot>,
     ) -> Result<StoreReply, Refusal>
         requires caller { counts.old.number < M.terms.mutators }
-        requires room { length log.old.cards + 1 < log.old.size }
+        requires empty { IsNone completed.old }
         requires slot { slot < slot_count M.terms.layout }
         requires target { IfSome target (λ place. place < slot_count M.terms.layout) }
-        ensures fits { IfOk result (λ reply. IsKindAt M.terms.layout slot target reply.kind) }
-        ensures reply { IfOk result (λ reply. reply ≡ unfilled reply.kind) }
         ensures kind { IfOk result (λ reply.
             reply.kind ≡ kind_of self.old.machine.state.table slot target) }
         ensures machine { OnOk result (self.new.machine
             ≡ stored_machine self.old.machine slot target) }
+        ensures fits { IfOk result (λ reply. IsKindAt M.terms.layout slot target reply.kind) }
+        ensures fill { IfOk result (λ reply. reply.fill ≡ fill_of completed.new) }
+        ensures plain { IfOk result (λ reply. (reply.refined ≡ []) × (reply.short ≡ false)) }
         ensures log { IfOk result (λ reply.
             log.new ≡ logged reply.kind log.old (card_of M.terms.layout slot)) }
+        ensures buffer { IfOk result (λ reply.
+            completed.new ≡ buffer_of reply.kind log.old (card_of M.terms.layout slot)) }
+        ensures step { IfOk result (λ reply.
+            IsCoreStep self.old (λ number. store_entry number slot target reply) self.new) }
+        ensures later { OnOk result (IsLater self.old.machine self.new.machine) }
         ensures totals { OnOk result (self.new.totals ≡ with_store self.old.totals) }
         ensures counts { OnOk result (counts.new ≡ one_store counts.old) }
         ensures full { (result ≡ Err Refusal.BookFull) ↔ IsFull self.old }
-        ensures err { OnErr result ((self.new ≡ self.old) × (counts.new ≡ counts.old)
-            × (log.new ≡ log.old)) }
+        ensures kept { OnErr result (self.new ≡ self.old) }
+        ensures err { OnErr result ((counts.new ≡ counts.old) × (log.new ≡ log.old)
+            × (completed.new ≡ completed.old)) }
     {
         if self.counters.is_full() {
             return Err(Refusal::BookFull);
         }
-        let reply = self.core.store_with_room(log, slot, target);
+        let reply = self.core.store_into(log, completed, slot, target);
         self.counters.store(counts);
         Ok(reply)
     }

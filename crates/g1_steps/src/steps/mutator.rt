@@ -86,49 +86,9 @@ impl Mutator {
         ensures err_ends { OnErr result ((self.new.log ≡ self.old.log)
             × (self.new.sender ≡ self.old.sender)) }
     {
-        if self.log.has_room() {
-            let reply = calls.store_with_room(&mut self.log, slot, target)?;
-            return Ok(reply);
-        }
-        self.store_last(rt, line, calls, slot, target)
-    }
-
-    // A store that may fill the log. It is apart, so that one that cannot makes no place for a
-    // buffer.
-    #[inline(never)]
-    fn store_last<C: Calls, R: Wait>(
-        &mut self,
-        rt: &R,
-        line: &Line,
-        calls: &mut C,
-        slot: Slot,
-        target: Option<Slot>,
-    ) -> Result<StoreReply, Refusal>
-        requires caller { C.may_store calls.old ≡ true }
-        requires slot { slot < slot_count (C.layout calls.old) }
-        requires target { IfSome target (λ place. place < slot_count (C.layout calls.old)) }
-        requires line { IsSenderOf line.now self.old.sender }
-        ensures stored { IfOk result (λ reply.
-            IsStored C.did calls.old slot target (self.old.log.cards
-            ++ card_of (C.layout calls.old) slot ∷ []) reply calls.new) }
-        ensures log { IfOk result (λ reply.
-            self.new.log ≡ logged reply.kind self.old.log (card_of (C.layout calls.old) slot)) }
-        ensures fill { IfOk result (λ reply.
-            (reply.fill ≡ Fill.No)
-            ↔ IsNone (buffer_of reply.kind self.old.log (card_of (C.layout calls.old) slot))) }
-        ensures put { IfOk result (λ reply.
-            PutsBy reply.fill (self.old.log.cards ++ card_of (C.layout calls.old) slot
-            ∷ []) (put_of self.old.sender) (put_of self.new.sender)) }
-        ensures helped { IfOk result (λ reply.
-            reply.fill ≡ Fill.Helped → MayRefuse line.now self.old.sender) }
-        ensures empty { IfOk result (λ reply. reply.fill ≢ Fill.No → self.new.log.cards ≡ []) }
-        ensures same { IsSameSender self.new.sender self.old.sender }
-        ensures err { IfErr result (λ refusal. C.did calls.old (Refused refusal ∷ []) calls.new) }
-        ensures err_ends { OnErr result ((self.new.log ≡ self.old.log)
-            × (self.new.sender ≡ self.old.sender)) }
-    {
-        let (first, filled) = calls.store(&mut self.log, slot, target)?;
-        let Some(buffer) = filled else {
+        let mut completed = None;
+        let first = calls.store(&mut self.log, &mut completed, slot, target)?;
+        let Some(buffer) = completed else {
             return Ok(first);
         };
         let passed = pass_on(rt, line, &mut self.sender, calls, buffer);
@@ -188,6 +148,7 @@ struct Passed {
 }
 
 /// Puts a buffer into the queue, and refines it if the queue hands it back.
+#[inline(never)]
 fn pass_on<C: Calls, R: Wait>(
     rt: &R,
     line: &Line,

@@ -3,7 +3,7 @@ use Rattle.g1_layout.specs.declared.kind.Kind.TheVariants.{Logged}
 use Rattle.g1_steps.specs.Made.{Stored}
 use Rattle.g1_steps.specs.Steps.{help_calls, filled}
 use Rattle.g1_steps.proofs.StepLemmas.{handed_out, store_passed}
-use Rattle.g1_steps.proofs.steps.mutator.Mutator.store_last.Goals as goal
+use Rattle.g1_steps.proofs.steps.mutator.Mutator.store.Goals as goal
 
 pub returns-clause-stored : goal.returns-clause-stored
 returns-clause-stored g c =
