@@ -7,10 +7,10 @@ use Rattle.std.proofs.lemmas.Bool.{cases_Bool, eq-eqb, eqb-true, ne_eqb, falseâ‰
 use Rattle.std.proofs.lemmas.List.{get_or-set_same, get_or-set_other, length-set, length-drop}
 use Rattle.g1_layout.specs.Shape.{Shape, slot_count}
 use Rattle.g1_steps.specs.Ask.{StepFits, ScriptFits}
-use Rattle.g1_steps.specs.declared.desk.Step.{Step}
-use Rattle.g1_steps.specs.declared.desk.Step.TheVariants as step
-use Rattle.g1_steps.specs.declared.desk.Script.{Script}
-use Rattle.g1_steps.specs.declared.desk.Script.TheVariants.{Mutate, Refine}
+use Rattle.g1_steps.specs.declared.crew.desk.Step.{Step}
+use Rattle.g1_steps.specs.declared.crew.desk.Step.TheVariants as step
+use Rattle.g1_steps.specs.declared.crew.desk.Script.{Script}
+use Rattle.g1_steps.specs.declared.crew.desk.Script.TheVariants.{Mutate, Refine}
 use Rattle.g1_trace.specs.declared.command.Command.{Command}
 use Rattle.g1_trace.specs.declared.command.Command.TheVariants.{Store, Flush}
 use Rattle.g1_trace.specs.Grammar.{IsCommandOf}

@@ -8,9 +8,9 @@ use Rattle.std.proofs.lemmas.List.Sums.{sum_by-cons}
 use Rattle.g1_book.specs.declared.refusal.Refusal.{Refusal}
 use Rattle.g1_steps.specs.Ask.{Ask, asks_in, is_store_ask}
 use Rattle.g1_steps.specs.Ran.{Ran}
-use Rattle.g1_steps.specs.declared.desk.Script.{Script}
-use Rattle.g1_steps.specs.declared.desk.Step.{Step}
-use Rattle.g1_steps.specs.declared.job.Job.{Job}
+use Rattle.g1_steps.specs.declared.crew.desk.Script.{Script}
+use Rattle.g1_steps.specs.declared.crew.desk.Step.{Step}
+use Rattle.g1_steps.specs.declared.crew.job.Job.{Job}
 use Rattle.g1_shared.specs.Counts.{Tally}
 use Rattle.g1_shared.specs.Callers.{Standing}
 use Rattle.g1_shared.specs.Did.{DeskDid}

@@ -14,12 +14,12 @@ use Rattle.g1_race_words.specs.declared.view.View.{View}
 use Rattle.g1_race_words.specs.Rule.{History, In, histories_of}
 use Rattle.g1_race.specs.Race.{Among}
 use Rattle.g1_race.specs.Members.{racer_view}
-use Rattle.g1_steps.specs.declared.job.Job.{Job}
-use Rattle.g1_steps.specs.declared.desk.Script.{Script}
-use Rattle.g1_steps.specs.declared.desk.Script.TheVariants.{Mutate, Refine}
+use Rattle.g1_steps.specs.declared.crew.job.Job.{Job}
+use Rattle.g1_steps.specs.declared.crew.desk.Script.{Script}
+use Rattle.g1_steps.specs.declared.crew.desk.Script.TheVariants.{Mutate, Refine}
 use Rattle.g1_book.specs.declared.refusal.Refusal.{Refusal}
-use Rattle.g1_steps.specs.declared.desk.Step.{Step}
-use Rattle.g1_steps.specs.declared.desk.Step.TheVariants as step
+use Rattle.g1_steps.specs.declared.crew.desk.Step.{Step}
+use Rattle.g1_steps.specs.declared.crew.desk.Step.TheVariants as step
 use Rattle.g1_steps.specs.Ask.{Ask, ScriptFits, StepFits, asks_in, asks_of}
 use Rattle.g1_steps.specs.Ran.{Ran}
 use Rattle.g1_trace.specs.declared.command.Command.{Command}

@@ -7,10 +7,10 @@ use Rattle.std.proofs.lemmas.List.{take_more}
 use Rattle.std.proofs.lemmas.List.Elements.{filter_map-append, All-nil, All-cons, All-head, All-tail}
 use Rattle.g1_layout.specs.Shape.{Shape, slot_count}
 use Rattle.g1_steps.specs.Ask.{StepFits, ScriptFits}
-use Rattle.g1_steps.specs.declared.desk.Step.{Step}
-use Rattle.g1_steps.specs.declared.desk.Step.TheVariants as step
-use Rattle.g1_steps.specs.declared.desk.Script.{Script}
-use Rattle.g1_steps.specs.declared.desk.Script.TheVariants.{Mutate, Refine}
+use Rattle.g1_steps.specs.declared.crew.desk.Step.{Step}
+use Rattle.g1_steps.specs.declared.crew.desk.Step.TheVariants as step
+use Rattle.g1_steps.specs.declared.crew.desk.Script.{Script}
+use Rattle.g1_steps.specs.declared.crew.desk.Script.TheVariants.{Mutate, Refine}
 use Rattle.g1_book.specs.declared.refusal.Refusal.{Refusal}
 use Rattle.g1_trace.specs.declared.command.Command.{Command}
 use Rattle.g1_trace.specs.declared.command.Command.TheVariants.{Store, Flush}

@@ -7,7 +7,7 @@ use Rattle.g1_race_words.specs.Rule.{In, last_to}
 use Rattle.g1_race.specs.Race.{word_of}
 use Rattle.g1_race_words.proofs.Plain.{in_either}
 use Rattle.g1_steps.specs.Ask.{Ask, AskStore, AskFlush, AskWork, asks_of}
-use Rattle.g1_steps.specs.declared.desk.Step.TheVariants as step
+use Rattle.g1_steps.specs.declared.crew.desk.Step.TheVariants as step
 use Rattle.g1_trace.specs.declared.command.Command.{Command}
 use Rattle.g1_trace.specs.declared.command.Command.TheVariants.{Store, Flush}
 use Rattle.g1_replay.specs.Members.{histories_after}

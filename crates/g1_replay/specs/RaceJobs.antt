@@ -12,9 +12,9 @@ use Rattle.g1_race.specs.Members.{racer_view}
 use Rattle.g1_race.specs.Over.{Ended, refs_of, table_of}
 use Rattle.g1_core.specs.Table.{Holds, IsCovered, IsRecorded}
 use Rattle.g1_core.specs.Adoption.{IsPairOf}
-use Rattle.g1_steps.specs.declared.desk.Script.{Script}
-use Rattle.g1_steps.specs.declared.desk.Script.TheVariants.{Mutate, Refine}
-use Rattle.g1_steps.specs.declared.desk.Step.TheVariants as step
+use Rattle.g1_steps.specs.declared.crew.desk.Script.{Script}
+use Rattle.g1_steps.specs.declared.crew.desk.Script.TheVariants.{Mutate, Refine}
+use Rattle.g1_steps.specs.declared.crew.desk.Step.TheVariants as step
 use Rattle.g1_trace.specs.declared.command.Command.{Command}
 use Rattle.g1_replay.specs.declared.race_desk.Member.{Member}
 use Rattle.g1_replay.specs.declared.race_desk.Member.TheVariants.{Racing, Sweeping}

@@ -2,7 +2,7 @@
 use Rattle.std.proofs.Common.{◌≡◌, ℕ, ◌+◌, ◌<◌, List, [], ◌∷◌, ◌++◌, length, take, get_or, map, sym, ap, ◌∙◌, append_assoc}
 use Rattle.std.proofs.lemmas.List.{take_more, map-append}
 use Rattle.std.specs.List.{AllZip}
-use Rattle.g1_steps.specs.declared.desk.Step.{Step}
+use Rattle.g1_steps.specs.declared.crew.desk.Step.{Step}
 use Rattle.g1_steps.specs.Ask.{ask_of, asks_of}
 
 pub asks_more : (steps : List Step) (i : ℕ) (d : Step) → i < length steps → asks_of (take (i + 1) steps) ≡ asks_of (take i steps) ++ ask_of (get_or steps i d) ∷ []

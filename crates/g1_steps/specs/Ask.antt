@@ -1,10 +1,10 @@
 -- What a worker asks of its desk.
 use Rattle.std.specs.Prelude.{◌≡◌, ℕ, ◌<◌, Bool, true, false, List, map, replicate, All, Option}
 use Rattle.std.specs.Prelude.{IfSome}
-use Rattle.g1_steps.specs.declared.desk.Step.{Step}
-use Rattle.g1_steps.specs.declared.desk.Step.TheVariants.{Store, Flush}
-use Rattle.g1_steps.specs.declared.desk.Script.{Script}
-use Rattle.g1_steps.specs.declared.desk.Script.TheVariants.{Mutate, Refine}
+use Rattle.g1_steps.specs.declared.crew.desk.Step.{Step}
+use Rattle.g1_steps.specs.declared.crew.desk.Step.TheVariants.{Store, Flush}
+use Rattle.g1_steps.specs.declared.crew.desk.Script.{Script}
+use Rattle.g1_steps.specs.declared.crew.desk.Script.TheVariants.{Mutate, Refine}
 
 pub data Ask : Type 0 where
   AskStore : (slot : ℕ) (target : Option ℕ) → Ask

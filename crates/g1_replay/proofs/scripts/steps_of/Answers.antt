@@ -1,5 +1,5 @@
 use Rattle.std.proofs.Common.{List, [], ◌∷◌, ◌++◌, ap, sym, ◌∙◌}
-use Rattle.g1_steps.specs.declared.desk.Step.{Step}
+use Rattle.g1_steps.specs.declared.crew.desk.Step.{Step}
 use Rattle.g1_replay.specs.Scripts.{step_for}
 use Rattle.g1_replay.proofs.ScriptLemmas.{step_more, no_step_more}
 use Rattle.g1_replay.proofs.scripts.steps_of.Goals as goal

@@ -3,7 +3,7 @@ use Rattle.std.proofs.lemmas.List.Elements.{All-push, All-set}
 use Rattle.std.proofs.lemmas.Result.{err_from_is_err_and}
 use Rattle.g1_layout.specs.Shape.{slot_count}
 use Rattle.g1_steps.specs.Ask.{StepFits}
-use Rattle.g1_steps.specs.declared.desk.Step.{Step}
+use Rattle.g1_steps.specs.declared.crew.desk.Step.{Step}
 use Rattle.g1_replay.specs.Scripts.{asked_in}
 use Rattle.g1_replay.proofs.CrewScriptLemmas.{Kept, Unfilled, kept_silent, kept_at, kept_none, nothing_own, one_own, asked_none, asked_own, asked_other, asked_fits}
 use Rattle.g1_replay.proofs.ScriptedLemmas.{is_kept, not_kept}

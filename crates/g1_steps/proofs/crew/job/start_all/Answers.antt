@@ -2,7 +2,7 @@ use Rattle.std.proofs.Common.{arith, ap, ◌∙◌}
 use Rattle.g1_steps.specs.Ask.{ScriptFits}
 use Rattle.std.proofs.lemmas.List.Elements.{All-rest}
 use Rattle.g1_steps.proofs.WorkerLemmas.{started_more}
-use Rattle.g1_steps.proofs.job.start_all.Goals as goal
+use Rattle.g1_steps.proofs.crew.job.start_all.Goals as goal
 
 pub loop-job-preserved : goal.loop-job-preserved
 loop-job-preserved g c =

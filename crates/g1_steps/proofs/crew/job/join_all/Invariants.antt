@@ -3,7 +3,7 @@ use Rattle.std.specs.List.{AllZip}
 use Rattle.std.specs.Vec.Iter.{into_iter_len, into_iter_items}
 use Rattle.g1_steps.specs.Ask.{asks_in}
 use Rattle.g1_steps.specs.Ran.{Ran}
-use Rattle.g1_steps.proofs.job.join_all.Given as goal
+use Rattle.g1_steps.proofs.crew.job.join_all.Given as goal
 
 abbrev pub invariant-loop-handle : goal.invariant-loop-handle
 invariant-loop-handle g l =

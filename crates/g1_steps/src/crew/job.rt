@@ -5,8 +5,8 @@ ghost use Rattle.std.specs.List.{AllZip};
 ghost use Rattle.g1_steps.specs.Ask.{asks_in, ScriptFits};
 ghost use Rattle.g1_steps.specs.Ran.{Ran};
 
-use crate::desk::{Desk, Outcome, Script};
-use crate::worker::{mutate, refiner};
+use crate::crew::desk::{Desk, Outcome, Script};
+use crate::crew::worker::{mutate, refiner};
 use std::alloc::Global;
 use std::marker::Send;
 use std::snapshot::Snapshot;

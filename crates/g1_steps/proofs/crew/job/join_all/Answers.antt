@@ -1,7 +1,7 @@
 use Rattle.std.proofs.Common.{◌++◌, arith, ap, sym, ◌∙◌, append_assoc}
 use Rattle.std.proofs.lemmas.List.{map-append}
 use Rattle.g1_steps.proofs.WorkerLemmas.{all_zip_push}
-use Rattle.g1_steps.proofs.job.join_all.Goals as goal
+use Rattle.g1_steps.proofs.crew.job.join_all.Goals as goal
 
 pub loop-handle-preserved : goal.loop-handle-preserved
 loop-handle-preserved g c =

@@ -2,7 +2,7 @@ use Rattle.std.proofs.Common.{◌≤◌, [], ◌∷◌, arith, append-nil}
 use Rattle.std.specs.Prelude.{replicate}
 use Rattle.std.proofs.lemmas.List.{replicate-append-replicate, take-replicate, length-replicate}
 use Rattle.g1_steps.specs.Ask.{AskWork}
-use Rattle.g1_steps.proofs.worker.refiner.Goals as goal
+use Rattle.g1_steps.proofs.crew.worker.refiner.Goals as goal
 
 pub returns-in-Err : goal.returns-in-Err
 returns-in-Err g c =

@@ -3,7 +3,7 @@ ghost use Rattle.std.specs.Prelude.{◌≡◌, ◌<◌, [], ◌∷◌, replicate
 ghost use Rattle.g1_steps.specs.Ask.{AskWork, ask_of, asks_of, StepFits};
 ghost use Rattle.g1_steps.specs.Ran.{HasAsked};
 
-use crate::desk::{Desk, Outcome, Step};
+use crate::crew::desk::{Desk, Outcome, Step};
 use g1_book::Refusal;
 
 /// Makes the calls of a mutator's script, in order, and returns how many were made: all of them. If

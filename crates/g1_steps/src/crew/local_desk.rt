@@ -10,7 +10,7 @@ ghost use Rattle.g1_steps.specs.Marks.{mutator_mark, taker_mark};
 ghost use Rattle.g1_steps.specs.Served.{HasServed, IsRefusedFor, served_then};
 
 use crate::calls::Calls;
-use crate::desk::Desk;
+use crate::crew::desk::Desk;
 use crate::steps::{FlushReply, Mutator, work};
 use g1_book::Refusal;
 use g1_core::{RefineReply, StoreReply};

@@ -1,6 +1,6 @@
 use Rattle.std.proofs.Common.{◌≡◌, take}
 use Rattle.g1_steps.specs.Ask.{asks_of}
-use Rattle.g1_steps.proofs.worker.mutate.Given as goal
+use Rattle.g1_steps.proofs.crew.worker.mutate.Given as goal
 
 abbrev pub invariant-loop-step : goal.invariant-loop-step
 invariant-loop-step g l = (l.made ≡ l.step-index) × g.D.Desk.did l.initial.desk (asks_of (take l.step-index l.steps)) l.desk
