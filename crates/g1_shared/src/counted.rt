@@ -14,8 +14,8 @@ ghost use Rattle.g1_book.specs.History.{IsEntered, table_in, terms_of};
 mod calls;
 
 use crate::caller::{Caller, Counts};
-use crate::keeper::Keeper;
 use crate::ledgers::Frame;
+use crate::lending::LendingCalls;
 use g1_book::{Book, Refusal};
 use g1_core::{RefineReply, StoreReply};
 use g1_layout::Slot;

@@ -15,8 +15,8 @@ ghost use Rattle.g1_shared.specs.Totals.{with_call, with_store, IsCoreStep, IsFu
 mod calls;
 
 use crate::caller::{Caller, Counts};
-use crate::keeper::Keeper;
 use crate::ledgers::Frame;
+use crate::lending::LendingCalls;
 use crate::totals::{Counters, Totals};
 use g1_book::Refusal;
 use g1_core::{Core, RefineReply, StoreReply};

@@ -5,8 +5,8 @@ ghost use Rattle.g1_shared.specs.Counts.{counted, counted_then, counted_number};
 ghost use Rattle.g1_shared.specs.Answers.{AreAnswersAt, answers_then};
 
 use crate::caller::Counts;
-use crate::keeper::Keeper;
 use crate::ledgers::Frame;
+use crate::shared::Keeper;
 use g1_book::Refusal;
 use g1_core::{RefineReply, StoreReply};
 use g1_layout::Slot;

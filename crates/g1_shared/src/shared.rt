@@ -12,8 +12,8 @@ mod steps;
 
 use crate::counted::Counted;
 use crate::counted_core::CountedCore;
-use crate::keeper::Keeper;
 use crate::ledgers::Frame;
+pub use calls::Keeper;
 use g1_log::Line;
 use std::alloc::Global;
 use std::marker::{Model, PhantomData};

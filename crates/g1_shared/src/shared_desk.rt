@@ -11,9 +11,8 @@ ghost use Rattle.g1_shared.specs.Did.{DeskDid, caller_did_none, desk_did_then};
 
 use crate::caller::Caller;
 use crate::counted::Counted;
-use crate::keeper::Keeper;
 use crate::ledgers::Frame;
-use crate::shared::Shared;
+use crate::shared::{Keeper, Shared};
 use g1_book::Refusal;
 use g1_core::{RefineReply, StoreReply};
 use g1_layout::Slot;

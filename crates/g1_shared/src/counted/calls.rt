@@ -21,8 +21,9 @@ ghost use Rattle.g1_book.specs.History.{IsEntered, AnswersExactly, table_in};
 
 use crate::caller::{Caller, Counts};
 use crate::counted::Counted;
-use crate::keeper::Keeper;
 use crate::ledgers::{Frame, raise};
+use crate::lending::LendingCalls;
+use crate::shared::Keeper;
 use g1_book::Refusal;
 use g1_core::{CardList, ClearReply, Drained, Redirected, RefineReply, Status, StoreReply};
 use g1_layout::{Card, Region, Slot};
@@ -32,7 +33,7 @@ use std::sync::ledger::Ledger;
 
 /// Each is the call of the book, by the number of its caller.
 #[tactic(auto, using(crate::proofs::CountLemmas::stores_more, crate::proofs::CallLemmas::if_refused, crate::proofs::CallLemmas::on_refused, crate::proofs::CallLemmas::err_refused, crate::proofs::CallLemmas::full_as, crate::proofs::CallLemmas::still_some, crate::proofs::CallLemmas::same_counted, crate::proofs::CallLemmas::called, crate::proofs::CallLemmas::call_counted, crate::proofs::CallLemmas::total_fits, crate::proofs::CallLemmas::call_tallied, crate::proofs::CallLemmas::store_tallied, crate::proofs::CallLemmas::store_counted, crate::proofs::KindLemmas::kind_at))]
-impl<M: Frame, S: Ledger> Keeper<M, S> for Counted<M, S> {
+impl<M: Frame, S: Ledger> LendingCalls<M, S> for Counted<M, S> {
     /// As the book's store, by these counts' caller, with the given log and the lent place.
     #[inline(always)]
     fn store_by(
@@ -106,7 +107,11 @@ impl<M: Frame, S: Ledger> Keeper<M, S> for Counted<M, S> {
         raise(&mut self.made, &mut counts.made_share, &mut counts.made);
         Ok(reply)
     }
+}
 
+/// Each is the call of the book, by the number of its caller.
+#[tactic(auto, using(crate::proofs::CountLemmas::stores_more, crate::proofs::CallLemmas::if_refused, crate::proofs::CallLemmas::on_refused, crate::proofs::CallLemmas::err_refused, crate::proofs::CallLemmas::full_as, crate::proofs::CallLemmas::still_some, crate::proofs::CallLemmas::same_counted, crate::proofs::CallLemmas::called, crate::proofs::CallLemmas::call_counted, crate::proofs::CallLemmas::total_fits, crate::proofs::CallLemmas::call_tallied, crate::proofs::CallLemmas::store_tallied, crate::proofs::CallLemmas::store_counted, crate::proofs::KindLemmas::kind_at))]
+impl<M: Frame, S: Ledger> Keeper<M, S> for Counted<M, S> {
     /// Returns what a slot refers to, as `Book::target` does, for this caller.
     fn target(&mut self, caller: &mut Caller<M, S>, slot: Slot) -> Result<Option<Slot>, Refusal>
         requires { slot < slot_count M.terms.layout }

@@ -21,8 +21,9 @@ ghost use Rattle.g1_shared.specs.Totals.{with_call, with_store, IsCoreStep, IsFu
 
 use crate::caller::{Caller, Counts};
 use crate::counted_core::CountedCore;
-use crate::keeper::Keeper;
 use crate::ledgers::Frame;
+use crate::lending::LendingCalls;
+use crate::shared::Keeper;
 use g1_book::{Refusal, cards_in};
 use g1_core::{CardList, ClearReply, Drained, Redirected, RefineReply, Status, StoreReply};
 use g1_layout::{Card, Region, Slot};
@@ -30,7 +31,7 @@ use g1_log::{Buffer, Log};
 use std::sync::ledger::Ledger;
 
 /// The calls of the core, each counted once.
-impl<M: Frame, S: Ledger> Keeper<M, S> for CountedCore<M, S> {
+impl<M: Frame, S: Ledger> LendingCalls<M, S> for CountedCore<M, S> {
     /// As the core's store, by these counts' caller, with a lent log and a lent place.
     #[inline(always)]
     fn store_by(
@@ -108,7 +109,10 @@ impl<M: Frame, S: Ledger> Keeper<M, S> for CountedCore<M, S> {
         self.counters.call(counts);
         Ok(reply)
     }
+}
 
+/// The calls of the core, each counted once.
+impl<M: Frame, S: Ledger> Keeper<M, S> for CountedCore<M, S> {
     /// As the core's question for what a slot refers to, by this caller.
     fn target(&mut self, caller: &mut Caller<M, S>, slot: Slot) -> Result<Option<Slot>, Refusal>
         requires { slot < slot_count M.terms.layout }

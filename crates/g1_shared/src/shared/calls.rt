@@ -1,17 +1,73 @@
-//! The calls of a shared book that are one call under the lock.
+//! The calls that are one call under the lock: of what is kept there, and of a shared machinery.
 ghost use Rattle.std.specs.Prelude.{◌≡◌, ◌≢◌, ◌<◌, OnErr, OnOk};
 ghost use Rattle.g1_layout.specs.Shape.{slot_count, card_count};
 ghost use Rattle.g1_shared.specs.Callers.{called_once};
 
 use crate::caller::Caller;
-use crate::keeper::Keeper;
 use crate::ledgers::Frame;
+use crate::lending::LendingCalls;
 use crate::shared::Shared;
 use g1_book::Refusal;
 use g1_core::{CardList, ClearReply, Drained, Redirected, Status};
 use g1_layout::{Card, Region, Slot};
 use std::sync::Wait;
 use std::sync::ledger::Ledger;
+
+/// What a [`Shared`] keeps under its lock: it makes the calls of the callers, and counts each call
+/// that it makes in the caller's counts. The guard (`lock`) makes them, too.
+///
+/// [`Counted`](crate::Counted) keeps the history of its calls, [`CountedCore`](crate::CountedCore)
+/// their totals alone. The clauses here hold of both; those of each say more, and hold of the calls
+/// that a guard makes.
+pub trait Keeper<M: Frame, S: Ledger>: LendingCalls<M, S> {
+    /// Returns the place that a slot refers to.
+    fn target(&mut self, caller: &mut Caller<M, S>, slot: Slot) -> Result<Option<Slot>, Refusal>
+        requires { slot < slot_count M.terms.layout }
+        ensures ok { OnOk result (caller.new ≡ called_once caller.old) }
+        ensures err { OnErr result (caller.new ≡ caller.old) };
+
+    /// Returns whether a card is pending.
+    fn is_pending(&mut self, caller: &mut Caller<M, S>, card: Card) -> Result<bool, Refusal>
+        requires { card < card_count M.terms.layout }
+        ensures ok { OnOk result (caller.new ≡ called_once caller.old) }
+        ensures err { OnErr result (caller.new ≡ caller.old) };
+
+    /// Returns the remembered set of a region as it is recorded.
+    fn members(&mut self, caller: &mut Caller<M, S>, region: Region) -> Result<CardList, Refusal>
+        requires { region < M.terms.layout.regions }
+        ensures ok { OnOk result (caller.new ≡ called_once caller.old) }
+        ensures err { OnErr result (caller.new ≡ caller.old) };
+
+    /// Returns how many cards are pending and how many pairs are recorded.
+    fn status(&mut self, caller: &mut Caller<M, S>) -> Result<Status, Refusal>
+        ensures ok { OnOk result (caller.new ≡ called_once caller.old) }
+        ensures err { OnErr result (caller.new ≡ caller.old) };
+
+    /// Refines all that is pending, and returns the remembered set of a region.
+    fn drain(&mut self, caller: &mut Caller<M, S>, region: Region) -> Result<Drained, Refusal>
+        requires { region < M.terms.layout.regions }
+        ensures ok { OnOk result (caller.new ≡ called_once caller.old) }
+        ensures err { OnErr result (caller.new ≡ caller.old) };
+
+    /// Empties the remembered set of a region that no reference enters.
+    fn clear(&mut self, caller: &mut Caller<M, S>, region: Region) -> Result<ClearReply, Refusal>
+        requires { region < M.terms.layout.regions }
+        ensures ok { OnOk result (caller.new ≡ called_once caller.old) }
+        ensures err { OnErr result (caller.new ≡ caller.old) };
+
+    /// Moves the references into a region to the same offsets of another.
+    fn redirect(
+        &mut self,
+        caller: &mut Caller<M, S>,
+        from: Region,
+        to: Region,
+    ) -> Result<Redirected, Refusal>
+        requires from { from < M.terms.layout.regions }
+        requires to { to < M.terms.layout.regions }
+        requires apart { from ≢ to }
+        ensures ok { OnOk result (caller.new ≡ called_once caller.old) }
+        ensures err { OnErr result (caller.new ≡ caller.old) };
+}
 
 /// Each call waits for the lock, makes the call of what is kept under it for the caller, and
 /// returns its reply. It counts as one call of that caller (over a book, as one entry), or is

@@ -7,10 +7,9 @@ ghost use Rattle.g1_shared.specs.Totals.{core_terms};
 
 use crate::caller::Caller;
 use crate::counted_core::CountedCore;
-use crate::keeper::Keeper;
 use crate::ledgers::Frame;
 use crate::shared::opening::callers_of;
-use crate::shared::{Shared, SharedCore};
+use crate::shared::{Keeper, Shared, SharedCore};
 use crate::totals::{Counters, Totals};
 use g1_core::Core;
 use g1_layout::NoMemory;

@@ -12,9 +12,8 @@ ghost use Rattle.g1_steps.specs.Opening.{IsNewMutator, AreNewMutators};
 
 use crate::caller::{Caller, Counts};
 use crate::counted::Counted;
-use crate::keeper::Keeper;
 use crate::ledgers::Frame;
-use crate::shared::Shared;
+use crate::shared::{Keeper, Shared};
 use g1_book::Book;
 use g1_core::Config;
 use g1_layout::NoMemory;

@@ -13,10 +13,9 @@ ghost use Rattle.g1_shared.specs.Callers.{Standing, mark_of, IsCallerOf, log_of,
 ghost use Rattle.g1_shared.specs.Callers.{StoresAt, FlushesAt, RefinesAt, RoundsAt, IsPaused};
 
 use crate::caller::{Caller, Counts};
-use crate::keeper::Keeper;
 use crate::ledgers::Frame;
 use crate::locked_calls::LockedCalls;
-use crate::shared::Shared;
+use crate::shared::{Keeper, Shared};
 use g1_book::Refusal;
 use g1_core::{Fill, RefineReply, StoreReply};
 use g1_layout::Slot;

@@ -1,7 +1,7 @@
 use Rattle.std.proofs.Common.{arith}
 use Rattle.g1_book.proofs.RoomLemmas.{refinement_few, refinement_counts}
 use Rattle.g1_shared.proofs.CallLemmas.{step_as}
-use Rattle.g1_shared.proofs.counted_core.calls.CountedCoreKeeper.refine_by.Goals as goal
+use Rattle.g1_shared.proofs.counted_core.calls.CountedCoreLendingCalls.refine_by.Goals as goal
 
 pub returns-clause-step : goal.returns-clause-step
 returns-clause-step g c = step_as _ _ _ _ c.self.view_is c.in-Ok.ensures.step
