@@ -7,7 +7,7 @@ ghost use Rattle.g1_shared.specs.Callers.{IsCallerOf, mark_of};
 use anyhow::{Context, Result, bail};
 use g1_core::{CardList, Drained, Redirected};
 use g1_layout::Region;
-use g1_shared::{Caller, Counted, Frame, Shared};
+use g1_shared::{Caller, Counted, Frame, Keeper, Shared};
 use std::sync::Wait;
 use std::sync::ledger::Ledger;
 

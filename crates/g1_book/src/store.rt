@@ -64,13 +64,13 @@ impl Book {
         }
     }
 
-    /// Stores and enters as `store` does, and puts a completed buffer into the place that the caller
-    /// lends for it, in place of returning it (docs/PROFILE.md, The barrier).
+    /// Stores and enters as `store` does, and puts a completed buffer into the place that the
+    /// caller lends for it, in place of returning it (docs/PROFILE.md, The barrier).
     ///
     /// The place is empty before the call, so no buffer is lost. After it, `completed` has the
-    /// buffer if `fill` is `Full`, and is empty otherwise. `BookFull` and `NoMemory` are returned as
-    /// by `store`, and leave book, log and place as they were. Constant time except for the growth
-    /// of the history.
+    /// buffer if `fill` is `Full`, and is empty otherwise. `BookFull` and `NoMemory` are returned
+    /// as by `store`, and leave book, log and place as they were. Constant time except for the
+    /// growth of the history.
     #[inline(always)]
     pub fn store_into(
         &mut self,

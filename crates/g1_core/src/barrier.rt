@@ -99,8 +99,9 @@ impl Core {
     /// Makes the same store as `store`, and puts a completed buffer into the place that the caller
     /// lends for it, in place of returning it (docs/PROFILE.md, The barrier).
     ///
-    /// The place is empty before the call, so no buffer is lost. After it, `completed` has the buffer
-    /// if `fill` is `Full`, and is empty otherwise. A store that fills no log moves no buffer.
+    /// The place is empty before the call, so no buffer is lost. After it, `completed` has the
+    /// buffer if `fill` is `Full`, and is empty otherwise. A store that fills no log moves no
+    /// buffer.
     #[inline(always)]
     pub fn store_into(
         &mut self,

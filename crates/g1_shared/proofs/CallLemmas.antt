@@ -13,7 +13,10 @@ use Rattle.g1_book.specs.declared.refusal.Refusal.{Refusal}
 use Rattle.g1_book.specs.declared.refusal.Refusal.TheVariants.{BookFull}
 use Rattle.g1_book.specs.History.{History, Terms, IsHistory, IsEntered, terms_of, table_in, layout_in}
 use Rattle.g1_steps.specs.declared.steps.mutator.Mutator.{Mutator}
+use Rattle.g1_core.specs.Run.{IsStep}
+use Rattle.g1_core.specs.Table.{Table}
 use Rattle.g1_shared.specs.Counts.{Tally, one_call, is_store, one_store}
+use Rattle.g1_shared.specs.Totals.{CountedMachine}
 use Rattle.g1_shared.specs.Callers.{Standing, called_once}
 use Rattle.g1_shared.proofs.CountLemmas.{stores_more}
 
@@ -117,3 +120,7 @@ refined_as old now new buffer reply same h = subst (λ (b : History). IsRefined 
 
 pub read_as : (old now new : History) (reply : RefineReply) → old ≡ now → AreCardsRead old.machine reply new.machine → AreCardsRead now.machine reply new.machine
 read_as old now new reply same h = subst (λ (b : History). AreCardsRead b.machine reply new.machine) same h
+
+-- a step of the core that was read
+pub step_as : (e : ℕ → Entry) (old now : CountedMachine) (new : Table) → old ≡ now → ((number : ℕ) → IsStep old.machine.state.table (e number) new) → (number : ℕ) → IsStep now.machine.state.table (e number) new
+step_as e old now new is h number = subst (λ (was : CountedMachine). IsStep was.machine.state.table (e number) new) is (h number)

@@ -18,8 +18,9 @@ use std::sync::ledger::Ledger;
 /// What a [`Shared`](crate::Shared) keeps under its lock: it makes the calls of the callers, and
 /// counts each call that it makes in the caller's counts.
 ///
-/// [`Counted`](crate::Counted) keeps the history of its calls, [`CountedCore`](crate::CountedCore) their totals
-/// alone. The clauses here hold of both; by the guard (`lock`) the same calls have more.
+/// [`Counted`](crate::Counted) keeps the history of its calls, [`CountedCore`](crate::CountedCore)
+/// their totals alone. The clauses here hold of both; those of each say more, and hold of the calls
+/// that a guard (`lock`) makes.
 pub trait Keeper<M: Frame, S: Ledger>: Drop {
     /// Stores by these counts' caller, with a lent log and a lent place for the buffer that the log
     /// may complete. A refusal leaves counts, log and place as they were.

@@ -31,7 +31,7 @@ use std::sync::ledger;
 use std::sync::ledger::Ledger;
 
 /// Each is the call of the book, by the number of its caller.
-#[tactic(auto, using(crate::proofs::CountLemmas::stores_more))]
+#[tactic(auto, using(crate::proofs::CountLemmas::stores_more, crate::proofs::CallLemmas::if_refused, crate::proofs::CallLemmas::on_refused, crate::proofs::CallLemmas::err_refused, crate::proofs::CallLemmas::full_as, crate::proofs::CallLemmas::still_some, crate::proofs::CallLemmas::same_counted, crate::proofs::CallLemmas::called, crate::proofs::CallLemmas::call_counted, crate::proofs::CallLemmas::total_fits, crate::proofs::CallLemmas::call_tallied, crate::proofs::CallLemmas::store_tallied, crate::proofs::CallLemmas::store_counted, crate::proofs::KindLemmas::kind_at))]
 impl<M: Frame, S: Ledger> Keeper<M, S> for Counted<M, S> {
     /// As the book's store, by these counts' caller, with the given log and the lent place.
     #[inline(always)]

@@ -4,6 +4,7 @@ ghost use Rattle.g1_book.specs.History.{terms_of};
 
 use super::*;
 use crate::tests::steps::assert_stored;
+use g1_shared::Keeper;
 use std::test::Fail;
 
 /// A store and two questions under one lock, and how many calls and stores the caller has made

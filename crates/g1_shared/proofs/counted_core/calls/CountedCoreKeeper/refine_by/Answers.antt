@@ -1,12 +1,10 @@
-use Rattle.std.proofs.Common.{ℕ, subst, arith}
-use Rattle.g1_core.specs.Calls.{refine_entry}
-use Rattle.g1_core.specs.Run.{IsStep}
+use Rattle.std.proofs.Common.{arith}
 use Rattle.g1_book.proofs.RoomLemmas.{refinement_few, refinement_counts}
-use Rattle.g1_shared.specs.Totals.{CountedMachine}
+use Rattle.g1_shared.proofs.CallLemmas.{step_as}
 use Rattle.g1_shared.proofs.counted_core.calls.CountedCoreKeeper.refine_by.Goals as goal
 
 pub returns-clause-step : goal.returns-clause-step
-returns-clause-step g c = subst (λ (was : CountedMachine). (number : ℕ) → IsStep was.machine.state.table (refine_entry number c.in-Ok.reply) c.refine.new.self.state.table) c.self.view_is c.in-Ok.ensures.step
+returns-clause-step g c = step_as _ _ _ _ c.self.view_is c.in-Ok.ensures.step
 
 pub returns-clause-numbers : goal.returns-clause-numbers
 returns-clause-numbers g c =
