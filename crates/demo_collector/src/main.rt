@@ -11,7 +11,7 @@ mod totals;
 
 use anyhow::{Context, Result};
 use collector::Collector;
-use g1_core::Config;
+use g1_core::{Config, Settings};
 use g1_layout::Layout;
 use script::Script;
 
@@ -20,7 +20,12 @@ const STEPS: u32 = 20_000;
 
 fn main(rt: HostRuntime) -> Result<()> {
     let layout = Layout::new(16, 8, 8).context("outside the limits of a heap")?;
-    let config = Config::new(4, 10, 255, 1, 5).context("a setting outside its limits")?;
+    let config = Config::of(Settings {
+        log: 4,
+        hot: 255,
+        ..Settings::default()
+    })
+    .context("a setting outside its limits")?;
     let mut collector = Collector::new(rt.alloc(), layout, config)?;
     let mut script = Script::new();
     for _ in 0..STEPS {

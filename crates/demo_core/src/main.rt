@@ -3,11 +3,15 @@
 #![tactic(auto)]
 
 use anyhow::{Context, Result, bail};
-use g1_core::{Config, Core, Drained, Layout, Log};
+use g1_core::{Config, Core, Drained, Layout, Log, Settings};
 
 fn main(rt: HostRuntime) -> Result<()> {
     let layout = Layout::new(4, 2, 4).context("outside the limits of a heap")?;
-    let config = Config::new(2, 10, 4, 1024, 5).context("a setting outside its limits")?;
+    let config = Config::of(Settings {
+        log: 2,
+        ..Settings::default()
+    })
+    .context("a setting outside its limits")?;
     let mut core = Core::new(rt.alloc(), layout, config)?;
     let mut log = config.new_log();
     for (slot, target) in [(0, 8), (16, 9), (24, 10)] {

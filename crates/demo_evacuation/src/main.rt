@@ -7,7 +7,7 @@ mod collector;
 
 use anyhow::{Context, Result};
 use collector::Collector;
-use g1_core::Config;
+use g1_core::{Config, Settings};
 use g1_layout::Layout;
 
 // Region 0 has the slots from 0 on, region 1 those from 8, region 2 those from 16 and region 3
@@ -26,7 +26,12 @@ static AFTER: [(u32, Option<u32>); 3] = [(20, Some(8)), (0, Some(11)), (17, Some
 
 fn main(rt: HostRuntime) -> Result<()> {
     let layout = Layout::new(4, 2, 4).context("outside the limits of a heap")?;
-    let config = Config::new(2, 1, 4, 4, 1).context("a setting outside its limits")?;
+    let config = Config::of(Settings {
+        log: 2,
+        limit: 1,
+        ..Settings::default()
+    })
+    .context("a setting outside its limits")?;
     let mut collector = Collector::new(rt.alloc(), layout, config)?;
     for (slot, target) in BEFORE {
         collector.store(&rt, slot, target)?;

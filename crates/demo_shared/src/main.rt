@@ -17,7 +17,7 @@ mod pause;
 use anyhow::{Context, Result, bail};
 use callers::{Stores, run};
 use g1_book::Book;
-use g1_core::{Call, Config};
+use g1_core::{Call, Config, Settings};
 use g1_layout::Layout;
 use g1_shared::{Frame, Shared};
 use pause::evacuate;
@@ -47,7 +47,13 @@ static SECOND: [Stores; 3] = [
 
 fn main(rt: HostRuntime) -> Result<()> {
     let layout = Layout::new(4, 2, 4).context("outside the limits of a heap")?;
-    let config = Config::new(2, 1, 4, 4, 1).context("a setting outside its limits")?;
+    let config = Config::of(Settings {
+        log: 2,
+        limit: 1,
+        start: 1,
+        ..Settings::default()
+    })
+    .context("a setting outside its limits")?;
     let book = Book::open(rt.alloc(), layout, config, 3, 1_000)?;
     let (made, stored) = (Blank::new(5), Blank::new(5));
     let book = live::<HostRuntime, Brand, Brand>(&rt, rt.alloc(), made, stored, book)?;

@@ -14,7 +14,7 @@ use crate::settings::{HISTORY, HOT, LIMIT, LOG, MUTATORS, REFINERS, RING, ROUNDS
 use clap::error::ErrorKind;
 use clap::{ArgMatches, Command, Error};
 use g1_core::Config;
-use g1_trace::Mode;
+use g1_trace::{Mode, TRACES};
 use std::alloc::{AllocError, Global};
 
 /// Why the program doesn't start: the command line was refused, asks for help or the version, or
@@ -36,24 +36,11 @@ const AFTER_HELP: &str =
 const RUN_ABOUT: &str =
     "Reads a trace on standard input and prints the reply of each command on standard output";
 
-const RUN_AFTER_HELP: &str = "\
-Each option takes one decimal whole number, and may be given once.
+const RUN_OPTIONS: &str = "\
+Each option takes one decimal whole number, and may be given once.";
 
-A trace is lines of text. The first is 'heap R C S', a heap of R regions of C cards of S slots, and
-each other one is a command. M is a mutator, S and T are slots, C is a card, and R, A and B are
-regions, all of them numbers from 0:
-  store M S T   mutator M stores a reference to slot T, or 'null', into slot S
-  flush M       mutator M passes its log on as it is
-  refine        the oldest completed buffer is refined
-  work          a round of refinement
-  target S      what does slot S refer to?
-  pending C     is card C pending?
-  members R     which cards are in the remembered set of region R?
-  status        how many cards are pending, and how many pairs of a card and a region recorded?
-  drain R       a pause: what is pending is refined, and the remembered set of region R listed
-  clear R       empties the remembered set of region R, if nothing refers into the region any more
-  redirect A B  a pause, after which the references into region A refer into region B
-Empty lines, and lines that begin with '#', are passed over. To replay a file:
+const RUN_EXAMPLE: &str = "\
+To replay a file:
   g1replay run < FILE
 
 Example, with logs that one card fills:
@@ -149,7 +136,10 @@ pub fn read_options(alloc: Global, words: &[&str]) -> Result<(Mode, Options), Li
     ensures refused { IfErr result (λ f.
         takes line_app (map (λ w. w.now) words.now) ≡ true → string_bytes f.text ≡ []) }
 {
-    let Ok(command) = line(alloc) else {
+    let Ok(run_help) = format!(in alloc; "{RUN_OPTIONS}\n\n{TRACES} {RUN_EXAMPLE}") else {
+        return Err(LineFault::silent(alloc));
+    };
+    let Ok(command) = line(alloc, &run_help) else {
         return Err(LineFault::silent(alloc));
     };
     let matches = match command.try_get_matches_from(words) {
@@ -162,11 +152,11 @@ pub fn read_options(alloc: Global, words: &[&str]) -> Result<(Mode, Options), Li
     }
 }
 
-// The whole command line.
-fn line<'a>(alloc: Global) -> Result<Command<'a>, AllocError>
+// The whole command line, with what the help of `run` says behind its options.
+fn line<'a>(alloc: Global, run_help: &'a str) -> Result<Command<'a>, AllocError>
     ensures { IfOk result (λ c. app_of c ≡ line_app) }
 {
-    let run = with_shared(alloc, named(alloc, "run", RUN_ABOUT, RUN_AFTER_HELP))?;
+    let run = with_shared(alloc, named(alloc, "run", RUN_ABOUT, run_help))?;
     let line = top(alloc).subcommand(run)?;
     let crew = with_threads(alloc, named(alloc, "crew", CREW_ABOUT, CREW_AFTER_HELP))?;
     let line = line.subcommand(crew)?;

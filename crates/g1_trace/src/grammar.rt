@@ -17,6 +17,25 @@ use crate::words::{is, is_remark, split_word};
 use g1_core::Call;
 use g1_layout::{Layout, Region};
 
+/// What a trace is, in the words of a help: for each command the words of its line, and what it
+/// does or asks.
+pub const TRACES: &str = "\
+A trace is lines of text. The first is 'heap R C S', a heap of R regions of C cards of S slots, and
+each other one is a command. M is a mutator, S and T are slots, C is a card, and R, A and B are
+regions, all of them numbers from 0:
+  store M S T   mutator M stores a reference to slot T, or 'null', into slot S
+  flush M       mutator M passes its log on as it is
+  refine        the oldest completed buffer is refined
+  work          a round of refinement
+  target S      what does slot S refer to?
+  pending C     is card C pending?
+  members R     which cards are in the remembered set of region R?
+  status        how many cards are pending, and how many pairs of a card and a region recorded?
+  drain R       a pause: what is pending is refined, and the remembered set of region R listed
+  clear R       empties the remembered set of region R, if nothing refers into the region any more
+  redirect A B  a pause, after which the references into region A refer into region B
+Empty lines, and lines that begin with '#', are passed over.";
+
 // Whether its traces have nothing but the calls of mutators, which are their scripts.
 fn is_script(mode: Mode) -> bool
     ensures { result ≡ is_script mode }

@@ -20,7 +20,7 @@ mod words;
 pub use command::Command;
 pub use dialect::Dialect;
 pub use fault::TraceFault;
-pub use grammar::read_command;
+pub use grammar::{TRACES, read_command};
 pub use header::read_header;
 pub use list::put_cards;
 pub use mode::Mode;

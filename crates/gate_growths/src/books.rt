@@ -8,14 +8,20 @@ use crate::numbers::{
 };
 use crate::outcome::{Failure, check, refused, short};
 use g1_book::{Book, Entry, Reply};
-use g1_core::{ClearReply, Config};
+use g1_core::{ClearReply, Config, Settings};
 use g1_layout::NoMemory;
 use g1_log::Log;
 
 /// The settings of the books: logs of `log` cards, and a line of `limit` buffers. No card is found
-/// hot, and a round of refinement begins at five buffers.
+/// hot, and a round of refinement begins at five buffers, as it does by default.
 pub(crate) fn settings(log: usize, limit: usize) -> Result<Config, Failure> {
-    Config::new(log, limit, 255, 4, 5).ok_or(Failure::Wrong)
+    Config::of(Settings {
+        log,
+        limit,
+        hot: 255,
+        ..Settings::default()
+    })
+    .ok_or(Failure::Wrong)
 }
 
 /// An empty book of one mutator.

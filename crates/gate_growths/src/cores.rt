@@ -5,7 +5,7 @@ pub(crate) mod steps;
 use crate::numbers::{Numbers, buffer, card, number_of, numbers_of, place_of, region, slot, small};
 use crate::outcome::{Failure, check, refused};
 use arrayvec::ArrayVec;
-use g1_core::{Config, Core, Drained, Redirected, RefineReply};
+use g1_core::{Config, Core, Drained, Redirected, RefineReply, Settings};
 use g1_layout::NoMemory;
 use g1_log::Log;
 
@@ -16,7 +16,12 @@ pub(crate) fn new_core<R: Eprint + AllocGlobal>(
     ring: usize,
 ) -> Result<Core, Failure> {
     let layout = small()?;
-    let config = Config::new(256, 10, hot, ring, 5).ok_or(Failure::Wrong)?;
+    let config = Config::of(Settings {
+        hot,
+        ring,
+        ..Settings::default()
+    })
+    .ok_or(Failure::Wrong)?;
     match Core::new(rt.alloc(), layout, config) {
         Ok(core) => Ok(core),
         Err(NoMemory) => {
