@@ -1,5 +1,5 @@
 -- The calls of a command, and the line of what they answer.
-use Rattle.std.proofs.Common.{ℕ, List, [], ◌∷◌, ◌++◌, ◌+◌, Option, Some, None, true, false, ◌≡◌, ◌≢◌, ◌≤◌, ◌⊎◌, inl, inr, ◌∙◌, refl, subst, sym, ap, length, map, arith}
+use Rattle.std.proofs.Common.{ℕ, List, [], ◌∷◌, Option, Some, None, true, false, ◌≡◌, ◌≢◌, ◌≤◌, ◌⊎◌, inl, inr, refl, subst, sym, length, map, arith}
 use Rattle.std.specs.Prelude.{Bool, Result, Ok, Err, IsSome, All}
 use Rattle.std.proofs.lemmas.List.Elements.{All-nil, All-cons}
 use Rattle.std.proofs.lemmas.List.{length-map}
@@ -10,7 +10,6 @@ use Rattle.g1_core.specs.declared.reply.StoreReply.{StoreReply}
 use Rattle.g1_core.specs.declared.reply.RefineReply.{RefineReply}
 use Rattle.g1_core.specs.declared.entry.Call.{Call}
 use Rattle.g1_core.specs.declared.entry.Reply.{Reply}
-use Rattle.g1_core.specs.declared.entry.Entry.{Entry}
 use Rattle.g1_core.specs.Calls.{store_entry, refine_entry}
 use Rattle.g1_core.specs.Machine.{State}
 use Rattle.g1_core.specs.Refinement.{IsRefined}

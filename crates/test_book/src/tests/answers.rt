@@ -92,6 +92,38 @@ fn ask(rt: &impl Abort, book: &mut Book) -> Result<(), Refusal> {
     Ok(())
 }
 
+/// Each call that a book makes by its value, while card 1 is pending and card 0 is recorded for
+/// region 1.
+#[test]
+fn calls_by_their_values_are_answered(rt: HostRuntime) -> Result<(), Fail> {
+    let mut book = book(&rt, rt.alloc(), 1, 4, 10)?;
+    one_recorded_one_pending(&rt, &mut book)?;
+    ask_questions(&rt, &mut book)?;
+    ask_changes(&rt, &mut book)?;
+    assert_eq!(rt; book.entries().len(), 10);
+    Ok(())
+}
+
+fn ask_questions(rt: &impl Abort, book: &mut Book) -> Result<(), Refusal> {
+    let call = Call::Target(slot(rt, book, 0));
+    assert_asked(rt, book, call, &Want::Target(Some(8)))?;
+    let call = Call::Pending(card(rt, book, 1));
+    assert_asked(rt, book, call, &Want::Pending(true))?;
+    let call = Call::Members(region(rt, book, 1));
+    assert_asked(rt, book, call, &Want::Cards(&[0]))?;
+    assert_asked(rt, book, Call::Status, &Want::Status(1, 1))
+}
+
+fn ask_changes(rt: &impl Abort, book: &mut Book) -> Result<(), Refusal> {
+    let call = Call::Clear(region(rt, book, 2));
+    assert_asked(rt, book, call, &Want::Clear(ClearReply::Pending(1)))?;
+    let call = Call::Drain(region(rt, book, 2));
+    assert_asked(rt, book, call, &Want::Cards(&[1]))?;
+    let (from, to) = (region(rt, book, 1), region(rt, book, 2));
+    assert!(rt; from.number() != to.number());
+    assert_asked(rt, book, Call::Redirect { from, to }, &Want::Moved(1))
+}
+
 /// A drain refines what is pending and answers the set. A clear is refused while a card is pending,
 /// then while a slot refers into the region, and granted once none does.
 #[test]
