@@ -1,17 +1,12 @@
 -- One call more of a counted book, by one of its callers.
-use Rattle.std.specs.Prelude.{◌≡◌, ◌<◌, ◌≤◌, ◌*◌, ◌^◌, ◌↔◌, ℕ, ◌+◌, Bool, true, [], ◌∷◌, Option, Result, Ok, Err, false, length, count_by, cond, IfOk, OnOk, OnErr, IsSome}
+use Rattle.std.specs.Prelude.{◌≡◌, ◌<◌, ◌≤◌, ◌^◌, ◌↔◌, ℕ, ◌+◌, Bool, true, [], ◌∷◌, Option, Result, Ok, Err, false, length, count_by, cond, IfOk, OnOk, OnErr, IsSome}
 use Rattle.std.specs.Result.{IsErr}
 use Rattle.std.proofs.Common.{sym, ap, ◌∙◌, subst, arith, refl, length-append}
-use Rattle.g1_layout.specs.Shape.{Shape}
 use Rattle.g1_log.specs.declared.ends.Taker.{Taker}
-use Rattle.g1_log.specs.declared.buffer.Buffer.{Buffer}
 use Rattle.g1_core.specs.declared.entry.Entry.{Entry}
-use Rattle.g1_core.specs.declared.reply.RefineReply.{RefineReply}
-use Rattle.g1_core.specs.Refinement.{IsRefined, AreCardsRead}
-use Rattle.g1_core.specs.Clearing.{member_count}
 use Rattle.g1_book.specs.declared.refusal.Refusal.{Refusal}
 use Rattle.g1_book.specs.declared.refusal.Refusal.TheVariants.{BookFull}
-use Rattle.g1_book.specs.History.{History, Terms, IsHistory, IsEntered, terms_of, table_in, layout_in}
+use Rattle.g1_book.specs.History.{History, Terms, IsHistory, IsEntered, terms_of}
 use Rattle.g1_steps.specs.declared.steps.mutator.Mutator.{Mutator}
 use Rattle.g1_core.specs.Run.{IsStep}
 use Rattle.g1_core.specs.Table.{Table}
@@ -56,11 +51,6 @@ store_counted terms made now stored all old e new was h store one more = (
 pub total_fits : (terms : Terms) (made stored : ℕ) (old new : History) (e : Entry) → AreCounted terms made stored old → IsEntered old e new → IsHistory new → made + 1 < 2 ^ 64
 total_fits terms made stored old new e was h history = below_word made (length old.entries) (length new.entries) new.limit was.0 (entries_more old e new h) history.within history.limit_high
 
--- the entry is that of the caller whose number was read
-pub entered_by : (old now new : History) (s t : Standing) (n : ℕ) (e : ℕ → Entry) → old ≡ now → s ≡ t → n ≡ s.counts.number → IsEntered old (e n) new → IsEntered now (e t.counts.number) new
-entered_by old now new s t n e book caller number h =
-    subst (λ (b : History). IsEntered b (e t.counts.number) new) book (subst (λ k. IsEntered old (e k) new) (number ∙ ap (λ (c : Standing). c.counts.number) caller) h)
-
 -- the caller with one call more
 pub called : (counts new : Tally) (m : Option Mutator) (t : Taker) (now : Standing) → record { counts = counts; mutator = m; taker = t } ≡ now → new ≡ one_call counts → record { counts = new; mutator = m; taker = t } ≡ called_once now
 called counts new m t now view is = ap (λ (n : Tally). record { counts = n; mutator = m; taker = t }) is ∙ ap called_once view
@@ -72,17 +62,6 @@ full_as r old now same h = subst (λ (b : History). (r ≡ Err BookFull) ↔ (le
 -- who is a mutator has its log still
 pub still_some : (counts new : Tally) (m : Option Mutator) (most : ℕ) → (counts.number < most → IsSome m) → new ≡ one_call counts → new.number < most → IsSome m
 still_some counts new m most some is = subst (λ (t : Tally). t.number < most → IsSome m) (sym is) some
-
--- what the callers know of the layout holds of the book's
-pub known : (P : Shape → Type 0) (terms : Terms) (h : History) → terms_of h ≡ terms → P terms.layout → P (layout_in h)
-known P terms h same holds = subst (λ (t : Terms). P t.layout) (sym same) holds
-
--- how many cells a clear reads
-pub reads_as : (terms : Terms) (old now new : History) (region : ℕ) → terms_of old ≡ terms → old ≡ now → new.machine.reads ≤ old.machine.reads + member_count (table_in old) region * (layout_in old).slots
-    → new.machine.reads ≤ now.machine.reads + member_count (table_in now) region * terms.layout.slots
-reads_as terms old now new region same is h =
-    subst (λ (b : History). new.machine.reads ≤ b.machine.reads + member_count (table_in b) region * terms.layout.slots) is
-    (subst (λ (t : Terms). new.machine.reads ≤ old.machine.reads + member_count (table_in old) region * t.layout.slots) same h)
 
 -- what is said of an answer holds of a refusal
 pub if_refused : {X E : Type 0} (r : Result X E) (P : X → Type 0) → IsErr r → IfOk r P
@@ -97,15 +76,6 @@ pub err_refused : {X E C : Type 0} (r : Result X E) (old now new : History) (cal
 err_refused (Ok x) old now new caller same is = tt
 err_refused (Err e) old now new caller same is = (is ∙ same, refl)
 
--- a refused call leaves the caller as it was, whatever else it leaves
-pub caller_kept : {X E C : Type 0} (P : Type 0) (r : Result X E) (old new : C) → OnErr r (P × (new ≡ old)) → OnErr r (new ≡ old)
-caller_kept P (Ok x) old new h = tt
-caller_kept P (Err e) old new h = h.1
-
--- the same where only the counts of the caller are lent
-pub entered_of : (old now new : History) (number n : ℕ) (e : ℕ → Entry) → old ≡ now → n ≡ number → IsEntered old (e n) new → IsEntered now (e number) new
-entered_of old now new number n e book same h = subst (λ (b : History). IsEntered b (e number) new) book (subst (λ k. IsEntered old (e k) new) same h)
-
 -- the counts with one call or one store more
 pub call_tallied : (number made stored now : ℕ) (t : Tally) → record { number = number; made = made; stored = stored } ≡ t → now ≡ made + 1 → record { number = number; made = now; stored = stored } ≡ one_call t
 call_tallied number made stored now t view is = ap (λ (n : ℕ). record { number = number; made = n; stored = stored }) is ∙ ap one_call view
@@ -113,13 +83,6 @@ call_tallied number made stored now t view is = ap (λ (n : ℕ). record { numbe
 pub store_tallied : (number made stored now all : ℕ) (t : Tally) → record { number = number; made = made; stored = stored } ≡ t → now ≡ made + 1 → all ≡ stored + 1 → record { number = number; made = now; stored = all } ≡ one_store t
 store_tallied number made stored now all t view one more =
     ap (λ (n : ℕ). record { number = number; made = n; stored = all }) one ∙ ap (λ (n : ℕ). record { number = number; made = made + 1; stored = n }) more ∙ ap one_store view
-
--- what a refinement did
-pub refined_as : (old now new : History) (buffer : Option Buffer) (reply : RefineReply) → old ≡ now → IsRefined old.machine.state buffer reply new.machine.state → IsRefined now.machine.state buffer reply new.machine.state
-refined_as old now new buffer reply same h = subst (λ (b : History). IsRefined b.machine.state buffer reply new.machine.state) same h
-
-pub read_as : (old now new : History) (reply : RefineReply) → old ≡ now → AreCardsRead old.machine reply new.machine → AreCardsRead now.machine reply new.machine
-read_as old now new reply same h = subst (λ (b : History). AreCardsRead b.machine reply new.machine) same h
 
 -- a step of the core that was read
 pub step_as : (e : ℕ → Entry) (old now : CountedMachine) (new : Table) → old ≡ now → ((number : ℕ) → IsStep old.machine.state.table (e number) new) → (number : ℕ) → IsStep now.machine.state.table (e number) new

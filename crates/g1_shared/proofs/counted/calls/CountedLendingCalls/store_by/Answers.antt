@@ -1,6 +1,3 @@
-use Rattle.std.proofs.Common.{refl}
-use Rattle.g1_core.specs.Calls.{store_entry}
-use Rattle.g1_shared.proofs.CallLemmas.{same_counted, store_counted, total_fits, entered_of, store_tallied, full_as, if_refused, on_refused}
 use Rattle.g1_shared.proofs.KindLemmas.{kind_at}
 use Rattle.g1_shared.proofs.counted.calls.CountedLendingCalls.store_by.Goals as goal
 
