@@ -1,6 +1,6 @@
 //! The callers of a shared book, up to its next pause: mutators store, refinement threads refine.
 ghost use Rattle.std.specs.Prelude.{◌≡◌, ◌<◌, All, IfOk, vec_len};
-ghost use Rattle.g1_shared.specs.Callers.{IsCallerOf, mark_of};
+ghost use Rattle.g1_shared.specs.Callers.{IsCallerOf, caller_mark};
 
 use anyhow::Result;
 use g1_book::Refusal;
@@ -75,7 +75,7 @@ fn store_each<R: Wait, M: Frame, S: Ledger>(
 ) -> Result<(), Refusal>
     requires mutator { caller.old.counts.number < M.terms.mutators }
     requires of { IsCallerOf shared.now caller.old }
-    ensures { mark_of caller.new ≡ mark_of caller.old }
+    ensures { caller_mark caller.new ≡ caller_mark caller.old }
 {
     let layout = shared.lock(rt).book().layout();
     for store in stores {
@@ -96,7 +96,7 @@ fn refine_each<R: Wait, M: Frame, S: Ledger>(
     caller: &mut Caller<M, S>,
 ) -> Result<(), Refusal>
     requires { IsCallerOf shared.now caller.old }
-    ensures { mark_of caller.new ≡ mark_of caller.old }
+    ensures { caller_mark caller.new ≡ caller_mark caller.old }
 {
     for _ in 0..ROUNDS {
         shared.work(rt, caller)?;

@@ -2,7 +2,7 @@
 ghost use Rattle.std.specs.Prelude.{◌≡◌, ◌≢◌, ◌<◌, All, IfOk, vec_len};
 ghost use Rattle.g1_book.specs.History.{layout_in};
 ghost use Rattle.g1_core.specs.Run.{IsExact};
-ghost use Rattle.g1_shared.specs.Callers.{IsCallerOf, mark_of};
+ghost use Rattle.g1_shared.specs.Callers.{IsCallerOf, caller_mark};
 
 use anyhow::{Context, Result, bail};
 use g1_core::{CardList, Drained, Redirected};
@@ -40,7 +40,7 @@ fn move_region<R: Wait + Print, M: Frame, S: Ledger>(
     to: u32,
 ) -> Result<()>
     requires { from ≢ to }
-    ensures { mark_of caller.new ≡ mark_of caller.old }
+    ensures { caller_mark caller.new ≡ caller_mark caller.old }
 {
     let mut guard = shared.lock(rt);
     let layout = guard.book().layout();
@@ -67,7 +67,7 @@ fn drain<M: Frame, S: Ledger>(
     requires { region < M.terms.layout.regions }
     ensures exact { IfOk result (λ cards.
         IsExact (layout_in book.old) book.old.entries region cards) }
-    ensures mark { mark_of caller.new ≡ mark_of caller.old }
+    ensures mark { caller_mark caller.new ≡ caller_mark caller.old }
 {
     match book.drain(caller, region)? {
         Drained::Cards { cards, .. } => Ok(cards),

@@ -83,7 +83,7 @@ pub record AreSettingsRead (rows : List Row) (s : Settings) : Type 0 where
   pub start : IsRead rows (codes "start") s.start
 
 -- each option that all subcommands have has the number that stands for its own name
-pub record AreRead (rows : List Row) (o : Options) : Type 0 where
+pub record AreCommonRead (rows : List Row) (o : Options) : Type 0 where
   pub mutators : IsRead rows (codes "mutators") o.mutators
   pub config : AreSettingsRead rows o.config
   pub history : IsRead rows (codes "history") o.history
@@ -97,17 +97,17 @@ mode_name Race = codes "race"
 -- the options of a subcommand with threads
 abbrev pub AreThreaded : List Row → Options → Type 0
 AreThreaded rows o =
-    AreRead rows o × IsRead rows (codes "refiners") o.refiners
+    AreCommonRead rows o × IsRead rows (codes "refiners") o.refiners
     × IsRead rows (codes "rounds") o.rounds
 
 -- the options of each subcommand: what only other ones have is as by default
-abbrev pub AreFor : Mode → List Row → Options → Type 0
-AreFor Run rows o = AreRead rows o × (o.refiners ≡ 1) × (o.rounds ≡ 100)
-AreFor Crew rows o = AreThreaded rows o
-AreFor Race rows o = AreThreaded rows o
+abbrev pub AreOptionsOf : Mode → List Row → Options → Type 0
+AreOptionsOf Run rows o = AreCommonRead rows o × (o.refiners ≡ 1) × (o.rounds ≡ 100)
+AreOptionsOf Crew rows o = AreThreaded rows o
+AreOptionsOf Race rows o = AreThreaded rows o
 
 -- the words ask for this subcommand and give these options
-abbrev pub IsLine : List Text → Mode → Options → Type 0
-IsLine words mode o =
+abbrev pub IsCommandLine : List Text → Mode → Options → Type 0
+IsCommandLine words mode o =
     (rows : List Row) × (subcommand_of line_app words ≡ Some (mode_name mode, rows))
-    × AreFor mode rows o
+    × AreOptionsOf mode rows o

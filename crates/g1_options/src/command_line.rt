@@ -4,9 +4,9 @@ ghost use Rattle.std.specs.Prelude.{string_bytes};
 ghost use Rattle.clap.specs.Words.{Row, app_of, fault_of, found_of, kind_of, new_app, rows_of};
 ghost use Rattle.clap.specs.Words.{subcommand_rows_of, takes};
 ghost use Rattle.g1_options.specs.Settings.{AreWithin};
-ghost use Rattle.g1_options.specs.CommandLine.{AreFor, AreSettingsRead, AreThreaded, IsLine};
-ghost use Rattle.g1_options.specs.CommandLine.{IsLocal, IsRead, line_app, line_top, mode_name};
-ghost use Rattle.g1_options.specs.CommandLine.{with_shared, with_threads};
+ghost use Rattle.g1_options.specs.CommandLine.{AreOptionsOf, AreSettingsRead, AreThreaded};
+ghost use Rattle.g1_options.specs.CommandLine.{IsCommandLine, IsLocal, IsRead, line_app, line_top};
+ghost use Rattle.g1_options.specs.CommandLine.{mode_name, with_shared, with_threads};
 ghost use Rattle.g1_trace.specs.declared.mode.Mode.TheVariants.{Run as RunMode};
 
 use crate::options::Options;
@@ -129,7 +129,7 @@ Exit status:
 /// limits, a missing subcommand, and a request for help or the version. Refused memory has no text.
 pub fn read_options(alloc: Global, words: &[&str]) -> Result<(Mode, Options), LineFault>
     ensures within { IfOk result (λ p. AreWithin p.1) }
-    ensures read { IfOk result (λ p. IsLine (map (λ w. w.now) words.now) p.0 p.1) }
+    ensures read { IfOk result (λ p. IsCommandLine (map (λ w. w.now) words.now) p.0 p.1) }
     ensures taken { OnOk result (fault_of line_app (map (λ w. w.now) words.now) ≡ []) }
 
     // A command line that the parser takes is refused only with no text, as if memory was refused.
@@ -216,7 +216,8 @@ fn with_shared<'a>(alloc: Global, command: Command<'a>) -> Result<Command<'a>, A
 // The subcommand that was asked for, with its options.
 fn asked(matches: &ArgMatches<'_>) -> Option<(Mode, Options)>
     ensures { IfSome result (λ p. (rows : List Row)
-        × (subcommand_rows_of matches.now ≡ Some (mode_name p.0, rows)) × AreFor p.0 rows p.1) }
+        × (subcommand_rows_of matches.now ≡ Some (mode_name p.0, rows))
+        × AreOptionsOf p.0 rows p.1) }
 {
     if let Some(run) = matches.subcommand_matches("run") {
         return Some((Mode::Run, run_options(run)?));
@@ -230,7 +231,7 @@ fn asked(matches: &ArgMatches<'_>) -> Option<(Mode, Options)>
 
 // The options of `run` that the subcommand's matches have.
 fn run_options(matches: &ArgMatches<'_>) -> Option<Options>
-    ensures { IfSome result (AreFor RunMode (rows_of (found_of matches.now))) }
+    ensures { IfSome result (AreOptionsOf RunMode (rows_of (found_of matches.now))) }
 {
     Some(Options {
         mutators: value(matches, &MUTATORS)?,

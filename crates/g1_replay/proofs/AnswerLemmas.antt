@@ -19,7 +19,7 @@ use Rattle.g1_book.specs.declared.refusal.Refusal.{Refusal}
 use Rattle.g1_book.specs.declared.refusal.Refusal.TheVariants.{NoMemory, BookFull}
 use Rattle.g1_book.specs.History.{History}
 use Rattle.g1_book.specs.Asked.{IsEnteredAs}
-use Rattle.g1_steps.specs.Made.{Made, Stored, Refined, AreCalls, entries_of as calls_entries}
+use Rattle.g1_steps.specs.Made.{CallMade, Stored, Refined, AreCalls, entries_made as calls_entries}
 use Rattle.g1_steps.specs.Lent.{Grows, IsBookCall}
 use Rattle.g1_steps.specs.Steps.{Help, IsStored, help_calls, store_answer, flush_answer, nothing_flushed, filled, called}
 use Rattle.g1_steps.specs.Rounds.{IsRound, Turn, round_calls, replies_of, round_size}
@@ -31,7 +31,7 @@ use Rattle.g1_trace.specs.Text.{store_text, refine_text, work_text, call_line}
 use Rattle.g1_replay.specs.declared.stop.Stop.{Stop}
 use Rattle.g1_replay.specs.declared.stop.Stop.TheVariants.{WriteFailed}
 use Rattle.g1_replay.specs.Laws.{played_one}
-use Rattle.g1_replay.specs.Playing.{HasPlayed, IsRefused, IsFull, Does}
+use Rattle.g1_replay.specs.Playing.{HasPlayed, IsCallRefused, IsBookFull, Does}
 use Rattle.g1_replay.specs.Stops.{stop_of}
 use Rattle.g1_replay.specs.Flush.{flush_text}
 use Rattle.g1_replay.specs.Pieces.{Piece, plain_piece, IsOfBuffer, IsOfNone, IsLineOf, IsSetBy}
@@ -77,7 +77,7 @@ store_calls old new m slot target cards first (Some (Err e)) g takes plain own f
     subst (λ (r : StoreReply). Says old new (command.Store m slot target) (store_text (store_answer r (Some (Err e))))) (sym is)
     (record { entries = store_entry m slot target filled ∷ []; shown = record { cards = 0; left = 0; refused = true } }, subst (λ (r : StoreReply). Grows old (store_entry m slot target r ∷ []) new) is g, store_refused_says m slot target, tt)
 
-pub store_made : {S : Type 0} (did : S → List Made → S → Type 0) (s t : S) (old new : History) (m slot : ℕ) (target : Option ℕ) (cards : List ℕ) (reply : StoreReply) (h : IsStored did s slot target cards reply t)
+pub store_made : {S : Type 0} (did : S → List CallMade → S → Type 0) (s t : S) (old new : History) (m slot : ℕ) (target : Option ℕ) (cards : List ℕ) (reply : StoreReply) (h : IsStored did s slot target cards reply t)
     → AreCalls (IsBookCall m) old (Stored slot target h.first ∷ help_calls cards h.help) new → Says old new (command.Store m slot target) (store_text reply)
 store_made did s t old new m slot target cards reply h made =
     subst (λ (r : StoreReply). Says old new (command.Store m slot target) (store_text r)) (sym h.answer)
@@ -113,7 +113,7 @@ rounds_within turns most size h is =
     let b : length (replies_of turns) ≡ length turns = length-map turns (λ (t : Turn). t.reply) in
     omega (arith, a, b, h, is)
 
-pub work_made : {S : Type 0} (did : S → List Made → S → Type 0) (s : S) (before : List Parcel) (most : ℕ) (reply : RefineReply) (after : List Parcel) (t : S) (r : IsRound did s before most reply after t) (old new : History)
+pub work_made : {S : Type 0} (did : S → List CallMade → S → Type 0) (s : S) (before : List Parcel) (most : ℕ) (reply : RefineReply) (after : List Parcel) (t : S) (r : IsRound did s before most reply after t) (old new : History)
     (seen : ℕ) → seen ≤ old.machine.settings.limit → most ≡ round_size old.machine.settings.start seen → AreCalls (IsBookCall 0) old (round_calls r.turns r.refused) new → Says old new command.Work (work_text reply)
 work_made did s before most reply after t r old new seen within is h = (
   record { entries = map (refine_entry 0) (replies_of r.turns); shown = record { cards = 0; left = reply.left; refused = reply.short } },
@@ -127,9 +127,9 @@ pub call_says : (old new : History) (call : Call) (reply : Reply) → IsEnteredA
 call_says old new call reply p = (plain_piece (p.0 ∷ []), grows_entered old p.0 new p.1, record { piece = (p.2, p.3); line = λ i. call_line (sym p.3 i) (sym p.4 i) }, tt)
 
 -- a call that was refused left the book, and its history was full if that is why
-pub call_refused : (old new : History) (refusal : Refusal) → new ≡ old → (refusal ≡ BookFull → length old.entries ≡ old.limit) → IsRefused old new refusal
+pub call_refused : (old new : History) (refusal : Refusal) → new ≡ old → (refusal ≡ BookFull → length old.entries ≡ old.limit) → IsCallRefused old new refusal
 call_refused old new NoMemory same full = subst (λ (b : History). Grows old [] b) (sym same) (grows_none old)
-call_refused old new BookFull same full = subst (λ (b : History). Grows old [] b × IsFull b) (sym same) (grows_none old, full refl)
+call_refused old new BookFull same full = subst (λ (b : History). Grows old [] b × IsBookFull b) (sym same) (grows_none old, full refl)
 
 played_by : (old new : History) (c : Command) (text : List ℕ) → Says old new c text → HasPlayed old (c ∷ []) text new
 played_by old new c text p = subst (λ (t : List ℕ). HasPlayed old (c ∷ []) t new) (sym p.2.line) (played_one old new c p.0 p.2.piece p.3 p.1)
@@ -140,7 +140,7 @@ nothing_played old new g = record { pieces = []; walked = tt; set = tt; grows = 
 -- what a player does whose state has a book
 module _ {S : Type 0} (book_of : S → History) where
   abbrev PlaysBook : Command → S → S → Option (List ℕ) → Option (List ℕ) → Result Bool Stop → Type 0
-  PlaysBook c old new out out' r = Does (λ s cs text t. HasPlayed (book_of s) cs text (book_of t)) (λ s. IsFull (book_of s)) (c ∷ []) old new out out' r
+  PlaysBook c old new out out' r = Does (λ s cs text t. HasPlayed (book_of s) cs text (book_of t)) (λ s. IsBookFull (book_of s)) (c ∷ []) old new out out' r
 
   -- a command whose answer was written, or a beginning of it
   pub does_answer : (old new : S) (c : Command) (text : List ℕ) (out out' : Option (List ℕ)) → Says (book_of old) (book_of new) c text → Appends out out' text → PlaysBook c old new out out' (Ok true)
@@ -150,6 +150,6 @@ module _ {S : Type 0} (book_of : S → History) where
   does_front old new c text out out' p w = record { done = c ∷ []; undone = []; all = refl; stopped = refl; text = text; made = played_by (book_of old) (book_of new) c text p; filled = λ e. cc; written = w }
 
   -- a command that was refused
-  pub does_refused : (old new : S) (c : Command) (refusal : Refusal) (out : Option (List ℕ)) → IsRefused (book_of old) (book_of new) refusal → PlaysBook c old new out out (Err (stop_of refusal))
+  pub does_refused : (old new : S) (c : Command) (refusal : Refusal) (out : Option (List ℕ)) → IsCallRefused (book_of old) (book_of new) refusal → PlaysBook c old new out out (Err (stop_of refusal))
   does_refused old new c NoMemory out p = record { done = []; undone = c ∷ []; all = refl; stopped = omega arith; text = []; made = nothing_played (book_of old) (book_of new) p; filled = λ e. cc; written = Appends-nil out }
   does_refused old new c BookFull out p = record { done = []; undone = c ∷ []; all = refl; stopped = (c, refl); text = []; made = nothing_played (book_of old) (book_of new) p.0; filled = λ e. p.1; written = Appends-nil out }

@@ -25,7 +25,7 @@ use Rattle.g1_replay.specs.declared.stop.Stop.{Stop}
 use Rattle.g1_replay.specs.declared.stop.Stop.TheVariants.{NoMemory, WriteFailed}
 use Rattle.g1_replay.specs.CoreDrains.{AreDrains, CoreDrained}
 use Rattle.g1_replay.specs.Playing.{Does}
-use Rattle.g1_replay.specs.Race.{AreExact, IsExactAfter, drain_text, referring}
+use Rattle.g1_replay.specs.Race.{AreExact, IsExactByStores, drain_text, referring}
 use Rattle.g1_replay.specs.RaceJobs.{IsTableLeftBy}
 
 -- what one drain of a core does
@@ -92,7 +92,7 @@ step_from first now next region (Short done) f s = subst (λ (t : Table). IsFrom
 
 module _ (e : Ended) (mutators : ℕ) (commands : List Command) (left : IsTableLeftBy mutators commands e) where
   -- a whole drain's list
-  exact_list : (now next : Table) (region : ℕ) (cards done : List ℕ) → IsFrom (table_of e) now → IsStep now (drain_entry 0 region (Cards cards done)) next → IsExactAfter e.layout commands (refs_of e) region cards
+  exact_list : (now next : Table) (region : ℕ) (cards done : List ℕ) → IsFrom (table_of e) now → IsStep now (drain_entry 0 region (Cards cards done)) next → IsExactByStores e.layout commands (refs_of e) region cards
   exact_list now next region cards done f s = record {
     ascending = s.allowed.answers.1.ascending;
     outside = λ card c. ⊎_elim (λ (r : IsRecorded (table_of e) card region). (left.pairs card region r).2) (λ (h : Holds (table_of e) card region). h.outside) (had card c);

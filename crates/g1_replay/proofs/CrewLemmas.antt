@@ -10,14 +10,14 @@ use Rattle.g1_replay.specs.declared.end.End.{End}
 use Rattle.g1_replay.specs.declared.end.End.TheVariants.{Whole}
 use Rattle.g1_replay.specs.declared.stop.Stop.{Stop}
 use Rattle.g1_replay.specs.declared.stop.Stop.TheVariants.{Fault}
-use Rattle.g1_replay.specs.Crew.{IsCrewText, Ran, Crewed, IsWholeCrew}
+use Rattle.g1_replay.specs.Crew.{IsCrewText, CrewRan, Crewed, IsWholeCrew}
 use Rattle.g1_replay.specs.Drains.{drains}
-use Rattle.g1_replay.specs.Output.{IsEnded, ending_line}
+use Rattle.g1_replay.specs.Output.{IsEndWritten, ending_line}
 use Rattle.g1_replay.specs.Pieces.{Walks, lines_of}
 use Rattle.g1_replay.proofs.EndLemmas.{whole_trace}
 
 -- the text of a whole end
-whole_said : (l : Shape) (history : ℕ) (text : List ℕ) (ran : Ran l history (Ok tt) text) → text ≡ stores_text (count_by is_store ran.entries) ++ lines_of (drains ran.drained) ran.pieces
+whole_said : (l : Shape) (history : ℕ) (text : List ℕ) (ran : CrewRan l history (Ok tt) text) → text ≡ stores_text (count_by is_store ran.entries) ++ lines_of (drains ran.drained) ran.pieces
 whole_said l history text ran = said ran.said
   where
     said : IsCrewText ran.entries (drains ran.drained) ran.pieces (Ok tt) text → text ≡ stores_text (count_by is_store ran.entries) ++ lines_of (drains ran.drained) ran.pieces
@@ -25,7 +25,7 @@ whole_said l history text ran = said ran.said
     said (inr e) = e
 
 pub whole_crew : (d : Dialect) (history n : ℕ) (rd rd' out out' : Option (List ℕ)) (r : Result (Unit {0}) Stop) (text : List ℕ) (end : End) → Crewed d history 1 n rd rd' r text
-    → IsEnded out out' r (text ++ ending_line n r) end → end ≡ Whole → IfSome rd (λ bytes. IsWholeCrew d history bytes out out')
+    → IsEndWritten out out' r (text ++ ending_line n r) end → end ≡ Whole → IfSome rd (λ bytes. IsWholeCrew d history bytes out out')
 whole_crew d history n None rd' out out' r text end t i e = tt
 whole_crew d history n (Some xs) rd' out out' (Ok done) text Whole (inl t) i e = absurd t.ends
 whole_crew d history n (Some xs) rd' out out' (Ok tt) text Whole (inr t) i e =

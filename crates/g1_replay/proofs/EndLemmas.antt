@@ -18,10 +18,10 @@ use Rattle.g1_replay.specs.declared.end.End.{End}
 use Rattle.g1_replay.specs.declared.end.End.TheVariants.{Whole, Refused, Stopped, ReadFailed as EndReadFailed, WriteFailed as EndWriteFailed}
 use Rattle.g1_replay.specs.declared.stop.Stop.{Stop}
 use Rattle.g1_replay.specs.declared.stop.Stop.TheVariants.{Fault, WriteFailed}
-use Rattle.g1_replay.specs.Output.{Told, IsEnded, ending_line, end_of, IsWholeOutput, IsRefusedOutput}
+use Rattle.g1_replay.specs.Output.{Told, IsEndWritten, ending_line, end_of, IsWholeOutput, IsRefusedOutput}
 use Rattle.g1_replay.specs.Pieces.{entries_of}
 use Rattle.g1_replay.specs.Playing.{Writes}
-use Rattle.g1_replay.specs.Reading.{Reads, IsLeft}
+use Rattle.g1_replay.specs.Reading.{Reads, IsLeftToRead}
 use Rattle.g1_replay.proofs.ReadingLemmas.{left_none}
 
 nil_front : (f l : List ℕ) → [] ≡ f ++ l → f ≡ []
@@ -44,7 +44,7 @@ whole_ended out out1 out' (Ok done) n text ne w i = Appends-trans _ _ _ _ _ w i
 whole_ended out out1 out' (Err (Fault f)) n text ne w i = Appends-trans _ _ _ _ _ w i
 whole_ended out out1 out' (Err stop) n text ne w i = Appends-trans _ _ _ _ _ w i
 
-pub ended_then : (out out1 out' : Option (List ℕ)) (r : Result (Unit {0}) Stop) (n : ℕ) (text : List ℕ) (end : End) → Writes out out1 r text → IsEnded out1 out' r (ending_line n r) end → IsEnded out out' r (text ++ ending_line n r) end
+pub ended_then : (out out1 out' : Option (List ℕ)) (r : Result (Unit {0}) Stop) (n : ℕ) (text : List ℕ) (end : End) → Writes out out1 r text → IsEndWritten out1 out' r (ending_line n r) end → IsEndWritten out out' r (text ++ ending_line n r) end
 ended_then out out1 out' r n text EndWriteFailed w i = front_ended out out1 out' r n text w i
 ended_then out out1 out' r n text Whole w i = (i.0, whole_ended out out1 out' r n text (λ e. let bad : Whole ≡ EndWriteFailed = i.0 ∙ e in cc) w i.1)
 ended_then out out1 out' r n text Refused w i = (i.0, whole_ended out out1 out' r n text (λ e. let bad : Refused ≡ EndWriteFailed = i.0 ∙ e in cc) w i.1)
@@ -52,7 +52,7 @@ ended_then out out1 out' r n text Stopped w i = (i.0, whole_ended out out1 out' 
 ended_then out out1 out' r n text EndReadFailed w i = (i.0, whole_ended out out1 out' r n text (λ e. let bad : EndReadFailed ≡ EndWriteFailed = i.0 ∙ e in cc) w i.1)
 
 -- what was read is all that there was
-all_consumed : (xs : List ℕ) (rd' : Option (List ℕ)) (front : List ℕ) → Consumes (Some xs) rd' front → (x : List ℕ) × IsLeft rd' x × (xs ≡ front ++ x)
+all_consumed : (xs : List ℕ) (rd' : Option (List ℕ)) (front : List ℕ) → Consumes (Some xs) rd' front → (x : List ℕ) × IsLeftToRead rd' x × (xs ≡ front ++ x)
 all_consumed xs None front c = absurd c
 all_consumed xs (Some ys) front c = (ys, refl, c)
 
@@ -77,7 +77,7 @@ pub all_done : (cs done undone : List Command) → cs ≡ done ++ undone → und
 all_done cs done undone e none = e ∙ ap (λ w. done ++ w) none ∙ append-nil done
 
 pub whole_output : (d : Dialect) (s : Settings) (history n : ℕ) (rd rd' out out' : Option (List ℕ)) (r : Result (Unit {0}) Stop) (text : List ℕ) (end : End) → Told d s history 1 n rd rd' r text
-    → IsEnded out out' r (text ++ ending_line n r) end → end ≡ Whole → IfSome rd (λ bytes. IsWholeOutput d s bytes out out')
+    → IsEndWritten out out' r (text ++ ending_line n r) end → end ≡ Whole → IfSome rd (λ bytes. IsWholeOutput d s bytes out out')
 whole_output d s history n None rd' out out' r text end t i e = tt
 whole_output d s history n (Some xs) rd' out out' (Ok done) text Whole t i e = whole t.heap t refl
   where
@@ -98,7 +98,7 @@ whole_output d s history n (Some xs) rd' out out' (Err stop) text Whole t i e = 
 whole_output d s history n (Some xs) rd' out out' r text end t i e = cc
 
 pub refused_output : (d : Dialect) (s : Settings) (history n : ℕ) (rd rd' out out' : Option (List ℕ)) (r : Result (Unit {0}) Stop) (text : List ℕ) (end : End) → Told d s history 1 n rd rd' r text
-    → IsEnded out out' r (text ++ ending_line n r) end → end ≡ Refused → IfSome rd (λ bytes. IsRefusedOutput d s bytes out out')
+    → IsEndWritten out out' r (text ++ ending_line n r) end → end ≡ Refused → IfSome rd (λ bytes. IsRefusedOutput d s bytes out out')
 refused_output d s history n None rd' out out' r text end t i e = tt
 refused_output d s history n (Some xs) rd' out out' (Err (Fault f)) text Refused t i e =
     let same : t.commands ≡ t.done = all_done t.commands t.done t.undone t.all t.stopped in

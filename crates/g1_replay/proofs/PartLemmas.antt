@@ -15,7 +15,7 @@ use Rattle.g1_replay.specs.declared.lines.Byte.TheVariants.{Some as OneByte, End
 use Rattle.g1_replay.specs.declared.lines.Part.{Part}
 use Rattle.g1_replay.specs.declared.lines.Part.TheVariants.{Whole, TooLong, More, Nothing, Failed}
 use Rattle.g1_replay.specs.declared.stop.Stop.TheVariants.{Fault, ReadFailed}
-use Rattle.g1_replay.specs.Lines.{EndsAtFeed, GoesOn, HasPart, IsSettled, Reads, ReadsPart, ReadsLine}
+use Rattle.g1_replay.specs.Lines.{EndsAtFeed, GoesIntoLine, HasPart, IsSettled, Reads, ReadsPart, ReadsLine}
 
 -- one more byte
 part_push : (xs : List ℕ) (b : ℕ) → IsPart xs → b ≢ 10 → IsPart (xs ++ b ∷ [])
@@ -106,7 +106,7 @@ grown : (begun line shown : List ℕ) (n : ℕ) → n ≤ length shown → line 
 grown begun line shown n h e = ap length e ∙ length-append begun (take n shown) ∙ ap (λ k. length begun + k) (length-take-le n shown h)
 
 -- what was shown goes into the line, and is consumed
-pub part_read : (old new : Option (List ℕ)) (part : Part) (n lost room : ℕ) (shown begun line : List ℕ) → GoesOn shown room part n lost → n ≤ length shown
+pub part_read : (old new : Option (List ℕ)) (part : Part) (n lost room : ℕ) (shown begun line : List ℕ) → GoesIntoLine shown room part n lost → n ≤ length shown
     → length begun + room ≡ 64 → line ≡ begun ++ take n shown → Consumes old new (take lost shown) → ReadsPart old new part begun line
 part_read old new Whole n lost room shown begun line p h r e c =
     let long = grown begun line shown n h e in

@@ -15,7 +15,7 @@ use Rattle.g1_core.specs.Calls.{store_entry, refine_entry}
 use Rattle.g1_trace.specs.declared.command.Command.TheVariants as command
 use Rattle.g1_trace.specs.Text.{store_text, refine_text, work_text, worked_line}
 use Rattle.g1_replay.specs.Flush.{flush_text}
-use Rattle.g1_replay.specs.Pieces.{plain_piece, IsOwnFill, IsOfBuffer, IsOfNone, IsRefinementBy, IsLineOf, taken_by, hot_in, skipped_in, is_any_short}
+use Rattle.g1_replay.specs.Pieces.{plain_piece, IsOwnFill, IsOfBuffer, IsOfNone, IsRefinementBy, IsLineOf, taken_in, hot_in, skipped_in, is_any_short}
 
 -- the answer of a store that filled its log, as it is entered
 abbrev pub filled : StoreReply
@@ -99,7 +99,7 @@ pub work_says : (replies : List RefineReply) (r : RefineReply) → r.taken ≡ s
     → r.skipped ≡ sum_by (λ (one : RefineReply). one.skipped) replies → (r.short ≡ false → All (λ (one : RefineReply). one.short ≡ false) replies) → All Takes replies
     → IsLineOf command.Work (record { entries = map (refine_entry 0) replies; shown = record { cards = 0; left = r.left; refused = r.short } }) (work_text r)
 work_says replies r taken refined hot skipped whole takes =
-    let a : r.taken ≡ sum_by (λ (e : Entry). taken_by e.reply) (map (refine_entry 0) replies) = taken ∙ sym (sum_by-map (λ (e : Entry). taken_by e.reply) (refine_entry 0) replies) in
+    let a : r.taken ≡ sum_by (λ (e : Entry). taken_in e.reply) (map (refine_entry 0) replies) = taken ∙ sym (sum_by-map (λ (e : Entry). taken_in e.reply) (refine_entry 0) replies) in
     let b : length r.refined ≡ sum_by (λ (e : Entry). length e.refined) (map (refine_entry 0) replies) =
     ap (λ l. length l) refined ∙ length-flat_map (λ (one : RefineReply). one.refined) replies ∙ sym (sum_by-map (λ (e : Entry). length e.refined) (refine_entry 0) replies) in
     let d : r.hot ≡ sum_by (λ (e : Entry). hot_in e.reply) (map (refine_entry 0) replies) = hot ∙ sym (sum_by-map (λ (e : Entry). hot_in e.reply) (refine_entry 0) replies) in

@@ -18,7 +18,7 @@ use Rattle.g1_replay.specs.declared.stop.Stop.{Stop}
 use Rattle.g1_replay.specs.declared.stop.Stop.TheVariants.{Fault, WriteFailed}
 use Rattle.g1_replay.specs.CoreDrains.{AreDrains, CoreDrained}
 use Rattle.g1_replay.specs.Drains.{drains, HasDrained}
-use Rattle.g1_replay.specs.Output.{IsEnded, ending_line}
+use Rattle.g1_replay.specs.Output.{IsEndWritten, ending_line}
 use Rattle.g1_replay.specs.Playing.{MayStop, Writes, written_by}
 use Rattle.g1_replay.specs.Race.{HasRaced, IsRaceText, IsWholeRace, RacedTrace, RaceRan, drained_text, is_store_command}
 use Rattle.g1_replay.specs.RaceJobs.{IsTableLeftBy}
@@ -67,7 +67,7 @@ whole_text l mutators commands text (inl s) = let bad = s.1 in cc
 whole_text l mutators commands text (inr s) = (s.1, subst (λ k. HasRaced l mutators commands k s.1) (s.3 refl) s.2, s.4)
 
 pub whole_race : (d : Dialect) (n : ℕ) (rd rd' out out' : Option (List ℕ)) (r : Result (Unit {0}) Stop) (text : List ℕ) (end : End) → RacedTrace d 1 n rd rd' r text
-    → IsEnded out out' r (text ++ ending_line n r) end → end ≡ Whole → IfSome rd (λ bytes. IsWholeRace d bytes out out')
+    → IsEndWritten out out' r (text ++ ending_line n r) end → end ≡ Whole → IfSome rd (λ bytes. IsWholeRace d bytes out out')
 whole_race d n None rd' out out' r text end t i e = tt
 whole_race d n (Some xs) rd' out out' (Ok done) text Whole (inl t) i e = absurd t.ends
 whole_race d n (Some xs) rd' out out' (Ok tt) text Whole (inr t) i e =

@@ -12,17 +12,17 @@ use Rattle.g1_trace.specs.Text.{stores_text}
 use Rattle.g1_trace.proofs.PutLemmas.{front_more, puts_none, puts_then}
 use Rattle.g1_replay.specs.declared.stop.Stop.{Stop}
 use Rattle.g1_replay.specs.declared.stop.Stop.TheVariants.{NoMemory, BookFull, NoThread, WriteFailed}
-use Rattle.g1_replay.specs.Crew.{Ran}
+use Rattle.g1_replay.specs.Crew.{CrewRan}
 use Rattle.g1_replay.specs.Drains.{drains, HasDrained}
 use Rattle.g1_replay.specs.Laws.{played_none}
 use Rattle.g1_replay.specs.Pieces.{entries_of}
-use Rattle.g1_replay.specs.Playing.{HasPlayed, IsFull, MayStop, Writes, written_by}
+use Rattle.g1_replay.specs.Playing.{HasPlayed, IsBookFull, MayStop, Writes, written_by}
 use Rattle.g1_replay.specs.Scripted.{IsRunEnd, IsUnstarted}
 use Rattle.std.specs.Io.KnownBytes.{Appends}
 
 -- a book with drains behind it is a run, and its text counts the stores in front of them
-ran_book : (old new : History) (k : ℕ) (r : Result (Unit {0}) Stop) (text : List ℕ) → HasPlayed old (drains k) text new → IsHistory new → IsRunEnd r → (r ≡ Err BookFull → IsFull new) → (r ≡ Ok tt → k ≡ (layout_in old).regions)
-    → Ran (layout_in old) old.limit r (stores_text (count_by is_store old.entries) ++ text)
+ran_book : (old new : History) (k : ℕ) (r : Result (Unit {0}) Stop) (text : List ℕ) → HasPlayed old (drains k) text new → IsHistory new → IsRunEnd r → (r ≡ Err BookFull → IsBookFull new) → (r ≡ Ok tt → k ≡ (layout_in old).regions)
+    → CrewRan (layout_in old) old.limit r (stores_text (count_by is_store old.entries) ++ text)
 ran_book old new k r text p h ends full all =
     let es : new.entries ≡ old.entries ++ entries_of p.pieces = p.grows.entries in
     let most : new.limit ≡ old.limit = ap (λ (t : Terms). t.limit) p.grows.terms in
@@ -52,18 +52,18 @@ ends_by (Err stop) h = may_end stop h
 
 -- the count could not be written
 pub stores_failed : (h : History) (out out' : Option (List ℕ)) → IsHistory h → AppendsFront out out' (stores_text (count_by is_store h.entries))
-    → (text : List ℕ) × Ran (layout_in h) h.limit (Err WriteFailed) text × Writes {V = Unit {0}} out out' (Err WriteFailed) text
+    → (text : List ℕ) × CrewRan (layout_in h) h.limit (Err WriteFailed) text × Writes {V = Unit {0}} out out' (Err WriteFailed) text
 stores_failed h out out' history w =
     (stores_text (count_by is_store h.entries) ++ [], ran_book h h 0 (Err WriteFailed) [] (played_none h) history tt (λ e. cc) (λ e. cc), front_more out out' (stores_text (count_by is_store h.entries)) [] w)
 
 -- the count was written, and drains behind it
 pub book_written : (old new : History) (out mid_out out' : Option (List ℕ)) (r : Result (Unit {0}) Stop) → IfErr r MayStop → IsHistory new → Appends out mid_out (stores_text (count_by is_store old.entries))
-    → HasDrained HasPlayed IsFull (layout_in old).regions old new mid_out out' r → (text : List ℕ) × Ran (layout_in old) old.limit r text × Writes out out' r text
+    → HasDrained HasPlayed IsBookFull (layout_in old).regions old new mid_out out' r → (text : List ℕ) × CrewRan (layout_in old) old.limit r text × Writes out out' r text
 book_written old new out mid_out out' r stops history w d =
     (stores_text (count_by is_store old.entries) ++ d.text, ran_book old new d.drained r d.text d.played history (ends_by r stops) d.filled d.all, puts_then out mid_out out' (written_by r) (stores_text (count_by is_store old.entries)) d.text w d.written)
 
 -- a job was refused, and nothing was written
-pub job_refused : (h : History) (stop : Stop) (out : Option (List ℕ)) → IsHistory h → MayStop stop → (stop ≡ BookFull → IsFull h) → (text : List ℕ) × Ran (layout_in h) h.limit (Err stop) text × Writes {V = Unit {0}} out out (Err stop) text
+pub job_refused : (h : History) (stop : Stop) (out : Option (List ℕ)) → IsHistory h → MayStop stop → (stop ≡ BookFull → IsBookFull h) → (text : List ℕ) × CrewRan (layout_in h) h.limit (Err stop) text × Writes {V = Unit {0}} out out (Err stop) text
 job_refused h stop out history may full = (
   [],
   record {
@@ -91,7 +91,7 @@ unstarted_room BookFull h e = h
 unstarted_room stop h e = cc
 
 -- no job was run
-pub not_started : (l : Shape) (history : ℕ) (stop : Stop) (out : Option (List ℕ)) → IsUnstarted stop → (text : List ℕ) × Ran l history (Err stop) text × Writes {V = Unit {0}} out out (Err stop) text
+pub not_started : (l : Shape) (history : ℕ) (stop : Stop) (out : Option (List ℕ)) → IsUnstarted stop → (text : List ℕ) × CrewRan l history (Err stop) text × Writes {V = Unit {0}} out out (Err stop) text
 not_started l history stop out h = (
   [],
   record {

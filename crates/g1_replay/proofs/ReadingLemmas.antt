@@ -17,7 +17,7 @@ use Rattle.g1_trace.specs.Plain.{IsLineBefore}
 use Rattle.g1_replay.specs.declared.stop.Stop.{Stop}
 use Rattle.g1_replay.specs.declared.stop.Stop.TheVariants.{Fault, ReadFailed}
 use Rattle.g1_replay.specs.Lines.{ReadsLine}
-use Rattle.g1_replay.specs.Reading.{IsLeft, IsReadStop, Reads}
+use Rattle.g1_replay.specs.Reading.{IsLeftToRead, IsReadStop, Reads}
 
 -- bytes of one line
 scan : (line : List ℕ) (d : Dialect) (heap : Option Shape) (n : ℕ) (begun x : List ℕ) → IsPart line → length begun + length line ≤ 64
@@ -48,7 +48,7 @@ line_cut : (line : List ℕ) (d : Dialect) (heap : Option Shape) (n : ℕ) → I
 line_cut line d heap n p some h x e = ap (λ w. read_on d heap n [] (line ++ w)) e ∙ scan line d heap n [] [] p (omega arith) ∙ end_cut line heap n some
 
 -- known bytes at the end leave nothing
-pub left_none : (rd : Option (List ℕ)) (x : List ℕ) → IsAtEnd rd → IsLeft rd x → x ≡ []
+pub left_none : (rd : Option (List ℕ)) (x : List ℕ) → IsAtEnd rd → IsLeftToRead rd x → x ≡ []
 left_none None x e h = absurd h
 left_none (Some left) x e h = h ∙ e
 

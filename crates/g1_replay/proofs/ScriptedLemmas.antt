@@ -14,7 +14,7 @@ use Rattle.g1_replay.specs.declared.end.End.TheVariants.{Refused}
 use Rattle.g1_replay.specs.declared.listing.Listing.{Listing}
 use Rattle.g1_replay.specs.declared.stop.Stop.{Stop}
 use Rattle.g1_replay.specs.declared.stop.Stop.TheVariants.{Fault, NoMemory, ReadFailed}
-use Rattle.g1_replay.specs.Output.{IsEnded, ending_line}
+use Rattle.g1_replay.specs.Output.{IsEndWritten, ending_line}
 use Rattle.g1_replay.specs.Playing.{Does, Follows, Writes, written_by}
 use Rattle.g1_replay.specs.Reading.{IsReadStop, Reads}
 use Rattle.g1_replay.specs.Scripted.{IsUnread, IsRunEnd, IsRefusedTrace, Outcome, Scripted, StopsReading}
@@ -138,7 +138,7 @@ pub scripts_run : (Ran : Outcome) (d : Dialect) (n n' : ℕ) (l : Shape) (cs : L
 scripts_run Ran d n n' l cs rd rd' out mid_out out' r read w t = (t.0, inr (record { layout = l; commands = cs; read = read; ran = t.1 }), puts_then out mid_out out' (written_by r) [] t.0 w t.2)
 
 pub refused_trace : (Ran : Outcome) → ((l : Shape) (cs : List Command) (r : Result (Unit {0}) Stop) (text : List ℕ) → Ran l cs r text → IsRunEnd r) → (d : Dialect) (n : ℕ) (rd rd' out out' : Option (List ℕ)) (r : Result (Unit {0}) Stop) (text : List ℕ) (end : End)
-    → Scripted Ran d 1 n rd rd' r text → IsEnded out out' r (text ++ ending_line n r) end → end ≡ Refused → IfSome rd (λ bytes. IsRefusedTrace d bytes out out')
+    → Scripted Ran d 1 n rd rd' r text → IsEndWritten out out' r (text ++ ending_line n r) end → end ≡ Refused → IfSome rd (λ bytes. IsRefusedTrace d bytes out out')
 refused_trace Ran ends d n None rd' out out' r text end t i e = tt
 refused_trace Ran ends d n (Some xs) rd' out out' (Err (Fault f)) text Refused (inl t) i e = record {
   heap = t.heap;

@@ -14,9 +14,9 @@ use Rattle.g1_trace.specs.declared.dialect.Dialect.{Dialect}
 use Rattle.g1_options.specs.declared.options.Options.{Options}
 use Rattle.g1_replay.specs.declared.stop.Stop.{Stop}
 use Rattle.g1_replay.specs.declared.stop.Stop.TheVariants.{Fault, NoMemory, BookFull, NoThread, ReadFailed, WriteFailed}
-use Rattle.g1_replay.specs.Output.{Told, ended}
+use Rattle.g1_replay.specs.Output.{Told, end_met}
 use Rattle.g1_replay.specs.Pieces.{AreSetBy, entries_of}
-use Rattle.g1_replay.specs.Playing.{IsOpened, IsFull, IsUndone, HasPlayed, Follows, Writes}
+use Rattle.g1_replay.specs.Playing.{IsOpened, IsBookFull, IsUndone, HasPlayed, Follows, Writes}
 use Rattle.g1_replay.specs.Reading.{IsReadStop, Reads}
 use Rattle.g1_replay.proofs.ReadingLemmas.{reads_then}
 
@@ -79,7 +79,7 @@ limit_kept l o book new es is g = ap (λ (t : Terms). t.limit) g.terms ∙ ap (�
 shape_kept : (l : Shape) (o : Options) (book new : History) (es : List Entry) → IsOpened l o book → Grows book es new → layout_in new ≡ l
 shape_kept l o book new es is g = ap (λ (t : Terms). t.layout) g.terms ∙ ap layout_in is
 
-undone_as : (r : Result (Unit {0}) Stop) (undone : List Command) → IsUndone (ended r) undone → IsUndone r undone
+undone_as : (r : Result (Unit {0}) Stop) (undone : List Command) → IsUndone (end_met r) undone → IsUndone r undone
 undone_as (Ok done) undone h = h
 undone_as (Err (Fault f)) undone h = h
 undone_as (Err NoMemory) undone h = h
@@ -88,10 +88,10 @@ undone_as (Err NoThread) undone h = h
 undone_as (Err ReadFailed) undone h = h
 undone_as (Err WriteFailed) undone h = h
 
-pub full_as : (r : Result (Unit {0}) Stop) → r ≡ Err BookFull → ended r ≡ Err BookFull
-full_as r e = ap ended e
+pub full_as : (r : Result (Unit {0}) Stop) → r ≡ Err BookFull → end_met r ≡ Err BookFull
+full_as r e = ap end_met e
 
-pub written_as : (out out' : Option (List ℕ)) (r : Result (Unit {0}) Stop) (text : List ℕ) → Writes out out' (ended r) text → Writes out out' r text
+pub written_as : (out out' : Option (List ℕ)) (r : Result (Unit {0}) Stop) (text : List ℕ) → Writes out out' (end_met r) text → Writes out out' r text
 written_as out out' (Ok done) text w = w
 written_as out out' (Err (Fault f)) text w = w
 written_as out out' (Err NoMemory) text w = w
@@ -103,7 +103,7 @@ written_as out out' (Err WriteFailed) text w = w
 -- what was read and played behind the header is the text of a permitted run
 pub played_told : {S : Type 0} (book_of : S → History) (d : Dialect) (o : Options) (n n1 n' : ℕ) (l : Shape) (old new : S) (rd rd1 rd' out out' : Option (List ℕ)) (r : Result (Unit {0}) Stop)
     → IsOpened l o (book_of old) → Reads d None n n1 rd rd1 (Some l) [] (Ok true)
-    → Follows (λ s cs text t. HasPlayed (book_of s) cs text (book_of t)) (λ s. IsFull (book_of s)) d l n1 n' old new rd1 rd' out out' (ended r) → IsHistory (book_of new)
+    → Follows (λ s cs text t. HasPlayed (book_of s) cs text (book_of t)) (λ s. IsBookFull (book_of s)) d l n1 n' old new rd1 rd' out out' (end_met r) → IsHistory (book_of new)
     → (text : List ℕ) × Told d o.config o.history n n' rd rd' r text × Writes out out' r text
 played_told book_of d o n n1 n' l old new rd rd1 rd' out out' r is head f h =
     let p = f.done.made in
@@ -117,7 +117,7 @@ played_told book_of d o n n1 n' l old new rd rd1 rd' out out' r is head f h =
         done = f.done.done;
         undone = f.done.undone;
         pieces = p.pieces;
-        read = reads_then d None (Some l) (Some l) n n1 n' rd rd1 rd' [] f.commands (ended r) head f.read;
+        read = reads_then d None (Some l) (Some l) n n1 n' rd rd1 rd' [] f.commands (end_met r) head f.read;
         all = f.done.all;
         stopped = undone_as r f.done.undone f.done.stopped;
         walked = p.walked;

@@ -28,7 +28,8 @@ IsCrewText entries commands pieces r text =
 -- The scripts came to a permitted run, which drains of the first regions end; at the whole end
 -- those of all regions. The run has at most `history` entries, and just as many where the book is
 -- full.
-pub record Ran (l : Shape) (history : ℕ) (r : Result (Unit {0}) Stop) (text : List ℕ) : Type 0 where
+pub record CrewRan (l : Shape) (history : ℕ) (r : Result (Unit {0}) Stop)
+    (text : List ℕ) : Type 0 where
   pub entries : List Entry
   pub drained : ℕ
   pub pieces : List Piece
@@ -43,7 +44,7 @@ pub record Ran (l : Shape) (history : ℕ) (r : Result (Unit {0}) Stop) (text : 
 -- what a crew reads and writes, but for the line of its end
 abbrev pub Crewed : Dialect → ℕ → ℕ → ℕ → Option (List ℕ) → Option (List ℕ) → Result (Unit {0}) Stop
     → List ℕ → Type 0
-Crewed d history n n' rd rd' r text = Scripted (λ l _. Ran l history) d n n' rd rd' r text
+Crewed d history n n' rd rd' r text = Scripted (λ l _. CrewRan l history) d n n' rd rd' r text
 
 -- The whole output: the trace has no fault, and this is how many stores a permitted run has, with
 -- the lines of the drains of all regions that end it.

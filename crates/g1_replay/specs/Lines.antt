@@ -24,15 +24,15 @@ abbrev pub EndsAtFeed : List ℕ → ℕ → Type 0
 EndsAtFeed bytes n = IsPart (take n bytes) × (n < length bytes → slice_index bytes n ≡ 10)
 
 -- n of the shown bytes go into a line with room for `room` more, and the first `lost` are used up
-abbrev pub GoesOn : List ℕ → ℕ → Part → ℕ → ℕ → Type 0
-GoesOn shown room Whole n lost =
+abbrev pub GoesIntoLine : List ℕ → ℕ → Part → ℕ → ℕ → Type 0
+GoesIntoLine shown room Whole n lost =
     IsPart (take n shown) × (n ≤ room) × (take lost shown ≡ take n shown ++ 10 ∷ [])
-GoesOn shown room LongPart n lost =
+GoesIntoLine shown room LongPart n lost =
     (b : ℕ) × IsPart (take n shown) × (n ≡ room) × (b ≢ 10)
     × (take lost shown ≡ take n shown ++ b ∷ [])
-GoesOn shown room More n lost = IsPart (take n shown) × (n ≤ room) × (lost ≡ n)
-GoesOn shown room Nothing n lost = (n ≡ 0) × (lost ≡ 0)
-GoesOn shown room Failed n lost = ⊥
+GoesIntoLine shown room More n lost = IsPart (take n shown) × (n ≤ room) × (lost ≡ n)
+GoesIntoLine shown room Nothing n lost = (n ≡ 0) × (lost ≡ 0)
+GoesIntoLine shown room Failed n lost = ⊥
 
 -- the line was begun, and the reader lost what of it came next
 abbrev pub ReadsPart : Option (List ℕ) → Option (List ℕ) → Part → List ℕ → List ℕ → Type 0
@@ -49,8 +49,8 @@ ReadsPart old new Nothing begun line = (line ≡ begun) × Consumes old new []
 ReadsPart old new Failed begun line = (line ≡ begun) × Consumes old new []
 
 -- with the first `lost` of the shown bytes used up, this much of the line that was begun is read
-abbrev pub IsKept : (shown : List ℕ) → Part → (lost : ℕ) → (begun line : List ℕ) → Type 0
-IsKept shown part lost begun line =
+abbrev pub ReadsPartOfShown : (shown : List ℕ) → Part → (lost : ℕ) → (begun line : List ℕ) → Type 0
+ReadsPartOfShown shown part lost begun line =
     (old new : Option (List ℕ)) → Consumes old new (take lost shown)
     → ReadsPart old new part begun line
 

@@ -25,9 +25,9 @@ use Rattle.g1_replay.specs.Playing.{IsUndone}
 use Rattle.g1_replay.specs.Reading.{Reads}
 
 -- the end of the input, or what stopped the replay
-abbrev pub ended : Result (Unit {0}) Stop → Result Bool Stop
-ended (Ok done) = Ok false
-ended (Err stop) = Err stop
+abbrev pub end_met : Result (Unit {0}) Stop → Result Bool Stop
+end_met (Ok done) = Ok false
+end_met (Err stop) = Err stop
 
 -- The text is that of a permitted run which belongs to the commands before the end, by a book of
 -- these settings. The run has at most `history` entries, and just as many where the book is full.
@@ -38,7 +38,7 @@ pub record Told (d : Dialect) (s : Settings) (history n n' : ℕ) (rd rd' : Opti
   pub done : List Command
   pub undone : List Command
   pub pieces : List Piece
-  pub read : Reads d None n n' rd rd' heap commands (ended r)
+  pub read : Reads d None n n' rd rd' heap commands (end_met r)
   pub all : commands ≡ done ++ undone
   pub stopped : IsUndone r undone
   pub walked : Walks done pieces
@@ -69,10 +69,10 @@ end_of (Err ReadFailed) = EndReadFailed
 end_of (Err WriteFailed) = EndWriteFailed
 
 -- the end, and what was written of the text with its line
-abbrev pub IsEnded : Option (List ℕ) → Option (List ℕ) → Result (Unit {0}) Stop → List ℕ → End
+abbrev pub IsEndWritten : Option (List ℕ) → Option (List ℕ) → Result (Unit {0}) Stop → List ℕ → End
     → Type 0
-IsEnded out out' r text EndWriteFailed = AppendsFront out out' text
-IsEnded out out' r text end = (end ≡ end_of r) × Appends out out' text
+IsEndWritten out out' r text EndWriteFailed = AppendsFront out out' text
+IsEndWritten out out' r text end = (end ≡ end_of r) × Appends out out' text
 
 abbrev pub end_or_failed : {V E : Type 0} → Result V E → End → End
 end_or_failed (Ok v) end = end

@@ -112,9 +112,9 @@ abbrev pub refine_line : List Entry → List ℕ
 refine_line (e ∷ []) = lone_refine_line e.reply e.refined
 refine_line _ = []
 
-abbrev pub taken_by : Reply → ℕ
-taken_by (reply.Refined taken hot skipped left short) = taken
-taken_by _ = 0
+abbrev pub taken_in : Reply → ℕ
+taken_in (reply.Refined taken hot skipped left short) = taken
+taken_in _ = 0
 
 abbrev pub hot_in : Reply → ℕ
 hot_in (reply.Refined taken hot skipped left short) = hot
@@ -161,7 +161,7 @@ flush_line _ _ = []
 -- the sums over the calls of a round
 abbrev pub work_line : List Entry → Shown → List ℕ
 work_line entries shown =
-    worked_line (sum_by (λ e. taken_by e.reply) entries) (sum_by (λ e. length e.refined) entries)
+    worked_line (sum_by (λ e. taken_in e.reply) entries) (sum_by (λ e. length e.refined) entries)
     (sum_by (λ e. hot_in e.reply) entries)
     (sum_by (λ e. skipped_in e.reply) entries) shown.left (is_any_short entries || shown.refused)
 

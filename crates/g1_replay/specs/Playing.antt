@@ -31,13 +31,13 @@ IsReady book mutators line layout dialect =
     × (1 ≤ dialect.mutators) × (capacity_of line ≡ book.machine.settings.limit)
 
 -- the history has as many entries as it may have
-abbrev pub IsFull : History → Type 0
-IsFull book = length book.entries ≡ book.limit
+abbrev pub IsBookFull : History → Type 0
+IsBookFull book = length book.entries ≡ book.limit
 
 -- A call was refused, and nothing was entered.
-abbrev pub IsRefused : History → History → Refusal → Type 0
-IsRefused old new refusal.NoMemory = Grows old [] new
-IsRefused old new refusal.BookFull = Grows old [] new × IsFull new
+abbrev pub IsCallRefused : History → History → Refusal → Type 0
+IsCallRefused old new refusal.NoMemory = Grows old [] new
+IsCallRefused old new refusal.BookFull = Grows old [] new × IsBookFull new
 
 -- The calls of a command were made and entered, and the answer has their text.
 abbrev pub IsDone : {V : Type 0} → (V → List ℕ) → History → History → Command → V → Type 0
@@ -49,7 +49,7 @@ IsDone text old new c answer =
 abbrev pub IsAnswered : {V : Type 0} → (V → List ℕ) → History → History → Command → Result V Refusal
     → Type 0
 IsAnswered text old new c (Ok answer) = IsDone text old new c answer
-IsAnswered text old new c (Err refusal) = IsRefused old new refusal
+IsAnswered text old new c (Err refusal) = IsCallRefused old new refusal
 
 -- The calls of these commands were made and entered, as the settings of the book allow, and this is
 -- their text.

@@ -58,8 +58,8 @@ pub record StoresInto (l : Shape) (commands : List Command) (card region : ℕ) 
 
 -- What a drain of the region answers after a race: ascending, cards outside the region, every card
 -- that holds into it by these references, and only cards to which a reference into it was stored.
-pub record IsExactAfter (l : Shape) (commands : List Command) (refs : List (Option ℕ)) (region : ℕ)
-    (cards : List ℕ) : Type 0 where
+pub record IsExactByStores (l : Shape) (commands : List Command) (refs : List (Option ℕ))
+    (region : ℕ) (cards : List ℕ) : Type 0 where
   pub ascending : IsStrictlyIncreasing cards
   pub outside : (card : ℕ) → Contains cards card → region_of_card l card ≢ region
   pub every : (card : ℕ) → Holds (referring l refs) card region → Contains cards card
@@ -69,7 +69,7 @@ pub record IsExactAfter (l : Shape) (commands : List Command) (refs : List (Opti
 abbrev pub AreExact : Shape → List Command → List (Option ℕ) → List Command → List Drained → Type 0
 AreExact l commands refs [] [] = Unit {0}
 AreExact l commands refs (Call (Drain region) ∷ ds) (Cards cards refined ∷ answers) =
-    IsExactAfter l commands refs region cards × AreExact l commands refs ds answers
+    IsExactByStores l commands refs region cards × AreExact l commands refs ds answers
 AreExact l commands refs (Call (Drain region) ∷ ds) (Short refined ∷ answers) =
     AreExact l commands refs ds answers
 AreExact l commands refs ds answers = ⊥

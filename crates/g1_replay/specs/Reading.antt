@@ -14,9 +14,9 @@ use Rattle.g1_replay.specs.declared.stop.Stop.{Stop}
 use Rattle.g1_replay.specs.declared.stop.Stop.TheVariants.{Fault, ReadFailed}
 
 -- x is what the reader has left, where that is known
-abbrev pub IsLeft : Option (List ℕ) → List ℕ → Type 0
-IsLeft None x = ⊥
-IsLeft (Some left) x = x ≡ left
+abbrev pub IsLeftToRead : Option (List ℕ) → List ℕ → Type 0
+IsLeftToRead None x = ⊥
+IsLeftToRead (Some left) x = x ≡ left
 
 -- These bytes are whole lines without a fault, from line n on, and these are their commands; line
 -- n' comes behind them.
@@ -30,7 +30,7 @@ Passes d from n lines cs to n' =
 abbrev pub IsMet : Dialect → Option Shape → ℕ → List ℕ → Option (List ℕ) → Result Bool Stop → Type 0
 IsMet d heap n rest rd' (Ok false) = (rest ≡ []) × IsAtEnd rd' × IsSome heap
 IsMet d heap n rest rd' (Err (Fault f)) =
-    (x : List ℕ) → IsLeft rd' x → read_on d heap n [] (rest ++ x) ≡ faulty heap n f
+    (x : List ℕ) → IsLeftToRead rd' x → read_on d heap n [] (rest ++ x) ≡ faulty heap n f
 IsMet d heap n rest rd' (Err ReadFailed) = IsPart rest × (length rest ≤ 64)
 IsMet d heap n rest rd' r = rest ≡ []
 
@@ -69,10 +69,10 @@ IsLine Blank = Unit {0}
 IsLine (Do c) = Unit {0}
 
 -- a command, if there is one, is of the heap
-abbrev pub IsNextOf : Shape → Dialect → Next → Type 0
-IsNextOf l d End = Unit {0}
-IsNextOf l d Blank = Unit {0}
-IsNextOf l d (Do c) = IsCommandOf l d.mutators c
+abbrev pub IsNextCommandOf : Shape → Dialect → Next → Type 0
+IsNextCommandOf l d End = Unit {0}
+IsNextCommandOf l d Blank = Unit {0}
+IsNextCommandOf l d (Do c) = IsCommandOf l d.mutators c
 
 -- what stops the reading of a line
 abbrev pub IsReadStop : Stop → Type 0

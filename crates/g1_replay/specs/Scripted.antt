@@ -11,7 +11,7 @@ use Rattle.g1_trace.specs.Text.{fault_line}
 use Rattle.g1_trace.specs.Trace.{read_trace}
 use Rattle.g1_replay.specs.declared.stop.Stop.{Stop}
 use Rattle.g1_replay.specs.declared.stop.Stop.TheVariants.{Fault, NoMemory, NoThread, ReadFailed}
-use Rattle.g1_replay.specs.Output.{ended}
+use Rattle.g1_replay.specs.Output.{end_met}
 use Rattle.g1_replay.specs.Playing.{MayStop}
 use Rattle.g1_replay.specs.Reading.{Reads}
 
@@ -48,7 +48,7 @@ pub record WasUnread (d : Dialect) (n n' : ℕ) (rd rd' : Option (List ℕ))
   pub heap : Option Shape
   pub commands : List Command
   pub ends : IsUnread r
-  pub read : Reads d None n n' rd rd' heap commands (ended r)
+  pub read : Reads d None n n' rd rd' heap commands (end_met r)
   pub silent : text ≡ []
 
 -- what the scripts of these commands come to over this heap: how they ended, and what was written

@@ -3,9 +3,9 @@
 ghost use Rattle.std.specs.Prelude.{◌∷◌, [], IfErr, codes};
 ghost use Rattle.g1_book.specs.History.{layout_in};
 ghost use Rattle.g1_trace.specs.Bytes.{Puts};
-ghost use Rattle.g1_trace.specs.Grammar.{IsCallOf};
+ghost use Rattle.g1_trace.specs.Grammar.{IsCommandCall};
 ghost use Rattle.g1_trace.specs.Text.{call_line};
-ghost use Rattle.g1_replay.specs.Playing.{Does, HasPlayed, IsFull, MayStop};
+ghost use Rattle.g1_replay.specs.Playing.{Does, HasPlayed, IsBookFull, MayStop};
 ghost use Rattle.g1_replay.specs.Reading.{more_may_come};
 
 use crate::stop::Stop;
@@ -19,8 +19,8 @@ use std::io::Write;
 
 /// Makes the call and writes the line of its reply.
 pub(crate) fn play_call<W: Write>(book: &mut Book, call: Call, output: &mut W) -> Result<(), Stop>
-    requires { IsCallOf (layout_in book.old) call }
-    ensures played { Does HasPlayed IsFull (Command.Call call ∷ []) book.old book.new
+    requires { IsCommandCall (layout_in book.old) call }
+    ensures played { Does HasPlayed IsBookFull (Command.Call call ∷ []) book.old book.new
         (W.contents output.old) (W.contents output.new) (more_may_come result) }
     ensures stops { IfErr result MayStop }
 {

@@ -2,9 +2,9 @@
 ghost use Rattle.std.specs.Prelude.{◌≡◌, ℕ, List, count_by};
 ghost use Rattle.g1_shared.specs.Counts.{is_store};
 ghost use Rattle.g1_book.specs.History.{IsHistory, layout_in};
-ghost use Rattle.g1_replay.specs.Crew.{Ran};
+ghost use Rattle.g1_replay.specs.Crew.{CrewRan};
 ghost use Rattle.g1_replay.specs.Laws.{played_in, played_none, played_then};
-ghost use Rattle.g1_replay.specs.Playing.{HasPlayed, IsFull, MayStop, Writes};
+ghost use Rattle.g1_replay.specs.Playing.{HasPlayed, IsBookFull, MayStop, Writes};
 
 use crate::calls::play_call;
 use crate::drains::{Drains, put_drains};
@@ -42,7 +42,7 @@ impl Drains for Book {
 
     ghost did = { HasPlayed };
 
-    ghost full = { IsFull };
+    ghost full = { IsBookFull };
 
     /// The first caller's drain of the region.
     fn put_drain<W: Write>(&mut self, region: Region, output: &mut W) -> Result<(), Stop> {
@@ -58,7 +58,7 @@ impl Drains for Book {
 
 // How many stores there were, and the drains of all regions.
 fn put_book<W: Write>(book: &mut Book, output: &mut W) -> Result<(), Stop>
-    ensures { (text : List ℕ) × Ran (layout_in book.old) book.old.limit result text
+    ensures { (text : List ℕ) × CrewRan (layout_in book.old) book.old.limit result text
         × Writes (W.contents output.old) (W.contents output.new) result text }
 {
     let layout = book.layout();
@@ -72,7 +72,7 @@ fn put_book<W: Write>(book: &mut Book, output: &mut W) -> Result<(), Stop>
 // Why a crew that was refused a call ends: the history is full, or memory was refused.
 fn stop_of(book: &Book, refusal: Refusal, history: u32) -> Stop
     requires { book.now.limit ≡ history }
-    ensures full { result ≡ Stop.BookFull → IsFull book.now }
+    ensures full { result ≡ Stop.BookFull → IsBookFull book.now }
     ensures history { IsHistory book.now }
     ensures stops { MayStop result }
 {
@@ -91,7 +91,7 @@ pub(crate) fn put_crew<W: Write>(
     output: &mut W,
 ) -> Result<(), Stop>
     requires { book.old.limit ≡ history }
-    ensures { (text : List ℕ) × Ran (layout_in book.old) history result text
+    ensures { (text : List ℕ) × CrewRan (layout_in book.old) history result text
         × Writes (W.contents output.old) (W.contents output.new) result text }
 {
     match refused {

@@ -4,8 +4,8 @@ ghost use Rattle.std.specs.Prelude.{◌≡◌, ℕ, List, ◌++◌, true, vec_le
 ghost use Rattle.g1_layout.specs.Shape.{slot_count};
 ghost use Rattle.g1_steps.specs.Ask.{StepFits};
 ghost use Rattle.g1_trace.specs.declared.mode.Mode.TheVariants.{Crew};
-ghost use Rattle.g1_replay.specs.Crew.{Crewed, IsWholeCrew, Ran};
-ghost use Rattle.g1_replay.specs.Output.{IsEnded, ending_line};
+ghost use Rattle.g1_replay.specs.Crew.{Crewed, IsWholeCrew, CrewRan};
+ghost use Rattle.g1_replay.specs.Output.{IsEndWritten, ending_line};
 ghost use Rattle.g1_replay.specs.Playing.{Writes};
 ghost use Rattle.g1_replay.specs.Scripted.{IsRefusedTrace};
 ghost use Rattle.g1_replay.specs.declared.stop.Stop.{Stop};
@@ -41,7 +41,7 @@ fn run_scripts<T: Threads + Wait + Sync, W: Write>(
     requires count { vec_len scripts ≡ options.now.mutators }
     requires fits { All (λ steps.
         All (StepFits (slot_count layout) true) steps.items) scripts.items }
-    ensures { (text : List ℕ) × Ran layout options.now.history result text
+    ensures { (text : List ℕ) × CrewRan layout options.now.history result text
         × Writes (W.contents output.old) (W.contents output.new) result text }
 {
     let count = u64::from(options.mutators + options.refiners);
@@ -115,7 +115,7 @@ pub fn crew<T: Threads + Wait + Sync, R: BufRead, W: Write>(
           mutators = options.now.mutators;
         }) options.now.history 1 number (R.remaining input.old)
         (R.remaining input.new) outcome text
-        × IsEnded (W.contents output.old) (W.contents output.new) outcome
+        × IsEndWritten (W.contents output.old) (W.contents output.new) outcome
         (text ++ ending_line number outcome) result }
     ensures whole { result ≡ End.Whole
         → IfSome (R.remaining input.old) (λ bytes.

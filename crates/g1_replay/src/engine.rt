@@ -3,7 +3,7 @@ ghost use Rattle.std.specs.Prelude.{◌≡◌, ℕ, List, [], ◌++◌, ◌<◌,
 ghost use Rattle.std.specs.Prelude.{IfSome, IfErr, OnOk};
 ghost use Rattle.g1_trace.specs.declared.mode.Mode.TheVariants.{Run};
 ghost use Rattle.g1_replay.specs.Playing.{Follows, Writes};
-ghost use Rattle.g1_replay.specs.Output.{Told, IsEnded, ended, ending_line, end_or_failed};
+ghost use Rattle.g1_replay.specs.Output.{Told, IsEndWritten, end_met, ending_line, end_or_failed};
 ghost use Rattle.g1_replay.specs.Output.{IsWholeOutput, IsRefusedOutput};
 ghost use Rattle.g1_replay.specs.Reading.{IsReadStop};
 ghost use Rattle.g1_replay.specs.declared.stop.Stop.{Stop};
@@ -67,7 +67,7 @@ pub(crate) fn play_lines<T: Wait, P: Player, R: BufRead, W: Write>(
     requires { P.takes player.old layout dialect }
     ensures followed { Follows P.did P.full dialect layout source.old.number source.new.number
         player.old player.new (R.remaining input.old) (R.remaining input.new)
-        (W.contents output.old) (W.contents output.new) (ended result) }
+        (W.contents output.old) (W.contents output.new) (end_met result) }
     ensures stops { IfErr result (λ stop. IsReadStop stop ⊎ P.stops stop) }
     ensures takes { OnOk result (P.takes player.new layout dialect) }
 {
@@ -104,7 +104,7 @@ fn play_trace<T: Wait, R: BufRead, W: Write>(
 
 /// Writes the line of the end.
 pub(crate) fn put_end<W: Write>(output: &mut W, number: u64, outcome: Result<(), Stop>) -> End
-    ensures { IsEnded (W.contents output.old) (W.contents output.new) outcome
+    ensures { IsEndWritten (W.contents output.old) (W.contents output.new) outcome
         (ending_line number outcome) result }
 {
     match outcome {
@@ -159,7 +159,7 @@ pub fn run<T: Wait, R: BufRead, W: Write>(
           mutators = options.now.mutators;
         }) options.now.config options.now.history 1 number
         (R.remaining input.old) (R.remaining input.new) outcome text
-        × IsEnded (W.contents output.old) (W.contents output.new) outcome
+        × IsEndWritten (W.contents output.old) (W.contents output.new) outcome
         (text ++ ending_line number outcome) result }
     ensures whole { result ≡ End.Whole
         → IfSome (R.remaining input.old) (λ bytes.

@@ -4,8 +4,8 @@ ghost use Rattle.std.specs.Prelude.{◌≡◌, ℕ, List, [], ◌∷◌, ◌++�
 ghost use Rattle.std.specs.Prelude.{true, Option, IfErr};
 ghost use Rattle.std.specs.Io.KnownBytes.{Consumes};
 ghost use Rattle.g1_trace.specs.Words.{IsPart};
-ghost use Rattle.g1_replay.specs.Lines.{GoesOn, HasPart, IsKept, IsSettled, ReadsPart, Reads};
-ghost use Rattle.g1_replay.specs.Lines.{ReadsLine, EndsAtFeed};
+ghost use Rattle.g1_replay.specs.Lines.{GoesIntoLine, HasPart, ReadsPartOfShown, IsSettled};
+ghost use Rattle.g1_replay.specs.Lines.{ReadsPart, Reads, ReadsLine, EndsAtFeed};
 ghost use Rattle.g1_replay.specs.Reading.{IsReadStop};
 
 use crate::stop::Stop;
@@ -57,7 +57,7 @@ fn part_len(bytes: &[u8]) -> usize
 // How much of a line with room for `room` more the bytes have, how many of them go into it, and how
 // many are used up.
 fn part_of(shown: &[u8], room: usize) -> (Part, usize, usize)
-    ensures goes_on { GoesOn shown.now room result.0 result.1 result.2 }
+    ensures goes_on { GoesIntoLine shown.now room result.0 result.1 result.2 }
     ensures fits { result.1 ≤ room }
     ensures within { result.1 ≤ result.2 }
     ensures shown { result.2 ≤ length shown.now }
@@ -79,7 +79,7 @@ fn part_of(shown: &[u8], room: usize) -> (Part, usize, usize)
 // how many of the bytes it uses up.
 fn keep_part(shown: &[u8], line: &mut ArrayVec<u8, 64>) -> (Part, usize)
     requires { length line.old.items ≤ 64 }
-    ensures kept { IsKept shown.now result.0 result.1 line.old.items line.new.items }
+    ensures kept { ReadsPartOfShown shown.now result.0 result.1 line.old.items line.new.items }
     ensures within { result.1 ≤ length shown.now }
     ensures short { length line.new.items ≤ 64 }
 {

@@ -4,7 +4,7 @@ ghost use Rattle.std.specs.Prelude.{◌<◌, ◌≤◌, ◌+◌, ◌^◌, ◌∷
 ghost use Rattle.std.specs.Prelude.{IfOk, IfErr};
 ghost use Rattle.g1_trace.specs.Grammar.{IsCommandOf};
 ghost use Rattle.g1_replay.specs.Lines.{HasPart};
-ghost use Rattle.g1_replay.specs.Reading.{Reads, commands_of, next_met, IsLine, IsNextOf};
+ghost use Rattle.g1_replay.specs.Reading.{Reads, commands_of, next_met, IsLine, IsNextCommandOf};
 ghost use Rattle.g1_replay.specs.Reading.{IsReadStop};
 
 use crate::lines::{Part, READ_LIMIT, rest_of_line};
@@ -41,7 +41,7 @@ pub fn read_next<R: BufRead>(
         (R.remaining input.old) (R.remaining input.new) (Some layout.now) (commands_of result)
         (next_met result) }
     ensures stops { IfErr result IsReadStop }
-    ensures valid { IfOk result (λ next. IsNextOf layout.now dialect next) }
+    ensures valid { IfOk result (λ next. IsNextCommandOf layout.now dialect next) }
     ensures more { IfOk result (λ next. IsLine next
         → (source.old.reads < source.new.reads) × (source.new.reads ≤ 2 ^ 40)) }
 {
@@ -99,7 +99,7 @@ fn read_rest<R: BufRead>(
         → Reads dialect (Some layout.now) source.old.number source.new.number begun
         (R.remaining input.new) (Some layout.now) (commands_of result) (next_met result) }
     ensures stops { IfErr result IsReadStop }
-    ensures valid { IfOk result (λ next. IsNextOf layout.now dialect next) }
+    ensures valid { IfOk result (λ next. IsNextCommandOf layout.now dialect next) }
     ensures reads { source.old.reads ≤ source.new.reads }
     ensures limit { source.new.reads ≤ 2 ^ 40 }
 {

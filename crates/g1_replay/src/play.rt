@@ -6,11 +6,11 @@ ghost use Rattle.g1_book.specs.History.{layout_in};
 ghost use Rattle.g1_steps.specs.Rounds.{round_size};
 ghost use Rattle.g1_steps.specs.Steps.{Empties};
 ghost use Rattle.g1_log.specs.Ends.{capacity_of, taken_of};
-ghost use Rattle.g1_trace.specs.Grammar.{IsCallOf, IsCommandOf};
+ghost use Rattle.g1_trace.specs.Grammar.{IsCommandCall, IsCommandOf};
 ghost use Rattle.g1_trace.specs.Text.{store_text, refine_text, work_text};
 ghost use Rattle.g1_replay.specs.Flush.{flush_text};
 ghost use Rattle.g1_replay.specs.Laws.{played_none, played_then};
-ghost use Rattle.g1_replay.specs.Playing.{Does, IsAnswered, IsDone, IsFull, IsReady, HasPlayed};
+ghost use Rattle.g1_replay.specs.Playing.{Does, IsAnswered, IsDone, IsBookFull, IsReady, HasPlayed};
 ghost use Rattle.g1_replay.specs.Playing.{MayStop};
 ghost use Rattle.g1_replay.specs.Reading.{more_may_come};
 ghost use Rattle.g1_replay.specs.Still.{is_pause, pauses, AreStill};
@@ -33,7 +33,7 @@ impl Player for Machinery {
 
     ghost did = { λ s cs text t. HasPlayed s.book cs text t.book };
 
-    ghost full = { λ s. IsFull s.book };
+    ghost full = { λ s. IsBookFull s.book };
 
     ghost stops = { MayStop };
 
@@ -49,9 +49,9 @@ impl Player for Machinery {
         requires takes { IsReady self.old.book (vec_len self.old.mutators) self.old.line _layout
             _dialect }
         requires command { IsCommandOf _layout _dialect.mutators command }
-        ensures played { Does (λ s cs text t. HasPlayed s.book cs text t.book) (λ s. IsFull s.book)
-            (command ∷ []) self.old self.new (W.contents output.old) (W.contents output.new)
-            (more_may_come result) }
+        ensures played { Does (λ s cs text t. HasPlayed s.book cs text t.book)
+            (λ s. IsBookFull s.book) (command ∷ []) self.old self.new
+            (W.contents output.old) (W.contents output.new) (more_may_come result) }
         ensures stops { IfErr result MayStop }
         ensures takes { OnOk result
             (IsReady self.new.book (vec_len self.new.mutators) self.new.line _layout _dialect) }
@@ -107,8 +107,8 @@ fn one_call<T: Wait, W: Write>(
     call: Call,
     output: &mut W,
 ) -> Result<(), Stop>
-    requires { IsCallOf (layout_in machinery.old.book) call }
-    ensures played { Does HasPlayed IsFull (Command.Call call ∷ []) machinery.old.book
+    requires { IsCommandCall (layout_in machinery.old.book) call }
+    ensures played { Does HasPlayed IsBookFull (Command.Call call ∷ []) machinery.old.book
         machinery.new.book (W.contents output.old) (W.contents output.new) (more_may_come result) }
     ensures stops { IfErr result MayStop }
     ensures mutators { vec_len machinery.new.mutators ≡ vec_len machinery.old.mutators }
@@ -126,9 +126,9 @@ fn one_call<T: Wait, W: Write>(
 
 // The call of the book, for which the mutators are stopped if it is a pause.
 fn answer_call<W: Write>(machinery: &mut Machinery, call: Call, output: &mut W) -> Result<(), Stop>
-    requires call { IsCallOf (layout_in machinery.old.book) call }
+    requires call { IsCommandCall (layout_in machinery.old.book) call }
     requires still { is_pause call ≡ true → AreStill machinery.old.mutators.items }
-    ensures played { Does HasPlayed IsFull (Command.Call call ∷ []) machinery.old.book
+    ensures played { Does HasPlayed IsBookFull (Command.Call call ∷ []) machinery.old.book
         machinery.new.book (W.contents output.old) (W.contents output.new) (more_may_come result) }
     ensures stops { IfErr result MayStop }
     ensures mutators { machinery.new.mutators ≡ machinery.old.mutators }

@@ -3,7 +3,7 @@
 ghost use Rattle.std.specs.Prelude.{◌≡◌, ℕ, List, ◌++◌, All, Result, IfSome};
 ghost use Rattle.g1_trace.specs.Grammar.{IsCommandOf};
 ghost use Rattle.g1_trace.specs.declared.mode.Mode.TheVariants.{Race};
-ghost use Rattle.g1_replay.specs.Output.{IsEnded, ending_line};
+ghost use Rattle.g1_replay.specs.Output.{IsEndWritten, ending_line};
 ghost use Rattle.g1_replay.specs.Playing.{Writes};
 ghost use Rattle.g1_replay.specs.Race.{IsWholeRace, RacedTrace, RaceRan};
 ghost use Rattle.g1_replay.specs.Scripted.{IsRefusedTrace};
@@ -104,7 +104,7 @@ pub fn race<T: Threads + Wait + Sync, R: BufRead, W: Write>(
     ensures told { (number : ℕ) × (outcome : Result (Unit {0}) Stop) × (text : List ℕ)
         × RacedTrace (record { mode = Race; mutators = options.now.mutators }) 1 number
         (R.remaining input.old) (R.remaining input.new) outcome text
-        × IsEnded (W.contents output.old) (W.contents output.new) outcome
+        × IsEndWritten (W.contents output.old) (W.contents output.new) outcome
         (text ++ ending_line number outcome) result }
     ensures whole { result ≡ End.Whole
         → IfSome (R.remaining input.old) (λ bytes.

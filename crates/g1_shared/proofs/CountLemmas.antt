@@ -10,11 +10,11 @@ use Rattle.g1_log.specs.Ends.{taken_of}
 use Rattle.g1_core.specs.declared.reply.RefineReply.{RefineReply}
 use Rattle.g1_core.specs.declared.entry.Entry.{Entry}
 use Rattle.g1_book.specs.declared.refusal.Refusal.{Refusal}
-use Rattle.g1_steps.specs.Made.{Made, Refused}
+use Rattle.g1_steps.specs.Made.{CallMade, Refused}
 use Rattle.g1_steps.specs.Steps.{GainsAtMost, IsTake, IsRefinement}
 use Rattle.g1_steps.proofs.StepLemmas.{gains_nothing, gains_single}
 use Rattle.g1_steps.specs.Rounds.{Turn, turn_call, round_calls, round_size, IsRound}
-use Rattle.g1_shared.specs.Counts.{Tally, one_call, counted, counted_then, CountsDid, is_store}
+use Rattle.g1_shared.specs.Counts.{Tally, one_call, tally_after, tally_after_then, CountsDid, is_store}
 use Rattle.g1_shared.specs.Callers.{MakesFor}
 
 -- how many stores there are with one entry more
@@ -27,13 +27,13 @@ pub record IsWorked (t : Tally) (calls : ℕ) (u : Tally) : Type 0 where
   pub made : u.made ≡ t.made + calls
   pub stored : u.stored ≡ t.stored
 
-turns_counted : (t : Tally) (turns : List Turn) → IsWorked t (length turns) (counted t (map turn_call turns))
+turns_counted : (t : Tally) (turns : List Turn) → IsWorked t (length turns) (tally_after t (map turn_call turns))
 turns_counted t [] = record { number = refl; made = omega arith; stored = refl }
 turns_counted t (x ∷ xs) = let rest = turns_counted (one_call t) xs in record { number = rest.number; made = omega (arith, rest.made); stored = rest.stored }
 
-pub round_counted : (t : Tally) (turns : List Turn) (refused : Option Refusal) → IsWorked t (length turns) (counted t (round_calls turns refused))
+pub round_counted : (t : Tally) (turns : List Turn) (refused : Option Refusal) → IsWorked t (length turns) (tally_after t (round_calls turns refused))
 round_counted t turns None = turns_counted t turns
-round_counted t turns (Some refusal) = subst (IsWorked t (length turns)) (counted_then t (map turn_call turns) (Refused refusal ∷ [])) (turns_counted t turns)
+round_counted t turns (Some refusal) = subst (IsWorked t (length turns)) (tally_after_then t (map turn_call turns) (Refused refusal ∷ [])) (turns_counted t turns)
 
 size_by : (less : Bool) (start seen : ℕ) → (if less then 0 else seen - start / 4) ≤ seen
 size_by true start seen = omega arith
@@ -43,8 +43,8 @@ pub size_within : (start seen : ℕ) → round_size start seen ≤ seen
 size_within start seen = size_by (nat_lt seen start) start seen
 
 -- the same round, of whose calls something else is told
-pub round_as : {S T : Type 0} (did : S → List Made → S → Type 0) (tells : T → List Made → T → Type 0) (old new : S) (was now : T) (before : List Parcel) (most : ℕ) (reply : RefineReply) (after : List Parcel)
-    → ((calls : List Made) → did old calls new → tells was calls now) → IsRound did old before most reply after new → IsRound tells was before most reply after now
+pub round_as : {S T : Type 0} (did : S → List CallMade → S → Type 0) (tells : T → List CallMade → T → Type 0) (old new : S) (was now : T) (before : List Parcel) (most : ℕ) (reply : RefineReply) (after : List Parcel)
+    → ((calls : List CallMade) → did old calls new → tells was calls now) → IsRound did old before most reply after new → IsRound tells was before most reply after now
 round_as did tells old new was now before most reply after told h = record {
   turns = h.turns;
   refused = h.refused;
@@ -83,7 +83,7 @@ take_gains : (before : Taker) (parcel : Option Parcel) (after : Taker) → IsTak
 take_gains before None after h = gains_nothing _ _ h.0
 take_gains before (Some x) after h = gains_single _ _ x h
 
-pub refinement_gains : {S : Type 0} (did : S → List Made → S → Type 0) (r : Result RefineReply Refusal) (old new : S) (before after : Taker)
+pub refinement_gains : {S : Type 0} (did : S → List CallMade → S → Type 0) (r : Result RefineReply Refusal) (old new : S) (before after : Taker)
     → IfOk r (λ reply. IsRefinement did old before reply after new) → OnErr r (GainsAtMost (taken_of before) 1 (taken_of after)) → GainsAtMost (taken_of before) 1 (taken_of after)
 refinement_gains did (Ok reply) old new before after h lost = take_gains before h.parcel after h.take
 refinement_gains did (Err e) old new before after h lost = lost

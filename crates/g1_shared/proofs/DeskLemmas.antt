@@ -7,22 +7,22 @@ use Rattle.g1_log.specs.Ends.{capacity_of}
 use Rattle.g1_core.specs.declared.reply.RefineReply.{RefineReply}
 use Rattle.g1_book.specs.declared.refusal.Refusal.{Refusal}
 use Rattle.g1_book.specs.History.{Terms}
-use Rattle.g1_steps.specs.Made.{Made}
+use Rattle.g1_steps.specs.Made.{CallMade}
 use Rattle.g1_steps.specs.Rounds.{IsRound, round_size}
 use Rattle.g1_steps.specs.Ask.{AskWork}
-use Rattle.g1_shared.specs.Callers.{Standing, RoundsAt, mark_of, taken_list}
+use Rattle.g1_shared.specs.Callers.{Standing, IsRoundAt, caller_mark, taken_list}
 use Rattle.g1_shared.specs.Did.{DeskDid}
 use Rattle.g1_shared.proofs.CountLemmas.{round_as, round_makes}
 
 -- the same round, of whose calls something else is told, and of whose start another name is known
-pub rounds_as : {S T : Type 0} (did : S → List Made → S → Type 0) (tells : T → List Made → T → Type 0) (old new : S) (was now : T) (before : List Parcel) (reply : RefineReply) (after : List Parcel) (start named seen : ℕ) → start ≡ named
-    → ((calls : List Made) → did old calls new → tells was calls now) → IsRound did old before (round_size start seen) reply after new → IsRound tells was before (round_size named seen) reply after now
+pub rounds_as : {S T : Type 0} (did : S → List CallMade → S → Type 0) (tells : T → List CallMade → T → Type 0) (old new : S) (was now : T) (before : List Parcel) (reply : RefineReply) (after : List Parcel) (start named seen : ℕ) → start ≡ named
+    → ((calls : List CallMade) → did old calls new → tells was calls now) → IsRound did old before (round_size start seen) reply after new → IsRound tells was before (round_size named seen) reply after now
 rounds_as did tells old new was now before reply after start named seen same told h =
     subst (λ n. IsRound tells was before (round_size n seen) reply after now) same (round_as did tells old new was now before (round_size start seen) reply after told h)
 
 -- what a desk tells of it
-pub desk_worked : (r : Result RefineReply Refusal) (line : Line) (terms : Terms) (s t : Standing) → mark_of t ≡ mark_of s → t.counts.stored ≡ s.counts.stored
-    → (s.counts.made ≤ t.counts.made) × (t.counts.made ≤ s.counts.made + capacity_of line) → IfOk r (λ reply. RoundsAt terms line s reply t)
+pub desk_worked : (r : Result RefineReply Refusal) (line : Line) (terms : Terms) (s t : Standing) → caller_mark t ≡ caller_mark s → t.counts.stored ≡ s.counts.stored
+    → (s.counts.made ≤ t.counts.made) × (t.counts.made ≤ s.counts.made + capacity_of line) → IfOk r (λ reply. IsRoundAt terms line s reply t)
     → OnOk r (DeskDid (capacity_of line) s (AskWork ∷ []) (capacity_of line) t)
 desk_worked (Err refusal) line terms s t mark stored made round = tt
 desk_worked (Ok reply) line terms s t mark stored made round =

@@ -7,7 +7,7 @@ use Rattle.g1_core.specs.declared.reply.StoreReply.{StoreReply}
 use Rattle.g1_core.specs.Run.{kind_of}
 use Rattle.g1_book.specs.declared.refusal.Refusal.{Refusal}
 use Rattle.g1_book.specs.History.{History, Terms, table_in}
-use Rattle.g1_steps.specs.Made.{Made, Stored}
+use Rattle.g1_steps.specs.Made.{CallMade, Stored}
 use Rattle.g1_steps.specs.Steps.{Help, IsStored, help_calls, store_answer}
 use Rattle.g1_shared.specs.Answers.{IsKindAt, AreAnswersAt}
 use Rattle.g1_shared.proofs.CallLemmas.{AreCounted}
@@ -23,8 +23,8 @@ answer_kind first (Some (Ok reply)) = refl
 answer_kind first (Some (Err refusal)) = refl
 
 -- a store's reply has the kind of its own call
-pub store_kind : {S : Type 0} (did : S → List Made → S → Type 0) (layout : Shape) (old new : S) (slot : ℕ) (target : Option ℕ) (cards : List ℕ) (r : Result StoreReply Refusal)
-    → ((ms : List Made) → did old ms new → AreAnswersAt layout ms) → IfOk r (λ reply. IsStored did old slot target cards reply new)
+pub store_kind : {S : Type 0} (did : S → List CallMade → S → Type 0) (layout : Shape) (old new : S) (slot : ℕ) (target : Option ℕ) (cards : List ℕ) (r : Result StoreReply Refusal)
+    → ((ms : List CallMade) → did old ms new → AreAnswersAt layout ms) → IfOk r (λ reply. IsStored did old slot target cards reply new)
     → IfOk r (λ reply. IsKindAt layout slot target reply.kind)
 store_kind did layout old new slot target cards (Err refusal) told h = tt
 store_kind did layout old new slot target cards (Ok reply) told h =

@@ -7,7 +7,7 @@ use Rattle.g1_core.specs.Refinement.{IsRefined}
 use Rattle.g1_core.specs.Table.{Table}
 use Rattle.g1_core.specs.Run.{kind_of}
 use Rattle.g1_core.specs.declared.reply.RefineReply.{RefineReply}
-use Rattle.g1_steps.specs.Made.{Made, Stored, Refined, Refused}
+use Rattle.g1_steps.specs.Made.{CallMade, Stored, Refined, Refused}
 
 -- The kind is that of such a store at some table of this heap: null or within a region where the
 -- store is, and else dirty or logged.
@@ -21,7 +21,7 @@ IsReplyAt layout buffer reply =
     (s t : State) × (s.table.layout ≡ layout) × IsRefined s buffer reply t
 
 -- each store among these calls has such a kind, and each refinement such a reply
-abbrev pub AreAnswersAt : Shape → List Made → Type 0
+abbrev pub AreAnswersAt : Shape → List CallMade → Type 0
 AreAnswersAt layout [] = Unit {0}
 AreAnswersAt layout (Stored slot target reply ∷ ms) =
     IsKindAt layout slot target reply.kind × AreAnswersAt layout ms
@@ -29,7 +29,7 @@ AreAnswersAt layout (Refined buffer reply ∷ ms) =
     IsReplyAt layout buffer reply × AreAnswersAt layout ms
 AreAnswersAt layout (Refused refusal ∷ ms) = AreAnswersAt layout ms
 
-pub answers_then : (layout : Shape) (xs ys : List Made) → AreAnswersAt layout xs
+pub answers_then : (layout : Shape) (xs ys : List CallMade) → AreAnswersAt layout xs
     → AreAnswersAt layout ys → AreAnswersAt layout (xs ++ ys)
 answers_then layout [] ys h k = k
 answers_then layout (Stored slot target reply ∷ xs) ys h k = (h.0, answers_then layout xs ys h.1 k)

@@ -28,12 +28,12 @@ pub record Standing : Type 0 where
   pub taker : Taker
 
 -- its log: none of any size where it is no mutator
-abbrev pub log_in : Option Mutator → Cards
-log_in None = record { size = 0; cards = [] }
-log_in (Some m) = m.log
+abbrev pub mutator_log : Option Mutator → Cards
+mutator_log None = record { size = 0; cards = [] }
+mutator_log (Some m) = m.log
 
-abbrev pub log_of : Standing → Cards
-log_of c = log_in c.mutator
+abbrev pub caller_log : Standing → Cards
+caller_log c = mutator_log c.mutator
 
 -- the list of the buffers that its sender has put
 abbrev pub puts_in : Option Mutator → List Buffer
@@ -53,8 +53,8 @@ pub record Mark : Type 0 where
   pub mutator : Option MutatorMark
   pub taker : TakerMark
 
-abbrev pub mark_of : Standing → Mark
-mark_of c = record {
+abbrev pub caller_mark : Standing → Mark
+caller_mark c = record {
   number = c.counts.number;
   mutator = mutator_mark c.mutator;
   taker = taker_mark c.taker;
@@ -65,7 +65,7 @@ abbrev pub IsMarkOf : Line → Mark → Type 0
 IsMarkOf line m = IfSome m.mutator (λ s. s.line ≡ line_home line) × (m.taker.line ≡ line_home line)
 
 abbrev pub IsCallerOf : Line → Standing → Type 0
-IsCallerOf line c = IsMarkOf line (mark_of c)
+IsCallerOf line c = IsMarkOf line (caller_mark c)
 
 -- One entry more, or a refused call: then nothing is refined, and that is short.
 abbrev pub IsHelped : ℕ → List ℕ → Bool → ℕ → Type 0
@@ -73,38 +73,38 @@ IsHelped made refined short now =
     (now ≡ made + 1) ⊎ ((now ≡ made) × (refined ≡ []) × (short ≡ true))
 
 -- What a store of a card does to its caller, by what became of the log.
-abbrev pub StoresAt : Standing → ℕ → Fill → List ℕ → Bool → Standing → Type 0
-StoresAt c card No refined short d =
+abbrev pub IsStoreAt : Standing → ℕ → Fill → List ℕ → Bool → Standing → Type 0
+IsStoreAt c card No refined short d =
     (d.counts.made ≡ c.counts.made + 1) × (put_list d ≡ put_list c) × (refined ≡ [])
     × (short ≡ false)
-StoresAt c card Full refined short d =
+IsStoreAt c card Full refined short d =
     (d.counts.made ≡ c.counts.made + 1)
-    × (put_list d ≡ put_list c ++ ((log_of c).cards ++ card ∷ []) ∷ [])
-    × ((log_of d).cards ≡ []) × (refined ≡ []) × (short ≡ false)
-StoresAt c card Helped refined short d =
+    × (put_list d ≡ put_list c ++ ((caller_log c).cards ++ card ∷ []) ∷ [])
+    × ((caller_log d).cards ≡ []) × (refined ≡ []) × (short ≡ false)
+IsStoreAt c card Helped refined short d =
     IsHelped (c.counts.made + 1) refined short d.counts.made × (put_list d ≡ put_list c)
-    × ((log_of d).cards ≡ [])
+    × ((caller_log d).cards ≡ [])
 
 -- What a flush does to its caller, by what became of the log.
-abbrev pub FlushesAt : Standing → Fill → List ℕ → Bool → Standing → Type 0
-FlushesAt c No refined short d =
-    (d.counts ≡ c.counts) × (put_list d ≡ put_list c) × ((log_of c).cards ≡ []) × (refined ≡ [])
+abbrev pub IsFlushAt : Standing → Fill → List ℕ → Bool → Standing → Type 0
+IsFlushAt c No refined short d =
+    (d.counts ≡ c.counts) × (put_list d ≡ put_list c) × ((caller_log c).cards ≡ []) × (refined ≡ [])
     × (short ≡ false)
-FlushesAt c Full refined short d =
-    (d.counts ≡ c.counts) × (put_list d ≡ put_list c ++ (log_of c).cards ∷ []) × (refined ≡ [])
+IsFlushAt c Full refined short d =
+    (d.counts ≡ c.counts) × (put_list d ≡ put_list c ++ (caller_log c).cards ∷ []) × (refined ≡ [])
     × (short ≡ false)
-FlushesAt c Helped refined short d =
+IsFlushAt c Helped refined short d =
     IsHelped c.counts.made refined short d.counts.made × (put_list d ≡ put_list c)
 
 -- A refinement of a caller: its counts tell of the call, and the reply is one of that buffer.
-abbrev pub RefinesAt : Shape → Standing → RefineReply → Standing → Type 0
-RefinesAt layout c reply d =
+abbrev pub IsRefinementAt : Shape → Standing → RefineReply → Standing → Type 0
+IsRefinementAt layout c reply d =
     IsRefinement (CountsDid layout) c.counts c.taker reply d.taker d.counts
 
 -- A round of a caller at a line, on these terms: its counts tell of the calls, and the replies are
 -- those of the buffers.
-abbrev pub RoundsAt : Terms → Line → Standing → RefineReply → Standing → Type 0
-RoundsAt terms line c reply d =
+abbrev pub IsRoundAt : Terms → Line → Standing → RefineReply → Standing → Type 0
+IsRoundAt terms line c reply d =
     (seen : ℕ) × (seen ≤ capacity_of line)
     × IsRound (CountsDid terms.layout) c.counts (taken_list c)
     (round_size terms.settings.start seen) reply (taken_list d) d.counts
@@ -116,10 +116,10 @@ pub record MakesFor (made : ℕ) (old : List Parcel) (made' : ℕ) (new : List P
   pub within : made' ≤ made + length parcels
 
 -- A caller at a pause: its log is empty.
-pub record IsPaused (c d : Standing) : Type 0 where
-  pub mark : mark_of d ≡ mark_of c
+pub record IsCallerAtPause (c d : Standing) : Type 0 where
+  pub mark : caller_mark d ≡ caller_mark c
   pub counts : d.counts ≡ c.counts
-  pub empty : (log_of d).cards ≡ []
+  pub empty : (caller_log d).cards ≡ []
   pub put : put_list d ≡ put_list c
 
 -- Caller k as it begins, where the first `mutators` callers are mutators.

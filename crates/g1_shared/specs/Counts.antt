@@ -5,7 +5,7 @@ use Rattle.g1_layout.specs.Shape.{Shape}
 use Rattle.g1_core.specs.declared.entry.Entry.{Entry}
 use Rattle.g1_core.specs.declared.entry.Call.{Call}
 use Rattle.g1_core.specs.declared.entry.Call.TheVariants.{Store}
-use Rattle.g1_steps.specs.Made.{Made, Stored, Refined, Refused}
+use Rattle.g1_steps.specs.Made.{CallMade, Stored, Refined, Refused}
 use Rattle.g1_shared.specs.Answers.{AreAnswersAt}
 
 abbrev pub stores_by : Call → Bool
@@ -37,25 +37,25 @@ abbrev pub one_store : Tally → Tally
 one_store t = record { number = t.number; made = t.made + 1; stored = t.stored + 1 }
 
 -- the tally after these calls: a refused one is no entry
-abbrev pub counted : Tally → List Made → Tally
-counted t [] = t
-counted t (Stored slot target reply ∷ ms) = counted (one_store t) ms
-counted t (Refined buffer reply ∷ ms) = counted (one_call t) ms
-counted t (Refused refusal ∷ ms) = counted t ms
+abbrev pub tally_after : Tally → List CallMade → Tally
+tally_after t [] = t
+tally_after t (Stored slot target reply ∷ ms) = tally_after (one_store t) ms
+tally_after t (Refined buffer reply ∷ ms) = tally_after (one_call t) ms
+tally_after t (Refused refusal ∷ ms) = tally_after t ms
 
 -- the counts tell of the calls that were made, and the heap which answers these can have
-abbrev pub CountsDid : Shape → Tally → List Made → Tally → Type 0
-CountsDid layout t calls u = (u ≡ counted t calls) × AreAnswersAt layout calls
+abbrev pub CountsDid : Shape → Tally → List CallMade → Tally → Type 0
+CountsDid layout t calls u = (u ≡ tally_after t calls) × AreAnswersAt layout calls
 
-pub counted_then : (t : Tally) (xs ys : List Made)
-    → counted (counted t xs) ys ≡ counted t (xs ++ ys)
-counted_then t [] ys = refl
-counted_then t (Stored slot target reply ∷ xs) ys = counted_then (one_store t) xs ys
-counted_then t (Refined buffer reply ∷ xs) ys = counted_then (one_call t) xs ys
-counted_then t (Refused refusal ∷ xs) ys = counted_then t xs ys
+pub tally_after_then : (t : Tally) (xs ys : List CallMade)
+    → tally_after (tally_after t xs) ys ≡ tally_after t (xs ++ ys)
+tally_after_then t [] ys = refl
+tally_after_then t (Stored slot target reply ∷ xs) ys = tally_after_then (one_store t) xs ys
+tally_after_then t (Refined buffer reply ∷ xs) ys = tally_after_then (one_call t) xs ys
+tally_after_then t (Refused refusal ∷ xs) ys = tally_after_then t xs ys
 
-pub counted_number : (t : Tally) (ms : List Made) → (counted t ms).number ≡ t.number
-counted_number t [] = refl
-counted_number t (Stored slot target reply ∷ ms) = counted_number (one_store t) ms
-counted_number t (Refined buffer reply ∷ ms) = counted_number (one_call t) ms
-counted_number t (Refused refusal ∷ ms) = counted_number t ms
+pub tally_after_number : (t : Tally) (ms : List CallMade) → (tally_after t ms).number ≡ t.number
+tally_after_number t [] = refl
+tally_after_number t (Stored slot target reply ∷ ms) = tally_after_number (one_store t) ms
+tally_after_number t (Refined buffer reply ∷ ms) = tally_after_number (one_call t) ms
+tally_after_number t (Refused refusal ∷ ms) = tally_after_number t ms

@@ -3,7 +3,7 @@ use Rattle.std.specs.Prelude.{◌≡◌, ℕ, Bool, cond, ◌+◌, ◌≤◌, Li
 use Rattle.std.proofs.Common.{refl, sym, ap, subst, ◌∙◌, arith, append-nil, append_assoc}
 use Rattle.std.proofs.Common.{length-append}
 use Rattle.std.proofs.lemmas.List.Sums.{sum_by-append}
-use Rattle.g1_shared.specs.Callers.{Standing, MakesFor, mark_of, log_in, taken_list}
+use Rattle.g1_shared.specs.Callers.{Standing, MakesFor, caller_mark, mutator_log, taken_list}
 use Rattle.g1_steps.specs.Ask.{Ask, AskStore, AskFlush, AskWork, is_store_ask}
 use Rattle.g1_steps.specs.Steps.{GainsAtMost}
 
@@ -15,7 +15,7 @@ most_for limit AskWork = limit
 
 -- a flush leaves an empty log
 abbrev pub Leaves : Ask → Standing → Type 0
-Leaves AskFlush t = (log_in t.mutator).cards ≡ []
+Leaves AskFlush t = (mutator_log t.mutator).cards ≡ []
 Leaves (AskStore slot target) t = Unit {0}
 Leaves AskWork t = Unit {0}
 
@@ -26,7 +26,7 @@ LeavesLog s (a ∷ []) t = Leaves a t
 LeavesLog s (a ∷ b ∷ asks) t = LeavesLog s (b ∷ asks) t
 
 leaves_same : (a : Ask) (t u : Standing) → u.mutator ≡ t.mutator → Leaves a t → Leaves a u
-leaves_same AskFlush t u e h = ap (λ m. (log_in m).cards) e ∙ h
+leaves_same AskFlush t u e h = ap (λ m. (mutator_log m).cards) e ∙ h
 leaves_same (AskStore slot target) t u e h = tt
 leaves_same AskWork t u e h = tt
 
@@ -57,7 +57,7 @@ log_then s t u xs (y ∷ ys) h k = log_after s t u xs y ys k
 -- least one entry. At most two are made for a store, one for a flush, and one for each parcel that
 -- its taker gained.
 pub record CallerDid (limit : ℕ) (s : Standing) (asks : List Ask) (t : Standing) : Type 0 where
-  pub mark : mark_of t ≡ mark_of s
+  pub mark : caller_mark t ≡ caller_mark s
   pub stored : t.counts.stored ≡ s.counts.stored + count_by is_store_ask asks
   pub least : s.counts.made + count_by is_store_ask asks ≤ t.counts.made
   pub log : LeavesLog s asks t

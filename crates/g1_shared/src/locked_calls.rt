@@ -1,7 +1,7 @@
 //! The calls of one caller at a book or core under a lock.
 ghost use Rattle.std.specs.Prelude.{◌≡◌, refl, nat_lt};
 ghost use Rattle.std.proofs.Common.{◌∙◌, ap};
-ghost use Rattle.g1_shared.specs.Counts.{counted, counted_then, counted_number};
+ghost use Rattle.g1_shared.specs.Counts.{tally_after, tally_after_then, tally_after_number};
 ghost use Rattle.g1_shared.specs.Answers.{AreAnswersAt, answers_then};
 
 use crate::caller::Counts;
@@ -35,7 +35,7 @@ impl<'a, R: Wait, M: Frame, S: Ledger, K: Keeper<M, S>> Calls for LockedCalls<'a
     ghost may_store = { λ s. nat_lt s.counts.now.number M.terms.mutators };
 
     ghost did = { λ s ms t. (t.counts.ghost_name ≡ s.counts.ghost_name)
-        × (t.counts.now ≡ counted s.counts.now ms)
+        × (t.counts.now ≡ tally_after s.counts.now ms)
         × AreAnswersAt M.terms.layout ms };
 
     #[inline(always)]
@@ -63,13 +63,13 @@ impl<'a, R: Wait, M: Frame, S: Ledger, K: Keeper<M, S>> Calls for LockedCalls<'a
 
     ghost then = { λ s t u xs ys h k. (
       k.0 ∙ h.0,
-      k.1 ∙ ap (λ n. counted n ys) h.1 ∙ counted_then s.counts.now xs ys,
+      k.1 ∙ ap (λ n. tally_after n ys) h.1 ∙ tally_after_then s.counts.now xs ys,
       answers_then M.terms.layout xs ys h.2 k.2,
     ) };
 
     ghost stays = { λ s t ms h. (
       refl,
       ap (λ n. nat_lt n M.terms.mutators)
-          (ap (λ t. t.number) h.1 ∙ counted_number s.counts.now ms),
+          (ap (λ t. t.number) h.1 ∙ tally_after_number s.counts.now ms),
     ) };
 }

@@ -4,7 +4,7 @@ ghost use Rattle.std.proofs.Props.{props};
 ghost use Rattle.g1_layout.specs.Shape.{slot_count, card_of};
 ghost use Rattle.g1_core.specs.Barrier.{logged};
 ghost use Rattle.g1_log.specs.Ends.{capacity_of};
-ghost use Rattle.g1_shared.specs.Callers.{IsCallerOf, log_of, StoresAt, FlushesAt, RoundsAt};
+ghost use Rattle.g1_shared.specs.Callers.{IsCallerOf, caller_log, IsStoreAt, IsFlushAt, IsRoundAt};
 ghost use Rattle.g1_shared.specs.Did.{IsRefusedAt};
 ghost use Rattle.g1_shared.specs.Answers.{IsKindAt};
 ghost use Rattle.g1_shared.specs.Did.{DeskDid, caller_did_none, desk_did_then};
@@ -70,16 +70,17 @@ impl<'a, R: Wait, M: Frame, S: Ledger, K: Keeper<M, S>> Desk for SharedDesk<'a, 
     ghost may_store = { λ s. nat_lt s.caller.counts.number M.terms.mutators };
 
     ghost stored = { λ s slot target reply t.
-        StoresAt s.caller
+        IsStoreAt s.caller
         (card_of M.terms.layout slot) reply.fill reply.refined reply.short t.caller
-        × (log_of t.caller ≡ logged reply.kind (log_of s.caller) (card_of M.terms.layout slot))
+        × (caller_log t.caller
+        ≡ logged reply.kind (caller_log s.caller) (card_of M.terms.layout slot))
         × IsKindAt M.terms.layout slot target reply.kind };
 
-    ghost flushed = { λ s reply t. FlushesAt s.caller reply.fill reply.refined reply.short t.caller
-        × (reply.cards ≡ length (log_of s.caller).cards) };
+    ghost flushed = { λ s reply t. IsFlushAt s.caller reply.fill reply.refined reply.short t.caller
+        × (reply.cards ≡ length (caller_log s.caller).cards) };
 
     ghost worked = { λ s reply t.
-        RoundsAt M.terms s.shared.now s.caller reply t.caller };
+        IsRoundAt M.terms s.shared.now s.caller reply t.caller };
 
     ghost refused = { λ s ask why t. IsRefusedAt s.caller ask t.caller };
 

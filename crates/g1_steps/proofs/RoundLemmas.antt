@@ -9,13 +9,13 @@ use Rattle.std.proofs.lemmas.Grind.{flat_map-append}
 use Rattle.g1_log.specs.declared.parcel.Parcel.{Parcel}
 use Rattle.g1_core.specs.declared.reply.RefineReply.{RefineReply}
 use Rattle.g1_book.specs.declared.refusal.Refusal.{Refusal}
-use Rattle.g1_steps.specs.Made.{Made, Refused}
+use Rattle.g1_steps.specs.Made.{CallMade, Refused}
 use Rattle.g1_steps.specs.Steps.{GainsAtMost, FoundEmpty}
-use Rattle.g1_steps.specs.Rounds.{Turn, turn_call, round_calls, IsRound, IsSumOf, IsRefused, replies_of, parcels_of, AreWholeButLast, Progress, IsNextOf, added}
+use Rattle.g1_steps.specs.Rounds.{Turn, turn_call, round_calls, IsRound, IsSumOf, IsRefused, replies_of, parcels_of, AreWholeButLast, Progress, IsNextOf, sums_with}
 use Rattle.g1_steps.proofs.StepLemmas.{gains_nothing}
 
 -- A round so far: `calls` calls, all of them whole.
-pub record IsRoundSoFar {S : Type 0} (did : S → List Made → S → Type 0) (old : S) (before : List Parcel) (calls : ℕ) (p : Progress S) : Type 0 where
+pub record IsRoundSoFar {S : Type 0} (did : S → List CallMade → S → Type 0) (old : S) (before : List Parcel) (calls : ℕ) (p : Progress S) : Type 0 where
   pub turns : List Turn
   pub made : did old (map turn_call turns) p.state
   pub taken : p.taken ≡ before ++ parcels_of turns
@@ -33,7 +33,7 @@ pub record IsNothing (sum : RefineReply) : Type 0 where
   pub skipped : sum.skipped ≡ 0
   pub short : sum.short ≡ false
 
-pub round_begins : {S : Type 0} (did : S → List Made → S → Type 0) (old : S) (before : List Parcel) (sum : RefineReply) → did old [] old → IsNothing sum → IsRoundSoFar did old before 0 (record { state = old; sum = sum; taken = before })
+pub round_begins : {S : Type 0} (did : S → List CallMade → S → Type 0) (old : S) (before : List Parcel) (sum : RefineReply) → did old [] old → IsNothing sum → IsRoundSoFar did old before 0 (record { state = old; sum = sum; taken = before })
 round_begins did old before sum made none = record {
   turns = [];
   made = made;
@@ -46,7 +46,7 @@ round_begins did old before sum made none = record {
 }
 
 -- one more call adds up
-sums_more : (rs : List RefineReply) (sum r : RefineReply) → IsSumOf rs sum → All (λ q. q.short ≡ false) rs → IsSumOf (rs ++ r ∷ []) (added sum r)
+sums_more : (rs : List RefineReply) (sum r : RefineReply) → IsSumOf rs sum → All (λ q. q.short ≡ false) rs → IsSumOf (rs ++ r ∷ []) (sums_with sum r)
 sums_more rs sum r h all = record {
   taken = omega (arith, h.taken, sum_by-append (λ (q : RefineReply). q.taken) rs (r ∷ []));
   refined = ap (λ l. l ++ r.refined) h.refined ∙ sym (flat_map-append (λ (q : RefineReply). q.refined) rs (r ∷ []) ∙ ap (λ l. flat_map (λ (q : RefineReply). q.refined) rs ++ l) (append-nil r.refined));
@@ -69,8 +69,8 @@ whole_but_last (x ∷ y ∷ ys) r all = (all 0 x (omega arith), whole_but_last (
 replies_more : (ts : List Turn) (t : Turn) → replies_of ts ++ t.reply ∷ [] ≡ replies_of (ts ++ t ∷ [])
 replies_more ts t = sym (map-append (λ (q : Turn). q.reply) ts (t ∷ []))
 
-sums_turn : (ts : List Turn) (sum : RefineReply) (t : Turn) → IsSumOf (replies_of ts) sum → All (λ r. r.short ≡ false) (replies_of ts) → IsSumOf (replies_of (ts ++ t ∷ [])) (added sum t.reply)
-sums_turn ts sum t h all = subst (λ l. IsSumOf l (added sum t.reply)) (replies_more ts t) (sums_more (replies_of ts) sum t.reply h all)
+sums_turn : (ts : List Turn) (sum : RefineReply) (t : Turn) → IsSumOf (replies_of ts) sum → All (λ r. r.short ≡ false) (replies_of ts) → IsSumOf (replies_of (ts ++ t ∷ [])) (sums_with sum t.reply)
+sums_turn ts sum t h all = subst (λ l. IsSumOf l (sums_with sum t.reply)) (replies_more ts t) (sums_more (replies_of ts) sum t.reply h all)
 
 is_short : (b : Bool) → false ≡ not b → b ≡ true
 is_short true h = refl
@@ -81,11 +81,11 @@ is_whole true h = cc
 is_whole false h = refl
 
 -- calls after calls are calls
-abbrev Then : {S : Type 0} → (S → List Made → S → Type 0) → Type 0
-Then {S} did = (s t u : S) (xs ys : List Made) → did s xs t → did t ys u → did s (xs ++ ys) u
+abbrev Then : {S : Type 0} → (S → List CallMade → S → Type 0) → Type 0
+Then {S} did = (s t u : S) (xs ys : List CallMade) → did s xs t → did t ys u → did s (xs ++ ys) u
 
 -- a round with one more call
-one_more : {S : Type 0} (did : S → List Made → S → Type 0) (then : Then did) (old mid new : S) (ts : List Turn) (t : Turn) → did old (map turn_call ts) mid → did mid (turn_call t ∷ []) new → did old (map turn_call (ts ++ t ∷ [])) new
+one_more : {S : Type 0} (did : S → List CallMade → S → Type 0) (then : Then did) (old mid new : S) (ts : List Turn) (t : Turn) → did old (map turn_call ts) mid → did mid (turn_call t ∷ []) new → did old (map turn_call (ts ++ t ∷ [])) new
 one_more did then old mid new ts t p q = subst (λ ms. did old ms new) (sym (map-append turn_call ts (t ∷ []))) (then old mid new (map turn_call ts) (turn_call t ∷ []) p q)
 
 taken_more : (before : List Parcel) (ts : List Turn) (t : Turn) (mid new : List Parcel) → mid ≡ before ++ parcels_of ts → new ≡ mid ++ t.parcel ∷ [] → new ≡ before ++ parcels_of (ts ++ t ∷ [])
@@ -93,7 +93,7 @@ taken_more before ts t mid new was is =
     is ∙ ap (λ l. l ++ t.parcel ∷ []) was ∙ append_assoc before (parcels_of ts) (t.parcel ∷ []) ∙ ap (λ l. before ++ l) (sym (map-append (λ (q : Turn). q.parcel) ts (t ∷ [])))
 
 -- a round goes on after a whole call
-pub round_goes_on : {S : Type 0} (did : S → List Made → S → Type 0) (then : Then did) (old : S) (before : List Parcel) (calls : ℕ) (mid new : Progress S) (more : Bool) → IsRoundSoFar did old before calls mid → more ≡ true → IsNextOf did mid more new → IsRoundSoFar did old before (calls + 1) new
+pub round_goes_on : {S : Type 0} (did : S → List CallMade → S → Type 0) (then : Then did) (old : S) (before : List Parcel) (calls : ℕ) (mid new : Progress S) (more : Bool) → IsRoundSoFar did old before calls mid → more ≡ true → IsNextOf did mid more new → IsRoundSoFar did old before (calls + 1) new
 round_goes_on did then old before calls mid new more h goes (inl call) =
     let t : Turn = record { parcel = call.parcel; reply = call.reply } in
     let whole : t.reply.short ≡ false = is_whole t.reply.short (sym goes ∙ call.goes_on) in
@@ -110,7 +110,7 @@ round_goes_on did then old before calls mid new more h goes (inl call) =
 round_goes_on did then old before calls mid new more h goes (inr none) = absurd (cc (goes, none.ends))
 
 -- a round that made whole calls alone ends where they are all, or the line was empty
-round_stops : {S : Type 0} (did : S → List Made → S → Type 0) (old : S) (before : List Parcel) (calls most : ℕ) (p : Progress S) → IsRoundSoFar did old before calls p → calls ≤ most → (calls ≡ most) ⊎ FoundEmpty p.taken → IsRound did old before most p.sum p.taken p.state
+round_stops : {S : Type 0} (did : S → List CallMade → S → Type 0) (old : S) (before : List Parcel) (calls most : ℕ) (p : Progress S) → IsRoundSoFar did old before calls p → calls ≤ most → (calls ≡ most) ⊎ FoundEmpty p.taken → IsRound did old before most p.sum p.taken p.state
 round_stops did old before calls most p h few ends = record {
   turns = h.turns;
   refused = None;
@@ -127,11 +127,11 @@ round_stops did old before calls most p h few ends = record {
 }
 
 -- a round that made all its calls
-pub round_done : {S : Type 0} (did : S → List Made → S → Type 0) (old : S) (before : List Parcel) (calls most : ℕ) (p : Progress S) → IsRoundSoFar did old before calls p → calls ≡ most → IsRound did old before most p.sum p.taken p.state
+pub round_done : {S : Type 0} (did : S → List CallMade → S → Type 0) (old : S) (before : List Parcel) (calls most : ℕ) (p : Progress S) → IsRoundSoFar did old before calls p → calls ≡ most → IsRound did old before most p.sum p.taken p.state
 round_done did old before calls most p h made = round_stops did old before calls most p h (omega (arith, made)) (inl made)
 
 -- a round ends before its last call where the line was empty or the call was short
-pub round_ends : {S : Type 0} (did : S → List Made → S → Type 0) (then : Then did) (old : S) (before : List Parcel) (calls most : ℕ) (mid new : Progress S) (more : Bool) → IsRoundSoFar did old before calls mid → calls < most → more ≡ false → IsNextOf did mid more new → IsRound did old before most new.sum new.taken new.state
+pub round_ends : {S : Type 0} (did : S → List CallMade → S → Type 0) (then : Then did) (old : S) (before : List Parcel) (calls most : ℕ) (mid new : Progress S) (more : Bool) → IsRoundSoFar did old before calls mid → calls < most → more ≡ false → IsNextOf did mid more new → IsRound did old before most new.sum new.taken new.state
 round_ends did then old before calls most mid new more h less ends (inl call) =
     let t : Turn = record { parcel = call.parcel; reply = call.reply } in
     let short : t.reply.short ≡ true = is_short t.reply.short (sym ends ∙ call.goes_on) in
@@ -155,12 +155,12 @@ round_ends did then old before calls most mid new more h less ends (inr none) =
     (round_stops did old before calls most mid h (omega (arith, less)) (inr (subst (λ p. FoundEmpty p.taken) none.same none.empty)))
 
 -- the calls of a round whose next call was refused
-calls_refused : {S : Type 0} (did : S → List Made → S → Type 0) (then : Then did) (old mid : S) (ts : List Turn) (refusal : Refusal) (new : S) → did old (map turn_call ts) mid → IsRefused did mid refusal new → (refused : Option Refusal) × did old (round_calls ts refused) new
+calls_refused : {S : Type 0} (did : S → List CallMade → S → Type 0) (then : Then did) (old mid : S) (ts : List Turn) (refusal : Refusal) (new : S) → did old (map turn_call ts) mid → IsRefused did mid refusal new → (refused : Option Refusal) × did old (round_calls ts refused) new
 calls_refused did then old mid ts refusal new h (inl none) = (None, subst (λ s. did old (map turn_call ts) s) (sym none.1) h)
 calls_refused did then old mid ts refusal new h (inr call) = (Some refusal, then old mid new (map turn_call ts) (Refused refusal ∷ []) h call)
 
 -- a round whose next call is refused is short
-pub round_refused : {S : Type 0} (did : S → List Made → S → Type 0) (then : Then did) (old : S) (before : List Parcel) (calls most : ℕ) (mid : Progress S) (reply : RefineReply) (after : List Parcel) (refusal : Refusal) (new : S) → IsRoundSoFar did old before calls mid → 1 ≤ calls → calls < most
+pub round_refused : {S : Type 0} (did : S → List CallMade → S → Type 0) (then : Then did) (old : S) (before : List Parcel) (calls most : ℕ) (mid : Progress S) (reply : RefineReply) (after : List Parcel) (refusal : Refusal) (new : S) → IsRoundSoFar did old before calls mid → 1 ≤ calls → calls < most
     → IsRefused did mid.state refusal new → GainsAtMost mid.taken 1 after → reply ≡ record { taken = mid.sum.taken; refined = mid.sum.refined; hot = mid.sum.hot; skipped = mid.sum.skipped; left = mid.sum.left; short = true } → IsRound did old before most reply after new
 round_refused did then old before calls most mid reply after refusal new h some less refused given_up is =
     let all = calls_refused did then old mid.state h.turns refusal new h.made refused in

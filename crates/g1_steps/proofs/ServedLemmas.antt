@@ -6,22 +6,22 @@ use Rattle.g1_core.specs.declared.reply.StoreReply.{StoreReply}
 use Rattle.g1_core.specs.declared.reply.RefineReply.{RefineReply}
 use Rattle.g1_book.specs.declared.refusal.Refusal.{Refusal}
 use Rattle.g1_steps.specs.declared.steps.mutator.FlushReply.{FlushReply}
-use Rattle.g1_steps.specs.Made.{Made, Stored, Refused}
+use Rattle.g1_steps.specs.Made.{CallMade, Stored, Refused}
 use Rattle.g1_steps.specs.Steps.{Help, help_calls, IsStored, IsFlushed}
 use Rattle.g1_steps.specs.Rounds.{Turn, round_calls, IsRound, IsRefused}
 use Rattle.g1_steps.specs.Ask.{Ask, AskStore, AskFlush, AskWork}
 use Rattle.g1_steps.specs.Served.{was_made, AreRefinements, IsHelp, Serves, HasServed}
 
 -- one thing that was asked for, served by these calls
-served_one : {S : Type 0} (did : S → List Made → S → Type 0) (s t : S) (ask : Ask) (calls : List Made) → did s calls t → Serves ask (filter was_made calls) → HasServed did s (ask ∷ []) t
+served_one : {S : Type 0} (did : S → List CallMade → S → Type 0) (s t : S) (ask : Ask) (calls : List CallMade) → did s calls t → Serves ask (filter was_made calls) → HasServed did s (ask ∷ []) t
 served_one did s t ask calls made serves = record { calls = calls; made = made; serves = (filter was_made calls, [], sym (append-nil (filter was_made calls)), serves, refl) }
 
 -- nothing was made
-pub served_nothing : {S : Type 0} (did : S → List Made → S → Type 0) (s t : S) → did s [] s → t ≡ s → HasServed did s [] t
+pub served_nothing : {S : Type 0} (did : S → List CallMade → S → Type 0) (s t : S) → did s [] s → t ≡ s → HasServed did s [] t
 served_nothing did s t none same = subst (HasServed did s []) (sym same) (record { calls = []; made = none; serves = refl })
 
 -- a refused call serves nothing
-pub served_refused : {S : Type 0} (did : S → List Made → S → Type 0) (s t : S) (refusal : Refusal) → did s (Refused refusal ∷ []) t → HasServed did s [] t
+pub served_refused : {S : Type 0} (did : S → List CallMade → S → Type 0) (s t : S) (refusal : Refusal) → did s (Refused refusal ∷ []) t → HasServed did s [] t
 served_refused did s t refusal made = record { calls = Refused refusal ∷ []; made = made; serves = refl }
 
 helped : (cards : List ℕ) (help : Help) → IsHelp (filter was_made (help_calls cards help))
@@ -29,10 +29,10 @@ helped cards None = tt
 helped cards (Some (Ok reply)) = tt
 helped cards (Some (Err refusal)) = tt
 
-pub served_store : {S : Type 0} (did : S → List Made → S → Type 0) (s : S) (slot : ℕ) (target : Option ℕ) (cards : List ℕ) (reply : StoreReply) (t : S) → IsStored did s slot target cards reply t → HasServed did s (AskStore slot target ∷ []) t
+pub served_store : {S : Type 0} (did : S → List CallMade → S → Type 0) (s : S) (slot : ℕ) (target : Option ℕ) (cards : List ℕ) (reply : StoreReply) (t : S) → IsStored did s slot target cards reply t → HasServed did s (AskStore slot target ∷ []) t
 served_store did s slot target cards reply t h = served_one did s t (AskStore slot target) (Stored slot target h.first ∷ help_calls cards h.help) h.made (refl, refl, helped cards h.help)
 
-pub served_flush : {S : Type 0} (did : S → List Made → S → Type 0) (s : S) (cards : List ℕ) (reply : FlushReply) (t : S) → did s [] s → IsFlushed did s cards reply t → HasServed did s (AskFlush ∷ []) t
+pub served_flush : {S : Type 0} (did : S → List CallMade → S → Type 0) (s : S) (cards : List ℕ) (reply : FlushReply) (t : S) → did s [] s → IsFlushed did s cards reply t → HasServed did s (AskFlush ∷ []) t
 served_flush did s cards reply t none (inl h) = subst (HasServed did s (AskFlush ∷ [])) (sym h.2) (served_one did s s AskFlush [] none tt)
 served_flush did s cards reply t none (inr h) = served_one did s t AskFlush (help_calls cards h.help) h.made (helped cards h.help)
 
@@ -42,9 +42,9 @@ refinements [] (Some refusal) = tt
 refinements (x ∷ xs) None = refinements xs None
 refinements (x ∷ xs) (Some refusal) = refinements xs (Some refusal)
 
-pub served_round : {S : Type 0} (did : S → List Made → S → Type 0) (s : S) (before : List Parcel) (most : ℕ) (reply : RefineReply) (after : List Parcel) (t : S) → IsRound did s before most reply after t → HasServed did s (AskWork ∷ []) t
+pub served_round : {S : Type 0} (did : S → List CallMade → S → Type 0) (s : S) (before : List Parcel) (most : ℕ) (reply : RefineReply) (after : List Parcel) (t : S) → IsRound did s before most reply after t → HasServed did s (AskWork ∷ []) t
 served_round did s before most reply after t h = served_one did s t AskWork (round_calls h.turns h.refused) h.made (refinements h.turns h.refused)
 
-pub served_refusal : {S : Type 0} (did : S → List Made → S → Type 0) (s t : S) (refusal : Refusal) → did s [] s → IsRefused did s refusal t → HasServed did s [] t
+pub served_refusal : {S : Type 0} (did : S → List CallMade → S → Type 0) (s t : S) (refusal : Refusal) → did s [] s → IsRefused did s refusal t → HasServed did s [] t
 served_refusal did s t refusal none (inl h) = served_nothing did s t none h.1
 served_refusal did s t refusal none (inr h) = served_refused did s t refusal h

@@ -16,7 +16,7 @@ use Rattle.g1_core.specs.declared.entry.Entry.{Entry}
 use Rattle.g1_core.specs.Calls.{store_entry, refine_entry}
 use Rattle.g1_book.specs.History.{History, IsEntered}
 use Rattle.g1_book.specs.declared.refusal.Refusal.{Refusal}
-use Rattle.g1_steps.specs.Made.{Made, Stored, Refined, Refused, AreCalls, entries_of}
+use Rattle.g1_steps.specs.Made.{CallMade, Stored, Refined, Refused, AreCalls, entries_made}
 use Rattle.g1_steps.specs.Lent.{Grows, IsBookCall}
 use Rattle.g1_steps.specs.Rounds.{Turn, round_calls, replies_of}
 use Rattle.g1_steps.specs.Steps.{Help, passed, filled, store_answer, GainsAtMost, Empties, IsTake, IsRefinement}
@@ -52,23 +52,23 @@ pub grows_then : (a b c : History) (es fs : List Entry) → Grows a es b → Gro
 grows_then a b c es fs g h = record { entries = h.entries ∙ ap (λ xs. xs ++ fs) g.entries ∙ append_assoc a.entries es fs; terms = h.terms ∙ g.terms }
 
 -- the entries of a call, and of some
-call_grows : (caller : ℕ) (old new : History) (m : Made) → IsBookCall caller old m new → Grows old (entries_of caller (m ∷ [])) new
+call_grows : (caller : ℕ) (old new : History) (m : CallMade) → IsBookCall caller old m new → Grows old (entries_made caller (m ∷ [])) new
 call_grows caller old new (Stored slot target reply) h = grows_entered old (store_entry caller slot target reply) new h.0
 call_grows caller old new (Refined buffer reply) h = grows_entered old (refine_entry caller reply) new h.0
 call_grows caller old new (Refused refusal) h = grows_unchanged old new h.0
 
-entries_more : (caller : ℕ) (m : Made) (ms : List Made) → entries_of caller (m ∷ []) ++ entries_of caller ms ≡ entries_of caller (m ∷ ms)
+entries_more : (caller : ℕ) (m : CallMade) (ms : List CallMade) → entries_made caller (m ∷ []) ++ entries_made caller ms ≡ entries_made caller (m ∷ ms)
 entries_more caller (Stored slot target reply) ms = refl
 entries_more caller (Refined buffer reply) ms = refl
 entries_more caller (Refused refusal) ms = refl
 
-pub calls_grow : (caller : ℕ) (old new : History) (ms : List Made) → AreCalls (IsBookCall caller) old ms new → Grows old (entries_of caller ms) new
+pub calls_grow : (caller : ℕ) (old new : History) (ms : List CallMade) → AreCalls (IsBookCall caller) old ms new → Grows old (entries_made caller ms) new
 calls_grow caller old new [] h = grows_unchanged old new h
 calls_grow caller old new (m ∷ []) h = call_grows caller old new m h
-calls_grow caller old new (m ∷ n ∷ ms) h = subst (λ es. Grows old es new) (entries_more caller m (n ∷ ms)) (grows_then old h.0 new (entries_of caller (m ∷ [])) (entries_of caller (n ∷ ms)) (call_grows caller old h.0 m h.1) (calls_grow caller h.0 new (n ∷ ms) h.2))
+calls_grow caller old new (m ∷ n ∷ ms) h = subst (λ es. Grows old es new) (entries_more caller m (n ∷ ms)) (grows_then old h.0 new (entries_made caller (m ∷ [])) (entries_made caller (n ∷ ms)) (call_grows caller old h.0 m h.1) (calls_grow caller h.0 new (n ∷ ms) h.2))
 
 -- the entries of a round
-pub round_entries : (caller : ℕ) (turns : List Turn) (refused : Option Refusal) → entries_of caller (round_calls turns refused) ≡ map (refine_entry caller) (replies_of turns)
+pub round_entries : (caller : ℕ) (turns : List Turn) (refused : Option Refusal) → entries_made caller (round_calls turns refused) ≡ map (refine_entry caller) (replies_of turns)
 round_entries caller [] None = refl
 round_entries caller [] (Some refusal) = refl
 round_entries caller (t ∷ ts) None = ap (λ es. refine_entry caller t.reply ∷ es) (round_entries caller ts None)
@@ -118,7 +118,7 @@ take_from : (a b : Taker) (parcel : Option Parcel) (c : Taker) → taker_view b 
 take_from a b None c same h = (h.0 ∙ ap taken_by same, subst (λ v. WasOfLength 0 v) same h.1)
 take_from a b (Some x) c same h = h ∙ ap (λ v. taken_by v ++ x ∷ []) same
 
-pub refinement_from : {S : Type 0} (did : S → List Made → S → Type 0) (old new : S) (a b after : Taker) (result : Result RefineReply Refusal) → taker_view b ≡ taker_view a
+pub refinement_from : {S : Type 0} (did : S → List CallMade → S → Type 0) (old new : S) (a b after : Taker) (result : Result RefineReply Refusal) → taker_view b ≡ taker_view a
     → IfOk result (λ reply. IsRefinement did old b reply after new) → IfOk result (λ reply. IsRefinement did old a reply after new)
 refinement_from did old new a b after (Ok reply) same h = record { parcel = h.parcel; take = take_from a b h.parcel after same h.take; made = h.made }
 refinement_from did old new a b after (Err refusal) same h = h

@@ -9,7 +9,7 @@ use Rattle.g1_core.specs.Barrier.{stored_machine}
 use Rattle.g1_core.specs.Refinement.{IsRefined, AreCardsRead}
 use Rattle.g1_book.specs.declared.refusal.Refusal.TheVariants.{BookFull, NoMemory}
 use Rattle.g1_book.specs.History.{History, IsEntered, terms_of}
-use Rattle.g1_steps.specs.Made.{Made, Stored, Refined, Refused, AreCalls}
+use Rattle.g1_steps.specs.Made.{CallMade, Stored, Refined, Refused, AreCalls}
 
 -- The history has just these entries more, on the same terms.
 pub record Grows (old : History) (es : List Entry) (new : History) : Type 0 where
@@ -18,7 +18,7 @@ pub record Grows (old : History) (es : List Entry) (new : History) : Type 0 wher
 
 -- One call of this caller at a book: it was entered and did its work, or it was refused, for a full
 -- history or otherwise, and changed nothing.
-abbrev pub IsBookCall : ℕ → History → Made → History → Type 0
+abbrev pub IsBookCall : ℕ → History → CallMade → History → Type 0
 IsBookCall caller old (Stored slot target reply) new =
     IsEntered old (store_entry caller slot target reply) new
     × (new.machine ≡ stored_machine old.machine slot target) × (length old.entries ≢ old.limit)
@@ -30,7 +30,7 @@ IsBookCall caller old (Refused refusal) new =
     (new ≡ old) × ((refusal ≡ BookFull) ↔ (length old.entries ≡ old.limit))
 
 -- One call at a core that keeps no history.
-abbrev pub IsCoreCall : Machine → Made → Machine → Type 0
+abbrev pub IsCoreCall : Machine → CallMade → Machine → Type 0
 IsCoreCall old (Stored slot target reply) new =
     (reply.kind ≡ kind_of old.state.table slot target) × (new ≡ stored_machine old slot target)
 IsCoreCall old (Refined buffer reply) new =
@@ -39,28 +39,28 @@ IsCoreCall old (Refined buffer reply) new =
     × IsLater old new
 IsCoreCall old (Refused refusal) new = (new ≡ old) × (refusal ≡ NoMemory)
 
-book_call_stays : (caller : ℕ) (old new : History) (m : Made) → IsBookCall caller old m new
+book_call_stays : (caller : ℕ) (old new : History) (m : CallMade) → IsBookCall caller old m new
     → terms_of new ≡ terms_of old
 book_call_stays caller old new (Stored slot target reply) h = h.0.terms
 book_call_stays caller old new (Refined buffer reply) h = h.0.terms
 book_call_stays caller old new (Refused refusal) h = ap terms_of h.0
 
 -- no call of a book changes its terms, nor one of a core its layout
-pub book_calls_stay : (caller : ℕ) (old new : History) (ms : List Made)
+pub book_calls_stay : (caller : ℕ) (old new : History) (ms : List CallMade)
     → AreCalls (IsBookCall caller) old ms new → terms_of new ≡ terms_of old
 book_calls_stay caller old new [] h = ap terms_of h
 book_calls_stay caller old new (m ∷ []) h = book_call_stays caller old new m h
 book_calls_stay caller old new (m ∷ n ∷ ms) h =
     book_calls_stay caller h.0 new (n ∷ ms) h.2 ∙ book_call_stays caller old h.0 m h.1
 
-core_call_stays : (old new : Machine) (m : Made) → IsCoreCall old m new
+core_call_stays : (old new : Machine) (m : CallMade) → IsCoreCall old m new
     → new.state.table.layout ≡ old.state.table.layout
 core_call_stays old new (Stored slot target reply) h =
     ap (λ (m : Machine). m.state.table.layout) h.1
 core_call_stays old new (Refined buffer reply) h = h.3.layout
 core_call_stays old new (Refused refusal) h = ap (λ (m : Machine). m.state.table.layout) h.0
 
-pub core_calls_stay : (old new : Machine) (ms : List Made) → AreCalls IsCoreCall old ms new
+pub core_calls_stay : (old new : Machine) (ms : List CallMade) → AreCalls IsCoreCall old ms new
     → new.state.table.layout ≡ old.state.table.layout
 core_calls_stay old new [] h = ap (λ (m : Machine). m.state.table.layout) h
 core_calls_stay old new (m ∷ []) h = core_call_stays old new m h

@@ -8,36 +8,37 @@ use Rattle.g1_core.specs.Calls.{store_entry, refine_entry}
 use Rattle.g1_book.specs.declared.refusal.Refusal.{Refusal}
 
 -- a store or a refinement with its answer, or a call that was refused
-pub data Made : Type 0 where
-  Stored : (slot : ℕ) (target : Option ℕ) (reply : StoreReply) → Made
-  Refined : (buffer : Option (List ℕ)) (reply : RefineReply) → Made
-  Refused : (refusal : Refusal) → Made
+pub data CallMade : Type 0 where
+  Stored : (slot : ℕ) (target : Option ℕ) (reply : StoreReply) → CallMade
+  Refined : (buffer : Option (List ℕ)) (reply : RefineReply) → CallMade
+  Refused : (refusal : Refusal) → CallMade
 
 -- the call of a store, and of a refinement, by its result
-abbrev pub stores : ℕ → Option ℕ → Result StoreReply Refusal → Made
+abbrev pub stores : ℕ → Option ℕ → Result StoreReply Refusal → CallMade
 stores slot target (Ok reply) = Stored slot target reply
 stores slot target (Err refusal) = Refused refusal
 
-abbrev pub refines : Option (List ℕ) → Result RefineReply Refusal → Made
+abbrev pub refines : Option (List ℕ) → Result RefineReply Refusal → CallMade
 refines buffer (Ok reply) = Refined buffer reply
 refines buffer (Err refusal) = Refused refusal
 
 -- the entries that calls make
-abbrev pub entries_of : ℕ → List Made → List Entry
-entries_of caller [] = []
-entries_of caller (Stored slot target reply ∷ ms) =
-    store_entry caller slot target reply ∷ entries_of caller ms
-entries_of caller (Refined buffer reply ∷ ms) = refine_entry caller reply ∷ entries_of caller ms
-entries_of caller (Refused refusal ∷ ms) = entries_of caller ms
+abbrev pub entries_made : ℕ → List CallMade → List Entry
+entries_made caller [] = []
+entries_made caller (Stored slot target reply ∷ ms) =
+    store_entry caller slot target reply ∷ entries_made caller ms
+entries_made caller (Refined buffer reply ∷ ms) = refine_entry caller reply ∷ entries_made caller ms
+entries_made caller (Refused refusal ∷ ms) = entries_made caller ms
 
 -- These calls, one after the other, where `call` says what one of them does.
-abbrev pub AreCalls : {S : Type 0} → (S → Made → S → Type 0) → S → List Made → S → Type 0
+abbrev pub AreCalls : {S : Type 0} → (S → CallMade → S → Type 0) → S → List CallMade → S → Type 0
 AreCalls call old [] new = new ≡ old
 AreCalls call old (m ∷ []) new = call old m new
 AreCalls {S} call old (m ∷ n ∷ ms) new = (mid : S) × call old m mid × AreCalls call mid (n ∷ ms) new
 
-pub calls_then : {S : Type 0} (call : S → Made → S → Type 0) (old mid new : S) (xs ys : List Made)
-    → AreCalls call old xs mid → AreCalls call mid ys new → AreCalls call old (xs ++ ys) new
+pub calls_then : {S : Type 0} (call : S → CallMade → S → Type 0) (old mid new : S)
+    (xs ys : List CallMade) → AreCalls call old xs mid → AreCalls call mid ys new
+    → AreCalls call old (xs ++ ys) new
 calls_then call old mid new [] ys h k = subst (λ b. AreCalls call b ys new) h k
 calls_then call old mid new (x ∷ []) [] h k = subst (call old x) (sym k) h
 calls_then call old mid new (x ∷ []) (y ∷ ys) h k = (mid, h, k)

@@ -10,7 +10,7 @@ use Rattle.g1_core.specs.declared.reply.RefineReply.{RefineReply}
 use Rattle.g1_book.specs.declared.refusal.Refusal.{Refusal}
 use Rattle.g1_book.specs.declared.refusal.Refusal.TheVariants.{NoMemory}
 use Rattle.g1_steps.specs.declared.steps.refiner.Sums.{Sums}
-use Rattle.g1_steps.specs.Made.{Made, Refined, Refused}
+use Rattle.g1_steps.specs.Made.{CallMade, Refined, Refused}
 use Rattle.g1_steps.specs.Steps.{GainsAtMost, FoundEmpty}
 
 -- how many calls a round makes at most, where it begins at `start` completed buffers and sees
@@ -23,11 +23,11 @@ pub record Turn : Type 0 where
   pub parcel : Parcel
   pub reply : RefineReply
 
-abbrev pub turn_call : Turn → Made
+abbrev pub turn_call : Turn → CallMade
 turn_call t = Refined (Some t.parcel.buffer) t.reply
 
 -- the calls of a round, of which one more may have been refused
-abbrev pub round_calls : List Turn → Option Refusal → List Made
+abbrev pub round_calls : List Turn → Option Refusal → List CallMade
 round_calls turns None = map turn_call turns
 round_calls turns (Some refusal) = map turn_call turns ++ Refused refusal ∷ []
 
@@ -53,14 +53,14 @@ pub record IsSumOf (replies : List RefineReply) (reply : RefineReply) : Type 0 w
 
 -- The next call was refused: room for its cards, before a buffer was taken, or the call itself,
 -- whose buffer is given up.
-abbrev pub IsRefused : {S : Type 0} → (S → List Made → S → Type 0) → S → Refusal → S → Type 0
+abbrev pub IsRefused : {S : Type 0} → (S → List CallMade → S → Type 0) → S → Refusal → S → Type 0
 IsRefused did old refusal new =
     ((refusal ≡ NoMemory) × (new ≡ old)) ⊎ did old (Refused refusal ∷ []) new
 
 -- A round of one caller that makes at most `most` calls: refinements of what its taker took, one
 -- after the other, with these sums. Fewer are made only where the last one was short, the line was
 -- empty, or the next was refused; then one parcel more may be given up.
-pub record IsRound {S : Type 0} (did : S → List Made → S
+pub record IsRound {S : Type 0} (did : S → List CallMade → S
     → Type 0) (old : S) (before : List Parcel) (most : ℕ) (reply : RefineReply)
     (after : List Parcel) (new : S) : Type 0 where
   pub turns : List Turn
@@ -96,8 +96,8 @@ abbrev pub progress : {S : Type 0} → S → Sums → Taker → Progress S
 progress state sums taker = record { state = state; sum = so_far sums; taken = taken_of taker }
 
 -- the sums with one more call
-abbrev pub added : RefineReply → RefineReply → RefineReply
-added sum reply = record {
+abbrev pub sums_with : RefineReply → RefineReply → RefineReply
+sums_with sum reply = record {
   taken = sum.taken + reply.taken;
   refined = sum.refined ++ reply.refined;
   hot = sum.hot + reply.hot;
@@ -107,12 +107,12 @@ added sum reply = record {
 }
 
 -- One more call of a round was made. The round goes on where it was whole.
-pub record IsNextCall {S : Type 0} (did : S → List Made → S
+pub record IsNextCall {S : Type 0} (did : S → List CallMade → S
     → Type 0) (old : Progress S) (more : Bool) (new : Progress S) : Type 0 where
   pub parcel : Parcel
   pub reply : RefineReply
   pub made : did old.state (Refined (Some parcel.buffer) reply ∷ []) new.state
-  pub sum : new.sum ≡ added old.sum reply
+  pub sum : new.sum ≡ sums_with old.sum reply
   pub one : reply.taken ≤ 1
   pub goes_on : more ≡ not reply.short
   pub taken : new.taken ≡ old.taken ++ parcel ∷ []
@@ -123,6 +123,6 @@ pub record IsNoCall {S : Type 0} (old : Progress S) (more : Bool) (new : Progres
   pub same : new ≡ old
   pub empty : FoundEmpty new.taken
 
-abbrev pub IsNextOf : {S : Type 0} → (S → List Made → S → Type 0) → Progress S → Bool → Progress S
-    → Type 0
+abbrev pub IsNextOf : {S : Type 0} → (S → List CallMade → S → Type 0) → Progress S → Bool
+    → Progress S → Type 0
 IsNextOf did old more new = IsNextCall did old more new ⊎ IsNoCall old more new

@@ -3,31 +3,31 @@ use Rattle.std.specs.Prelude.{◌≡◌, Bool, true, false, List, [], ◌∷◌,
 use Rattle.std.proofs.Common.{sym, ap, subst, ◌∙◌, append_assoc}
 use Rattle.std.proofs.lemmas.List.Elements.{filter-append}
 use Rattle.g1_book.specs.declared.refusal.Refusal.{Refusal}
-use Rattle.g1_steps.specs.Made.{Made, Stored, Refined, Refused}
+use Rattle.g1_steps.specs.Made.{CallMade, Stored, Refined, Refused}
 use Rattle.g1_steps.specs.Rounds.{IsRefused}
 use Rattle.g1_steps.specs.Ask.{Ask, AskStore, AskFlush, AskWork}
 
 -- whether a call was made, and not refused
-abbrev pub was_made : Made → Bool
+abbrev pub was_made : CallMade → Bool
 was_made (Stored slot target reply) = true
 was_made (Refined buffer reply) = true
 was_made (Refused refusal) = false
 
 -- Refinements and no other calls.
-abbrev pub AreRefinements : List Made → Type 0
+abbrev pub AreRefinements : List CallMade → Type 0
 AreRefinements [] = Unit {0}
 AreRefinements (Refined buffer reply ∷ calls) = AreRefinements calls
 AreRefinements (_ ∷ calls) = ⊥
 
 -- A help: one refinement, or none.
-abbrev pub IsHelp : List Made → Type 0
+abbrev pub IsHelp : List CallMade → Type 0
 IsHelp [] = Unit {0}
 IsHelp (Refined buffer reply ∷ []) = Unit {0}
 IsHelp _ = ⊥
 
 -- Just these calls are made for what was asked: a store makes its call, and one more where it
 -- helped; a flush one where it helped.
-abbrev pub Serves : Ask → List Made → Type 0
+abbrev pub Serves : Ask → List CallMade → Type 0
 Serves (AskStore slot target) (Stored slot' target' reply ∷ help) =
     (slot' ≡ slot) × (target' ≡ target) × IsHelp help
 Serves (AskStore slot target) _ = ⊥
@@ -36,27 +36,27 @@ Serves AskWork calls = AreRefinements calls
 
 -- What was asked is refused: a store by its own call, a round for room or by its first call. A
 -- flush never is.
-abbrev pub IsRefusedFor : {S : Type 0} → (S → List Made → S → Type 0) → S → Ask → Refusal → S
+abbrev pub IsRefusedFor : {S : Type 0} → (S → List CallMade → S → Type 0) → S → Ask → Refusal → S
     → Type 0
 IsRefusedFor did old (AskStore slot target) why new = did old (Refused why ∷ []) new
 IsRefusedFor did old AskFlush why new = ⊥
 IsRefusedFor did old AskWork why new = IsRefused did old why new
 
 -- The same of all that was asked, one after the other.
-abbrev pub ServesAll : List Ask → List Made → Type 0
+abbrev pub ServesAll : List Ask → List CallMade → Type 0
 ServesAll [] calls = calls ≡ []
 ServesAll (ask ∷ asks) calls =
-    (front : List Made) × (back : List Made) × (calls ≡ front ++ back) × Serves ask front
+    (front : List CallMade) × (back : List CallMade) × (calls ≡ front ++ back) × Serves ask front
     × ServesAll asks back
 
 -- A worker made the calls that serve what it asked for; refused ones may stand among them.
-pub record HasServed {S : Type 0} (did : S → List Made → S
+pub record HasServed {S : Type 0} (did : S → List CallMade → S
     → Type 0) (old : S) (asks : List Ask) (new : S) : Type 0 where
-  pub calls : List Made
+  pub calls : List CallMade
   pub made : did old calls new
   pub serves : ServesAll asks (filter was_made calls)
 
-pub serves_then : (xs ys : List Ask) (ms ns : List Made) → ServesAll xs ms → ServesAll ys ns
+pub serves_then : (xs ys : List Ask) (ms ns : List CallMade) → ServesAll xs ms → ServesAll ys ns
     → ServesAll (xs ++ ys) (ms ++ ns)
 serves_then [] ys ms ns p q = subst (λ l. ServesAll ys (l ++ ns)) (sym p) q
 serves_then (x ∷ xs) ys ms ns p q = (
@@ -68,8 +68,8 @@ serves_then (x ∷ xs) ys ms ns p q = (
   serves_then xs ys p.1 ns p.4 q,
 )
 
-pub served_then : {S : Type 0} (did : S → List Made → S → Type 0)
-    → ((s t u : S) (xs ys : List Made) → did s xs t → did t ys u → did s (xs ++ ys) u)
+pub served_then : {S : Type 0} (did : S → List CallMade → S → Type 0)
+    → ((s t u : S) (xs ys : List CallMade) → did s xs t → did t ys u → did s (xs ++ ys) u)
     → (s t u : S) (xs ys : List Ask) → HasServed did s xs t → HasServed did t ys u
     → HasServed did s (xs ++ ys) u
 served_then did then s t u xs ys p q = record {

@@ -17,14 +17,14 @@ use Rattle.g1_book.specs.declared.refusal.Refusal.{Refusal}
 use Rattle.g1_steps.specs.declared.steps.mutator.FlushReply.{FlushReply}
 use Rattle.g1_steps.specs.declared.steps.mutator.Mutator.{Mutator}
 use Rattle.g1_steps.specs.declared.steps.mutator.Passed.{Passed}
-use Rattle.g1_steps.specs.Made.{Made, Stored, Refined, refines}
+use Rattle.g1_steps.specs.Made.{CallMade, Stored, Refined, refines}
 
 -- What became of a buffer that left its log: the line took it, or its mutator helped: refined it by
 -- a call with this result.
 abbrev pub Help : Type 0
 Help = Option (Result RefineReply Refusal)
 
-abbrev pub help_calls : List ℕ → Help → List Made
+abbrev pub help_calls : List ℕ → Help → List CallMade
 help_calls cards None = []
 help_calls cards (Some result) = refines (Some cards) result ∷ []
 
@@ -35,7 +35,7 @@ passed (Some (Ok reply)) = record { fill = Helped; refined = reply.refined; shor
 passed (Some (Err _)) = record { fill = Helped; refined = []; short = true }
 
 -- A buffer of these cards was passed on.
-pub record IsPassed {S : Type 0} (did : S → List Made → S
+pub record IsPassed {S : Type 0} (did : S → List CallMade → S
     → Type 0) (old : S) (cards : List ℕ) (p : Passed) (new : S) : Type 0 where
   pub help : Help
   pub made : did old (help_calls cards help) new
@@ -75,7 +75,7 @@ abbrev pub filled : StoreReply
 filled = record { kind = Logged; fill = Full; refined = []; short = false }
 
 -- A store by one caller: its own call, and that of a help where it filled a log of these cards.
-pub record IsStored {S : Type 0} (did : S → List Made → S
+pub record IsStored {S : Type 0} (did : S → List CallMade → S
     → Type 0) (old : S) (slot : ℕ) (target : Option ℕ) (cards : List ℕ) (reply : StoreReply)
     (new : S) : Type 0 where
   pub first : StoreReply
@@ -88,14 +88,14 @@ pub record IsStored {S : Type 0} (did : S → List Made → S
   pub helps : IsSome help → first.fill ≡ Full
 
 -- A flush of a log with these cards: nothing where there are none.
-pub record IsFlushPassed {S : Type 0} (did : S → List Made → S
+pub record IsFlushPassed {S : Type 0} (did : S → List CallMade → S
     → Type 0) (old : S) (cards : List ℕ) (reply : FlushReply) (new : S) : Type 0 where
   pub some : 1 ≤ length cards
   pub help : Help
   pub made : did old (help_calls cards help) new
   pub answer : reply ≡ flush_answer (length cards) help
 
-abbrev pub IsFlushed : {S : Type 0} → (S → List Made → S → Type 0) → S → List ℕ → FlushReply → S
+abbrev pub IsFlushed : {S : Type 0} → (S → List CallMade → S → Type 0) → S → List ℕ → FlushReply → S
     → Type 0
 IsFlushed did old cards reply new =
     ((cards ≡ []) × (reply ≡ nothing_flushed) × (new ≡ old)) ⊎ IsFlushPassed did old cards reply new
@@ -134,7 +134,7 @@ called reply = record {
 }
 
 -- A refinement of what the line gave.
-pub record IsRefinement {S : Type 0} (did : S → List Made → S
+pub record IsRefinement {S : Type 0} (did : S → List CallMade → S
     → Type 0) (old : S) (before : Taker) (reply : RefineReply) (after : Taker)
     (new : S) : Type 0 where
   pub parcel : Option Parcel

@@ -3,7 +3,7 @@ ghost use Rattle.std.specs.Prelude.{◌≡◌, ◌<◌, ◌≤◌, ◌+◌, ℕ,
 ghost use Rattle.std.specs.Prelude.{length, IfOk, OnErr, IfSome, IsNone, option_map};
 ghost use Rattle.g1_layout.specs.Shape.{Shape, slot_count, card_of};
 ghost use Rattle.g1_core.specs.Barrier.{logged, buffer_of, fill_of};
-ghost use Rattle.g1_steps.specs.Made.{Made, stores, refines};
+ghost use Rattle.g1_steps.specs.Made.{CallMade, stores, refines};
 
 use g1_book::Refusal;
 use g1_core::{RefineReply, StoreReply};
@@ -27,7 +27,7 @@ pub trait Calls {
 
     /// Between two states the caller made exactly these calls, one after the other. Refused calls
     /// are among them.
-    ghost did: { Self → List Made → Self → Type 0 };
+    ghost did: { Self → List CallMade → Self → Type 0 };
 
     /// Stores a reference, or null, with the given log.
     ///
@@ -72,9 +72,9 @@ pub trait Calls {
 
     ghost none: { (s : Self) → did s [] s };
 
-    ghost then: { (s t u : Self) (xs ys : List Made) → did s xs t → did t ys u
+    ghost then: { (s t u : Self) (xs ys : List CallMade) → did s xs t → did t ys u
         → did s (xs ++ ys) u };
 
-    ghost stays: { (s t : Self) (ms : List Made) → did s ms t
+    ghost stays: { (s t : Self) (ms : List CallMade) → did s ms t
         → (layout t ≡ layout s) × (may_store t ≡ may_store s) };
 }

@@ -106,10 +106,10 @@ unfoldable pub read_header : List ℕ → Result (Option Shape) TraceFault
 read_header line = header_words (words_from [] line)
 
 -- the call is a question, a drain, a clear or a redirect, and its numbers are those of the heap
-abbrev pub IsCallOf : Shape → Call → Type 0
-IsCallOf l (calls.Store slot target) = ⊥
-IsCallOf l calls.Refine = ⊥
-IsCallOf l c = run.IsCallOf l c
+abbrev pub IsCommandCall : Shape → Call → Type 0
+IsCommandCall l (calls.Store slot target) = ⊥
+IsCommandCall l calls.Refine = ⊥
+IsCommandCall l c = run.IsCallOf l c
 
 -- the command's numbers are those of mutators and of the heap
 abbrev pub IsCommandOf : Shape → ℕ → Command → Type 0
@@ -118,4 +118,4 @@ IsCommandOf l m (Store mutator slot target) =
 IsCommandOf l m (Flush mutator) = mutator < m
 IsCommandOf l m Refine = Unit {0}
 IsCommandOf l m Work = Unit {0}
-IsCommandOf l m (command.Call call) = IsCallOf l call
+IsCommandOf l m (command.Call call) = IsCommandCall l call

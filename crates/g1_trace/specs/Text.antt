@@ -21,8 +21,8 @@ use Rattle.g1_trace.specs.declared.fault.TraceFault.TheVariants.{NoMutator, NoSl
 use Rattle.g1_trace.specs.declared.fault.TraceFault.TheVariants.{NoRegion, Twice}
 
 -- words and the number behind them
-abbrev pub counted : List ℕ → ℕ → List ℕ
-counted words number = words ++ decimal number
+abbrev pub with_number : List ℕ → ℕ → List ℕ
+with_number words number = words ++ decimal number
 
 -- a space and the number for each
 abbrev pub list_text : List ℕ → List ℕ
@@ -43,22 +43,22 @@ stored_line Null _ _ short = words_line (codes "null") short
 stored_line AlreadyDirty _ _ short = words_line (codes "dirty") short
 stored_line Logged No _ short = words_line (codes "logged") short
 stored_line Logged Full _ short = words_line (codes "logged full") short
-stored_line Logged Helped helped short = counted (codes "logged helped ") helped ++ ending short
+stored_line Logged Helped helped short = with_number (codes "logged helped ") helped ++ ending short
 
 -- what a flush says behind its number of cards
 abbrev pub flushed_end : Fill → (helped : ℕ) → (short : Bool) → List ℕ
 flushed_end No _ short = ending short
 flushed_end Full _ short = ending short
-flushed_end Helped helped short = counted (codes " helped ") helped ++ ending short
+flushed_end Helped helped short = with_number (codes " helped ") helped ++ ending short
 
 abbrev pub flushed_line : (cards : ℕ) → Fill → (helped : ℕ) → (short : Bool) → List ℕ
 flushed_line cards fill helped short =
-    counted (codes "flushed ") cards ++ flushed_end fill helped short
+    with_number (codes "flushed ") cards ++ flushed_end fill helped short
 
 abbrev pub turned_text : (refined hot skipped : ℕ) → List ℕ
 turned_text refined hot skipped =
-    counted (codes "refined ") refined ++ counted (codes " hot ") hot
-    ++ counted (codes " skipped ") skipped
+    with_number (codes "refined ") refined ++ with_number (codes " hot ") hot
+    ++ with_number (codes " skipped ") skipped
 
 abbrev pub refined_line : (taken refined hot skipped : ℕ) → (short : Bool) → List ℕ
 refined_line taken refined hot skipped short =
@@ -67,12 +67,12 @@ refined_line taken refined hot skipped short =
 
 abbrev pub worked_line : (taken refined hot skipped left : ℕ) → (short : Bool) → List ℕ
 worked_line taken refined hot skipped left short =
-    counted (codes "worked ") taken ++ (codes " " ++ turned_text refined hot skipped)
-    ++ counted (codes " left ") left ++ ending short
+    with_number (codes "worked ") taken ++ (codes " " ++ turned_text refined hot skipped)
+    ++ with_number (codes " left ") left ++ ending short
 
 abbrev pub target_text : Option ℕ → List ℕ
 target_text None = codes "null\n"
-target_text (Some slot) = counted (codes "slot ") slot ++ codes "\n"
+target_text (Some slot) = with_number (codes "slot ") slot ++ codes "\n"
 
 abbrev pub pending_text : Bool → List ℕ
 pending_text true = codes "yes\n"
@@ -83,19 +83,21 @@ members_text cards = codes "cards" ++ list_text cards ++ codes "\n"
 
 abbrev pub status_line : (pending recorded : ℕ) → List ℕ
 status_line pending recorded =
-    counted (codes "status pending ") pending ++ counted (codes " recorded ") recorded ++ codes "\n"
+    with_number (codes "status pending ") pending ++ with_number (codes " recorded ") recorded
+    ++ codes "\n"
 
 abbrev pub drained_line : List ℕ → List ℕ
 drained_line cards = codes "drained" ++ list_text cards ++ codes "\n"
 
 abbrev pub still_pending_line : ℕ → List ℕ
-still_pending_line cards = counted (codes "refused: ") cards ++ codes " pending\n"
+still_pending_line cards = with_number (codes "refused: ") cards ++ codes " pending\n"
 
 abbrev pub still_referenced_line : ℕ → List ℕ
-still_referenced_line slot = counted (codes "refused: still referenced by slot ") slot ++ codes "\n"
+still_referenced_line slot =
+    with_number (codes "refused: still referenced by slot ") slot ++ codes "\n"
 
 abbrev pub redirected_line : ℕ → List ℕ
-redirected_line slots = counted (codes "redirected ") slots ++ codes "\n"
+redirected_line slots = with_number (codes "redirected ") slots ++ codes "\n"
 
 -- The lines of what the calls answer.
 abbrev pub store_text : StoreReply → List ℕ
@@ -145,11 +147,11 @@ fault_text Twice = codes "same region twice"
 
 abbrev pub fault_line : (number : ℕ) → TraceFault → List ℕ
 fault_line number fault =
-    counted (codes "line ") number ++ codes ": " ++ fault_text fault ++ codes "\n"
+    with_number (codes "line ") number ++ codes ": " ++ fault_text fault ++ codes "\n"
 
 -- how many stores there were
 abbrev pub stores_text : ℕ → List ℕ
-stores_text stores = counted (codes "stores ") stores ++ codes "\n"
+stores_text stores = with_number (codes "stores ") stores ++ codes "\n"
 
 -- The lines of the other ends.
 abbrev pub no_memory_line : List ℕ

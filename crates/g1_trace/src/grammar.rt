@@ -4,7 +4,7 @@ ghost use Rattle.std.specs.Prelude.{◌≡◌, ℕ, [], IfOk, IfSome};
 ghost use Rattle.g1_trace.specs.Words.{words_from};
 ghost use Rattle.g1_layout.specs.Shape.{IsShape};
 ghost use Rattle.g1_trace.specs.Grammar.{has_stores_alone, is_script, read_call, read_named};
-ghost use Rattle.g1_trace.specs.Grammar.{read_command, redirect_of, IsCallOf, IsCommandOf};
+ghost use Rattle.g1_trace.specs.Grammar.{read_command, redirect_of, IsCommandCall, IsCommandOf};
 
 use crate::command::Command;
 use crate::dialect::Dialect;
@@ -72,7 +72,7 @@ fn redirect(from: Region, to: Region) -> Result<Call, TraceFault>
 fn call_named(layout: Layout, name: &[u8], words: &[u8]) -> Result<Call, TraceFault>
     requires { IsShape layout }
     ensures read { result ≡ read_call layout name.now (words_from [] words.now) }
-    ensures valid { IfOk result (λ call. IsCallOf layout call) }
+    ensures valid { IfOk result (λ call. IsCommandCall layout call) }
 {
     if is(name, b"target") {
         let slot = one_slot(layout, words)?;

@@ -6,7 +6,7 @@ ghost use Rattle.std.specs.Prelude.{◌≡◌, ℕ, List, [], ◌++◌, ◌+◌,
 ghost use Rattle.std.specs.Prelude.{MatchResult, decimal, IfOk, OnErr, if◌then◌else◌};
 ghost use Rattle.std.specs.Io.KnownBytes.{Appends};
 ghost use Rattle.g1_trace.specs.Bytes.{Puts};
-ghost use Rattle.g1_trace.specs.Text.{counted, ending};
+ghost use Rattle.g1_trace.specs.Text.{with_number, ending};
 
 use itoa::{Buffer, write_digits};
 use std::io::Write;
@@ -95,7 +95,7 @@ pub(crate) fn words_before(block: &mut [u8], start: usize, words: &[u8]) -> usiz
 pub(crate) fn counted_before(block: &mut [u8], start: usize, words: &[u8], number: u64) -> usize
     requires room { length words.now + 20 ≤ start }
     requires within { start ≤ length block.old }
-    ensures text { drop result block.new ≡ counted words.now number ++ drop start block.old }
+    ensures text { drop result block.new ≡ with_number words.now number ++ drop start block.old }
     ensures room { start ≤ result + length words.now + 20 }
     ensures within { result ≤ length block.new }
 {
@@ -124,7 +124,7 @@ pub(crate) fn put_between<W: Write>(
     behind: &[u8],
 ) -> Result<(), WriteFailed>
     ensures { Puts (W.contents output.old) (W.contents output.new) result
-        (counted before.now number ++ behind.now) }
+        (with_number before.now number ++ behind.now) }
 {
     put(output, before)?;
     put_number(output, number)?;

@@ -1,7 +1,7 @@
 //! Stores at a book or a core under a lock, by callers that have each a thread and cards of their
 //! own.
 ghost use Rattle.std.specs.Prelude.{◌≡◌, ℕ, ◌<◌, ◌≤◌, [], None, length, slice_index_or};
-ghost use Rattle.g1_shared.specs.Callers.{Standing, IsCallerOf, IsNewCaller, mark_of};
+ghost use Rattle.g1_shared.specs.Callers.{Standing, IsCallerOf, IsNewCaller, caller_mark};
 ghost use Rattle.g1_shared.specs.Totals.{core_terms};
 ghost use Rattle.g1_book.specs.History.{terms_of};
 
@@ -158,7 +158,7 @@ fn store<M: Frame, S: Ledger, K: Keeper<M, S>, R: Wait>(
     requires mine { IsCallerOf shared.now caller.old }
     requires mutator { caller.old.counts.number < M.terms.mutators }
     requires layout { layout ≡ M.terms.layout }
-    ensures { mark_of caller.new ≡ mark_of caller.old }
+    ensures { caller_mark caller.new ≡ caller_mark caller.old }
 {
     let mut checksum: u64 = 0;
     for (slot, place) in list {

@@ -2,7 +2,7 @@
 //! may be made.
 ghost use Rattle.std.specs.Prelude.{◌≡◌, ◌<◌, Some, All, IfOk};
 ghost use Rattle.g1_layout.specs.Shape.{slot_count};
-ghost use Rattle.g1_shared.specs.Callers.{IsCallerOf, mark_of};
+ghost use Rattle.g1_shared.specs.Callers.{IsCallerOf, caller_mark};
 ghost use Rattle.g1_shared.specs.Totals.{core_terms};
 
 use g1_book::Refusal;
@@ -50,7 +50,7 @@ fn store<M: Frame, S: Ledger, R: Wait + Abort>(
     requires mine { IsCallerOf shared.now caller.old }
     requires mutator { caller.old.counts.number < M.terms.mutators }
     requires numbers { (M.terms.mutators ≡ 2) × (offset < 8) }
-    ensures { mark_of caller.new ≡ mark_of caller.old }
+    ensures { caller_mark caller.new ≡ caller_mark caller.old }
 {
     let home = caller.number();
     let from = slot(rt, shared, 8 * home + offset);
@@ -68,7 +68,7 @@ fn mutate<M: Frame, S: Ledger, R: Wait + Abort>(
     requires mine { IsCallerOf shared.now caller.old }
     requires mutator { caller.old.counts.number < M.terms.mutators }
     requires two { M.terms.mutators ≡ 2 }
-    ensures { mark_of caller.new ≡ mark_of caller.old }
+    ensures { caller_mark caller.new ≡ caller_mark caller.old }
 {
     for number in 0..STORES {
         store(rt, shared, caller, number % 8)?;
@@ -84,7 +84,7 @@ fn refine<M: Frame, S: Ledger, R: Wait>(
     caller: &mut Caller<M, S>,
 ) -> Result<(), Refusal>
     requires mine { IsCallerOf shared.now caller.old }
-    ensures { mark_of caller.new ≡ mark_of caller.old }
+    ensures { caller_mark caller.new ≡ caller_mark caller.old }
 {
     for _number in 0..REFINEMENTS {
         shared.refine(rt, caller)?;
@@ -100,7 +100,7 @@ fn run<M: Frame, S: Ledger, R: Wait + Abort>(
 )
     requires mine { IsCallerOf shared.now caller.old }
     requires two { M.terms.mutators ≡ 2 }
-    ensures { mark_of caller.new ≡ mark_of caller.old }
+    ensures { caller_mark caller.new ≡ caller_mark caller.old }
 {
     let outcome = if caller.number() < MUTATORS {
         mutate(rt, shared, caller)

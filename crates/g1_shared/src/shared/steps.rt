@@ -9,8 +9,9 @@ ghost use Rattle.g1_steps.specs.Rounds.{IsRound, round_size};
 ghost use Rattle.g1_core.specs.Barrier.{logged, buffer_of};
 ghost use Rattle.g1_shared.specs.Counts.{CountsDid};
 ghost use Rattle.g1_shared.specs.Answers.{IsKindAt};
-ghost use Rattle.g1_shared.specs.Callers.{Standing, mark_of, IsCallerOf, log_of, taken_list};
-ghost use Rattle.g1_shared.specs.Callers.{StoresAt, FlushesAt, RefinesAt, RoundsAt, IsPaused};
+ghost use Rattle.g1_shared.specs.Callers.{Standing, caller_mark, IsCallerOf, caller_log};
+ghost use Rattle.g1_shared.specs.Callers.{taken_list, IsStoreAt, IsFlushAt, IsRefinementAt};
+ghost use Rattle.g1_shared.specs.Callers.{IsRoundAt, IsCallerAtPause};
 
 use crate::caller::{Caller, Counts};
 use crate::ledgers::Frame;
@@ -42,21 +43,21 @@ impl<M: Frame, S: Ledger, K: Keeper<M, S>> Shared<M, S, K> {
         requires slot { slot < slot_count M.terms.layout }
         requires target { IfSome target (λ place. place < slot_count M.terms.layout) }
         requires mine { IsCallerOf self.now caller.old }
-        ensures mark { mark_of caller.new ≡ mark_of caller.old }
+        ensures mark { caller_mark caller.new ≡ caller_mark caller.old }
         ensures stored { OnOk result (caller.new.counts.stored ≡ caller.old.counts.stored + 1) }
         ensures taker { caller.new.taker ≡ caller.old.taker }
         ensures kind { IfOk result (λ reply. IsKindAt M.terms.layout slot target reply.kind) }
         ensures log { IfOk result (λ reply.
-            log_of caller.new
-            ≡ logged reply.kind (log_of caller.old) (card_of M.terms.layout slot)) }
+            caller_log caller.new
+            ≡ logged reply.kind (caller_log caller.old) (card_of M.terms.layout slot)) }
         ensures fill { IfOk result (λ reply.
             (reply.fill ≡ Fill.No)
-            ↔ IsNone (buffer_of reply.kind (log_of caller.old) (card_of M.terms.layout slot))) }
+            ↔ IsNone (buffer_of reply.kind (caller_log caller.old) (card_of M.terms.layout slot))) }
         ensures helped { IfOk result (λ reply.
             reply.fill ≡ Fill.Helped
             → IfSome caller.old.mutator (λ m. MayRefuse self.now m.sender)) }
         ensures ok { IfOk result (λ reply.
-            StoresAt caller.old (card_of M.terms.layout slot)
+            IsStoreAt caller.old (card_of M.terms.layout slot)
             reply.fill reply.refined reply.short caller.new) }
         ensures err { OnErr result (caller.new ≡ caller.old) }
     {
@@ -77,15 +78,15 @@ impl<M: Frame, S: Ledger, K: Keeper<M, S>> Shared<M, S, K> {
     pub fn flush<R: Wait>(&self, rt: &R, caller: &mut Caller<M, S>) -> FlushReply
         requires mutator { caller.old.counts.number < M.terms.mutators }
         requires mine { IsCallerOf self.now caller.old }
-        ensures mark { mark_of caller.new ≡ mark_of caller.old }
+        ensures mark { caller_mark caller.new ≡ caller_mark caller.old }
         ensures stored { caller.new.counts.stored ≡ caller.old.counts.stored }
         ensures taker { caller.new.taker ≡ caller.old.taker }
         ensures helped { result.fill ≡ Fill.Helped
             → IfSome caller.old.mutator (λ m. MayRefuse self.now m.sender) }
         ensures some { result.fill ≡ Fill.Full → 1 ≤ result.cards }
-        ensures flushed { FlushesAt caller.old result.fill result.refined result.short caller.new }
-        ensures cards { result.cards ≡ length (log_of caller.old).cards }
-        ensures empty { (log_of caller.new).cards ≡ [] }
+        ensures flushed { IsFlushAt caller.old result.fill result.refined result.short caller.new }
+        ensures cards { result.cards ≡ length (caller_log caller.old).cards }
+        ensures empty { (caller_log caller.new).cards ≡ [] }
     {
         let Some(mutator) = &mut caller.mutator else {
             unreachable!()
@@ -106,7 +107,7 @@ impl<M: Frame, S: Ledger, K: Keeper<M, S>> Shared<M, S, K> {
     /// pending by its mark, unless it was refined meanwhile.
     pub fn refine<R: Wait>(&self, rt: &R, caller: &mut Caller<M, S>) -> Result<RefineReply, Refusal>
         requires mine { IsCallerOf self.now caller.old }
-        ensures mark { mark_of caller.new ≡ mark_of caller.old }
+        ensures mark { caller_mark caller.new ≡ caller_mark caller.old }
         ensures stored { caller.new.counts.stored ≡ caller.old.counts.stored }
         ensures mutator { caller.new.mutator ≡ caller.old.mutator }
         ensures ok { OnOk result (caller.new.counts.made ≡ caller.old.counts.made + 1) }
@@ -117,7 +118,7 @@ impl<M: Frame, S: Ledger, K: Keeper<M, S>> Shared<M, S, K> {
         ensures taken { IfOk result (λ reply.
             reply.taken ≡ 1 → (x : P) × (taken_list caller.new ≡ taken_list caller.old ++ x ∷ [])) }
         ensures refined { IfOk result (λ reply.
-            RefinesAt M.terms.layout caller.old reply caller.new) }
+            IsRefinementAt M.terms.layout caller.old reply caller.new) }
         ensures gained { GainsAtMost (taken_list caller.old) 1 (taken_list caller.new) }
     {
         let mut calls = LockedCalls {
@@ -135,11 +136,11 @@ impl<M: Frame, S: Ledger, K: Keeper<M, S>> Shared<M, S, K> {
     /// round ends with `short` true.
     pub fn work<R: Wait>(&self, rt: &R, caller: &mut Caller<M, S>) -> Result<RefineReply, Refusal>
         requires mine { IsCallerOf self.now caller.old }
-        ensures mark { mark_of caller.new ≡ mark_of caller.old }
+        ensures mark { caller_mark caller.new ≡ caller_mark caller.old }
         ensures stored { caller.new.counts.stored ≡ caller.old.counts.stored }
         ensures mutator { caller.new.mutator ≡ caller.old.mutator }
         ensures round { IfOk result (λ reply.
-            RoundsAt M.terms self.now caller.old reply caller.new) }
+            IsRoundAt M.terms self.now caller.old reply caller.new) }
         ensures given_up { OnErr result
             (GainsAtMost (taken_list caller.old) 1 (taken_list caller.new)) }
         ensures made { (caller.old.counts.made ≤ caller.new.counts.made)
@@ -195,7 +196,7 @@ impl<M: Frame, S: Ledger, K: Keeper<M, S>> Shared<M, S, K> {
     pub fn pause<R: Wait>(&self, rt: &R, callers: &mut [Caller<M, S>])
         requires mine { All (IsCallerOf self.now) callers.old }
         ensures paused { (k : ℕ) (d : Standing) → k < length callers.old
-            → IsPaused (slice_index_or callers.old k d) (slice_index_or callers.new k d) }
+            → IsCallerAtPause (slice_index_or callers.old k d) (slice_index_or callers.new k d) }
         ensures first { (d : Standing) → 0 < length callers.old
             → Empties (taken_list (slice_index_or callers.old 0 d)) (capacity_of self.now)
             (taken_list (slice_index_or callers.new 0 d)) }
@@ -210,7 +211,7 @@ impl<M: Frame, S: Ledger, K: Keeper<M, S>> Shared<M, S, K> {
     /// Empties the caller's log and, if it takes, the queue.
     fn pause_one<R: Wait>(&self, rt: &R, caller: &mut Caller<M, S>, takes: bool)
         requires mine { IsCallerOf self.now caller.old }
-        ensures paused { IsPaused caller.old caller.new }
+        ensures paused { IsCallerAtPause caller.old caller.new }
         ensures emptied { takes ≡ true
             → Empties (taken_list caller.old) (capacity_of self.now) (taken_list caller.new) }
         ensures kept { takes ≡ false → caller.new.taker ≡ caller.old.taker }

@@ -228,7 +228,7 @@ struct Sums {
 const MOST_CARDS: usize = 256;
 
 impl Sums {
-    ghost use Rattle.g1_steps.specs.Rounds.{so_far, added};
+    ghost use Rattle.g1_steps.specs.Rounds.{so_far, sums_with};
 
     /// No call yet, and `left` buffers seen in the queue.
     fn new(alloc: Global, left: u32) -> Sums
@@ -256,7 +256,7 @@ impl Sums {
             × (length reply.now.refined + reply.now.skipped ≤ 256) × (reply.now.hot ≤ 256) }
         requires room { vec_len self.old.refined + length reply.now.refined
             ≤ vec_capacity self.old.refined }
-        ensures sums { so_far self.new ≡ added (so_far self.old) reply.now }
+        ensures sums { so_far self.new ≡ sums_with (so_far self.old) reply.now }
         ensures left { self.new.left ≡ left }
     {
         let Ok(()) = self.refined.extend_from_slice(reply.refined.as_slice()) else {

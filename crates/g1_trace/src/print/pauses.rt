@@ -1,6 +1,6 @@
 //! The lines of a clear and a redirect.
 ghost use Rattle.g1_trace.specs.Bytes.{Puts};
-ghost use Rattle.g1_trace.specs.Text.{clear_text, redirected_line, counted};
+ghost use Rattle.g1_trace.specs.Text.{clear_text, redirected_line, with_number};
 ghost use Rattle.std.specs.Prelude.{codes, ◌++◌};
 
 use crate::output::{WriteFailed, put, put_between};

@@ -1,6 +1,6 @@
 //! The lines of a refinement and of a round.
 ghost use Rattle.g1_trace.specs.Bytes.{Puts};
-ghost use Rattle.g1_trace.specs.Text.{refine_text, work_text, turned_text, counted, ending};
+ghost use Rattle.g1_trace.specs.Text.{refine_text, work_text, turned_text, with_number, ending};
 ghost use Rattle.std.specs.Prelude.{◌≡◌, ◌+◌, ◌≤◌, codes, ◌++◌, length, drop};
 
 use crate::output::{WriteFailed, counted_before, ending_at_end, put};
@@ -51,8 +51,9 @@ fn turns_before(block: &mut [u8], start: usize, words: &[u8], reply: &RefineRepl
     requires room { length words.now + 74 ≤ start }
     requires within { start ≤ length block.old }
     ensures text { drop result block.new
-        ≡ counted words.now (length reply.now.refined) ++ counted (codes " hot ") reply.now.hot
-        ++ counted (codes " skipped ") reply.now.skipped ++ drop start block.old }
+        ≡ with_number words.now (length reply.now.refined)
+        ++ with_number (codes " hot ") reply.now.hot
+        ++ with_number (codes " skipped ") reply.now.skipped ++ drop start block.old }
     ensures room { start ≤ result + length words.now + 74 }
     ensures within { result ≤ length block.new }
 {

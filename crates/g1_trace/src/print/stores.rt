@@ -1,7 +1,7 @@
 //! The lines of a store and of a flush.
 ghost use Rattle.g1_trace.specs.Bytes.{Puts};
-ghost use Rattle.g1_trace.specs.Text.{store_text, flushed_line, stored_line, stores_text, counted};
-ghost use Rattle.g1_trace.specs.Text.{ending};
+ghost use Rattle.g1_trace.specs.Text.{store_text, flushed_line, stored_line, stores_text};
+ghost use Rattle.g1_trace.specs.Text.{with_number, ending};
 ghost use Rattle.std.specs.Prelude.{◌++◌, codes, length};
 
 use crate::output::{WriteFailed, counted_before, ending_at_end, put, put_between, put_either};
@@ -70,7 +70,7 @@ pub fn put_flushed<W: Write>(
 // The line of a store whose mutator helped.
 fn put_helped<W: Write>(output: &mut W, refined: &CardList, short: bool) -> Result<(), WriteFailed>
     ensures { Puts (W.contents output.old) (W.contents output.new) result
-        (counted (codes "logged helped ") (length refined.now) ++ ending short) }
+        (with_number (codes "logged helped ") (length refined.now) ++ ending short) }
 {
     let mut line = [0u8; 64];
     let end = ending_at_end(&mut line, short);

@@ -1,4 +1,4 @@
-use Rattle.g1_replay.specs.Crew.{Ran}
+use Rattle.g1_replay.specs.Crew.{CrewRan}
 use Rattle.g1_replay.proofs.CrewLemmas.{whole_crew}
 use Rattle.g1_replay.proofs.EndLemmas.{ended_then}
 use Rattle.g1_replay.proofs.ScriptedLemmas.{refused_trace}
@@ -11,5 +11,5 @@ returns g c =
     record {
       told = (c.play_crew-outcome.new.source.number, c.play_crew-outcome.result, t.0, t.1, i);
       whole = λ e. whole_crew _ _ _ _ _ _ _ c.play_crew-outcome.result t.0 c.put_end.result t.1 i e;
-      refused = λ e. refused_trace (λ l _. Ran l c.args.options.now.history) (λ l cs r text ran. ran.ends) _ _ _ _ _ _ c.play_crew-outcome.result t.0 c.put_end.result t.1 i e;
+      refused = λ e. refused_trace (λ l _. CrewRan l c.args.options.now.history) (λ l cs r text ran. ran.ends) _ _ _ _ _ _ c.play_crew-outcome.result t.0 c.put_end.result t.1 i e;
     }

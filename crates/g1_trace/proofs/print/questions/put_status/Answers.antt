@@ -1,12 +1,12 @@
 use Rattle.std.proofs.Common.{◌≡◌, ◌++◌, drop, length, codes, ap, sym, ◌∙◌, append_assoc, rules}
-use Rattle.g1_trace.specs.Text.{counted}
+use Rattle.g1_trace.specs.Text.{with_number}
 use Rattle.g1_trace.proofs.PutLemmas.{puts_behind}
 use Rattle.g1_trace.proofs.print.questions.put_status.Goals as goal
 
 pub returns : goal.returns
 returns g c =
-    let pending = counted (codes "status pending ") c.args.status.pending in
-    let recorded = counted (codes " recorded ") c.args.status.recorded in
+    let pending = with_number (codes "status pending ") c.args.status.pending in
+    let recorded = with_number (codes " recorded ") c.args.status.recorded in
     let is : c.from.result ≡ c.args.status.recorded = search rules in
     let first : c.from-2.result ≡ c.args.status.pending = search rules in
     let behind : drop c.counted_before-middle.result c.counted_before-middle.new.block ≡ recorded ++ codes "\n" =

@@ -1,12 +1,12 @@
 use Rattle.std.proofs.Common.{◌≡◌, ◌++◌, drop, length, codes, ap, ◌∙◌, rules}
-use Rattle.g1_trace.specs.Text.{counted, ending}
+use Rattle.g1_trace.specs.Text.{with_number, ending}
 use Rattle.g1_trace.proofs.PutLemmas.{puts_behind}
 use Rattle.g1_trace.proofs.print.stores.put_helped.Goals as goal
 
 pub returns : goal.returns
 returns g c =
     let is : c.len.result ≡ length c.args.refined.now = search rules in
-    let helped = counted (codes "logged helped ") (length c.args.refined.now) in
+    let helped = with_number (codes "logged helped ") (length c.args.refined.now) in
     let text : drop c.counted_before-start.result c.counted_before-start.new.block ≡ helped ++ ending c.args.short =
     (rw is at c.counted_before-start.ensures.text) ∙ ap (λ l. helped ++ l) c.ending_at_end-end.ensures.text in
     let long : length c.counted_before-start.new.block ≡ 64 = search rules in
