@@ -11,10 +11,10 @@ use Rattle.std.specs.Io.KnownBytes.{Consumes}
 use Rattle.g1_trace.specs.declared.fault.TraceFault.TheVariants as fault
 use Rattle.g1_trace.specs.Words.{IsPart}
 use Rattle.g1_trace.proofs.PlainLemmas.{part_joined}
-use Rattle.g1_replay.specs.declared.lines.Byte.TheVariants.{Some as OneByte, End as NoByte}
+use Rattle.g1_replay.specs.declared.lines.Byte.TheVariants.{Some as OneByte}
 use Rattle.g1_replay.specs.declared.lines.Part.{Part}
 use Rattle.g1_replay.specs.declared.lines.Part.TheVariants.{Whole, TooLong, More, Nothing, Failed}
-use Rattle.g1_replay.specs.declared.stop.Stop.TheVariants.{Fault, ReadFailed}
+use Rattle.g1_replay.specs.declared.stop.Stop.TheVariants.{Fault}
 use Rattle.g1_replay.specs.Lines.{EndsAtFeed, GoesIntoLine, HasPart, IsSettled, Reads, ReadsPart, ReadsLine}
 
 -- one more byte
@@ -146,9 +146,6 @@ stays a b c begun line p part e q = (subst (Consumes a c) (append-nil begun ∙ 
 pub part_first : (a c : Option (List ℕ)) (part : Part) (line : List ℕ) → ReadsPart a c part [] line → HasPart a c part line
 part_first a c part line r = record { before = []; left = a; read = Consumes-nil a; one = tt; last = r }
 
-pub part_next : (a b c : Option (List ℕ)) (part : Part) (begun line : List ℕ) → Consumes a b begun → IsPart begun → ReadsPart b c part begun line → HasPart a c part line
-part_next a b c part begun line p one r = record { before = begun; left = b; read = p; one = one; last = r }
-
 -- what the last part of a line settles
 pub settled_whole : (a c : Option (List ℕ)) (line : List ℕ) → HasPart a c Whole line → IsSettled a c (Ok (Some true)) line
 settled_whole a c line p = line_whole a p.left c p.before line p.read p.one p.last
@@ -159,27 +156,8 @@ settled_long a c line p = line_long a p.left c p.before line p.read p.one p.last
 pub settled_more : (a c : Option (List ℕ)) (line : List ℕ) → HasPart a c More line → IsSettled a c (Ok None) line
 settled_more a c line p = line_more a p.left c p.before line p.read p.one p.last
 
-pub settled_failed : (a c : Option (List ℕ)) (line : List ℕ) → length line ≤ 64 → HasPart a c Failed line → IsSettled a c (Err ReadFailed) line
-settled_failed a c line short p = let s = stays a p.left c p.before line p.read p.one p.last.0 p.last.1 in (s.0, s.1, short)
-
 pub nothing_shown : (a c : Option (List ℕ)) (line : List ℕ) → HasPart a c Nothing line → Consumes a c line × IsPart line
 nothing_shown a c line p = stays a p.left c p.before line p.read p.one p.last.0 p.last.1
-
--- what one byte settles, or no byte
-pub byte_failed : (a b c : Option (List ℕ)) (line : List ℕ) → Consumes a b line → IsPart line → length line ≤ 64 → Consumes b c [] → IsSettled a c (Err ReadFailed) line
-byte_failed a b c line p one short q = let s = stays a b c line line p one refl q in (s.0, s.1, short)
-
-pub byte_none : (a b c : Option (List ℕ)) (line : List ℕ) → Consumes a b line → line ≡ [] → Reads b c NoByte → IsSettled a c (Ok (Some false)) line
-byte_none a b c line p e q = (Consumes-trans a b c [] [] (subst (Consumes a b) e p) q.0, q.1, e)
-
-pub byte_cut : (a b c : Option (List ℕ)) (line : List ℕ) → Consumes a b line → IsPart line → length line ≤ 64 → 0 < length line → Reads b c NoByte → IsSettled a c (Err (Fault fault.Cut)) line
-byte_cut a b c line p one short some q = let s = stays a b c line line p one refl q.0 in (s.0, q.1, s.1, some, short)
-
-pub byte_feed : (a b c : Option (List ℕ)) (line : List ℕ) → Consumes a b line → IsPart line → length line ≤ 64 → Reads b c (OneByte 10) → IsSettled a c (Ok (Some true)) line
-byte_feed a b c line p one short q = (Consumes-trans a b c line (10 ∷ []) p q, one, short)
-
-pub byte_long : (a b c : Option (List ℕ)) (line : List ℕ) (byte : ℕ) → Consumes a b line → IsPart line → length line ≡ 64 → byte ≢ 10 → Reads b c (OneByte byte) → IsSettled a c (Err (Fault fault.TooLong)) line
-byte_long a b c line byte p one long ne q = (byte, Consumes-trans a b c line (byte ∷ []) p q, ne, one, long)
 
 pub byte_more : (a b c : Option (List ℕ)) (line : List ℕ) (byte : ℕ) → Consumes a b line → IsPart line → length line < 64 → byte ≢ 10 → Reads b c (OneByte byte) → IsSettled a c (Ok None) (line ++ byte ∷ [])
 byte_more a b c line byte p one room ne q = (Consumes-trans a b c line (byte ∷ []) p q, part_push line byte one ne, simp length-append (omega arith))

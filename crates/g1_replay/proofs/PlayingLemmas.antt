@@ -76,11 +76,6 @@ line_unread did full d l n n' s rd rd' out (Fault f) none h read = record { comm
 line_unread did full d l n n' s rd rd' out ReadFailed none h read = record { commands = []; read = read; done = does_none did full s out (Err ReadFailed) none (λ e. cc) }
 line_unread did full d l n n' s rd rd' out stop none h read = absurd h
 
--- a line whose command was played, or not to its end
-pub line_played : {S : Type 0} (did : S → List Command → List ℕ → S → Type 0) (full : S → Type 0) (d : Dialect) (l : Shape) (n n' : ℕ) (c : Command) (old new : S) (rd rd' out out' : Option (List ℕ))
-    → Reads d (Some l) n n' rd rd' (Some l) (c ∷ []) (Ok true) → Does did full (c ∷ []) old new out out' (Ok true) → Follows did full d l n n' old new rd rd' out out' (Ok true)
-line_played did full d l n n' c old new rd rd' out out' read done = record { commands = c ∷ []; read = read; done = done }
-
 pub line_stopped : {S : Type 0} (did : S → List Command → List ℕ → S → Type 0) (full : S → Type 0) (d : Dialect) (l : Shape) (n n' : ℕ) (c : Command) (old new : S) (rd rd' out out' : Option (List ℕ)) (stop : Stop) → MayStop stop
     → Reads d (Some l) n n' rd rd' (Some l) (c ∷ []) (Ok true) → Does did full (c ∷ []) old new out out' (Err stop) → Follows did full d l n n' old new rd rd' out out' (Err stop)
 line_stopped did full d l n n' c old new rd rd' out out' stop h read done = record { commands = c ∷ []; read = halted d l n n' c rd rd' stop h read; done = done }

@@ -17,7 +17,7 @@ use Rattle.g1_trace.specs.Plain.{IsLineBefore}
 use Rattle.g1_replay.specs.declared.stop.Stop.{Stop}
 use Rattle.g1_replay.specs.declared.stop.Stop.TheVariants.{Fault, ReadFailed}
 use Rattle.g1_replay.specs.Lines.{ReadsLine}
-use Rattle.g1_replay.specs.Reading.{IsLeftToRead, IsReadStop, Reads}
+use Rattle.g1_replay.specs.Reading.{IsLeftToRead, Reads}
 
 -- bytes of one line
 scan : (line : List ℕ) (d : Dialect) (heap : Option Shape) (n : ℕ) (begun x : List ℕ) → IsPart line → length begun + length line ≤ 64
@@ -61,11 +61,6 @@ line_stopped d heap n rd rd' (Fault Cut) line h =
 line_stopped d heap n rd rd' (Fault f) line h = absurd h
 line_stopped d heap n rd rd' ReadFailed line h = record { lines = []; rest = line; consumed = h.0; passed = λ x. refl; met = (h.1, h.2) }
 line_stopped d heap n rd rd' stop line h = absurd h
-
-pub line_stop : (rd rd' : Option (List ℕ)) (stop : Stop) (line : List ℕ) → ReadsLine rd rd' (Err stop) line → IsReadStop stop
-line_stop rd rd' (Fault f) line h = tt
-line_stop rd rd' ReadFailed line h = tt
-line_stop rd rd' stop line h = absurd h
 
 -- no line, before the header and behind it
 pub no_header : (d : Dialect) (n : ℕ) (rd rd' : Option (List ℕ)) (line : List ℕ) → ReadsLine rd rd' (Ok false) line → Reads d None n n rd rd' None [] (Err (Fault NoHeader))

@@ -1,21 +1,17 @@
 -- Scripts fit the heap that their commands are of.
-use Rattle.std.proofs.Common.{◌≡◌, ◌<◌, ℕ, ◌+◌, Bool, true, false, nat_lt, List, [], ◌∷◌, ◌++◌, length, take, get_or, refl, sym, subst, ap, ◌∙◌, append-nil, Option, Some, None, ◌==◌, rules}
-use Rattle.std.specs.Prelude.{Result, All, IfSome, if◌then◌else◌}
-use Rattle.std.specs.Option.{option_or}
+use Rattle.std.proofs.Common.{◌≡◌, ◌<◌, ℕ, ◌+◌, Bool, true, false, List, [], ◌∷◌, ◌++◌, length, take, get_or, refl, ap, ◌∙◌, append-nil, Option, Some, None, ◌==◌}
+use Rattle.std.specs.Prelude.{All, IfSome}
 use Rattle.std.specs.List.{filter_map, cons_option}
 use Rattle.std.proofs.lemmas.List.{take_more}
 use Rattle.std.proofs.lemmas.List.Elements.{filter_map-append, All-nil, All-cons, All-head, All-tail}
 use Rattle.g1_layout.specs.Shape.{Shape, slot_count}
-use Rattle.g1_steps.specs.Ask.{StepFits, ScriptFits}
+use Rattle.g1_steps.specs.Ask.{StepFits}
 use Rattle.g1_steps.specs.declared.crew.desk.Step.{Step}
 use Rattle.g1_steps.specs.declared.crew.desk.Step.TheVariants as step
-use Rattle.g1_steps.specs.declared.crew.desk.Script.{Script}
-use Rattle.g1_steps.specs.declared.crew.desk.Script.TheVariants.{Mutate, Refine}
-use Rattle.g1_book.specs.declared.refusal.Refusal.{Refusal}
 use Rattle.g1_trace.specs.declared.command.Command.{Command}
 use Rattle.g1_trace.specs.declared.command.Command.TheVariants.{Store, Flush}
 use Rattle.g1_trace.specs.Grammar.{IsCommandOf}
-use Rattle.g1_replay.specs.Scripts.{step_for, IsScriptOf, refusal_in, first_refusal}
+use Rattle.g1_replay.specs.Scripts.{step_for}
 
 -- one command more
 kept_more : (mutator : ℕ) (cs : List Command) (i : ℕ) (d : Command) → i < length cs → filter_map (step_for mutator) (take (i + 1) cs) ≡ filter_map (step_for mutator) (take i cs) ++ cons_option (step_for mutator (get_or cs i d)) []
@@ -44,28 +40,3 @@ pub steps_fit : (l : Shape) (m mutator : ℕ) (cs : List Command) → All (IsCom
 steps_fit l m mutator [] all = All-nil (StepFits (slot_count l) true)
 steps_fit l m mutator (c ∷ cs) all =
     step_before (slot_count l) (step_for mutator c) (filter_map (step_for mutator) cs) (step_fits l m mutator c (All-head (IsCommandOf l m) c cs all)) (steps_fit l m mutator cs (All-tail (IsCommandOf l m) c cs all))
-
-pub script_fits : (l : Shape) (mutators rounds number : ℕ) (cs : List Command) (script : Script) → All (IsCommandOf l mutators) cs → IsScriptOf mutators rounds number cs script → ScriptFits (slot_count l) (nat_lt number mutators) script
-script_fits l mutators rounds number cs (Mutate steps) all h =
-    let below : number < mutators = h.0 in
-    let yes : nat_lt number mutators ≡ true = search rules in
-    let fits : All (StepFits (slot_count l) true) steps.items = subst (λ (ss : List Step). All (StepFits (slot_count l) true) ss) (sym h.1) (steps_fit l mutators number cs all) in
-    let P : Bool → Type 0 = λ b. All (StepFits (slot_count l) b) steps.items in
-    subst P (sym yes) fits
-script_fits l mutators rounds number cs (Refine made) all h = tt
-
--- the same where the number of mutators goes by another name
-pub script_fits_for : (l : Shape) (mutators most rounds number : ℕ) (cs : List Command) (script : Script) → mutators ≡ most → All (IsCommandOf l most) cs → IsScriptOf mutators rounds number cs script → ScriptFits (slot_count l) (nat_lt number most) script
-script_fits_for l mutators most rounds number cs script e all h = script_fits l most rounds number cs script all (subst (λ m. IsScriptOf m rounds number cs script) e h)
-
-or_then : (r s t : Option Refusal) → option_or (option_or r s) t ≡ option_or r (option_or s t)
-or_then None s t = refl
-or_then (Some refusal) s t = refl
-
--- one job more
-pub refusal_more : (r : Option Refusal) (outcome : Option (Result ℕ (ℕ × Refusal))) (outcomes : List (Option (Result ℕ (ℕ × Refusal)))) → option_or (option_or r (refusal_in outcome)) (first_refusal outcomes) ≡ option_or r (first_refusal (outcome ∷ outcomes))
-refusal_more r outcome outcomes = or_then r (refusal_in outcome) (first_refusal outcomes)
-
-pub refusal_all : (r : Option Refusal) → option_or r None ≡ r
-refusal_all None = refl
-refusal_all (Some refusal) = refl

@@ -1,28 +1,20 @@
 -- Which steps serve what a worker asked for.
-use Rattle.std.proofs.Common.{◌≡◌, ℕ, List, [], ◌∷◌, Option, Some, None, refl, sym, subst, inl, inr, append-nil}
+use Rattle.std.proofs.Common.{ℕ, List, [], ◌∷◌, Option, Some, None, refl, sym, subst, inl, inr, append-nil}
 use Rattle.std.specs.Prelude.{filter, Ok, Err}
 use Rattle.g1_log.specs.declared.parcel.Parcel.{Parcel}
 use Rattle.g1_core.specs.declared.reply.StoreReply.{StoreReply}
 use Rattle.g1_core.specs.declared.reply.RefineReply.{RefineReply}
 use Rattle.g1_book.specs.declared.refusal.Refusal.{Refusal}
 use Rattle.g1_steps.specs.declared.steps.mutator.FlushReply.{FlushReply}
-use Rattle.g1_steps.specs.Made.{CallMade, Stored, Refused}
+use Rattle.g1_steps.specs.Made.{CallMade, Stored}
 use Rattle.g1_steps.specs.Steps.{Help, help_calls, IsStored, IsFlushed}
-use Rattle.g1_steps.specs.Rounds.{Turn, round_calls, IsRound, IsRefused}
+use Rattle.g1_steps.specs.Rounds.{Turn, round_calls, IsRound}
 use Rattle.g1_steps.specs.Ask.{Ask, AskStore, AskFlush, AskWork}
 use Rattle.g1_steps.specs.Served.{was_made, AreRefinements, IsHelp, Serves, HasServed}
 
 -- one thing that was asked for, served by these calls
 served_one : {S : Type 0} (did : S → List CallMade → S → Type 0) (s t : S) (ask : Ask) (calls : List CallMade) → did s calls t → Serves ask (filter was_made calls) → HasServed did s (ask ∷ []) t
 served_one did s t ask calls made serves = record { calls = calls; made = made; serves = (filter was_made calls, [], sym (append-nil (filter was_made calls)), serves, refl) }
-
--- nothing was made
-pub served_nothing : {S : Type 0} (did : S → List CallMade → S → Type 0) (s t : S) → did s [] s → t ≡ s → HasServed did s [] t
-served_nothing did s t none same = subst (HasServed did s []) (sym same) (record { calls = []; made = none; serves = refl })
-
--- a refused call serves nothing
-pub served_refused : {S : Type 0} (did : S → List CallMade → S → Type 0) (s t : S) (refusal : Refusal) → did s (Refused refusal ∷ []) t → HasServed did s [] t
-served_refused did s t refusal made = record { calls = Refused refusal ∷ []; made = made; serves = refl }
 
 helped : (cards : List ℕ) (help : Help) → IsHelp (filter was_made (help_calls cards help))
 helped cards None = tt
@@ -44,7 +36,3 @@ refinements (x ∷ xs) (Some refusal) = refinements xs (Some refusal)
 
 pub served_round : {S : Type 0} (did : S → List CallMade → S → Type 0) (s : S) (before : List Parcel) (most : ℕ) (reply : RefineReply) (after : List Parcel) (t : S) → IsRound did s before most reply after t → HasServed did s (AskWork ∷ []) t
 served_round did s before most reply after t h = served_one did s t AskWork (round_calls h.turns h.refused) h.made (refinements h.turns h.refused)
-
-pub served_refusal : {S : Type 0} (did : S → List CallMade → S → Type 0) (s t : S) (refusal : Refusal) → did s [] s → IsRefused did s refusal t → HasServed did s [] t
-served_refusal did s t refusal none (inl h) = served_nothing did s t none h.1
-served_refusal did s t refusal none (inr h) = served_refused did s t refusal h
