@@ -54,7 +54,7 @@ fn mutators_of(
     let mut mutators = room;
     for sender in senders {
         let log = config.new_log();
-        mutators.push_reserved(Mutator { log, sender });
+        mutators.push_reserved(Mutator::new(log, sender));
     }
     mutators
 }

@@ -6,6 +6,7 @@
 //! or several calls (docs/PROFILE.md, The steps of a caller).
 
 mod mutator;
+mod place;
 mod refiner;
 mod standstill;
 

@@ -9,6 +9,7 @@ ghost use Rattle.g1_steps.specs.Made.{Refused};
 ghost use Rattle.g1_steps.specs.Steps.{IsPassed, PutsBy, MayRefuse, nothing_flushed};
 
 use crate::calls::Calls;
+use crate::steps::place::Place;
 use g1_book::Refusal;
 use g1_core::{CardList, Fill, StoreReply};
 use g1_layout::Slot;
@@ -39,10 +40,24 @@ pub struct Mutator {
     pub log: Log,
     /// The mutator's end of the queue.
     pub sender: Sender,
+    place: Place,
 }
 
 impl Mutator {
     ghost use Rattle.g1_steps.specs.Steps.{IsStored, IsFlushed, IsStopped};
+
+    /// Returns a mutator with this log and this end of the queue. It takes about two kilobytes: its
+    /// log, and a place for the buffer that the log completes.
+    pub fn new(log: Log, sender: Sender) -> Mutator
+        ensures log { result.log ≡ log }
+        ensures sender { result.sender ≡ sender }
+    {
+        Mutator {
+            log,
+            sender,
+            place: Place::new(),
+        }
+    }
 
     /// Stores a reference, or null (docs/PROFILE.md, The steps of a caller).
     ///
@@ -86,10 +101,12 @@ impl Mutator {
         ensures err_ends { OnErr result ((self.new.log ≡ self.old.log)
             × (self.new.sender ≡ self.old.sender)) }
     {
-        let mut completed = None;
-        let first = calls.store(&mut self.log, &mut completed, slot, target)?;
-        let Some(buffer) = completed else {
+        let first = calls.store(&mut self.log, &mut self.place.buffer, slot, target)?;
+        if self.place.buffer.is_none() {
             return Ok(first);
+        }
+        let Some(buffer) = self.place.buffer.take() else {
+            unreachable!()
         };
         let passed = pass_on(rt, line, &mut self.sender, calls, buffer);
         Ok(StoreReply {

@@ -1,4 +1,4 @@
-use Rattle.std.proofs.Common.{◌≡◌, ◌+◌, length, vec_len, arith, rules, subst, sym}
+use Rattle.std.proofs.Common.{◌≡◌, ◌+◌, length, vec_len, arith, rules, subst, sym, ◌∙◌}
 use Rattle.std.specs.Vec.Iter.{into_iter_items}
 use Rattle.g1_log.specs.Ends.{IsNewSender, AreNewSenders}
 use Rattle.g1_steps.proofs.OpeningLemmas.{mutators_more}
@@ -14,8 +14,8 @@ loop-sender-preserved c =
       omega arith,
       omega arith,
       mutators_more _ _ 0 _ _ _ c.push_reserved.ensures.items was.2 (record {
-        log = c.new_log-log.ensures;
-        sender = subst (λ n. IsNewSender c.args.line.now n c.in-Some.sender) (sym len) senders.0;
+        log = c.new.ensures.log ∙ c.new_log-log.ensures;
+        sender = subst (IsNewSender c.args.line.now (0 + length c.loop-sender.mutators.items)) (sym c.new.ensures.sender) (subst (λ n. IsNewSender c.args.line.now n c.in-Some.sender) (sym len) senders.0);
       }),
       subst (λ n. AreNewSenders c.args.line.now n (into_iter_items c.next.new.self)) more senders.1,
     )

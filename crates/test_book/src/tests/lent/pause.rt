@@ -17,7 +17,7 @@ fn mutator(rt: &impl Abort, line: &Line, senders: &mut Vec<Sender>) -> Mutator
     let _line = line;
     let sender = senders.pop().expect(rt, "a sender for each mutator");
     let log = Log::new(2);
-    Mutator { log, sender }
+    Mutator::new(log, sender)
 }
 
 /// Stores a reference to slot 24 as the mutator of this number, and checks what becomes of its log.
