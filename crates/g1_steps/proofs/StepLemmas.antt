@@ -4,7 +4,7 @@ use Rattle.g1_layout.specs.declared.kind.Kind.{Kind}
 use Rattle.g1_layout.specs.declared.kind.Kind.TheVariants.{SameRegion, Null, AlreadyDirty, Logged}
 use Rattle.g1_log.specs.declared.parcel.Parcel.{Parcel}
 use Rattle.g1_log.specs.Log.{Cards}
-use Rattle.std.specs.Prelude.{Result, Ok, Err, IfOk, IsNone, MatchOption}
+use Rattle.std.specs.Prelude.{Result, Ok, Err, IfOk, IsNone, IsSome, MatchOption}
 use Rattle.g1_log.specs.Line.{taken_by}
 use Rattle.g1_log.specs.Ends.{taker_view, taken_of, WasOfLength, WasEmpty}
 use Rattle.g1_log.specs.declared.ends.Taker.{Taker}
@@ -26,11 +26,15 @@ handed_by true cards buffer is = cc
 handed_by false cards buffer is = cc
 
 -- a log hands out a buffer only to a logged store, with the store's card last
-pub handed_out : (kind : Kind) (log : Cards) (card : ℕ) (buffer : List ℕ) → buffer_of kind log card ≡ Some buffer → (kind ≡ Logged) × (buffer ≡ log.cards ++ card ∷ [])
+handed_out : (kind : Kind) (log : Cards) (card : ℕ) (buffer : List ℕ) → buffer_of kind log card ≡ Some buffer → (kind ≡ Logged) × (buffer ≡ log.cards ++ card ∷ [])
 handed_out Logged log card buffer is = (refl, handed_by (nat_lt (length log.cards + 1) log.size) (log.cards ++ card ∷ []) buffer is)
 handed_out SameRegion log card buffer is = absurd (cc is)
 handed_out Null log card buffer is = absurd (cc is)
 handed_out AlreadyDirty log card buffer is = absurd (cc is)
+
+pub handed_some : (kind : Kind) (log : Cards) (card : ℕ) (place : Option (List ℕ)) → place ≡ buffer_of kind log card → IsSome place → (kind ≡ Logged) × (place ≡ Some (log.cards ++ card ∷ []))
+handed_some kind log card None is some = absurd (cc some)
+handed_some kind log card (Some buffer) is some = let out = handed_out kind log card buffer (sym is) in (out.0, ap Some out.1)
 
 -- what a store that filled its log answers
 pub store_passed : (first : StoreReply) (help : Help) → first ≡ filled → record { kind = first.kind; fill = (passed help).fill; refined = (passed help).refined; short = (passed help).short } ≡ store_answer first help

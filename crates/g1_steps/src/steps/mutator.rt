@@ -1,7 +1,7 @@
 //! What a mutator does: stores, whose filled log goes into the queue of completed buffers, and
 //! flushes.
 ghost use Rattle.std.specs.Prelude.{◌≡◌, ◌≢◌, ◌<◌, ◌↔◌, ◌∷◌, ◌++◌, [], true, length, IfOk, IfSome};
-ghost use Rattle.std.specs.Prelude.{IfErr, OnErr, IsNone};
+ghost use Rattle.std.specs.Prelude.{IfErr, OnErr, IsNone, IsSome};
 ghost use Rattle.g1_layout.specs.Shape.{slot_count, card_of};
 ghost use Rattle.g1_log.specs.Ends.{IsSenderOf, put_of, IsSameSender};
 ghost use Rattle.g1_core.specs.Barrier.{logged, buffer_of};
@@ -105,10 +105,7 @@ impl Mutator {
         if self.place.buffer.is_none() {
             return Ok(first);
         }
-        let Some(buffer) = self.place.buffer.take() else {
-            unreachable!()
-        };
-        let passed = pass_on(rt, line, &mut self.sender, calls, buffer);
+        let passed = pass_from(rt, line, &mut self.sender, calls, &mut self.place.buffer);
         Ok(StoreReply {
             kind: first.kind,
             fill: passed.fill,
@@ -164,8 +161,33 @@ struct Passed {
     short: bool,
 }
 
-/// Puts a buffer into the queue, and refines it if the queue hands it back.
+/// Passes the buffer in the place on, and leaves the place empty. It is a call of its own, since a
+/// place for a buffer by value is zeroed where a function begins.
 #[inline(never)]
+fn pass_from<C: Calls, R: Wait>(
+    rt: &R,
+    line: &Line,
+    sender: &mut Sender,
+    calls: &mut C,
+    place: &mut Option<Buffer>,
+) -> Passed
+    requires line { IsSenderOf line.now sender.old }
+    requires some { IsSome place.old }
+    ensures passed { IfSome place.old (λ cards.
+        IsPassed C.did calls.old cards result calls.new) }
+    ensures put { IfSome place.old (λ cards.
+        PutsBy result.fill cards (put_of sender.old) (put_of sender.new)) }
+    ensures helped { result.fill ≡ Fill.Helped → MayRefuse line.now sender.old }
+    ensures same { IsSameSender sender.new sender.old }
+    ensures empty { IsNone place.new }
+{
+    let Some(buffer) = place.take() else {
+        unreachable!()
+    };
+    pass_on(rt, line, sender, calls, buffer)
+}
+
+/// Puts a buffer into the queue, and refines it if the queue hands it back.
 fn pass_on<C: Calls, R: Wait>(
     rt: &R,
     line: &Line,
