@@ -1,5 +1,5 @@
 //! The same stores by one thread, without a lock: the loop alone, at a core and at a book.
-ghost use Rattle.std.specs.Prelude.{◌≡◌, ◌<◌, ◌≤◌};
+ghost use Rattle.std.specs.Prelude.{◌≡◌, ◌<◌, ◌≤◌, IsNone};
 ghost use Rattle.g1_book.specs.History.{layout_in};
 
 use crate::list::list_of;
@@ -90,18 +90,31 @@ fn store_at_book(book: &mut Book, log: &mut Log, list: &[(u32, u32)]) -> Option<
     ensures { book.new.mutators ≡ book.old.mutators }
 {
     let mut checksum: u64 = 0;
+    let mut completed = None;
     for (slot, place) in list {
         let layout = book.layout();
         let slot = layout.slot(*slot)?;
-        let (reply, buffer) = book.store(0, log, slot, layout.slot(*place)).ok()?;
+        let target = layout.slot(*place);
+        let reply = book.store_into(0, log, &mut completed, slot, target).ok()?;
         if reply.kind == Kind::Logged {
             checksum = checksum.wrapping_add(1);
         }
-        if let Some(buffer) = buffer {
-            checksum = checksum.wrapping_add(last_of(&buffer));
+        if completed.is_some() {
+            checksum = checksum.wrapping_add(taken_from(&mut completed));
         }
     }
     Some(checksum)
+}
+
+// The number of the card that the buffer in the place has got last. The place is empty then.
+#[inline(never)]
+fn taken_from(place: &mut Option<Buffer>) -> u64
+    ensures { IsNone place.new }
+{
+    match place.take() {
+        Some(buffer) => last_of(&buffer),
+        None => 0,
+    }
 }
 
 // The number of the card that a buffer has got last.
