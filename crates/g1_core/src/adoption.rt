@@ -11,6 +11,7 @@ ghost use Rattle.g1_core.specs.Adoption.{IsPairOf, marks_for, table_with, adopte
 
 use crate::config::Config;
 use crate::machinery::Core;
+use crate::parts::Parts;
 use arrayvec::ArrayVec;
 use g1_heap::{Heap, Mark};
 use g1_hot::Hot;
@@ -57,11 +58,13 @@ impl Core {
         Ok(Core {
             alloc,
             config,
-            heap,
-            sets,
+            parts: Parts {
+                heap,
+                sets,
+                pending,
+                targets: ArrayVec::new(),
+            },
             hot,
-            pending,
-            targets: ArrayVec::new(),
         })
     }
 
@@ -74,7 +77,7 @@ impl Core {
         ensures within { IfOk result (λ pairs.
             All (IsPairOf self.now.state.table.layout) pairs.items) }
     {
-        let pairs = all_pairs(self.alloc, self.heap.layout(), &self.sets)?;
+        let pairs = all_pairs(self.alloc, self.parts.heap.layout(), &self.parts.sets)?;
         Ok(pairs)
     }
 }

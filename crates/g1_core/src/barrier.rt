@@ -33,12 +33,12 @@ impl Core {
         let Some(place) = *target else {
             return (Kind::Null, None);
         };
-        let layout = self.heap.layout();
+        let layout = self.parts.heap.layout();
         if layout.region_of(slot) == layout.region_of(place) {
             return (Kind::SameRegion, None);
         }
         let card = layout.card_of(slot);
-        match self.heap.mark(card) {
+        match self.parts.heap.mark(card) {
             Mark::Clean => return (Kind::Logged, Some(card)),
             Mark::Dirty => return (Kind::AlreadyDirty, None),
             Mark::Held => return (Kind::AlreadyDirty, None),
@@ -157,12 +157,12 @@ impl Core {
         ensures later { IsLater self.old self.new }
     {
         let (kind, dirtied) = self.kind(slot, &target);
-        self.heap.set(slot, target);
+        self.parts.heap.set(slot, target);
         let Some(card) = dirtied else {
             return (kind, None);
         };
-        self.heap.set_mark(card, Mark::Dirty);
-        self.pending += 1;
+        self.parts.heap.set_mark(card, Mark::Dirty);
+        self.parts.pending += 1;
         (kind, Some(card))
     }
 }

@@ -46,13 +46,13 @@ impl Core {
         ensures cover { IsCovered self.new.state.table }
         ensures later { IsLater self.old self.new }
     {
-        if self.pending > 0 {
-            return ClearReply::Pending(self.pending);
+        if self.parts.pending > 0 {
+            return ClearReply::Pending(self.parts.pending);
         }
-        if let Some(slot) = least_entering(&mut self.heap, &self.sets, region) {
+        if let Some(slot) = least_entering(&mut self.parts.heap, &self.parts.sets, region) {
             return ClearReply::StillReferenced(slot);
         }
-        self.sets.clear(region);
+        self.parts.sets.clear(region);
         ClearReply::Cleared
     }
 }

@@ -21,6 +21,7 @@ pub mod entry;
 pub mod laws;
 pub mod list;
 pub mod machinery;
+mod parts;
 pub mod pause;
 pub mod queries;
 pub mod redirection;

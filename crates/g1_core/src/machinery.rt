@@ -1,16 +1,13 @@
 //! The machinery of a heap, for one thread.
-ghost use Rattle.std.specs.Prelude.{◌≡◌, ◌<◌, ◌≤◌, ◌+◌, ◌*◌, ℕ, IfOk, OnOk, OnErr};
-ghost use Rattle.g1_layout.specs.Shape.{card_count};
-ghost use Rattle.g1_heap.specs.declared.mark.Mark.TheVariants.{Clean};
-ghost use Rattle.g1_heap.specs.Cells.{with_mark, with_reads};
-ghost use Rattle.g1_core.specs.Machine.{gained, new_machine};
-ghost use Rattle.g1_core.specs.Table.{IsCovered};
+ghost use Rattle.std.specs.Prelude.{◌≡◌, IfOk};
+ghost use Rattle.g1_core.specs.Machine.{new_machine};
 
 use crate::config::Config;
+use crate::parts::Parts;
 use arrayvec::ArrayVec;
-use g1_heap::{Heap, Mark};
+use g1_heap::Heap;
 use g1_hot::Hot;
-use g1_layout::{Card, Layout, NoMemory, Region};
+use g1_layout::{Layout, NoMemory};
 use g1_sets::Sets;
 use std::alloc::Global;
 use std::marker::Model;
@@ -25,12 +22,8 @@ use std::marker::Model;
 pub struct Core {
     pub(crate) alloc: Global,
     pub(crate) config: Config,
-    pub(crate) heap: Heap,
-    pub(crate) sets: Sets,
+    pub(crate) parts: Parts,
     pub(crate) hot: Hot,
-    pub(crate) pending: u32,
-    // The targets of the card that is being refined. Contracts do not see them.
-    pub(crate) targets: ArrayVec<Region, 64>,
 }
 
 impl Model for Core {
@@ -40,9 +33,9 @@ impl Model for Core {
 
     ghost coded = { machine_code };
 
-    ghost view = { λ a. machine_from a.heap a.sets.pairs a.hot a.config };
+    ghost view = { λ a. machine_from a.parts.heap a.parts.sets.pairs a.hot a.config };
 
-    ghost invariant = { λ a. IsCore a.heap a.sets a.hot a.pending };
+    ghost invariant = { λ a. IsCore a.parts.heap a.parts.sets a.hot a.parts.pending };
 }
 
 impl Core {
@@ -64,62 +57,13 @@ impl Core {
         Ok(Core {
             alloc,
             config,
-            heap,
-            sets,
+            parts: Parts {
+                heap,
+                sets,
+                pending: 0,
+                targets: ArrayVec::new(),
+            },
             hot,
-            pending: 0,
-            targets: ArrayVec::new(),
         })
     }
-}
-
-/// Records the regions that the card refers into and is not recorded for yet, all of them or none.
-#[inline(always)]
-pub(crate) fn record_card(
-    heap: &mut Heap,
-    sets: &mut Sets,
-    targets: &mut ArrayVec<Region, 64>,
-    card: Card,
-) -> Result<(), NoMemory>
-    requires card { card < card_count heap.old.layout }
-    requires layouts { sets.old.layout ≡ heap.old.layout }
-    ensures heap { heap.new ≡ with_reads heap.old heap.old.layout.slots }
-    ensures layout { sets.new.layout ≡ sets.old.layout }
-    ensures pairs { OnOk result (sets.new.pairs ≡ gained heap.old sets.old.pairs card) }
-    ensures err { OnErr result (sets.new ≡ sets.old) }
-{
-    let _ = heap.layout();
-    heap.list_targets(card, sets.regions_of(card), targets);
-    if targets.as_slice().is_empty() {
-        return Ok(());
-    }
-    sets.record(card, targets.as_slice())?;
-    Ok(())
-}
-
-/// Refines a card: its pairs are recorded and its mark is cleaned, or neither.
-#[inline(always)]
-pub(crate) fn refine_card(
-    heap: &mut Heap,
-    sets: &mut Sets,
-    targets: &mut ArrayVec<Region, 64>,
-    pending: &mut u32,
-    card: Card,
-) -> Result<(), NoMemory>
-    requires card { card < card_count heap.old.layout }
-    requires layouts { sets.old.layout ≡ heap.old.layout }
-    requires some { 1 ≤ pending.old }
-    ensures cleaned { OnOk result
-        (heap.new ≡ with_mark (with_reads heap.old heap.old.layout.slots) card Clean) }
-    ensures pairs { OnOk result (sets.new.pairs ≡ gained heap.old sets.old.pairs card) }
-    ensures layout { sets.new.layout ≡ sets.old.layout }
-    ensures less { OnOk result (pending.new + 1 ≡ pending.old) }
-    ensures read { OnErr result (heap.new ≡ with_reads heap.old heap.old.layout.slots) }
-    ensures err { OnErr result (sets.new ≡ sets.old) }
-    ensures as_many { OnErr result (pending.new ≡ pending.old) }
-{
-    record_card(heap, sets, targets, card)?;
-    heap.set_mark(card, Mark::Clean);
-    *pending -= 1;
-    Ok(())
 }

@@ -6,7 +6,7 @@ ghost use Rattle.std.specs.FinSet as set;
 ghost use Rattle.g1_layout.specs.Shape.{card_count};
 
 use crate::list::CardList;
-use crate::machinery::{Core, refine_card};
+use crate::machinery::Core;
 use crate::reply::Drained;
 use g1_layout::{Card, NoMemory, Region};
 
@@ -33,13 +33,7 @@ impl Core {
         let Some(card) = self.hot.oldest() else {
             unreachable!();
         };
-        refine_card(
-            &mut self.heap,
-            &mut self.sets,
-            &mut self.targets,
-            &mut self.pending,
-            card,
-        )?;
+        self.parts.refine(card)?;
         let _ = self.hot.pop_oldest();
         Ok(card)
     }
@@ -50,13 +44,7 @@ impl Core {
         ensures ok { OnOk result (IsCardDrained self.old card self.old.state.ring self.new) }
         ensures err { OnErr result (IsCardRead self.old self.new) }
     {
-        refine_card(
-            &mut self.heap,
-            &mut self.sets,
-            &mut self.targets,
-            &mut self.pending,
-            card,
-        )?;
+        self.parts.refine(card)?;
         Ok(())
     }
 
@@ -71,10 +59,10 @@ impl Core {
         ensures first { IfSome result (λ card. (earlier : ℕ) → from ≤ earlier → earlier < card
             → is_dirty self.now.state earlier ≡ false) }
     {
-        if self.pending == 0 {
+        if self.parts.pending == 0 {
             return None;
         }
-        self.heap.next_dirty(from)
+        self.parts.heap.next_dirty(from)
     }
 
     /// Refines the cards of the ring, oldest first, and lists them.
@@ -124,7 +112,7 @@ impl Core {
         ensures room { IfOk result (λ room.
             set.len self.now.state.table.pending ≤ vec_capacity room) }
     {
-        let room = Vec::with_capacity(self.alloc, self.pending as usize)?;
+        let room = Vec::with_capacity(self.alloc, self.parts.pending as usize)?;
         Ok(room)
     }
 

@@ -26,7 +26,7 @@ impl Core {
         ensures cover { IsCovered self.now.state.table }
         ensures sound { IsSound self.now.state }
     {
-        self.heap.layout()
+        self.parts.heap.layout()
     }
 
     /// The settings that the core was made with. Constant time.
@@ -43,7 +43,7 @@ impl Core {
         ensures value { result ≡ self.now.reads }
         ensures bound { self.now.reads < 2 ^ 64 }
     {
-        self.heap.reads()
+        self.parts.heap.reads()
     }
 
     /// Returns the place that a slot refers to, or `None` if the slot is null. One slot is read.
@@ -62,7 +62,7 @@ impl Core {
         ensures later { IsLater self.old self.new }
     {
         let _reads = self.reads();
-        self.heap.get(slot)
+        self.parts.heap.get(slot)
     }
 
     /// Whether a card is pending: dirty, or held in the hot ring. Constant time.
@@ -72,7 +72,7 @@ impl Core {
         ensures step { (caller : ℕ)
             → IsStep self.now.state.table (pending_entry caller card result) self.now.state.table }
     {
-        match self.heap.mark(card) {
+        match self.parts.heap.mark(card) {
             Mark::Clean => return false,
             Mark::Dirty => return true,
             Mark::Held => return true,
@@ -93,7 +93,7 @@ impl Core {
             → IsStep self.now.state.table (members_entry caller region cards)
             self.now.state.table) }
     {
-        let cards = self.sets.cards(region)?;
+        let cards = self.parts.sets.cards(region)?;
         Ok(CardList::of(cards))
     }
 
@@ -106,8 +106,8 @@ impl Core {
             → IsStep self.now.state.table (status_entry caller result) self.now.state.table }
     {
         Status {
-            pending: self.pending,
-            recorded: self.sets.total(),
+            pending: self.parts.pending,
+            recorded: self.parts.sets.total(),
         }
     }
 }

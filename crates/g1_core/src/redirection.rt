@@ -136,10 +136,10 @@ impl Core {
         ensures moved { IfOk result (λ slots. IsMoved self.old from to slots self.new) }
         ensures err { OnErr result (AreMembersRead self.old from self.new) }
     {
-        let changes = changes_into(self.alloc, &mut self.heap, &self.sets, from, to)?;
-        self.sets.record_many(changes.cards.as_slice(), to)?;
-        make_changes(&mut self.heap, changes.references.as_slice());
-        self.sets.clear(from);
+        let changes = changes_into(self.alloc, &mut self.parts.heap, &self.parts.sets, from, to)?;
+        self.parts.sets.record_many(changes.cards.as_slice(), to)?;
+        make_changes(&mut self.parts.heap, changes.references.as_slice());
+        self.parts.sets.clear(from);
         Ok(changes.references.len() as u32)
     }
 

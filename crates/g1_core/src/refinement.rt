@@ -8,7 +8,7 @@ ghost use Rattle.g1_heap.specs.declared.mark.Mark.TheVariants.{Clean, Dirty};
 ghost use Rattle.g1_core.specs.Turns.{refined_by, hot_by, skipped_by};
 
 use crate::list::CardList;
-use crate::machinery::{Core, refine_card};
+use crate::machinery::Core;
 use crate::reply::RefineReply;
 use g1_heap::{Heap, Mark};
 use g1_hot::Offer;
@@ -98,37 +98,25 @@ impl Core {
         ensures settings { self.new.settings ≡ self.old.settings }
     {
         let _reads = self.reads();
-        let dirty = is_dirty(&self.heap, card);
+        let dirty = is_dirty(&self.parts.heap, card);
         if !dirty {
             return Ok(None);
         }
         let offer = self.hot.would(card);
         match offer {
             Offer::Cold => {
-                refine_card(
-                    &mut self.heap,
-                    &mut self.sets,
-                    &mut self.targets,
-                    &mut self.pending,
-                    card,
-                )?;
+                self.parts.refine(card)?;
                 self.hot.offer(card);
                 return Ok(Some(offer));
             }
             Offer::Kept => {
-                self.heap.set_mark(card, Mark::Held);
+                self.parts.heap.set_mark(card, Mark::Held);
                 self.hot.offer(card);
                 return Ok(Some(offer));
             }
             Offer::Out(oldest) => {
-                refine_card(
-                    &mut self.heap,
-                    &mut self.sets,
-                    &mut self.targets,
-                    &mut self.pending,
-                    oldest,
-                )?;
-                self.heap.set_mark(card, Mark::Held);
+                self.parts.refine(oldest)?;
+                self.parts.heap.set_mark(card, Mark::Held);
                 self.hot.offer(card);
                 return Ok(Some(offer));
             }

@@ -12,6 +12,6 @@ returns-clause-step c = λ caller. members_step caller c.args.self.now.state.tab
 
 pub returns-clause-within : goal.returns-clause-within
 returns-clause-within c = members_inside c.args.self.now.state c.args.region c.of.result
-    (seen_sound c.self.inside.heap c.self.inside.sets c.self.inside.hot c.self.inside.pending c.self.invariant c.self.inside.config c.args.self.now c.self.view_is)
+    (seen_sound c.self.inside.parts.heap c.self.inside.parts.sets c.self.inside.hot c.self.inside.parts.pending c.self.invariant c.self.inside.config c.args.self.now c.self.view_is)
     (subst (λ (cards : List ℕ). AreMembers c.args.self.now.state.table c.args.region cards) (sym c.of.ensures)
     (subst (λ (m : Machine). AreMembers m.state.table c.args.region c.in_ok-cards.cards.items) c.self.view_is c.in_ok-cards.ensures))
