@@ -9,7 +9,7 @@ use Rattle.g1_core.specs.declared.entry.Call.{Call}
 use Rattle.g1_core.specs.declared.entry.Call.TheVariants.{Store}
 use Rattle.g1_core.specs.declared.entry.Reply.TheVariants.{Stored}
 use Rattle.g1_core.specs.declared.reply.StoreReply.{StoreReply}
-use Rattle.g1_core.specs.Run.{IsStep, IsAllowed, IsPermitted, table_of, drained}
+use Rattle.g1_core.specs.Run.{IsStep, IsAllowed, IsPermitted, table_of_history, drained}
 use Rattle.g1_core.specs.Calls.{store_entry, drain_entry}
 use Rattle.g1_core.specs.declared.reply.Drained.{Drained}
 use Rattle.g1_core.specs.declared.reply.Drained.TheVariants.{Cards, Short}
@@ -28,7 +28,7 @@ history_entered m n mutators limit entries now e h room is step =
     subst (λ es. IsHistory (record { machine = n; mutators = mutators; entries = es; limit = limit })) (sym is) (record {
       shape = subst IsShape same h.shape;
       run = subst (λ (l : Shape). IsPermitted (opening l) (entries ++ e ∷ [])) same p.0;
-      last = p.1 ∙ ap (λ (l : Shape). table_of l (entries ++ e ∷ [])) same;
+      last = p.1 ∙ ap (λ (l : Shape). table_of_history l (entries ++ e ∷ [])) same;
       within = more;
       limit_high = h.limit_high;
       mutators_low = h.mutators_low;

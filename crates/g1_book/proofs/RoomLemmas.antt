@@ -16,7 +16,7 @@ use Rattle.g1_core.specs.declared.entry.Entry.{Entry}
 use Rattle.g1_core.specs.declared.entry.Call.TheVariants.{Store, Clear, Redirect}
 use Rattle.g1_core.specs.declared.entry.Reply.TheVariants as reply
 use Rattle.g1_core.specs.declared.reply.ClearReply.TheVariants as clear_reply
-use Rattle.g1_core.specs.Run.{written, settled, table_after, table_of, HeldSince, IsExact}
+use Rattle.g1_core.specs.Run.{written, settled, table_after, table_of_history, HeldSince, IsExact}
 use Rattle.g1_core.specs.Machine.{State}
 use Rattle.g1_core.specs.Refinement.{IsRefined}
 use Rattle.g1_core.specs.Calls.{drain_cards}
@@ -60,7 +60,7 @@ run_slots t (e ∷ entries) = run_slots (table_after t e) entries ∙ settled_sl
 -- a card that ever held into a region is one of the heap
 held_card : (l : Shape) → IsShape l → (entries : List Entry) (card region : ℕ) → HeldSince l entries card region → card < card_count l
 held_card l shape entries card region h =
-    let slots : length (table_of l (take h.moment entries)).refs ≡ slot_count l = run_slots (opening l) (take h.moment entries) ∙ length-replicate (slot_count l) None in
+    let slots : length (table_of_history l (take h.moment entries)).refs ≡ slot_count l = run_slots (opening l) (take h.moment entries) ∙ length-replicate (slot_count l) None in
     let within : h.held.slot < slot_count l = subst (λ n. h.held.slot < n) slots (is_slot _ h.held.slot h.held.place h.held.refers) in
     let on_card : card_of l h.held.slot ≡ card = ap (λ (m : Shape). card_of m h.held.slot) (sym (run_layout (opening l) (take h.moment entries))) ∙ h.held.on_card in
     subst (λ c. c < card_count l) on_card ((div-lt_iff_lt-mul (omega (arith, shape.slots_low))).1 within)

@@ -9,7 +9,7 @@ use Rattle.g1_core.specs.Table.{Table, opening}
 use Rattle.g1_core.specs.declared.reply.Drained.{Drained}
 use Rattle.g1_core.specs.declared.reply.Drained.TheVariants.{Cards, Short}
 use Rattle.g1_core.specs.declared.entry.Entry.{Entry}
-use Rattle.g1_core.specs.Run.{IsPermitted, IsStep, IsExact, table_of}
+use Rattle.g1_core.specs.Run.{IsPermitted, IsStep, IsExact, table_of_history}
 
 pub record History : Type 0 where
   pub machine : Machine
@@ -52,7 +52,7 @@ terms_of h = record {
 pub record IsHistory (h : History) : Type 0 where
   pub shape : IsShape (layout_in h)
   pub run : IsPermitted (opening (layout_in h)) h.entries
-  pub last : table_in h ≡ table_of (layout_in h) h.entries
+  pub last : table_in h ≡ table_of_history (layout_in h) h.entries
   pub within : length h.entries ≤ h.limit
   pub limit_high : h.limit ≤ 1000000
   pub mutators_low : 1 ≤ h.mutators

@@ -2,7 +2,7 @@
 ghost use Rattle.std.specs.Prelude.{◌≡◌, ◌≢◌, ◌<◌};
 ghost use Rattle.g1_handles.specs.Codes.{Between, IsRefusal};
 ghost use Rattle.g1_handles.specs.Refusals.{IsClearRefused};
-ghost use Rattle.g1_handles.specs.Replies.{ClearsTo, IsLeft};
+ghost use Rattle.g1_handles.specs.Replies.{ClearsTo, AreOnlyRead};
 
 use core::mem::replace_with;
 use g1_core::ClearReply;
@@ -34,7 +34,7 @@ pub extern "C" fn g1_clear(alloc: Global, handle: &mut Handle, region: u32, deta
     ensures none { result ≢ 19 → result ≢ 20 → detail.new ≡ 0 }
     ensures why { 0 < result → result ≢ 19 → result ≢ 20 →
         IsRefusal result (IsClearRefused handle.old.value region) }
-    ensures refused { 0 < result → IsLeft handle.old.value handle.new.value }
+    ensures refused { 0 < result → AreOnlyRead handle.old.value handle.new.value }
 {
     match replace_with(handle, (alloc, region), clear_in) {
         Err(refusal) => {

@@ -1,6 +1,6 @@
 //! Refinement and drains of a heap at a pause.
 ghost use Rattle.std.specs.Prelude.{◌≡◌, ◌≢◌, ◌⊎◌, ◌<◌, length, take};
-ghost use Rattle.g1_handles.specs.AtPause.{Drains, Refines, LacksRegion};
+ghost use Rattle.g1_handles.specs.AtPause.{DrainsAtPause, Refines, LacksRegion};
 ghost use Rattle.g1_handles.specs.Codes.{IsRefusal};
 ghost use Rattle.g1_handles.specs.HeapCalls.{IsHeapRefused};
 ghost use Rattle.g1_handles.specs.Life.{IsSameHeap};
@@ -35,9 +35,9 @@ pub extern "C" fn g1_heap_drain(
     count: &mut u32,
 ) -> u32
     ensures drained { result ≡ 0 → IsSameHeap heap.old.value heap.new.value (λ old new.
-        Drains old region new (take count.new cards.new)) }
+        DrainsAtPause old region new (take count.new cards.new)) }
     ensures room { result ≡ 16 → IsSameHeap heap.old.value heap.new.value (λ old new.
-        Overflows (Drains old region new) (length cards.old) count.new) }
+        Overflows (DrainsAtPause old region new) (length cards.old) count.new) }
     ensures why { 0 < result → result ≢ 16 → IsRefusal result
         (IsHeapRefused heap.old.value (λ old r.
         LacksRegion old region r ⊎ (r ≡ Refusal.NoMemory))) }

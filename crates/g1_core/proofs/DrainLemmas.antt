@@ -16,7 +16,7 @@ use Rattle.g1_core.proofs.RunLemmas.{HasSlots, has_slots, step_covered}
 use Rattle.g1_core.specs.Table.{Table, AreMembers, IsCovered, refined}
 use Rattle.g1_core.specs.Machine.{Machine}
 use Rattle.g1_core.specs.Turns.{is_dirty}
-use Rattle.g1_core.specs.Pause.{AreDirtyBelow, Drains, IsDirtyDrained, IsDirtyStopped, IsRingDrained, IsDrainOrder, IsDrainOf, IsShortDrain, IsWholeDrain, IsAllDrained, reset_machine, with_cards}
+use Rattle.g1_core.specs.Pause.{AreDirtyBelow, Drains, IsDirtyDrained, IsDirtyStopped, IsRingDrained, IsDrainOrder, IsDrainOf, IsShortDrain, IsWholeDrain, IsAllDrained, reset_machine, ring_with}
 use Rattle.g1_core.proofs.SetLemmas.{same_cards}
 use Rattle.g1_core.proofs.TableLemmas.{refined_pending}
 use Rattle.g1_core.proofs.TurnLemmas.{to_dirty}
@@ -100,7 +100,7 @@ module _ (old : Machine) (region : ℕ) (within : region < old.state.table.layou
           refines = all.drains.refines;
           table = all.drains.table;
           nothing = all.nothing;
-          ring = ap reset (all.drains.ring ∙ ap (with_cards old.state.ring) all.left);
+          ring = ap reset (all.drains.ring ∙ ap (ring_with old.state.ring) all.left);
           settings = all.drains.settings;
           reads = all.drains.reads;
         } in

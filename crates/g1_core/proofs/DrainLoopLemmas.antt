@@ -10,7 +10,7 @@ use Rattle.g1_hot.specs.Ring.{Ring, popped}
 use Rattle.g1_core.specs.Table.{Table, AreRefinable, IsPending, refined}
 use Rattle.g1_core.specs.Machine.{State, Machine}
 use Rattle.g1_core.specs.Turns.{is_dirty}
-use Rattle.g1_core.specs.Pause.{with_cards, AreDirtyBelow, Drains, IsCardDrained, IsDirtyDrained, IsRingDrained}
+use Rattle.g1_core.specs.Pause.{ring_with, AreDirtyBelow, Drains, IsCardDrained, IsDirtyDrained, IsRingDrained}
 use Rattle.g1_core.proofs.SetLemmas.{in_list, in_set, All_by_member}
 use Rattle.g1_sets.proofs.BitLemmas.{increasing_push}
 use Rattle.g1_core.proofs.TableLemmas.{refined_pending}
@@ -39,16 +39,16 @@ drains_both a b c xs ys n m h k =
     record {
       refines = refinable_both a.state.table xs ys h.refines refines;
       table = k.table ∙ ap (refined ys) h.table ∙ refined_both xs ys a.state.table;
-      ring = k.ring ∙ ap (λ (r : Ring). with_cards r c.state.ring.cards) h.ring;
+      ring = k.ring ∙ ap (λ (r : Ring). ring_with r c.state.ring.cards) h.ring;
       settings = k.settings ∙ h.settings;
       reads = more_read a.reads b.reads c.reads a.state.table.layout.slots b.state.table.layout.slots n m (n + m) h.reads k.reads slots refl;
     }
 
-pub drains_card : (old : Machine) (card : ℕ) (ring : Ring) (new : Machine) → ring ≡ with_cards old.state.ring ring.cards → IsCardDrained old card ring new → Drains old (card ∷ []) 1 new
+pub drains_card : (old : Machine) (card : ℕ) (ring : Ring) (new : Machine) → ring ≡ ring_with old.state.ring ring.cards → IsCardDrained old card ring new → Drains old (card ∷ []) 1 new
 drains_card old card ring new same h = record {
   refines = refinable_push old.state.table [] card (none_refinable old.state.table) (subst (λ t. IsPending t card) (sym (refined_none old.state.table)) h.pending);
   table = h.table;
-  ring = h.left ∙ same ∙ ap (λ (r : Ring). with_cards old.state.ring r.cards) (sym h.left);
+  ring = h.left ∙ same ∙ ap (λ (r : Ring). ring_with old.state.ring r.cards) (sym h.left);
   settings = h.settings;
   reads = h.reads ∙ one_read old.reads old.state.table.layout.slots 1 refl;
 }

@@ -16,7 +16,7 @@ use Rattle.g1_core.specs.declared.entry.Reply.TheVariants as reply
 use Rattle.g1_core.specs.declared.reply.ClearReply.{ClearReply}
 use Rattle.g1_core.specs.declared.reply.ClearReply.TheVariants as clear_reply
 use Rattle.g1_core.specs.Calls.{members_entry, clear_entry}
-use Rattle.g1_core.specs.Run.{IsAllowed, IsPermitted, table_of, drained, IsExact}
+use Rattle.g1_core.specs.Run.{IsAllowed, IsPermitted, table_of_history, drained, IsExact}
 use Rattle.g1_core.proofs.StoreLemmas.{none_refinable}
 use Rattle.g1_core.proofs.RunLemmas.{permitted_parts, has_slots}
 use Rattle.g1_core.proofs.SinceLemmas.{drain_exact}
@@ -60,7 +60,7 @@ pub store_outside_the_heap_is_no_call : IsAllowed start (stores 32 (Some 0) Logg
 store_outside_the_heap_is_no_call h = let below : 32 < 32 = h.numbers.0 in absurd (omega arith)
 
 -- after that store card 0 holds into region 1
-pub holding : Holds (table_of heap (first ∷ [])) 0 1
+pub holding : Holds (table_of_history heap (first ∷ [])) 0 1
 holding = record { slot = 0; place = 8; on_card = refl; refers = refl; into = refl; outside = λ e. absurd (omega arith) }
 
 -- what a whole drain of a region answers after that store

@@ -15,7 +15,7 @@ use Rattle.g1_core.specs.declared.entry.Call.TheVariants.{Redirect}
 use Rattle.g1_core.specs.declared.entry.Reply.TheVariants as reply
 use Rattle.g1_core.specs.Table.{Table, AreMembers, AreRefinable, IsPending, IsRecorded, refined}
 use Rattle.g1_core.specs.Calls.{members_entry}
-use Rattle.g1_core.specs.Run.{IsAllowed, drained, kind_of, pending_after, stored, table_of}
+use Rattle.g1_core.specs.Run.{IsAllowed, drained, kind_of, pending_after, stored, table_of_history}
 use Rattle.g1_core.proofs.StoreLemmas.{none_refinable}
 use Rattle.g1_core.proofs.RefinedLemmas.{refined_none, refinable_push}
 use Rattle.g1_core.proofs.TableLemmas.{held_from_Holds, newly_recorded, pending_before, refined_pending, refined_recorded, store_marks}
@@ -42,7 +42,7 @@ drain_of_an_unused_region_lists_no_card = record {
 
 -- once slot 0 refers to place 8, card 0 is pending and no other
 abbrev after : Table
-after = table_of heap (first ∷ [])
+after = table_of_history heap (first ∷ [])
 
 is_stored : after ≡ stored start 0 (Some 8)
 is_stored = refined_none (stored start 0 (Some 8))
@@ -96,7 +96,7 @@ drain_refines_all_that_waits h =
 
 -- once that drain was made, card 0 is recorded for region 1
 abbrev paused : Table
-paused = table_of heap (first ∷ drained 0 1 (0 ∷ []) (0 ∷ []) ∷ [])
+paused = table_of_history heap (first ∷ drained 0 1 (0 ∷ []) (0 ∷ []) ∷ [])
 
 pub members_lists_the_recorded_card : IsAllowed paused (members_entry 0 1 (0 ∷ []))
 members_lists_the_recorded_card = record { numbers = omega arith; refines = none_refinable _; answers = (refl, one_member) }

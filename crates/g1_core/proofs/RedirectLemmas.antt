@@ -22,7 +22,7 @@ use Rattle.g1_core.specs.Clearing.{AreRead, member_count}
 use Rattle.g1_core.specs.declared.reply.Redirected.TheVariants as answers
 use Rattle.g1_core.specs.Calls.{redirect_entry}
 use Rattle.g1_core.specs.Run.{IsStep}
-use Rattle.g1_core.specs.Pause.{IsAllDrained, IsShortDrain, reset_machine, with_cards}
+use Rattle.g1_core.specs.Pause.{IsAllDrained, IsShortDrain, reset_machine, ring_with}
 use Rattle.g1_core.proofs.ChangeLemmas.{read_core}
 use Rattle.g1_core.proofs.ReferenceLemmas.{every_moved, slots_within, places_within, moved_core, moved_state, moved_reads}
 
@@ -109,7 +109,7 @@ whole_redirect old mid last from to slots cards h moves =
     record {
       order = h.order;
       table = ap (λ (s : State). s.table) moves.state ∙ ap (moved from to) h.drains.table;
-      ring = ap (λ (s : State). reset s.ring) moves.state ∙ ap reset (h.drains.ring ∙ ap (with_cards old.state.ring) h.left);
+      ring = ap (λ (s : State). reset s.ring) moves.state ∙ ap reset (h.drains.ring ∙ ap (ring_with old.state.ring) h.left);
       settings = moves.settings ∙ h.drains.settings;
       reads = omega (arith, fits, first);
     }
@@ -133,11 +133,11 @@ short_read old mid new from cards h read =
     let fits : new.reads ≤ mid.reads + member_count (refined cards old.state.table) from * old.state.table.layout.slots = subst (λ (n : ℕ). new.reads ≤ mid.reads + n) (λ i. members i * size i) read.reads in
     let first : mid.reads ≤ old.reads + length cards * old.state.table.layout.slots = drained_reads old.reads (length cards * old.state.table.layout.slots) mid.reads (length cards * old.state.table.layout.slots) h.drains.reads (omega arith) in
     let same : new.state.ring ≡ mid.state.ring = ap (λ (s : State). s.ring) read.state in
-    let ring : mid.state.ring ≡ with_cards old.state.ring mid.state.ring.cards = h.drains.ring in
+    let ring : mid.state.ring ≡ ring_with old.state.ring mid.state.ring.cards = h.drains.ring in
     record {
       order = record { held = h.order.held; dirty = h.order.dirty; bound = h.order.bound; parts = h.order.parts; ring = h.order.ring ∙ ap (λ (ys : List ℕ). h.order.held ++ ys) (sym h.left ∙ ap (λ (r : Ring). r.cards) (sym same)); below = h.order.below; turn = inl (ap (λ (r : Ring). r.cards) same ∙ h.left) };
       table = ap (λ (s : State). s.table) read.state ∙ h.drains.table;
-      ring = same ∙ ring ∙ ap (λ (r : Ring). with_cards old.state.ring r.cards) (sym same);
+      ring = same ∙ ring ∙ ap (λ (r : Ring). ring_with old.state.ring r.cards) (sym same);
       settings = read.settings ∙ h.drains.settings;
       reads = omega (arith, fits, first);
     }

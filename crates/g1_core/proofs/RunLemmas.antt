@@ -15,7 +15,7 @@ use Rattle.g1_core.specs.declared.entry.Entry.{Entry}
 use Rattle.g1_core.specs.declared.entry.Call.TheVariants.{Store, Clear, Redirect}
 use Rattle.g1_core.specs.declared.entry.Reply.TheVariants as reply
 use Rattle.g1_core.specs.declared.reply.ClearReply.TheVariants as clear_reply
-use Rattle.g1_core.specs.Run.{written, settled, Answers, IsCallOf, table_after, IsAllowed, IsStep, table_of, IsPermitted}
+use Rattle.g1_core.specs.Run.{written, settled, Answers, IsCallOf, table_after, IsAllowed, IsStep, table_of_history, IsPermitted}
 use Rattle.g1_core.proofs.SetLemmas.{pair_exact}
 use Rattle.g1_core.proofs.MovedLemmas.{moved_covered}
 use Rattle.g1_core.proofs.TableLemmas.{refined_covered, stored_covered}
@@ -30,7 +30,7 @@ module _ {X : Type 0} (P : List X → Type 0) (start : P []) (step : (xs : List 
   by_push xs = pushed_all [] xs start
 
 -- one more entry
-pub table_of_push : (l : Shape) (entries : List Entry) (e : Entry) → table_of l (entries ++ e ∷ []) ≡ table_after (table_of l entries) e
+pub table_of_push : (l : Shape) (entries : List Entry) (e : Entry) → table_of_history l (entries ++ e ∷ []) ≡ table_after (table_of_history l entries) e
 table_of_push l entries e = fold-append table_after (opening l) entries (e ∷ [])
 
 -- a permitted run goes on by one step
@@ -94,7 +94,7 @@ run_layout t [] = refl
 run_layout t (e ∷ entries) = run_layout (table_after t e) entries ∙ layout_after t e
 
 -- a step of the last table makes a longer run
-pub permitted_step : (l : Shape) (entries : List Entry) (e : Entry) (t u : Table) → t ≡ table_of l entries → IsPermitted (opening l) entries → IsStep t e u → IsPermitted (opening l) (entries ++ e ∷ []) × (u ≡ table_of l (entries ++ e ∷ [])) × (u.layout ≡ t.layout)
+pub permitted_step : (l : Shape) (entries : List Entry) (e : Entry) (t u : Table) → t ≡ table_of_history l entries → IsPermitted (opening l) entries → IsStep t e u → IsPermitted (opening l) (entries ++ e ∷ []) × (u ≡ table_of_history l (entries ++ e ∷ [])) × (u.layout ≡ t.layout)
 permitted_step l entries e t u last run step =
-    let here : IsAllowed (table_of l entries) e = subst (λ t. IsAllowed t e) last step.allowed in
+    let here : IsAllowed (table_of_history l entries) e = subst (λ t. IsAllowed t e) last step.allowed in
     (permitted_push (opening l) entries e run here, step.after ∙ ap (λ t. table_after t e) last ∙ sym (table_of_push l entries e), ap (λ t. t.layout) step.after ∙ layout_after t e)

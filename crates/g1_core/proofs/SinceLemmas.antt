@@ -15,7 +15,7 @@ use Rattle.g1_core.specs.declared.entry.Entry.{Entry}
 use Rattle.g1_core.specs.declared.entry.Call.TheVariants.{Store, Clear, Redirect}
 use Rattle.g1_core.specs.declared.entry.Reply.TheVariants as reply
 use Rattle.g1_core.specs.declared.reply.ClearReply.TheVariants as clear_reply
-use Rattle.g1_core.specs.Run.{written, settled, table_after, IsAllowed, table_of, IsPermitted, Clears, ClearsBy, HeldSince, IsExact, drained}
+use Rattle.g1_core.specs.Run.{written, settled, table_after, IsAllowed, table_of_history, IsPermitted, Clears, ClearsBy, HeldSince, IsExact, drained}
 use Rattle.g1_core.proofs.MovedLemmas.{moved_known}
 use Rattle.g1_core.proofs.TableLemmas.{opening_covered, recorded_cases, Holds_from_held, region_of_slot}
 use Rattle.g1_core.proofs.RunLemmas.{by_push, table_of_push, forgotten, written_layout, HasSlots, step_covered, run_covered, run_layout}
@@ -45,23 +45,23 @@ since_push l entries e card region not h =
       moment = h.moment;
       within = omega (arith, h.within, length-append entries (e ∷ []));
       since = subst (All (λ x. Clears region x → ⊥)) (sym (drop-append-le h.moment entries (e ∷ []) h.within)) (All-push (λ x. Clears region x → ⊥) (drop h.moment entries) e h.since not);
-      held = subst (λ es. Holds (table_of l es) card region) (sym (take-append-le h.moment entries (e ∷ []) h.within)) h.held;
+      held = subst (λ es. Holds (table_of_history l es) card region) (sym (take-append-le h.moment entries (e ∷ []) h.within)) h.held;
     }
 
 -- what holds now has held since
-pub since_now : (l : Shape) (entries : List Entry) (card region : ℕ) → Holds (table_of l entries) card region → HeldSince l entries card region
+pub since_now : (l : Shape) (entries : List Entry) (card region : ℕ) → Holds (table_of_history l entries) card region → HeldSince l entries card region
 since_now l entries card region h =
     record {
       moment = length entries;
       within = omega arith;
       since = subst (All (λ x. Clears region x → ⊥)) (sym (drop_all (length entries) entries (omega arith))) (All-nil (λ x. Clears region x → ⊥));
-      held = subst (λ es. Holds (table_of l es) card region) (sym (take_all (length entries) entries (omega arith))) h;
+      held = subst (λ es. Holds (table_of_history l es) card region) (sym (take_all (length entries) entries (omega arith))) h;
     }
 
 -- each recorded card held since the last clear
 module _ (l : Shape) (some : HasSlots l) where
   Since : List Entry → Type 0
-  Since entries = (card region : ℕ) → IsRecorded (table_of l entries) card region → HeldSince l entries card region
+  Since entries = (card region : ℕ) → IsRecorded (table_of_history l entries) card region → HeldSince l entries card region
 
   since_none : Since []
   unfolding Since
@@ -70,7 +70,7 @@ module _ (l : Shape) (some : HasSlots l) where
   since_step : (entries : List Entry) (e : Entry) → Since entries → Since (entries ++ e ∷ [])
   unfolding Since
   since_step entries e known card region h =
-      let t : Table = table_of l entries in
+      let t : Table = table_of_history l entries in
       let u : Table = refined e.refined (written e.call t) in
       let after : IsRecorded (table_after t e) card region = subst (λ t. IsRecorded t card region) (table_of_push l entries e) h in
       let here : Holds (table_after t e) card region → HeldSince l (entries ++ e ∷ []) card region = λ h. since_now l (entries ++ e ∷ []) card region (subst (λ t. Holds t card region) (sym (table_of_push l entries e)) h) in
@@ -86,17 +86,17 @@ module _ (l : Shape) (some : HasSlots l) where
         ]
       ]
     where
-      u_layout : (entries : List Entry) (e : Entry) → (refined e.refined (written e.call (table_of l entries))).layout ≡ l
-      u_layout entries e = written_layout e.call (table_of l entries) ∙ run_layout (opening l) entries
+      u_layout : (entries : List Entry) (e : Entry) → (refined e.refined (written e.call (table_of_history l entries))).layout ≡ l
+      u_layout entries e = written_layout e.call (table_of_history l entries) ∙ run_layout (opening l) entries
 
-  pub recorded_since : (entries : List Entry) (card region : ℕ) → IsRecorded (table_of l entries) card region → HeldSince l entries card region
+  pub recorded_since : (entries : List Entry) (card region : ℕ) → IsRecorded (table_of_history l entries) card region → HeldSince l entries card region
   unfolding Since
   recorded_since = by_push Since since_none since_step
 
   -- a whole drain is exact
-  module _ (entries : List Entry) (run : IsPermitted (opening l) entries) (caller region : ℕ) (cards done : List ℕ) (allowed : IsAllowed (table_of l entries) (drained caller region cards done)) where
+  module _ (entries : List Entry) (run : IsPermitted (opening l) entries) (caller region : ℕ) (cards done : List ℕ) (allowed : IsAllowed (table_of_history l entries) (drained caller region cards done)) where
     abbrev now : Table
-    now = table_of l entries
+    now = table_of_history l entries
 
     abbrev after : Table
     after = refined done now

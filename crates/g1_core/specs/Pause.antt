@@ -12,8 +12,8 @@ use Rattle.g1_core.specs.Machine.{State, Machine}
 use Rattle.g1_core.specs.Turns.{is_dirty}
 
 -- the ring with other cards in it
-abbrev pub with_cards : Ring → List ℕ → Ring
-with_cards ring cards =
+abbrev pub ring_with : Ring → List ℕ → Ring
+ring_with ring cards =
     record { counts = ring.counts; cards = cards; limit = ring.limit; capacity = ring.capacity }
 
 -- the dirty cards below a bound, ascending
@@ -36,7 +36,7 @@ pub record IsDrainOrder (s : State) (cards left : List ℕ) : Type 0 where
 pub record Drains (old : Machine) (cards : List ℕ) (tried : ℕ) (new : Machine) : Type 0 where
   pub refines : AreRefinable old.state.table cards
   pub table : new.state.table ≡ refined cards old.state.table
-  pub ring : new.state.ring ≡ with_cards old.state.ring new.state.ring.cards
+  pub ring : new.state.ring ≡ ring_with old.state.ring new.state.ring.cards
   pub settings : new.settings ≡ old.settings
   pub reads : new.reads ≡ reads_after old.reads (tried * old.state.table.layout.slots)
 
@@ -56,7 +56,7 @@ pub record IsWholeDrain (old : Machine) (cards : List ℕ) (new : Machine) : Typ
   pub refines : AreRefinable old.state.table cards
   pub table : new.state.table ≡ refined cards old.state.table
   pub nothing : new.state.table.pending ≡ set.empty
-  pub ring : new.state.ring ≡ reset (with_cards old.state.ring [])
+  pub ring : new.state.ring ≡ reset (ring_with old.state.ring [])
   pub settings : new.settings ≡ old.settings
   pub reads : new.reads ≡ reads_after old.reads (length cards * old.state.table.layout.slots)
 

@@ -9,7 +9,7 @@ use Rattle.g1_core.specs.declared.reply.Redirected.{Redirected}
 use Rattle.g1_core.specs.declared.reply.Redirected.TheVariants.{Moved, Short}
 use Rattle.g1_core.specs.Table.{enters, moved, refined}
 use Rattle.g1_core.specs.Machine.{Machine}
-use Rattle.g1_core.specs.Pause.{IsDrainOrder, with_cards}
+use Rattle.g1_core.specs.Pause.{IsDrainOrder, ring_with}
 use Rattle.g1_core.specs.Clearing.{member_count}
 
 -- the change of a slot that refers to this, if it lies outside the region and refers into it
@@ -65,7 +65,7 @@ pub record IsWholeRedirect (old : Machine) (from to : ℕ) (cards : List ℕ)
     (new : Machine) : Type 0 where
   pub order : IsDrainOrder old.state cards []
   pub table : new.state.table ≡ moved from to (refined cards old.state.table)
-  pub ring : new.state.ring ≡ reset (with_cards old.state.ring [])
+  pub ring : new.state.ring ≡ reset (ring_with old.state.ring [])
   pub settings : new.settings ≡ old.settings
   pub reads : new.reads ≤ old.reads
       + (length cards + member_count (refined cards old.state.table) from)
@@ -76,7 +76,7 @@ pub record IsShortRedirect (old : Machine) (from : ℕ) (cards : List ℕ)
     (new : Machine) : Type 0 where
   pub order : IsDrainOrder old.state cards new.state.ring.cards
   pub table : new.state.table ≡ refined cards old.state.table
-  pub ring : new.state.ring ≡ with_cards old.state.ring new.state.ring.cards
+  pub ring : new.state.ring ≡ ring_with old.state.ring new.state.ring.cards
   pub settings : new.settings ≡ old.settings
   pub reads : new.reads ≤ old.reads
       + (length cards + member_count (refined cards old.state.table) from + 1)

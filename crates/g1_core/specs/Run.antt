@@ -131,8 +131,8 @@ pub record IsStep (old : Table) (e : Entry) (new : Table) : Type 0 where
   pub after : new ≡ table_after old e
 
 -- The table that a history leaves.
-abbrev pub table_of : Shape → List Entry → Table
-table_of layout entries = fold table_after (opening layout) entries
+abbrev pub table_of_history : Shape → List Entry → Table
+table_of_history layout entries = fold table_after (opening layout) entries
 
 -- A permitted run: each step is allowed.
 abbrev pub IsPermitted : Table → List Entry → Type 0
@@ -154,7 +154,7 @@ pub record HeldSince (layout : Shape) (entries : List Entry) (card region : ℕ)
   pub moment : ℕ
   pub within : moment ≤ length entries
   pub since : All (λ e. Clears region e → ⊥) (drop moment entries)
-  pub held : Holds (table_of layout (take moment entries)) card region
+  pub held : Holds (table_of_history layout (take moment entries)) card region
 
 -- What a drain of the region answers after these entries: ascending, every card that holds into it
 -- now, and only cards that held into it since its set was last cleared.
@@ -162,5 +162,5 @@ pub record IsExact (layout : Shape) (entries : List Entry) (region : ℕ)
     (cards : List ℕ) : Type 0 where
   pub ascending : IsStrictlyIncreasing cards
   pub outside : (card : ℕ) → Contains cards card → region_of_card layout card ≢ region
-  pub every : (card : ℕ) → Holds (table_of layout entries) card region → Contains cards card
+  pub every : (card : ℕ) → Holds (table_of_history layout entries) card region → Contains cards card
   pub only : (card : ℕ) → Contains cards card → HeldSince layout entries card region

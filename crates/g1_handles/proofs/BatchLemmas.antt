@@ -4,7 +4,7 @@ use Rattle.std.proofs.Math.Seq.{take-suc}
 use Rattle.arrayvec.specs.ArrayVec.{array_vec_len}
 use Rattle.g1_layout.specs.declared.kind.Kind.{Kind}
 use Rattle.std.proofs.lemmas.List.{length-take, get_or_default}
-use Rattle.g1_race_words.specs.Rule.{card_of}
+use Rattle.g1_race_words.specs.Rule.{slot_card}
 use Rattle.g1_race.specs.Members.{is_logged, race_shape}
 use Rattle.g1_race.specs.declared.race.Race.{Race}
 use Rattle.g1_race.specs.Members.{race_layout}
@@ -43,7 +43,7 @@ one_more xs ys card false e = omega (arith, ap length e)
 pub stores_logged : (a b : Racing) (ss : List Store) → StoresAll a ss b → array_vec_len b.racer.log ≤ array_vec_len a.racer.log + length ss
 stores_logged a b [] e = let same : array_vec_len b.racer.log ≡ array_vec_len a.racer.log = ap (λ (x : Racing). array_vec_len x.racer.log) e in omega (arith, same)
 stores_logged a b (s ∷ ss) (c, k, h, rest) =
-    omega (arith, one_more a.racer.log.items c.racer.log.items (card_of (race_shape (racer_race_of a)) s.slot) (is_logged k) h.log, stores_logged c b ss rest)
+    omega (arith, one_more a.racer.log.items c.racer.log.items (slot_card (race_shape (racer_race_of a)) s.slot) (is_logged k) h.log, stores_logged c b ss rest)
 
 -- why there is no next store
 pub stores_end : (a b : Racing) (ss : List Store) (i : ℕ) (d : Store) (r : Refusal) (end : BatchEnd) → i < length ss → StoresAll a (take i ss) b

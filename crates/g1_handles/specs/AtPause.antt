@@ -73,7 +73,7 @@ pub record TellsMembers (heap : Halt) (region : ℕ) (cards : List ℕ) : Type 0
 
 -- all is refined, and these cards are every one that holds into the region, and only such or
 -- recorded ones
-pub record Drains (old : Halt) (region : ℕ) (new : Halt) (cards : List ℕ) : Type 0 where
+pub record DrainsAtPause (old : Halt) (region : ℕ) (new : Halt) (cards : List ℕ) : Type 0 where
   pub race : IsRefinedRace old new
   pub words : SlotsBecome same_word old new
   pub done : List ℕ

@@ -8,7 +8,8 @@ use Rattle.g1_layout.specs.Shape.{card_of}
 use Rattle.g1_core.specs.Machine.{Machine}
 use Rattle.g1_core.specs.Run.{kind_of}
 use Rattle.g1_handles.specs.declared.batch.Store.{Store}
-use Rattle.g1_handles.specs.Codes.{reference_of, stored_machine, IsStoreOf}
+use Rattle.g1_core.specs.Barrier.{stored_machine}
+use Rattle.g1_handles.specs.Codes.{reference_of, IsStoreOf}
 
 -- the machine after some stores, and the cards that they logged, in order
 pub record Made : Type 0 where

@@ -82,15 +82,6 @@ OfOpen (Some machine) Q = Q machine
 abbrev pub layout_of : Counts → Shape
 layout_of c = record { regions = c.regions; cards = c.cards; slots = c.slots }
 
--- a store changes the table, and nothing else
-abbrev pub stored_machine : Machine → ℕ → Option ℕ → Machine
-stored_machine m slot target =
-    record {
-      state = record { table = stored m.state.table slot target; ring = m.state.ring };
-      settings = m.settings;
-      reads = m.reads;
-    }
-
 -- the settings that C gives: the hot limit and the ring's size, and the defaults of the others
 abbrev pub settings_of : ℕ → ℕ → Settings
 settings_of hot ring = record { log = 256; limit = 10; hot = hot; ring = ring; start = 5 }

@@ -9,9 +9,9 @@ use Rattle.g1_race.specs.declared.race.Racer.{Racer}
 use Rattle.g1_race.specs.declared.race.Sweeper.{Sweeper}
 use Rattle.g1_race_words.specs.declared.view.View.{View}
 use Rattle.g1_race.specs.Over.{Ended}
-use Rattle.g1_race_words.specs.Rule.{IsWord, card_of}
+use Rattle.g1_race_words.specs.Rule.{IsWord, slot_card}
 use Rattle.g1_race_words.specs.Seats.{IsFound}
-use Rattle.g1_race.specs.Race.{word_of, stored, IsKnown, IsOver}
+use Rattle.g1_race.specs.Race.{word_of, stored_view, IsKnown, IsOver}
 use Rattle.g1_race_words.specs.Steps.{nothing}
 use Rattle.g1_race.specs.Members.{race_layout, race_begun, race_shape, racer_view}
 use Rattle.g1_race.specs.Members.{sweeper_start, sweeper_view, IsKind, is_logged}
@@ -67,16 +67,16 @@ sweeper_race_of b = b.race
 pub record Stores (a : Racing) (p : ℕ) (t : Option ℕ) (k : Kind) (b : Racing) : Type 0 where
   pub race : racer_race_of b ≡ racer_race_of a
   pub kind : IsKind (race_shape (racer_race_of a)) p t k
-  pub view : racer_view b.racer ≡ stored (race_shape (racer_race_of a)) (racer_view a.racer) p
+  pub view : racer_view b.racer ≡ stored_view (race_shape (racer_race_of a)) (racer_view a.racer) p
       (word_of t) (is_logged k)
   pub log : b.racer.log.items ≡ (if is_logged k
-      then a.racer.log.items ++ card_of (race_shape (racer_race_of a)) p ∷ []
+      then a.racer.log.items ++ slot_card (race_shape (racer_race_of a)) p ∷ []
       else a.racer.log.items)
 
 -- a racer before and after it stored this word of data to slot p, which had the old word
 pub record StoresData (a : Racing) (p word old : ℕ) (b : Racing) : Type 0 where
   pub race : racer_race_of b ≡ racer_race_of a
-  pub view : racer_view b.racer ≡ stored (race_shape (racer_race_of a)) (racer_view a.racer) p
+  pub view : racer_view b.racer ≡ stored_view (race_shape (racer_race_of a)) (racer_view a.racer) p
       word false
   pub log : b.racer.log.items ≡ a.racer.log.items
   pub found : IsFound (racer_view a.racer) p old
@@ -103,9 +103,9 @@ abbrev pub held_sweepers : List SweeperHandle → List (Option SweeperMember)
 held_sweepers hs = map (λ h. h.value) hs
 
 -- what this racer or sweeper knows
-abbrev pub view_of : {P : Type 0} → Ghosts P → Option P → View
-view_of g None = nothing
-view_of g (Some part) = g.view part
+abbrev pub part_view : {P : Type 0} → Ghosts P → Option P → View
+part_view g None = nothing
+part_view g (Some part) = g.view part
 
 -- the handles are closed
 abbrev pub AreClosed : {A : Type 0} → List (Option A) → Type 0
@@ -128,7 +128,7 @@ module _ {P : Type 0} {g : Ghosts P} where
 
   -- what the racer or the sweeper behind a handle knows
   abbrev pub known_to : Option (Member P g) → View
-  known_to m = view_of g (part_in m)
+  known_to m = part_view g (part_in m)
 
 -- what is left of a race that ended with racers and sweepers who know this
 pub record IsEndOf (race : Race) (racers sweepers : List View) (e : Ended) : Type 0 where

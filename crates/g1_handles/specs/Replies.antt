@@ -64,8 +64,8 @@ pub record RedirectsTo (old : Machine) (from to : ℕ) (answer : Redirected)
   pub later : IsLater old new
 
 -- Nothing but the count of reads has changed.
-abbrev pub IsLeft : Option Machine → Option Machine → Type 0
-IsLeft None None = ⊤
-IsLeft None (Some new) = ⊥
-IsLeft (Some old) None = ⊥
-IsLeft (Some old) (Some new) = IsOnlyRead old new
+abbrev pub AreOnlyRead : Option Machine → Option Machine → Type 0
+AreOnlyRead None None = ⊤
+AreOnlyRead None (Some new) = ⊥
+AreOnlyRead (Some old) None = ⊥
+AreOnlyRead (Some old) (Some new) = IsOnlyRead old new

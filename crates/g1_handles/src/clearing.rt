@@ -3,7 +3,7 @@ ghost use Rattle.std.specs.Prelude.{◌≡◌, ◌<◌, Some, IfOk, IfErr, OnErr
 ghost use Rattle.g1_core.specs.Machine.{IsOnlyRead};
 ghost use Rattle.g1_handles.specs.Codes.{Between, cleared_of, IsClearWord};
 ghost use Rattle.g1_handles.specs.Refusals.{IsClearRefused};
-ghost use Rattle.g1_handles.specs.Replies.{ClearsTo, IsLeft};
+ghost use Rattle.g1_handles.specs.Replies.{ClearsTo, AreOnlyRead};
 
 use crate::any_handle::{closed, into_box, opened};
 use crate::code::{DONE, Refusal};
@@ -25,7 +25,7 @@ pub fn clear_in(handle: Handle, words: (Global, u32)) -> (Handle, Result<(u32, u
         Between handle.value result.0.value (λ old new.
         ClearsTo old words.1 (cleared_of answer.0 answer.1) new)) }
     ensures words { IfOk result.1 (λ answer. IsClearWord answer.0 answer.1) }
-    ensures left { IfOk result.1 (λ answer. 0 < answer.0 → IsLeft handle.value result.0.value) }
+    ensures left { IfOk result.1 (λ answer. 0 < answer.0 → AreOnlyRead handle.value result.0.value) }
     ensures why { IfErr result.1 (λ refusal. IsClearRefused handle.value words.1 refusal) }
     ensures refused { OnErr result.1 (result.0.value ≡ handle.value) }
 {

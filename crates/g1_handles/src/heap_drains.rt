@@ -1,6 +1,6 @@
 //! Refinement and drains at a pause.
 ghost use Rattle.std.specs.Prelude.{◌≡◌, ◌<◌, ◌⊎◌, IfOk, IfErr, OnErr};
-ghost use Rattle.g1_handles.specs.AtPause.{IsKept, Drains, Refines, LacksRegion};
+ghost use Rattle.g1_handles.specs.AtPause.{IsKept, DrainsAtPause, Refines, LacksRegion};
 ghost use Rattle.g1_handles.specs.Queries.{Lists};
 
 use crate::at_pause::PausedHeap;
@@ -19,7 +19,7 @@ pub fn drain_at(
     region: u32,
     room: usize,
 ) -> Result<Listed, Refusal>
-    ensures drained { IfOk result (Lists (Drains heap.old region heap.new) room) }
+    ensures drained { IfOk result (Lists (DrainsAtPause heap.old region heap.new) room) }
     ensures why { IfErr result (λ refusal. LacksRegion heap.old region refusal
         ⊎ (refusal ≡ Refusal.NoMemory)) }
     ensures refused { OnErr result (heap.new ≡ heap.old) }

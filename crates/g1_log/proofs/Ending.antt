@@ -8,7 +8,7 @@ use Rattle.crossbeam_queue.specs.Fifo.{Pops, Learns}
 use Rattle.g1_log.specs.declared.parcel.Parcel.{Parcel}
 use Rattle.g1_log.specs.declared.view.Sent.{Sent}
 use Rattle.g1_log.specs.declared.view.View.{View}
-use Rattle.g1_log.specs.Line.{numbered, put_weight, taken_weight, holding, Rises, whole, IsDelivered, read, IsLineState, IsLeft, drained}
+use Rattle.g1_log.specs.Line.{numbered, put_weight, taken_weight, holding, Rises, whole, IsDelivered, with_keeper, IsLineState, IsLeft, ended_view}
 use Rattle.g1_log.proofs.Sums.{at_most_total, only}
 use Rattle.g1_log.proofs.Parcels.{rises_without}
 use Rattle.g1_log.proofs.Views.{read_set, read_at}
@@ -29,10 +29,10 @@ left_known items views port v all h at = record {
 }
 
 pub learns_left : (port : ℕ) (v : View) → v.rights ≡ whole → v.fresh ≡ false → Learns IsLineState port v (IsLeft v)
-learns_left port v all known items views h at = left_known items (read views) port v all h (read_at views port v known at)
+learns_left port v all known items views h at = left_known items (with_keeper views) port v all h (read_at views port v known at)
 
 drain_keeps : (items : List Parcel) (views : List View) (port : ℕ) (v : View) (x : Parcel) → v.rights ≡ whole → IsDelivered (x ∷ items) views → get_elem? views port ≡ some v
-    → IsDelivered items (set views port (drained v x items))
+    → IsDelivered items (set views port (ended_view v x items))
 drain_keeps items views port v x all h at =
     pop_keeps items views port v x ((x ∷ []) ∷ v.taken) true items (let w : whole ≡ 20 = refl in omega arith)
     (λ k. omega (arith, sum_by-cons (sum_by k) (x ∷ []) v.taken))
@@ -40,22 +40,22 @@ drain_keeps items views port v x all h at =
     (λ _. (all, refl))
     h at
 
-pub ends : (port : ℕ) (v : View) → v.rights ≡ whole → v.fresh ≡ false → Pops IsLineState port v (λ x w. (w ≡ drained v x w.rest) × IsLeft v (x ∷ w.rest))
+pub ends : (port : ℕ) (v : View) → v.rights ≡ whole → v.fresh ≡ false → Pops IsLineState port v (λ x w. (w ≡ ended_view v x w.rest) × IsLeft v (x ∷ w.rest))
 ends port v all known x items views h at =
     let inside = read_at views port v known at in (
-      drained v x items,
-      subst (IsDelivered items) (sym (read_set views port (drained v x items) known)) (drain_keeps items (read views) port v x all h inside),
-      (refl, left_known (x ∷ items) (read views) port v all h inside),
+      ended_view v x items,
+      subst (IsDelivered items) (sym (read_set views port (ended_view v x items) known)) (drain_keeps items (with_keeper views) port v x all h inside),
+      (refl, left_known (x ∷ items) (with_keeper views) port v all h inside),
     )
 
 pub learns_rest : (port : ℕ) (v : View) → v.ended ≡ true → v.fresh ≡ false → Learns IsLineState port v (λ items. v.rest ≡ items)
 learns_rest port v e known items views h at = ((h.each port v (read_at views port v known at)).settled e).1
 
-pub drains : (port : ℕ) (v : View) → v.ended ≡ true → v.fresh ≡ false → Pops IsLineState port v (λ x w. (w ≡ drained v x w.rest) × (v.rest ≡ x ∷ w.rest))
+pub drains : (port : ℕ) (v : View) → v.ended ≡ true → v.fresh ≡ false → Pops IsLineState port v (λ x w. (w ≡ ended_view v x w.rest) × (v.rest ≡ x ∷ w.rest))
 drains port v e known x items views h at =
     let inside = read_at views port v known at in
     let s = (h.each port v inside).settled e in (
-      drained v x items,
-      subst (IsDelivered items) (sym (read_set views port (drained v x items) known)) (drain_keeps items (read views) port v x s.0 h inside),
+      ended_view v x items,
+      subst (IsDelivered items) (sym (read_set views port (ended_view v x items) known)) (drain_keeps items (with_keeper views) port v x s.0 h inside),
       (refl, s.1),
     )

@@ -9,7 +9,7 @@ use Rattle.crossbeam_queue.proofs.Lists.{at_set, set_else}
 use Rattle.g1_log.specs.declared.parcel.Parcel.{Parcel}
 use Rattle.g1_log.specs.declared.view.Sent.{Sent}
 use Rattle.g1_log.specs.declared.view.View.{View}
-use Rattle.g1_log.specs.Line.{one_if, numbered, put_weight, taken_weight, holding, Rises, whole, Fits, IsDelivered, newcomer, keeper, read, IsLineState, joined, spent}
+use Rattle.g1_log.specs.Line.{one_if, numbered, put_weight, taken_weight, holding, Rises, whole, Fits, IsDelivered, newcomer, keeper, with_keeper, IsLineState, joined, spent}
 use Rattle.g1_log.proofs.Sums.{total_set, two_at_most_total}
 use Rattle.g1_log.proofs.Views.{read_set, read_at}
 
@@ -53,7 +53,7 @@ pub merges : (port : ℕ) (v : View) (other : ℕ) (u : View) → v.fresh ≡ fa
 merges port v other u known known' right items views h at apart there =
     let both = joined v u in
     let one = read_set views port both refl in
-    let keeps = merge_keeps items (read views) port other v u right apart h (read_at views port v known at)
+    let keeps = merge_keeps items (with_keeper views) port other v u right apart h (read_at views port v known at)
     (ap (λ vs. get_elem? vs other) (sym one) ∙ read_at (set views port both) other u known' there) in
     subst (IsDelivered items) (ap (λ vs. set vs other spent) (sym one) ∙ sym (read_set (set views port both) other spent refl)) keeps
 
@@ -72,7 +72,7 @@ merges_newcomer (suc port) other u known right items (x ∷ xs) h at apart there
     let both = joined newcomer u in
     let views : List View = x ∷ xs in
     let one = read_set views (suc port) both refl in
-    let keeps = merge_keeps items (read views) (suc port) other newcomer u right apart h at
+    let keeps = merge_keeps items (with_keeper views) (suc port) other newcomer u right apart h at
     (ap (λ vs. get_elem? vs other) (sym one) ∙ read_at (set views (suc port) both) other u known there) in
     subst (IsDelivered items) (ap (λ vs. set vs other spent) (sym one) ∙ sym (read_set (set views (suc port) both) other spent refl)) keeps
 

@@ -9,7 +9,7 @@ use Rattle.crossbeam_queue.specs.Fifo.{Forks, Admits}
 use Rattle.crossbeam_queue.proofs.Lists.{at_set, at_snoc}
 use Rattle.g1_log.specs.declared.parcel.Parcel.{Parcel}
 use Rattle.g1_log.specs.declared.view.View.{View}
-use Rattle.g1_log.specs.Line.{one_if, put_weight, taken_weight, holding, Rises, whole, Fits, IsDelivered, newcomer, keeper, read, IsLineState, maker, sender_made, new_sender, taker_made, new_taker}
+use Rattle.g1_log.specs.Line.{one_if, put_weight, taken_weight, holding, Rises, whole, Fits, IsDelivered, newcomer, keeper, with_keeper, IsLineState, maker, sender_made, new_sender, taker_made, new_taker}
 use Rattle.g1_log.proofs.Sums.{total_set}
 use Rattle.g1_log.proofs.Views.{read_set, read_at, read_snoc, one_if_le, set_there}
 
@@ -26,7 +26,7 @@ add_newcomer items views h = record {
 
 pub admits : Admits IsLineState newcomer
 admits items [] h = absurd (let r = h.rights in omega arith)
-admits items (x ∷ xs) h = add_newcomer items (read (x ∷ xs)) h
+admits items (x ∷ xs) h = add_newcomer items (with_keeper (x ∷ xs)) h
 
 pub begins : IsLineState [] (newcomer ∷ [])
 begins = record {
@@ -75,7 +75,7 @@ makes_sender port r n more items views h at =
     let v = maker r n in let l = sender_made (maker r n) in let new = new_sender n in
     let inside = read_at views port v refl at in
     let f = h.each port v inside in
-    let keeps = fork_keeps items (read views) port v l new (omega arith) (λ j. let o = one_more n j in omega arith) (λ k. (refl, refl))
+    let keeps = fork_keeps items (with_keeper views) port v l new (omega arith) (λ j. let o = one_more n j in omega arith) (λ k. (refl, refl))
     (record { idle = λ z. absurd (omega arith); rises = f.rises; settled = λ z. absurd (true≢false (sym z)) })
     (record { idle = λ z. absurd (let q : 1 ≡ 0 = z in omega arith); rises = All-nil (λ m. Rises (m ++ items)); settled = λ z. absurd (true≢false (sym z)) })
     h inside in
@@ -86,7 +86,7 @@ makes_taker port r n more items views h at =
     let v = maker r n in let l = taker_made (maker r n) in let new = new_taker in
     let inside = read_at views port v refl at in
     let f = h.each port v inside in
-    let keeps = fork_keeps items (read views) port v l new (omega arith) (λ j. omega arith) (λ k. (refl, refl))
+    let keeps = fork_keeps items (with_keeper views) port v l new (omega arith) (λ j. omega arith) (λ k. (refl, refl))
     (record { idle = λ z. absurd (omega arith); rises = f.rises; settled = λ z. absurd (true≢false (sym z)) })
     (record { idle = λ z. absurd (let q : 1 ≡ 0 = z in omega arith); rises = All-cons (λ m. Rises (m ++ items)) [] [] h.rises (All-nil (λ m. Rises (m ++ items))); settled = λ z. absurd (true≢false (sym z)) })
     h inside in

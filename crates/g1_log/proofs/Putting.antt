@@ -12,7 +12,7 @@ use Rattle.g1_log.specs.declared.buffer.Buffer.{Buffer}
 use Rattle.g1_log.specs.declared.parcel.Parcel.{Parcel}
 use Rattle.g1_log.specs.declared.view.Sent.{Sent}
 use Rattle.g1_log.specs.declared.view.View.{View}
-use Rattle.g1_log.specs.Line.{one_if, parcel, numbered, put_weight, taken_weight, holding, Rises, Fits, IsDelivered, read, IsLineState, SeenBy, put_by, IsSenderView, after_put}
+use Rattle.g1_log.specs.Line.{one_if, parcel, numbered, put_weight, taken_weight, holding, Rises, Fits, IsDelivered, with_keeper, IsLineState, SeenBy, put_by, IsSenderView, after_put}
 use Rattle.g1_log.proofs.Sums.{total_set, at_most_total, two_at_most_total, all_none, only}
 use Rattle.g1_log.proofs.Parcels.{rises_push, numbered_push, over, over_none, numbered_below, view_other}
 use Rattle.g1_log.proofs.Views.{read_set, read_at}
@@ -97,13 +97,13 @@ push_keeps items views port i v b is h at =
 
 pub puts : (n port i k : ℕ) (v : View) (b : Buffer) → IsSenderView i v → length (put_by v) ≡ k → Pushes IsLineState n port v (parcel i k b) (λ w. w ≡ after_put i v (parcel i k b))
 puts n port i k v b is count items views room h at =
-    let keeps = push_keeps items (read views) port i v b is h (read_at views port v is.known at) in
+    let keeps = push_keeps items (with_keeper views) port i v b is h (read_at views port v is.known at) in
     let x : ℕ → Parcel = λ m. parcel i m b in (
       after_put i v (parcel i k b),
       subst (IsDelivered (items ++ parcel i k b ∷ [])) (sym (read_set views port (after_put i v (parcel i k b)) is.known))
-          (subst (λ m. IsDelivered (items ++ x m ∷ []) (set (read views) port (after_put i v (x m)))) count keeps),
+          (subst (λ m. IsDelivered (items ++ x m ∷ []) (set (with_keeper views) port (after_put i v (x m)))) count keeps),
       refl,
     )
 
 pub learns : (port : ℕ) (v : View) → v.fresh ≡ false → Learns IsLineState port v (SeenBy v)
-learns port v known items views h at = (read views, port, h, read_at views port v known at)
+learns port v known items views h at = (with_keeper views, port, h, read_at views port v known at)

@@ -10,7 +10,7 @@ use Rattle.crossbeam_queue.specs.Fifo.{Held}
 use Rattle.g1_log.specs.declared.buffer.Buffer.{Buffer}
 use Rattle.g1_log.specs.declared.ends.Sender.{Sender}
 use Rattle.g1_log.specs.declared.ends.Taker.{Taker}
-use Rattle.g1_log.specs.Line.{one_if, numbered, put_weight, taken_weight, put_by, taken_by, Rises, newcomer, joined, drained, IsLeft, whole}
+use Rattle.g1_log.specs.Line.{one_if, numbered, put_weight, taken_weight, put_by, taken_by, Rises, newcomer, joined, ended_view, IsLeft, whole}
 use Rattle.g1_log.specs.Ends.{sender_view, taker_view, sender_rights, AreAll, ahead_and, put_of, taken_of, number_of}
 
 pub sum_by-map : {X Y : Type 0} (f : Y → ℕ) (g : X → Y) (xs : List X) → sum_by f (map g xs) ≡ sum_by (λ x. f (g x)) xs
@@ -164,7 +164,7 @@ module _ (ss : List Sender) (ts : List Taker) (all : AreAll ss ts) where
 -- What the first take of a view with all rights tells
 
 abbrev pub Ended : Option Parcel → View → View → Type 0
-Ended o v w = MatchOption o ((w ≡ v) × Held 0 (IsLeft v)) (λ x. (w ≡ drained v x w.rest) × IsLeft v (x ∷ w.rest))
+Ended o v w = MatchOption o ((w ≡ v) × Held 0 (IsLeft v)) (λ x. (w ≡ ended_view v x w.rest) × IsLeft v (x ∷ w.rest))
 
 none_left : (items : List Parcel) → length items ≡ 0 → items ≡ []
 none_left [] e = refl

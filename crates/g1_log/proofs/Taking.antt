@@ -9,7 +9,7 @@ use Rattle.crossbeam_queue.specs.Fifo.{Pops}
 use Rattle.crossbeam_queue.proofs.Lists.{at_set}
 use Rattle.g1_log.specs.declared.parcel.Parcel.{Parcel}
 use Rattle.g1_log.specs.declared.view.View.{View}
-use Rattle.g1_log.specs.Line.{put_weight, taken_weight, holding, Rises, whole, Fits, IsDelivered, view_of, read, IsLineState, taken_by, IsTakerView, after_take}
+use Rattle.g1_log.specs.Line.{put_weight, taken_weight, holding, Rises, whole, Fits, IsDelivered, view_with, with_keeper, IsLineState, taken_by, IsTakerView, after_take}
 use Rattle.g1_log.proofs.Sums.{total_set}
 use Rattle.g1_log.proofs.Parcels.{rises_without}
 use Rattle.g1_log.proofs.Views.{read_set, read_at}
@@ -20,9 +20,9 @@ pub pop_keeps : (items : List Parcel) (views : List View) (port : ℕ) (v : View
     → ((k : Parcel → ℕ) → sum_by (sum_by k) t ≡ sum_by (sum_by k) v.taken + k x)
     → All (λ l. Rises (l ++ items)) t
     → (e ≡ true → (v.rights ≡ whole) × (r ≡ items))
-    → IsDelivered (x ∷ items) views → get_elem? views port ≡ some v → IsDelivered items (set views port (view_of v.fresh v.rights v.makes v.made v.sent t e r))
+    → IsDelivered (x ∷ items) views → get_elem? views port ≡ some v → IsDelivered items (set views port (view_with v.fresh v.rights v.makes v.made v.sent t e r))
 pop_keeps items views port v x t e r right gains rise ends h at =
-    let w : View = view_of v.fresh v.rights v.makes v.made v.sent t e r in
+    let w : View = view_with v.fresh v.rights v.makes v.made v.sent t e r in
     record {
       rights = omega (arith, total_set (λ (u : View). u.rights) views port v w at, h.rights);
       numbers = λ j. omega (arith, total_set (holding j) views port v w at, h.numbers j);
@@ -50,7 +50,7 @@ takes port v is x items views h at =
     let inside = read_at views port v is.known at in
     let old : All (λ m. Rises (m ++ (x ∷ items))) (l ∷ []) = subst (All (λ m. Rises (m ++ (x ∷ items)))) is.takes ((h.each port v inside).rises) in
     let mine : Rises ((l ++ x ∷ []) ++ items) = subst Rises (sym (append_assoc l (x ∷ []) items)) (All-head (λ m. Rises (m ++ (x ∷ items))) l [] old) in
-    let keeps = pop_keeps items (read views) port v x ((l ++ x ∷ []) ∷ []) v.ended v.rest is.right
+    let keeps = pop_keeps items (with_keeper views) port v x ((l ++ x ∷ []) ∷ []) v.ended v.rest is.right
     (λ k. let a : sum_by (sum_by k) v.taken ≡ 0 + sum_by k l = ap (sum_by (sum_by k)) is.takes in omega (arith, sum_by_push k l x))
     (All-cons (λ m. Rises (m ++ items)) (l ++ x ∷ []) [] mine (All-nil (λ m. Rises (m ++ items))))
     (λ z. absurd (true≢false (sym z ∙ is.runs)))

@@ -3,21 +3,21 @@ use Rattle.std.proofs.Common.{◌≡◌, ℕ, zero, suc, ◌≤◌, Bool, true, 
 use mathlib.Core.Option.{some, some-injective, some-ne-none}
 use lib.ListN.{get_elem?}
 use Rattle.g1_log.specs.declared.view.View.{View}
-use Rattle.g1_log.specs.Line.{one_if, keeper, read}
+use Rattle.g1_log.specs.Line.{one_if, keeper, with_keeper}
 
-pub read_set : (views : List View) (port : ℕ) (w : View) → w.fresh ≡ false → read (set views port w) ≡ set (read views) port w
+pub read_set : (views : List View) (port : ℕ) (w : View) → w.fresh ≡ false → with_keeper (set views port w) ≡ set (with_keeper views) port w
 read_set [] port w e = refl
 read_set (x ∷ xs) zero w e = ap (λ (b : Bool). cond b keeper w ∷ xs) e
 read_set (x ∷ xs) (suc port) w e = refl
 
-pub read_at : (views : List View) (port : ℕ) (v : View) → v.fresh ≡ false → get_elem? views port ≡ some v → get_elem? (read views) port ≡ some v
+pub read_at : (views : List View) (port : ℕ) (v : View) → v.fresh ≡ false → get_elem? views port ≡ some v → get_elem? (with_keeper views) port ≡ some v
 read_at [] port v k e = absurd (some-ne-none v (sym e))
 read_at (x ∷ xs) zero v k e =
     let q : x ≡ v = some-injective x v e in
     ap (λ (y : View). some (cond y.fresh keeper y)) q ∙ ap (λ (b : Bool). some (cond b keeper v)) k
 read_at (x ∷ xs) (suc port) v k e = e
 
-pub read_snoc : (views : List View) (port : ℕ) (v w : View) → get_elem? views port ≡ some v → read (views ++ w ∷ []) ≡ read views ++ w ∷ []
+pub read_snoc : (views : List View) (port : ℕ) (v w : View) → get_elem? views port ≡ some v → with_keeper (views ++ w ∷ []) ≡ with_keeper views ++ w ∷ []
 read_snoc [] port v w e = absurd (some-ne-none v (sym e))
 read_snoc (x ∷ xs) port v w e = refl
 

@@ -25,11 +25,11 @@ abbrev pub added : Completed → List ℕ → Completed
 added d cards = record { limit = d.limit; buffers = d.buffers ++ cards ∷ [] }
 
 -- a buffer of these cards, or none where there are no cards
-abbrev pub buffer_of : List ℕ → List (List ℕ)
-buffer_of [] = []
-buffer_of (card ∷ cards) = (card ∷ cards) ∷ []
+abbrev pub buffer_if_some : List ℕ → List (List ℕ)
+buffer_if_some [] = []
+buffer_if_some (card ∷ cards) = (card ∷ cards) ∷ []
 
 -- the buffers without the first n cards of the oldest, and without it where none is left
 abbrev pub oldest_cut : ℕ → List (List ℕ) → List (List ℕ)
 oldest_cut n [] = []
-oldest_cut n (oldest ∷ others) = buffer_of (drop n oldest) ++ others
+oldest_cut n (oldest ∷ others) = buffer_if_some (drop n oldest) ++ others

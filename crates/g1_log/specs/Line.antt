@@ -78,9 +78,9 @@ pub record IsDelivered (items : List Parcel) (views : List View) : Type 0 where
   pub each : (port : ℕ) (v : View) → get_elem? views port ≡ some v → Fits items v
 
 -- a view by its fields
-abbrev pub view_of : Bool → ℕ → Bool → ℕ → List Sent → List (List Parcel) → Bool → List Parcel
+abbrev pub view_with : Bool → ℕ → Bool → ℕ → List Sent → List (List Parcel) → Bool → List Parcel
     → View
-view_of f r m n s t e l = record {
+view_with f r m n s t e l = record {
   fresh = f;
   rights = r;
   makes = m;
@@ -93,20 +93,20 @@ view_of f r m n s t e l = record {
 
 -- a pass that came by itself has no right
 abbrev pub newcomer : View
-newcomer = view_of true 0 false 0 [] [] false []
+newcomer = view_with true 0 false 0 [] [] false []
 
 -- the first pass has all rights and all sender numbers, and takes
 abbrev pub keeper : View
-keeper = view_of false whole true 0 [] ([] ∷ []) false []
+keeper = view_with false whole true 0 [] ([] ∷ []) false []
 
 -- the views, where a first one that is as it came is the keeper
-abbrev pub read : List View → List View
-read [] = []
-read (v ∷ vs) = cond v.fresh keeper v ∷ vs
+abbrev pub with_keeper : List View → List View
+with_keeper [] = []
+with_keeper (v ∷ vs) = cond v.fresh keeper v ∷ vs
 
 -- The rule of the line, as the queue keeps it between any two steps
 abbrev pub IsLineState : List Parcel → List View → Type 0
-IsLineState items views = IsDelivered items (read views)
+IsLineState items views = IsDelivered items (with_keeper views)
 
 -- there is a state by the rule of the line in which one view is v and the queue holds these parcels
 abbrev pub SeenBy : View → List Parcel → Type 0
@@ -149,40 +149,40 @@ pub record IsTakerView (v : View) : Type 0 where
 -- the view after a put of sender i
 abbrev pub after_put : ℕ → View → Parcel → View
 after_put i v x =
-    view_of v.fresh v.rights v.makes v.made
+    view_with v.fresh v.rights v.makes v.made
     (sent i (put_by v ++ x.buffer ∷ []) ∷ []) v.taken v.ended v.rest
 
 -- the view after a take
 abbrev pub after_take : View → Parcel → View
 after_take v x =
-    view_of v.fresh v.rights v.makes v.made v.sent ((taken_by v ++ x ∷ []) ∷ []) v.ended v.rest
+    view_with v.fresh v.rights v.makes v.made v.sent ((taken_by v ++ x ∷ []) ∷ []) v.ended v.rest
 
 -- the view of the pass that makes the ends, with these rights left and this many senders made
 abbrev pub maker : ℕ → ℕ → View
-maker r n = view_of false r true n [] ([] ∷ []) false []
+maker r n = view_with false r true n [] ([] ∷ []) false []
 
 -- the maker's view after it has made a sender, and that sender's view
 abbrev pub sender_made : View → View
-sender_made v = view_of v.fresh (v.rights - 1) v.makes (v.made + 1) v.sent v.taken v.ended v.rest
+sender_made v = view_with v.fresh (v.rights - 1) v.makes (v.made + 1) v.sent v.taken v.ended v.rest
 
 abbrev pub new_sender : ℕ → View
-new_sender i = view_of false 1 false 0 (sent i [] ∷ []) [] false []
+new_sender i = view_with false 1 false 0 (sent i [] ∷ []) [] false []
 
 -- the same for a taker
 abbrev pub taker_made : View → View
-taker_made v = view_of v.fresh (v.rights - 1) v.makes v.made v.sent v.taken v.ended v.rest
+taker_made v = view_with v.fresh (v.rights - 1) v.makes v.made v.sent v.taken v.ended v.rest
 
 abbrev pub new_taker : View
-new_taker = view_of false 1 false 0 [] ([] ∷ []) false []
+new_taker = view_with false 1 false 0 [] ([] ∷ []) false []
 
 -- two views as one
 abbrev pub joined : View → View → View
 joined v u =
-    view_of false (v.rights + u.rights) false 0 (v.sent ++ u.sent) (v.taken ++ u.taken) false []
+    view_with false (v.rights + u.rights) false 0 (v.sent ++ u.sent) (v.taken ++ u.taken) false []
 
 -- the view of a pass that was joined into another
 abbrev pub spent : View
-spent = view_of false 0 false 0 [] [] false []
+spent = view_with false 0 false 0 [] [] false []
 
 -- What a view with all rights knows of what the queue holds: it is what this view has put and not
 -- taken, however parcels are weighed, and the numbers of a sender rise in it, also after those of
@@ -194,5 +194,5 @@ pub record IsLeft (v : View) (items : List Parcel) : Type 0 where
   pub numbers : (i : ℕ) → sum_by (λ (s : Sent). one_if (s.number == i)) v.sent ≤ 1
 
 -- the view that has ended the line, after a take, where these parcels are left
-abbrev pub drained : View → Parcel → List Parcel → View
-drained v x l = view_of v.fresh v.rights v.makes v.made v.sent ((x ∷ []) ∷ v.taken) true l
+abbrev pub ended_view : View → Parcel → List Parcel → View
+ended_view v x l = view_with v.fresh v.rights v.makes v.made v.sent ((x ∷ []) ∷ v.taken) true l

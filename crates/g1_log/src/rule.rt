@@ -3,7 +3,7 @@
 ghost use Rattle.std.specs.Prelude.{◌≡◌, ◌∷◌};
 ghost use Rattle.g1_log.specs.Line.{IsLineState, newcomer, keeper, sender_made, new_sender};
 ghost use Rattle.g1_log.specs.Line.{taker_made, new_taker, joined, spent, SeenBy, after_put};
-ghost use Rattle.g1_log.specs.Line.{after_take, IsLeft, drained};
+ghost use Rattle.g1_log.specs.Line.{after_take, IsLeft, ended_view};
 
 use crate::parcel::Parcel;
 use crate::view::View;
@@ -84,7 +84,7 @@ impl Join<View> for Joins {
 pub struct Ends;
 
 impl Outcome<Parcel, View> for Ends {
-    ghost then = { λ v x w. (w ≡ drained v x w.rest) × IsLeft v (x ∷ w.rest) };
+    ghost then = { λ v x w. (w ≡ ended_view v x w.rest) × IsLeft v (x ∷ w.rest) };
 }
 
 impl Lesson<Parcel, View> for Ends {
@@ -95,7 +95,7 @@ impl Lesson<Parcel, View> for Ends {
 pub struct Drains;
 
 impl Outcome<Parcel, View> for Drains {
-    ghost then = { λ v x w. (w ≡ drained v x w.rest) × (v.rest ≡ x ∷ w.rest) };
+    ghost then = { λ v x w. (w ≡ ended_view v x w.rest) × (v.rest ≡ x ∷ w.rest) };
 }
 
 impl Lesson<Parcel, View> for Drains {

@@ -15,14 +15,14 @@ use Rattle.g1_core.specs.Table.{Enters}
 use Rattle.g1_core.specs.Run.{IsFirstInto}
 use Rattle.g1_core.proofs.SetLemmas.{pair_exact, same_pairs}
 use Rattle.g1_race_words.specs.declared.view.Shape.{Shape}
-use Rattle.g1_race_words.specs.Rule.{IsBegun, IsMarked, IsShape, IsPair, HasBit, bit_word, bit_place, card_of, crosses, flag, front, mark_word, word_count, pairs_up_to, region_at, start}
+use Rattle.g1_race_words.specs.Rule.{IsBegun, IsMarked, IsWholeShape, IsPair, HasBit, bit_word, bit_place, slot_card, crosses, flag, front, mark_word, word_count, pairs_up_to, region_at, new_start}
 use Rattle.g1_race.specs.Race.{shape_of}
 use Rattle.g1_race.specs.Over.{ended, refs_of, table_of}
 use Rattle.g1_core.specs.declared.entry.Call.TheVariants.{Clear}
 use Rattle.g1_core.specs.declared.entry.Reply.TheVariants as reply
 use Rattle.g1_core.specs.declared.reply.ClearReply.TheVariants.{Cleared}
 use Rattle.g1_core.specs.Run.{settled}
-use Rattle.g1_race.specs.Clearing.{Into, IsLeastInto, IsLeastOn, IsEmptied}
+use Rattle.g1_race.specs.Clearing.{Into, IsLeastInto, IsLeastOfCard, IsEmptied}
 use Rattle.g1_race_words.proofs.AtBeginning.{no_bit}
 use Rattle.g1_race_words.proofs.Places.{at_take, at_untake, reads_as}
 use Rattle.g1_race_words.proofs.Crossing.{crosses_reference}
@@ -33,31 +33,31 @@ use Rattle.g1_race.proofs.Ends.{crosses_apart, recorded_set, set_recorded, word_
 
 -- a slot of a region's member
 
-pub into_bit : (k : Shape) (words : List ℕ) (region p : ℕ) → IsBegun (start k words) → ((c : ℕ) → c < k.cards → get_elem? words (mark_word k c) ≡ some 1 → ⊥) → Into k words region p → HasBit k words (card_of k p, region)
+pub into_bit : (k : Shape) (words : List ℕ) (region p : ℕ) → IsBegun (new_start k words) → ((c : ℕ) → c < k.cards → get_elem? words (mark_word k c) ≡ some 1 → ⊥) → Into k words region p → HasBit k words (slot_card k p, region)
 into_bit k words region p h clean i = ⊎_elim
-    (λ (b : HasBit k words (card_of k p, region_at k i.0)). subst (λ (r : ℕ). HasBit k words (card_of k p, r)) i.4 b)
-    (λ (m : IsMarked k words p). absurd (clean (card_of k p) (card_below k p h.shaped i.1) m))
+    (λ (b : HasBit k words (slot_card k p, region_at k i.0)). subst (λ (r : ℕ). HasBit k words (slot_card k p, r)) i.4 b)
+    (λ (m : IsMarked k words p). absurd (clean (slot_card k p) (card_below k p h.shaped i.1) m))
     (h.covered p i.0 i.1 i.2 i.3)
 
-later : (k : Shape) (p q : ℕ) → 0 < k.size → card_of k p < card_of k q → p < q
+later : (k : Shape) (p q : ℕ) → 0 < k.size → slot_card k p < slot_card k q → p < q
 later k p q pos lt =
-    let a : p < card_of k q * k.size = (div-lt_iff_lt-mul pos).0 lt in
-    let b : card_of k q * k.size + q % k.size ≡ q = div-add-mod' q k.size in
-    let x : ℕ = card_of k q * k.size in let r : ℕ = q % k.size in let a' : p < x = a in let b' : x + r ≡ q = b in let goal : p < q = omega arith in goal
+    let a : p < slot_card k q * k.size = (div-lt_iff_lt-mul pos).0 lt in
+    let b : slot_card k q * k.size + q % k.size ≡ q = div-add-mod' q k.size in
+    let x : ℕ = slot_card k q * k.size in let r : ℕ = q % k.size in let a' : p < x = a in let b' : x + r ≡ q = b in let goal : p < q = omega arith in goal
 
 -- none on the cards below, and the least on this one
-pub least_found : (k : Shape) (words : List ℕ) (card region slot : ℕ) → 0 < k.size → ((p : ℕ) → card_of k p < card → Into k words region p → ⊥) → IsLeastOn k words card region (Some slot) → IsLeastInto k words region (Some slot)
-least_found k words card region slot pos below h = (h.1, λ q i. pick q i (ℕ_discrete (card_of k q) card))
+pub least_found : (k : Shape) (words : List ℕ) (card region slot : ℕ) → 0 < k.size → ((p : ℕ) → slot_card k p < card → Into k words region p → ⊥) → IsLeastOfCard k words card region (Some slot) → IsLeastInto k words region (Some slot)
+least_found k words card region slot pos below h = (h.1, λ q i. pick q i (ℕ_discrete (slot_card k q) card))
   where
-    pick : (q : ℕ) → Into k words region q → Dec (card_of k q ≡ card) → slot ≤ q
+    pick : (q : ℕ) → Into k words region q → Dec (slot_card k q ≡ card) → slot ≤ q
     pick q i (yes e) = h.2 q e i
-    pick q i (no ne) = elim (cases_lt (card_of k q) card) [
+    pick q i (no ne) = elim (cases_lt (slot_card k q) card) [
       | inl lt ↦ absurd (below q lt i)
-      | inr le ↦ let a : slot < q = later k slot q pos (let e : card_of k slot ≡ card = h.0 in omega (arith, e, le, ne)) in omega (arith, a)
+      | inr le ↦ let a : slot < q = later k slot q pos (let e : slot_card k slot ≡ card = h.0 in omega (arith, e, le, ne)) in omega (arith, a)
     ]
 
 -- a slot by its card
-pub by_card : (k : Shape) (q card : ℕ) → card_of k q ≡ card → card * k.size + q % k.size ≡ q
+pub by_card : (k : Shape) (q card : ℕ) → slot_card k q ≡ card → card * k.size + q % k.size ≡ q
 by_card k q card e = ap (λ (c : ℕ). c * k.size + q % k.size) (sym e) ∙ div-add-mod' q k.size
 
 -- a word of the region's row
@@ -65,15 +65,15 @@ by_card k q card e = ap (λ (c : ℕ). c * k.size + q % k.size) (sym e) ∙ div-
 abbrev pub row_word : Shape → ℕ → ℕ → ℕ
 row_word k region i = k.slots + k.cards + (region * k.row + i)
 
-row_apart : (k : Shape) (x : ℕ × ℕ) (region i : ℕ) → IsShape k → x.0 < k.cards → x.1 ≢ region → i < k.row → bit_word k x ≢ row_word k region i
+row_apart : (k : Shape) (x : ℕ × ℕ) (region i : ℕ) → IsWholeShape k → x.0 < k.cards → x.1 ≢ region → i < k.row → bit_word k x ≢ row_word k region i
 row_apart k x region i shaped card ne lt e = ne (
     let low : x.1 * k.row + x.0 / 64 ≡ region * k.row + i = (let n : ℕ = x.1 * k.row + x.0 / 64 in let m : ℕ = region * k.row + i in let g : k.slots + k.cards + n ≡ k.slots + k.cards + m = e in let goal : n ≡ m = omega arith in goal) in
     sym (div-mul-add x.1 k.row (x.0 / 64) (card_in_row k x.0 shaped card)) ∙ (ap (λ (n : ℕ). n / k.row) low ∙ div-mul-add region k.row i lt))
 
-pub row_below : (k : Shape) (region i : ℕ) → IsShape k → region ≤ k.regions → i < k.row → row_word k region i < word_count k
+pub row_below : (k : Shape) (region i : ℕ) → IsWholeShape k → region ≤ k.regions → i < k.row → row_word k region i < word_count k
 row_below k region i shaped le below = word_in_row k region i shaped le below
 
-module _ (k : Shape) (words : List ℕ) (region i : ℕ) (h : IsBegun (start k words)) (lt : region ≤ k.regions) (below : i < k.row) where
+module _ (k : Shape) (words : List ℕ) (region i : ℕ) (h : IsBegun (new_start k words)) (lt : region ≤ k.regions) (below : i < k.row) where
   abbrev less : List ℕ
   less = set words (row_word k region i) 0
 
@@ -98,15 +98,15 @@ module _ (k : Shape) (words : List ℕ) (region i : ℕ) (h : IsBegun (start k w
     | inr ne ↦ ap (λ (n : ℕ). bit_at n (bit_place k x)) (sym (same_word x ne)) ∙ b
   ]
 
-  pub begun_emptied : ((p : ℕ) → Into k words region p → ⊥) → (region ≡ k.regions → (c : ℕ) → c < k.cards → get_elem? words (mark_word k c) ≡ some 1 → ⊥) → IsBegun (start k less)
+  pub begun_emptied : ((p : ℕ) → Into k words region p → ⊥) → (region ≡ k.regions → (c : ℕ) → c < k.cards → get_elem? words (mark_word k c) ≡ some 1 → ⊥) → IsBegun (new_start k less)
   begun_emptied none clean = record {
     shaped = h.shaped;
     sized = length-set words (row_word k region i) 0 ∙ h.sized;
     bounded = λ p n low at. h.bounded p n low (sym (far p (omega (arith, low))) ∙ at);
     marks = λ c low. ⊎_elim (λ (m : get_elem? words (mark_word k c) ≡ some 1). inl (far (mark_word k c) (omega (arith, low)) ∙ m)) (λ (z : get_elem? words (mark_word k c) ≡ some 0). inr (far (mark_word k c) (omega (arith, low)) ∙ z)) (h.marks c low);
     covered = λ p n low at cr. let there = sym (far p (omega (arith, low))) ∙ at in ⊎_elim
-        (λ (b : HasBit k words (card_of k p, region_at k n)). inl (bit_on _ (row_apart k (card_of k p, region_at k n) region i h.shaped (crossing_pair k p n h.shaped low (h.bounded p n low there) cr).0 (λ e. none p (n, low, there, cr, e)) below) b))
-        (λ (m : IsMarked k words p). inr (far (mark_word k (card_of k p)) (let c = card_below k p h.shaped low in omega (arith, c)) ∙ m))
+        (λ (b : HasBit k words (slot_card k p, region_at k n)). inl (bit_on _ (row_apart k (slot_card k p, region_at k n) region i h.shaped (crossing_pair k p n h.shaped low (h.bounded p n low there) cr).0 (λ e. none p (n, low, there, cr, e)) below) b))
+        (λ (m : IsMarked k words p). inr (far (mark_word k (slot_card k p)) (let c = card_below k p h.shaped low in omega (arith, c)) ∙ m))
         (h.covered p n low there cr);
     proper = λ x pair b. h.proper x pair (bit_back x b);
     flagged = λ c low m. let was = sym (far (mark_word k c) (omega (arith, low))) ∙ m in
@@ -134,7 +134,7 @@ emptied_past k old words region i found at none g = record { front = g.front; ke
     pick x pair e up b (no ne) = g.clear x pair e (let n : ℕ = x.0 / 64 in let a : n < i + 1 = up in let c : n ≢ i = ne in let goal : n < i = omega (arith, a, c) in goal) b
 
 -- no slot refers into the region of the row of flags
-pub none_behind : (k : Shape) (words : List ℕ) (p : ℕ) → IsBegun (start k words) → Into k words k.regions p → ⊥
+pub none_behind : (k : Shape) (words : List ℕ) (p : ℕ) → IsBegun (new_start k words) → Into k words k.regions p → ⊥
 none_behind k words p h i = absurd (let pair = crossing_pair k p i.0 h.shaped i.1 (h.bounded p i.0 i.1 i.2) i.3 in omega (arith, pair.1, i.4))
 
 pub emptied_none : (k : Shape) (old : List ℕ) (region : ℕ) → IsEmptied k old old region 0
@@ -181,7 +181,7 @@ module _ (k : Shape) (l : layout.Shape) (laid : k ≡ shape_of l k.members) wher
   pub first_into : (words : List ℕ) (slot region : ℕ) → IsLeastInto k words region (Some slot) → IsFirstInto (table_of (ended l k words)) region slot
   first_into words slot region h = record { enters = word_enters words slot region h.0; least = λ other e. h.1 other (enters_word words other region e) }
 
-  pub cleared_is : (old new : List ℕ) (region : ℕ) → IsBegun (start k old) → IsBegun (start k new) → IsEmptied k old new region k.row → table_of (ended l k new) ≡ settled (Clear region) (reply.Clear Cleared) (table_of (ended l k old))
+  pub cleared_is : (old new : List ℕ) (region : ℕ) → IsBegun (new_start k old) → IsBegun (new_start k new) → IsEmptied k old new region k.row → table_of (ended l k new) ≡ settled (Clear region) (reply.Clear Cleared) (table_of (ended l k old))
   cleared_is old new region b h g = λ i. record {
     layout = l;
     refs = refs_of (record { layout = l; words = g.front i; pairs = pairs_up_to k new k.cards });
@@ -207,7 +207,7 @@ module _ (k : Shape) (l : layout.Shape) (laid : k ≡ shape_of l k.members) wher
 
 -- slot by slot of a card
 
-pub least_on : (k : Shape) (words : List ℕ) (card region i q : ℕ) → ((j : ℕ) → j < i → Into k words region (card * k.size + j) → ⊥) → card_of k q ≡ card → Into k words region q → card * k.size + i ≤ q
+pub least_on : (k : Shape) (words : List ℕ) (card region i q : ℕ) → ((j : ℕ) → j < i → Into k words region (card * k.size + j) → ⊥) → slot_card k q ≡ card → Into k words region q → card * k.size + i ≤ q
 least_on k words card region i q none e x = elim (cases_lt (q % k.size) i) [
   | inl lt ↦ absurd (none (q % k.size) lt (subst (Into k words region) (sym (by_card k q card e)) x))
   | inr le ↦ let b : card * k.size + q % k.size ≡ q = by_card k q card e in let y : ℕ = card * k.size in let r : ℕ = q % k.size in let b' : y + r ≡ q = b in let le' : i ≤ r = le in let goal : y + i ≤ q = omega arith in goal
@@ -223,9 +223,9 @@ none_next k words card region i r at never none j lt x = pick (ℕ_discrete j i)
         never (subst (λ (n : ℕ). crosses k (card * k.size + i) n ≡ true) same y.3, subst (λ (n : ℕ). region_at k n ≡ region) same y.4)
     pick (no ne) = none j (omega (arith, lt, ne)) x
 
-pub none_on : (k : Shape) (words : List ℕ) (card region i p : ℕ) → 0 < k.size → k.size ≤ i → ((j : ℕ) → j < i → Into k words region (card * k.size + j) → ⊥) → card_of k p ≡ card → Into k words region p → ⊥
+pub none_on : (k : Shape) (words : List ℕ) (card region i p : ℕ) → 0 < k.size → k.size ≤ i → ((j : ℕ) → j < i → Into k words region (card * k.size + j) → ⊥) → slot_card k p ≡ card → Into k words region p → ⊥
 none_on k words card region i p pos le none e x = none (p % k.size) (let m : p % k.size < k.size = mod-lt p pos in omega (arith, m, le)) (subst (Into k words region) (sym (by_card k p card e)) x)
 
 -- card by card
-pub none_below_next : (k : Shape) (words : List ℕ) (card region : ℕ) → ((p : ℕ) → card_of k p < card → Into k words region p → ⊥) → ((p : ℕ) → card_of k p ≡ card → Into k words region p → ⊥) → (p : ℕ) → card_of k p < card + 1 → Into k words region p → ⊥
-none_below_next k words card region below here p lt x = elim (cases_lt (card_of k p) card) [ inl a ↦ below p a x | inr b ↦ here p (let e : card_of k p ≡ card = omega (arith, b, lt) in e) x ]
+pub none_below_next : (k : Shape) (words : List ℕ) (card region : ℕ) → ((p : ℕ) → slot_card k p < card → Into k words region p → ⊥) → ((p : ℕ) → slot_card k p ≡ card → Into k words region p → ⊥) → (p : ℕ) → slot_card k p < card + 1 → Into k words region p → ⊥
+none_below_next k words card region below here p lt x = elim (cases_lt (slot_card k p) card) [ inl a ↦ below p a x | inr b ↦ here p (let e : slot_card k p ≡ card = omega (arith, b, lt) in e) x ]

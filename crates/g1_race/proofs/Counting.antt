@@ -15,7 +15,7 @@ use Rattle.g1_sets.proofs.PairLemmas.{in_set, to_set}
 use Rattle.g1_sets.proofs.TotalLemmas.{total_is}
 use Rattle.g1_core.proofs.SetLemmas.{All_by_member, same_pairs, in_pairs}
 use Rattle.g1_race_words.specs.declared.view.Shape.{Shape}
-use Rattle.g1_race_words.specs.Rule.{IsBegun, IsShape, pairs_up_to, start}
+use Rattle.g1_race_words.specs.Rule.{IsBegun, IsWholeShape, pairs_up_to, new_start}
 use Rattle.g1_race.specs.Race.{shape_of}
 use Rattle.g1_race.specs.Over.{ended, table_of}
 use Rattle.g1_race.specs.Telling.{is_member, member_cards, pair_count}
@@ -55,7 +55,7 @@ module _ (k : Shape) (words : List ℕ) where
   at_most (suc n) = let a = few (is_member k words n) k.cards in let x : ℕ = n * k.cards in let b : pair_count k words n ≤ x = at_most n in let e : suc n * k.cards ≡ x + k.cards = omega arith in omega (arith, a, b, e)
 
   -- so many can be counted
-  pub fits : (n : ℕ) → IsShape k → n ≤ k.regions → pair_count k words n < 2 ^ 64
+  pub fits : (n : ℕ) → IsWholeShape k → n ≤ k.regions → pair_count k words n < 2 ^ 64
   fits n shaped le =
       let x : ℕ = k.regions * k.span in
       let s : k.slots ≡ x = shaped.6 in
@@ -67,7 +67,7 @@ module _ (k : Shape) (words : List ℕ) where
       let most : m ≤ 4294967295 * 4294967295 = mul-le-mul few_regions few_cards in
       omega (arith, at_most n, most)
 
-module _ (k : Shape) (l : layout.Shape) (laid : k ≡ shape_of l k.members) (words : List ℕ) (h : IsBegun (start k words)) where
+module _ (k : Shape) (l : layout.Shape) (laid : k ≡ shape_of l k.members) (words : List ℕ) (h : IsBegun (new_start k words)) where
   abbrev all : List (List ℕ)
   all = lists k words k.regions
 

@@ -8,22 +8,22 @@ use Rattle.g1_layout.specs.Shape as layout
 use Rattle.g1_core.specs.Table.{Table}
 use Rattle.g1_core.specs.Run.{kind_of, stored}
 use Rattle.g1_race_words.specs.declared.view.Shape.{Shape}
-use Rattle.g1_race_words.specs.Rule.{IsBegun, card_of, mark_word, start}
-use Rattle.g1_race.specs.Over.{ended, table_of, target_of}
+use Rattle.g1_race_words.specs.Rule.{IsBegun, slot_card, mark_word, new_start}
+use Rattle.g1_race.specs.Over.{ended, table_of, target_of_word}
 use Rattle.g1_race.specs.Race.{shape_of}
 use Rattle.g1_race.specs.Refining.{IsDirtied}
 use Rattle.g1_race_words.proofs.PairBits.{card_below}
 use Rattle.g1_race.proofs.FlagWords.{flag_ended}
 use Rattle.g1_race.proofs.PauseStores.{logged_store}
 
-module _ (k : Shape) (l : layout.Shape) (laid : k ≡ shape_of l k.members) (p : ℕ) (lt : p < k.slots) (target : Option ℕ) (n : ℕ) (back : target_of n ≡ target) where
-  pub dirtied_here : (seen new : List ℕ) (card : ℕ) → card ≡ card_of k p → IsDirtied k seen new card → get_elem? new (mark_word k (card_of k p)) ≡ some 1
+module _ (k : Shape) (l : layout.Shape) (laid : k ≡ shape_of l k.members) (p : ℕ) (lt : p < k.slots) (target : Option ℕ) (n : ℕ) (back : target_of_word n ≡ target) where
+  pub dirtied_here : (seen new : List ℕ) (card : ℕ) → card ≡ slot_card k p → IsDirtied k seen new card → get_elem? new (mark_word k (slot_card k p)) ≡ some 1
   dirtied_here seen new card is d =
       let low = card_below k p d.begun.shaped lt in
-      ap (λ (ws : List ℕ). get_elem? ws (mark_word k (card_of k p))) (d.marked ∙ ap (λ (c : ℕ). set d.mid (mark_word k c) 1) is) ∙ set_here d.mid (mark_word k (card_of k p)) 1 (omega (arith, d.begun.sized, low))
+      ap (λ (ws : List ℕ). get_elem? ws (mark_word k (slot_card k p))) (d.marked ∙ ap (λ (c : ℕ). set d.mid (mark_word k c) 1) is) ∙ set_here d.mid (mark_word k (slot_card k p)) 1 (omega (arith, d.begun.sized, low))
 
-  pub dirtied_store : (words new after : List ℕ) (card : ℕ) → card ≡ card_of k p → IsDirtied k words new card → kind_of (table_of (ended l k words)) p target ≡ Logged
-      → after ≡ set new p n → IsBegun (start k after) → table_of (ended l k after) ≡ stored (table_of (ended l k words)) p target
+  pub dirtied_store : (words new after : List ℕ) (card : ℕ) → card ≡ slot_card k p → IsDirtied k words new card → kind_of (table_of (ended l k words)) p target ≡ Logged
+      → after ≡ set new p n → IsBegun (new_start k after) → table_of (ended l k after) ≡ stored (table_of (ended l k words)) p target
   dirtied_store words new after card is d kind e h' =
       let same : table_of (ended l k d.mid) ≡ table_of (ended l k words) = ap table_of (flag_ended k l words d.mid card d.flagged) in
       logged_store k l laid p lt target n back (table_of (ended l k words)) d.mid after same

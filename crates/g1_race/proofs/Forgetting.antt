@@ -15,7 +15,7 @@ use Rattle.g1_layout.specs.Shape.{slot_count, region_of}
 use Rattle.g1_core.specs.Table.{Crosses}
 use Rattle.g1_core.proofs.SetLemmas.{pair_exact, same_pairs}
 use Rattle.g1_race_words.specs.declared.view.Shape.{Shape}
-use Rattle.g1_race_words.specs.Rule.{IsBegun, IsShape, IsMarked, IsPair, HasBit, bit_place, bit_word, card_of, crosses, flag, front, mark_word, pairs_up_to, region_at, start}
+use Rattle.g1_race_words.specs.Rule.{IsBegun, IsWholeShape, IsMarked, IsPair, HasBit, bit_place, bit_word, slot_card, crosses, flag, front, mark_word, pairs_up_to, region_at, new_start}
 use Rattle.g1_race.specs.Race.{shape_of}
 use Rattle.g1_race.specs.Over.{ended, refs_of, table_of}
 use Rattle.g1_race.specs.Clearing.{AreUnset}
@@ -37,7 +37,7 @@ module _ (k : Shape) (words : List ℕ) (x : ℕ × ℕ) where
   far : (i : ℕ) → i < k.slots + k.cards → get_elem? without i ≡ get_elem? words i
   far i lt = set_else words (bit_word k x) i _ (λ e. let m : ℕ = x.1 * k.row + x.0 / 64 in let f : i ≡ k.slots + k.cards + m = e in absurd (omega arith))
 
-  module _ (h : IsBegun (start k words)) (pair : IsPair k x) where
+  module _ (h : IsBegun (new_start k words)) (pair : IsPair k x) where
     short : bit_word k x < length words
     short = subst (λ (n : ℕ). bit_word k x < n) (sym h.sized) (bit_below k x h.shaped pair.0 (omega (arith, pair.1)))
 
@@ -68,15 +68,15 @@ module _ (k : Shape) (words : List ℕ) (x : ℕ × ℕ) where
       | inr apart ↦ sym (other_word y apart) ∙ b
     ]
 
-    pub begun_unset : ((p n : ℕ) → p < k.slots → get_elem? words p ≡ some n → crosses k p n ≡ true → x ≡ (card_of k p, region_at k n) → ⊥) → IsBegun (start k without)
+    pub begun_unset : ((p n : ℕ) → p < k.slots → get_elem? words p ≡ some n → crosses k p n ≡ true → x ≡ (slot_card k p, region_at k n) → ⊥) → IsBegun (new_start k without)
     begun_unset closed = record {
       shaped = h.shaped;
       sized = length-set words (bit_word k x) without_bit ∙ h.sized;
       bounded = λ p n lt at. h.bounded p n lt (sym (far p (omega (arith, lt))) ∙ at);
       marks = λ c lt. ⊎_elim (λ (m : get_elem? words (mark_word k c) ≡ some 1). inl (far (mark_word k c) (omega (arith, lt)) ∙ m)) (λ (z : get_elem? words (mark_word k c) ≡ some 0). inr (far (mark_word k c) (omega (arith, lt)) ∙ z)) (h.marks c lt);
       covered = λ p n lt at cr. let was = sym (far p (omega (arith, lt))) ∙ at in ⊎_elim
-          (λ (b : HasBit k words (card_of k p, region_at k n)). inl (stays (card_of k p, region_at k n) (crossing_pair k p n h.shaped lt (h.bounded p n lt was) cr).0 (closed p n lt was cr) b))
-          (λ (m : IsMarked k words p). inr (far (mark_word k (card_of k p)) (let c = card_below k p h.shaped lt in omega (arith, c)) ∙ m))
+          (λ (b : HasBit k words (slot_card k p, region_at k n)). inl (stays (slot_card k p, region_at k n) (crossing_pair k p n h.shaped lt (h.bounded p n lt was) cr).0 (closed p n lt was cr) b))
+          (λ (m : IsMarked k words p). inr (far (mark_word k (slot_card k p)) (let c = card_below k p h.shaped lt in omega (arith, c)) ∙ m))
           (h.covered p n lt was cr);
       proper = λ y py b. h.proper y py (back y b);
       flagged = λ c lt m. stays (flag k c) (flag_card k c lt) (λ e. absurd (let r : x.1 ≡ k.regions = ap (λ (y : ℕ × ℕ). y.1) e in let low : x.1 < k.regions = pair.1 in omega (arith, r, low))) (h.flagged c lt (sym (far (mark_word k c) (omega (arith, lt))) ∙ m));
@@ -179,7 +179,7 @@ in_card n region c le lt =
     let low : i < n = (let a : y ≤ c = le in let b : c < y + n = lt in omega arith) in
     ap (λ (m : ℕ). m / n) (sym is) ∙ div-mul-add region n i low
 
-pub forgotten_is : (k : Shape) (l : layout.Shape) (laid : k ≡ shape_of l k.members) (old new : List ℕ) (region : ℕ) → 0 < l.cards → IsBegun (start k old) → IsBegun (start k new) → AreUnset k old new (λ x. (region * l.cards ≤ x.0) × (x.0 < region * l.cards + l.cards)) → table_of (ended l k new) ≡ forgotten region (table_of (ended l k old))
+pub forgotten_is : (k : Shape) (l : layout.Shape) (laid : k ≡ shape_of l k.members) (old new : List ℕ) (region : ℕ) → 0 < l.cards → IsBegun (new_start k old) → IsBegun (new_start k new) → AreUnset k old new (λ x. (region * l.cards ≤ x.0) × (x.0 < region * l.cards + l.cards)) → table_of (ended l k new) ≡ forgotten region (table_of (ended l k old))
 forgotten_is k l laid old new region some_card b h g = λ i. record {
   layout = l;
   refs = refs_of (record { layout = l; words = g.front i; pairs = pairs_up_to k new k.cards });
@@ -211,7 +211,7 @@ cards_in n region regions some_card lt =
     let a : y + (n - 1) < all = mul-add-lt region n (n - 1) regions lt (omega arith) in let e : all ≡ same = omega arith in
     let goal : y + n ≤ same = omega arith in goal
 
-module _ (k : Shape) (l : layout.Shape) (laid : k ≡ shape_of l k.members) (shaped : IsShape k) where
+module _ (k : Shape) (l : layout.Shape) (laid : k ≡ shape_of l k.members) (shaped : IsWholeShape k) where
   cards_is : k.cards ≡ l.regions * l.cards
   cards_is = ap (λ (s : Shape). s.cards) laid
 
@@ -236,12 +236,12 @@ module _ (k : Shape) (l : layout.Shape) (laid : k ≡ shape_of l k.members) (sha
 
   -- no slot of the region refers out of it
   pub closed_words : (words : List ℕ) (region : ℕ) → ((slot place : ℕ) → Crosses (table_of (ended l k words)) slot place → region_of l slot ≢ region)
-      → (p n : ℕ) → p < k.slots → get_elem? words p ≡ some n → crosses k p n ≡ true → region * l.cards ≤ card_of k p → card_of k p < region * l.cards + l.cards → ⊥
+      → (p n : ℕ) → p < k.slots → get_elem? words p ≡ some n → crosses k p n ≡ true → region * l.cards ≤ slot_card k p → slot_card k p < region * l.cards + l.cards → ⊥
   closed_words words region closed p n lt at cr le below =
       let slots : k.slots ≡ slot_count l = ap (λ (s : Shape). s.slots) laid in
       let span : k.span ≡ l.cards * l.slots = ap (λ (s : Shape). s.span) laid in
-      let card : card_of k p ≡ layout.card_of l p = ap (λ (s : Shape). p / s.size) laid in
+      let card : slot_card k p ≡ layout.card_of l p = ap (λ (s : Shape). p / s.size) laid in
       closed p (n - 1) (record {
         refers = word_refers (ended l k words) p n (omega (arith, lt, slots)) (at_take words (k.slots + k.cards) p n (omega (arith, lt)) at) (crosses_reference k p n cr);
         across = λ e. crosses_apart k p n cr (ap (λ (s : ℕ). p / s) span ∙ (e ∙ ap (λ (s : ℕ). (n - 1) / s) (sym span)));
-      }) (sym (region_of_quotient l p) ∙ (ap (λ (c : ℕ). c / l.cards) (sym card) ∙ in_card l.cards region (card_of k p) le below))
+      }) (sym (region_of_quotient l p) ∙ (ap (λ (c : ℕ). c / l.cards) (sym card) ∙ in_card l.cards region (slot_card k p) le below))

@@ -20,9 +20,9 @@ use Rattle.g1_race.specs.Evacuating.{AreAllRefined}
 use Rattle.g1_core.proofs.SetLemmas.{pair_total, pair_exact, listed, unlisted, Kept, from_kept, to_kept, same_bools}
 use Rattle.g1_core.proofs.TableLemmas.{slot_of}
 use Rattle.g1_race_words.specs.declared.view.Shape.{Shape}
-use Rattle.g1_race_words.specs.Rule.{IsReference, IsBegun, IsPair, HasBit, card_of, crosses, front, mark_word, one_if, region_at, start, word_count}
+use Rattle.g1_race_words.specs.Rule.{IsReference, IsBegun, IsPair, HasBit, slot_card, crosses, front, mark_word, as_number, region_at, new_start, word_count}
 use Rattle.g1_race.specs.Race.{shape_of}
-use Rattle.g1_race.specs.Over.{ended, refs_of, table_of, target_of}
+use Rattle.g1_race.specs.Over.{ended, refs_of, table_of, target_of_word}
 use Rattle.g1_race.specs.Moving.{AreMovedAway, Acquires, into_count, is_into, moved_word, word_after}
 use Rattle.g1_race.proofs.Ends.{target_data, crosses_apart, recorded_set, refs_here, set_recorded, target_some}
 use Rattle.g1_race_words.proofs.Crossing.{crosses_reference}
@@ -39,7 +39,7 @@ module _ (k : Shape) (l : layout.Shape) (laid : k ≡ shape_of l k.members) wher
 
   -- a slot refers into a region by its word just where it does by its target
 
-  enters_to : (region p n : ℕ) → is_into k region p n ≡ true → enters l region (p, target_of n) ≡ true
+  enters_to : (region p n : ℕ) → is_into k region p n ≡ true → enters l region (p, target_of_word n) ≡ true
   enters_to region p n h =
       let b = and_parts (crosses k p n) (eqb (region_at k n) region) h in
       let into : region_at k n ≡ region = eqb-true (region_at k n) region b.1 in
@@ -48,13 +48,13 @@ module _ (k : Shape) (l : layout.Shape) (laid : k ≡ shape_of l k.members) wher
       (ap not (ne_eqb (region_of l p) region (λ e. crosses_apart k p n b.0 (ap (λ (s : ℕ). p / s) span_is ∙ (e ∙ sym into)))))
       (eq-eqb (region_of l (n - 1)) region (ap (λ (s : ℕ). (n - 1) / s) (sym span_is) ∙ into)))
 
-  enters_low : (region p n : ℕ) → enters l region (p, target_of n) ≡ true → n < 2 ^ 32
+  enters_low : (region p n : ℕ) → enters l region (p, target_of_word n) ≡ true → n < 2 ^ 32
   enters_low region p n h = elim (cases_lt n (2 ^ 32)) [
     | inl low ↦ low
     | inr high ↦ absurd (true≢false (sym h ∙ ap (λ (o : Option ℕ). enters l region (p, o)) (target_data n high)))
   ]
 
-  enters_from : (region p n : ℕ) → enters l region (p, target_of n) ≡ true → is_into k region p n ≡ true
+  enters_from : (region p n : ℕ) → enters l region (p, target_of_word n) ≡ true → is_into k region p n ≡ true
   enters_from region p zero h = absurd (true≢false (sym h))
   enters_from region p (suc m) h =
       let n : ℕ = suc m in
@@ -67,48 +67,48 @@ module _ (k : Shape) (l : layout.Shape) (laid : k ≡ shape_of l k.members) wher
       (other_region k p (suc m - 1) (suc m) (let f : suc m ≡ suc m - 1 + 1 = omega arith in f) is.1 (λ e. away (ap (λ (s : ℕ). p / s) (sym span_is) ∙ (e ∙ there))))
       (eq-eqb (region_at k (suc m)) region there)
 
-  enters_is : (region p n : ℕ) → is_into k region p n ≡ enters l region (p, target_of n)
-  enters_is region p n = same_bools (is_into k region p n) (enters l region (p, target_of n)) (enters_to region p n) (enters_from region p n)
+  enters_is : (region p n : ℕ) → is_into k region p n ≡ enters l region (p, target_of_word n)
+  enters_is region p n = same_bools (is_into k region p n) (enters l region (p, target_of_word n)) (enters_to region p n) (enters_from region p n)
 
   stays_put : (from to p : ℕ) (o : Option ℕ) → enters l from (p, o) ≡ false → moved_target l from to (p, o) ≡ o
   stays_put from to p None e = refl
   stays_put from to p (Some place) e = ap (λ (b : Bool). cond b (Some (same_offset l place to)) (Some place)) e
 
-  after_target : (from to p n : ℕ) → moved_word k to n < 2 ^ 32 → target_of (word_after k from to p n) ≡ moved_target l from to (p, target_of n)
+  after_target : (from to p n : ℕ) → moved_word k to n < 2 ^ 32 → target_of_word (word_after k from to p n) ≡ moved_target l from to (p, target_of_word n)
   after_target from to p n small = elim (cases_Bool (is_into k from p n)) [
     | inl is ↦
         let some_n = crosses_reference k p n (and_parts (crosses k p n) (eqb (region_at k n) from) is).0 in
-        let target : target_of n ≡ Some (n - 1) = target_some n some_n in
+        let target : target_of_word n ≡ Some (n - 1) = target_some n some_n in
         let off : ℕ = (n - 1) % k.span in
         let base : ℕ = to * k.span in
         let less : base + off + 1 - 1 ≡ base + off = omega arith in
-        ap target_of (true_is (is_into k from p n) (moved_word k to n) n is)
+        ap target_of_word (true_is (is_into k from p n) (moved_word k to n) n is)
         ∙ (target_some (moved_word k to n) ((λ z. absurd (let z' : base + off + 1 ≡ 0 = z in omega arith)), small)
         ∙ (ap Some (less ∙ ap (λ (s : ℕ). to * s + (n - 1) % s) span_is)
         ∙ (sym (ap (λ (b : Bool). cond b (Some (same_offset l (n - 1) to)) (Some (n - 1))) (subst (λ (o : Option ℕ). enters l from (p, o) ≡ true) target (enters_to from p n is)))
         ∙ ap (λ (o : Option ℕ). moved_target l from to (p, o)) (sym target))))
-    | inr is ↦ ap target_of (false_is (is_into k from p n) (moved_word k to n) n is) ∙ sym (stays_put from to p (target_of n) (sym (enters_is from p n) ∙ is))
+    | inr is ↦ ap target_of_word (false_is (is_into k from p n) (moved_word k to n) n is) ∙ sym (stays_put from to p (target_of_word n) (sym (enters_is from p n) ∙ is))
   ]
 
   -- slots by place
 
-  here : (words : List ℕ) (p : ℕ) → IsBegun (start k words) → p < k.slots → get_elem? words p ≡ some (get_or words p 0)
+  here : (words : List ℕ) (p : ℕ) → IsBegun (new_start k words) → p < k.slots → get_elem? words p ≡ some (get_or words p 0)
   here words p h lt = read_at words p (let s : length words ≡ word_count k = h.sized in omega (arith, s, lt))
 
-  ref_is : (words : List ℕ) (p n : ℕ) → p < k.slots → get_elem? words p ≡ some n → get_or (refs_of (ended l k words)) p None ≡ target_of n
-  ref_is words p n lt at = reads_as (refs_of (ended l k words)) p (target_of n) None (refs_here (ended l k words) p n (omega (arith, lt, slots_are k l laid)) (at_take words (k.slots + k.cards) p n (omega (arith, lt)) at))
+  ref_is : (words : List ℕ) (p n : ℕ) → p < k.slots → get_elem? words p ≡ some n → get_or (refs_of (ended l k words)) p None ≡ target_of_word n
+  ref_is words p n lt at = reads_as (refs_of (ended l k words)) p (target_of_word n) None (refs_here (ended l k words) p n (omega (arith, lt, slots_are k l laid)) (at_take words (k.slots + k.cards) p n (omega (arith, lt)) at))
 
-  refs_len : (words : List ℕ) → IsBegun (start k words) → length (refs_of (ended l k words)) ≡ slot_count l
+  refs_len : (words : List ℕ) → IsBegun (new_start k words) → length (refs_of (ended l k words)) ≡ slot_count l
   refs_len words h =
       let s : length words ≡ word_count k = h.sized in
       let a : length (front k words) ≡ k.slots + k.cards = (let m = length-take (k.slots + k.cards) words in omega (arith, m, s)) in
       let b : length (take (slot_count l) (front k words)) ≡ slot_count l = (let m = length-take (slot_count l) (front k words) in omega (arith, m, a, slots_are k l laid)) in
-      length-map (take (slot_count l) (front k words)) target_of ∙ b
+      length-map (take (slot_count l) (front k words)) target_of_word ∙ b
 
   front_at : (a b : List ℕ) (i n : ℕ) → front k a ≡ front k b → i < k.slots + k.cards → get_elem? b i ≡ some n → get_elem? a i ≡ some n
   front_at a b i n same lt at = (at_untake a (k.slots + k.cards) i n (subst (λ (ws : List ℕ). get_elem? ws i ≡ some n) (sym same) (at_take b (k.slots + k.cards) i n lt at))).1
 
-  module _ (old new : List ℕ) (from to : ℕ) (b : IsBegun (start k old)) (h : IsBegun (start k new)) (away : AreMovedAway k old new from to) (within : to < k.regions) where
+  module _ (old new : List ℕ) (from to : ℕ) (b : IsBegun (new_start k old)) (h : IsBegun (new_start k new)) (away : AreMovedAway k old new from to) (within : to < k.regions) where
     abbrev t : Table
     t = table_of (ended l k old)
 
@@ -124,7 +124,7 @@ module _ (k : Shape) (l : layout.Shape) (laid : k ≡ shape_of l k.members) wher
     word_now : (p : ℕ) → p < k.slots → get_elem? new p ≡ some (word_after k from to p (get_or old p 0))
     word_now p lt = front_at new mid p _ away.emptied.front (omega (arith, lt)) (away.moved.moved p (get_or old p 0) (omega arith) (omega (arith, lt)) lt (here old p b lt))
 
-    ref_old : (p : ℕ) → p < k.slots → get_or refs p None ≡ target_of (get_or old p 0)
+    ref_old : (p : ℕ) → p < k.slots → get_or refs p None ≡ target_of_word (get_or old p 0)
     ref_old p lt = ref_is old p (get_or old p 0) lt (here old p b lt)
 
     new_refs : refs_of (ended l k new) ≡ map each (range_with_len 0 (slot_count l))
@@ -150,13 +150,13 @@ module _ (k : Shape) (l : layout.Shape) (laid : k ≡ shape_of l k.members) wher
         set.contains-retain _ (λ pair. not (eqb pair.1 from)) x (λ y e. ap (λ (q : ℕ × ℕ). not (eqb q.1 from)) (sym (pair_exact x y e)))
         ∙ ap (λ (c : Bool). c && not (eqb x.1 from)) (set.contains-union pair_total t.recorded _ x)
 
-    card_is : (p : ℕ) → card_of k p ≡ layout.card_of l p
+    card_is : (p : ℕ) → slot_card k p ≡ layout.card_of l p
     card_is p = ap (λ (s : Shape). p / s.size) laid
 
     gained : (x : ℕ × ℕ) → Acquires k old from to x → set.contains (set.from_list {R = pair_cmp} (filter_map (moved_pair l from to) (enumerate_from 0 refs))) x ≡ true
     gained x (p, n, lt, at, is, ne, e) =
         let low : p < slot_count l = omega (arith, lt, slots_are k l laid) in
-        let ref : get_or refs p None ≡ target_of n = ref_is old p n lt at in
+        let ref : get_or refs p None ≡ target_of_word n = ref_is old p n lt at in
         let enter : enters l from (p, get_or refs p None) ≡ true = subst (λ (o : Option ℕ). enters l from (p, o) ≡ true) (sym ref) (enters_to from p n is) in
         let outside : eqb (region_of l p) to ≡ false = ne_eqb (region_of l p) to (λ f. ne (ap (λ (s : ℕ). p / s) span_is ∙ f)) in
         let makes : moved_pair l from to (p, get_or refs p None) ≡ Some (layout.card_of l p, to) = ap (λ (c : Bool). cond {A = Option (ℕ × ℕ)} c (Some (layout.card_of l p, to)) None) (and_from (enters l from (p, get_or refs p None)) (not (eqb (region_of l p) to)) enter (ap not outside)) in
@@ -180,8 +180,8 @@ module _ (k : Shape) (l : layout.Shape) (laid : k ≡ shape_of l k.members) wher
         let c = and_parts (enters l from (p, get_or refs p None)) (not (eqb (region_of l p) to)) q.0 in
         let into : is_into k from p (get_or old p 0) ≡ true = enters_from from p (get_or old p 0) (subst (λ (o : Option ℕ). enters l from (p, o) ≡ true) (ref_old p lt) c.0) in
         let ne : p / k.span ≢ to = λ e. eqb-false (region_of l p) to (not-true (eqb (region_of l p) to) c.1) (ap (λ (s : ℕ). p / s) (sym span_is) ∙ e) in
-        let bit : HasBit k mid (card_of k p, to) = away.moved.has p (get_or old p 0) (omega arith) (omega (arith, lt)) lt (here old p b lt) into ne in
-        let same : (card_of k p, to) ≡ x = ap (λ (d : ℕ). (d, to)) (card_is p) ∙ q.1 in
+        let bit : HasBit k mid (slot_card k p, to) = away.moved.has p (get_or old p 0) (omega arith) (omega (arith, lt)) lt (here old p b lt) into ne in
+        let same : (slot_card k p, to) ≡ x = ap (λ (d : ℕ). (d, to)) (card_is p) ∙ q.1 in
         (subst (HasBit k mid) same bit, subst (IsPair k) same (card_below k p b.shaped lt, within))
 
     pub moved_is : table_of (ended l k new) ≡ moved from to (table_of (ended l k old))
@@ -210,12 +210,12 @@ module _ (k : Shape) (l : layout.Shape) (laid : k ≡ shape_of l k.members) wher
         let inside : i < length (enumerate_from 0 refs) = omega (arith, low, length-enumerate_from 0 refs, refs_len old b) in
         let is : is_into k from i (get_or old i 0) ≡ enters l from (get_or (enumerate_from 0 refs) i (0, None)) = enters_is from i (get_or old i 0) ∙ (ap (λ (o : Option ℕ). enters l from (i, o)) (sym (ref_old i lt)) ∙ ap (enters l from) (sym (listed_at i low))) in
         let first : 0 + i ≡ i = omega arith in
-        let last : into_count k old from 0 (suc i) ≡ into_count k old from 0 i + one_if (is_into k from i (get_or old i 0)) = (λ j. into_count k old from 0 i + one_if (is_into k from (first j) (get_or old (first j) 0))) in
+        let last : into_count k old from 0 (suc i) ≡ into_count k old from 0 i + as_number (is_into k from i (get_or old i 0)) = (λ j. into_count k old from 0 i + as_number (is_into k from (first j) (get_or old (first j) 0))) in
         let more : suc i ≡ i + 1 = omega arith in
         let rest = counted i (omega (arith, le)) in
         ap (λ (n : ℕ). count_by (enters l from) (take n (enumerate_from 0 refs))) more ∙ elim (cases_Bool (is_into k from i (get_or old i 0))) [
-          | inl yes_it ↦ count_by_more_yes (enters l from) (enumerate_from 0 refs) i (0, None) inside (sym is ∙ yes_it) ∙ (ap (λ (n : ℕ). n + 1) rest ∙ sym (last ∙ ap (λ (c : Bool). into_count k old from 0 i + one_if c) yes_it))
-          | inr no_it ↦ count_by_more_no (enters l from) (enumerate_from 0 refs) i (0, None) inside (sym is ∙ no_it) ∙ (rest ∙ sym (last ∙ (ap (λ (c : Bool). into_count k old from 0 i + one_if c) no_it ∙ (let x : ℕ = into_count k old from 0 i in let e : x + 0 ≡ x = omega arith in e))))
+          | inl yes_it ↦ count_by_more_yes (enters l from) (enumerate_from 0 refs) i (0, None) inside (sym is ∙ yes_it) ∙ (ap (λ (n : ℕ). n + 1) rest ∙ sym (last ∙ ap (λ (c : Bool). into_count k old from 0 i + as_number c) yes_it))
+          | inr no_it ↦ count_by_more_no (enters l from) (enumerate_from 0 refs) i (0, None) inside (sym is ∙ no_it) ∙ (rest ∙ sym (last ∙ (ap (λ (c : Bool). into_count k old from 0 i + as_number c) no_it ∙ (let x : ℕ = into_count k old from 0 i in let e : x + 0 ≡ x = omega arith in e))))
         ]
 
     pub count_is : into_count k old from 0 k.slots ≡ moved_count from (table_of (ended l k old))

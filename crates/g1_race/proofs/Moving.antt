@@ -7,7 +7,7 @@ use Rattle.std.proofs.Math.Nat.{mul-le-mul_left}
 use Rattle.std.proofs.lemmas.Nat.{div-mul-add}
 use Rattle.atomic_table.proofs.Lists.{set_else, set_here}
 use Rattle.g1_race_words.specs.declared.view.Shape.{Shape}
-use Rattle.g1_race_words.specs.Rule.{In, IsBegun, IsShape, HasBit, card_of, crosses, mark_word, one_if, region_at, start, word_count}
+use Rattle.g1_race_words.specs.Rule.{In, IsBegun, IsWholeShape, HasBit, slot_card, crosses, mark_word, as_number, region_at, new_start, word_count}
 use Rattle.g1_race.specs.Refining.{Notes}
 use Rattle.g1_race.specs.Clearing.{Into}
 use Rattle.g1_race.specs.Telling.{is_member}
@@ -29,13 +29,13 @@ moved_region k to n pos =
     let a : ℕ = to * k.span in let r : ℕ = (n - 1) % k.span in
     ap (λ (m : ℕ). m / k.span) (let e : a + r + 1 - 1 ≡ a + r = omega arith in e) ∙ div-mul-add to k.span r (mod-lt (n - 1) pos)
 
-pub moved_fits : (k : Shape) (to n : ℕ) → IsShape k → to < k.regions → moved_word k to n ≤ k.slots
+pub moved_fits : (k : Shape) (to n : ℕ) → IsWholeShape k → to < k.regions → moved_word k to n ≤ k.slots
 moved_fits k to n shaped lt = let a : ℕ = to * k.span in let r : ℕ = (n - 1) % k.span in let h : a + r < k.slots = slot_in k to r shaped lt (mod-lt (n - 1) shaped.2) in let goal : a + r + 1 ≤ k.slots = omega arith in goal
 
-pub moved_low : (k : Shape) (to n : ℕ) → IsShape k → to < k.regions → moved_word k to n < 2 ^ 32
+pub moved_low : (k : Shape) (to n : ℕ) → IsWholeShape k → to < k.regions → moved_word k to n < 2 ^ 32
 moved_low k to n shaped lt = let fits : moved_word k to n ≤ k.slots = moved_fits k to n shaped lt in let few : k.slots < 2 ^ 32 = shaped.3 in omega (arith, fits, few)
 
-pub moved_crosses : (k : Shape) (to p n : ℕ) → IsShape k → to < k.regions → p / k.span ≢ to → crosses k p (moved_word k to n) ≡ true
+pub moved_crosses : (k : Shape) (to p n : ℕ) → IsWholeShape k → to < k.regions → p / k.span ≢ to → crosses k p (moved_word k to n) ≡ true
 moved_crosses k to p n shaped lt ne = let pos = shaped.2 in other_region k p (to * k.span + (n - 1) % k.span) (moved_word k to n) refl (moved_low k to n shaped lt) (λ e. ne (e ∙ div-mul-add to k.span ((n - 1) % k.span) (mod-lt (n - 1) pos)))
 
 -- no moved reference refers into the region that it left
@@ -52,8 +52,8 @@ not_into k from to p n pos apart h = elim (cases_Bool (is_into k from p n)) [
 
 -- one slot
 
-module _ (k : Shape) (old mid : List ℕ) (from to p n : ℕ) (b : IsBegun (start k old)) (h : IsBegun (start k mid)) (xs : List (ℕ × ℕ)) (notes : Notes k old mid xs) (lt : p < k.slots) (low : to < k.regions) (at : get_elem? old p ≡ some n) (into : is_into k from p n ≡ true)
-    (has : p / k.span ≢ to → In xs (card_of k p, to)) (gain : (x : ℕ × ℕ) → In xs x → (p / k.span ≢ to) × ((card_of k p, to) ≡ x)) where
+module _ (k : Shape) (old mid : List ℕ) (from to p n : ℕ) (b : IsBegun (new_start k old)) (h : IsBegun (new_start k mid)) (xs : List (ℕ × ℕ)) (notes : Notes k old mid xs) (lt : p < k.slots) (low : to < k.regions) (at : get_elem? old p ≡ some n) (into : is_into k from p n ≡ true)
+    (has : p / k.span ≢ to → In xs (slot_card k p, to)) (gain : (x : ℕ × ℕ) → In xs x → (p / k.span ≢ to) × ((slot_card k p, to) ≡ x)) where
   abbrev word : ℕ
   word = moved_word k to n
 
@@ -66,8 +66,8 @@ module _ (k : Shape) (old mid : List ℕ) (from to p n : ℕ) (b : IsBegun (star
   bits_back : (x : ℕ × ℕ) → HasBit k new x → HasBit k mid x
   bits_back x = bit_as k new mid x (λ y. sym (same_bits k mid p word (omega (arith, lt)) y))
 
-  pub begun_moved : IsBegun (start k (set mid p (moved_word k to n)))
-  begun_moved = begun_placed k mid p word lt (inl (moved_fits k to n b.shaped low)) (λ cr. inl (subst (λ (r : ℕ). HasBit k mid (card_of k p, r)) (sym (moved_region k to n b.shaped.2)) (notes.has (card_of k p, to) (has (λ e. crosses_apart k p word cr (e ∙ sym (moved_region k to n b.shaped.2))))))) h
+  pub begun_moved : IsBegun (new_start k (set mid p (moved_word k to n)))
+  begun_moved = begun_placed k mid p word lt (inl (moved_fits k to n b.shaped low)) (λ cr. inl (subst (λ (r : ℕ). HasBit k mid (slot_card k p, r)) (sym (moved_region k to n b.shaped.2)) (notes.has (slot_card k p, to) (has (λ e. crosses_apart k p word cr (e ∙ sym (moved_region k to n b.shaped.2))))))) h
 
   same : (q : ℕ) → (p < k.slots) → q ≢ p → q < k.slots + k.cards → get_elem? new q ≡ get_elem? old q
   same q here ne below = set_else mid p q word ne ∙ notes.front q below
@@ -85,7 +85,7 @@ module _ (k : Shape) (old mid : List ℕ) (from to p n : ℕ) (b : IsBegun (star
     only = λ x pair is. ⊎_elim (λ (u : HasBit k old x). inl u) (λ (i : In xs x). let g = gain x i in inr (p, n, lt, at, into, g.0, g.1)) (notes.only x pair (bits_back x is));
     has = λ q m le below inside there is ne.
         let e : p ≡ q = omega (arith, le, below) in
-        subst (λ (j : ℕ). HasBit k new (card_of k j, to)) e (bits (card_of k p, to) (notes.has (card_of k p, to) (has (λ f. ne (ap (λ (j : ℕ). j / k.span) (sym e) ∙ f)))));
+        subst (λ (j : ℕ). HasBit k new (slot_card k j, to)) e (bits (slot_card k p, to) (notes.has (slot_card k p, to) (has (λ f. ne (ap (λ (j : ℕ). j / k.span) (sym e) ∙ f)))));
   }
 
 -- several slots
@@ -100,7 +100,7 @@ moved_none k words from to first count none = record {
   has = λ p n le lt inside at is ne. absurd (true≢false (sym is ∙ none p n le lt inside at));
 }
 
-pub moved_then : (k : Shape) (old mid new : List ℕ) (from to first a b : ℕ) → (from ≡ to → ⊥) → IsBegun (start k old) → AreMoved k old mid from to first a → AreMoved k mid new from to (first + a) b → AreMoved k old new from to first (a + b)
+pub moved_then : (k : Shape) (old mid new : List ℕ) (from to first a b : ℕ) → (from ≡ to → ⊥) → IsBegun (new_start k old) → AreMoved k old mid from to first a → AreMoved k mid new from to (first + a) b → AreMoved k old new from to first (a + b)
 moved_then k old mid new from to first a b apart begun h g = record {
   moved = λ p n le lt inside at. elim (cases_lt p (first + a)) [
     | inl low ↦ g.outside p inside (inl low) ∙ h.moved p n le low inside at
@@ -112,7 +112,7 @@ moved_then k old mid new from to first a b apart begun h g = record {
   kept = λ x was. g.kept x (h.kept x was);
   only = λ x pair is. ⊎_elim (λ (u : HasBit k mid x). h.only x pair u) (λ (u : Acquires k mid from to x). inr (gains_back u)) (g.only x pair is);
   has = λ p n le lt inside at is ne. elim (cases_lt p (first + a)) [
-    | inl low ↦ g.kept (card_of k p, to) (h.has p n le low inside at is ne)
+    | inl low ↦ g.kept (slot_card k p, to) (h.has p n le low inside at is ne)
     | inr high ↦ g.has p n high (omega (arith, lt)) inside (h.outside p inside (inr high) ∙ at) is ne
   ];
 }
@@ -136,7 +136,7 @@ moved_then k old mid new from to first a b apart begun h g = record {
 
 pub count_same : (k : Shape) (a b : List ℕ) (region first n : ℕ) → first + n ≤ k.slots → ((p : ℕ) → first ≤ p → p < first + n → get_or a p 0 ≡ get_or b p 0) → into_count k a region first n ≡ into_count k b region first n
 count_same k a b region first zero le h = refl
-count_same k a b region first (suc n) le h = λ i. count_same k a b region first n (omega arith) (λ p x y. h p x (omega (arith, y))) i + one_if (is_into k region (first + n) (h (first + n) (omega arith) (omega arith) i))
+count_same k a b region first (suc n) le h = λ i. count_same k a b region first n (omega arith) (λ p x y. h p x (omega (arith, y))) i + as_number (is_into k region (first + n) (h (first + n) (omega arith) (omega arith) i))
 
 pub count_more : (k : Shape) (words : List ℕ) (region first a b : ℕ) → into_count k words region first (a + b) ≡ into_count k words region first a + into_count k words region (first + a) b
 count_more k words region first a zero = ap (into_count k words region first) (let e : a + 0 ≡ a = omega arith in e) ∙ (let e : into_count k words region first a ≡ into_count k words region first a + 0 = omega arith in e)
@@ -144,15 +144,15 @@ count_more k words region first a (suc b) =
     let e : a + suc b ≡ suc (a + b) = omega arith in
     let f : first + (a + b) ≡ first + a + b = omega arith in
     let rest = count_more k words region first a b in
-    ap (into_count k words region first) e ∙ ((λ i. rest i + one_if (is_into k region (f i) (get_or words (f i) 0)))
-    ∙ (let x : ℕ = into_count k words region first a in let y : ℕ = into_count k words region (first + a) b in let z : ℕ = one_if (is_into k region (first + a + b) (get_or words (first + a + b) 0)) in let goal : x + y + z ≡ x + (y + z) = omega arith in goal))
+    ap (into_count k words region first) e ∙ ((λ i. rest i + as_number (is_into k region (f i) (get_or words (f i) 0)))
+    ∙ (let x : ℕ = into_count k words region first a in let y : ℕ = into_count k words region (first + a) b in let z : ℕ = as_number (is_into k region (first + a + b) (get_or words (first + a + b) 0)) in let goal : x + y + z ≡ x + (y + z) = omega arith in goal))
 
-pub count_one : (k : Shape) (words : List ℕ) (region first n : ℕ) → into_count k words region first (n + 1) ≡ into_count k words region first n + one_if (is_into k region (first + n) (get_or words (first + n) 0))
+pub count_one : (k : Shape) (words : List ℕ) (region first n : ℕ) → into_count k words region first (n + 1) ≡ into_count k words region first n + as_number (is_into k region (first + n) (get_or words (first + n) 0))
 count_one k words region first n = ap (into_count k words region first) (let e : n + 1 ≡ suc n = omega arith in e)
 
 pub count_none : (k : Shape) (words : List ℕ) (region first n : ℕ) → ((p : ℕ) → first ≤ p → p < first + n → is_into k region p (get_or words p 0) ≡ false) → into_count k words region first n ≡ 0
 count_none k words region first zero none = refl
-count_none k words region first (suc n) none = λ i. count_none k words region first n (λ p x y. none p x (omega (arith, y))) i + one_if (none (first + n) (omega arith) (omega arith) i)
+count_none k words region first (suc n) none = λ i. count_none k words region first n (λ p x y. none p x (omega (arith, y))) i + as_number (none (first + n) (omega arith) (omega arith) i)
 
 -- a slot that refers into the region, in two forms
 
@@ -164,7 +164,7 @@ is_into_of k region p n cr e = and_from (crosses k p n) (eqb (region_at k n) reg
 
 -- card by card
 
-module _ (k : Shape) (old mid : List ℕ) (from to low high : ℕ) (begun : IsBegun (start k old)) (apart : from ≡ to → ⊥) (le : low ≤ high) (within : high ≤ k.cards)
+module _ (k : Shape) (old mid : List ℕ) (from to low high : ℕ) (begun : IsBegun (new_start k old)) (apart : from ≡ to → ⊥) (le : low ≤ high) (within : high ≤ k.cards)
     (clean : (c : ℕ) → c < k.cards → get_elem? old (mark_word k c) ≡ some 1 → ⊥) (h : AreMoved k old mid from to 0 (low * k.size)) (none : (c : ℕ) → low ≤ c → c < high → is_member k mid from c ≡ false) where
   abbrev a : ℕ
   a = low * k.size
@@ -180,9 +180,9 @@ module _ (k : Shape) (old mid : List ℕ) (from to low high : ℕ) (begun : IsBe
 
   none_old : (p n : ℕ) → low * k.size ≤ p → p < high * k.size → p < k.slots → get_elem? old p ≡ some n → is_into k from p n ≡ false
   none_old p n from_low below lt at = false_from_ne_true _ (λ is.
-      let bit : HasBit k mid (card_of k p, from) = h.kept (card_of k p, from) (into_bit k old from p begun clean (into_is k old from p n lt at is)) in
-      true≢false (sym (eq-eqb _ 1 bit) ∙ none (card_of k p)
-      (elim (cases_lt (card_of k p) low) [ inl under ↦ absurd (let x : p < low * k.size = (div-lt_iff_lt-mul begun.shaped.1).0 under in let m : ℕ = low * k.size in let x' : p < m = x in let y : m ≤ p = from_low in omega arith) | inr over ↦ over ])
+      let bit : HasBit k mid (slot_card k p, from) = h.kept (slot_card k p, from) (into_bit k old from p begun clean (into_is k old from p n lt at is)) in
+      true≢false (sym (eq-eqb _ 1 bit) ∙ none (slot_card k p)
+      (elim (cases_lt (slot_card k p) low) [ inl under ↦ absurd (let x : p < low * k.size = (div-lt_iff_lt-mul begun.shaped.1).0 under in let m : ℕ = low * k.size in let x' : p < m = x in let y : m ≤ p = from_low in omega arith) | inr over ↦ over ])
       ((div-lt_iff_lt-mul begun.shaped.1).1 below)))
 
   here : (p : ℕ) → p < k.slots → get_elem? old p ≡ some (get_or old p 0)
@@ -221,7 +221,7 @@ module _ (k : Shape) (old mid : List ℕ) (from to low high : ℕ) (begun : IsBe
 
 -- after all of them none is left
 
-pub none_into : (k : Shape) (old mid : List ℕ) (from to p : ℕ) → IsBegun (start k old) → (from ≡ to → ⊥) → AreMoved k old mid from to 0 k.slots → Into k mid from p → ⊥
+pub none_into : (k : Shape) (old mid : List ℕ) (from to p : ℕ) → IsBegun (new_start k old) → (from ≡ to → ⊥) → AreMoved k old mid from to 0 k.slots → Into k mid from p → ⊥
 none_into k old mid from to p begun apart h x =
     let lt : p < k.slots = x.1 in
     let was : get_elem? old p ≡ some (get_or old p 0) = read_at old p (let s : length old ≡ word_count k = begun.sized in omega (arith, s, lt)) in

@@ -10,7 +10,7 @@ use Rattle.g1_core.specs.Table.{opening}
 use Rattle.g1_core.specs.Machine.{pending_of}
 use Rattle.g1_core.proofs.OpeningLemmas.{none_pending}
 use Rattle.g1_core.specs.Adoption.{marks_for}
-use Rattle.g1_race.specs.Over.{target_of, ended, table_of}
+use Rattle.g1_race.specs.Over.{target_of_word, ended, table_of}
 use Rattle.g1_race_words.specs.declared.view.Shape.{Shape}
 use Rattle.g1_race_words.specs.Rule.{HasBit, beginning, bit_word, front, null_of, pairs_of_card, pairs_up_to, word_count}
 use Rattle.g1_race.specs.Race.{shape_of}
@@ -22,7 +22,7 @@ pub both_ok : {A E : Type 0} {P Q R : A → Type 0} (x : Result A E) → IfOk x 
 both_ok (Ok a) p q f = f a p q
 both_ok (Err e) p q f = tt
 
-null_refs : (n count : ℕ) → n ≤ count → map target_of (take n (zeros count)) ≡ replicate {A = Option ℕ} n None
+null_refs : (n count : ℕ) → n ≤ count → map target_of_word (take n (zeros count)) ≡ replicate {A = Option ℕ} n None
 null_refs zero count le = refl
 null_refs (suc n) zero le = absurd (omega arith)
 null_refs (suc n) (suc count) le = ap (λ (l : List (Option ℕ)). None ∷ l) (null_refs n count (omega arith))

@@ -9,7 +9,7 @@ use Rattle.g1_layout.specs.Shape.{slot_count, card_count}
 use Rattle.g1_core.specs.Table.{IsCovered}
 use Rattle.g1_core.specs.Adoption.{table_with, IsPairOf}
 use Rattle.g1_race.specs.Race.{shape_of}
-use Rattle.g1_race.specs.Over.{Ended, ended, target_of, refs_of, marks_of, IsEnded}
+use Rattle.g1_race.specs.Over.{Ended, ended, target_of_word, refs_of, marks_of, IsEnded}
 use Rattle.g1_race_words.proofs.Crossing.{low_word}
 use Rattle.g1_race.proofs.Ends.{target_back, begun_covered, pair_listed}
 use Rattle.g1_race_words.proofs.Places.{at_read, at_untake, at_unmap}
@@ -33,12 +33,12 @@ module _ (m : ℕ) (l : layout.Shape) (words : List ℕ) (h : IsEnded (shape_of 
   sized = length-take-le (slot_count l + card_count l) words (let e = h.begun.sized in omega arith)
 
   slots : length (refs_of end) ≡ slot_count l
-  slots = length-map (take (slot_count l) end.words) target_of ∙ length-take-le (slot_count l) end.words (omega (arith, sized))
+  slots = length-map (take (slot_count l) end.words) target_of_word ∙ length-take-le (slot_count l) end.words (omega (arith, sized))
 
   places : All (λ t. IfSome t (λ p. p < slot_count l)) (refs_of end)
-  places i d lt = fits (get_or (refs_of end) i d) (at_unmap target_of (take (slot_count l) end.words) i (get_or (refs_of end) i d) (at_read (refs_of end) i d lt))
+  places i d lt = fits (get_or (refs_of end) i d) (at_unmap target_of_word (take (slot_count l) end.words) i (get_or (refs_of end) i d) (at_read (refs_of end) i d lt))
     where
-      fits : (t : Option ℕ) → ((n : ℕ) × (get_elem? (take (slot_count l) end.words) i ≡ some n) × (target_of n ≡ t)) → IfSome t (λ p. p < slot_count l)
+      fits : (t : Option ℕ) → ((n : ℕ) × (get_elem? (take (slot_count l) end.words) i ≡ some n) × (target_of_word n ≡ t)) → IfSome t (λ p. p < slot_count l)
       fits None x = tt
       fits (Some p) x = let there = at_untake end.words (slot_count l) i x.0 x.1 in let is = target_back x.0 p x.2 in let le : x.0 ≤ slot_count l = low_word (shape_of l m) x.0 (h.begun.bounded i x.0 there.0 (at_untake words (slot_count l + card_count l) i x.0 there.1).1) is.1 in let goal : p < slot_count l = omega (arith, le, is.0) in goal
 

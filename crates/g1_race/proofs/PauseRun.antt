@@ -18,7 +18,7 @@ use Rattle.g1_core.proofs.TableLemmas.{recorded_cases, Holds_from_held}
 use Rattle.g1_race_words.specs.declared.view.Shape.{Shape}
 use Rattle.g1_race_words.specs.declared.view.View.{View}
 use Rattle.g1_race_words.specs.Begin.{Begun}
-use Rattle.g1_race_words.specs.Rule.{BeganInto, In, IsShape}
+use Rattle.g1_race_words.specs.Rule.{BeganInto, In, IsWholeShape}
 use Rattle.g1_race.specs.Race.{AmongStores, IsKnown, IsOver, shape_of}
 use Rattle.g1_race.specs.Over.{Ended, table_of}
 use Rattle.g1_race.specs.Drain.{DrainAtPause, HadInto, HeldDuring, table_at}
@@ -78,14 +78,14 @@ held_had t (e ∷ calls) card region h = inr (inr (record { moment = length (e �
 
 -- since the race last resumed
 
-module _ (e : Ended) (begun : Begun) (racers sweepers : List View) (shaped : IsShape begun.shape) (laid : begun.shape ≡ shape_of e.layout begun.shape.members) (over : IsOver begun e.words racers sweepers)
+module _ (e : Ended) (begun : Begun) (racers sweepers : List View) (shaped : IsWholeShape begun.shape) (laid : begun.shape ≡ shape_of e.layout begun.shape.members) (over : IsOver begun e.words racers sweepers)
     (same : (x : ℕ × ℕ) → (Contains e.pairs x → IsKnown begun sweepers x) × (IsKnown begun sweepers x → Contains e.pairs x)) (card region : ℕ) where
   abbrev first : Ended
   first = record { layout = e.layout; words = begun.words; pairs = begun.pairs }
 
   had : AmongStores begun.shape racers (card, region) ⊎ BeganInto begun.shape begun.words (card, region) ⊎ In begun.pairs (card, region) → HadInto e.layout begun racers card region
   had (inl s) = inl s
-  had (inr (inl b)) = inr (inl (began_holds first begun.shape.members card region (subst IsShape laid shaped) (subst (λ (k : Shape). BeganInto k begun.words (card, region)) laid b)))
+  had (inr (inl b)) = inr (inl (began_holds first begun.shape.members card region (subst IsWholeShape laid shaped) (subst (λ (k : Shape). BeganInto k begun.words (card, region)) laid b)))
   had (inr (inr i)) = inr (inr (to_pairs begun.pairs (card, region) (in_contains begun.pairs (card, region) i)))
 
   pub recorded_first : IsRecorded (table_of e) card region → HadInto e.layout begun racers card region

@@ -23,9 +23,9 @@ use Rattle.g1_core.proofs.RefinedLemmas.{refined_none}
 use Rattle.g1_core.proofs.StoreLemmas.{none_refinable}
 use Rattle.std.specs.Prelude.{IfSome}
 use Rattle.g1_race_words.specs.declared.view.Shape.{Shape}
-use Rattle.g1_race_words.specs.Rule.{IsReference, IsBegun, IsShape, HasBit, card_of, crosses, mark_word, start}
+use Rattle.g1_race_words.specs.Rule.{IsReference, IsBegun, IsWholeShape, HasBit, slot_card, crosses, mark_word, new_start}
 use Rattle.g1_race.specs.Race.{shape_of}
-use Rattle.g1_race.specs.Over.{ended, refs_of, table_of, target_of}
+use Rattle.g1_race.specs.Over.{ended, refs_of, table_of, target_of_word}
 use Rattle.g1_race.specs.Evacuating.{plain_reply}
 use Rattle.g1_race_words.proofs.CoverStores.{mark_apart}
 use Rattle.std.proofs.lemmas.Nat.{mul-add-lt}
@@ -40,24 +40,24 @@ store_step t new caller slot target kind lt within is e = record { allowed = rec
 
 -- the slots of a region
 
-pub slot_in : (k : Shape) (region i : ℕ) → IsShape k → region < k.regions → i < k.span → region * k.span + i < k.slots
+pub slot_in : (k : Shape) (region i : ℕ) → IsWholeShape k → region < k.regions → i < k.span → region * k.span + i < k.slots
 slot_in k region i shaped lt below =
     let r : ℕ = region * k.span in let all : ℕ = k.span * k.regions in let same : ℕ = k.regions * k.span in
     let a : r + i < all = mul-add-lt region k.span i k.regions lt below in let e : k.slots ≡ same = shaped.6 in let f : all ≡ same = omega arith in omega arith
 
 -- what a slot with this word refers to
-pub slot_gives : (k : Shape) (l : layout.Shape) (words : List ℕ) (p n : ℕ) → k ≡ shape_of l k.members → p < k.slots → get_elem? words p ≡ some n → get_or (refs_of (ended l k words)) p None ≡ target_of n
+pub slot_gives : (k : Shape) (l : layout.Shape) (words : List ℕ) (p n : ℕ) → k ≡ shape_of l k.members → p < k.slots → get_elem? words p ≡ some n → get_or (refs_of (ended l k words)) p None ≡ target_of_word n
 slot_gives k l words p n laid lt at = let slots : k.slots ≡ slot_count l = ap (λ (s : Shape). s.slots) laid in
     word_gives (ended l k words) p n (omega (arith, lt, slots)) (at_take words (k.slots + k.cards) p n (omega (arith, lt)) at)
 
-module _ (k : Shape) (l : layout.Shape) (laid : k ≡ shape_of l k.members) (p : ℕ) (lt : p < k.slots) (target : Option ℕ) (n : ℕ) (back : target_of n ≡ target) where
+module _ (k : Shape) (l : layout.Shape) (laid : k ≡ shape_of l k.members) (p : ℕ) (lt : p < k.slots) (target : Option ℕ) (n : ℕ) (back : target_of_word n ≡ target) where
   span_is : k.span ≡ l.cards * l.slots
   span_is = ap (λ (s : Shape). s.span) laid
 
   -- the kind of the store
 
   pub kind_null : (t : Table) → n ≡ 0 → kind_of t p target ≡ Null
-  kind_null t e = ap (kind_of t p) (sym back ∙ ap target_of e)
+  kind_null t e = ap (kind_of t p) (sym back ∙ ap target_of_word e)
 
   pub kind_data : (t : Table) → 2 ^ 32 ≤ n → kind_of t p target ≡ Null
   kind_data t le = ap (kind_of t p) (sym back ∙ target_data n le)
@@ -77,14 +77,14 @@ module _ (k : Shape) (l : layout.Shape) (laid : k ≡ shape_of l k.members) (p :
   pub written_refs : (words : List ℕ) → refs_of (ended l k (set words p n)) ≡ set (refs_of (ended l k words)) p target
   written_refs words =
       let front : List ℕ = take (k.slots + k.cards) words in
-      ap (λ (ws : List ℕ). map target_of (take (slot_count l) ws)) (take-set-lt (k.slots + k.cards) words p n (omega (arith, lt)))
-      ∙ (ap (map target_of) (take-set-lt (slot_count l) front p n (omega (arith, lt, slots_are k l laid)))
-      ∙ (map-set target_of (take (slot_count l) front) p n ∙ ap (λ (o : Option ℕ). set (map target_of (take (slot_count l) front)) p o) back))
+      ap (λ (ws : List ℕ). map target_of_word (take (slot_count l) ws)) (take-set-lt (k.slots + k.cards) words p n (omega (arith, lt)))
+      ∙ (ap (map target_of_word) (take-set-lt (slot_count l) front p n (omega (arith, lt, slots_are k l laid)))
+      ∙ (map-set target_of_word (take (slot_count l) front) p n ∙ ap (λ (o : Option ℕ). set (map target_of_word (take (slot_count l) front)) p o) back))
 
   same_mark : (words : List ℕ) (n c : ℕ) → get_elem? (set words p n) (mark_word k c) ≡ get_elem? words (mark_word k c)
   same_mark words n c = set_else words p (mark_word k c) n (λ e. mark_apart k p c lt e)
 
-  module _ (words : List ℕ) (h : IsBegun (start k words)) (h' : IsBegun (start k (set words p n))) where
+  module _ (words : List ℕ) (h : IsBegun (new_start k words)) (h' : IsBegun (new_start k (set words p n))) where
     abbrev t : Table
     t = table_of (ended l k words)
 
@@ -112,9 +112,9 @@ module _ (k : Shape) (l : layout.Shape) (laid : k ≡ shape_of l k.members) (p :
         plain AlreadyDirty never = refl
 
   -- its card becomes dirty
-  module _ (words : List ℕ) (h : IsBegun (start k words)) (h' : IsBegun (start k (set (set words (mark_word k (card_of k p)) 1) p n))) where
+  module _ (words : List ℕ) (h : IsBegun (new_start k words)) (h' : IsBegun (new_start k (set (set words (mark_word k (slot_card k p)) 1) p n))) where
     abbrev card : ℕ
-    card = card_of k p
+    card = slot_card k p
 
     abbrev mid : List ℕ
     mid = set words (mark_word k card) 1
@@ -173,22 +173,22 @@ module _ (k : Shape) (l : layout.Shape) (laid : k ≡ shape_of l k.members) (p :
 
   -- a store as a whole, from a table that the words make
 
-  card_is : card_of k p ≡ layout.card_of l p
+  card_is : slot_card k p ≡ layout.card_of l p
   card_is = ap (λ (s : Shape). p / s.size) laid
 
   -- where a store dirties nothing, a reference that crosses regions has its card dirty
-  pub quiet_marked : (words : List ℕ) → (kind_of (table_of (ended l k words)) p target ≡ Logged → ⊥) → crosses k p n ≡ true → get_elem? words (mark_word k (card_of k p)) ≡ some 1
+  pub quiet_marked : (words : List ℕ) → (kind_of (table_of (ended l k words)) p target ≡ Logged → ⊥) → crosses k p n ≡ true → get_elem? words (mark_word k (slot_card k p)) ≡ some 1
   quiet_marked words quiet cr = elim (cases_Bool (fin.contains (table_of (ended l k words)).pending (layout.card_of l p))) [
-    | inl dirty ↦ (pending_word k l laid words (card_of k p) (subst (λ (c : ℕ). fin.contains (table_of (ended l k words)).pending c ≡ true) (sym card_is) dirty)).1
+    | inl dirty ↦ (pending_word k l laid words (slot_card k p) (subst (λ (c : ℕ). fin.contains (table_of (ended l k words)).pending c ≡ true) (sym card_is) dirty)).1
     | inr clean ↦ absurd (quiet (kind_across words cr ∙ ap (λ (b : Bool). cond b AlreadyDirty Logged) clean))
   ]
 
-  pub quiet_store : (t : Table) (words after : List ℕ) → table_of (ended l k words) ≡ t → after ≡ set words p n → IsBegun (start k words) → IsBegun (start k after) → (kind : Kind) → kind_of (table_of (ended l k words)) p target ≡ kind → (kind ≡ Logged → ⊥) → (kind ≡ kind_of t p target) × (table_of (ended l k after) ≡ stored t p target)
+  pub quiet_store : (t : Table) (words after : List ℕ) → table_of (ended l k words) ≡ t → after ≡ set words p n → IsBegun (new_start k words) → IsBegun (new_start k after) → (kind : Kind) → kind_of (table_of (ended l k words)) p target ≡ kind → (kind ≡ Logged → ⊥) → (kind ≡ kind_of t p target) × (table_of (ended l k after) ≡ stored t p target)
   quiet_store t words after was is h h' kind kind_is plain = (
     sym kind_is ∙ ap (λ (x : Table). kind_of x p target) was,
-    ap (λ (ws : List ℕ). table_of (ended l k ws)) is ∙ (kind_table words h (subst (λ (ws : List ℕ). IsBegun (start k ws)) is h') kind kind_is plain ∙ ap (λ (x : Table). stored x p target) was),
+    ap (λ (ws : List ℕ). table_of (ended l k ws)) is ∙ (kind_table words h (subst (λ (ws : List ℕ). IsBegun (new_start k ws)) is h') kind kind_is plain ∙ ap (λ (x : Table). stored x p target) was),
   )
 
-  pub logged_store : (t : Table) (words after : List ℕ) → table_of (ended l k words) ≡ t → after ≡ set (set words (mark_word k (card_of k p)) 1) p n → IsBegun (start k words) → IsBegun (start k after) → kind_of (table_of (ended l k words)) p target ≡ Logged → table_of (ended l k after) ≡ stored t p target
+  pub logged_store : (t : Table) (words after : List ℕ) → table_of (ended l k words) ≡ t → after ≡ set (set words (mark_word k (slot_card k p)) 1) p n → IsBegun (new_start k words) → IsBegun (new_start k after) → kind_of (table_of (ended l k words)) p target ≡ Logged → table_of (ended l k after) ≡ stored t p target
   logged_store t words after was is h h' kind_is =
-      ap (λ (ws : List ℕ). table_of (ended l k ws)) is ∙ (logged_table words h (subst (λ (ws : List ℕ). IsBegun (start k ws)) is h') kind_is ∙ ap (λ (x : Table). stored x p target) was)
+      ap (λ (ws : List ℕ). table_of (ended l k ws)) is ∙ (logged_table words h (subst (λ (ws : List ℕ). IsBegun (new_start k ws)) is h') kind_is ∙ ap (λ (x : Table). stored x p target) was)

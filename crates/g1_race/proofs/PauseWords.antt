@@ -8,9 +8,9 @@ use Rattle.std.specs.Int.{bit_at}
 use Rattle.std.proofs.lemmas.Nat.{div-mul-add}
 use Rattle.atomic_table.proofs.Lists.{set_else, set_here}
 use Rattle.g1_race_words.specs.declared.view.Shape.{Shape}
-use Rattle.g1_race_words.specs.Rule.{In, IsBegun, IsMarked, IsOfCrossing, HasBit, BeganInto, bit_word, bit_place, flag, mark_word, word_count, card_of, region_at, crosses, start}
+use Rattle.g1_race_words.specs.Rule.{In, IsBegun, IsMarked, IsOfCrossing, HasBit, BeganInto, bit_word, bit_place, flag, mark_word, word_count, slot_card, region_at, crosses, new_start}
 use Rattle.g1_race_words.specs.Steps.{pair_at}
-use Rattle.g1_race.specs.Refining.{Notes, IsRefined, AreRefined, card_pairs}
+use Rattle.g1_race.specs.Refining.{Notes, IsCardRefined, AreRefined, card_pairs}
 use Rattle.g1_race_words.proofs.Plain.{in_left, in_right, in_either, read_at, true_is}
 use Rattle.g1_race_words.proofs.Places.{reads_as}
 use Rattle.g1_race_words.proofs.Crossing.{word_low}
@@ -22,19 +22,19 @@ use Rattle.g1_race_words.proofs.Unchanged.{bounded_same, same_slots_at_mark}
 
 -- one bit is set, of a pair or a card's flag
 
-module _ (k : Shape) (words : List ℕ) (x : ℕ × ℕ) (h : IsBegun (start k words)) (card : x.0 < k.cards) (row : x.1 ≤ k.regions) where
+module _ (k : Shape) (words : List ℕ) (x : ℕ × ℕ) (h : IsBegun (new_start k words)) (card : x.0 < k.cards) (row : x.1 ≤ k.regions) where
   short : bit_word k x < length words
   short = subst (λ (n : ℕ). bit_word k x < n) (sym h.sized) (bit_below k x h.shaped card row)
 
-  pub begun_bit : (x.1 < k.regions → IsOfCrossing k x) → IsBegun (start k (with_pair k words x))
+  pub begun_bit : (x.1 < k.regions → IsOfCrossing k x) → IsBegun (new_start k (with_pair k words x))
   begun_bit of = record {
     shaped = h.shaped;
     sized = length-set words (bit_word k x) _ ∙ h.sized;
     bounded = λ p n lt at. h.bounded p n lt (sym (front_stays k words x p (omega (arith, lt))) ∙ at);
     marks = λ c lt. ⊎_elim (λ (m : get_elem? words (mark_word k c) ≡ some 1). inl (front_stays k words x (mark_word k c) (omega (arith, lt)) ∙ m)) (λ (z : get_elem? words (mark_word k c) ≡ some 0). inr (front_stays k words x (mark_word k c) (omega (arith, lt)) ∙ z)) (h.marks c lt);
     covered = λ p n lt at cr. ⊎_elim
-        (λ (b : HasBit k words (card_of k p, region_at k n)). inl (bits_stay k words x short _ b))
-        (λ (m : IsMarked k words p). inr (front_stays k words x (mark_word k (card_of k p)) (let c = card_below k p h.shaped lt in omega (arith, c)) ∙ m))
+        (λ (b : HasBit k words (slot_card k p, region_at k n)). inl (bits_stay k words x short _ b))
+        (λ (m : IsMarked k words p). inr (front_stays k words x (mark_word k (slot_card k p)) (let c = card_below k p h.shaped lt in omega (arith, c)) ∙ m))
         (h.covered p n lt (sym (front_stays k words x p (omega (arith, lt))) ∙ at) cr);
     proper = λ y py b. ⊎_elim (λ (c : HasBit k words y). h.proper y py c) (λ (e : x ≡ y). subst (IsOfCrossing k) e (of (subst (λ (z : ℕ × ℕ). z.1 < k.regions) (sym e) py.1))) (bits_back k words x short y h.shaped card py.0 b);
     flagged = are_flagged k words (with_pair k words x) (λ c lt m. sym (front_stays k words x (mark_word k c) (omega (arith, lt))) ∙ m) (λ c. bits_stay k words x short (flag k c)) h.flagged;
@@ -72,7 +72,7 @@ notes_then k a b c xs ys h g = record {
 
 -- the pairs of a card
 
-here_pairs : (k : Shape) (words : List ℕ) (c i n : ℕ) → get_elem? words (c * k.size + i) ≡ some n → crosses k (c * k.size + i) n ≡ true → (j : ℕ) → i < j → In (card_pairs k words c j) (card_of k (c * k.size + i), region_at k n)
+here_pairs : (k : Shape) (words : List ℕ) (c i n : ℕ) → get_elem? words (c * k.size + i) ≡ some n → crosses k (c * k.size + i) n ≡ true → (j : ℕ) → i < j → In (card_pairs k words c j) (slot_card k (c * k.size + i), region_at k n)
 here_pairs k words c i n at cr zero lt = absurd (omega arith)
 here_pairs k words c i n at cr (suc j) lt = pick (ℕ_discrete i j) (λ below. here_pairs k words c i n at cr j below)
   where
@@ -82,18 +82,18 @@ here_pairs k words c i n at cr (suc j) lt = pick (ℕ_discrete i j) (λ below. h
     last : List (ℕ × ℕ)
     last = pair_at k (c * k.size + j) (get_or words (c * k.size + j) 0)
 
-    here : pair_at k (c * k.size + i) (get_or words (c * k.size + i) 0) ≡ (card_of k (c * k.size + i), region_at k n) ∷ []
-    here = ap (λ (m : ℕ). pair_at k (c * k.size + i) m) (reads_as words (c * k.size + i) n 0 at) ∙ true_is (crosses k (c * k.size + i) n) ((card_of k (c * k.size + i), region_at k n) ∷ []) [] cr
+    here : pair_at k (c * k.size + i) (get_or words (c * k.size + i) 0) ≡ (slot_card k (c * k.size + i), region_at k n) ∷ []
+    here = ap (λ (m : ℕ). pair_at k (c * k.size + i) m) (reads_as words (c * k.size + i) n 0 at) ∙ true_is (crosses k (c * k.size + i) n) ((slot_card k (c * k.size + i), region_at k n) ∷ []) [] cr
 
-    pick : Dec (i ≡ j) → (i < j → In before (card_of k (c * k.size + i), region_at k n)) → In (before ++ last) (card_of k (c * k.size + i), region_at k n)
-    pick (yes e) was = in_right before last _ (subst (λ (m : ℕ). In (pair_at k (c * k.size + m) (get_or words (c * k.size + m) 0)) (card_of k (c * k.size + i), region_at k n)) e (subst (λ (l : List (ℕ × ℕ)). In l (card_of k (c * k.size + i), region_at k n)) (sym here) (inl refl)))
+    pick : Dec (i ≡ j) → (i < j → In before (slot_card k (c * k.size + i), region_at k n)) → In (before ++ last) (slot_card k (c * k.size + i), region_at k n)
+    pick (yes e) was = in_right before last _ (subst (λ (m : ℕ). In (pair_at k (c * k.size + m) (get_or words (c * k.size + m) 0)) (slot_card k (c * k.size + i), region_at k n)) e (subst (λ (l : List (ℕ × ℕ)). In l (slot_card k (c * k.size + i), region_at k n)) (sym here) (inl refl)))
     pick (no ne) was = in_left before last _ (was (omega (arith, lt, ne)))
 
-on_card : (k : Shape) (words : List ℕ) (p n : ℕ) → 0 < k.size → get_elem? words p ≡ some n → crosses k p n ≡ true → In (card_pairs k words (card_of k p) k.size) (card_of k p, region_at k n)
+on_card : (k : Shape) (words : List ℕ) (p n : ℕ) → 0 < k.size → get_elem? words p ≡ some n → crosses k p n ≡ true → In (card_pairs k words (slot_card k p) k.size) (slot_card k p, region_at k n)
 on_card k words p n pos at cr =
-    let split : card_of k p * k.size + p % k.size ≡ p = div-add-mod' p k.size in
-    subst (λ (q : ℕ). In (card_pairs k words (card_of k p) k.size) (card_of k q, region_at k n)) split
-    (here_pairs k words (card_of k p) (p % k.size) n (subst (λ (q : ℕ). get_elem? words q ≡ some n) (sym split) at) (subst (λ (q : ℕ). crosses k q n ≡ true) (sym split) cr) k.size (mod-lt p pos))
+    let split : slot_card k p * k.size + p % k.size ≡ p = div-add-mod' p k.size in
+    subst (λ (q : ℕ). In (card_pairs k words (slot_card k p) k.size) (slot_card k q, region_at k n)) split
+    (here_pairs k words (slot_card k p) (p % k.size) n (subst (λ (q : ℕ). get_elem? words q ≡ some n) (sym split) at) (subst (λ (q : ℕ). crosses k q n ≡ true) (sym split) cr) k.size (mod-lt p pos))
 
 one_pair : (b : Bool) (y x : ℕ × ℕ) → In (cond b (y ∷ []) []) x → (b ≡ true) × (y ≡ x)
 one_pair true y x (inl e) = (refl, e)
@@ -101,7 +101,7 @@ one_pair true y x (inr n) = absurd n
 one_pair false y x i = absurd i
 
 -- each is of a reference that is there
-found_there : (k : Shape) (words : List ℕ) (c : ℕ) → IsBegun (start k words) → c < k.cards → (i : ℕ) → i ≤ k.size → (x : ℕ × ℕ) → In (card_pairs k words c i) x → (x.0 ≡ c) × BeganInto k words x
+found_there : (k : Shape) (words : List ℕ) (c : ℕ) → IsBegun (new_start k words) → c < k.cards → (i : ℕ) → i ≤ k.size → (x : ℕ × ℕ) → In (card_pairs k words c i) x → (x.0 ≡ c) × BeganInto k words x
 found_there k words c h lt zero le x n = absurd n
 found_there k words c h lt (suc i) le x there = ⊎_elim
     (λ (a : In (card_pairs k words c i) x). found_there k words c h lt i (omega (arith, le)) x a)
@@ -110,14 +110,14 @@ found_there k words c h lt (suc i) le x there = ⊎_elim
     let n = get_or words p 0 in
     let below : p < k.slots = slot_below k c i h.shaped lt (omega (arith, le)) in
     let at : get_elem? words p ≡ some n = read_at words p (let e : length words ≡ word_count k = h.sized in omega (arith, e, below)) in
-    let is = one_pair (crosses k p n) (card_of k p, region_at k n) x b in
-    let on : card_of k p ≡ c = div-mul-add c k.size i (omega (arith, le)) in
+    let is = one_pair (crosses k p n) (slot_card k p, region_at k n) x b in
+    let on : slot_card k p ≡ c = div-mul-add c k.size i (omega (arith, le)) in
     (sym (ap (λ (y : ℕ × ℕ). y.0) is.1) ∙ on, (p, n, at, (below, word_low k p n (h.bounded p n below at) is.0, is.0), is.1)))
     (in_either (card_pairs k words c i) (pair_at k (c * k.size + i) (get_or words (c * k.size + i) 0)) x there)
 
 -- a card that is cleaned, once the bits of its pairs are set
 
-module _ (k : Shape) (old mid : List ℕ) (c : ℕ) (was : IsBegun (start k old)) (h : IsBegun (start k mid)) (lt : c < k.cards) (notes : Notes k old mid (card_pairs k old c k.size)) where
+module _ (k : Shape) (old mid : List ℕ) (c : ℕ) (was : IsBegun (new_start k old)) (h : IsBegun (new_start k mid)) (lt : c < k.cards) (notes : Notes k old mid (card_pairs k old c k.size)) where
   abbrev clean : List ℕ
   clean = set mid (mark_word k c) 0
 
@@ -130,15 +130,15 @@ module _ (k : Shape) (old mid : List ℕ) (c : ℕ) (was : IsBegun (start k old)
   other : (d : ℕ) → d ≢ c → get_elem? clean (mark_word k d) ≡ get_elem? mid (mark_word k d)
   other d ne = set_else mid (mark_word k c) (mark_word k d) 0 (λ e. ne (omega (arith, e)))
 
-  pub begun_cleaned : IsBegun (start k clean)
+  pub begun_cleaned : IsBegun (new_start k clean)
   begun_cleaned = record {
     shaped = h.shaped;
     sized = length-set mid (mark_word k c) 0 ∙ h.sized;
     bounded = bounded_same k mid clean (same_slots_at_mark k mid c 0) h.bounded;
     marks = λ d below. pick d below (ℕ_discrete d c);
     covered = λ p n below at cr. let there = same_slots_at_mark k mid c 0 p n below at in ⊎_elim
-        (λ (i : HasBit k mid (card_of k p, region_at k n)). inl (bit_as k mid clean _ bits i))
-        (λ (m : IsMarked k mid p). choose p n below there cr m (ℕ_discrete (card_of k p) c))
+        (λ (i : HasBit k mid (slot_card k p, region_at k n)). inl (bit_as k mid clean _ bits i))
+        (λ (m : IsMarked k mid p). choose p n below there cr m (ℕ_discrete (slot_card k p) c))
         (h.covered p n below there cr);
     proper = λ x pair b. h.proper x pair (bit_as k clean mid x (λ y. sym (bits y)) b);
     flagged = are_flagged k mid clean (λ d below m. was_marked d m (ℕ_discrete d c)) (λ d. bit_as k mid clean (flag k d) bits) h.flagged;
@@ -152,11 +152,11 @@ module _ (k : Shape) (old mid : List ℕ) (c : ℕ) (was : IsBegun (start k old)
       pick d below (yes e) = inr (ap (λ (i : ℕ). get_elem? clean (mark_word k i)) e ∙ set_here mid (mark_word k c) 0 there_is)
       pick d below (no ne) = ⊎_elim (λ (m : get_elem? mid (mark_word k d) ≡ some 1). inl (other d ne ∙ m)) (λ (z : get_elem? mid (mark_word k d) ≡ some 0). inr (other d ne ∙ z)) (h.marks d below)
 
-      choose : (p n : ℕ) → p < k.slots → get_elem? mid p ≡ some n → crosses k p n ≡ true → IsMarked k mid p → Dec (card_of k p ≡ c) → HasBit k clean (card_of k p, region_at k n) ⊎ IsMarked k clean p
-      choose p n below there cr m (yes e) = inl (bit_as k mid clean _ bits (notes.has _ (subst (λ (d : ℕ). In (card_pairs k old d k.size) (card_of k p, region_at k n)) e (on_card k old p n was.shaped.1 (sym (notes.front p (omega (arith, below))) ∙ there) cr))))
-      choose p n below there cr m (no ne) = inr (other (card_of k p) ne ∙ m)
+      choose : (p n : ℕ) → p < k.slots → get_elem? mid p ≡ some n → crosses k p n ≡ true → IsMarked k mid p → Dec (slot_card k p ≡ c) → HasBit k clean (slot_card k p, region_at k n) ⊎ IsMarked k clean p
+      choose p n below there cr m (yes e) = inl (bit_as k mid clean _ bits (notes.has _ (subst (λ (d : ℕ). In (card_pairs k old d k.size) (slot_card k p, region_at k n)) e (on_card k old p n was.shaped.1 (sym (notes.front p (omega (arith, below))) ∙ there) cr))))
+      choose p n below there cr m (no ne) = inr (other (slot_card k p) ne ∙ m)
 
-  pub refined_is : IsRefined k old clean c
+  pub refined_is : IsCardRefined k old clean c
   refined_is = record {
     slots = λ p below. set_else mid (mark_word k c) p 0 (λ e. absurd (omega (arith, e, below))) ∙ notes.front p (omega (arith, below));
     clean = set_here mid (mark_word k c) 0 there_is;
@@ -174,7 +174,7 @@ began_back : (k : Shape) (old mid : List ℕ) (x : ℕ × ℕ) → ((p : ℕ) �
 began_back k old mid x same b = (b.0, b.1, sym (same b.0 b.3.0) ∙ b.2, b.3, b.4)
 
 -- the cards from one on to the next dirty one are clean
-pub refined_past : (k : Shape) (old mid : List ℕ) (n m : ℕ) → IsBegun (start k mid) → n ≤ m → ((c : ℕ) → n ≤ c → c < m → c < k.cards → get_elem? mid (mark_word k c) ≡ some 1 → ⊥) → AreRefined k old mid n → AreRefined k old mid m
+pub refined_past : (k : Shape) (old mid : List ℕ) (n m : ℕ) → IsBegun (new_start k mid) → n ≤ m → ((c : ℕ) → n ≤ c → c < m → c < k.cards → get_elem? mid (mark_word k c) ≡ some 1 → ⊥) → AreRefined k old mid n → AreRefined k old mid m
 refined_past k old mid n m b le never h = record { slots = h.slots; clean = λ c up below. pick c up below (cases_lt c n); marks = λ c up below. h.marks c (omega (arith, up, le)) below; kept = h.kept; only = h.only }
   where
     pick : (c : ℕ) → c < m → c < k.cards → (c < n) ⊎ (n ≤ c) → get_elem? mid (mark_word k c) ≡ some 0
@@ -182,7 +182,7 @@ refined_past k old mid n m b le never h = record { slots = h.slots; clean = λ c
     pick c up below (inr high) = ⊎_elim (λ (o : get_elem? mid (mark_word k c) ≡ some 1). absurd (never c high up below o)) (λ (z : get_elem? mid (mark_word k c) ≡ some 0). z) (b.marks c below)
 
 -- a dirty card
-pub refined_next : (k : Shape) (old mid new : List ℕ) (n : ℕ) → n < k.cards → get_elem? mid (mark_word k n) ≡ some 1 → AreRefined k old mid n → IsRefined k mid new n → AreRefined k old new (n + 1)
+pub refined_next : (k : Shape) (old mid new : List ℕ) (n : ℕ) → n < k.cards → get_elem? mid (mark_word k n) ≡ some 1 → AreRefined k old mid n → IsCardRefined k mid new n → AreRefined k old new (n + 1)
 refined_next k old mid new n there dirty h g = record {
   slots = λ p lt. g.slots p lt ∙ h.slots p lt;
   clean = λ c lt below. pick c lt below (ℕ_discrete c n);

@@ -17,9 +17,9 @@ use Rattle.g1_core.specs.Adoption.{marks_for, IsPairOf}
 use Rattle.g1_core.proofs.SetLemmas.{same_cards, same_pairs, in_pairs, to_pairs}
 use Rattle.g1_core.proofs.AdoptionLemmas.{pending_flag}
 use Rattle.g1_race_words.specs.declared.view.Shape.{Shape}
-use Rattle.g1_race_words.specs.Rule.{IsWord, In, IsShape, IsBegun, IsMarked, IsPair, IsOfCrossing, HasBit, card_of, crosses, flag, mark_word, region_at, start, one_if, word_count}
+use Rattle.g1_race_words.specs.Rule.{IsWord, In, IsWholeShape, IsBegun, IsMarked, IsPair, IsOfCrossing, HasBit, slot_card, crosses, flag, mark_word, region_at, new_start, as_number, word_count}
 use Rattle.g1_race.specs.Race.{shape_of, word_of}
-use Rattle.g1_race.specs.Over.{Ended, ended, target_of, refs_of, marks_of, table_of}
+use Rattle.g1_race.specs.Over.{Ended, ended, target_of_word, refs_of, marks_of, table_of}
 use Rattle.g1_race.specs.Refining.{Notes}
 use Rattle.g1_race.specs.Resumed.{KeepsBits, AreMarked, ArePlaced, AreCovered}
 use Rattle.g1_race_words.proofs.AtBeginning.{zeros, zero_at, no_bit, zeros_read}
@@ -68,16 +68,16 @@ marked_next k t old mid n lt long is h = record {
   bits = keeps_then k old mid _ h.bits (keeps_same k mid _ (same_bits k mid (mark_word k n) 1 (omega (arith, lt))));
 }
   where
-    pick : (c : ℕ) → c < n + 1 → c < k.cards → Dec (c ≡ n) → get_elem? (set mid (mark_word k n) 1) (mark_word k c) ≡ some (one_if (set_of.contains t.pending c))
-    pick c up below (yes e) = ap (λ (i : ℕ). get_elem? (set mid (mark_word k n) 1) (mark_word k i)) e ∙ (set_here mid (mark_word k n) 1 (omega (arith, lt, long)) ∙ ap (λ (b : Bool). some (one_if b)) (sym (ap (set_of.contains t.pending) e ∙ is)))
+    pick : (c : ℕ) → c < n + 1 → c < k.cards → Dec (c ≡ n) → get_elem? (set mid (mark_word k n) 1) (mark_word k c) ≡ some (as_number (set_of.contains t.pending c))
+    pick c up below (yes e) = ap (λ (i : ℕ). get_elem? (set mid (mark_word k n) 1) (mark_word k i)) e ∙ (set_here mid (mark_word k n) 1 (omega (arith, lt, long)) ∙ ap (λ (b : Bool). some (as_number b)) (sym (ap (set_of.contains t.pending) e ∙ is)))
     pick c up below (no ne) = set_else mid (mark_word k n) (mark_word k c) 1 (λ e. ne (omega (arith, e))) ∙ h.marks c (omega (arith, up, ne)) below
 
 -- one that is not, where it was clean
 pub marked_past : (k : Shape) (t : Table) (old mid : List ℕ) (n : ℕ) → n < k.cards → get_elem? old (mark_word k n) ≡ some 0 → set_of.contains t.pending n ≡ false → AreMarked k t old mid n → AreMarked k t old mid (n + 1)
 marked_past k t old mid n lt zero_is is h = record { slots = h.slots; marks = λ c up below. pick c up below (ℕ_discrete c n); later = λ c le below. h.later c (omega (arith, le)) below; bits = h.bits }
   where
-    pick : (c : ℕ) → c < n + 1 → c < k.cards → Dec (c ≡ n) → get_elem? mid (mark_word k c) ≡ some (one_if (set_of.contains t.pending c))
-    pick c up below (yes e) = h.later c (omega (arith, e)) below ∙ (ap (λ (i : ℕ). get_elem? old (mark_word k i)) e ∙ (zero_is ∙ ap (λ (b : Bool). some (one_if b)) (sym (ap (set_of.contains t.pending) e ∙ is))))
+    pick : (c : ℕ) → c < n + 1 → c < k.cards → Dec (c ≡ n) → get_elem? mid (mark_word k c) ≡ some (as_number (set_of.contains t.pending c))
+    pick c up below (yes e) = h.later c (omega (arith, e)) below ∙ (ap (λ (i : ℕ). get_elem? old (mark_word k i)) e ∙ (zero_is ∙ ap (λ (b : Bool). some (as_number b)) (sym (ap (set_of.contains t.pending) e ∙ is))))
     pick c up below (no ne) = h.marks c (omega (arith, up, ne)) below
 
 pub marked_less : (k : Shape) (t : Table) (old new : List ℕ) (n m : ℕ) → n ≡ m → AreMarked k t old new n → AreMarked k t old new m
@@ -113,14 +113,14 @@ pub placed_less : (k : Shape) (t : Table) (old new : List ℕ) (n m : ℕ) → n
 placed_less k t old new n m e h = subst (λ (i : ℕ). ArePlaced k t old new i) e h
 
 -- what a race can begin with stays so where a slot is written whose card is marked or whose pair is recorded
-pub begun_written : (k : Shape) (words : List ℕ) (p n : ℕ) → p < k.slots → IsWord k n → (crosses k p n ≡ true → HasBit k words (card_of k p, region_at k n) ⊎ IsMarked k words p) → IsBegun (start k words) → IsBegun (start k (set words p n))
+pub begun_written : (k : Shape) (words : List ℕ) (p n : ℕ) → p < k.slots → IsWord k n → (crosses k p n ≡ true → HasBit k words (slot_card k p, region_at k n) ⊎ IsMarked k words p) → IsBegun (new_start k words) → IsBegun (new_start k (set words p n))
 begun_written k words p n lt fits covers h = record {
   shaped = h.shaped;
   sized = length-set words p n ∙ h.sized;
   bounded = bounded_wrote k words p n fits h.bounded;
   marks = λ d below. ⊎_elim (λ (m : get_elem? words (mark_word k d) ≡ some 1). inl (same d ∙ m)) (λ (z : get_elem? words (mark_word k d) ≡ some 0). inr (same d ∙ z)) (h.marks d below);
   covered = λ q m below there cr. ⊎_elim
-      (λ (t : (q ≡ p) × (n ≡ m)). on q m (subst (λ (x : ℕ × ℕ). HasBit k words (card_of k x.0, region_at k x.1) ⊎ IsMarked k words x.0) (λ i. (sym t.0 i, t.1 i)) (covers (subst (λ (x : ℕ × ℕ). crosses k x.0 x.1 ≡ true) (λ i. (t.0 i, sym t.1 i)) cr))))
+      (λ (t : (q ≡ p) × (n ≡ m)). on q m (subst (λ (x : ℕ × ℕ). HasBit k words (slot_card k x.0, region_at k x.1) ⊎ IsMarked k words x.0) (λ i. (sym t.0 i, t.1 i)) (covers (subst (λ (x : ℕ × ℕ). crosses k x.0 x.1 ≡ true) (λ i. (t.0 i, sym t.1 i)) cr))))
       (λ (t : (q ≢ p) × (get_elem? words q ≡ some m)). on q m (h.covered q m below t.1 cr))
       (at_set words p q n m there);
   proper = λ x pair b. h.proper x pair (bit_as k (set words p n) words x (λ y. sym (bits y)) b);
@@ -133,19 +133,19 @@ begun_written k words p n lt fits covers h = record {
     bits : SameBits k words (set words p n)
     bits = same_bits k words p n (omega (arith, lt))
 
-    on : (q m : ℕ) → HasBit k words (card_of k q, region_at k m) ⊎ IsMarked k words q → HasBit k (set words p n) (card_of k q, region_at k m) ⊎ IsMarked k (set words p n) q
+    on : (q m : ℕ) → HasBit k words (slot_card k q, region_at k m) ⊎ IsMarked k words q → HasBit k (set words p n) (slot_card k q, region_at k m) ⊎ IsMarked k (set words p n) q
     on q m (inl i) = inl (bit_as k words (set words p n) _ bits i)
-    on q m (inr x) = inr (same (card_of k q) ∙ x)
+    on q m (inr x) = inr (same (slot_card k q) ∙ x)
 
 -- a slot's reference is covered while others are placed
-pub covered_on : (k : Shape) (t : Table) (old mid : List ℕ) (n : ℕ) → IsShape k → ArePlaced k t old mid n → AreCovered k t old → (p word : ℕ) → p < k.slots → word ≡ word_of (table.target_of t p) → crosses k p word ≡ true → HasBit k mid (card_of k p, region_at k word) ⊎ IsMarked k mid p
+pub covered_on : (k : Shape) (t : Table) (old mid : List ℕ) (n : ℕ) → IsWholeShape k → ArePlaced k t old mid n → AreCovered k t old → (p word : ℕ) → p < k.slots → word ≡ word_of (table.target_of t p) → crosses k p word ≡ true → HasBit k mid (slot_card k p, region_at k word) ⊎ IsMarked k mid p
 covered_on k t old mid n shaped h covers p word lt e cr = ⊎_elim
-    (λ (b : HasBit k old (card_of k p, region_at k (word_of (table.target_of t p)))). inl (h.bits.on _ (subst (λ (w : ℕ). HasBit k old (card_of k p, region_at k w)) (sym e) b)))
-    (λ (m : IsMarked k old p). inr (h.marks (card_of k p) (card_below k p shaped lt) ∙ m))
+    (λ (b : HasBit k old (slot_card k p, region_at k (word_of (table.target_of t p)))). inl (h.bits.on _ (subst (λ (w : ℕ). HasBit k old (slot_card k p, region_at k w)) (sym e) b)))
+    (λ (m : IsMarked k old p). inr (h.marks (slot_card k p) (card_below k p shaped lt) ∙ m))
     (covers p lt (subst (λ (w : ℕ). crosses k p w ≡ true) e cr))
 
 -- a pair of the heap is that of some reference that crosses regions
-pub pair_crosses : (l : layout.Shape) (m : ℕ) (x : ℕ × ℕ) → IsShape (shape_of l m) → IsPairOf l x → IsOfCrossing (shape_of l m) x
+pub pair_crosses : (l : layout.Shape) (m : ℕ) (x : ℕ × ℕ) → IsWholeShape (shape_of l m) → IsPairOf l x → IsOfCrossing (shape_of l m) x
 pair_crosses l m x shaped pair = (p, n, (low, fits, across), λ i. (card i, region i))
   where
     k : Shape
@@ -181,10 +181,10 @@ all_in P (y ∷ ys) all x (inl e) = subst P e (all zero y (omega arith))
 all_in P (y ∷ ys) all x (inr i) = all_in P ys (λ j d lt. all (suc j) d (omega (arith, lt))) x i
 
 -- the pairs that a core lists
-pub listed_cross : (l : layout.Shape) (k : Shape) (pairs : List (ℕ × ℕ)) → k ≡ shape_of l k.members → IsShape k → All (IsPairOf l) pairs → (x : ℕ × ℕ) → In pairs x → IsPair k x × IsOfCrossing k x
+pub listed_cross : (l : layout.Shape) (k : Shape) (pairs : List (ℕ × ℕ)) → k ≡ shape_of l k.members → IsWholeShape k → All (IsPairOf l) pairs → (x : ℕ × ℕ) → In pairs x → IsPair k x × IsOfCrossing k x
 listed_cross l k pairs laid shaped all x i =
     let pair = all_in (IsPairOf l) pairs all x i in
-    subst (λ (s : Shape). IsPair s x × IsOfCrossing s x) (sym laid) ((pair.0, pair.1), pair_crosses l k.members x (subst IsShape laid shaped) pair)
+    subst (λ (s : Shape). IsPair s x × IsOfCrossing s x) (sym laid) ((pair.0, pair.1), pair_crosses l k.members x (subst IsWholeShape laid shaped) pair)
 
 -- words and references
 
@@ -192,7 +192,7 @@ word_some : (o : Option ℕ) (n : ℕ) → n ≡ word_of o → n ≢ 0 → (plac
 word_some None n e ne = absurd (ne e)
 word_some (Some x) n e ne = (x, refl, e)
 
-one_back : (b : Bool) → eqb (one_if b) 1 ≡ true → b ≡ true
+one_back : (b : Bool) → eqb (as_number b) 1 ≡ true → b ≡ true
 one_back true e = refl
 one_back false e = absurd (true≢false (sym e))
 
@@ -201,8 +201,8 @@ word_bound s p parts lt = word_fits (table.target_of s.table p) (slot_count s.ta
 
 -- each reference of a core's table is covered by the marks and the bits that are placed for it
 
-covered_at : (s : State) (m : ℕ) (words : List ℕ) → IsSound s → IsShape (shape_of s.table.layout m)
-    → ((c : ℕ) → c < card_count s.table.layout → get_elem? words (slot_count s.table.layout + c) ≡ some (one_if (set_of.contains s.table.pending c)))
+covered_at : (s : State) (m : ℕ) (words : List ℕ) → IsSound s → IsWholeShape (shape_of s.table.layout m)
+    → ((c : ℕ) → c < card_count s.table.layout → get_elem? words (slot_count s.table.layout + c) ≡ some (as_number (set_of.contains s.table.pending c)))
     → ((x : ℕ × ℕ) → set_of.contains s.table.recorded x ≡ true → HasBit (shape_of s.table.layout m) words x)
     → AreCovered (shape_of s.table.layout m) s.table words
 covered_at s m words parts shaped marks on p lt cr =
@@ -214,23 +214,23 @@ covered_at s m words parts shaped marks on p lt cr =
     let is : n ≡ place + 1 = some_n.2 in
     let back : region_of t.layout place ≡ region_at k n = ap (λ (q : ℕ). region_of t.layout q) (let f : place ≡ n - 1 = omega arith in f) in
     elim (parts.cover p place (record { refers = some_n.1; across = λ e. crosses_apart k p n cr (e ∙ back) })) [
-      | inl pending ↦ inr (marks (layout.card_of t.layout p) (card_below k p shaped lt) ∙ ap (λ (b : Bool). some (one_if b)) pending)
+      | inl pending ↦ inr (marks (layout.card_of t.layout p) (card_below k p shaped lt) ∙ ap (λ (b : Bool). some (as_number b)) pending)
       | inr pair ↦ inl (on _ (subst (λ (r : ℕ). set_of.contains t.recorded (layout.card_of t.layout p, r) ≡ true) back pair))
     ]
 
-pub core_covered : (s : State) (l : layout.Shape) (k : Shape) (words : List ℕ) → l ≡ s.table.layout → k ≡ shape_of l k.members → IsSound s → IsShape k
-    → ((c : ℕ) → c < k.cards → get_elem? words (mark_word k c) ≡ some (one_if (set_of.contains s.table.pending c)))
+pub core_covered : (s : State) (l : layout.Shape) (k : Shape) (words : List ℕ) → l ≡ s.table.layout → k ≡ shape_of l k.members → IsSound s → IsWholeShape k
+    → ((c : ℕ) → c < k.cards → get_elem? words (mark_word k c) ≡ some (as_number (set_of.contains s.table.pending c)))
     → ((x : ℕ × ℕ) → set_of.contains s.table.recorded x ≡ true → HasBit k words x)
     → AreCovered k s.table words
 core_covered s l k words lay laid parts shaped =
-    subst (λ (q : Shape). IsShape q → ((c : ℕ) → c < q.cards → get_elem? words (mark_word q c) ≡ some (one_if (set_of.contains s.table.pending c))) → ((x : ℕ × ℕ) → set_of.contains s.table.recorded x ≡ true → HasBit q words x) → AreCovered q s.table words)
+    subst (λ (q : Shape). IsWholeShape q → ((c : ℕ) → c < q.cards → get_elem? words (mark_word q c) ≡ some (as_number (set_of.contains s.table.pending c))) → ((x : ℕ × ℕ) → set_of.contains s.table.recorded x ≡ true → HasBit q words x) → AreCovered q s.table words)
     (sym (laid ∙ ap (λ (x : layout.Shape). shape_of x k.members) lay)) (covered_at s k.members words parts) shaped
 
 -- words that have all of a core's table
 pub record IsCopy (k : Shape) (t : Table) (words : List ℕ) : Type 0 where
   pub sized : length words ≡ word_count k
   pub slots : (p : ℕ) → p < k.slots → get_elem? words p ≡ some (word_of (table.target_of t p))
-  pub marks : (c : ℕ) → c < k.cards → get_elem? words (mark_word k c) ≡ some (one_if (set_of.contains t.pending c))
+  pub marks : (c : ℕ) → c < k.cards → get_elem? words (mark_word k c) ≡ some (as_number (set_of.contains t.pending c))
   pub on : (x : ℕ × ℕ) → set_of.contains t.recorded x ≡ true → HasBit k words x
   pub back : (x : ℕ × ℕ) → IsPair k x → HasBit k words x → set_of.contains t.recorded x ≡ true
 
@@ -257,15 +257,15 @@ module _ (s : State) (m : ℕ) (words : List ℕ) (parts : IsSound s) (few : slo
   sized = length-take-le (slot_count t.layout + card_count t.layout) words (let e = h.sized in omega arith)
 
   refs_is : refs_of first ≡ t.refs
-  refs_is = same_at (refs_of first) t.refs (length-map (take (slot_count t.layout) first.words) target_of ∙ (length-take-le (slot_count t.layout) first.words (let e = sized in omega arith) ∙ sym parts.slots)) there
+  refs_is = same_at (refs_of first) t.refs (length-map (take (slot_count t.layout) first.words) target_of_word ∙ (length-take-le (slot_count t.layout) first.words (let e = sized in omega arith) ∙ sym parts.slots)) there
     where
       there : (p : ℕ) (o : Option ℕ) → get_elem? t.refs p ≡ some o → get_elem? (refs_of first) p ≡ some o
       there p o at =
           let lt : p < slot_count t.layout = omega (arith, within t.refs p o at, parts.slots) in
           refs_here first p (word_of (table.target_of t p)) lt (front_at p _ (omega (arith, lt)) (h.slots p lt)) ∙ ap (λ (x : Option ℕ). some x) (word_target (table.target_of t p) (let a = word_bound s p parts lt in omega (arith, a, few)) ∙ reads_as t.refs p o None at)
 
-  mark_at : (c : ℕ) → c < card_count t.layout → (b : Bool) → set_of.contains t.pending c ≡ b → get_elem? first.words (slot_count t.layout + c) ≡ some (one_if b)
-  mark_at c lt b e = front_at (slot_count t.layout + c) _ (omega (arith, lt)) (h.marks c lt) ∙ ap (λ (x : Bool). some (one_if x)) e
+  mark_at : (c : ℕ) → c < card_count t.layout → (b : Bool) → set_of.contains t.pending c ≡ b → get_elem? first.words (slot_count t.layout + c) ≡ some (as_number b)
+  mark_at c lt b e = front_at (slot_count t.layout + c) _ (omega (arith, lt)) (h.marks c lt) ∙ ap (λ (x : Bool). some (as_number x)) e
 
   flag_back : (c : ℕ) → get_or (marks_of first) c false ≡ true → set_of.contains t.pending c ≡ true
   flag_back c e = elim (cases_lt c (card_count t.layout)) [
@@ -284,13 +284,13 @@ module _ (s : State) (m : ℕ) (words : List ℕ) (parts : IsSound s) (few : slo
   copy_at : table_of first ≡ t
   copy_at = λ i. record { layout = t.layout; refs = refs_is i; pending = pending_is i; recorded = recorded_is i }
 
-pub copied : (s : State) (l : layout.Shape) (k : Shape) (words : List ℕ) → l ≡ s.table.layout → k ≡ shape_of l k.members → IsSound s → IsShape k → IsCopy k s.table words → table_of (ended l k words) ≡ s.table
+pub copied : (s : State) (l : layout.Shape) (k : Shape) (words : List ℕ) → l ≡ s.table.layout → k ≡ shape_of l k.members → IsSound s → IsWholeShape k → IsCopy k s.table words → table_of (ended l k words) ≡ s.table
 copied s l k words lay laid parts shaped copy =
     let path : k ≡ shape_of s.table.layout k.members = laid ∙ ap (λ (x : layout.Shape). shape_of x k.members) lay in
     (λ i. table_of (ended (lay i) (path i) words)) ∙ copy_at s k.members words parts (let e : k.slots ≡ slot_count s.table.layout = ap (λ (x : Shape). x.slots) path in let f = shaped.3 in omega (arith, e, f)) (subst (λ (q : Shape). IsCopy q s.table words) path copy)
 
 -- the three steps, from a heap of nulls
-module _ (s : State) (l : layout.Shape) (k : Shape) (old a b : List ℕ) (pairs : List (ℕ × ℕ)) (lay : l ≡ s.table.layout) (laid : k ≡ shape_of l k.members) (parts : IsSound s) (shaped : IsShape k)
+module _ (s : State) (l : layout.Shape) (k : Shape) (old a b : List ℕ) (pairs : List (ℕ × ℕ)) (lay : l ≡ s.table.layout) (laid : k ≡ shape_of l k.members) (parts : IsSound s) (shaped : IsWholeShape k)
     (null : old ≡ zeros (word_count k)) (recorded : set_of.from_list pairs ≡ s.table.recorded) (notes : Notes k old a pairs) where
   zero_is : (i : ℕ) → i < k.slots + k.cards → get_elem? a i ≡ some 0
   zero_is i lt = notes.front i lt ∙ (ap (λ (ws : List ℕ). get_elem? ws i) null ∙ zero_at (word_count k) i (omega (arith, lt)))
@@ -311,7 +311,7 @@ module _ (s : State) (l : layout.Shape) (k : Shape) (old a b : List ℕ) (pairs 
     pub null_slots : (p : ℕ) → p < k.slots → get_elem? b p ≡ some 0
     null_slots p lt = marked.slots p lt ∙ zero_is p (omega (arith, lt))
 
-    marks_are : (c : ℕ) → c < k.cards → get_elem? b (mark_word k c) ≡ some (one_if (set_of.contains s.table.pending c))
+    marks_are : (c : ℕ) → c < k.cards → get_elem? b (mark_word k c) ≡ some (as_number (set_of.contains s.table.pending c))
     marks_are c lt = marked.marks c lt lt
 
     pub slots_covered : AreCovered k s.table b

@@ -4,7 +4,7 @@ use mathlib.Core.Option.{some}
 use lib.ListN.{get_elem?}
 use Rattle.g1_core.specs.Table.{Table, IsPending}
 use Rattle.g1_race_words.specs.declared.view.Shape.{Shape}
-use Rattle.g1_race_words.specs.Rule.{IsPair, HasBit, card_of, crosses, front, region_at}
+use Rattle.g1_race_words.specs.Rule.{IsPair, HasBit, slot_card, crosses, front, region_at}
 
 -- the slot lies outside the region and refers into it
 abbrev pub Into : Shape → List ℕ → ℕ → ℕ → Type 0
@@ -18,12 +18,12 @@ IsLeastInto heap words region None = (slot : ℕ) → Into heap words region slo
 IsLeastInto heap words region (Some slot) =
     Into heap words region slot × ((q : ℕ) → Into heap words region q → slot ≤ q)
 
-abbrev pub IsLeastOn : Shape → List ℕ → ℕ → ℕ → Option ℕ → Type 0
-IsLeastOn heap words card region None =
-    (slot : ℕ) → card_of heap slot ≡ card → Into heap words region slot → ⊥
-IsLeastOn heap words card region (Some slot) =
-    (card_of heap slot ≡ card) × Into heap words region slot
-    × ((q : ℕ) → card_of heap q ≡ card → Into heap words region q → slot ≤ q)
+abbrev pub IsLeastOfCard : Shape → List ℕ → ℕ → ℕ → Option ℕ → Type 0
+IsLeastOfCard heap words card region None =
+    (slot : ℕ) → slot_card heap slot ≡ card → Into heap words region slot → ⊥
+IsLeastOfCard heap words card region (Some slot) =
+    (slot_card heap slot ≡ card) × Into heap words region slot
+    × ((q : ℕ) → slot_card heap q ≡ card → Into heap words region q → slot ≤ q)
 
 -- the first words of the region's row, as many as this, are 0, and nothing else has changed
 pub record IsEmptied (heap : Shape) (old new : List ℕ) (region words : ℕ) : Type 0 where

@@ -10,8 +10,8 @@ use Rattle.g1_core.specs.Run.{IsStep}
 use Rattle.g1_core.specs.declared.entry.Call.TheVariants.{Redirect}
 use Rattle.g1_core.specs.declared.entry.Reply.TheVariants as reply
 use Rattle.g1_race_words.specs.declared.view.Shape.{Shape}
-use Rattle.g1_race_words.specs.Rule.{IsBegun, IsPair, HasBit, card_of, crosses, mark_word, one_if}
-use Rattle.g1_race_words.specs.Rule.{region_at, start}
+use Rattle.g1_race_words.specs.Rule.{IsBegun, IsPair, HasBit, slot_card, crosses, mark_word, as_number}
+use Rattle.g1_race_words.specs.Rule.{region_at, new_start}
 use Rattle.g1_race.specs.Clearing.{IsEmptied}
 
 -- the slot, with this word, lies outside the region and refers into it
@@ -31,13 +31,13 @@ word_after heap from to slot word =
 abbrev pub into_count : Shape → List ℕ → ℕ → ℕ → ℕ → ℕ
 into_count heap words region first zero = 0
 into_count heap words region first (suc count) = into_count heap words region first count
-    + one_if (is_into heap region (first + count) (slice_index words (first + count)))
+    + as_number (is_into heap region (first + count) (slice_index words (first + count)))
 
 -- a slot that is moved has this pair then
 abbrev pub Acquires : Shape → List ℕ → ℕ → ℕ → ℕ × ℕ → Type 0
 Acquires heap words from to pair =
     (p : ℕ) × (n : ℕ) × (p < heap.slots) × (get_elem? words p ≡ some n)
-    × (is_into heap from p n ≡ true) × (p / heap.span ≢ to) × ((card_of heap p, to) ≡ pair)
+    × (is_into heap from p n ≡ true) × (p / heap.span ≢ to) × ((slot_card heap p, to) ≡ pair)
 
 -- the references of these slots, from one on, are moved from the one region to the other, and
 -- recorded for it
@@ -52,7 +52,7 @@ pub record AreMoved (heap : Shape) (old new : List ℕ) (from to first count : �
   pub only : (x : ℕ × ℕ) → IsPair heap x → HasBit heap new x
       → HasBit heap old x ⊎ Acquires heap old from to x
   pub has : (p n : ℕ) → first ≤ p → p < first + count → p < heap.slots → get_elem? old p ≡ some n →
-      is_into heap from p n ≡ true → p / heap.span ≢ to → HasBit heap new (card_of heap p, to)
+      is_into heap from p n ≡ true → p / heap.span ≢ to → HasBit heap new (slot_card heap p, to)
 
 -- a redirect is not short
 abbrev pub HasMoved : Redirected → Type 0
@@ -62,7 +62,7 @@ HasMoved (Short refined) = ⊥
 -- all references into the region are moved to the other, and its pairs are forgotten
 pub record AreMovedAway (heap : Shape) (old new : List ℕ) (from to : ℕ) : Type 0 where
   pub between : List ℕ
-  pub begun : IsBegun (start heap between)
+  pub begun : IsBegun (new_start heap between)
   pub moved : AreMoved heap old between from to 0 heap.slots
   pub emptied : IsEmptied heap between new from heap.row
 

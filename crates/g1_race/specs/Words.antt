@@ -5,15 +5,15 @@ use lib.ListN.{get_elem?}
 use Rattle.g1_race_words.specs.declared.view.Shape.{Shape}
 use Rattle.g1_race_words.specs.declared.view.View.{View}
 use Rattle.g1_race_words.specs.Begin.{Begun}
-use Rattle.g1_race_words.specs.Rule.{In, Held, held_of, card_of, region_at, crosses, IsMarked}
+use Rattle.g1_race_words.specs.Rule.{In, Held, held_of, slot_card, region_at, crosses, IsMarked}
 use Rattle.g1_race_words.specs.Rule.{IsPair, HasBit, StoredInto, BeganInto, Raced}
 
 -- the seat owes the card of the slot, still has the slot to read, or holds the pair of the slot and
 -- its word
 abbrev pub Minds : Shape → View → ℕ → ℕ → Type 0
 Minds heap view slot word =
-    (view.owed ≡ Some (card_of heap slot)) ⊎ ((view.next ≤ slot) × (slot < view.end))
-    ⊎ In view.held (card_of heap slot, region_at heap word)
+    (view.owed ≡ Some (slot_card heap slot)) ⊎ ((view.next ≤ slot) × (slot < view.end))
+    ⊎ In view.held (slot_card heap slot, region_at heap word)
 
 -- each slot that refers into another region has its card marked or its pair's bit set, or some seat
 -- minds it
@@ -22,7 +22,7 @@ SlotsAreCovered =
     (begun : Begun) (words : List ℕ) (views : List View) → Raced begun words views → (p n : ℕ)
     → p < begun.shape.slots → get_elem? words p ≡ some n → crosses begun.shape p n ≡ true
     → IsMarked begun.shape words p
-    ⊎ HasBit begun.shape words (card_of begun.shape p, region_at begun.shape n)
+    ⊎ HasBit begun.shape words (slot_card begun.shape p, region_at begun.shape n)
     ⊎ ((seat : ℕ) × (v : View) × (get_elem? views seat ≡ some v) × Minds begun.shape v p n)
 
 -- the pair is of a reference that some racer stored, or that was there at the beginning, or was

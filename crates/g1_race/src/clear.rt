@@ -5,9 +5,9 @@ ghost use mathlib.Core.Option.{some};
 ghost use lib.ListN.{get_elem?};
 ghost use Rattle.g1_core.specs.Run.{IsStep};
 ghost use Rattle.g1_core.specs.Calls.{clear_entry};
-ghost use Rattle.g1_race_words.specs.Rule.{IsShape, crosses, mark_word, region_at};
+ghost use Rattle.g1_race_words.specs.Rule.{IsWholeShape, crosses, mark_word, region_at};
 ghost use Rattle.g1_race.specs.Over.{halted};
-ghost use Rattle.g1_race.specs.Clearing.{Into, IsLeastInto, IsLeastOn, IsEmptied};
+ghost use Rattle.g1_race.specs.Clearing.{Into, IsLeastInto, IsLeastOfCard, IsEmptied};
 ghost use Rattle.g1_race.specs.Evacuating.{IsSameRace, SlotsBecome, same_word};
 ghost use Rattle.g1_race_words.specs.Seats.{IsPaused};
 
@@ -78,7 +78,7 @@ fn entering(race: &Race, seat: &mut Place, region: usize) -> Option<usize>
 fn entering_on(race: &Race, seat: &mut Place, card: usize, region: usize) -> Option<usize>
     requires seat { IsPaused race.now.table.table_id race.now.shape seat.old }
     requires card { card < race.now.shape.cards }
-    ensures least { IsLeastOn race.now.shape seat.old.me.0.began_words card region result }
+    ensures least { IsLeastOfCard race.now.shape seat.old.me.0.began_words card region result }
     ensures seat { (seat.new.table_id ≡ seat.old.table_id) × (seat.new.me ≡ seat.old.me) }
 {
     let shape = race.shape;
@@ -94,7 +94,7 @@ fn entering_on(race: &Race, seat: &mut Place, card: usize, region: usize) -> Opt
 
 // Whether a slot with this word lies outside the region and refers into it.
 pub(crate) fn enters(shape: Shape, slot: usize, word: u64, region: usize) -> bool
-    requires shape { IsShape shape }
+    requires shape { IsWholeShape shape }
     ensures { IsTrue result ↔ ((crosses shape slot word ≡ true) × (region_at shape word ≡ region)) }
 {
     if !is_reference(word) {

@@ -1,9 +1,9 @@
 //! Stores that return what the slot referred to before, or depend on it.
 ghost use Rattle.std.specs.Prelude.{◌≡◌, ◌<◌, ◌++◌, [], ◌∷◌, IfSome, IfOk, IfErr, if◌then◌else◌};
 ghost use Rattle.arrayvec.specs.ArrayVec.{array_vec_len};
-ghost use Rattle.g1_race_words.specs.Rule.{card_of};
+ghost use Rattle.g1_race_words.specs.Rule.{slot_card};
 ghost use Rattle.g1_race_words.specs.Seats.{IsFound};
-ghost use Rattle.g1_race.specs.Race.{word_of, stored};
+ghost use Rattle.g1_race.specs.Race.{word_of, stored_view};
 ghost use Rattle.g1_layout.specs.Shape.{slot_count};
 ghost use Rattle.g1_race.specs.Members.{race_id, race_layout, race_shape, racer_race, racer_start};
 ghost use Rattle.g1_race.specs.Members.{racer_view, HasNotStored, HasStored, IsKind, is_logged};
@@ -29,7 +29,7 @@ impl Racer {
         ensures race { racer_race self.new ≡ racer_race self.old }
         ensures start { racer_start self.new ≡ racer_start self.old }
         ensures kind { IsKind (race_shape race.now) slot target result.0 }
-        ensures view { racer_view self.new ≡ stored (race_shape race.now) (racer_view self.old)
+        ensures view { racer_view self.new ≡ stored_view (race_shape race.now) (racer_view self.old)
             slot (word_of target) (is_logged result.0) }
         ensures log { self.new.log.items ≡ (if is_logged result.0
             then self.old.log.items ++ card_of (race_shape race.now) slot ∷ []
@@ -61,7 +61,7 @@ impl Racer {
         requires room { array_vec_len self.old.log < 256 }
         ensures race { racer_race self.new ≡ racer_race self.old }
         ensures start { racer_start self.new ≡ racer_start self.old }
-        ensures stored { IfOk result (λ kind.
+        ensures stored_view { IfOk result (λ kind.
             HasStored (race_shape race.now) slot target kind self.old self.new) }
         ensures expected { IfOk result (λ kind.
             IsFound (racer_view self.old) slot (word_of expected)) }

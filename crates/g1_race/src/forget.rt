@@ -4,7 +4,7 @@ ghost use mathlib.Core.Option.{some};
 ghost use lib.ListN.{get_elem?};
 ghost use Rattle.g1_layout.specs.Shape.{region_of};
 ghost use Rattle.g1_core.specs.Table.{Crosses};
-ghost use Rattle.g1_race_words.specs.Rule.{IsPair, card_of, crosses, region_at};
+ghost use Rattle.g1_race_words.specs.Rule.{IsPair, slot_card, crosses, region_at};
 ghost use Rattle.g1_race.specs.Over.{halted};
 ghost use Rattle.g1_race.specs.Clearing.{AreUnset};
 ghost use Rattle.g1_race.specs.Evacuating.{IsSameRace, SlotsBecome, same_word, forgotten};
@@ -44,7 +44,7 @@ fn forget_cards(race: &Race, seat: &mut Place, first: usize, end: usize)
     requires within { (first ≤ end) × (end ≤ race.now.shape.cards) }
     requires closed { (p n : ℕ) → p < race.now.shape.slots
         → get_elem? seat.old.me.0.began_words p ≡ some n → crosses race.now.shape p n ≡ true
-        → first ≤ card_of race.now.shape p → card_of race.now.shape p < end → ⊥ }
+        → first ≤ slot_card race.now.shape p → slot_card race.now.shape p < end → ⊥ }
     ensures seat { IsPaused race.now.table.table_id race.now.shape seat.new }
     ensures unset { AreUnset race.now.shape seat.old.me.0.began_words seat.new.me.0.began_words
         (λ x. (first ≤ x.0) × (x.0 < end)) }
@@ -61,7 +61,7 @@ fn forget_row(race: &Race, seat: &mut Place, first: usize, end: usize, region: u
     requires region { region < race.now.shape.regions }
     requires closed { (p n : ℕ) → p < race.now.shape.slots
         → get_elem? seat.old.me.0.began_words p ≡ some n → crosses race.now.shape p n ≡ true
-        → first ≤ card_of race.now.shape p → card_of race.now.shape p < end → ⊥ }
+        → first ≤ slot_card race.now.shape p → slot_card race.now.shape p < end → ⊥ }
     ensures seat { IsPaused race.now.table.table_id race.now.shape seat.new }
     ensures unset { AreUnset race.now.shape seat.old.me.0.began_words seat.new.me.0.began_words
         (λ x. (x.1 ≡ region) × (first ≤ x.0) × (x.0 < end)) }
@@ -82,7 +82,7 @@ fn clear_bit(race: &Race, seat: &mut Place, card: usize, region: usize)
     requires pair { IsPair race.now.shape (card, region) }
     requires closed { (p n : ℕ) → p < race.now.shape.slots
         → get_elem? seat.old.me.0.began_words p ≡ some n → crosses race.now.shape p n ≡ true
-        → card ≡ card_of race.now.shape p → region ≡ region_at race.now.shape n → ⊥ }
+        → card ≡ slot_card race.now.shape p → region ≡ region_at race.now.shape n → ⊥ }
     ensures seat { IsPaused race.now.table.table_id race.now.shape seat.new }
     ensures unset { AreUnset race.now.shape seat.old.me.0.began_words seat.new.me.0.began_words
         (λ x. x ≡ (card, region)) }

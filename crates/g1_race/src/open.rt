@@ -1,7 +1,7 @@
 //! How a heap begins: at a pause.
 ghost use Rattle.std.specs.Prelude.{◌≡◌, ◌+◌, ◌≤◌, [], IfOk, replicate, map, vec_len};
 ghost use Rattle.g1_core.specs.Table.{opening};
-ghost use Rattle.g1_race_words.specs.Rule.{IsShape, null_of};
+ghost use Rattle.g1_race_words.specs.Rule.{IsWholeShape, null_of};
 ghost use Rattle.g1_race.specs.Race.{shape_of};
 ghost use Rattle.g1_race.specs.Over.{halted, start_at};
 ghost use Rattle.g1_race.specs.Members.{race_layout, race_shape, racer_log, AreFreshRacers};
@@ -112,7 +112,7 @@ fn spent_sweepers(alloc: Global, table: &RaceTable, count: usize) -> Result<Vec<
 pub(crate) fn shape_of(layout: Layout, members: usize) -> Shape
     requires { members ≤ 128 }
     ensures shape { result ≡ shape_of layout members }
-    ensures shaped { IsShape result }
+    ensures shaped { IsWholeShape result }
 {
     let (regions, cards, slots) = layout.counts();
     let row = ((regions * cards) as usize + 63) / 64;

@@ -3,7 +3,7 @@ ghost use Rattle.std.specs.Prelude.{◌≡◌, ◌≢◌, ◌==◌, ◌+◌, ◌
 ghost use Rattle.std.specs.Prelude.{length, slice_index};
 ghost use Rattle.std.specs.Int.{bit_at};
 ghost use Rattle.std.specs.Slots.{slots_items, slots_len, IsFull};
-ghost use Rattle.g1_race_words.specs.Rule.{IsShape, IsPair, bit_word, bit_place, pairs_of_card};
+ghost use Rattle.g1_race_words.specs.Rule.{IsWholeShape, IsPair, bit_word, bit_place, pairs_of_card};
 ghost use Rattle.g1_race_words.specs.Rule.{pairs_up_to, word_count};
 ghost use Rattle.g1_race.specs.Race.{shape_of};
 ghost use Rattle.g1_race.specs.Telling.{block_regions};
@@ -17,7 +17,7 @@ use std::alloc::Global;
 
 // Whether the pair's bit is set.
 pub(crate) fn has_bit(words: &Closed<(), Global>, shape: Shape, card: usize, region: usize) -> bool
-    requires shape { IsShape shape }
+    requires shape { IsWholeShape shape }
     requires pair { IsPair shape (card, region) }
     requires words { (slots_len words.now.words ≡ word_count shape)
         × (length (slots_items words.now.words) ≡ word_count shape)
@@ -38,7 +38,7 @@ pub(crate) fn list_pairs(
     layout: Layout,
     shape: Shape,
 ) -> Result<Vec<(Card, Region)>, NoMemory>
-    requires shape { IsShape shape }
+    requires shape { IsWholeShape shape }
     requires laid { shape ≡ shape_of layout shape.members }
     requires words { (slots_len words.now.words ≡ word_count shape)
         × (length (slots_items words.now.words) ≡ word_count shape)
@@ -65,7 +65,7 @@ fn note_regions(
     card: usize,
     regions: &mut ArrayVec<usize, 256>,
 )
-    requires shape { IsShape shape }
+    requires shape { IsWholeShape shape }
     requires card { card < shape.cards }
     requires few { shape.regions ≤ 256 }
     requires words { (slots_len words.now.words ≡ word_count shape)
@@ -97,7 +97,7 @@ fn list_card(
     regions: &[usize],
     pairs: &mut Vec<(Card, Region)>,
 ) -> Result<(), NoMemory>
-    requires shape { IsShape shape }
+    requires shape { IsWholeShape shape }
     requires laid { shape ≡ shape_of layout shape.members }
     requires card { card < shape.cards }
     requires words { (slots_len words.now.words ≡ word_count shape)
@@ -118,7 +118,7 @@ fn list_card(
 
 // The pair with these numbers.
 fn pair_at(layout: Layout, shape: Shape, card: usize, region: usize) -> (Card, Region)
-    requires shape { IsShape shape }
+    requires shape { IsWholeShape shape }
     requires laid { shape ≡ shape_of layout shape.members }
     requires pair { IsPair shape (card, region) }
     ensures { result ≡ (card, region) }
@@ -131,7 +131,7 @@ fn pair_at(layout: Layout, shape: Shape, card: usize, region: usize) -> (Card, R
 
 // How many bits are set: room for that many pairs is asked for at once.
 fn count_bits(words: &Closed<(), Global>, shape: Shape) -> usize
-    requires shape { IsShape shape }
+    requires shape { IsWholeShape shape }
     requires words { (slots_len words.now.words ≡ word_count shape)
         × (length (slots_items words.now.words) ≡ word_count shape)
         × IsFull words.now.words }

@@ -3,7 +3,7 @@
 //! A racer or a sweeper has a seat at the table of words: a token of no bytes at run time, which
 //! carries what its thread knows, in the proofs alone ([`View`](crate::View)).
 ghost use Rattle.std.specs.Prelude.{◌≡◌, ◌+◌, ◌<◌, []};
-ghost use Rattle.g1_race_words.specs.Rule.{IsShape};
+ghost use Rattle.g1_race_words.specs.Rule.{IsWholeShape};
 ghost use Rattle.g1_race.specs.Race.{shape_of, IsRacing, IsSweeping};
 
 use arrayvec::ArrayVec;
@@ -23,7 +23,7 @@ pub struct Race {
     pub(crate) shape: Shape,
     ghost laid: { shape ≡ shape_of layout shape.members },
     ghost key_is: { table.shape ≡ shape },
-    ghost shaped: { IsShape shape },
+    ghost shaped: { IsWholeShape shape },
     ghost some: { 0 < shape.members },
 }
 

@@ -5,7 +5,7 @@ ghost use Rattle.g1_race_words.specs.Rule.{IsPair, IsWord, start_of};
 ghost use Rattle.g1_race_words.specs.Steps.{recorded};
 ghost use Rattle.g1_layout.specs.Shape.{slot_count, card_count};
 ghost use Rattle.g1_race.specs.Members.{race_id, race_layout, sweeper_race, sweeper_start};
-ghost use Rattle.g1_race.specs.Members.{sweeper_view, Sweeps, Recording, Holding};
+ghost use Rattle.g1_race.specs.Members.{sweeper_view, IsSweeperSeat, Recording, Holding};
 
 use crate::bits::bit_of;
 use crate::race::{Race, Sweeper};
@@ -40,9 +40,9 @@ impl Sweeper {
 
 // Cleans a card, and then reads its slots.
 fn sweep(race: &Race, seat: &mut Place, card: usize)
-    requires seat { Sweeps race.now.table.table_id race.now.shape seat.old }
+    requires seat { IsSweeperSeat race.now.table.table_id race.now.shape seat.old }
     requires card { card < race.now.shape.cards }
-    ensures seat { Sweeps race.now.table.table_id race.now.shape seat.new }
+    ensures seat { IsSweeperSeat race.now.table.table_id race.now.shape seat.new }
     ensures start { start_of seat.new.me.0 ≡ start_of seat.old.me.0 }
     ensures swept { seat.new.me.0.swept ≡ card ∷ seat.old.me.0.swept }
 {

@@ -3,7 +3,7 @@ ghost use Rattle.std.specs.Prelude.{◌≡◌, ◌<◌, ◌^◌, ◌↔◌, IsTr
 ghost use Rattle.g1_layout.specs.Shape.{slot_count};
 ghost use Rattle.g1_race_words.specs.Rule.{IsReference, IsWord};
 ghost use Rattle.g1_race.specs.Race.{shape_of, word_of};
-ghost use Rattle.g1_race.specs.Over.{target_of};
+ghost use Rattle.g1_race.specs.Over.{target_of_word};
 
 use g1_layout::{Layout, Slot};
 
@@ -31,7 +31,7 @@ pub(crate) fn is_reference(word: u64) -> bool
 pub(crate) fn refers_to(layout: Layout, word: u64) -> Option<Slot>
     requires word { IsWord (shape_of layout 0) word }
     requires low { slot_count layout < 2 ^ 32 }
-    ensures target { result ≡ target_of word }
+    ensures target { result ≡ target_of_word word }
     ensures within { IfSome result (λ place. place < slot_count layout) }
 {
     if !is_reference(word) {

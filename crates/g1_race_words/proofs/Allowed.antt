@@ -7,7 +7,7 @@ use Rattle.atomic_table.specs.Table.{State, Me, keeps, Allows, Splits, Joins, En
 use Rattle.g1_race_words.specs.declared.view.Shape.{Shape}
 use Rattle.g1_race_words.specs.declared.view.View.{View}
 use Rattle.g1_race_words.specs.Begin.{Start}
-use Rattle.g1_race_words.specs.Rule.{IsWord, History, Raced, beginning, mark_word, bit_word, bit_place, In, IsShape, IsPair, AtRest, IsBlank, IsBegun, Going, start}
+use Rattle.g1_race_words.specs.Rule.{IsWord, StoreHistory, Raced, beginning, mark_word, bit_word, bit_place, In, IsWholeShape, IsPair, AtRest, IsBlank, IsBegun, Going, new_start}
 use Rattle.g1_race_words.specs.Steps.{iced, thawed, put, blank, wrote, exchanged, looked, owed_card, dirtied, cleaned, read, sought, recorded, lighter, new_racer, new_sweeper, both, nothing}
 use Rattle.g1_race_words.proofs.PairBits.{with_pair}
 use Rattle.g1_race_words.proofs.Plain.{set_read, set_there, read_at}
@@ -31,7 +31,7 @@ pub record Knows (k : Shape) (v : View) : Type 0 where
   pub blank : IsBlank v
   pub shape : v.shape ≡ k
   pub frozen : v.frozen ≡ true
-  pub begun : IsBegun (start k v.began_words)
+  pub begun : IsBegun (new_start k v.began_words)
 
 module _ {S : Type 0} where
   abbrev Rule : Shape → State S View → Type 0
@@ -48,17 +48,17 @@ module _ {S : Type 0} where
     there = read_at s.words p (omega (arith, h.raced.sized));
   }
 
-  going_write : (k : Shape) (id p n : ℕ) (v : View) (mine : History) → Sits k v → v.owed ≡ None → v.histories ≡ mine ∷ [] → p < k.slots → IsWord k n
+  going_write : (k : Shape) (id p n : ℕ) (v : View) (mine : StoreHistory) → Sits k v → v.owed ≡ None → v.histories ≡ mine ∷ [] → p < k.slots → IsWord k n
       → (s : State S View) → Rule k s → get_elem? s.views id ≡ some v → Going k (set s.words p n) (set s.views id (wrote v p n))
   going_write k id p n v mine sits free one lt bound s h at =
       going_step k s.words s.views h (set s.words p n) id v (wrote v p n) at (omega (arith, sits.weight)) sits.going refl refl refl refl (raced_wrote (begun k s.words s.views h) s.words s.views id v p n mine sits free one lt bound at h.raced)
 
-  pub allows_write : (k : Shape) (slots id p n : ℕ) (me : Me S View) (mine : History) → Sits k me.0 → me.0.owed ≡ None → me.0.histories ≡ mine ∷ [] → p < k.slots → IsWord k n
+  pub allows_write : (k : Shape) (slots id p n : ℕ) (me : Me S View) (mine : StoreHistory) → Sits k me.0 → me.0.owed ≡ None → me.0.histories ≡ mine ∷ [] → p < k.slots → IsWord k n
       → Allows (Rule k) slots id me p (λ _. n) (λ m after. (after ≡ (wrote me.0 p n, me.1)) × IsFound me.0 p m)
   allows_write k slots id p n me mine sits free one lt bound s h len at fits =
       (wrote me.0 p n, keeps, tt, going_write k id p n me.0 mine sits free one lt bound s h at, (refl, found_there k id p me.0 s h at sits.weight lt))
 
-  pub allows_exchange : (k : Shape) (slots id p old n : ℕ) (me : Me S View) (mine : History) → Sits k me.0 → me.0.owed ≡ None → me.0.histories ≡ mine ∷ [] → p < k.slots → IsWord k n
+  pub allows_exchange : (k : Shape) (slots id p old n : ℕ) (me : Me S View) (mine : StoreHistory) → Sits k me.0 → me.0.owed ≡ None → me.0.histories ≡ mine ∷ [] → p < k.slots → IsWord k n
       → Allows (Rule k) slots id me p (λ m. either (m == old) n m) (λ m after. (after ≡ (exchanged me.0 p old n m, me.1)) × IsFound me.0 p m)
   allows_exchange k slots id p old n me mine sits free one lt bound s h len at fits =
       let m = get_or s.words p 0 in (exchanged me.0 p old n m, keeps, tt, pick (m == old), (refl, found_there k id p me.0 s h at sits.weight lt))
@@ -117,7 +117,7 @@ module _ {S : Type 0} where
         (refl, subst (λ (x : Shape). IsWord x n) (sym sits.shape) (h.raced.bounded p n lt (read_at s.words p (omega (arith, h.raced.sized))))),
       )
 
-  pub allows_seek : (k : Shape) (slots id : ℕ) (x : ℕ × ℕ) (me : Me S View) → IsShape k → Sits k me.0 → me.0.held ≡ x ∷ []
+  pub allows_seek : (k : Shape) (slots id : ℕ) (x : ℕ × ℕ) (me : Me S View) → IsWholeShape k → Sits k me.0 → me.0.held ≡ x ∷ []
       → Allows (Rule k) slots id me (bit_word k x) (λ n. n) (λ n after. after ≡ (sought me.0 n, me.1))
   allows_seek k slots id x me shaped sits one s h len at fits =
       let n = get_or s.words (bit_word k x) 0 in (
@@ -129,7 +129,7 @@ module _ {S : Type 0} where
         refl,
       )
 
-  pub allows_record : (k : Shape) (slots id : ℕ) (x : ℕ × ℕ) (me : Me S View) → IsShape k → Sits k me.0 → me.0.held ≡ x ∷ [] → IsPair k x
+  pub allows_record : (k : Shape) (slots id : ℕ) (x : ℕ × ℕ) (me : Me S View) → IsWholeShape k → Sits k me.0 → me.0.held ≡ x ∷ [] → IsPair k x
       → Allows (Rule k) slots id me (bit_word k x) (λ n. bit_or n (1 * 2 ^ bit_place k x % 2 ^ 64)) (λ _ after. after ≡ (recorded me.0, me.1))
   allows_record k slots id x me shaped sits one pair s h len at fits =
       (recorded me.0, keeps, tt, going_step k s.words s.views h (with_pair k s.words x) id me.0 (recorded me.0) at (omega (arith, sits.weight)) sits.going refl refl refl refl (raced_recorded (begun k s.words s.views h) s.words s.views id me.0 x shaped sits one pair at h.raced), refl)
@@ -138,8 +138,8 @@ module _ {S : Type 0} where
   splits_racer k id v still heavy given moving s h at = going_split k s.words s.views h id v (new_racer v) at heavy refl (sym moving) (omega arith)
       (raced_split (begun k s.words s.views h) s.words s.views id v (new_racer v) still heavy refl (number_given v given) fresh refl refl refl refl refl at h.raced)
     where
-      fresh : (g : History) → In ((v.spare - 1, []) ∷ []) g → g.1 ≡ []
-      fresh g (inl e) = ap (λ (x : History). x.1) (sym e)
+      fresh : (g : StoreHistory) → In ((v.spare - 1, []) ∷ []) g → g.1 ≡ []
+      fresh g (inl e) = ap (λ (x : StoreHistory). x.1) (sym e)
       fresh g (inr i) = absurd i
 
   pub splits_sweeper : (k : Shape) (id : ℕ) (v : View) → IsBlank v → 0 < v.weight → v.frozen ≡ false → Splits (Rule k) id v (lighter v) (new_sweeper v)
@@ -162,39 +162,39 @@ module _ {S : Type 0} where
         keeps,
         tt,
         subst (λ (ws : List ℕ). Going k ws (set s.views id (thawed me.0))) (sym (set_read s.words p ∙ words))
-            (going_anew k s.words s.views id me.0 c.all c.pos h at me.0.began_words (thawed me.0) c.begun c.blank c.all c.spare (ap (λ (x : Shape). start x me.0.began_words) c.shape)),
+            (going_anew k s.words s.views id me.0 c.all c.pos h at me.0.began_words (thawed me.0) c.begun c.blank c.all c.spare (ap (λ (x : Shape). new_start x me.0.began_words) c.shape)),
         refl,
       )
 
-  pub allows_set : (k : Shape) (slots id p n : ℕ) (me : Me S View) → Knows k me.0 → IsBegun (start k (set me.0.began_words p n)) → Allows (Rule k) slots id me p (λ _. n) (λ _ after. after ≡ (put me.0 p n, me.1))
+  pub allows_set : (k : Shape) (slots id p n : ℕ) (me : Me S View) → Knows k me.0 → IsBegun (new_start k (set me.0.began_words p n)) → Allows (Rule k) slots id me p (λ _. n) (λ _ after. after ≡ (put me.0 p n, me.1))
   allows_set k slots id p n me c b s h len at fits =
       let words = known_words k s.words s.views id me.0 c.all c.pos h at c.frozen in (
         put me.0 p n,
         keeps,
         tt,
         subst (λ (ws : List ℕ). Going k (set ws p n) (set s.views id (put me.0 p n))) (sym words)
-            (going_anew k s.words s.views id me.0 c.all c.pos h at (set me.0.began_words p n) (put me.0 p n) b c.blank c.all c.spare (ap (λ (x : Shape). start x (set me.0.began_words p n)) c.shape)),
+            (going_anew k s.words s.views id me.0 c.all c.pos h at (set me.0.began_words p n) (put me.0 p n) b c.blank c.all c.spare (ap (λ (x : Shape). new_start x (set me.0.began_words p n)) c.shape)),
         refl,
       )
 
 -- the words are learned
-pub allows_freeze : (k : Shape) (slots id p : ℕ) (me : Me (Unit {0}) View) → IsShape k → me.0.weight ≡ k.members → 0 < k.members → AtRest me.0
+pub allows_freeze : (k : Shape) (slots id p : ℕ) (me : Me (Unit {0}) View) → IsWholeShape k → me.0.weight ≡ k.members → 0 < k.members → AtRest me.0
     → Allows (Rule k) slots id me p (λ n. n) (λ n after. Freezes me after)
 allows_freeze k slots id p me shaped all pos rest s h len at fits =
     let shape = shape_mine k s.words s.views id me.0 all pos h at in
     let here = begun_here k s.words s.views id me.0 all pos h at shaped rest in
-    let w = iced (start me.0.shape s.words) me.0.weight in (
+    let w = iced (new_start me.0.shape s.words) me.0.weight in (
       w,
       keeps,
       tt,
       subst (λ (ws : List ℕ). Going k ws (set s.views id w)) (sym (set_read s.words p))
-          (going_anew k s.words s.views id me.0 all pos h at s.words w here ((refl, refl, refl, refl), refl, refl, refl, refl) all all (ap (λ (x : Shape). start x s.words) shape)),
+          (going_anew k s.words s.views id me.0 all pos h at s.words w here ((refl, refl, refl, refl), refl, refl, refl, refl) all all (ap (λ (x : Shape). new_start x s.words) shape)),
       record {
         words = s.words;
         views = s.views;
         id = id;
         view = refl;
-        begun = subst (λ (x : Shape). IsBegun (start x s.words)) (sym shape) here;
+        begun = subst (λ (x : Shape). IsBegun (new_start x s.words)) (sym shape) here;
         raced = raced_mine k s.words s.views id me.0 all pos h at;
         mine = at;
         still = known_words k s.words s.views id me.0 all pos h at;

@@ -6,7 +6,7 @@ use mathlib.Core.Option.{some, some-ne-none, some-injective}
 use lib.ListN.{get_elem?}
 use Rattle.g1_race_words.specs.declared.view.Shape.{Shape}
 use Rattle.g1_race_words.specs.declared.view.View.{View}
-use Rattle.g1_race_words.specs.Rule.{MadeDirty, IsBegun, IsShape, HasBit, bit_word, bit_place, card_of, mark_word, region_at, In, Held, claims_of, pairs_of, IsMarked, IsBlank, Raced, Going, front, pairs_up_to, null_of, start, beginning, start_of, word_count}
+use Rattle.g1_race_words.specs.Rule.{MadeDirty, IsBegun, IsWholeShape, HasBit, bit_word, bit_place, slot_card, mark_word, region_at, In, Held, claims_of, pairs_found, IsMarked, IsBlank, Raced, Going, front, pairs_up_to, null_of, new_start, beginning, start_of, word_count}
 use Rattle.g1_race_words.specs.Steps.{iced}
 use Rattle.g1_race_words.proofs.PairBits.{crossing_pair}
 use Rattle.g1_race_words.proofs.Places.{at_take, at_untake}
@@ -41,17 +41,17 @@ never_both l i z o = absurd (let e : 0 ≡ 1 = some-injective 0 1 (sym z ∙ o) 
 pub same_word : (words : List ℕ) (count i m n : ℕ) → get_elem? (take count words) i ≡ some m → get_elem? words i ≡ some n → m ≡ n
 same_word words count i m n was is = some-injective m n (sym (at_untake words count i m was).1 ∙ is)
 
-pub raced_beginning : (k : Shape) (words : List ℕ) → IsBegun (start k words) → Raced (beginning (start k words)) words (iced (start k words) k.members ∷ [])
-raced_beginning k words h = let v = iced (start k words) k.members in record {
+pub raced_beginning : (k : Shape) (words : List ℕ) → IsBegun (new_start k words) → Raced (beginning (new_start k words)) words (iced (new_start k words) k.members ∷ [])
+raced_beginning k words h = let v = iced (new_start k words) k.members in record {
   sized = h.sized;
   bounded = h.bounded;
-  covered = λ p n lt at cr. ⊎_elim (λ (i : HasBit k words (card_of k p, region_at k n)). inl (set_in k words _ (crossing_pair k p n h.shaped lt (h.bounded p n lt at) cr) i)) (λ (m : IsMarked k words p). inr (inl m)) (h.covered p n lt at cr);
+  covered = λ p n lt at cr. ⊎_elim (λ (i : HasBit k words (slot_card k p, region_at k n)). inl (set_in k words _ (crossing_pair k p n h.shaped lt (h.bounded p n lt at) cr) i)) (λ (m : IsMarked k words p). inr (inl m)) (h.covered p n lt at cr);
   weighed = (omega arith, λ seat u at none. subst IsBlank (only v u seat at) ((refl, refl, refl, refl), refl, refl, refl, refl));
   numbered = λ m. omega arith;
   stored = λ p n lt at. inr (at_take words (k.slots + k.cards) p n (omega arith) at, λ g b. absurd (subst (λ (u : View). In u.histories g) (sym (only v b.1 b.0 b.2)) b.3));
   recorded = λ x b. absurd (subst (λ (u : View). In u.pairs x) (sym (only v b.1 b.0 b.2)) b.3);
   kept = record {
-    has = λ x n. ⊎_elim (λ (i : In (pairs_up_to k words k.cards) x). inl (in_set k words x i).1) (λ (b : Held pairs_of (v ∷ []) x). absurd (subst (λ (u : View). In u.pairs x) (sym (only v b.1 b.0 b.2)) b.3)) n;
+    has = λ x n. ⊎_elim (λ (i : In (pairs_up_to k words k.cards) x). inl (in_set k words x i).1) (λ (b : Held pairs_found (v ∷ []) x). absurd (subst (λ (u : View). In u.pairs x) (sym (only v b.1 b.0 b.2)) b.3)) n;
     only = λ x pair b. inl (set_in k words x pair b);
     read = λ x b. absurd (subst (λ (u : View). In u.held x) (sym (only v b.1 b.0 b.2)) b.3);
   };
@@ -81,7 +81,7 @@ zeros_read zero i = refl
 zeros_read (suc n) zero = refl
 zeros_read (suc n) (suc i) = zeros_read n i
 
-pub null_begun : (k : Shape) → IsShape k → IsBegun (null_of k)
+pub null_begun : (k : Shape) → IsWholeShape k → IsBegun (null_of k)
 null_begun k shaped = let all = word_count k in record {
   shaped = shaped;
   sized = length_zeros all;
@@ -93,7 +93,7 @@ null_begun k shaped = let all = word_count k in record {
 }
 
 -- a heap begins at a pause
-pub going_first : (k : Shape) → IsShape k → Going k (zeros (word_count k)) (iced (null_of k) k.members ∷ [])
+pub going_first : (k : Shape) → IsWholeShape k → Going k (zeros (word_count k)) (iced (null_of k) k.members ∷ [])
 going_first k shaped = let all = word_count k in record {
   first = zeros all;
   frozen = true;

@@ -6,7 +6,7 @@ use lib.ListN.{get_elem?}
 use Rattle.atomic_table.proofs.Lists.{set_else}
 use Rattle.g1_race_words.specs.declared.view.Shape.{Shape}
 use Rattle.g1_race_words.specs.declared.view.View.{View}
-use Rattle.g1_race_words.specs.Rule.{card_of, region_at, crosses, In, Answers, IsMarked, Someone, Covered}
+use Rattle.g1_race_words.specs.Rule.{slot_card, region_at, crosses, In, AnswersFor, IsMarked, Someone, Covered}
 use Rattle.g1_race_words.proofs.Plain.{put_here, one_there}
 
 -- what the steps have in common: each reference that crosses is answered for anew, or was answered for, and each answer is handed on
@@ -14,30 +14,30 @@ abbrev pub Answered : Shape → List ℕ → List View → ℕ → ℕ → Type 
 Answered k words views p n = IsMarked k words p ⊎ Someone k views p n
 
 abbrev pub HandsOn : Shape → List ℕ → List View → List ℕ → List View → ℕ → ℕ → Type 0
-HandsOn k words views new after p n = (get_elem? words p ≡ some n) × (IsMarked k words p → Answered k new after p n) × ((seat : ℕ) (u : View) → get_elem? views seat ≡ some u → Answers k u p n → Answered k new after p n)
+HandsOn k words views new after p n = (get_elem? words p ≡ some n) × (IsMarked k words p → Answered k new after p n) × ((seat : ℕ) (u : View) → get_elem? views seat ≡ some u → AnswersFor k u p n → Answered k new after p n)
 
 pub covered_moves : (k : Shape) (known : List (ℕ × ℕ)) (words new : List ℕ) (views after : List View) → Covered k known words views
     → ((p n : ℕ) → p < k.slots → get_elem? new p ≡ some n → crosses k p n ≡ true → Answered k new after p n ⊎ HandsOn k words views new after p n)
     → Covered k known new after
 covered_moves k known words new views after h step p n lt at cr = ⊎_elim
     (λ (x : Answered k new after p n). inr x)
-    (λ (x : HandsOn k words views new after p n). ⊎_elim (λ (i : In known (card_of k p, region_at k n)). inl i)
+    (λ (x : HandsOn k words views new after p n). ⊎_elim (λ (i : In known (slot_card k p, region_at k n)). inl i)
     (λ (y : IsMarked k words p ⊎ Someone k views p n). inr (⊎_elim x.1 (λ (s : Someone k views p n). x.2 s.0 s.1 s.2 s.3) y))
     (h p n lt x.0 cr))
     (step p n lt at cr)
 
 -- one seat's view changes from v to w
 abbrev pub Passes : Shape → List ℕ → View → View → ℕ → ℕ → Type 0
-Passes k new v w p n = Answers k v p n → IsMarked k new p ⊎ Answers k w p n
+Passes k new v w p n = AnswersFor k v p n → IsMarked k new p ⊎ AnswersFor k w p n
 
-pub by_seat : (k : Shape) (new : List ℕ) (views : List View) (id : ℕ) (v w : View) (p n : ℕ) → get_elem? views id ≡ some v → IsMarked k new p ⊎ Answers k w p n → Answered k new (set views id w) p n
+pub by_seat : (k : Shape) (new : List ℕ) (views : List View) (id : ℕ) (v w : View) (p n : ℕ) → get_elem? views id ≡ some v → IsMarked k new p ⊎ AnswersFor k w p n → Answered k new (set views id w) p n
 by_seat k new views id v w p n at (inl m) = inl m
 by_seat k new views id v w p n at (inr a) = inr (id, w, put_here views id v w at, a)
 
 pub others_pass : (k : Shape) (new : List ℕ) (views : List View) (id : ℕ) (v w : View) (p n : ℕ) → get_elem? views id ≡ some v → Passes k new v w p n
-    → (seat : ℕ) (u : View) → get_elem? views seat ≡ some u → Answers k u p n → Answered k new (set views id w) p n
+    → (seat : ℕ) (u : View) → get_elem? views seat ≡ some u → AnswersFor k u p n → Answered k new (set views id w) p n
 others_pass k new views id v w p n at pass seat u there ans = pick (ℕ_discrete seat id)
   where
     pick : Dec (seat ≡ id) → Answered k new (set views id w) p n
-    pick (yes e) = by_seat k new views id v w p n at (pass (subst (λ (x : View). Answers k x p n) (one_there views id u v (subst (λ (i : ℕ). get_elem? views i ≡ some u) e there) at) ans))
+    pick (yes e) = by_seat k new views id v w p n at (pass (subst (λ (x : View). AnswersFor k x p n) (one_there views id u v (subst (λ (i : ℕ). get_elem? views i ≡ some u) e there) at) ans))
     pick (no ne) = inr (seat, u, set_else views id seat w ne ∙ there, ans)

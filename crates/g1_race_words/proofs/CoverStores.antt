@@ -6,7 +6,7 @@ use lib.ListN.{get_elem?}
 use Rattle.atomic_table.proofs.Lists.{at_set, set_here, set_else}
 use Rattle.g1_race_words.specs.declared.view.Shape.{Shape}
 use Rattle.g1_race_words.specs.declared.view.View.{View}
-use Rattle.g1_race_words.specs.Rule.{card_of, mark_word, crosses, Answers, IsMarked, Covered}
+use Rattle.g1_race_words.specs.Rule.{slot_card, mark_word, crosses, AnswersFor, IsMarked, Covered}
 use Rattle.g1_race_words.specs.Steps.{wrote, looked, dirtied}
 use Rattle.g1_race_words.proofs.Plain.{read_at, true_is, false_is}
 use Rattle.g1_race_words.proofs.Cover.{Answered, HandsOn, covered_moves, Passes, by_seat, others_pass}
@@ -26,12 +26,12 @@ covered_wrote k known words views id v p n shape free lt at h = covered_moves k 
     w : View
     w = wrote v p n
 
-    owes : (q m : ℕ) → q ≡ p → n ≡ m → crosses k q m ≡ true → w.owed ≡ Some (card_of k q)
-    owes q m e f cr = subst (λ (s : Shape). cond (crosses s p n) (Some (card_of s p)) None ≡ Some (card_of k q)) (sym shape)
-        (true_is (crosses k p n) (Some (card_of k p)) None (subst (λ (x : ℕ × ℕ). crosses k x.0 x.1 ≡ true) (λ i. (e i, sym f i)) cr) ∙ ap (λ (x : ℕ). Some (card_of k x)) (sym e))
+    owes : (q m : ℕ) → q ≡ p → n ≡ m → crosses k q m ≡ true → w.owed ≡ Some (slot_card k q)
+    owes q m e f cr = subst (λ (s : Shape). cond (crosses s p n) (Some (slot_card s p)) None ≡ Some (slot_card k q)) (sym shape)
+        (true_is (crosses k p n) (Some (slot_card k p)) None (subst (λ (x : ℕ × ℕ). crosses k x.0 x.1 ≡ true) (λ i. (e i, sym f i)) cr) ∙ ap (λ (x : ℕ). Some (slot_card k x)) (sym e))
 
     same : (q : ℕ) → IsMarked k words q → IsMarked k new q
-    same q m = set_else words p (mark_word k (card_of k q)) n (mark_apart k p (card_of k q) lt) ∙ m
+    same q m = set_else words p (mark_word k (slot_card k q)) n (mark_apart k p (slot_card k q) lt) ∙ m
 
     pass : (q m : ℕ) → Passes k new v w q m
     pass q m (inl o) = absurd (cc (o, free))
@@ -49,10 +49,10 @@ looked_passes : (k : Shape) (words : List ℕ) (v : View) (c n : ℕ) → v.owed
 looked_passes k words v c n owes found short q m (inr a) = inr (inr a)
 looked_passes k words v c n owes found short q m (inl o) = pick (ℕ_discrete n 1)
   where
-    card : c ≡ card_of k q
+    card : c ≡ slot_card k q
     card = cc (o, owes)
 
-    pick : Dec (n ≡ 1) → IsMarked k words q ⊎ Answers k (looked v n) q m
+    pick : Dec (n ≡ 1) → IsMarked k words q ⊎ AnswersFor k (looked v n) q m
     pick (yes e) = inl (subst (λ (x : ℕ). get_elem? words (mark_word k x) ≡ some 1) card (read_at words (mark_word k c) short ∙ ap (λ (x : ℕ). some x) (found ∙ e)))
     pick (no ne) = inr (inl (false_is (eqb n 1) None v.owed (ne_eqb n 1 ne) ∙ o))
 
@@ -76,17 +76,17 @@ covered_dirtied k known words views id v c n owes short at h = covered_moves k k
     w : View
     w = dirtied v c n
 
-    here : (q : ℕ) → card_of k q ≡ c → IsMarked k new q
+    here : (q : ℕ) → slot_card k q ≡ c → IsMarked k new q
     here q e = subst (λ (x : ℕ). get_elem? new (mark_word k x) ≡ some 1) (sym e) (set_here words (mark_word k c) 1 short)
 
     one : (q m : ℕ) → q < k.slots → get_elem? new q ≡ some m → crosses k q m ≡ true → Answered k new (set views id w) q m ⊎ HandsOn k words views new (set views id w) q m
-    one q m l e cr = pick (ℕ_discrete (card_of k q) c)
+    one q m l e cr = pick (ℕ_discrete (slot_card k q) c)
       where
-        pick : Dec (card_of k q ≡ c) → Answered k new (set views id w) q m ⊎ HandsOn k words views new (set views id w) q m
+        pick : Dec (slot_card k q ≡ c) → Answered k new (set views id w) q m ⊎ HandsOn k words views new (set views id w) q m
         pick (yes is) = inl (inl (here q is))
         pick (no apart) = inr (
           sym (set_else words (mark_word k c) q 1 (λ x. mark_apart k q c l (sym x))) ∙ e,
-          (λ mk. inl (set_else words (mark_word k c) (mark_word k (card_of k q)) 1 (λ x. apart (omega arith)) ∙ mk)),
+          (λ mk. inl (set_else words (mark_word k c) (mark_word k (slot_card k q)) 1 (λ x. apart (omega arith)) ∙ mk)),
           others_pass k new views id v w q m at pass,
         )
           where

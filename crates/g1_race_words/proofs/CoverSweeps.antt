@@ -6,7 +6,7 @@ use lib.ListN.{get_elem?}
 use Rattle.atomic_table.proofs.Lists.{set_else, at_longer}
 use Rattle.g1_race_words.specs.declared.view.Shape.{Shape}
 use Rattle.g1_race_words.specs.declared.view.View.{View}
-use Rattle.g1_race_words.specs.Rule.{card_of, mark_word, region_at, crosses, In, Answers, IsMarked, Covered}
+use Rattle.g1_race_words.specs.Rule.{slot_card, mark_word, region_at, crosses, In, AnswersFor, IsMarked, Covered}
 use Rattle.g1_race_words.specs.Steps.{cleaned, pair_at, read, both}
 use Rattle.g1_race_words.proofs.Plain.{in_left, in_right, put_here, one_there, read_is, true_is}
 use Rattle.g1_race_words.proofs.Cover.{Answered, HandsOn, covered_moves, Passes, by_seat, others_pass}
@@ -28,29 +28,29 @@ covered_cleaned k known words views id v c n shape pos done at h = covered_moves
     w : View
     w = cleaned v c n
 
-    reads : (q : ℕ) → card_of k q ≡ c → (w.next ≤ q) × (q < w.end)
+    reads : (q : ℕ) → slot_card k q ≡ c → (w.next ≤ q) × (q < w.end)
     reads q e = subst (λ (s : Shape). (c * s.size ≤ q) × (q < c * s.size + s.size)) (sym shape) (card_slots k.size q c pos e)
 
     one : (q m : ℕ) → q < k.slots → get_elem? new q ≡ some m → crosses k q m ≡ true → Answered k new (set views id w) q m ⊎ HandsOn k words views new (set views id w) q m
-    one q m l e cr = pick (ℕ_discrete (card_of k q) c)
+    one q m l e cr = pick (ℕ_discrete (slot_card k q) c)
       where
         pass : Passes k new v w q m
         pass (inl o) = inr (inl o)
         pass (inr (inl a)) = absurd (omega (arith, a.0, a.1, done))
         pass (inr (inr a)) = inr (inr (inr a))
 
-        pick : Dec (card_of k q ≡ c) → Answered k new (set views id w) q m ⊎ HandsOn k words views new (set views id w) q m
+        pick : Dec (slot_card k q ≡ c) → Answered k new (set views id w) q m ⊎ HandsOn k words views new (set views id w) q m
         pick (yes is) = inl (by_seat k new views id v w q m at (inr (inr (inl (reads q is)))))
         pick (no apart) = inr (
           sym (set_else words (mark_word k c) q 0 (λ x. mark_apart k q c l (sym x))) ∙ e,
-          (λ mk. inl (set_else words (mark_word k c) (mark_word k (card_of k q)) 0 (λ x. apart (omega arith)) ∙ mk)),
+          (λ mk. inl (set_else words (mark_word k c) (mark_word k (slot_card k q)) 0 (λ x. apart (omega arith)) ∙ mk)),
           others_pass k new views id v w q m at pass,
         )
 
 -- a sweeper reads slot p
 
-pair_there : (k : Shape) (p n : ℕ) → crosses k p n ≡ true → In (pair_at k p n) (card_of k p, region_at k n)
-pair_there k p n cr = subst (λ (l : List (ℕ × ℕ)). In l (card_of k p, region_at k n)) (sym (true_is (crosses k p n) ((card_of k p, region_at k n) ∷ []) [] cr)) (inl refl)
+pair_there : (k : Shape) (p n : ℕ) → crosses k p n ≡ true → In (pair_at k p n) (slot_card k p, region_at k n)
+pair_there k p n cr = subst (λ (l : List (ℕ × ℕ)). In l (slot_card k p, region_at k n)) (sym (true_is (crosses k p n) ((slot_card k p, region_at k n) ∷ []) [] cr)) (inl refl)
 
 pub covered_read : (k : Shape) (known : List (ℕ × ℕ)) (words : List ℕ) (views : List View) (id : ℕ) (v : View) (p : ℕ) → v.shape ≡ k → v.next ≡ p
     → get_elem? views id ≡ some v → Covered k known words views → Covered k known words (set views id (read v p (get_or words p 0)))
@@ -68,15 +68,15 @@ covered_read k known words views id v p shape next at h = covered_moves k known 
     pass q m e cr (inr (inr a)) = inr (inr (inr (in_left v.pairs (pair_at v.shape p n) _ a)))
     pass q m e cr (inr (inl a)) = pick (ℕ_discrete q p)
       where
-        pick : Dec (q ≡ p) → IsMarked k words q ⊎ Answers k w q m
+        pick : Dec (q ≡ p) → IsMarked k words q ⊎ AnswersFor k w q m
         pick (yes is) = let m_is : n ≡ m = read_is words p m (subst (λ (i : ℕ). get_elem? words i ≡ some m) is e) in
-            inr (inr (inr (in_right v.pairs (pair_at v.shape p n) _ (subst (λ (s : Shape). In (pair_at s p n) (card_of k q, region_at k m)) (sym shape)
-            (subst (λ (x : ℕ × ℕ). In (pair_at k x.0 x.1) (card_of k q, region_at k m)) (λ i. (is i, sym m_is i)) (pair_there k q m cr))))))
+            inr (inr (inr (in_right v.pairs (pair_at v.shape p n) _ (subst (λ (s : Shape). In (pair_at s p n) (slot_card k q, region_at k m)) (sym shape)
+            (subst (λ (x : ℕ × ℕ). In (pair_at k x.0 x.1) (slot_card k q, region_at k m)) (λ i. (is i, sym m_is i)) (pair_there k q m cr))))))
         pick (no apart) = inr (inr (inl (omega (arith, a.0, next), a.1)))
 
 -- a seat is split off
 
-pub covered_split : (k : Shape) (known : List (ℕ × ℕ)) (words : List ℕ) (views : List View) (id : ℕ) (v left right : View) → get_elem? views id ≡ some v → ((q m : ℕ) → Answers k v q m → Answers k left q m)
+pub covered_split : (k : Shape) (known : List (ℕ × ℕ)) (words : List ℕ) (views : List View) (id : ℕ) (v left right : View) → get_elem? views id ≡ some v → ((q m : ℕ) → AnswersFor k v q m → AnswersFor k left q m)
     → Covered k known words views → Covered k known words (set views id left ++ right ∷ [])
 covered_split k known words views id v left right at pass h = covered_moves k known words words views (set views id left ++ right ∷ []) h
     (λ q m l e cr. inr (e, (λ mk. inl mk), λ seat u there ans. longer q m (others_pass k words views id v left q m at (λ a. inr (pass q m a)) seat u there ans)))
@@ -105,20 +105,20 @@ covered_join k known words views id v other u spent free done at apart there h =
     was : get_elem? views other ≡ some u
     was = sym (set_else views id other w apart) ∙ there
 
-    mine : (q m : ℕ) → Answers k v q m → Answers k w q m
+    mine : (q m : ℕ) → AnswersFor k v q m → AnswersFor k w q m
     mine q m (inl o) = inl o
     mine q m (inr (inl a)) = inr (inl a)
     mine q m (inr (inr a)) = inr (inr (in_left v.pairs u.pairs _ a))
 
-    theirs : (q m : ℕ) → Answers k u q m → Answers k w q m
+    theirs : (q m : ℕ) → AnswersFor k u q m → AnswersFor k w q m
     theirs q m (inl o) = absurd (cc (o, free))
     theirs q m (inr (inl a)) = absurd (omega (arith, a.0, a.1, done))
     theirs q m (inr (inr a)) = inr (inr (in_right v.pairs u.pairs _ a))
 
-    hand : (q m : ℕ) (seat : ℕ) (x : View) → get_elem? views seat ≡ some x → Answers k x q m → Answered k words after q m
+    hand : (q m : ℕ) (seat : ℕ) (x : View) → get_elem? views seat ≡ some x → AnswersFor k x q m → Answered k words after q m
     hand q m seat x at_x ans = pick (ℕ_discrete seat id) (ℕ_discrete seat other)
       where
         pick : Dec (seat ≡ id) → Dec (seat ≡ other) → Answered k words after q m
-        pick (yes e) d = inr (id, w, at_w, mine q m (subst (λ (y : View). Answers k y q m) (one_there views id x v (subst (λ (i : ℕ). get_elem? views i ≡ some x) e at_x) at) ans))
-        pick (no n) (yes e) = inr (id, w, at_w, theirs q m (subst (λ (y : View). Answers k y q m) (one_there views other x u (subst (λ (i : ℕ). get_elem? views i ≡ some x) e at_x) was) ans))
+        pick (yes e) d = inr (id, w, at_w, mine q m (subst (λ (y : View). AnswersFor k y q m) (one_there views id x v (subst (λ (i : ℕ). get_elem? views i ≡ some x) e at_x) at) ans))
+        pick (no n) (yes e) = inr (id, w, at_w, theirs q m (subst (λ (y : View). AnswersFor k y q m) (one_there views other x u (subst (λ (i : ℕ). get_elem? views i ≡ some x) e at_x) was) ans))
         pick (no n) (no o) = inr (seat, x, set_else (set views id w) other seat spent o ∙ (set_else views id seat w n ∙ at_x), ans)

@@ -3,7 +3,7 @@ use Rattle.std.proofs.Common.{◌≡◌, ℕ, ◌*◌, ◌%◌, ◌^◌, ◌<◌
 use Rattle.atomic_table.specs.Table.{State, Me, keeps, Allows}
 use Rattle.g1_race_words.specs.declared.view.Shape.{Shape}
 use Rattle.g1_race_words.specs.declared.view.View.{View}
-use Rattle.g1_race_words.specs.Rule.{bit_word, bit_place, flag, IsShape, Going}
+use Rattle.g1_race_words.specs.Rule.{bit_word, bit_place, flag, IsWholeShape, Going}
 use Rattle.g1_race_words.specs.Steps.{spotted, raised}
 use Rattle.g1_race_words.specs.Seats.{Sits}
 use Rattle.g1_race_words.proofs.Plain.{set_read}
@@ -15,7 +15,7 @@ module _ {S : Type 0} where
   abbrev Rule : Shape → State S View → Type 0
   Rule k s = Going k s.words s.views
 
-  pub allows_spot : (k : Shape) (slots id c : ℕ) (me : Me S View) → IsShape k → Sits k me.0 → me.0.owed ≡ Some c
+  pub allows_spot : (k : Shape) (slots id c : ℕ) (me : Me S View) → IsWholeShape k → Sits k me.0 → me.0.owed ≡ Some c
       → Allows (Rule k) slots id me (bit_word k (flag k c)) (λ n. n) (λ n after. after ≡ (spotted me.0 n, me.1))
   allows_spot k slots id c me shaped sits owes s h len at fits =
       let n = get_or s.words (bit_word k (flag k c)) 0 in (
@@ -27,7 +27,7 @@ module _ {S : Type 0} where
         refl,
       )
 
-  pub allows_raise : (k : Shape) (slots id c : ℕ) (me : Me S View) → IsShape k → Sits k me.0 → me.0.owed ≡ Some c → c < k.cards
+  pub allows_raise : (k : Shape) (slots id c : ℕ) (me : Me S View) → IsWholeShape k → Sits k me.0 → me.0.owed ≡ Some c → c < k.cards
       → Allows (Rule k) slots id me (bit_word k (flag k c)) (λ n. bit_or n (1 * 2 ^ bit_place k (flag k c) % 2 ^ 64)) (λ _ after. after ≡ (raised me.0, me.1))
   allows_raise k slots id c me shaped sits owes lt s h len at fits =
       (raised me.0, keeps, tt, going_step k s.words s.views h (with_pair k s.words (flag k c)) id me.0 (raised me.0) at (omega (arith, sits.weight)) sits.going refl refl refl refl (raced_raised (begun k s.words s.views h) s.words s.views id me.0 c shaped sits owes lt at h.raced), refl)

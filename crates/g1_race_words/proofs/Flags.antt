@@ -8,37 +8,37 @@ use lib.ListN.{get_elem?}
 use Rattle.atomic_table.proofs.Lists.{set_else, set_here}
 use Rattle.g1_race_words.specs.declared.view.Shape.{Shape}
 use Rattle.g1_race_words.specs.declared.view.View.{View}
-use Rattle.g1_race_words.specs.Rule.{AreFlagged, Flagged, Held, IsFlagged, IsShape, bit_word, flag, flagged_of, mark_word, word_count}
+use Rattle.g1_race_words.specs.Rule.{AreFlagged, Flagged, Held, IsFlagged, IsWholeShape, bit_word, flag, flagged_of, mark_word, word_count}
 use Rattle.g1_race_words.proofs.Plain.{held_same}
 use Rattle.g1_race_words.proofs.PairBits.{card_in_row, with_pair}
 
 -- the flags have room, behind the bits of all pairs
 
 -- a word of a region's row, or of the row of flags
-pub word_in_row : (k : Shape) (region i : ℕ) → IsShape k → region ≤ k.regions → i < k.row → k.slots + k.cards + (region * k.row + i) < word_count k
+pub word_in_row : (k : Shape) (region i : ℕ) → IsWholeShape k → region ≤ k.regions → i < k.row → k.slots + k.cards + (region * k.row + i) < word_count k
 word_in_row k region i shaped le lt =
     let r : ℕ = region * k.row in let all : ℕ = k.row * suc k.regions in let pairs : ℕ = k.row * k.regions in let same : ℕ = k.regions * k.row in
     let a : r + i < all = mul-add-lt region k.row i (suc k.regions) (omega (arith, le)) lt in
     let b : all ≡ pairs + k.row = mul-suc k.row k.regions in let e : k.bits ≡ same = shaped.8 in let f : pairs ≡ same = omega arith in
     let goal : k.slots + k.cards + (r + i) < k.slots + k.cards + k.bits + k.row = omega arith in goal
 
-pub bit_below : (k : Shape) (x : ℕ × ℕ) → IsShape k → x.0 < k.cards → x.1 ≤ k.regions → bit_word k x < word_count k
+pub bit_below : (k : Shape) (x : ℕ × ℕ) → IsWholeShape k → x.0 < k.cards → x.1 ≤ k.regions → bit_word k x < word_count k
 bit_below k x shaped low row = word_in_row k x.1 (x.0 / 64) shaped row (card_in_row k x.0 shaped low)
 
 pub flag_card : (k : Shape) (c : ℕ) → c < k.cards → c / 8 * 8 < k.cards
 flag_card k c lt = omega arith
 
-pub flag_word : (k : Shape) (c : ℕ) → IsShape k → k.slots + k.cards + k.bits + c / 64 ≡ bit_word k (flag k c)
+pub flag_word : (k : Shape) (c : ℕ) → IsWholeShape k → k.slots + k.cards + k.bits + c / 64 ≡ bit_word k (flag k c)
 flag_word k c shaped = let n : ℕ = k.regions * k.row in let e : k.bits ≡ n = shaped.8 in let goal : k.slots + k.cards + k.bits + c / 64 ≡ k.slots + k.cards + (n + c / 8 * 8 / 64) = omega arith in goal
 
 pub flag_place : (c : ℕ) → c % 64 / 8 * 8 ≡ c / 8 * 8 % 64
 flag_place c = omega arith
 
-pub flag_below : (k : Shape) (c : ℕ) → IsShape k → c < k.cards → bit_word k (flag k c) < word_count k
+pub flag_below : (k : Shape) (c : ℕ) → IsWholeShape k → c < k.cards → bit_word k (flag k c) < word_count k
 flag_below k c shaped lt = bit_below k (flag k c) shaped (flag_card k c lt) (omega arith)
 
 -- a row is no longer than the bits of all pairs
-pub row_small : (k : Shape) → IsShape k → k.row ≤ k.bits
+pub row_small : (k : Shape) → IsWholeShape k → k.row ≤ k.bits
 row_small k shaped =
     let same : ℕ = k.regions * k.row in let all : ℕ = k.row * k.regions in let e : k.bits ≡ same = shaped.8 in
     let some_region : 0 < k.regions = pick k.regions shaped.6 in let le : k.row ≤ all = le-mul_of_pos_right k.row some_region in omega arith

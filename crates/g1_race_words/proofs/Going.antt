@@ -7,7 +7,7 @@ use Rattle.atomic_table.proofs.Lists.{at_set, at_snoc, set_else}
 use Rattle.g1_race_words.specs.declared.view.Shape.{Shape}
 use Rattle.g1_race_words.specs.declared.view.View.{View}
 use Rattle.g1_race_words.specs.Begin.{Start, Begun}
-use Rattle.g1_race_words.specs.Rule.{In, Held, histories_of, claims_of, cleanings_of, pairs_of, held_of, flagged_of, card_of, region_at, mark_word, Answers, IsMarked, IsShape, HasBit, IsNoted, StoredInto, BeganInto, Someone, AtRest, IsBlank, MadeDirty, times, claims_at, cleanings_at, total, one_if, tally, numbers, front, pairs_up_to, Raced, IsBegun, Going, start, beginning, start_of}
+use Rattle.g1_race_words.specs.Rule.{In, Held, histories_of, claims_of, cleanings_of, pairs_found, held_of, flagged_of, slot_card, region_at, mark_word, AnswersFor, IsMarked, IsWholeShape, HasBit, IsNoted, StoredInto, BeganInto, Someone, AtRest, IsBlank, MadeDirty, times, claims_at, cleanings_at, total, as_number, tally, numbers, front, pairs_up_to, Raced, IsBegun, Going, new_start, beginning, start_of}
 use Rattle.g1_race_words.specs.Steps.{lighter, both, nothing}
 use Rattle.g1_race_words.proofs.Plain.{one_there, weigh_set, weigh_all}
 use Rattle.g1_race_words.proofs.PairBits.{crossing_pair}
@@ -33,7 +33,7 @@ Agrees begin frozen v = 0 < v.weight → (start_of v ≡ begin) × (v.frozen ≡
 
 module _ (k : Shape) (words : List ℕ) (views : List View) (h : Going k words views) where
   abbrev pub begin : Start
-  begin = start k h.first
+  begin = new_start k h.first
 
   abbrev pub begun : Begun
   begun = beginning begin
@@ -119,7 +119,7 @@ total_alone f (u ∷ us) (suc id) v w at none = let a = none 0 u refl (λ e. abs
 -- a seat with all the weight
 
 module _ (k : Shape) (words : List ℕ) (views : List View) (id : ℕ) (v : View) (all : v.weight ≡ k.members) (pos : 0 < k.members) (h : Going k words views) (at : get_elem? views id ≡ some v) where
-  pub mine : (start_of v ≡ start k h.first) × (v.frozen ≡ h.frozen)
+  pub mine : (start_of v ≡ new_start k h.first) × (v.frozen ≡ h.frozen)
   mine = h.agreed id v at (omega (arith, all, pos))
 
   pub raced_mine : Raced (beginning (start_of v)) words views
@@ -129,7 +129,7 @@ module _ (k : Shape) (words : List ℕ) (views : List View) (id : ℕ) (v : View
   shape_mine = ap (λ (b : Start). b.shape) mine.0
 
   others : (seat : ℕ) (u : View) → get_elem? views seat ≡ some u → ¬ (seat ≡ id) → IsBlank u
-  others = others_blank (beginning (start k h.first)) words views id v h.raced at all
+  others = others_blank (beginning (new_start k h.first)) words views id v h.raced at all
 
   light : (seat : ℕ) (u : View) → get_elem? views seat ≡ some u → ¬ (seat ≡ id) → u.weight ≡ 0
   light seat u there ne = weigh_all views id seat v u at there ne (h.raced.weighed.0 ∙ sym all)
@@ -146,15 +146,15 @@ module _ (k : Shape) (words : List ℕ) (views : List View) (id : ℕ) (v : View
       let few = h.spared seat u there in
       let empty = light seat u there ne in
       let zero_spare : u.spare ≡ 0 = omega (arith, few, empty) in
-      let a : one_if (nat_lt m u.spare) ≡ 0 = ap (λ (n : ℕ). one_if (nat_lt m n)) zero_spare ∙ none_below m in
+      let a : as_number (nat_lt m u.spare) ≡ 0 = ap (λ (n : ℕ). as_number (nat_lt m n)) zero_spare ∙ none_below m in
       let b : tally m u.histories ≡ 0 = ap (tally m) (others seat u there ne).1 in omega (arith, a, b)
 
   -- a race begins anew, with any words that one can start with
-  pub raced_anew : (new : List ℕ) (w : View) → IsBegun (start k new) → IsBlank w → w.weight ≡ k.members → w.spare ≡ k.members → Raced (beginning (start k new)) new (set views id w)
+  pub raced_anew : (new : List ℕ) (w : View) → IsBegun (new_start k new) → IsBlank w → w.weight ≡ k.members → w.spare ≡ k.members → Raced (beginning (new_start k new)) new (set views id w)
   raced_anew new w b still weight spare = record {
     sized = b.sized;
     bounded = b.bounded;
-    covered = λ p n lt there cr. ⊎_elim (λ (i : HasBit k new (card_of k p, region_at k n)). inl (set_in k new _ (crossing_pair k p n b.shaped lt (b.bounded p n lt there) cr) i)) (λ (m : IsMarked k new p). inr (inl m)) (b.covered p n lt there cr);
+    covered = λ p n lt there cr. ⊎_elim (λ (i : HasBit k new (slot_card k p, region_at k n)). inl (set_in k new _ (crossing_pair k p n b.shaped lt (b.bounded p n lt there) cr) i)) (λ (m : IsMarked k new p). inr (inl m)) (b.covered p n lt there cr);
     weighed = (
       let a = weigh_set views id v w at in let t = h.raced.weighed.0 in omega (arith, a, t, all, weight),
       each_set views id w (λ (u : View). u.weight ≡ 0 → IsBlank u) (λ seat u there ne. h.raced.weighed.1 seat u there) (λ z. still),
@@ -162,11 +162,11 @@ module _ (k : Shape) (words : List ℕ) (views : List View) (id : ℕ) (v : View
     numbered = λ m.
         let a = total_alone (numbers m) views id v w at (no_numbers m) in
         let t : tally m w.histories ≡ 0 = ap (tally m) still.1 in
-        let c : one_if (nat_lt m w.spare) ≡ one_if (nat_lt m k.members) = ap (λ (n : ℕ). one_if (nat_lt m n)) spare in omega (arith, a, t, c);
+        let c : as_number (nat_lt m w.spare) ≡ as_number (nat_lt m k.members) = ap (λ (n : ℕ). as_number (nat_lt m n)) spare in omega (arith, a, t, c);
     stored = λ p n lt there. inr (at_take new (k.slots + k.cards) p n (omega (arith, lt)) there, λ g x. absurd (none_held histories_of (λ u s. s.1) w still g x));
-    recorded = λ x y. absurd (none_held pairs_of (λ u s. s.4) w still x y);
+    recorded = λ x y. absurd (none_held pairs_found (λ u s. s.4) w still x y);
     kept = record {
-      has = λ x n. ⊎_elim (λ (i : In (pairs_up_to k new k.cards) x). inl (in_set k new x i).1) (λ (a : Held pairs_of (set views id w) x). absurd (none_held pairs_of (λ u s. s.4) w still x a)) n;
+      has = λ x n. ⊎_elim (λ (i : In (pairs_up_to k new k.cards) x). inl (in_set k new x i).1) (λ (a : Held pairs_found (set views id w) x). absurd (none_held pairs_found (λ u s. s.4) w still x a)) n;
       only = λ x pair bit. inl (set_in k new x pair bit);
       read = λ x a. absurd (none_held held_of (λ u s. s.0.2) w still x a);
     };
@@ -188,19 +188,19 @@ module _ (k : Shape) (words : List ℕ) (views : List View) (id : ℕ) (v : View
     flagged = record { marked = b.flagged; known = λ c x. absurd (none_held flagged_of (λ u s. s.0.3) w still c x) };
   }
 
-  pub going_anew : (new : List ℕ) (w : View) → IsBegun (start k new) → IsBlank w → w.weight ≡ k.members → w.spare ≡ k.members → start_of w ≡ start k new → Going k new (set views id w)
+  pub going_anew : (new : List ℕ) (w : View) → IsBegun (new_start k new) → IsBlank w → w.weight ≡ k.members → w.spare ≡ k.members → start_of w ≡ new_start k new → Going k new (set views id w)
   going_anew new w b still weight spare is = record {
     first = new;
     frozen = w.frozen;
     raced = raced_anew new w b still weight spare;
     proper = λ x i. let s = in_set k new x i in b.proper x s.0 s.1;
-    agreed = each_set views id w (λ (u : View). Agrees (start k new) w.frozen u) (λ seat u there ne lt. let z = light seat u there ne in absurd (omega (arith, z, lt))) (λ lt. (is, refl));
+    agreed = each_set views id w (λ (u : View). Agrees (new_start k new) w.frozen u) (λ seat u there ne lt. let z = light seat u there ne in absurd (omega (arith, z, lt))) (λ lt. (is, refl));
     spared = each_set views id w (λ (u : View). u.spare ≤ u.weight) (λ seat u there ne. h.spared seat u there) (omega (arith, weight, spare));
     still = λ e. refl;
   }
 
   -- at rest, the words are what a race can start with
-  pub begun_here : IsShape k → AtRest v → IsBegun (start k words)
+  pub begun_here : IsWholeShape k → AtRest v → IsBegun (new_start k words)
   begun_here shaped rest = record {
     shaped = shaped;
     sized = h.raced.sized;
@@ -210,12 +210,12 @@ module _ (k : Shape) (words : List ℕ) (views : List View) (id : ℕ) (v : View
         (λ (x : (get_elem? words (mark_word k c) ≡ some 0) × (Held cleanings_of views c ⊎ (MadeDirty k (front k h.first) views c → ⊥))). inr x.0)
         (h.raced.claimed c lt);
     covered = λ p n lt there cr. ⊎_elim
-        (λ (i : In (pairs_up_to k h.first k.cards) (card_of k p, region_at k n)). inl (noted_bit _ (inl i)))
+        (λ (i : In (pairs_up_to k h.first k.cards) (slot_card k p, region_at k n)). inl (noted_bit _ (inl i)))
         (λ (y : IsMarked k words p ⊎ Someone k views p n). ⊎_elim (λ (m : IsMarked k words p). inr m) (λ (s : Someone k views p n). inl (noted_bit _ (inr (id, v, at, someone p n s)))) y)
         (h.raced.covered p n lt there cr);
     proper = λ x pair b. ⊎_elim
         (λ (i : In (pairs_up_to k h.first k.cards) x). h.proper x i)
-        (λ (a : Held pairs_of views x). ⊎_elim
+        (λ (a : Held pairs_found views x). ⊎_elim
         (λ (s : StoredInto k views x). (s.1, s.2, s.5, s.6))
         (λ (i : BeganInto k (front k h.first) x). (i.0, i.1, i.3, i.4))
         (h.raced.recorded x a))
@@ -223,21 +223,21 @@ module _ (k : Shape) (words : List ℕ) (views : List View) (id : ℕ) (v : View
     flagged = h.raced.flagged.marked;
   }
     where
-      mine_answers : (p n : ℕ) → Answers k v p n → In v.pairs (card_of k p, region_at k n)
+      mine_answers : (p n : ℕ) → AnswersFor k v p n → In v.pairs (slot_card k p, region_at k n)
       mine_answers p n (inl o) = let r = rest.0 in absurd (cc (o, r))
       mine_answers p n (inr (inl a)) = let r = rest.1 in absurd (omega (arith, a.0, a.1, r))
       mine_answers p n (inr (inr a)) = a
 
-      blank_answers : (u : View) (p n : ℕ) → IsBlank u → Answers k u p n → ⊥
+      blank_answers : (u : View) (p n : ℕ) → IsBlank u → AnswersFor k u p n → ⊥
       blank_answers u p n s (inl o) = absurd (cc (o, s.0.0))
       blank_answers u p n s (inr (inl a)) = absurd (omega (arith, a.0, a.1, s.0.1))
-      blank_answers u p n s (inr (inr a)) = subst (λ (l : List (ℕ × ℕ)). In l (card_of k p, region_at k n)) s.4 a
+      blank_answers u p n s (inr (inr a)) = subst (λ (l : List (ℕ × ℕ)). In l (slot_card k p, region_at k n)) s.4 a
 
-      someone : (p n : ℕ) → Someone k views p n → In v.pairs (card_of k p, region_at k n)
+      someone : (p n : ℕ) → Someone k views p n → In v.pairs (slot_card k p, region_at k n)
       someone p n s = pick (ℕ_discrete s.0 id)
         where
-          pick : Dec (s.0 ≡ id) → In v.pairs (card_of k p, region_at k n)
-          pick (yes e) = mine_answers p n (subst (λ (u : View). Answers k u p n) (one_there views id s.1 v (subst (λ (i : ℕ). get_elem? views i ≡ some s.1) e s.2) at) s.3)
+          pick : Dec (s.0 ≡ id) → In v.pairs (slot_card k p, region_at k n)
+          pick (yes e) = mine_answers p n (subst (λ (u : View). AnswersFor k u p n) (one_there views id s.1 v (subst (λ (i : ℕ). get_elem? views i ≡ some s.1) e s.2) at) s.3)
           pick (no ne) = absurd (blank_answers s.1 p n (others s.0 s.1 s.2 ne) s.3)
 
       no_pair : (x : ℕ × ℕ) → Held held_of views x → ⊥

@@ -6,17 +6,17 @@ use lib.ListN.{get_elem?}
 use Rattle.atomic_table.proofs.Lists.{set_else}
 use Rattle.g1_race_words.specs.declared.view.Shape.{Shape}
 use Rattle.g1_race_words.specs.declared.view.View.{View}
-use Rattle.g1_race_words.specs.Rule.{In, Held, pairs_of, held_of, IsNoted, HasBit, Kept}
+use Rattle.g1_race_words.specs.Rule.{In, Held, pairs_found, held_of, IsNoted, HasBit, Kept}
 use Rattle.g1_race_words.specs.Steps.{pair_at, read}
 use Rattle.g1_race_words.proofs.Plain.{in_left, in_right, in_either, put_here, one_there, SameHeld, held_on, held_back, held_same}
 use Rattle.g1_race_words.proofs.PairBits.{SameBits, bit_as}
 
-pub noted_on : (known : List (ℕ × ℕ)) (views after : List View) → ((x : ℕ × ℕ) → Held pairs_of views x → Held pairs_of after x) → (x : ℕ × ℕ) → IsNoted known views x → IsNoted known after x
+pub noted_on : (known : List (ℕ × ℕ)) (views after : List View) → ((x : ℕ × ℕ) → Held pairs_found views x → Held pairs_found after x) → (x : ℕ × ℕ) → IsNoted known views x → IsNoted known after x
 noted_on known views after on x (inl i) = inl i
 noted_on known views after on x (inr a) = inr (on x a)
 
 -- no bit changes, and no seat's pairs
-pub kept_same : (k : Shape) (known : List (ℕ × ℕ)) (words new : List ℕ) (views after : List View) → SameBits k words new → SameHeld pairs_of views after → SameHeld held_of views after → Kept k known words views → Kept k known new after
+pub kept_same : (k : Shape) (known : List (ℕ × ℕ)) (words new : List ℕ) (views after : List View) → SameBits k words new → SameHeld pairs_found views after → SameHeld held_of views after → Kept k known words views → Kept k known new after
 kept_same k known words new views after bits pairs held h = record {
   has = λ x n. ⊎_elim (λ (b : HasBit k words x). inl (bit_as k words new x bits b)) (λ (a : Held held_of views x). inr ((held x).0 a)) (h.has x (noted_on known after views (λ y. (pairs y).1) x n));
   only = λ x p b. noted_on known views after (λ y. (pairs y).0) x (h.only x p (bit_as k new words x (λ y. sym (bits y)) b));
@@ -24,7 +24,7 @@ kept_same k known words new views after bits pairs held h = record {
 }
 
 pub kept_stays : (k : Shape) (known : List (ℕ × ℕ)) (words new : List ℕ) (views : List View) (id : ℕ) (v w : View) → get_elem? views id ≡ some v → v.pairs ≡ w.pairs → v.held ≡ w.held → SameBits k words new → Kept k known words views → Kept k known new (set views id w)
-kept_stays k known words new views id v w at pairs held bits = kept_same k known words new views (set views id w) bits (held_same pairs_of views id v w at pairs) (held_same held_of views id v w at held)
+kept_stays k known words new views id v w at pairs held bits = kept_same k known words new views (set views id w) bits (held_same pairs_found views id v w at pairs) (held_same held_of views id v w at held)
 
 -- a sweeper that holds nothing reads a slot, and holds its pair then
 pub kept_read : (k : Shape) (known : List (ℕ × ℕ)) (words : List ℕ) (views : List View) (id : ℕ) (v : View) (p n : ℕ) → v.held ≡ [] → get_elem? views id ≡ some v → Kept k known words views → Kept k known words (set views id (read v p n))
@@ -40,8 +40,8 @@ kept_read k known words views id v p n free at h = record {
     after : List View
     after = set views id w
 
-    more : (x : ℕ × ℕ) → Held pairs_of views x → Held pairs_of after x
-    more = held_on pairs_of views id v w at (λ y i. in_left v.pairs (pair_at v.shape p n) y i)
+    more : (x : ℕ × ℕ) → Held pairs_found views x → Held pairs_found after x
+    more = held_on pairs_found views id v w at (λ y i. in_left v.pairs (pair_at v.shape p n) y i)
 
     old : (x : ℕ × ℕ) → IsNoted known views x → HasBit k words x ⊎ Held held_of after x
     old x n = ⊎_elim (λ (b : HasBit k words x). inl b) (λ (a : Held held_of views x). inr (held_on held_of views id v w at (λ y i. absurd (subst (λ (l : List (ℕ × ℕ)). In l y) free i)) x a)) (h.has x n)
@@ -49,9 +49,9 @@ kept_read k known words views id v p n free at h = record {
     has : (x : ℕ × ℕ) → IsNoted known after x → HasBit k words x ⊎ Held held_of after x
     has x (inl i) = old x (inl i)
     has x (inr a) = ⊎_elim
-        (λ (b : Held pairs_of views x). old x (inr b))
+        (λ (b : Held pairs_found views x). old x (inr b))
         (λ (i : In w.pairs x). ⊎_elim (λ (j : In v.pairs x). old x (inr (id, v, at, j))) (λ (j : In (pair_at v.shape p n) x). inr (id, w, put_here views id v w at, j)) (in_either v.pairs (pair_at v.shape p n) x i))
-        (held_back pairs_of views id v w at x a)
+        (held_back pairs_found views id v w at x a)
 
 -- what a seat held it still holds, or it has been done with
 pub held_or : (Q : Type 0) (views : List View) (id : ℕ) (v w : View) (x : ℕ × ℕ) → get_elem? views id ≡ some v → (In v.held x → Q ⊎ In w.held x) → Held held_of views x → Q ⊎ Held held_of (set views id w) x

@@ -7,7 +7,7 @@ use Rattle.atomic_table.proofs.Lists.{set_here, set_else}
 use Rattle.g1_race_words.specs.declared.view.Shape.{Shape}
 use Rattle.g1_race_words.specs.declared.view.View.{View}
 use Rattle.g1_race_words.specs.Begin.{Begun}
-use Rattle.g1_race_words.specs.Rule.{MadeDirty, mark_word, flag, In, Held, claims_of, cleanings_of, claims_at, cleanings_at, one_if, times, total, Claimed, Counted, Raced}
+use Rattle.g1_race_words.specs.Rule.{MadeDirty, mark_word, flag, In, Held, claims_of, cleanings_of, claims_at, cleanings_at, as_number, times, total, Claimed, Counted, Raced}
 use Rattle.g1_race_words.specs.Steps.{looked, owed_card, dirtied, cleaned}
 use Rattle.g1_race_words.proofs.Plain.{put_here, read_at, read_is, total_set, SameHeld, held_on, held_back, held_same}
 use Rattle.g1_race_words.proofs.CoverStores.{covered_looked, covered_dirtied}
@@ -97,13 +97,13 @@ mark_is k began words views c lt h = ⊎_elim
 
 -- one more of a card that is listed where the mark was found so
 times_here : (d c n m : ℕ) (l : List ℕ) → d ≡ c → n ≡ m → times d (cond (eqb n m) (c ∷ l) l) ≡ 1 + times d l
-times_here d c n m l e f = ap (λ (b : Bool). times d (cond b (c ∷ l) l)) (eq-eqb n m f) ∙ (let g : one_if (eqb d c) ≡ 1 = one_is (eqb d c) (eq-eqb d c e) in omega (arith, g))
+times_here d c n m l e f = ap (λ (b : Bool). times d (cond b (c ∷ l) l)) (eq-eqb n m f) ∙ (let g : as_number (eqb d c) ≡ 1 = one_is (eqb d c) (eq-eqb d c e) in omega (arith, g))
 
 times_unlisted : (d c n m : ℕ) (l : List ℕ) → n ≢ m → times d (cond (eqb n m) (c ∷ l) l) ≡ times d l
 times_unlisted d c n m l f = ap (λ (b : Bool). times d (cond b (c ∷ l) l)) (ne_eqb n m f)
 
 times_other : (d c : ℕ) (b : Bool) (l : List ℕ) → d ≢ c → times d (cond b (c ∷ l) l) ≡ times d l
-times_other d c true l ne = let g : one_if (eqb d c) ≡ 0 = zero_is (eqb d c) (ne_eqb d c ne) in omega (arith, g)
+times_other d c true l ne = let g : as_number (eqb d c) ≡ 0 = zero_is (eqb d c) (ne_eqb d c ne) in omega (arith, g)
 times_other d c false l ne = refl
 
 counted_dirtied : (k : Shape) (began words : List ℕ) (views : List View) (id : ℕ) (v : View) (c : ℕ) → c < k.cards → mark_word k c < length words → get_elem? views id ≡ some v

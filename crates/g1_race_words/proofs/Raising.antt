@@ -8,7 +8,7 @@ use Rattle.atomic_table.proofs.Lists.{set_else}
 use Rattle.g1_race_words.specs.declared.view.Shape.{Shape}
 use Rattle.g1_race_words.specs.declared.view.View.{View}
 use Rattle.g1_race_words.specs.Begin.{Begun}
-use Rattle.g1_race_words.specs.Rule.{In, Held, pairs_of, held_of, flagged_of, mark_word, bit_word, bit_place, flag, IsFlagged, IsShape, HasBit, Flagged, Raced}
+use Rattle.g1_race_words.specs.Rule.{In, Held, pairs_found, held_of, flagged_of, mark_word, bit_word, bit_place, flag, IsFlagged, IsWholeShape, HasBit, Flagged, Raced}
 use Rattle.g1_race_words.specs.Steps.{owed_card, set_flags, spotted, raised, dirtied}
 use Rattle.g1_race_words.specs.Seats.{Sits}
 use Rattle.g1_race_words.proofs.Plain.{held_back, held_same, true_is, false_is}
@@ -46,7 +46,7 @@ set_back k n (c ∷ cs) d i = pick (ℕ_discrete bit 1) (λ j. set_back k n cs d
     pick (yes e) more = first e (subst (λ (l : List ℕ). In l d) (true_is (eqb bit 1) (c ∷ set_flags k n cs) (set_flags k n cs) (eq-eqb bit 1 e)) i) more
     pick (no ne) more = later (more (subst (λ (l : List ℕ). In l d) (false_is (eqb bit 1) (c ∷ set_flags k n cs) (set_flags k n cs) (ne_eqb bit 1 ne)) i))
 
-pub raced_spotted : (begun : Begun) (words : List ℕ) (views : List View) (id : ℕ) (v : View) (c : ℕ) → IsShape begun.shape → Sits begun.shape v → v.owed ≡ Some c
+pub raced_spotted : (begun : Begun) (words : List ℕ) (views : List View) (id : ℕ) (v : View) (c : ℕ) → IsWholeShape begun.shape → Sits begun.shape v → v.owed ≡ Some c
     → get_elem? views id ≡ some v → Raced begun words views → Raced begun words (set views id (spotted v (get_or words (bit_word begun.shape (flag begun.shape c)) 0)))
 raced_spotted begun words views id v c shaped sits owes at h = raced_held begun words words views id v v.held w.flagged shaped sits refl (λ i lt. refl) at
     (kept_stays k begun.pairs words words views id v w at refl refl (λ x. refl) h.kept)
@@ -69,7 +69,7 @@ raced_spotted begun words views id v c shaped sits owes at h = raced_held begun 
 
 -- the flag is set
 
-pub raced_raised : (begun : Begun) (words : List ℕ) (views : List View) (id : ℕ) (v : View) (c : ℕ) → IsShape begun.shape → Sits begun.shape v → v.owed ≡ Some c → c < begun.shape.cards
+pub raced_raised : (begun : Begun) (words : List ℕ) (views : List View) (id : ℕ) (v : View) (c : ℕ) → IsWholeShape begun.shape → Sits begun.shape v → v.owed ≡ Some c → c < begun.shape.cards
     → get_elem? views id ≡ some v → Raced begun words views → Raced begun (with_pair begun.shape words (flag begun.shape c)) (set views id (raised v))
 raced_raised begun words views id v c shaped sits owes lt at h = raced_held begun words new views id v v.held w.flagged shaped sits (length-set words (bit_word k x) _) (front_stays k words x) at
     (record {
@@ -99,8 +99,8 @@ raced_raised begun words views id v c shaped sits owes lt at h = raced_held begu
     short : bit_word k x < length words
     short = subst (λ (n : ℕ). bit_word k x < n) (sym h.sized) (flag_below k c shaped lt)
 
-    pairs : (z : ℕ × ℕ) → (Held pairs_of views z → Held pairs_of (set views id w) z) × (Held pairs_of (set views id w) z → Held pairs_of views z)
-    pairs = held_same pairs_of views id v w at refl
+    pairs : (z : ℕ × ℕ) → (Held pairs_found views z → Held pairs_found (set views id w) z) × (Held pairs_found (set views id w) z → Held pairs_found views z)
+    pairs = held_same pairs_found views id v w at refl
 
 -- the mark is made dirty
 

@@ -8,7 +8,7 @@ use Rattle.atomic_table.specs.declared.shared.Seat.{Seat}
 use Rattle.atomic_table.proofs.Lists.{set_again}
 use Rattle.g1_race_words.specs.declared.view.Shape.{Shape}
 use Rattle.g1_race_words.specs.declared.view.View.{View}
-use Rattle.g1_race_words.specs.Rule.{word_count, Going, IsBlank, IsShape}
+use Rattle.g1_race_words.specs.Rule.{word_count, Going, IsBlank, IsWholeShape}
 use Rattle.g1_race_words.specs.Steps.{lighter}
 use Rattle.g1_race_words.specs.Readers.{IsLent, IsReading, new_reader}
 use Rattle.g1_race_words.proofs.Plain.{read_at, set_read}
@@ -37,7 +37,7 @@ allows_see k slots id p me heavy frozen lt s h len at fits =
 -- what the calls ask
 
 module _ (z : TableId) (k : Shape) (fits : z.words ≡ word_count k) (s : Seat (Unit {0}) View) (table : s.table_id ≡ z) where
-  pub split_reader_owed : IsShape k → IsLent z k s → 0 < s.me.0.weight → (s.table_id ≡ z) × (0 < z.words) × Splits (Rule k) s.id s.me.0 (lighter s.me.0) (new_reader s.me.0)
+  pub split_reader_owed : IsWholeShape k → IsLent z k s → 0 < s.me.0.weight → (s.table_id ≡ z) × (0 < z.words) × Splits (Rule k) s.id s.me.0 (lighter s.me.0) (new_reader s.me.0)
   split_reader_owed shaped lent heavy = (table, omega (arith, fits, shaped.5), splits_reader k s.id s.me.0 lent.blank heavy lent.frozen)
 
   pub see_owed : (p : ℕ) → IsReading z k s → p < word_count k

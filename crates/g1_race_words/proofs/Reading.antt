@@ -6,7 +6,7 @@ use lib.ListN.{get_elem?}
 use Rattle.g1_race_words.specs.declared.view.Shape.{Shape}
 use Rattle.g1_race_words.specs.declared.view.View.{View}
 use Rattle.g1_race_words.specs.Begin.{Begun}
-use Rattle.g1_race_words.specs.Rule.{BeganInto, card_of, region_at, crosses, IsCrossing, In, Held, History, histories_of, claims_of, cleanings_of, pairs_of, last_to, Bounded, Stored, StoredInto, Recorded, Raced}
+use Rattle.g1_race_words.specs.Rule.{BeganInto, slot_card, region_at, crosses, IsCrossing, In, Held, StoreHistory, histories_of, claims_of, cleanings_of, pairs_found, last_to, Bounded, Stored, StoredInto, Recorded, Raced}
 use Rattle.g1_race_words.specs.Steps.{pair_at, read}
 use Rattle.g1_race_words.proofs.Crossing.{word_low}
 use Rattle.g1_race_words.proofs.Plain.{in_either, read_at, true_is, false_is, held_back, held_same}
@@ -24,7 +24,7 @@ last_in p n (x ∷ xs) e = pick (λ f. last_in p n xs f) (ℕ_discrete x.0 p)
     pick more (yes k) = let f : Some x.1 ≡ Some n = sym (true_is (eqb x.0 p) (Some x.1) (last_to p xs) (eq-eqb x.0 p k)) ∙ e in let m : x.1 ≡ n = cc in inl (λ i. (k i, m i))
     pick more (no k) = inr (more (sym (false_is (eqb x.0 p) (Some x.1) (last_to p xs) (ne_eqb x.0 p k)) ∙ e))
 
-pair_back : (k : Shape) (p n : ℕ) (x : ℕ × ℕ) (b : Bool) → crosses k p n ≡ b → In (cond b ((card_of k p, region_at k n) ∷ []) []) x → (crosses k p n ≡ true) × ((card_of k p, region_at k n) ≡ x)
+pair_back : (k : Shape) (p n : ℕ) (x : ℕ × ℕ) (b : Bool) → crosses k p n ≡ b → In (cond b ((slot_card k p, region_at k n) ∷ []) []) x → (crosses k p n ≡ true) × ((slot_card k p, region_at k n) ≡ x)
 pair_back k p n x true e (inl i) = (e, i)
 pair_back k p n x true e (inr i) = absurd i
 pair_back k p n x false e i = absurd i
@@ -35,9 +35,9 @@ null_stays k p n e cr = let f : crosses k p 0 ≡ true = subst (λ (m : ℕ). cr
 recorded_read : (k : Shape) (began : List ℕ) (words : List ℕ) (views : List View) (id : ℕ) (v : View) (p : ℕ) → v.shape ≡ k → p < k.slots → p < length words → get_elem? views id ≡ some v
     → Bounded k words → Stored k began words views → Recorded k began views → Recorded k began (set views id (read v p (get_or words p 0)))
 recorded_read k began words views id v p shape lt short at bounded stored h x held = ⊎_elim
-    (λ (a : Held pairs_of views x). on (h x a))
+    (λ (a : Held pairs_found views x). on (h x a))
     (λ (i : In w.pairs x). ⊎_elim (λ (a : In v.pairs x). on (h x (id, v, at, a))) (λ (a : In (pair_at v.shape p n) x). on (new a)) (in_either v.pairs (pair_at v.shape p n) x i))
-    (held_back pairs_of views id v w at x held)
+    (held_back pairs_found views id v w at x held)
   where
     n : ℕ
     n = get_or words p 0
@@ -50,8 +50,8 @@ recorded_read k began words views id v p shape lt short at bounded stored h x he
 
     new : In (pair_at v.shape p n) x → StoredInto k views x ⊎ BeganInto k began x
     new a = let b = pair_back k p n x (crosses k p n) refl (subst (λ (s : Shape). In (pair_at s p n) x) shape a) in let is : IsCrossing k p n = (lt, word_low k p n (bounded p n lt (read_at words p short)) b.0, b.0) in ⊎_elim
-        (λ (y : (g : History) × Held histories_of views g × (last_to p g.1 ≡ Some n)). inl (y.0, p, n, y.1, last_in p n y.0.1 y.2, is, b.1))
-        (λ (y : (get_elem? began p ≡ some n) × ((g : History) → Held histories_of views g → last_to p g.1 ≡ None)). inr (p, n, y.0, is, b.1))
+        (λ (y : (g : StoreHistory) × Held histories_of views g × (last_to p g.1 ≡ Some n)). inl (y.0, p, n, y.1, last_in p n y.0.1 y.2, is, b.1))
+        (λ (y : (get_elem? began p ≡ some n) × ((g : StoreHistory) → Held histories_of views g → last_to p g.1 ≡ None)). inr (p, n, y.0, is, b.1))
         (stored p n lt (read_at words p short))
 
 pub raced_read : (begun : Begun) (words : List ℕ) (views : List View) (id : ℕ) (v : View) (p : ℕ) → Sits begun.shape v → v.held ≡ [] → v.next ≡ p → p < begun.shape.slots

@@ -7,7 +7,7 @@ use Rattle.std.specs.Int.{bit_at}
 use Rattle.g1_race_words.specs.declared.view.Shape.{Shape}
 use Rattle.g1_race_words.specs.declared.view.View.{View}
 use Rattle.g1_race_words.specs.Begin.{Begun}
-use Rattle.g1_race_words.specs.Rule.{card_of, mark_word, flag, In, Held, claims_of, cleanings_of, pairs_of, held_of, IsShape, IsPair, HasBit, Kept, Flagged, Raced, bit_word, bit_place, word_count}
+use Rattle.g1_race_words.specs.Rule.{slot_card, mark_word, flag, In, Held, claims_of, cleanings_of, pairs_found, held_of, IsWholeShape, IsPair, HasBit, Kept, Flagged, Raced, bit_word, bit_place, word_count}
 use Rattle.g1_race_words.specs.Steps.{unset, sought, recorded}
 use Rattle.g1_race_words.proofs.Plain.{held_back, held_same, false_is}
 use Rattle.g1_race_words.proofs.PairBits.{card_below, word_below, with_pair, bit_here, bits_stay, bits_back}
@@ -19,14 +19,14 @@ use Rattle.g1_race_words.specs.Seats.{Sits}
 
 -- the words of slots and marks stay, and what a seat holds changes, of pairs and of flags
 
-pub raced_held : (begun : Begun) (words new : List ℕ) (views : List View) (id : ℕ) (v : View) (l : List (ℕ × ℕ)) (m : List ℕ) → IsShape begun.shape → Sits begun.shape v → length new ≡ length words → SameFront begun.shape words new → get_elem? views id ≡ some v
+pub raced_held : (begun : Begun) (words new : List ℕ) (views : List View) (id : ℕ) (v : View) (l : List (ℕ × ℕ)) (m : List ℕ) → IsWholeShape begun.shape → Sits begun.shape v → length new ≡ length words → SameFront begun.shape words new → get_elem? views id ≡ some v
     → Kept begun.shape begun.pairs new (set views id (record v { held = l; flagged = m })) → Flagged begun.shape new (set views id (record v { held = l; flagged = m }))
     → Raced begun words views → Raced begun new (set views id (record v { held = l; flagged = m }))
 raced_held begun words new views id v l m shaped sits len front at kept flags h = record {
   sized = len ∙ h.sized;
   bounded = bounded_same k words new slots h.bounded;
   covered = covered_moves k begun.pairs words new views (set views id w) h.covered
-      (λ p n lt there cr. inr (slots p n lt there, (λ m. inl (front (mark_word k (card_of k p)) (let c = card_below k p shaped lt in omega arith) ∙ m)), others_pass k new views id v w p n at (λ a. inr a)));
+      (λ p n lt there cr. inr (slots p n lt there, (λ m. inl (front (mark_word k (slot_card k p)) (let c = card_below k p shaped lt in omega arith) ∙ m)), others_pass k new views id v w p n at (λ a. inr a)));
   weighed = weighed_step k views id v w at sits.weight sits.weight h.weighed;
   numbered = numbers_stay k views id v w at refl refl h.numbered;
   stored = stores_stay k begun.words words new views id v w at refl slots h.stored;
@@ -73,7 +73,7 @@ unset_back k n (x ∷ xs) y i = pick (eqb (bit_at n (bit_place k x)) 1) i (λ j.
     pick false (inl e) more = inl e
     pick false (inr j) more = inr (more j)
 
-pub raced_sought : (begun : Begun) (words : List ℕ) (views : List View) (id : ℕ) (v : View) (x : ℕ × ℕ) → IsShape begun.shape → Sits begun.shape v → v.held ≡ x ∷ []
+pub raced_sought : (begun : Begun) (words : List ℕ) (views : List View) (id : ℕ) (v : View) (x : ℕ × ℕ) → IsWholeShape begun.shape → Sits begun.shape v → v.held ≡ x ∷ []
     → get_elem? views id ≡ some v → Raced begun words views → Raced begun words (set views id (sought v (get_or words (bit_word begun.shape x) 0)))
 raced_sought begun words views id v x shaped sits one at h = raced_held begun words words views id v w.held v.flagged shaped sits refl (λ i lt. refl) at
     (record {
@@ -89,8 +89,8 @@ raced_sought begun words views id v x shaped sits one at h = raced_held begun wo
     w : View
     w = sought v (get_or words (bit_word k x) 0)
 
-    same : (z : ℕ × ℕ) → (Held pairs_of views z → Held pairs_of (set views id w) z) × (Held pairs_of (set views id w) z → Held pairs_of views z)
-    same = held_same pairs_of views id v w at refl
+    same : (z : ℕ × ℕ) → (Held pairs_found views z → Held pairs_found (set views id w) z) × (Held pairs_found (set views id w) z → Held pairs_found views z)
+    same = held_same pairs_found views id v w at refl
 
     found : (y : ℕ × ℕ) → In v.held y → HasBit k words y ⊎ In w.held y
     found y i = subst (λ (z : ℕ × ℕ). HasBit k words z ⊎ In w.held z) (only_held v.held x y one i)
@@ -98,7 +98,7 @@ raced_sought begun words views id v x shaped sits one at h = raced_held begun wo
 
 -- the bit is set
 
-pub raced_recorded : (begun : Begun) (words : List ℕ) (views : List View) (id : ℕ) (v : View) (x : ℕ × ℕ) → IsShape begun.shape → Sits begun.shape v → v.held ≡ x ∷ [] → IsPair begun.shape x
+pub raced_recorded : (begun : Begun) (words : List ℕ) (views : List View) (id : ℕ) (v : View) (x : ℕ × ℕ) → IsWholeShape begun.shape → Sits begun.shape v → v.held ≡ x ∷ [] → IsPair begun.shape x
     → get_elem? views id ≡ some v → Raced begun words views → Raced begun (with_pair begun.shape words x) (set views id (recorded v))
 raced_recorded begun words views id v x shaped sits one pair at h = raced_held begun words new views id v [] v.flagged shaped sits (length-set words (bit_word k x) _)
     front at
@@ -127,5 +127,5 @@ raced_recorded begun words views id v x shaped sits one pair at h = raced_held b
     front : SameFront k words new
     front = front_stays k words x
 
-    same : (z : ℕ × ℕ) → (Held pairs_of views z → Held pairs_of (set views id w) z) × (Held pairs_of (set views id w) z → Held pairs_of views z)
-    same = held_same pairs_of views id v w at refl
+    same : (z : ℕ × ℕ) → (Held pairs_found views z → Held pairs_found (set views id w) z) × (Held pairs_found (set views id w) z → Held pairs_found views z)
+    same = held_same pairs_found views id v w at refl

@@ -7,7 +7,7 @@ use Rattle.atomic_table.proofs.Lists.{at_set, at_snoc, at_longer}
 use Rattle.g1_race_words.specs.declared.view.Shape.{Shape}
 use Rattle.g1_race_words.specs.declared.view.View.{View}
 use Rattle.g1_race_words.specs.Begin.{Begun}
-use Rattle.g1_race_words.specs.Rule.{In, Held, History, histories_of, claims_of, cleanings_of, pairs_of, held_of, flagged_of, Covered, AtRest, IsBlank, weigh, one_if, tally, numbers, Weighed, Numbered, Raced, times, claims_at, cleanings_at, total}
+use Rattle.g1_race_words.specs.Rule.{In, Held, StoreHistory, histories_of, claims_of, cleanings_of, pairs_found, held_of, flagged_of, Covered, AtRest, IsBlank, weigh, as_number, tally, numbers, Weighed, Numbered, Raced, times, claims_at, cleanings_at, total}
 use Rattle.g1_race_words.specs.Steps.{lighter, both}
 use Rattle.g1_race_words.proofs.Plain.{SameHeld, held_same, held_split, held_join, weigh_set, weigh_snoc, total_set, total_snoc}
 use Rattle.g1_race_words.proofs.Tallies.{tally_append, times_append, none_below}
@@ -19,8 +19,8 @@ use Rattle.g1_race_words.proofs.Unchanged.{stored_same, same_slots, recorded_sam
 
 -- a member's seat is split off from a seat that answers for nothing
 
-held_split_blank : (views : List View) (id : ℕ) (v left right : View) → get_elem? views id ≡ some v → v.histories ≡ left.histories → ((h : History) → In right.histories h → h.1 ≡ [])
-    → (h : History) → (Held histories_of views h → Held histories_of (set views id left ++ right ∷ []) h) × (Held histories_of (set views id left ++ right ∷ []) h → Held histories_of views h ⊎ (h.1 ≡ []))
+held_split_blank : (views : List View) (id : ℕ) (v left right : View) → get_elem? views id ≡ some v → v.histories ≡ left.histories → ((h : StoreHistory) → In right.histories h → h.1 ≡ [])
+    → (h : StoreHistory) → (Held histories_of views h → Held histories_of (set views id left ++ right ∷ []) h) × (Held histories_of (set views id left ++ right ∷ []) h → Held histories_of views h ⊎ (h.1 ≡ []))
 held_split_blank views id v left right at e none h = let same = held_same histories_of views id v left at e h in (
   λ x. let y = same.0 x in (y.0, y.1, at_longer (set views id left) (right ∷ []) y.0 y.1 y.2, y.3),
   λ x. ⊎_elim (λ (was : get_elem? (set views id left) x.0 ≡ some x.1). inl (same.1 (x.0, x.1, was, x.3)))
@@ -55,7 +55,7 @@ total_join : (f : View → ℕ) (views : List View) (id : ℕ) (v w : View) (oth
     → total f (set (set views id w) other spent) ≡ total f views
 total_join f views id v w other u spent at there adds none = let a = total_set f views id v w at in let b = total_set f (set views id w) other u spent there in omega (arith, a, b, adds, none)
 
-pub raced_split : (begun : Begun) (words : List ℕ) (views : List View) (id : ℕ) (v right : View) → IsBlank v → 0 < v.weight → right.weight ≡ 1 → ((m : ℕ) → numbers m (lighter v) + numbers m right ≤ numbers m v) → ((h : History) → In right.histories h → h.1 ≡ []) → right.claims ≡ [] → right.cleanings ≡ [] → right.pairs ≡ [] → right.held ≡ [] → right.flagged ≡ []
+pub raced_split : (begun : Begun) (words : List ℕ) (views : List View) (id : ℕ) (v right : View) → IsBlank v → 0 < v.weight → right.weight ≡ 1 → ((m : ℕ) → numbers m (lighter v) + numbers m right ≤ numbers m v) → ((h : StoreHistory) → In right.histories h → h.1 ≡ []) → right.claims ≡ [] → right.cleanings ≡ [] → right.pairs ≡ [] → right.held ≡ [] → right.flagged ≡ []
     → get_elem? views id ≡ some v → Raced begun words views → Raced begun words (set views id (lighter v) ++ right ∷ [])
 raced_split begun words views id v right still heavy one fewer fresh claims cleanings pairs held_none flag_none at h = let after = set views id (lighter v) ++ right ∷ [] in let held = held_split_blank views id v (lighter v) right at refl fresh in record {
   sized = h.sized;
@@ -64,8 +64,8 @@ raced_split begun words views id v right still heavy one fewer fresh claims clea
   weighed = weighed_split begun.shape views id v right at still heavy one h.weighed;
   numbered = numbered_split begun.shape views id v (lighter v) right at fewer h.numbered;
   stored = stored_same begun.shape begun.words words words views after (same_slots begun.shape words) (λ g. (held g).0) (λ g. (held g).1) h.stored;
-  recorded = recorded_same begun.shape begun.words views after (λ g. (held g).0) (held_split pairs_of views id v (lighter v) right at refl pairs) h.recorded;
-  kept = kept_same begun.shape begun.pairs words words views after (λ x. refl) (held_split pairs_of views id v (lighter v) right at refl pairs) (held_split held_of views id v (lighter v) right at refl held_none) h.kept;
+  recorded = recorded_same begun.shape begun.words views after (λ g. (held g).0) (held_split pairs_found views id v (lighter v) right at refl pairs) h.recorded;
+  kept = kept_same begun.shape begun.pairs words words views after (λ x. refl) (held_split pairs_found views id v (lighter v) right at refl pairs) (held_split held_of views id v (lighter v) right at refl held_none) h.kept;
   claimed = claimed_same begun.shape begun.words words words views after (λ c. refl) (held_split claims_of views id v (lighter v) right at refl claims) (held_split cleanings_of views id v (lighter v) right at refl cleanings) h.claimed;
   counted = counted_same begun.shape begun.words words views after (λ c. total_split (claims_at c) views id v (lighter v) right at refl (ap (times c) claims))
       (λ c. total_split (cleanings_at c) views id v (lighter v) right at refl (ap (times c) cleanings)) h.counted;
@@ -97,7 +97,7 @@ numbered_join k views id v other u spent still none at there h m =
     let b = total_set (numbers m) (set views id (both v u)) other u spent there in
     let c = tally_append m v.histories u.histories in
     let d : tally m spent.histories ≡ 0 = ap (tally m) still.1 in
-    let e : one_if (nat_lt m spent.spare) ≡ 0 = ap (λ (x : ℕ). one_if (nat_lt m x)) none ∙ none_below m in
+    let e : as_number (nat_lt m spent.spare) ≡ 0 = ap (λ (x : ℕ). as_number (nat_lt m x)) none ∙ none_below m in
     let t = h m in omega arith
 
 pub raced_join : (begun : Begun) (words : List ℕ) (views : List View) (id : ℕ) (v : View) (other : ℕ) (u spent : View) → u.weight ≡ 1 → AtRest u → IsBlank spent → spent.weight ≡ 0 → spent.spare ≡ 0
@@ -109,8 +109,8 @@ raced_join begun words views id v other u spent one rest still none given at apa
   weighed = weighed_join begun.shape views id v other u spent one still none at apart there h.weighed;
   numbered = numbered_join begun.shape views id v other u spent still given at there h.numbered;
   stored = stored_same begun.shape begun.words words words views after (same_slots begun.shape words) (λ g. (held g).0) (λ g b. inl ((held g).1 b)) h.stored;
-  recorded = recorded_same begun.shape begun.words views after (λ g. (held g).0) (held_join pairs_of views id v u w spent other at apart there refl still.4) h.recorded;
-  kept = kept_same begun.shape begun.pairs words words views after (λ x. refl) (held_join pairs_of views id v u w spent other at apart there refl still.4)
+  recorded = recorded_same begun.shape begun.words views after (λ g. (held g).0) (held_join pairs_found views id v u w spent other at apart there refl still.4) h.recorded;
+  kept = kept_same begun.shape begun.pairs words words views after (λ x. refl) (held_join pairs_found views id v u w spent other at apart there refl still.4)
       (held_join held_of views id v u w spent other at apart there (sym (ap (λ (l : List (ℕ × ℕ)). v.held ++ l) rest.2 ∙ append-nil v.held)) still.0.2) h.kept;
   claimed = claimed_same begun.shape begun.words words words views after (λ c. refl) (held_join claims_of views id v u w spent other at apart there refl still.2) (held_join cleanings_of views id v u w spent other at apart there refl still.3) h.claimed;
   counted = counted_same begun.shape begun.words words views after (λ c. total_join (claims_at c) views id v w other u spent at there (times_append c v.claims u.claims) (ap (times c) still.2))
@@ -148,11 +148,11 @@ raced_enter begun words views w still light none h = let after = views ++ w ∷ 
   numbered = λ m.
       let a = total_snoc (numbers m) views w in
       let d : tally m w.histories ≡ 0 = ap (tally m) still.1 in
-      let e : one_if (nat_lt m w.spare) ≡ 0 = ap (λ (x : ℕ). one_if (nat_lt m x)) none ∙ none_below m in
+      let e : as_number (nat_lt m w.spare) ≡ 0 = ap (λ (x : ℕ). as_number (nat_lt m x)) none ∙ none_below m in
       let t = h.numbered m in omega arith;
   stored = stored_same begun.shape begun.words words words views after (same_slots begun.shape words) (λ g. (held g).0) (λ g b. inl ((held g).1 b)) h.stored;
-  recorded = recorded_same begun.shape begun.words views after (λ g. (held g).0) (held_more pairs_of views w still.4) h.recorded;
-  kept = kept_same begun.shape begun.pairs words words views after (λ x. refl) (held_more pairs_of views w still.4) (held_more held_of views w still.0.2) h.kept;
+  recorded = recorded_same begun.shape begun.words views after (λ g. (held g).0) (held_more pairs_found views w still.4) h.recorded;
+  kept = kept_same begun.shape begun.pairs words words views after (λ x. refl) (held_more pairs_found views w still.4) (held_more held_of views w still.0.2) h.kept;
   claimed = claimed_same begun.shape begun.words words words views after (λ c. refl) (held_more claims_of views w still.2) (held_more cleanings_of views w still.3) h.claimed;
   counted = counted_same begun.shape begun.words words views after (λ c. total_more (claims_at c) views w (ap (times c) still.2)) (λ c. total_more (cleanings_at c) views w (ap (times c) still.3)) h.counted;
   flagged = flags_moved begun.shape words words views after (λ c lt m. m) (λ c b. b) (λ c. (held_more flagged_of views w still.0.3 c).1) h.flagged;

@@ -2,64 +2,64 @@
 use Rattle.std.proofs.Common.{◌≡◌, ℕ, ◌+◌, ◌<◌, ◌≤◌, List, [], ◌∷◌, ◌++◌, Bool, true, false, refl, sym, ap, ◌∙◌, inl, inr, arith, eqb, eq-eqb, ne_eqb, nat_lt, ◌-◌, ltb-true, lt-ltb, le-ltb}
 use native.Mathlib.Decide.{ℕ_discrete}
 use Rattle.g1_race_words.specs.declared.view.View.{View}
-use Rattle.g1_race_words.specs.Rule.{In, History, one_if, tally, numbers, times}
-use Rattle.g1_race_words.specs.Steps.{gained, lighter, new_racer, new_sweeper}
+use Rattle.g1_race_words.specs.Rule.{In, StoreHistory, as_number, tally, numbers, times}
+use Rattle.g1_race_words.specs.Steps.{gains_store, lighter, new_racer, new_sweeper}
 
-pub one_is : (b : Bool) → b ≡ true → one_if b ≡ 1
-one_is b e = ap one_if e
+pub one_is : (b : Bool) → b ≡ true → as_number b ≡ 1
+one_is b e = ap as_number e
 
-pub zero_is : (b : Bool) → b ≡ false → one_if b ≡ 0
-zero_is b e = ap one_if e
+pub zero_is : (b : Bool) → b ≡ false → as_number b ≡ 0
+zero_is b e = ap as_number e
 
-pub tally_append : (m : ℕ) (hs gs : List History) → tally m (hs ++ gs) ≡ tally m hs + tally m gs
+pub tally_append : (m : ℕ) (hs gs : List StoreHistory) → tally m (hs ++ gs) ≡ tally m hs + tally m gs
 tally_append m [] gs = omega arith
 tally_append m (h ∷ hs) gs = let e = tally_append m hs gs in omega arith
 
-pub tally_gained : (m p n : ℕ) (hs : List History) → tally m (gained p n hs) ≡ tally m hs
+pub tally_gained : (m p n : ℕ) (hs : List StoreHistory) → tally m (gains_store p n hs) ≡ tally m hs
 tally_gained m p n [] = refl
 tally_gained m p n (h ∷ hs) = refl
 
-pub tally_in : (m : ℕ) (h : List (ℕ × ℕ)) (hs : List History) → In hs (m, h) → 1 ≤ tally m hs
+pub tally_in : (m : ℕ) (h : List (ℕ × ℕ)) (hs : List StoreHistory) → In hs (m, h) → 1 ≤ tally m hs
 tally_in m h [] i = absurd i
-tally_in m h (g ∷ gs) (inl e) = let f : one_if (eqb m g.0) ≡ 1 = one_is (eqb m g.0) (eq-eqb m g.0 (sym (ap (λ (x : History). x.0) e))) in omega arith
+tally_in m h (g ∷ gs) (inl e) = let f : as_number (eqb m g.0) ≡ 1 = one_is (eqb m g.0) (eq-eqb m g.0 (sym (ap (λ (x : StoreHistory). x.0) e))) in omega arith
 tally_in m h (g ∷ gs) (inr i) = let e = tally_in m h gs i in omega arith
 
 -- of two histories with one number, both are one where the number stands once
-pub tally_once : (m : ℕ) (g h : List (ℕ × ℕ)) (hs : List History) → tally m hs ≤ 1 → In hs (m, g) → In hs (m, h) → g ≡ h
+pub tally_once : (m : ℕ) (g h : List (ℕ × ℕ)) (hs : List StoreHistory) → tally m hs ≤ 1 → In hs (m, g) → In hs (m, h) → g ≡ h
 tally_once m g h [] le a b = absurd a
-tally_once m g h (x ∷ xs) le (inl e) (inl f) = ap (λ (y : History). y.1) (sym e ∙ f)
-tally_once m g h (x ∷ xs) le (inl e) (inr b) = absurd (let k : one_if (eqb m x.0) ≡ 1 = one_is (eqb m x.0) (eq-eqb m x.0 (sym (ap (λ (y : History). y.0) e))) in let l = tally_in m h xs b in omega arith)
-tally_once m g h (x ∷ xs) le (inr a) (inl f) = absurd (let k : one_if (eqb m x.0) ≡ 1 = one_is (eqb m x.0) (eq-eqb m x.0 (sym (ap (λ (y : History). y.0) f))) in let l = tally_in m g xs a in omega arith)
+tally_once m g h (x ∷ xs) le (inl e) (inl f) = ap (λ (y : StoreHistory). y.1) (sym e ∙ f)
+tally_once m g h (x ∷ xs) le (inl e) (inr b) = absurd (let k : as_number (eqb m x.0) ≡ 1 = one_is (eqb m x.0) (eq-eqb m x.0 (sym (ap (λ (y : StoreHistory). y.0) e))) in let l = tally_in m h xs b in omega arith)
+tally_once m g h (x ∷ xs) le (inr a) (inl f) = absurd (let k : as_number (eqb m x.0) ≡ 1 = one_is (eqb m x.0) (eq-eqb m x.0 (sym (ap (λ (y : StoreHistory). y.0) f))) in let l = tally_in m g xs a in omega arith)
 tally_once m g h (x ∷ xs) le (inr a) (inr b) = tally_once m g h xs (omega arith) a b
 
-pub none_below : (m : ℕ) → one_if (nat_lt m 0) ≡ 0
+pub none_below : (m : ℕ) → as_number (nat_lt m 0) ≡ 0
 none_below m = zero_is (nat_lt m 0) (le-ltb m 0 (omega arith))
 
 -- a number that is cut off stands with one of two
-pub below_split : (m n : ℕ) → 0 < n → one_if (nat_lt m (n - 1)) + one_if (eqb m (n - 1)) ≤ one_if (nat_lt m n)
+pub below_split : (m n : ℕ) → 0 < n → as_number (nat_lt m (n - 1)) + as_number (eqb m (n - 1)) ≤ as_number (nat_lt m n)
 below_split m n pos = pick (nat_lt m (n - 1)) refl (ℕ_discrete m (n - 1))
   where
-    pick : (b : Bool) → nat_lt m (n - 1) ≡ b → Dec (m ≡ n - 1) → one_if (nat_lt m (n - 1)) + one_if (eqb m (n - 1)) ≤ one_if (nat_lt m n)
+    pick : (b : Bool) → nat_lt m (n - 1) ≡ b → Dec (m ≡ n - 1) → as_number (nat_lt m (n - 1)) + as_number (eqb m (n - 1)) ≤ as_number (nat_lt m n)
     pick true e d = let lt : m < n - 1 = ltb-true m (n - 1) e in
-        let x : one_if (nat_lt m (n - 1)) ≡ 1 = one_is (nat_lt m (n - 1)) e in
-        let y : one_if (eqb m (n - 1)) ≡ 0 = zero_is (eqb m (n - 1)) (ne_eqb m (n - 1) (λ k. absurd (omega arith))) in
-        let z : one_if (nat_lt m n) ≡ 1 = one_is (nat_lt m n) (lt-ltb m n (omega arith)) in omega arith
+        let x : as_number (nat_lt m (n - 1)) ≡ 1 = one_is (nat_lt m (n - 1)) e in
+        let y : as_number (eqb m (n - 1)) ≡ 0 = zero_is (eqb m (n - 1)) (ne_eqb m (n - 1) (λ k. absurd (omega arith))) in
+        let z : as_number (nat_lt m n) ≡ 1 = one_is (nat_lt m n) (lt-ltb m n (omega arith)) in omega arith
     pick false e (yes k) =
-        let x : one_if (nat_lt m (n - 1)) ≡ 0 = zero_is (nat_lt m (n - 1)) e in
-        let y : one_if (eqb m (n - 1)) ≡ 1 = one_is (eqb m (n - 1)) (eq-eqb m (n - 1) k) in
-        let z : one_if (nat_lt m n) ≡ 1 = one_is (nat_lt m n) (lt-ltb m n (omega arith)) in omega arith
+        let x : as_number (nat_lt m (n - 1)) ≡ 0 = zero_is (nat_lt m (n - 1)) e in
+        let y : as_number (eqb m (n - 1)) ≡ 1 = one_is (eqb m (n - 1)) (eq-eqb m (n - 1) k) in
+        let z : as_number (nat_lt m n) ≡ 1 = one_is (nat_lt m n) (lt-ltb m n (omega arith)) in omega arith
     pick false e (no k) =
-        let x : one_if (nat_lt m (n - 1)) ≡ 0 = zero_is (nat_lt m (n - 1)) e in
-        let y : one_if (eqb m (n - 1)) ≡ 0 = zero_is (eqb m (n - 1)) (ne_eqb m (n - 1) k) in omega arith
+        let x : as_number (nat_lt m (n - 1)) ≡ 0 = zero_is (nat_lt m (n - 1)) e in
+        let y : as_number (eqb m (n - 1)) ≡ 0 = zero_is (eqb m (n - 1)) (ne_eqb m (n - 1) k) in omega arith
 
-pub below_less : (m n : ℕ) → one_if (nat_lt m (n - 1)) ≤ one_if (nat_lt m n)
+pub below_less : (m n : ℕ) → as_number (nat_lt m (n - 1)) ≤ as_number (nat_lt m n)
 below_less m n = pick (nat_lt m (n - 1)) refl
   where
-    pick : (b : Bool) → nat_lt m (n - 1) ≡ b → one_if (nat_lt m (n - 1)) ≤ one_if (nat_lt m n)
+    pick : (b : Bool) → nat_lt m (n - 1) ≡ b → as_number (nat_lt m (n - 1)) ≤ as_number (nat_lt m n)
     pick true e = let lt : m < n - 1 = ltb-true m (n - 1) e in
-        let x : one_if (nat_lt m (n - 1)) ≡ 1 = one_is (nat_lt m (n - 1)) e in
-        let z : one_if (nat_lt m n) ≡ 1 = one_is (nat_lt m n) (lt-ltb m n (omega arith)) in omega arith
-    pick false e = let x : one_if (nat_lt m (n - 1)) ≡ 0 = zero_is (nat_lt m (n - 1)) e in omega arith
+        let x : as_number (nat_lt m (n - 1)) ≡ 1 = one_is (nat_lt m (n - 1)) e in
+        let z : as_number (nat_lt m n) ≡ 1 = one_is (nat_lt m n) (lt-ltb m n (omega arith)) in omega arith
+    pick false e = let x : as_number (nat_lt m (n - 1)) ≡ 0 = zero_is (nat_lt m (n - 1)) e in omega arith
 
 -- a racer gets the number that is cut off; a sweeper gets none
 pub number_given : (v : View) → 0 < v.spare → (m : ℕ) → numbers m (lighter v) + numbers m (new_racer v) ≤ numbers m v

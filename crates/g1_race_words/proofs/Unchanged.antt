@@ -5,7 +5,7 @@ use lib.ListN.{get_elem?}
 use Rattle.atomic_table.proofs.Lists.{at_set, set_else}
 use Rattle.g1_race_words.specs.declared.view.Shape.{Shape}
 use Rattle.g1_race_words.specs.declared.view.View.{View}
-use Rattle.g1_race_words.specs.Rule.{IsWord, BeganInto, MadeDirty, mark_word, Held, History, histories_of, claims_of, cleanings_of, pairs_of, last_to, Bounded, IsBlank, weigh, one_if, tally, numbers, Weighed, Numbered, Stored, StoredInto, Recorded, Claimed, Counted, times, claims_at, cleanings_at, total}
+use Rattle.g1_race_words.specs.Rule.{IsWord, BeganInto, MadeDirty, mark_word, Held, StoreHistory, histories_of, claims_of, cleanings_of, pairs_found, last_to, Bounded, IsBlank, weigh, as_number, tally, numbers, Weighed, Numbered, Stored, StoredInto, Recorded, Claimed, Counted, times, claims_at, cleanings_at, total}
 use Rattle.g1_race_words.proofs.Plain.{SameHeld, held_same, weigh_set, total_set}
 use Rattle.g1_race_words.proofs.CoverStores.{mark_apart}
 
@@ -29,7 +29,7 @@ pub numbered_step : (k : Shape) (views : List View) (id : ℕ) (v w : View) → 
 numbered_step k views id v w at le h m = let a = total_set (numbers m) views id v w at in let b = le m in let t = h m in omega arith
 
 pub same_numbers : (m : ℕ) (v w : View) → v.spare ≡ w.spare → tally m w.histories ≡ tally m v.histories → numbers m w ≤ numbers m v
-same_numbers m v w spare e = let f : numbers m w ≡ numbers m v = λ i. one_if (nat_lt m (sym spare i)) + e i in omega (arith, f)
+same_numbers m v w spare e = let f : numbers m w ≡ numbers m v = λ i. as_number (nat_lt m (sym spare i)) + e i in omega (arith, f)
 
 pub numbers_stay : (k : Shape) (views : List View) (id : ℕ) (v w : View) → get_elem? views id ≡ some v → v.spare ≡ w.spare → v.histories ≡ w.histories → Numbered k views → Numbered k (set views id w)
 numbers_stay k views id v w at spare same = numbered_step k views id v w at (λ m. same_numbers m v w spare (ap (tally m) (sym same)))
@@ -39,11 +39,11 @@ numbers_stay k views id v w at spare same = numbered_step k views id v w at (λ 
 abbrev pub SameSlots : Shape → List ℕ → List ℕ → Type 0
 SameSlots k words new = (p n : ℕ) → p < k.slots → get_elem? new p ≡ some n → get_elem? words p ≡ some n
 
-pub stored_same : (k : Shape) (began : List ℕ) (words new : List ℕ) (views after : List View) → SameSlots k words new → ((h : History) → Held histories_of views h → Held histories_of after h)
-    → ((h : History) → Held histories_of after h → Held histories_of views h ⊎ (h.1 ≡ [])) → Stored k began words views → Stored k began new after
+pub stored_same : (k : Shape) (began : List ℕ) (words new : List ℕ) (views after : List View) → SameSlots k words new → ((h : StoreHistory) → Held histories_of views h → Held histories_of after h)
+    → ((h : StoreHistory) → Held histories_of after h → Held histories_of views h ⊎ (h.1 ≡ [])) → Stored k began words views → Stored k began new after
 stored_same k began words new views after slots on back h p n lt at = ⊎_elim
-    (λ (x : (h : History) × Held histories_of views h × (last_to p h.1 ≡ Some n)). inl (x.0, on x.0 x.1, x.2))
-    (λ (x : (get_elem? began p ≡ some n) × ((h : History) → Held histories_of views h → last_to p h.1 ≡ None)). inr (x.0, λ g b. ⊎_elim (λ (was : Held histories_of views g). x.1 g was) (λ (e : g.1 ≡ []). ap (last_to p) e) (back g b)))
+    (λ (x : (h : StoreHistory) × Held histories_of views h × (last_to p h.1 ≡ Some n)). inl (x.0, on x.0 x.1, x.2))
+    (λ (x : (get_elem? began p ≡ some n) × ((h : StoreHistory) → Held histories_of views h → last_to p h.1 ≡ None)). inr (x.0, λ g b. ⊎_elim (λ (was : Held histories_of views g). x.1 g was) (λ (e : g.1 ≡ []). ap (last_to p) e) (back g b)))
     (h p n lt (slots p n lt at))
 
 pub same_slots_at_mark : (k : Shape) (words : List ℕ) (c n : ℕ) → SameSlots k words (set words (mark_word k c) n)
@@ -65,14 +65,14 @@ bounded_wrote k words p n fits h q m lt at = ⊎_elim
 
 -- the pairs, where no racer stores and no pair is recorded
 
-pub into_same : (k : Shape) (views after : List View) → ((h : History) → Held histories_of views h → Held histories_of after h) → (x : ℕ × ℕ) → StoredInto k views x → StoredInto k after x
+pub into_same : (k : Shape) (views after : List View) → ((h : StoreHistory) → Held histories_of views h → Held histories_of after h) → (x : ℕ × ℕ) → StoredInto k views x → StoredInto k after x
 into_same k views after on x s = (s.0, s.1, s.2, on s.0 s.3, s.4, s.5, s.6)
 
-pub still_into : (k : Shape) (began : List ℕ) (views after : List View) → ((h : History) → Held histories_of views h → Held histories_of after h) → (x : ℕ × ℕ) → StoredInto k views x ⊎ BeganInto k began x → StoredInto k after x ⊎ BeganInto k began x
+pub still_into : (k : Shape) (began : List ℕ) (views after : List View) → ((h : StoreHistory) → Held histories_of views h → Held histories_of after h) → (x : ℕ × ℕ) → StoredInto k views x ⊎ BeganInto k began x → StoredInto k after x ⊎ BeganInto k began x
 still_into k began views after on x (inl s) = inl (into_same k views after on x s)
 still_into k began views after on x (inr i) = inr i
 
-pub recorded_same : (k : Shape) (began : List ℕ) (views after : List View) → ((h : History) → Held histories_of views h → Held histories_of after h) → SameHeld pairs_of views after → Recorded k began views → Recorded k began after
+pub recorded_same : (k : Shape) (began : List ℕ) (views after : List View) → ((h : StoreHistory) → Held histories_of views h → Held histories_of after h) → SameHeld pairs_found views after → Recorded k began views → Recorded k began after
 recorded_same k began views after on pairs h x at = still_into k began views after on x (h x ((pairs x).1 at))
 
 -- the claims, where no mark changes
@@ -106,7 +106,7 @@ stores_stay k began words new views id v w at same slots = let held = held_same 
     stored_same k began words new views (set views id w) slots (λ h. (held h).0) (λ h b. inl ((held h).1 b))
 
 pub pairs_stay : (k : Shape) (began : List ℕ) (views : List View) (id : ℕ) (v w : View) → get_elem? views id ≡ some v → v.histories ≡ w.histories → v.pairs ≡ w.pairs → Recorded k began views → Recorded k began (set views id w)
-pairs_stay k began views id v w at same pairs = recorded_same k began views (set views id w) (λ h. (held_same histories_of views id v w at same h).0) (held_same pairs_of views id v w at pairs)
+pairs_stay k began views id v w at same pairs = recorded_same k began views (set views id w) (λ h. (held_same histories_of views id v w at same h).0) (held_same pairs_found views id v w at pairs)
 
 -- the counts, where a seat's claims and cleanings stay as they are, and no mark changes
 

@@ -7,8 +7,8 @@ use Rattle.atomic_table.proofs.Lists.{at_set, set_else}
 use Rattle.g1_race_words.specs.declared.view.Shape.{Shape}
 use Rattle.g1_race_words.specs.declared.view.View.{View}
 use Rattle.g1_race_words.specs.Begin.{Begun}
-use Rattle.g1_race_words.specs.Rule.{IsWord, BeganInto, mark_word, flag, In, Held, History, histories_of, claims_of, cleanings_of, pairs_of, last_to, Stored, StoredInto, Recorded, Raced}
-use Rattle.g1_race_words.specs.Steps.{gained, wrote}
+use Rattle.g1_race_words.specs.Rule.{IsWord, BeganInto, mark_word, flag, In, Held, StoreHistory, histories_of, claims_of, cleanings_of, pairs_found, last_to, Stored, StoredInto, Recorded, Raced}
+use Rattle.g1_race_words.specs.Steps.{gains_store, wrote}
 use Rattle.g1_race_words.proofs.Plain.{put_here, one_there, true_is, false_is, held_back, held_same}
 use Rattle.g1_race_words.proofs.Tallies.{tally_gained}
 use Rattle.g1_race_words.proofs.CoverStores.{mark_apart, covered_wrote}
@@ -25,41 +25,41 @@ this_last : (p n : ℕ) (h : List (ℕ × ℕ)) → last_to p ((p, n) ∷ h) ≡
 this_last p n h = true_is (eqb p p) (Some n) (last_to p h) (eq-eqb p p refl)
 
 -- a history with one store more
-abbrev pub grown : ℕ → ℕ → History → History
+abbrev pub grown : ℕ → ℕ → StoreHistory → StoreHistory
 grown p n h = (h.0, (p, n) ∷ h.1)
 
 -- each history stays, or gains the store
-gained_on : (p n : ℕ) (hs : List History) (h : History) → In hs h → In (gained p n hs) h ⊎ In (gained p n hs) (grown p n h)
+gained_on : (p n : ℕ) (hs : List StoreHistory) (h : StoreHistory) → In hs h → In (gains_store p n hs) h ⊎ In (gains_store p n hs) (grown p n h)
 gained_on p n [] h i = absurd i
-gained_on p n (g ∷ gs) h (inl e) = inr (inl (ap (λ (l : History). grown p n l) e))
+gained_on p n (g ∷ gs) h (inl e) = inr (inl (ap (λ (l : StoreHistory). grown p n l) e))
 gained_on p n (g ∷ gs) h (inr i) = inl (inr i)
 
 -- each history was there, or was there before it gained the store
-gained_back : (p n : ℕ) (hs : List History) (h : History) → In (gained p n hs) h → In hs h ⊎ ((g : History) × In hs g × (h ≡ grown p n g))
+gained_back : (p n : ℕ) (hs : List StoreHistory) (h : StoreHistory) → In (gains_store p n hs) h → In hs h ⊎ ((g : StoreHistory) × In hs g × (h ≡ grown p n g))
 gained_back p n [] h i = absurd i
 gained_back p n (g ∷ gs) h (inl e) = inr (g, inl refl, sym e)
 gained_back p n (g ∷ gs) h (inr i) = inl (inr i)
 
-held_gained : (views : List View) (id : ℕ) (v : View) (p n : ℕ) → get_elem? views id ≡ some v → (h : History) → Held histories_of views h → Held histories_of (set views id (wrote v p n)) h ⊎ Held histories_of (set views id (wrote v p n)) (grown p n h)
+held_gained : (views : List View) (id : ℕ) (v : View) (p n : ℕ) → get_elem? views id ≡ some v → (h : StoreHistory) → Held histories_of views h → Held histories_of (set views id (wrote v p n)) h ⊎ Held histories_of (set views id (wrote v p n)) (grown p n h)
 held_gained views id v p n at h x = pick (ℕ_discrete x.0 id)
   where
     w : View
     w = wrote v p n
 
     mine : In v.histories h → Held histories_of (set views id w) h ⊎ Held histories_of (set views id w) (grown p n h)
-    mine i = ⊎_elim (λ (a : In (gained p n v.histories) h). inl (id, w, put_here views id v w at, a)) (λ (a : In (gained p n v.histories) (grown p n h)). inr (id, w, put_here views id v w at, a)) (gained_on p n v.histories h i)
+    mine i = ⊎_elim (λ (a : In (gains_store p n v.histories) h). inl (id, w, put_here views id v w at, a)) (λ (a : In (gains_store p n v.histories) (grown p n h)). inr (id, w, put_here views id v w at, a)) (gained_on p n v.histories h i)
 
     pick : Dec (x.0 ≡ id) → Held histories_of (set views id w) h ⊎ Held histories_of (set views id w) (grown p n h)
     pick (yes e) = mine (subst (λ (u : View). In u.histories h) (one_there views id x.1 v (subst (λ (i : ℕ). get_elem? views i ≡ some x.1) e x.2) at) x.3)
     pick (no ne) = inl (x.0, x.1, set_else views id x.0 w ne ∙ x.2, x.3)
 
-held_before : (views : List View) (id : ℕ) (v : View) (p n : ℕ) → get_elem? views id ≡ some v → (h : History) → Held histories_of (set views id (wrote v p n)) h → Held histories_of views h ⊎ ((g : History) × Held histories_of views g × (h ≡ grown p n g))
+held_before : (views : List View) (id : ℕ) (v : View) (p n : ℕ) → get_elem? views id ≡ some v → (h : StoreHistory) → Held histories_of (set views id (wrote v p n)) h → Held histories_of views h ⊎ ((g : StoreHistory) × Held histories_of views g × (h ≡ grown p n g))
 held_before views id v p n at h x = ⊎_elim
     (λ (a : Held histories_of views h). inl a)
-    (λ (i : In (gained p n v.histories) h). ⊎_elim (λ (a : In v.histories h). inl (id, v, at, a)) (λ (a : (g : History) × In v.histories g × (h ≡ grown p n g)). inr (a.0, (id, v, at, a.1), a.2)) (gained_back p n v.histories h i))
+    (λ (i : In (gains_store p n v.histories) h). ⊎_elim (λ (a : In v.histories h). inl (id, v, at, a)) (λ (a : (g : StoreHistory) × In v.histories g × (h ≡ grown p n g)). inr (a.0, (id, v, at, a.1), a.2)) (gained_back p n v.histories h i))
     (held_back histories_of views id v (wrote v p n) at h x)
 
-stored_wrote : (k : Shape) (began : List ℕ) (words : List ℕ) (views : List View) (id : ℕ) (v : View) (p n : ℕ) (mine : History) → get_elem? views id ≡ some v → v.histories ≡ mine ∷ [] → Stored k began words views → Stored k began (set words p n) (set views id (wrote v p n))
+stored_wrote : (k : Shape) (began : List ℕ) (words : List ℕ) (views : List View) (id : ℕ) (v : View) (p n : ℕ) (mine : StoreHistory) → get_elem? views id ≡ some v → v.histories ≡ mine ∷ [] → Stored k began words views → Stored k began (set words p n) (set views id (wrote v p n))
 stored_wrote k began words views id v p n mine at one h q m lt there = ⊎_elim
     (λ (x : (q ≡ p) × (n ≡ m)). inl (grown p n mine, (id, wrote v p n, put_here views id v (wrote v p n) at, newest), subst (λ (y : ℕ × ℕ). last_to y.0 ((p, n) ∷ mine.1) ≡ Some y.1) (λ i. (sym x.0 i, x.1 i)) (this_last p n mine.1)))
     (λ (x : (q ≢ p) × (get_elem? words q ≡ some m)). ⊎_elim (was x.0) (never x.0) (h q m lt x.1))
@@ -68,24 +68,24 @@ stored_wrote k began words views id v p n mine at one h q m lt there = ⊎_elim
     after : List View
     after = set views id (wrote v p n)
 
-    newest : In (gained p n v.histories) (grown p n mine)
-    newest = subst (λ (l : List History). In (gained p n l) (grown p n mine)) (sym one) (inl refl)
+    newest : In (gains_store p n v.histories) (grown p n mine)
+    newest = subst (λ (l : List StoreHistory). In (gains_store p n l) (grown p n mine)) (sym one) (inl refl)
 
     Goal : Type 0
-    Goal = ((g : History) × Held histories_of after g × (last_to q g.1 ≡ Some m)) ⊎ ((get_elem? began q ≡ some m) × ((g : History) → Held histories_of after g → last_to q g.1 ≡ None))
+    Goal = ((g : StoreHistory) × Held histories_of after g × (last_to q g.1 ≡ Some m)) ⊎ ((get_elem? began q ≡ some m) × ((g : StoreHistory) → Held histories_of after g → last_to q g.1 ≡ None))
 
-    was : q ≢ p → ((g : History) × Held histories_of views g × (last_to q g.1 ≡ Some m)) → Goal
+    was : q ≢ p → ((g : StoreHistory) × Held histories_of views g × (last_to q g.1 ≡ Some m)) → Goal
     was apart x = ⊎_elim
         (λ (a : Held histories_of after x.0). inl (x.0, a, x.2))
         (λ (a : Held histories_of after (grown p n x.0)). inl (grown p n x.0, a, other_last p n q x.0.1 apart ∙ x.2))
         (held_gained views id v p n at x.0 x.1)
 
-    never : q ≢ p → ((get_elem? began q ≡ some m) × ((g : History) → Held histories_of views g → last_to q g.1 ≡ None)) → Goal
+    never : q ≢ p → ((get_elem? began q ≡ some m) × ((g : StoreHistory) → Held histories_of views g → last_to q g.1 ≡ None)) → Goal
     never apart x = inr (
       x.0,
       λ g b. ⊎_elim
           (λ (a : Held histories_of views g). x.1 g a)
-          (λ (a : (f : History) × Held histories_of views f × (g ≡ grown p n f)). ap (λ (l : History). last_to q l.1) a.2 ∙ (other_last p n q a.0.1 apart ∙ x.1 a.0 a.1))
+          (λ (a : (f : StoreHistory) × Held histories_of views f × (g ≡ grown p n f)). ap (λ (l : StoreHistory). last_to q l.1) a.2 ∙ (other_last p n q a.0.1 apart ∙ x.1 a.0 a.1))
           (held_before views id v p n at g b),
     )
 
@@ -96,9 +96,9 @@ recorded_wrote k began views id v p n at h x held = ⊎_elim
     (λ (a : Held histories_of (set views id (wrote v p n)) (grown p n s.0)). (grown p n s.0, s.1, s.2, a, inr s.4, s.5, s.6))
     (held_gained views id v p n at s.0 s.3)))
     (λ (i : BeganInto k began x). inr i)
-    (h x ((held_same pairs_of views id v (wrote v p n) at refl x).1 held))
+    (h x ((held_same pairs_found views id v (wrote v p n) at refl x).1 held))
 
-pub raced_wrote : (begun : Begun) (words : List ℕ) (views : List View) (id : ℕ) (v : View) (p n : ℕ) (mine : History) → Sits begun.shape v → v.owed ≡ None → v.histories ≡ mine ∷ [] → p < begun.shape.slots → IsWord begun.shape n
+pub raced_wrote : (begun : Begun) (words : List ℕ) (views : List View) (id : ℕ) (v : View) (p n : ℕ) (mine : StoreHistory) → Sits begun.shape v → v.owed ≡ None → v.histories ≡ mine ∷ [] → p < begun.shape.slots → IsWord begun.shape n
     → get_elem? views id ≡ some v → Raced begun words views → Raced begun (set words p n) (set views id (wrote v p n))
 raced_wrote begun words views id v p n mine sits free one lt fits at h = record {
   sized = length-set words p n ∙ h.sized;

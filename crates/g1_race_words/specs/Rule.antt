@@ -14,8 +14,8 @@ use Rattle.g1_race_words.specs.declared.view.Shape.{Shape}
 use Rattle.g1_race_words.specs.declared.view.View.{View}
 use Rattle.g1_race_words.specs.Begin.{Start, Begun}
 
-abbrev pub card_of : Shape → ℕ → ℕ
-card_of heap slot = slot / heap.size
+abbrev pub slot_card : Shape → ℕ → ℕ
+slot_card heap slot = slot / heap.size
 
 abbrev pub mark_word : Shape → ℕ → ℕ
 mark_word heap card = heap.slots + card
@@ -73,10 +73,10 @@ abbrev pub Bounded : Shape → List ℕ → Type 0
 Bounded heap words = (p n : ℕ) → p < heap.slots → get_elem? words p ≡ some n → IsWord heap n
 
 -- a racer's number, and its stores, the newest first
-abbrev pub History : Type 0
-History = ℕ × List (ℕ × ℕ)
+abbrev pub StoreHistory : Type 0
+StoreHistory = ℕ × List (ℕ × ℕ)
 
-abbrev pub histories_of : View → List History
+abbrev pub histories_of : View → List StoreHistory
 histories_of view = view.histories
 
 abbrev pub claims_of : View → List ℕ
@@ -85,8 +85,8 @@ claims_of view = view.claims
 abbrev pub cleanings_of : View → List ℕ
 cleanings_of view = view.cleanings
 
-abbrev pub pairs_of : View → List (ℕ × ℕ)
-pairs_of view = view.pairs
+abbrev pub pairs_found : View → List (ℕ × ℕ)
+pairs_found view = view.pairs
 
 abbrev pub held_of : View → List (ℕ × ℕ)
 held_of view = view.held
@@ -118,24 +118,24 @@ AreFlagged heap words =
 
 -- the seat answers for the slot with this word: it owes the card, still has the slot to read, or
 -- has read the pair
-abbrev pub Answers : Shape → View → ℕ → ℕ → Type 0
-Answers heap view slot word =
-    (view.owed ≡ Some (card_of heap slot)) ⊎ ((view.next ≤ slot) × (slot < view.end))
-    ⊎ In view.pairs (card_of heap slot, region_at heap word)
+abbrev pub AnswersFor : Shape → View → ℕ → ℕ → Type 0
+AnswersFor heap view slot word =
+    (view.owed ≡ Some (slot_card heap slot)) ⊎ ((view.next ≤ slot) × (slot < view.end))
+    ⊎ In view.pairs (slot_card heap slot, region_at heap word)
 
 abbrev pub IsMarked : Shape → List ℕ → ℕ → Type 0
-IsMarked heap words slot = get_elem? words (mark_word heap (card_of heap slot)) ≡ some 1
+IsMarked heap words slot = get_elem? words (mark_word heap (slot_card heap slot)) ≡ some 1
 
 abbrev pub Someone : Shape → List View → ℕ → ℕ → Type 0
 Someone heap views slot word =
-    (seat : ℕ) × (v : View) × (get_elem? views seat ≡ some v) × Answers heap v slot word
+    (seat : ℕ) × (v : View) × (get_elem? views seat ≡ some v) × AnswersFor heap v slot word
 
 -- each slot that refers into another region has its pair among those known from the beginning, its
 -- card marked, or some seat answers for it
 abbrev pub Covered : Shape → List (ℕ × ℕ) → List ℕ → List View → Type 0
 Covered heap known words views =
     (p n : ℕ) → p < heap.slots → get_elem? words p ≡ some n → crosses heap p n ≡ true
-    → In known (card_of heap p, region_at heap n) ⊎ IsMarked heap words p ⊎ Someone heap views p n
+    → In known (slot_card heap p, region_at heap n) ⊎ IsMarked heap words p ⊎ Someone heap views p n
 
 -- at rest: nothing is owed, nothing is to be read, and neither a pair is held nor a flag
 abbrev pub AtRest : View → Type 0
@@ -160,56 +160,56 @@ Weighed heap views =
     (weigh views ≡ heap.members) × ((seat : ℕ) (v : View) → get_elem? views seat ≡ some v
     → v.weight ≡ 0 → IsBlank v)
 
-abbrev pub one_if : Bool → ℕ
-one_if true = 1
-one_if false = 0
+abbrev pub as_number : Bool → ℕ
+as_number true = 1
+as_number false = 0
 
 -- how many of the histories have the number
-abbrev pub tally : ℕ → List History → ℕ
+abbrev pub tally : ℕ → List StoreHistory → ℕ
 tally number [] = 0
-tally number (history ∷ histories) = one_if (number == history.0) + tally number histories
+tally number (history ∷ histories) = as_number (number == history.0) + tally number histories
 
-abbrev pub written : ℕ → View → ℕ
-written number view = tally number view.histories
+abbrev pub history_count : ℕ → View → ℕ
+history_count number view = tally number view.histories
 
 -- how often the view has the number: it still has it to give, or a history has it
 abbrev pub numbers : ℕ → View → ℕ
-numbers number view = one_if (nat_lt number view.spare) + written number view
+numbers number view = as_number (nat_lt number view.spare) + history_count number view
 
 -- each number below that of the members stands once at most: in one history of one view, or with
 -- one that can still give it; and no other number stands anywhere
 abbrev pub Numbered : Shape → List View → Type 0
-Numbered heap views = (m : ℕ) → total (numbers m) views ≤ one_if (nat_lt m heap.members)
+Numbered heap views = (m : ℕ) → total (numbers m) views ≤ as_number (nat_lt m heap.members)
 
 -- each slot has the word that some racer stored to it last, or the one that it began with, and no
 -- racer has stored to it
 abbrev pub Stored : Shape → List ℕ → List ℕ → List View → Type 0
 Stored heap began words views = (p n : ℕ) → p < heap.slots → get_elem? words p ≡ some n →
-    ((h : History) × Held histories_of views h × (last_to p h.1 ≡ Some n))
+    ((h : StoreHistory) × Held histories_of views h × (last_to p h.1 ≡ Some n))
     ⊎ ((get_elem? began p ≡ some n)
-    × ((h : History) → Held histories_of views h → last_to p h.1 ≡ None))
+    × ((h : StoreHistory) → Held histories_of views h → last_to p h.1 ≡ None))
 
 -- some racer stored a reference into the pair's region to its card, which lies outside
 abbrev pub StoredInto : Shape → List View → ℕ × ℕ → Type 0
 StoredInto heap views pair =
-    (h : History) × (p : ℕ) × (n : ℕ) × Held histories_of views h × In h.1 (p, n)
-    × IsCrossing heap p n × ((card_of heap p, region_at heap n) ≡ pair)
+    (h : StoreHistory) × (p : ℕ) × (n : ℕ) × Held histories_of views h × In h.1 (p, n)
+    × IsCrossing heap p n × ((slot_card heap p, region_at heap n) ≡ pair)
 
 -- at the beginning some slot of the pair's card referred into its region, outside of which it lies
 abbrev pub BeganInto : Shape → List ℕ → ℕ × ℕ → Type 0
 BeganInto heap began pair =
     (p : ℕ) × (n : ℕ) × (get_elem? began p ≡ some n) × IsCrossing heap p n
-    × ((card_of heap p, region_at heap n) ≡ pair)
+    × ((slot_card heap p, region_at heap n) ≡ pair)
 
 -- each pair that a seat has is of a reference that some racer stored, or that was there at the
 -- beginning
 abbrev pub Recorded : Shape → List ℕ → List View → Type 0
 Recorded heap began views =
-    (x : ℕ × ℕ) → Held pairs_of views x → StoredInto heap views x ⊎ BeganInto heap began x
+    (x : ℕ × ℕ) → Held pairs_found views x → StoredInto heap views x ⊎ BeganInto heap began x
 
 -- the race began with the pair, or some seat has read it
 abbrev pub IsNoted : List (ℕ × ℕ) → List View → ℕ × ℕ → Type 0
-IsNoted known views pair = In known pair ⊎ Held pairs_of views pair
+IsNoted known views pair = In known pair ⊎ Held pairs_found views pair
 
 -- each pair that the race began with or that some seat has read has its bit set, or a seat holds
 -- it, which is about to set the bit; no other bit is set, and no seat holds a pair that none has
@@ -218,7 +218,7 @@ pub record Kept (heap : Shape) (known : List (ℕ × ℕ)) (words : List ℕ)
     (views : List View) : Type 0 where
   pub has : (x : ℕ × ℕ) → IsNoted known views x → HasBit heap words x ⊎ Held held_of views x
   pub only : (x : ℕ × ℕ) → IsPair heap x → HasBit heap words x → IsNoted known views x
-  pub read : (x : ℕ × ℕ) → Held held_of views x → Held pairs_of views x
+  pub read : (x : ℕ × ℕ) → Held held_of views x → Held pairs_found views x
 
 -- each marked card has its flag set, and each card of which some seat knows it
 pub record Flagged (heap : Shape) (words : List ℕ) (views : List View) : Type 0 where
@@ -244,7 +244,7 @@ Claimed heap began words views = (c : ℕ) → c < heap.cards →
 -- how often the list has the card
 abbrev pub times : ℕ → List ℕ → ℕ
 times card [] = 0
-times card (first ∷ rest) = one_if (card == first) + times card rest
+times card (first ∷ rest) = as_number (card == first) + times card rest
 
 abbrev pub claims_at : ℕ → View → ℕ
 claims_at card view = times card view.claims
@@ -276,12 +276,12 @@ pub record Raced (begun : Begun) (words : List ℕ) (views : List View) : Type 0
 -- the pair is that of some reference that crosses regions
 abbrev pub IsOfCrossing : Shape → ℕ × ℕ → Type 0
 IsOfCrossing heap pair =
-    (p : ℕ) × (n : ℕ) × IsCrossing heap p n × ((card_of heap p, region_at heap n) ≡ pair)
+    (p : ℕ) × (n : ℕ) × IsCrossing heap p n × ((slot_card heap p, region_at heap n) ≡ pair)
 
 -- the shape of a heap: whole cards, whole regions, a row of bits for each region with one for each
 -- card, and as many words as can be counted
-abbrev pub IsShape : Shape → Type 0
-IsShape heap =
+abbrev pub IsWholeShape : Shape → Type 0
+IsWholeShape heap =
     (heap.slots ≡ heap.cards * heap.size) × (0 < heap.size) × (0 < heap.span)
     × (heap.slots < 2 ^ 32) × (heap.members < 2 ^ 32) × (0 < heap.cards)
     × (heap.slots ≡ heap.regions * heap.span) × (heap.cards ≤ heap.row * 64)
@@ -290,7 +290,7 @@ IsShape heap =
 -- what a race can start with: words, with each slot that refers into another region covered by its
 -- card's mark or its pair's bit, no bit but those of such pairs, and the flags of marked cards set
 pub record IsBegun (begin : Start) : Type 0 where
-  pub shaped : IsShape begin.shape
+  pub shaped : IsWholeShape begin.shape
   pub sized : length begin.words ≡ word_count begin.shape
   pub bounded : Bounded begin.shape begin.words
   pub marks : (c : ℕ) → c < begin.shape.cards
@@ -298,7 +298,7 @@ pub record IsBegun (begin : Start) : Type 0 where
       ⊎ (get_elem? begin.words (mark_word begin.shape c) ≡ some 0)
   pub covered : (p n : ℕ) → p < begin.shape.slots → get_elem? begin.words p ≡ some n
       → crosses begin.shape p n ≡ true
-      → HasBit begin.shape begin.words (card_of begin.shape p, region_at begin.shape n)
+      → HasBit begin.shape begin.words (slot_card begin.shape p, region_at begin.shape n)
       ⊎ IsMarked begin.shape begin.words p
   pub proper : (x : ℕ × ℕ) → IsPair begin.shape x → HasBit begin.shape begin.words x
       → IsOfCrossing begin.shape x
@@ -322,8 +322,8 @@ pairs_up_to heap words zero = []
 pairs_up_to heap words (suc card) =
     pairs_up_to heap words card ++ pairs_of_card heap words card heap.regions
 
-abbrev pub start : Shape → List ℕ → Start
-start heap words = record { shape = heap; words = words }
+abbrev pub new_start : Shape → List ℕ → Start
+new_start heap words = record { shape = heap; words = words }
 
 -- what a race that starts so begins with
 abbrev pub beginning : Start → Begun
@@ -336,20 +336,20 @@ beginning begin =
 
 -- all null, all clean, and no pair recorded
 abbrev pub null_of : Shape → Start
-null_of heap = start heap (replicate (word_count heap) 0)
+null_of heap = new_start heap (replicate (word_count heap) 0)
 
 -- what a view says of the last pause
 abbrev pub start_of : View → Start
-start_of view = start view.shape view.began_words
+start_of view = new_start view.shape view.began_words
 
 -- the rule: a race since some pause, on which the seats that have weight agree; and where they are
 -- frozen, no word has changed since
 pub record Going (heap : Shape) (words : List ℕ) (views : List View) : Type 0 where
   pub first : List ℕ
   pub frozen : Bool
-  pub raced : Raced (beginning (start heap first)) words views
+  pub raced : Raced (beginning (new_start heap first)) words views
   pub proper : (x : ℕ × ℕ) → In (pairs_up_to heap first heap.cards) x → IsOfCrossing heap x
   pub agreed : (seat : ℕ) (v : View) → get_elem? views seat ≡ some v → 0 < v.weight
-      → (start_of v ≡ start heap first) × (v.frozen ≡ frozen)
+      → (start_of v ≡ new_start heap first) × (v.frozen ≡ frozen)
   pub spared : (seat : ℕ) (v : View) → get_elem? views seat ≡ some v → v.spare ≤ v.weight
   pub still : frozen ≡ true → words ≡ first

@@ -5,11 +5,11 @@ use Rattle.std.specs.Int.{bit_at}
 use Rattle.g1_race_words.specs.declared.view.Shape.{Shape}
 use Rattle.g1_race_words.specs.declared.view.View.{View}
 use Rattle.g1_race_words.specs.Begin.{Start}
-use Rattle.g1_race_words.specs.Rule.{card_of, region_at, bit_place, crosses, flag, History, null_of}
+use Rattle.g1_race_words.specs.Rule.{slot_card, region_at, bit_place, crosses, flag, StoreHistory, null_of}
 use Rattle.g1_race_words.specs.Rule.{start_of}
 
 -- a seat that answers for nothing
-abbrev pub blank : Start → ℕ → List History → View
+abbrev pub blank : Start → ℕ → List StoreHistory → View
 blank begin weight histories =
     record {
       shape = begin.shape;
@@ -46,16 +46,16 @@ abbrev pub put : View → ℕ → ℕ → View
 put view slot word = record view { began_words = slice_set view.began_words slot word }
 
 -- the first history gains a store
-abbrev pub gained : ℕ → ℕ → List History → List History
-gained slot word [] = []
-gained slot word (history ∷ histories) = (history.0, (slot, word) ∷ history.1) ∷ histories
+abbrev pub gains_store : ℕ → ℕ → List StoreHistory → List StoreHistory
+gains_store slot word [] = []
+gains_store slot word (history ∷ histories) = (history.0, (slot, word) ∷ history.1) ∷ histories
 
 -- a racer writes the word to the slot
 abbrev pub wrote : View → ℕ → ℕ → View
 wrote view slot word =
     record view {
-      histories = gained slot word view.histories;
-      owed = if crosses view.shape slot word then Some (card_of view.shape slot) else None;
+      histories = gains_store slot word view.histories;
+      owed = if crosses view.shape slot word then Some (slot_card view.shape slot) else None;
     }
 
 -- a racer finds a word at the slot, and writes another one where it is the one that it expects
@@ -108,7 +108,7 @@ cleaned view card word =
 -- the pair of a slot's word, where it refers into another region
 abbrev pub pair_at : Shape → ℕ → ℕ → List (ℕ × ℕ)
 pair_at heap slot word =
-    if crosses heap slot word then (card_of heap slot, region_at heap word) ∷ [] else []
+    if crosses heap slot word then (slot_card heap slot, region_at heap word) ∷ [] else []
 
 -- a sweeper finds the word at the slot
 abbrev pub read : View → ℕ → ℕ → View

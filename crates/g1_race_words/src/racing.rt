@@ -1,6 +1,6 @@
 //! The steps of a racer.
 ghost use Rattle.std.specs.Prelude.{◌≡◌, ℕ, ◌-◌, ◌<◌, [], ◌∷◌, None};
-ghost use Rattle.g1_race_words.specs.Rule.{History, IsWord, bit_place, flag};
+ghost use Rattle.g1_race_words.specs.Rule.{StoreHistory, IsWord, bit_place, flag};
 ghost use Rattle.g1_race_words.specs.Steps.{wrote, exchanged, looked, spotted, raised, owed_card};
 ghost use Rattle.g1_race_words.specs.Steps.{dirtied};
 ghost use Rattle.g1_race_words.specs.Seats.{Sits, IsFound, OwesMark, OwesFlag};
@@ -77,7 +77,7 @@ impl RaceTable {
     pub fn write(&self, seat: &mut Place, slot: usize, word: u64) -> u64
         requires table { seat.old.table_id ≡ self.now.table_id }
         requires racer { Sits self.now.shape seat.old.me.0
-            × ((h : History) × (seat.old.me.0.histories ≡ h ∷ [])) }
+            × ((h : StoreHistory) × (seat.old.me.0.histories ≡ h ∷ [])) }
         requires free { seat.old.me.0.owed ≡ None }
         requires slot { slot < self.now.shape.slots }
         requires word { IsWord self.now.shape word }
@@ -93,7 +93,7 @@ impl RaceTable {
     pub fn exchange(&self, seat: &mut Place, slot: usize, expected: u64, word: u64) -> u64
         requires table { seat.old.table_id ≡ self.now.table_id }
         requires racer { Sits self.now.shape seat.old.me.0
-            × ((h : History) × (seat.old.me.0.histories ≡ h ∷ [])) }
+            × ((h : StoreHistory) × (seat.old.me.0.histories ≡ h ∷ [])) }
         requires free { seat.old.me.0.owed ≡ None }
         requires slot { slot < self.now.shape.slots }
         requires word { IsWord self.now.shape word }

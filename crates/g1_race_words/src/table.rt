@@ -1,7 +1,7 @@
 //! The table of words and a seat at it: how they begin, and how they end.
 ghost use Rattle.std.specs.Prelude.{◌≡◌, ◌<◌, [], IfOk};
 ghost use Rattle.std.specs.Slots.{slots_items, slots_len, IsFull};
-ghost use Rattle.g1_race_words.specs.Rule.{IsShape, null_of, word_count};
+ghost use Rattle.g1_race_words.specs.Rule.{IsWholeShape, null_of, word_count};
 ghost use Rattle.g1_race_words.specs.Steps.{iced};
 ghost use Rattle.g1_race_words.specs.Seats.{IsPaused};
 
@@ -23,7 +23,7 @@ pub struct RaceTable {
 
 impl Model for RaceTable {
     ghost use Rattle.std.specs.Prelude.{◌≡◌, ◌<◌};
-    ghost use Rattle.g1_race_words.specs.Rule.{IsShape, word_count};
+    ghost use Rattle.g1_race_words.specs.Rule.{IsWholeShape, word_count};
     ghost use Rattle.g1_race_words.specs.Seats.{Words};
 
     ghost Value = { Words };
@@ -36,7 +36,7 @@ impl Model for RaceTable {
 
     ghost invariant = { λ a. (a.table.shared.table_id.words ≡ word_count a.table.shared.key)
         × (a.table.shared.table_id.slots ≡ 0)
-        × IsShape a.table.shared.key × (0 < a.table.shared.key.members) };
+        × IsWholeShape a.table.shared.key × (0 < a.table.shared.key.members) };
 }
 
 /// A seat at the words of a race. It has no bytes.
@@ -65,7 +65,7 @@ impl RaceTable {
     /// Takes 8 bytes a word, twice while it begins. Returns `AllocError` if memory was refused:
     /// nothing is left of the table.
     pub fn open(alloc: Global, shape: Shape) -> Result<(RaceTable, Place), AllocError>
-        requires shape { IsShape shape }
+        requires shape { IsWholeShape shape }
         requires members { 0 < shape.members }
         ensures shape { IfOk result (λ r. r.0.shape ≡ shape) }
         ensures seat { IfOk result (λ r. IsPaused r.0.table_id shape r.1) }

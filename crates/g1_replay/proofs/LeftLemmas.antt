@@ -10,10 +10,10 @@ use Rattle.g1_core.specs.Adoption.{IsPairOf}
 use Rattle.g1_core.proofs.SetLemmas.{in_pairs}
 use Rattle.g1_race_words.specs.declared.view.View.{View}
 use Rattle.g1_race_words.specs.Begin.{Begun}
-use Rattle.g1_race_words.specs.Rule.{History, BeganInto, In, histories_of, last_to}
+use Rattle.g1_race_words.specs.Rule.{StoreHistory, BeganInto, In, histories_of, last_to}
 use Rattle.g1_race.specs.Race.{Among, AmongStores, IsKnown, IsOver, shape_of, word_of}
 use Rattle.g1_race.specs.Members.{null_begun}
-use Rattle.g1_race.specs.Over.{Ended, refs_of, table_of, target_of}
+use Rattle.g1_race.specs.Over.{Ended, refs_of, table_of, target_of_word}
 use Rattle.g1_race_words.proofs.AtBeginning.{at_zeros}
 use Rattle.g1_race.proofs.Draining.{in_shape, known_once, stored_now}
 use Rattle.g1_race.proofs.Ends.{refs_here, target_some}
@@ -28,9 +28,9 @@ use Rattle.g1_replay.specs.RaceJobs.{IsTableLeftBy}
 use Rattle.g1_replay.proofs.StoreLemmas.{as_word, in_own, last_own, own}
 
 -- a word that is stored last tells what is
-last_target : (o : Option (Option ℕ)) (n : ℕ) → n < 2 ^ 32 → as_word o ≡ Some n → o ≡ Some (target_of n)
+last_target : (o : Option (Option ℕ)) (n : ℕ) → n < 2 ^ 32 → as_word o ≡ Some n → o ≡ Some (target_of_word n)
 last_target None n low e = cc
-last_target (Some None) n low e = let z : 0 ≡ n = cc in ap (λ (m : ℕ). Some (target_of m)) z
+last_target (Some None) n low e = let z : 0 ≡ n = cc in ap (λ (m : ℕ). Some (target_of_word m)) z
 last_target (Some (Some place)) n low e =
     let w : place + 1 ≡ n = cc in
     let some_n : n ≢ 0 = λ z. absurd (omega arith) in
@@ -47,32 +47,32 @@ some_place None n ne e = absurd (ne e)
 some_place (Some place) n ne e = let w : n ≡ place + 1 = e in (place, refl, omega arith)
 
 module _ (e : Ended) (members mutators : ℕ) (commands : List Command) (views sweepers : List View) (over : IsOver (null_begun e.layout members) e.words views sweepers)
-    (each : (h : History) → Among histories_of views h → (m : ℕ) × (m < mutators) × (h.1 ≡ own m commands))
-    (every : (m : ℕ) → m < mutators → (h : History) × Among histories_of views h × (h.1 ≡ own m commands))
+    (each : (h : StoreHistory) → Among histories_of views h → (m : ℕ) × (m < mutators) × (h.1 ≡ own m commands))
+    (every : (m : ℕ) → m < mutators → (h : StoreHistory) × Among histories_of views h × (h.1 ≡ own m commands))
     (targets : (by slot : ℕ) (target : Option ℕ) → In commands (Store by slot target) → word_of target < 2 ^ 32) where
   abbrev begun : Begun
   begun = null_begun e.layout members
 
   refs_left : AreLeftBy e.layout mutators commands (refs_of e)
   refs_left = record {
-    sized = length-map (take (slot_count e.layout) e.words) target_of ∙ length-take-le (slot_count e.layout) e.words (let sized : length e.words ≡ slot_count e.layout + card_count e.layout = over.sized in let le : slot_count e.layout ≤ length e.words = omega arith in le);
+    sized = length-map (take (slot_count e.layout) e.words) target_of_word ∙ length-take-le (slot_count e.layout) e.words (let sized : length e.words ≡ slot_count e.layout + card_count e.layout = over.sized in let le : slot_count e.layout ≤ length e.words = omega arith in le);
     last = λ slot lt. left slot lt (get_or e.words slot 0) (read_at e.words slot (let sized : length e.words ≡ slot_count e.layout + card_count e.layout = over.sized in let l : slot < length e.words = omega arith in l));
   }
     where
       left : (slot : ℕ) → slot < slot_count e.layout → (n : ℕ) → get_elem? e.words slot ≡ some n → ((mutator : ℕ) × (mutator < mutators) × (last_by mutator slot commands ≡ Some (get_or (refs_of e) slot None)))
           ⊎ ((get_or (refs_of e) slot None ≡ None) × ((mutator : ℕ) → mutator < mutators → last_by mutator slot commands ≡ None))
       left slot lt n at =
-          let refers : get_or (refs_of e) slot None ≡ target_of n = reads_as (refs_of e) slot (target_of n) None (refs_here e slot n lt at) in
+          let refers : get_or (refs_of e) slot None ≡ target_of_word n = reads_as (refs_of e) slot (target_of_word n) None (refs_here e slot n lt at) in
           ⊎_elim
-          (λ (x : (h : History) × Among histories_of views h × (last_to slot h.1 ≡ Some n)).
+          (λ (x : (h : StoreHistory) × Among histories_of views h × (last_to slot h.1 ≡ Some n)).
           let by = each x.0 x.1 in
           let last : as_word (last_by by.0 slot commands) ≡ Some n = sym (last_own by.0 slot commands) ∙ ap (λ (l : List (ℕ × ℕ)). last_to slot l) (sym by.2) ∙ x.2 in
           let store = in_own by.0 slot n commands (subst (λ (l : List (ℕ × ℕ)). In l (slot, n)) by.2 (last_in slot n x.0.1 x.2)) in
           let low : n < 2 ^ 32 = subst (λ (w : ℕ). w < 2 ^ 32) (sym store.3) (targets store.0 slot store.1 store.2) in
           inl (by.0, by.1, last_target (last_by by.0 slot commands) n low last ∙ ap (λ (t : Option ℕ). Some t) (sym refers)))
-          (λ (x : (get_elem? begun.words slot ≡ some n) × ((h : History) → Among histories_of views h → last_to slot h.1 ≡ None)).
+          (λ (x : (get_elem? begun.words slot ≡ some n) × ((h : StoreHistory) → Among histories_of views h → last_to slot h.1 ≡ None)).
           let null : n ≡ 0 = at_zeros (slot_count e.layout + card_count e.layout) slot n x.0 in
-          inr (refers ∙ ap target_of null, λ m lt. let own_h = every m lt in none_last (last_by m slot commands) (sym (last_own m slot commands) ∙ ap (λ (l : List (ℕ × ℕ)). last_to slot l) (sym own_h.2) ∙ x.1 own_h.0 own_h.1)))
+          inr (refers ∙ ap target_of_word null, λ m lt. let own_h = every m lt in none_last (last_by m slot commands) (sym (last_own m slot commands) ∙ ap (λ (l : List (ℕ × ℕ)). last_to slot l) (sym own_h.2) ∙ x.1 own_h.0 own_h.1)))
           (over.last slot n lt at)
 
   stored_into : (card region : ℕ) → AmongStores (shape_of e.layout members) views (card, region) → StoresInto e.layout commands card region

@@ -11,7 +11,7 @@ use Rattle.g1_layout.specs.Shape.{Shape, slot_count}
 use Rattle.g1_log.specs.declared.line.Line.{Line}
 use Rattle.g1_race.specs.declared.race.Race.{Race}
 use Rattle.g1_race_words.specs.declared.view.View.{View}
-use Rattle.g1_race_words.specs.Rule.{History, In, histories_of}
+use Rattle.g1_race_words.specs.Rule.{StoreHistory, In, histories_of}
 use Rattle.g1_race.specs.Race.{Among}
 use Rattle.g1_race.specs.Members.{racer_view}
 use Rattle.g1_steps.specs.declared.crew.job.Job.{Job}
@@ -129,26 +129,26 @@ abbrev pub views_of : List Member → List View
 views_of ms = map racer_view (filter_map racer_in ms)
 
 module _ (mutators : ℕ) (commands : List Command) where
-  one_of : (hs : List History) (number : ℕ) (own_stores : List (ℕ × ℕ)) (h : History) → hs ≡ (number, own_stores) ∷ [] → In hs h → h.1 ≡ own_stores
-  one_of hs number own_stores h e i = last (subst (λ (l : List History). In l h) e i)
+  one_of : (hs : List StoreHistory) (number : ℕ) (own_stores : List (ℕ × ℕ)) (h : StoreHistory) → hs ≡ (number, own_stores) ∷ [] → In hs h → h.1 ≡ own_stores
+  one_of hs number own_stores h e i = last (subst (λ (l : List StoreHistory). In l h) e i)
     where
       last : In ((number, own_stores) ∷ []) h → h.1 ≡ own_stores
-      last (inl same) = sym (ap (λ (x : History). x.1) same)
+      last (inl same) = sym (ap (λ (x : StoreHistory). x.1) same)
       last (inr nothing) = absurd nothing
 
   -- each history is that of some mutator
-  pub each_own : (k : ℕ) (ms : List Member) → AllFrom (HasRun mutators commands) k ms → (h : History) → Among histories_of (views_of ms) h → (m : ℕ) × (m < mutators) × (h.1 ≡ own m commands)
+  pub each_own : (k : ℕ) (ms : List Member) → AllFrom (HasRun mutators commands) k ms → (h : StoreHistory) → Among histories_of (views_of ms) h → (m : ℕ) × (m < mutators) × (h.1 ≡ own m commands)
   each_own k [] all h a = absurd a
   each_own k (Racing r s ∷ ms) all h (inl i) = (k, all.0.0, one_of (racer_view r).histories all.0.1.0 (own k commands) h all.0.1.1 i)
   each_own k (Racing r s ∷ ms) all h (inr a) = each_own (suc k) ms all.1 h a
   each_own k (Sweeping w t ∷ ms) all h a = each_own (suc k) ms all.1 h a
 
   -- each mutator's stores are some history
-  pub every_own : (k : ℕ) (ms : List Member) → AllFrom (HasRun mutators commands) k ms → (m : ℕ) → k ≤ m → m < mutators → m < k + length ms → (h : History) × Among histories_of (views_of ms) h × (h.1 ≡ own m commands)
+  pub every_own : (k : ℕ) (ms : List Member) → AllFrom (HasRun mutators commands) k ms → (m : ℕ) → k ≤ m → m < mutators → m < k + length ms → (h : StoreHistory) × Among histories_of (views_of ms) h × (h.1 ≡ own m commands)
   every_own k [] all m le lt there = absurd (omega arith)
   every_own k (Sweeping w t ∷ ms) all m le lt there = absurd (let past : mutators ≤ k = all.0 in omega arith)
   every_own k (Racing r s ∷ ms) all m le lt there = pick (ℕ_discrete k m) (λ above. every_own (suc k) ms all.1 m above lt (omega arith))
     where
-      pick : Dec (k ≡ m) → (suc k ≤ m → (h : History) × Among histories_of (views_of ms) h × (h.1 ≡ own m commands)) → (h : History) × Among histories_of (views_of (Racing r s ∷ ms)) h × (h.1 ≡ own m commands)
-      pick (yes e) rest = ((all.0.1.0, own k commands), inl (subst (λ (l : List History). In l (all.0.1.0, own k commands)) (sym all.0.1.1) (inl refl)), ap (λ (i : ℕ). own i commands) e)
+      pick : Dec (k ≡ m) → (suc k ≤ m → (h : StoreHistory) × Among histories_of (views_of ms) h × (h.1 ≡ own m commands)) → (h : StoreHistory) × Among histories_of (views_of (Racing r s ∷ ms)) h × (h.1 ≡ own m commands)
+      pick (yes e) rest = ((all.0.1.0, own k commands), inl (subst (λ (l : List StoreHistory). In l (all.0.1.0, own k commands)) (sym all.0.1.1) (inl refl)), ap (λ (i : ℕ). own i commands) e)
       pick (no ne) rest = let more = rest (omega arith) in (more.0, inr more.1, more.2)

@@ -7,8 +7,8 @@ use Rattle.g1_log.specs.Ends.{line_home, sender_home, taker_home, sender_rights,
 use Rattle.g1_race.specs.declared.race.Race.{Race}
 use Rattle.g1_race_words.specs.declared.view.Shape.{Shape}
 use Rattle.g1_race_words.specs.Begin.{Start}
-use Rattle.g1_race_words.specs.Rule.{History, null_of}
-use Rattle.g1_race_words.specs.Steps.{gained}
+use Rattle.g1_race_words.specs.Rule.{StoreHistory, null_of}
+use Rattle.g1_race_words.specs.Steps.{gains_store}
 use Rattle.g1_race.specs.Race.{word_of}
 use Rattle.g1_race.specs.Members.{race_id, race_shape, racer_race, racer_start, racer_view}
 use Rattle.g1_race.specs.Members.{sweeper_race, sweeper_start}
@@ -45,7 +45,7 @@ member_logged (Racing r s) = array_vec_len r.log
 member_logged (Sweeping w t) = 0
 
 -- what it has stored, under its number, the newest first
-abbrev pub member_histories : Member → List History
+abbrev pub member_histories : Member → List StoreHistory
 member_histories (Racing r s) = (racer_view r).histories
 member_histories (Sweeping w t) = []
 
@@ -55,10 +55,10 @@ IsMemberOf race line m = (member_race m ≡ race_id race) × (member_home m ≡ 
     × (member_start m ≡ null_of (race_shape race))
 
 -- what has been stored once these calls were made
-abbrev pub histories_after : List Ask → List History → List History
+abbrev pub histories_after : List Ask → List StoreHistory → List StoreHistory
 histories_after [] hs = hs
 histories_after (AskStore slot target ∷ asks) hs =
-    histories_after asks (gained slot (word_of target) hs)
+    histories_after asks (gains_store slot (word_of target) hs)
 histories_after (AskFlush ∷ asks) hs = histories_after asks hs
 histories_after (AskWork ∷ asks) hs = histories_after asks hs
 

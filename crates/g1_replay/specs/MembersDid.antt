@@ -1,17 +1,17 @@
 -- What members did, one list of calls after another.
 use Rattle.std.specs.Prelude.{◌≡◌, List, [], ◌∷◌, ◌++◌}
 use Rattle.std.proofs.Common.{refl, ap, sym, ◌∙◌}
-use Rattle.g1_race_words.specs.Rule.{History}
-use Rattle.g1_race_words.specs.Steps.{gained}
+use Rattle.g1_race_words.specs.Rule.{StoreHistory}
+use Rattle.g1_race_words.specs.Steps.{gains_store}
 use Rattle.g1_race.specs.Race.{word_of}
 use Rattle.g1_steps.specs.Ask.{Ask, AskStore, AskFlush, AskWork}
 use Rattle.g1_replay.specs.declared.race_desk.Member.{Member}
 use Rattle.g1_replay.specs.Members.{MemberDid, histories_after, member_histories}
 
-after_both : (xs ys : List Ask) (hs : List History)
+after_both : (xs ys : List Ask) (hs : List StoreHistory)
     → histories_after (xs ++ ys) hs ≡ histories_after ys (histories_after xs hs)
 after_both [] ys hs = refl
-after_both (AskStore slot target ∷ xs) ys hs = after_both xs ys (gained slot (word_of target) hs)
+after_both (AskStore slot target ∷ xs) ys hs = after_both xs ys (gains_store slot (word_of target) hs)
 after_both (AskFlush ∷ xs) ys hs = after_both xs ys hs
 after_both (AskWork ∷ xs) ys hs = after_both xs ys hs
 
@@ -27,6 +27,6 @@ member_did_then m n o xs ys p q = record {
   home = q.home ∙ p.home;
   rights = q.rights ∙ p.rights;
   kind = q.kind ∙ p.kind;
-  stored = q.stored ∙ ap (λ (hs : List History). histories_after ys hs) p.stored
+  stored = q.stored ∙ ap (λ (hs : List StoreHistory). histories_after ys hs) p.stored
       ∙ sym (after_both xs ys (member_histories m));
 }

@@ -5,7 +5,7 @@ use Rattle.g1_core.specs.Run.{IsStep}
 use Rattle.g1_core.specs.declared.reply.Drained.{Drained}
 use Rattle.g1_race.specs.Evacuating.{IsExactAtPause}
 use Rattle.g1_race.specs.Over.{halted}
-use Rattle.g1_handles.specs.AtPause.{Drains}
+use Rattle.g1_handles.specs.AtPause.{DrainsAtPause}
 use Rattle.g1_handles.proofs.ListLemmas.{lists_so}
 use Rattle.g1_handles.proofs.heap_drains.drain_at.Goals as goal
 
@@ -14,8 +14,8 @@ returns-clause-drained c =
     let old = c.args.heap.now in
     let new = c.drain.new.self in
     let region = c.in-Some.region in
-    lists_so (Drains old c.args.region new) c.in-Cards.cards c.args.room c.list_of.result
-    (subst (λ (r : ℕ). Drains old r new c.in-Cards.cards) c.in-Some.ensures.1
+    lists_so (DrainsAtPause old c.args.region new) c.in-Cards.cards c.args.room c.list_of.result
+    (subst (λ (r : ℕ). DrainsAtPause old r new c.in-Cards.cards) c.in-Some.ensures.1
     (record {
       race = c.in-Ok.ensures.race;
       words = c.in-Ok.ensures.words;

@@ -4,7 +4,7 @@ use lib.ListN.{get_elem?}
 use Rattle.std.proofs.lemmas.Bool.{and_parts, eqb-true, false_from_ne_true}
 use Rattle.atomic_table.specs.declared.shared.Seat.{Seat}
 use Rattle.g1_race_words.specs.declared.view.View.{View}
-use Rattle.g1_race_words.specs.Rule.{crosses, one_if, region_at}
+use Rattle.g1_race_words.specs.Rule.{crosses, as_number, region_at}
 use Rattle.g1_race_words.specs.Seats.{IsPaused}
 use Rattle.g1_race.specs.Moving.{AreMoved, into_count, is_into}
 use Rattle.g1_race.proofs.AtPause.{paused_same}
@@ -41,7 +41,7 @@ loop-i-preserved c =
           record {
             seat = subst (λ (s : Seat (Unit {0}) View). IsPaused z k s) (sym w.seat-is) w.move_slot.ensures.seat;
             moved = subst (λ (s : Seat (Unit {0}) View). AreMoved k old s.me.0.began_words from to first (c.loop-i.i + 1)) (sym w.seat-is) (moved_then k old mid new from to first c.loop-i.i 1 c.requires.apart c.requires.seat.begun i.moved step);
-            counted = w.count-is ∙ (ap (λ (x : ℕ). x + 1) i.counted ∙ sym (count_one k old from first c.loop-i.i ∙ ap (λ (b : Bool). into_count k old from first c.loop-i.i + one_if b) (ap (is_into k from p) read ∙ is)));
+            counted = w.count-is ∙ (ap (λ (x : ℕ). x + 1) i.counted ∙ sym (count_one k old from first c.loop-i.i ∙ ap (λ (b : Bool). into_count k old from first c.loop-i.i + as_number b) (ap (is_into k from p) read ∙ is)));
             few = omega (arith, w.count-is, i.few);
           }
       | else-enters w ↦
@@ -54,7 +54,7 @@ loop-i-preserved c =
             seat = subst (λ (s : Seat (Unit {0}) View). IsPaused z k s) (sym w.seat-is) (paused_same z k c.loop-i.seat c.see-word.new.seat c.see-word.ensures.seat.0 c.see-word.ensures.seat.1 i.seat);
             moved = subst (λ (s : Seat (Unit {0}) View). AreMoved k old s.me.0.began_words from to first (c.loop-i.i + 1)) (sym w.seat-is)
                 (subst (λ (ws : List ℕ). AreMoved k old ws from to first (c.loop-i.i + 1)) (sym same) (moved_then k old mid mid from to first c.loop-i.i 1 c.requires.apart c.requires.seat.begun i.moved step));
-            counted = w.count-is ∙ (i.counted ∙ sym (count_one k old from first c.loop-i.i ∙ (ap (λ (b : Bool). into_count k old from first c.loop-i.i + one_if b) (ap (is_into k from p) read ∙ not_here) ∙ (let x : ℕ = into_count k old from first c.loop-i.i in let e : x + 0 ≡ x = omega arith in e))));
+            counted = w.count-is ∙ (i.counted ∙ sym (count_one k old from first c.loop-i.i ∙ (ap (λ (b : Bool). into_count k old from first c.loop-i.i + as_number b) (ap (is_into k from p) read ∙ not_here) ∙ (let x : ℕ = into_count k old from first c.loop-i.i in let e : x + 0 ≡ x = omega arith in e))));
             few = omega (arith, w.count-is, i.few);
           }
     ]

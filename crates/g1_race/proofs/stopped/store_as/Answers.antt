@@ -4,10 +4,10 @@ use Rattle.std.specs.Prelude.{IfSome}
 use Rattle.g1_layout.specs.Shape as layout
 use Rattle.g1_layout.specs.Shape.{slot_count}
 use Rattle.g1_race_words.specs.declared.view.Shape.{Shape}
-use Rattle.g1_race_words.specs.Rule.{IsBegun, card_of, start}
+use Rattle.g1_race_words.specs.Rule.{IsBegun, slot_card, new_start}
 use Rattle.g1_race.specs.declared.race.Race.{Race}
 use Rattle.g1_race.specs.Race.{word_of}
-use Rattle.g1_race.specs.Over.{target_of}
+use Rattle.g1_race.specs.Over.{target_of_word}
 use Rattle.g1_race.specs.Evacuating.{one_word}
 use Rattle.g1_race.proofs.Ends.{word_target}
 use Rattle.g1_race.proofs.StoreCalls.{word_fits}
@@ -21,7 +21,7 @@ use Rattle.g1_race.proofs.stopped.store_as.Goals as goal
 record Given (race : Race) (slot : ℕ) (target : Option ℕ) : Type 0 where
   lt : slot < race.shape.slots
   fits : word_of target ≤ race.shape.slots
-  back : target_of (word_of target) ≡ target
+  back : target_of_word (word_of target) ≡ target
 
 given : (race : Race) (slot : ℕ) (target : Option ℕ) → slot < slot_count race.layout → IfSome target (λ place. place < slot_count race.layout) → Given race slot target
 given race slot target low within =
@@ -29,7 +29,7 @@ given race slot target low within =
     let fits : word_of target ≤ race.shape.slots = omega (arith, slots, word_fits target (slot_count race.layout) within) in
     record { lt = omega (arith, slots, low); fits = fits; back = word_target target (omega (arith, fits, race.shaped.3)) }
 
-same_card : (race : Race) (slot card : ℕ) → card ≡ layout.card_of race.layout slot → card ≡ card_of race.shape slot
+same_card : (race : Race) (slot card : ℕ) → card ≡ layout.card_of race.layout slot → card ≡ slot_card race.shape slot
 same_card race slot card is = is ∙ ap (λ (k : Shape). slot / k.size) (sym race.laid)
 
 pub put-requires-clause-begun : goal.put-requires-clause-begun
@@ -40,7 +40,7 @@ put-requires-clause-begun c =
     let target = c.args.target in
     let g = given race c.args.slot target c.requires.slot c.requires.target in
     let dirty = quiet_marked k race.layout race.laid c.args.slot g.lt target (word_of target) g.back words (λ e. c.in_default.not-Logged (c.requires.kind ∙ e)) in
-    subst (λ (ws : List ℕ). IsBegun (start k ws)) (λ i. set words (sym c.number.ensures i) (sym c.word_of-word.ensures i))
+    subst (λ (ws : List ℕ). IsBegun (new_start k ws)) (λ i. set words (sym c.number.ensures i) (sym c.word_of-word.ensures i))
     (begun_placed k words c.args.slot (word_of target) g.lt (inl g.fits) (λ across. inr (dirty across)) c.requires.seat.begun)
 
 pub returns-in_default-clause-words : goal.returns-in_default-clause-words
@@ -65,7 +65,7 @@ put-requires-2-clause-begun c =
     let target = c.args.target in
     let g = given race c.args.slot target c.requires.slot c.requires.target in
     let here = dirtied_here k race.layout race.laid c.args.slot g.lt target (word_of target) g.back _ words c.number-2.result (same_card race c.args.slot c.number-2.result (c.number-2.ensures ∙ c.card_of.ensures.quotient)) c.dirty.ensures.dirtied in
-    subst (λ (ws : List ℕ). IsBegun (start k ws)) (λ i. set words (sym c.number.ensures i) (sym c.word_of-word.ensures i))
+    subst (λ (ws : List ℕ). IsBegun (new_start k ws)) (λ i. set words (sym c.number.ensures i) (sym c.word_of-word.ensures i))
     (begun_placed k words c.args.slot (word_of target) g.lt (inl g.fits) (λ across. inr here) c.dirty.ensures.seat.begun)
 
 pub returns-clause-words : goal.returns-clause-words

@@ -2,7 +2,7 @@ use Rattle.std.proofs.Common.{◌≡◌, ◌≢◌, ℕ, ◌+◌, ◌*◌, ◌/�
 use Rattle.g1_layout.specs.Shape.{region_of}
 use Rattle.g1_core.specs.Table.{Crosses}
 use Rattle.g1_race_words.specs.declared.view.Shape.{Shape}
-use Rattle.g1_race_words.specs.Rule.{card_of}
+use Rattle.g1_race_words.specs.Rule.{slot_card}
 use Rattle.g1_race.specs.Clearing.{AreUnset}
 use Rattle.g1_race.specs.Evacuating.{WordsBecome, forgotten, same_word}
 use Rattle.g1_race.specs.Over.{Halt, halted}
@@ -70,7 +70,7 @@ forget_cards-requires-clause-closed g c =
     let closed = subst (λ (r : ℕ). (slot place : ℕ) → Crosses (halted c.args.self.now) slot place → region_of c.args.self.now.layout slot ≢ r) (sym c.number.ensures) c.requires.closed in
     let here = subst (λ (h : Halt). (slot place : ℕ) → Crosses (halted h) slot place → region_of h.layout slot ≢ n) (sym (lent_view c.race-race.ensures c.self.view_is)) closed in
     λ p m lt at cr le below. closed_words k l race.laid race.shaped c.self.inside.seat.me.0.began_words n here p m lt at cr
-    (subst (λ (x : ℕ). n * x ≤ card_of k p) each le) (subst (λ (x : ℕ). card_of k p < n * x + x) each below)
+    (subst (λ (x : ℕ). n * x ≤ slot_card k p) each le) (subst (λ (x : ℕ). slot_card k p < n * x + x) each below)
 
 pub returns-clause-table : goal.returns-clause-table
 returns-clause-table g c =
