@@ -2,7 +2,8 @@
 ghost use Rattle.std.specs.Prelude.{◌≡◌, ◌<◌, IfSome};
 ghost use Rattle.g1_core.specs.Run.{kind_of};
 ghost use Rattle.g1_handles.specs.Codes.{kind_word, reference_of, IsRefusal, IsStoreOf, Between};
-ghost use Rattle.g1_handles.specs.Codes.{OfOpen, stored_machine};
+ghost use Rattle.g1_core.specs.Barrier.{stored_machine};
+ghost use Rattle.g1_handles.specs.Codes.{OfOpen};
 ghost use Rattle.g1_handles.specs.Refusals.{IsStoreRefused};
 
 use core::mem::replace_with;

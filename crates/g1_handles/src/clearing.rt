@@ -25,7 +25,8 @@ pub fn clear_in(handle: Handle, words: (Global, u32)) -> (Handle, Result<(u32, u
         Between handle.value result.0.value (λ old new.
         ClearsTo old words.1 (cleared_of answer.0 answer.1) new)) }
     ensures words { IfOk result.1 (λ answer. IsClearWord answer.0 answer.1) }
-    ensures left { IfOk result.1 (λ answer. 0 < answer.0 → AreOnlyRead handle.value result.0.value) }
+    ensures left { IfOk result.1 (λ answer.
+        0 < answer.0 → AreOnlyRead handle.value result.0.value) }
     ensures why { IfErr result.1 (λ refusal. IsClearRefused handle.value words.1 refusal) }
     ensures refused { OnErr result.1 (result.0.value ≡ handle.value) }
 {

@@ -3,7 +3,7 @@ ghost use Rattle.std.specs.Prelude.{◌≡◌, ◌<◌, IfSome, IfNone, IfOk, If
 ghost use Rattle.g1_layout.specs.Shape.{slot_count};
 ghost use Rattle.g1_core.specs.Run.{kind_of};
 ghost use Rattle.g1_handles.specs.Codes.{reference_of, IsStoreOf, Between, OfOpen};
-ghost use Rattle.g1_handles.specs.Codes.{stored_machine};
+ghost use Rattle.g1_core.specs.Barrier.{stored_machine};
 ghost use Rattle.g1_handles.specs.Refusals.{IsStoreRefused, SaysNoPlace};
 
 use crate::any_handle::{closed, into_box, opened};

@@ -10,7 +10,8 @@ use Rattle.g1_core.specs.Run.{IsStep}
 use Rattle.g1_core.specs.declared.entry.Call.TheVariants.{Redirect}
 use Rattle.g1_core.specs.declared.entry.Reply.TheVariants as reply
 use Rattle.g1_race_words.specs.declared.view.Shape.{Shape}
-use Rattle.g1_race_words.specs.Rule.{IsBegun, IsPair, HasBit, slot_card, crosses, mark_word, as_number}
+use Rattle.g1_race_words.specs.Rule.{IsBegun, IsPair, HasBit, slot_card, crosses, mark_word}
+use Rattle.g1_race_words.specs.Rule.{as_number}
 use Rattle.g1_race_words.specs.Rule.{region_at, new_start}
 use Rattle.g1_race.specs.Clearing.{IsEmptied}
 

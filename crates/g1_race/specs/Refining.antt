@@ -5,7 +5,8 @@ use mathlib.Core.Option.{some}
 use lib.ListN.{get_elem?}
 use Rattle.g1_core.specs.Table.{Table, Holds, IsPending, IsCovered, AreMembers}
 use Rattle.g1_race_words.specs.declared.view.Shape.{Shape}
-use Rattle.g1_race_words.specs.Rule.{In, IsBegun, IsPair, HasBit, BeganInto, flag, mark_word, new_start}
+use Rattle.g1_race_words.specs.Rule.{In, IsBegun, IsPair, HasBit, BeganInto, flag, mark_word}
+use Rattle.g1_race_words.specs.Rule.{new_start}
 use Rattle.g1_race_words.specs.Steps.{pair_at}
 
 -- the pairs of the card's first slots, as many as this

@@ -124,8 +124,7 @@ fn refine_card(race: &Race, seat: &mut Place, card: usize)
     requires seat { IsPaused race.now.table.table_id race.now.shape seat.old }
     requires card { card < race.now.shape.cards }
     ensures seat { IsPaused race.now.table.table_id race.now.shape seat.new }
-    ensures refined { IsCardRefined race.now.shape seat.old.me.0.began_words seat.new.me.0.began_words
-        card }
+    ensures refined { IsCardRefined race.now.shape seat.old.me.0.began_words seat.new.me.0.began_words card }
 {
     let shape = race.shape;
     for i in 0..shape.size {

@@ -3,7 +3,8 @@ ghost use Rattle.std.specs.Prelude.{◌≡◌, ◌≢◌, ◌==◌, ◌+◌, ◌
 ghost use Rattle.std.specs.Prelude.{length, slice_index};
 ghost use Rattle.std.specs.Int.{bit_at};
 ghost use Rattle.std.specs.Slots.{slots_items, slots_len, IsFull};
-ghost use Rattle.g1_race_words.specs.Rule.{IsWholeShape, IsPair, bit_word, bit_place, pairs_of_card};
+ghost use Rattle.g1_race_words.specs.Rule.{IsWholeShape, IsPair, bit_word, bit_place};
+ghost use Rattle.g1_race_words.specs.Rule.{pairs_of_card};
 ghost use Rattle.g1_race_words.specs.Rule.{pairs_up_to, word_count};
 ghost use Rattle.g1_race.specs.Race.{shape_of};
 ghost use Rattle.g1_race.specs.Telling.{block_regions};

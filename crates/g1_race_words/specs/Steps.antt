@@ -5,7 +5,8 @@ use Rattle.std.specs.Int.{bit_at}
 use Rattle.g1_race_words.specs.declared.view.Shape.{Shape}
 use Rattle.g1_race_words.specs.declared.view.View.{View}
 use Rattle.g1_race_words.specs.Begin.{Start}
-use Rattle.g1_race_words.specs.Rule.{slot_card, region_at, bit_place, crosses, flag, StoreHistory, null_of}
+use Rattle.g1_race_words.specs.Rule.{slot_card, region_at, bit_place, crosses, flag, StoreHistory}
+use Rattle.g1_race_words.specs.Rule.{null_of}
 use Rattle.g1_race_words.specs.Rule.{start_of}
 
 -- a seat that answers for nothing

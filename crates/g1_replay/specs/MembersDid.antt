@@ -11,7 +11,8 @@ use Rattle.g1_replay.specs.Members.{MemberDid, histories_after, member_histories
 after_both : (xs ys : List Ask) (hs : List StoreHistory)
     → histories_after (xs ++ ys) hs ≡ histories_after ys (histories_after xs hs)
 after_both [] ys hs = refl
-after_both (AskStore slot target ∷ xs) ys hs = after_both xs ys (gains_store slot (word_of target) hs)
+after_both (AskStore slot target ∷ xs) ys hs =
+    after_both xs ys (gains_store slot (word_of target) hs)
 after_both (AskFlush ∷ xs) ys hs = after_both xs ys hs
 after_both (AskWork ∷ xs) ys hs = after_both xs ys hs
 
