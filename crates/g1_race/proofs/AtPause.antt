@@ -9,7 +9,7 @@ use Rattle.atomic_table.specs.declared.shared.Seat.{Seat}
 use Rattle.g1_race_words.specs.declared.view.Shape.{Shape}
 use Rattle.g1_race_words.specs.declared.view.View.{View}
 use Rattle.g1_race.specs.declared.race.Race.{Race}
-use Rattle.g1_race_words.specs.Rule.{IsWord, IsBegun, IsFlagged, IsMarked, HasBit, flag, mark_word, slot_card, region_at, crosses, new_start}
+use Rattle.g1_race_words.specs.Rule.{IsWord, IsBegun, IsFlagged, IsMarked, HasBit, flag, mark_word, slot_card, region_at, crosses, started}
 use Rattle.g1_race_words.specs.Steps.{iced}
 use Rattle.g1_race_words.specs.Seats.{IsPaused}
 use Rattle.atomic_table.specs.Seated.{TableId}
@@ -31,7 +31,7 @@ marked_stays k words p c lt m = pick (ℕ_discrete (mark_word k (slot_card k p))
     pick (yes e) = ap (λ (i : ℕ). get_elem? (set words (mark_word k c) 1) i) e ∙ set_here words (mark_word k c) 1 lt
     pick (no ne) = set_else words (mark_word k c) (mark_word k (slot_card k p)) 1 ne ∙ m
 
-pub begun_marked : (k : Shape) (words : List ℕ) (c : ℕ) → c < k.cards → IsFlagged k words c → IsBegun (new_start k words) → IsBegun (new_start k (set words (mark_word k c) 1))
+pub begun_marked : (k : Shape) (words : List ℕ) (c : ℕ) → c < k.cards → IsFlagged k words c → IsBegun (started k words) → IsBegun (started k (set words (mark_word k c) 1))
 begun_marked k words c lt flagged h = record {
   shaped = h.shaped;
   sized = length-set words (mark_word k c) 1 ∙ h.sized;
@@ -59,7 +59,7 @@ begun_marked k words c lt flagged h = record {
     pick d below (yes e) = inl (ap (λ (i : ℕ). get_elem? (set words (mark_word k c) 1) i) e ∙ set_here words (mark_word k c) 1 there_is)
     pick d below (no ne) = ⊎_elim (λ (m : get_elem? words (mark_word k d) ≡ some 1). inl (set_else words (mark_word k c) (mark_word k d) 1 ne ∙ m)) (λ (z : get_elem? words (mark_word k d) ≡ some 0). inr (set_else words (mark_word k c) (mark_word k d) 1 ne ∙ z)) (h.marks d below)
 
-pub begun_placed : (k : Shape) (words : List ℕ) (p n : ℕ) → p < k.slots → IsWord k n → (crosses k p n ≡ true → HasBit k words (slot_card k p, region_at k n) ⊎ IsMarked k words p) → IsBegun (new_start k words) → IsBegun (new_start k (set words p n))
+pub begun_placed : (k : Shape) (words : List ℕ) (p n : ℕ) → p < k.slots → IsWord k n → (crosses k p n ≡ true → HasBit k words (slot_card k p, region_at k n) ⊎ IsMarked k words p) → IsBegun (started k words) → IsBegun (started k (set words p n))
 begun_placed k words p n lt fits marked h = record {
   shaped = h.shaped;
   sized = length-set words p n ∙ h.sized;
@@ -85,6 +85,6 @@ begun_placed k words p n lt fits marked h = record {
 pub paused_same : (z : TableId) (k : Shape) (s q : Seat (Unit {0}) View) → q.table_id ≡ s.table_id → q.me ≡ s.me → IsPaused z k s → IsPaused z k q
 paused_same z k s q table me i = let words = ap (λ (m : Me (Unit {0}) View). m.0.began_words) me in record {
   table = table ∙ i.table;
-  view = me ∙ (i.view ∙ (λ j. (iced (new_start k (sym words j)) k.members, [])));
-  begun = subst (λ (l : List ℕ). IsBegun (new_start k l)) (sym words) i.begun;
+  view = me ∙ (i.view ∙ (λ j. (iced (started k (sym words j)) k.members, [])));
+  begun = subst (λ (l : List ℕ). IsBegun (started k l)) (sym words) i.begun;
 }

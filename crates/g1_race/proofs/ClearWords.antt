@@ -15,7 +15,7 @@ use Rattle.g1_core.specs.Table.{Enters}
 use Rattle.g1_core.specs.Run.{IsFirstInto}
 use Rattle.g1_core.proofs.SetLemmas.{pair_exact, same_pairs}
 use Rattle.g1_race_words.specs.declared.view.Shape.{Shape}
-use Rattle.g1_race_words.specs.Rule.{IsBegun, IsMarked, IsWholeShape, IsPair, HasBit, bit_word, bit_place, slot_card, crosses, flag, front, mark_word, word_count, pairs_up_to, region_at, new_start}
+use Rattle.g1_race_words.specs.Rule.{IsBegun, IsMarked, IsWholeShape, IsPair, HasBit, bit_word, bit_place, slot_card, crosses, flag, front, mark_word, word_count, pairs_up_to, region_at, started}
 use Rattle.g1_race.specs.Race.{shape_of}
 use Rattle.g1_race.specs.Over.{ended, refs_of, table_of}
 use Rattle.g1_core.specs.declared.entry.Call.TheVariants.{Clear}
@@ -33,7 +33,7 @@ use Rattle.g1_race.proofs.Ends.{crosses_apart, recorded_set, set_recorded, word_
 
 -- a slot of a region's member
 
-pub into_bit : (k : Shape) (words : List ℕ) (region p : ℕ) → IsBegun (new_start k words) → ((c : ℕ) → c < k.cards → get_elem? words (mark_word k c) ≡ some 1 → ⊥) → Into k words region p → HasBit k words (slot_card k p, region)
+pub into_bit : (k : Shape) (words : List ℕ) (region p : ℕ) → IsBegun (started k words) → ((c : ℕ) → c < k.cards → get_elem? words (mark_word k c) ≡ some 1 → ⊥) → Into k words region p → HasBit k words (slot_card k p, region)
 into_bit k words region p h clean i = ⊎_elim
     (λ (b : HasBit k words (slot_card k p, region_at k i.0)). subst (λ (r : ℕ). HasBit k words (slot_card k p, r)) i.4 b)
     (λ (m : IsMarked k words p). absurd (clean (slot_card k p) (card_below k p h.shaped i.1) m))
@@ -73,7 +73,7 @@ row_apart k x region i shaped card ne lt e = ne (
 pub row_below : (k : Shape) (region i : ℕ) → IsWholeShape k → region ≤ k.regions → i < k.row → row_word k region i < word_count k
 row_below k region i shaped le below = word_in_row k region i shaped le below
 
-module _ (k : Shape) (words : List ℕ) (region i : ℕ) (h : IsBegun (new_start k words)) (lt : region ≤ k.regions) (below : i < k.row) where
+module _ (k : Shape) (words : List ℕ) (region i : ℕ) (h : IsBegun (started k words)) (lt : region ≤ k.regions) (below : i < k.row) where
   abbrev less : List ℕ
   less = set words (row_word k region i) 0
 
@@ -98,7 +98,7 @@ module _ (k : Shape) (words : List ℕ) (region i : ℕ) (h : IsBegun (new_start
     | inr ne ↦ ap (λ (n : ℕ). bit_at n (bit_place k x)) (sym (same_word x ne)) ∙ b
   ]
 
-  pub begun_emptied : ((p : ℕ) → Into k words region p → ⊥) → (region ≡ k.regions → (c : ℕ) → c < k.cards → get_elem? words (mark_word k c) ≡ some 1 → ⊥) → IsBegun (new_start k less)
+  pub begun_emptied : ((p : ℕ) → Into k words region p → ⊥) → (region ≡ k.regions → (c : ℕ) → c < k.cards → get_elem? words (mark_word k c) ≡ some 1 → ⊥) → IsBegun (started k less)
   begun_emptied none clean = record {
     shaped = h.shaped;
     sized = length-set words (row_word k region i) 0 ∙ h.sized;
@@ -134,7 +134,7 @@ emptied_past k old words region i found at none g = record { front = g.front; ke
     pick x pair e up b (no ne) = g.clear x pair e (let n : ℕ = x.0 / 64 in let a : n < i + 1 = up in let c : n ≢ i = ne in let goal : n < i = omega (arith, a, c) in goal) b
 
 -- no slot refers into the region of the row of flags
-pub none_behind : (k : Shape) (words : List ℕ) (p : ℕ) → IsBegun (new_start k words) → Into k words k.regions p → ⊥
+pub none_behind : (k : Shape) (words : List ℕ) (p : ℕ) → IsBegun (started k words) → Into k words k.regions p → ⊥
 none_behind k words p h i = absurd (let pair = crossing_pair k p i.0 h.shaped i.1 (h.bounded p i.0 i.1 i.2) i.3 in omega (arith, pair.1, i.4))
 
 pub emptied_none : (k : Shape) (old : List ℕ) (region : ℕ) → IsEmptied k old old region 0
@@ -181,7 +181,7 @@ module _ (k : Shape) (l : layout.Shape) (laid : k ≡ shape_of l k.members) wher
   pub first_into : (words : List ℕ) (slot region : ℕ) → IsLeastInto k words region (Some slot) → IsFirstInto (table_of (ended l k words)) region slot
   first_into words slot region h = record { enters = word_enters words slot region h.0; least = λ other e. h.1 other (enters_word words other region e) }
 
-  pub cleared_is : (old new : List ℕ) (region : ℕ) → IsBegun (new_start k old) → IsBegun (new_start k new) → IsEmptied k old new region k.row → table_of (ended l k new) ≡ settled (Clear region) (reply.Clear Cleared) (table_of (ended l k old))
+  pub cleared_is : (old new : List ℕ) (region : ℕ) → IsBegun (started k old) → IsBegun (started k new) → IsEmptied k old new region k.row → table_of (ended l k new) ≡ settled (Clear region) (reply.Clear Cleared) (table_of (ended l k old))
   cleared_is old new region b h g = λ i. record {
     layout = l;
     refs = refs_of (record { layout = l; words = g.front i; pairs = pairs_up_to k new k.cards });

@@ -15,7 +15,7 @@ use Rattle.g1_sets.proofs.PairLemmas.{in_set, to_set}
 use Rattle.g1_sets.proofs.TotalLemmas.{total_is}
 use Rattle.g1_core.proofs.SetLemmas.{All_by_member, same_pairs, in_pairs}
 use Rattle.g1_race_words.specs.declared.view.Shape.{Shape}
-use Rattle.g1_race_words.specs.Rule.{IsBegun, IsWholeShape, pairs_up_to, new_start}
+use Rattle.g1_race_words.specs.Rule.{IsBegun, IsWholeShape, pairs_up_to, started}
 use Rattle.g1_race.specs.Race.{shape_of}
 use Rattle.g1_race.specs.Over.{ended, table_of}
 use Rattle.g1_race.specs.Telling.{is_member, member_cards, pair_count}
@@ -67,7 +67,7 @@ module _ (k : Shape) (words : List ℕ) where
       let most : m ≤ 4294967295 * 4294967295 = mul-le-mul few_regions few_cards in
       omega (arith, at_most n, most)
 
-module _ (k : Shape) (l : layout.Shape) (laid : k ≡ shape_of l k.members) (words : List ℕ) (h : IsBegun (new_start k words)) where
+module _ (k : Shape) (l : layout.Shape) (laid : k ≡ shape_of l k.members) (words : List ℕ) (h : IsBegun (started k words)) where
   abbrev all : List (List ℕ)
   all = lists k words k.regions
 

@@ -8,7 +8,7 @@ use Rattle.g1_layout.specs.Shape as layout
 use Rattle.g1_core.specs.Table.{Table}
 use Rattle.g1_core.specs.Run.{kind_of, stored}
 use Rattle.g1_race_words.specs.declared.view.Shape.{Shape}
-use Rattle.g1_race_words.specs.Rule.{IsBegun, slot_card, mark_word, new_start}
+use Rattle.g1_race_words.specs.Rule.{IsBegun, slot_card, mark_word, started}
 use Rattle.g1_race.specs.Over.{ended, table_of, target_of_word}
 use Rattle.g1_race.specs.Race.{shape_of}
 use Rattle.g1_race.specs.Refining.{IsDirtied}
@@ -23,7 +23,7 @@ module _ (k : Shape) (l : layout.Shape) (laid : k ≡ shape_of l k.members) (p :
       ap (λ (ws : List ℕ). get_elem? ws (mark_word k (slot_card k p))) (d.marked ∙ ap (λ (c : ℕ). set d.mid (mark_word k c) 1) is) ∙ set_here d.mid (mark_word k (slot_card k p)) 1 (omega (arith, d.begun.sized, low))
 
   pub dirtied_store : (words new after : List ℕ) (card : ℕ) → card ≡ slot_card k p → IsDirtied k words new card → kind_of (table_of (ended l k words)) p target ≡ Logged
-      → after ≡ set new p n → IsBegun (new_start k after) → table_of (ended l k after) ≡ stored (table_of (ended l k words)) p target
+      → after ≡ set new p n → IsBegun (started k after) → table_of (ended l k after) ≡ stored (table_of (ended l k words)) p target
   dirtied_store words new after card is d kind e h' =
       let same : table_of (ended l k d.mid) ≡ table_of (ended l k words) = ap table_of (flag_ended k l words d.mid card d.flagged) in
       logged_store k l laid p lt target n back (table_of (ended l k words)) d.mid after same

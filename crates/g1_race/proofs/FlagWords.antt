@@ -7,7 +7,7 @@ use Rattle.std.specs.List.{slice_index}
 use Rattle.std.proofs.lemmas.Bool.{cases_Bool, cases_lt, true≢false}
 use Rattle.g1_layout.specs.Shape as layout
 use Rattle.g1_race_words.specs.declared.view.Shape.{Shape}
-use Rattle.g1_race_words.specs.Rule.{HasBit, In, IsBegun, IsPair, bit_place, bit_word, flag, front, mark_word, pairs_of_card, pairs_up_to, new_start}
+use Rattle.g1_race_words.specs.Rule.{HasBit, In, IsBegun, IsPair, bit_place, bit_word, flag, front, mark_word, pairs_of_card, pairs_up_to, started}
 use Rattle.g1_race.specs.Over.{ended}
 use Rattle.g1_race.specs.Clearing.{IsEmptied}
 use Rattle.g1_race.specs.Refining.{AreRefined, Notes}
@@ -17,14 +17,14 @@ use Rattle.g1_race_words.proofs.Places.{take_at, take_same}
 use Rattle.g1_race.proofs.NextCards.{marked_word}
 
 -- a card whose flag is clear is clean
-unflagged_clean : (k : Shape) (words : List ℕ) (c : ℕ) → IsBegun (new_start k words) → c < k.cards → is_member k words k.regions (c / 8 * 8) ≡ false → is_marked k words c ≡ false
+unflagged_clean : (k : Shape) (words : List ℕ) (c : ℕ) → IsBegun (started k words) → c < k.cards → is_member k words k.regions (c / 8 * 8) ≡ false → is_marked k words c ≡ false
 unflagged_clean k words c h lt e = elim (cases_Bool (is_marked k words c)) [
   | inl m ↦ absurd (true≢false (sym (eq-eqb _ 1 (h.flagged c lt (marked_word k words c h lt m))) ∙ e))
   | inr m ↦ m
 ]
 
 -- where flags are passed over that are clear, no dirty card is
-pub skips_none : (k : Shape) (words : List ℕ) (from : ℕ) (found : Option ℕ) → IsBegun (new_start k words) → from % 8 ≡ 0 → IsNext (is_member k words k.regions) k.cards from found → SkipsNone (is_marked k words) k.cards from found
+pub skips_none : (k : Shape) (words : List ℕ) (from : ℕ) (found : Option ℕ) → IsBegun (started k words) → from % 8 ≡ 0 → IsNext (is_member k words k.regions) k.cards from found → SkipsNone (is_marked k words) k.cards from found
 skips_none k words from None h first none = λ c le lt. unflagged_clean k words c h lt (none (c / 8 * 8) (omega (arith, le, first)) (omega (arith, lt)))
 skips_none k words from (Some card) h first is = (is.0, is.1, λ c le lt. unflagged_clean k words c h (omega (arith, lt, is.1)) (is.3 (c / 8 * 8) (omega (arith, le, first)) (omega (arith, lt))))
 

@@ -15,7 +15,7 @@ use Rattle.g1_layout.specs.Shape.{slot_count, region_of}
 use Rattle.g1_core.specs.Table.{Crosses}
 use Rattle.g1_core.proofs.SetLemmas.{pair_exact, same_pairs}
 use Rattle.g1_race_words.specs.declared.view.Shape.{Shape}
-use Rattle.g1_race_words.specs.Rule.{IsBegun, IsWholeShape, IsMarked, IsPair, HasBit, bit_place, bit_word, slot_card, crosses, flag, front, mark_word, pairs_up_to, region_at, new_start}
+use Rattle.g1_race_words.specs.Rule.{IsBegun, IsWholeShape, IsMarked, IsPair, HasBit, bit_place, bit_word, slot_card, crosses, flag, front, mark_word, pairs_up_to, region_at, started}
 use Rattle.g1_race.specs.Race.{shape_of}
 use Rattle.g1_race.specs.Over.{ended, refs_of, table_of}
 use Rattle.g1_race.specs.Clearing.{AreUnset}
@@ -37,7 +37,7 @@ module _ (k : Shape) (words : List ℕ) (x : ℕ × ℕ) where
   far : (i : ℕ) → i < k.slots + k.cards → get_elem? without i ≡ get_elem? words i
   far i lt = set_else words (bit_word k x) i _ (λ e. let m : ℕ = x.1 * k.row + x.0 / 64 in let f : i ≡ k.slots + k.cards + m = e in absurd (omega arith))
 
-  module _ (h : IsBegun (new_start k words)) (pair : IsPair k x) where
+  module _ (h : IsBegun (started k words)) (pair : IsPair k x) where
     short : bit_word k x < length words
     short = subst (λ (n : ℕ). bit_word k x < n) (sym h.sized) (bit_below k x h.shaped pair.0 (omega (arith, pair.1)))
 
@@ -68,7 +68,7 @@ module _ (k : Shape) (words : List ℕ) (x : ℕ × ℕ) where
       | inr apart ↦ sym (other_word y apart) ∙ b
     ]
 
-    pub begun_unset : ((p n : ℕ) → p < k.slots → get_elem? words p ≡ some n → crosses k p n ≡ true → x ≡ (slot_card k p, region_at k n) → ⊥) → IsBegun (new_start k without)
+    pub begun_unset : ((p n : ℕ) → p < k.slots → get_elem? words p ≡ some n → crosses k p n ≡ true → x ≡ (slot_card k p, region_at k n) → ⊥) → IsBegun (started k without)
     begun_unset closed = record {
       shaped = h.shaped;
       sized = length-set words (bit_word k x) without_bit ∙ h.sized;
@@ -179,7 +179,7 @@ in_card n region c le lt =
     let low : i < n = (let a : y ≤ c = le in let b : c < y + n = lt in omega arith) in
     ap (λ (m : ℕ). m / n) (sym is) ∙ div-mul-add region n i low
 
-pub forgotten_is : (k : Shape) (l : layout.Shape) (laid : k ≡ shape_of l k.members) (old new : List ℕ) (region : ℕ) → 0 < l.cards → IsBegun (new_start k old) → IsBegun (new_start k new) → AreUnset k old new (λ x. (region * l.cards ≤ x.0) × (x.0 < region * l.cards + l.cards)) → table_of (ended l k new) ≡ forgotten region (table_of (ended l k old))
+pub forgotten_is : (k : Shape) (l : layout.Shape) (laid : k ≡ shape_of l k.members) (old new : List ℕ) (region : ℕ) → 0 < l.cards → IsBegun (started k old) → IsBegun (started k new) → AreUnset k old new (λ x. (region * l.cards ≤ x.0) × (x.0 < region * l.cards + l.cards)) → table_of (ended l k new) ≡ forgotten region (table_of (ended l k old))
 forgotten_is k l laid old new region some_card b h g = λ i. record {
   layout = l;
   refs = refs_of (record { layout = l; words = g.front i; pairs = pairs_up_to k new k.cards });

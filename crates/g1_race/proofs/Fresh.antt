@@ -12,7 +12,7 @@ use Rattle.g1_race.specs.declared.race.Sweeper.{Sweeper}
 use Rattle.g1_race_words.specs.Begin.{Start}
 use Rattle.g1_race.specs.Drain.{began}
 use Rattle.g1_race.specs.Over.{Halt, halted, start_at}
-use Rattle.g1_race_words.specs.Rule.{beginning, new_start, start_of}
+use Rattle.g1_race_words.specs.Rule.{beginning, started, start_of}
 use Rattle.g1_race_words.specs.Steps.{blank}
 use Rattle.g1_race.specs.Members.{race_begun, racer_view, sweeper_view, racer_log, racer_number, racer_start, sweeper_start, AreFreshRacers, AreFreshSweepers, HaveBegun, HaveBegunWith, IsNewRacer, IsNewSweeper, IsFreshRacer, IsFreshSweeper}
 
@@ -46,8 +46,8 @@ module _ (z : TableId) (begin : Start) where
 -- where all members began so, that is what the race began with
 pub begun_as : (race : Race) (begin : Start) (rs : List Racer) (ws : List Sweeper) → All (λ r. racer_start r ≡ begin) rs → All (λ w. sweeper_start w ≡ begin) ws → race.shape ≡ begin.shape → 0 < length rs + length ws
     → race_begun race (map racer_view rs) (map sweeper_view ws) ≡ beginning begin
-begun_as race begin rs (w ∷ ws) racing sweeping shape some = λ i. beginning (new_start (shape i) (sweeping zero w (omega arith) i).words)
-begun_as race begin (r ∷ rs) [] racing sweeping shape some = λ i. beginning (new_start (shape i) (racing zero r (omega arith) i).words)
+begun_as race begin rs (w ∷ ws) racing sweeping shape some = λ i. beginning (started (shape i) (sweeping zero w (omega arith) i).words)
+begun_as race begin (r ∷ rs) [] racing sweeping shape some = λ i. beginning (started (shape i) (racing zero r (omega arith) i).words)
 begun_as race begin [] [] racing sweeping shape some = absurd (omega (arith, some))
 
 -- the members of a race that has resumed

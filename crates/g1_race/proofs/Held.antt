@@ -1,7 +1,7 @@
 -- What a pause lends is the race that it holds.
 use Rattle.std.proofs.Common.{◌≡◌, ℕ, List, sym, ap, ◌∙◌, subst}
 use Rattle.g1_core.specs.Table.{Table}
-use Rattle.g1_race_words.specs.Rule.{IsBegun, new_start}
+use Rattle.g1_race_words.specs.Rule.{IsBegun, started}
 use Rattle.g1_race.specs.declared.race.Race.{Race}
 use Rattle.g1_race.specs.Members.{halt_of}
 use Rattle.g1_race.specs.Over.{Halt, ended, halted, table_of}
@@ -9,8 +9,8 @@ use Rattle.g1_race.specs.Over.{Halt, ended, halted, table_of}
 pub lent_view : {race held : Race} {words : List ℕ} {logs : List (List ℕ)} {sweepers : ℕ} {halt : Halt} → race ≡ held → halt_of held words logs sweepers ≡ halt → halt_of race words logs sweepers ≡ halt
 lent_view {words = words} {logs = logs} {sweepers = sweepers} is view = ap (λ (r : Race). halt_of r words logs sweepers) is ∙ view
 
-pub lent_begun : {race held : Race} {words : List ℕ} → race ≡ held → IsBegun (new_start held.shape words) → IsBegun (new_start race.shape words)
-lent_begun {words = words} is = subst (λ (r : Race). IsBegun (new_start r.shape words)) (sym is)
+pub lent_begun : {race held : Race} {words : List ℕ} → race ≡ held → IsBegun (started held.shape words) → IsBegun (started race.shape words)
+lent_begun {words = words} is = subst (λ (r : Race). IsBegun (started r.shape words)) (sym is)
 
 pub held_table : {race held : Race} (words : List ℕ) → race ≡ held → table_of (ended race.layout race.shape words) ≡ table_of (ended held.layout held.shape words)
 held_table words = ap (λ (r : Race). table_of (ended r.layout r.shape words))

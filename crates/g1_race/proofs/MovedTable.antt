@@ -20,7 +20,7 @@ use Rattle.g1_race.specs.Evacuating.{AreAllRefined}
 use Rattle.g1_core.proofs.SetLemmas.{pair_total, pair_exact, listed, unlisted, Kept, from_kept, to_kept, same_bools}
 use Rattle.g1_core.proofs.TableLemmas.{slot_of}
 use Rattle.g1_race_words.specs.declared.view.Shape.{Shape}
-use Rattle.g1_race_words.specs.Rule.{IsReference, IsBegun, IsPair, HasBit, slot_card, crosses, front, mark_word, as_number, region_at, new_start, word_count}
+use Rattle.g1_race_words.specs.Rule.{IsReference, IsBegun, IsPair, HasBit, slot_card, crosses, front, mark_word, as_number, region_at, started, word_count}
 use Rattle.g1_race.specs.Race.{shape_of}
 use Rattle.g1_race.specs.Over.{ended, refs_of, table_of, target_of_word}
 use Rattle.g1_race.specs.Moving.{AreMovedAway, Acquires, into_count, is_into, moved_word, word_after}
@@ -92,13 +92,13 @@ module _ (k : Shape) (l : layout.Shape) (laid : k ≡ shape_of l k.members) wher
 
   -- slots by place
 
-  here : (words : List ℕ) (p : ℕ) → IsBegun (new_start k words) → p < k.slots → get_elem? words p ≡ some (get_or words p 0)
+  here : (words : List ℕ) (p : ℕ) → IsBegun (started k words) → p < k.slots → get_elem? words p ≡ some (get_or words p 0)
   here words p h lt = read_at words p (let s : length words ≡ word_count k = h.sized in omega (arith, s, lt))
 
   ref_is : (words : List ℕ) (p n : ℕ) → p < k.slots → get_elem? words p ≡ some n → get_or (refs_of (ended l k words)) p None ≡ target_of_word n
   ref_is words p n lt at = reads_as (refs_of (ended l k words)) p (target_of_word n) None (refs_here (ended l k words) p n (omega (arith, lt, slots_are k l laid)) (at_take words (k.slots + k.cards) p n (omega (arith, lt)) at))
 
-  refs_len : (words : List ℕ) → IsBegun (new_start k words) → length (refs_of (ended l k words)) ≡ slot_count l
+  refs_len : (words : List ℕ) → IsBegun (started k words) → length (refs_of (ended l k words)) ≡ slot_count l
   refs_len words h =
       let s : length words ≡ word_count k = h.sized in
       let a : length (front k words) ≡ k.slots + k.cards = (let m = length-take (k.slots + k.cards) words in omega (arith, m, s)) in
@@ -108,7 +108,7 @@ module _ (k : Shape) (l : layout.Shape) (laid : k ≡ shape_of l k.members) wher
   front_at : (a b : List ℕ) (i n : ℕ) → front k a ≡ front k b → i < k.slots + k.cards → get_elem? b i ≡ some n → get_elem? a i ≡ some n
   front_at a b i n same lt at = (at_untake a (k.slots + k.cards) i n (subst (λ (ws : List ℕ). get_elem? ws i ≡ some n) (sym same) (at_take b (k.slots + k.cards) i n lt at))).1
 
-  module _ (old new : List ℕ) (from to : ℕ) (b : IsBegun (new_start k old)) (h : IsBegun (new_start k new)) (away : AreMovedAway k old new from to) (within : to < k.regions) where
+  module _ (old new : List ℕ) (from to : ℕ) (b : IsBegun (started k old)) (h : IsBegun (started k new)) (away : AreMovedAway k old new from to) (within : to < k.regions) where
     abbrev t : Table
     t = table_of (ended l k old)
 

@@ -7,7 +7,7 @@ use Rattle.std.proofs.Math.Nat.{mul-le-mul_left}
 use Rattle.std.proofs.lemmas.Nat.{div-mul-add}
 use Rattle.atomic_table.proofs.Lists.{set_else, set_here}
 use Rattle.g1_race_words.specs.declared.view.Shape.{Shape}
-use Rattle.g1_race_words.specs.Rule.{In, IsBegun, IsWholeShape, HasBit, slot_card, crosses, mark_word, as_number, region_at, new_start, word_count}
+use Rattle.g1_race_words.specs.Rule.{In, IsBegun, IsWholeShape, HasBit, slot_card, crosses, mark_word, as_number, region_at, started, word_count}
 use Rattle.g1_race.specs.Refining.{Notes}
 use Rattle.g1_race.specs.Clearing.{Into}
 use Rattle.g1_race.specs.Telling.{is_member}
@@ -52,7 +52,7 @@ not_into k from to p n pos apart h = elim (cases_Bool (is_into k from p n)) [
 
 -- one slot
 
-module _ (k : Shape) (old mid : List ℕ) (from to p n : ℕ) (b : IsBegun (new_start k old)) (h : IsBegun (new_start k mid)) (xs : List (ℕ × ℕ)) (notes : Notes k old mid xs) (lt : p < k.slots) (low : to < k.regions) (at : get_elem? old p ≡ some n) (into : is_into k from p n ≡ true)
+module _ (k : Shape) (old mid : List ℕ) (from to p n : ℕ) (b : IsBegun (started k old)) (h : IsBegun (started k mid)) (xs : List (ℕ × ℕ)) (notes : Notes k old mid xs) (lt : p < k.slots) (low : to < k.regions) (at : get_elem? old p ≡ some n) (into : is_into k from p n ≡ true)
     (has : p / k.span ≢ to → In xs (slot_card k p, to)) (gain : (x : ℕ × ℕ) → In xs x → (p / k.span ≢ to) × ((slot_card k p, to) ≡ x)) where
   abbrev word : ℕ
   word = moved_word k to n
@@ -66,7 +66,7 @@ module _ (k : Shape) (old mid : List ℕ) (from to p n : ℕ) (b : IsBegun (new_
   bits_back : (x : ℕ × ℕ) → HasBit k new x → HasBit k mid x
   bits_back x = bit_as k new mid x (λ y. sym (same_bits k mid p word (omega (arith, lt)) y))
 
-  pub begun_moved : IsBegun (new_start k (set mid p (moved_word k to n)))
+  pub begun_moved : IsBegun (started k (set mid p (moved_word k to n)))
   begun_moved = begun_placed k mid p word lt (inl (moved_fits k to n b.shaped low)) (λ cr. inl (subst (λ (r : ℕ). HasBit k mid (slot_card k p, r)) (sym (moved_region k to n b.shaped.2)) (notes.has (slot_card k p, to) (has (λ e. crosses_apart k p word cr (e ∙ sym (moved_region k to n b.shaped.2))))))) h
 
   same : (q : ℕ) → (p < k.slots) → q ≢ p → q < k.slots + k.cards → get_elem? new q ≡ get_elem? old q
@@ -100,7 +100,7 @@ moved_none k words from to first count none = record {
   has = λ p n le lt inside at is ne. absurd (true≢false (sym is ∙ none p n le lt inside at));
 }
 
-pub moved_then : (k : Shape) (old mid new : List ℕ) (from to first a b : ℕ) → (from ≡ to → ⊥) → IsBegun (new_start k old) → AreMoved k old mid from to first a → AreMoved k mid new from to (first + a) b → AreMoved k old new from to first (a + b)
+pub moved_then : (k : Shape) (old mid new : List ℕ) (from to first a b : ℕ) → (from ≡ to → ⊥) → IsBegun (started k old) → AreMoved k old mid from to first a → AreMoved k mid new from to (first + a) b → AreMoved k old new from to first (a + b)
 moved_then k old mid new from to first a b apart begun h g = record {
   moved = λ p n le lt inside at. elim (cases_lt p (first + a)) [
     | inl low ↦ g.outside p inside (inl low) ∙ h.moved p n le low inside at
@@ -164,7 +164,7 @@ is_into_of k region p n cr e = and_from (crosses k p n) (eqb (region_at k n) reg
 
 -- card by card
 
-module _ (k : Shape) (old mid : List ℕ) (from to low high : ℕ) (begun : IsBegun (new_start k old)) (apart : from ≡ to → ⊥) (le : low ≤ high) (within : high ≤ k.cards)
+module _ (k : Shape) (old mid : List ℕ) (from to low high : ℕ) (begun : IsBegun (started k old)) (apart : from ≡ to → ⊥) (le : low ≤ high) (within : high ≤ k.cards)
     (clean : (c : ℕ) → c < k.cards → get_elem? old (mark_word k c) ≡ some 1 → ⊥) (h : AreMoved k old mid from to 0 (low * k.size)) (none : (c : ℕ) → low ≤ c → c < high → is_member k mid from c ≡ false) where
   abbrev a : ℕ
   a = low * k.size
@@ -221,7 +221,7 @@ module _ (k : Shape) (old mid : List ℕ) (from to low high : ℕ) (begun : IsBe
 
 -- after all of them none is left
 
-pub none_into : (k : Shape) (old mid : List ℕ) (from to p : ℕ) → IsBegun (new_start k old) → (from ≡ to → ⊥) → AreMoved k old mid from to 0 k.slots → Into k mid from p → ⊥
+pub none_into : (k : Shape) (old mid : List ℕ) (from to p : ℕ) → IsBegun (started k old) → (from ≡ to → ⊥) → AreMoved k old mid from to 0 k.slots → Into k mid from p → ⊥
 none_into k old mid from to p begun apart h x =
     let lt : p < k.slots = x.1 in
     let was : get_elem? old p ≡ some (get_or old p 0) = read_at old p (let s : length old ≡ word_count k = begun.sized in omega (arith, s, lt)) in

@@ -8,7 +8,7 @@ use Rattle.std.proofs.lemmas.Bool.{cases_lt, true≢false}
 use Rattle.std.proofs.lemmas.Nat.{pow-add}
 use Rattle.std.proofs.lemmas.Nat.Bits.{bit_at_above, bit_at-zero, bit_at-trailing_zeros}
 use Rattle.g1_race_words.specs.declared.view.Shape.{Shape}
-use Rattle.g1_race_words.specs.Rule.{IsBegun, IsWholeShape, bit_place, bit_word, mark_word, new_start}
+use Rattle.g1_race_words.specs.Rule.{IsBegun, IsWholeShape, bit_place, bit_word, mark_word, started}
 use Rattle.g1_race.specs.Telling.{is_marked, is_member}
 use Rattle.g1_race_words.proofs.Places.{reads_as}
 
@@ -29,7 +29,7 @@ cards_fit k shaped =
     omega (arith, le, e, shaped.3)
 
 -- back to its word
-pub marked_word : (k : Shape) (words : List ℕ) (card : ℕ) → IsBegun (new_start k words) → card < k.cards → is_marked k words card ≡ true → get_elem? words (mark_word k card) ≡ some 1
+pub marked_word : (k : Shape) (words : List ℕ) (card : ℕ) → IsBegun (started k words) → card < k.cards → is_marked k words card ≡ true → get_elem? words (mark_word k card) ≡ some 1
 marked_word k words card h lt e = ⊎_elim
     (λ (o : get_elem? words (mark_word k card) ≡ some 1). o)
     (λ (z : get_elem? words (mark_word k card) ≡ some 0). absurd (true≢false (sym e ∙ mark_is_not k words card 0 z (λ n. absurd (omega (arith, n))))))

@@ -23,7 +23,7 @@ use Rattle.g1_core.proofs.RefinedLemmas.{refined_none}
 use Rattle.g1_core.proofs.StoreLemmas.{none_refinable}
 use Rattle.std.specs.Prelude.{IfSome}
 use Rattle.g1_race_words.specs.declared.view.Shape.{Shape}
-use Rattle.g1_race_words.specs.Rule.{IsReference, IsBegun, IsWholeShape, HasBit, slot_card, crosses, mark_word, new_start}
+use Rattle.g1_race_words.specs.Rule.{IsReference, IsBegun, IsWholeShape, HasBit, slot_card, crosses, mark_word, started}
 use Rattle.g1_race.specs.Race.{shape_of}
 use Rattle.g1_race.specs.Over.{ended, refs_of, table_of, target_of_word}
 use Rattle.g1_race.specs.Evacuating.{plain_reply}
@@ -84,7 +84,7 @@ module _ (k : Shape) (l : layout.Shape) (laid : k ≡ shape_of l k.members) (p :
   same_mark : (words : List ℕ) (n c : ℕ) → get_elem? (set words p n) (mark_word k c) ≡ get_elem? words (mark_word k c)
   same_mark words n c = set_else words p (mark_word k c) n (λ e. mark_apart k p c lt e)
 
-  module _ (words : List ℕ) (h : IsBegun (new_start k words)) (h' : IsBegun (new_start k (set words p n))) where
+  module _ (words : List ℕ) (h : IsBegun (started k words)) (h' : IsBegun (started k (set words p n))) where
     abbrev t : Table
     t = table_of (ended l k words)
 
@@ -112,7 +112,7 @@ module _ (k : Shape) (l : layout.Shape) (laid : k ≡ shape_of l k.members) (p :
         plain AlreadyDirty never = refl
 
   -- its card becomes dirty
-  module _ (words : List ℕ) (h : IsBegun (new_start k words)) (h' : IsBegun (new_start k (set (set words (mark_word k (slot_card k p)) 1) p n))) where
+  module _ (words : List ℕ) (h : IsBegun (started k words)) (h' : IsBegun (started k (set (set words (mark_word k (slot_card k p)) 1) p n))) where
     abbrev card : ℕ
     card = slot_card k p
 
@@ -183,12 +183,12 @@ module _ (k : Shape) (l : layout.Shape) (laid : k ≡ shape_of l k.members) (p :
     | inr clean ↦ absurd (quiet (kind_across words cr ∙ ap (λ (b : Bool). cond b AlreadyDirty Logged) clean))
   ]
 
-  pub quiet_store : (t : Table) (words after : List ℕ) → table_of (ended l k words) ≡ t → after ≡ set words p n → IsBegun (new_start k words) → IsBegun (new_start k after) → (kind : Kind) → kind_of (table_of (ended l k words)) p target ≡ kind → (kind ≡ Logged → ⊥) → (kind ≡ kind_of t p target) × (table_of (ended l k after) ≡ stored t p target)
+  pub quiet_store : (t : Table) (words after : List ℕ) → table_of (ended l k words) ≡ t → after ≡ set words p n → IsBegun (started k words) → IsBegun (started k after) → (kind : Kind) → kind_of (table_of (ended l k words)) p target ≡ kind → (kind ≡ Logged → ⊥) → (kind ≡ kind_of t p target) × (table_of (ended l k after) ≡ stored t p target)
   quiet_store t words after was is h h' kind kind_is plain = (
     sym kind_is ∙ ap (λ (x : Table). kind_of x p target) was,
-    ap (λ (ws : List ℕ). table_of (ended l k ws)) is ∙ (kind_table words h (subst (λ (ws : List ℕ). IsBegun (new_start k ws)) is h') kind kind_is plain ∙ ap (λ (x : Table). stored x p target) was),
+    ap (λ (ws : List ℕ). table_of (ended l k ws)) is ∙ (kind_table words h (subst (λ (ws : List ℕ). IsBegun (started k ws)) is h') kind kind_is plain ∙ ap (λ (x : Table). stored x p target) was),
   )
 
-  pub logged_store : (t : Table) (words after : List ℕ) → table_of (ended l k words) ≡ t → after ≡ set (set words (mark_word k (slot_card k p)) 1) p n → IsBegun (new_start k words) → IsBegun (new_start k after) → kind_of (table_of (ended l k words)) p target ≡ Logged → table_of (ended l k after) ≡ stored t p target
+  pub logged_store : (t : Table) (words after : List ℕ) → table_of (ended l k words) ≡ t → after ≡ set (set words (mark_word k (slot_card k p)) 1) p n → IsBegun (started k words) → IsBegun (started k after) → kind_of (table_of (ended l k words)) p target ≡ Logged → table_of (ended l k after) ≡ stored t p target
   logged_store t words after was is h h' kind_is =
-      ap (λ (ws : List ℕ). table_of (ended l k ws)) is ∙ (logged_table words h (subst (λ (ws : List ℕ). IsBegun (new_start k ws)) is h') kind_is ∙ ap (λ (x : Table). stored x p target) was)
+      ap (λ (ws : List ℕ). table_of (ended l k ws)) is ∙ (logged_table words h (subst (λ (ws : List ℕ). IsBegun (started k ws)) is h') kind_is ∙ ap (λ (x : Table). stored x p target) was)

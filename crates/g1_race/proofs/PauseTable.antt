@@ -25,7 +25,7 @@ use Rattle.g1_core.proofs.MarkLemmas.{none_of}
 use Rattle.g1_core.proofs.SetLemmas.{All_by_member, same_cards, same_pairs, in_list as from_cards, in_set as in_cards}
 use Rattle.g1_core.proofs.TableLemmas.{refined_pending, still_recorded, newly_recorded, recorded_cases, held_from_Holds, Holds_from_held}
 use Rattle.g1_race_words.specs.declared.view.Shape.{Shape}
-use Rattle.g1_race_words.specs.Rule.{BeganInto, IsBegun, IsPair, HasBit, IsWholeShape, mark_word, front, new_start}
+use Rattle.g1_race_words.specs.Rule.{BeganInto, IsBegun, IsPair, HasBit, IsWholeShape, mark_word, front, started}
 use Rattle.g1_race.specs.Race.{shape_of}
 use Rattle.g1_race.specs.Over.{ended, target_of_word, refs_of, marks_of, table_of}
 use Rattle.g1_race.specs.Refining.{AreRefined, MembersAreExact}
@@ -115,7 +115,7 @@ module _ (k : Shape) (l : layout.Shape) (laid : k ≡ shape_of l k.members) wher
       began_holds (ended l k words) k.members c r (subst IsWholeShape laid shaped) (subst (λ (s : Shape). BeganInto s (front k words) (c, r)) laid (b.0, b.1, at, b.3, b.4))
 
   -- the table that words make, by what it has
-  pub table_is : (new : List ℕ) (t : Table) → IsBegun (new_start k new) → t.layout ≡ l → refs_of (ended l k new) ≡ t.refs → ((c : ℕ) → IsPending (table_of (ended l k new)) c → IsPending t c) → ((c : ℕ) → IsPending t c → IsPending (table_of (ended l k new)) c)
+  pub table_is : (new : List ℕ) (t : Table) → IsBegun (started k new) → t.layout ≡ l → refs_of (ended l k new) ≡ t.refs → ((c : ℕ) → IsPending (table_of (ended l k new)) c → IsPending t c) → ((c : ℕ) → IsPending t c → IsPending (table_of (ended l k new)) c)
       → ((x : ℕ × ℕ) → IsPair k x → HasBit k new x → IsRecorded t x.0 x.1) → ((x : ℕ × ℕ) → IsRecorded t x.0 x.1 → IsPair k x × HasBit k new x) → table_of (ended l k new) ≡ t
   table_is new t h same refs on back put get = λ i. record {
     layout = sym same i;
@@ -129,18 +129,18 @@ module _ (k : Shape) (l : layout.Shape) (laid : k ≡ shape_of l k.members) wher
   pub pending_listed : (words : List ℕ) (c : ℕ) → IsPending (table_of (ended l k words)) c → Contains (marked_cards k words) c
   pending_listed words c p = let w = pending_word words c p in is_listed (is_marked k words) k.cards c w.0 (mark_is k words c 1 w.1 refl)
 
-  pub listed_pending : (words : List ℕ) (c : ℕ) → IsBegun (new_start k words) → Contains (marked_cards k words) c → IsPending (table_of (ended l k words)) c
+  pub listed_pending : (words : List ℕ) (c : ℕ) → IsBegun (started k words) → Contains (marked_cards k words) c → IsPending (table_of (ended l k words)) c
   listed_pending words c h in_list =
       let lt : c < k.cards = listed_below (is_marked k words) k.cards c in_list in
       word_pending words c lt (marked_word k words c h lt (listed_is (is_marked k words) k.cards c in_list))
 
-  pub pending_is : (words : List ℕ) → IsBegun (new_start k words) → (table_of (ended l k words)).pending ≡ set_of (marked_cards k words)
+  pub pending_is : (words : List ℕ) → IsBegun (started k words) → (table_of (ended l k words)).pending ≡ set_of (marked_cards k words)
   pending_is words h = same_cards _ _ (λ c p. in_cards (marked_cards k words) c (pending_listed words c p)) (λ c p. listed_pending words c h (from_cards (marked_cards k words) c p))
 
-  pub pending_len : (words : List ℕ) → IsBegun (new_start k words) → length (marked_cards k words) ≡ fin.len (table_of (ended l k words)).pending
+  pub pending_len : (words : List ℕ) → IsBegun (started k words) → length (marked_cards k words) ≡ fin.len (table_of (ended l k words)).pending
   pending_len words h = sym (ap fin.len (pending_is words h) ∙ set_len (is_marked k words) k.cards)
 
-  pub none_pending : (words : List ℕ) → IsBegun (new_start k words) → length (marked_cards k words) ≡ 0 → (table_of (ended l k words)).pending ≡ fin.empty
+  pub none_pending : (words : List ℕ) → IsBegun (started k words) → length (marked_cards k words) ≡ 0 → (table_of (ended l k words)).pending ≡ fin.empty
   none_pending words h e = none_of _ (sym (pending_len words h) ∙ e)
 
   pub none_marked : (words : List ℕ) → length (marked_cards k words) ≡ 0 → (c : ℕ) → c < k.cards → get_elem? words (mark_word k c) ≡ some 1 → ⊥
@@ -148,14 +148,14 @@ module _ (k : Shape) (l : layout.Shape) (laid : k ≡ shape_of l k.members) wher
 
   -- the members are the cards whose bit is set
 
-  pub members_are : (words : List ℕ) (region r : ℕ) → IsBegun (new_start k words) → r ≡ region → r < k.regions → AreMembers (table_of (ended l k words)) region (member_cards k words r)
+  pub members_are : (words : List ℕ) (region r : ℕ) → IsBegun (started k words) → r ≡ region → r < k.regions → AreMembers (table_of (ended l k words)) region (member_cards k words r)
   members_are words region r h e low = subst (λ (q : ℕ). AreMembers (table_of (ended l k words)) q (member_cards k words r)) e (record {
     ascending = (gathered (is_member k words r) k.cards).ascending;
     recorded = λ c i. set_recorded k l words laid h (c, r) (listed_below (is_member k words r) k.cards c i, low) (eqb-true _ 1 (listed_is (is_member k words r) k.cards c i));
     all = λ c x. let o = recorded_set k l words laid h (c, r) x in is_listed (is_member k words r) k.cards c o.0.0 (eq-eqb _ 1 o.1);
   })
 
-  module _ (old new : List ℕ) (b : IsBegun (new_start k old)) (h : IsBegun (new_start k new)) (r : AreRefined k old new k.cards) where
+  module _ (old new : List ℕ) (b : IsBegun (started k old)) (h : IsBegun (started k new)) (r : AreRefined k old new k.cards) where
     -- no more cards are members than were members or dirty
     pub members_room : (region : ℕ) → region < k.regions → length (member_cards k new region) ≤ length (member_cards k old region) + length (marked_cards k old)
     members_room region low = at_most_both (is_member k new region) (is_member k old region) (is_marked k old) k.cards (λ c lt e. ⊎_elim

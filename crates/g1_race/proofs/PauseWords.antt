@@ -8,9 +8,9 @@ use Rattle.std.specs.Int.{bit_at}
 use Rattle.std.proofs.lemmas.Nat.{div-mul-add}
 use Rattle.atomic_table.proofs.Lists.{set_else, set_here}
 use Rattle.g1_race_words.specs.declared.view.Shape.{Shape}
-use Rattle.g1_race_words.specs.Rule.{In, IsBegun, IsMarked, IsOfCrossing, HasBit, BeganInto, bit_word, bit_place, flag, mark_word, word_count, slot_card, region_at, crosses, new_start}
+use Rattle.g1_race_words.specs.Rule.{In, IsBegun, IsMarked, IsOfCrossing, HasBit, BeganInto, bit_word, bit_place, flag, mark_word, word_count, slot_card, region_at, crosses, started}
 use Rattle.g1_race_words.specs.Steps.{pair_at}
-use Rattle.g1_race.specs.Refining.{Notes, IsCardRefined, AreRefined, card_pairs}
+use Rattle.g1_race.specs.Refining.{Notes, RefinesCard, AreRefined, card_pairs}
 use Rattle.g1_race_words.proofs.Plain.{in_left, in_right, in_either, read_at, true_is}
 use Rattle.g1_race_words.proofs.Places.{reads_as}
 use Rattle.g1_race_words.proofs.Crossing.{word_low}
@@ -22,11 +22,11 @@ use Rattle.g1_race_words.proofs.Unchanged.{bounded_same, same_slots_at_mark}
 
 -- one bit is set, of a pair or a card's flag
 
-module _ (k : Shape) (words : List ℕ) (x : ℕ × ℕ) (h : IsBegun (new_start k words)) (card : x.0 < k.cards) (row : x.1 ≤ k.regions) where
+module _ (k : Shape) (words : List ℕ) (x : ℕ × ℕ) (h : IsBegun (started k words)) (card : x.0 < k.cards) (row : x.1 ≤ k.regions) where
   short : bit_word k x < length words
   short = subst (λ (n : ℕ). bit_word k x < n) (sym h.sized) (bit_below k x h.shaped card row)
 
-  pub begun_bit : (x.1 < k.regions → IsOfCrossing k x) → IsBegun (new_start k (with_pair k words x))
+  pub begun_bit : (x.1 < k.regions → IsOfCrossing k x) → IsBegun (started k (with_pair k words x))
   begun_bit of = record {
     shaped = h.shaped;
     sized = length-set words (bit_word k x) _ ∙ h.sized;
@@ -101,7 +101,7 @@ one_pair true y x (inr n) = absurd n
 one_pair false y x i = absurd i
 
 -- each is of a reference that is there
-found_there : (k : Shape) (words : List ℕ) (c : ℕ) → IsBegun (new_start k words) → c < k.cards → (i : ℕ) → i ≤ k.size → (x : ℕ × ℕ) → In (card_pairs k words c i) x → (x.0 ≡ c) × BeganInto k words x
+found_there : (k : Shape) (words : List ℕ) (c : ℕ) → IsBegun (started k words) → c < k.cards → (i : ℕ) → i ≤ k.size → (x : ℕ × ℕ) → In (card_pairs k words c i) x → (x.0 ≡ c) × BeganInto k words x
 found_there k words c h lt zero le x n = absurd n
 found_there k words c h lt (suc i) le x there = ⊎_elim
     (λ (a : In (card_pairs k words c i) x). found_there k words c h lt i (omega (arith, le)) x a)
@@ -117,7 +117,7 @@ found_there k words c h lt (suc i) le x there = ⊎_elim
 
 -- a card that is cleaned, once the bits of its pairs are set
 
-module _ (k : Shape) (old mid : List ℕ) (c : ℕ) (was : IsBegun (new_start k old)) (h : IsBegun (new_start k mid)) (lt : c < k.cards) (notes : Notes k old mid (card_pairs k old c k.size)) where
+module _ (k : Shape) (old mid : List ℕ) (c : ℕ) (was : IsBegun (started k old)) (h : IsBegun (started k mid)) (lt : c < k.cards) (notes : Notes k old mid (card_pairs k old c k.size)) where
   abbrev clean : List ℕ
   clean = set mid (mark_word k c) 0
 
@@ -130,7 +130,7 @@ module _ (k : Shape) (old mid : List ℕ) (c : ℕ) (was : IsBegun (new_start k 
   other : (d : ℕ) → d ≢ c → get_elem? clean (mark_word k d) ≡ get_elem? mid (mark_word k d)
   other d ne = set_else mid (mark_word k c) (mark_word k d) 0 (λ e. ne (omega (arith, e)))
 
-  pub begun_cleaned : IsBegun (new_start k clean)
+  pub begun_cleaned : IsBegun (started k clean)
   begun_cleaned = record {
     shaped = h.shaped;
     sized = length-set mid (mark_word k c) 0 ∙ h.sized;
@@ -156,7 +156,7 @@ module _ (k : Shape) (old mid : List ℕ) (c : ℕ) (was : IsBegun (new_start k 
       choose p n below there cr m (yes e) = inl (bit_as k mid clean _ bits (notes.has _ (subst (λ (d : ℕ). In (card_pairs k old d k.size) (slot_card k p, region_at k n)) e (on_card k old p n was.shaped.1 (sym (notes.front p (omega (arith, below))) ∙ there) cr))))
       choose p n below there cr m (no ne) = inr (other (slot_card k p) ne ∙ m)
 
-  pub refined_is : IsCardRefined k old clean c
+  pub refined_is : RefinesCard k old clean c
   refined_is = record {
     slots = λ p below. set_else mid (mark_word k c) p 0 (λ e. absurd (omega (arith, e, below))) ∙ notes.front p (omega (arith, below));
     clean = set_here mid (mark_word k c) 0 there_is;
@@ -174,7 +174,7 @@ began_back : (k : Shape) (old mid : List ℕ) (x : ℕ × ℕ) → ((p : ℕ) �
 began_back k old mid x same b = (b.0, b.1, sym (same b.0 b.3.0) ∙ b.2, b.3, b.4)
 
 -- the cards from one on to the next dirty one are clean
-pub refined_past : (k : Shape) (old mid : List ℕ) (n m : ℕ) → IsBegun (new_start k mid) → n ≤ m → ((c : ℕ) → n ≤ c → c < m → c < k.cards → get_elem? mid (mark_word k c) ≡ some 1 → ⊥) → AreRefined k old mid n → AreRefined k old mid m
+pub refined_past : (k : Shape) (old mid : List ℕ) (n m : ℕ) → IsBegun (started k mid) → n ≤ m → ((c : ℕ) → n ≤ c → c < m → c < k.cards → get_elem? mid (mark_word k c) ≡ some 1 → ⊥) → AreRefined k old mid n → AreRefined k old mid m
 refined_past k old mid n m b le never h = record { slots = h.slots; clean = λ c up below. pick c up below (cases_lt c n); marks = λ c up below. h.marks c (omega (arith, up, le)) below; kept = h.kept; only = h.only }
   where
     pick : (c : ℕ) → c < m → c < k.cards → (c < n) ⊎ (n ≤ c) → get_elem? mid (mark_word k c) ≡ some 0
@@ -182,7 +182,7 @@ refined_past k old mid n m b le never h = record { slots = h.slots; clean = λ c
     pick c up below (inr high) = ⊎_elim (λ (o : get_elem? mid (mark_word k c) ≡ some 1). absurd (never c high up below o)) (λ (z : get_elem? mid (mark_word k c) ≡ some 0). z) (b.marks c below)
 
 -- a dirty card
-pub refined_next : (k : Shape) (old mid new : List ℕ) (n : ℕ) → n < k.cards → get_elem? mid (mark_word k n) ≡ some 1 → AreRefined k old mid n → IsCardRefined k mid new n → AreRefined k old new (n + 1)
+pub refined_next : (k : Shape) (old mid new : List ℕ) (n : ℕ) → n < k.cards → get_elem? mid (mark_word k n) ≡ some 1 → AreRefined k old mid n → RefinesCard k mid new n → AreRefined k old new (n + 1)
 refined_next k old mid new n there dirty h g = record {
   slots = λ p lt. g.slots p lt ∙ h.slots p lt;
   clean = λ c lt below. pick c lt below (ℕ_discrete c n);

@@ -17,7 +17,7 @@ use Rattle.g1_core.specs.Adoption.{marks_for, IsPairOf}
 use Rattle.g1_core.proofs.SetLemmas.{same_cards, same_pairs, in_pairs, to_pairs}
 use Rattle.g1_core.proofs.AdoptionLemmas.{pending_flag}
 use Rattle.g1_race_words.specs.declared.view.Shape.{Shape}
-use Rattle.g1_race_words.specs.Rule.{IsWord, In, IsWholeShape, IsBegun, IsMarked, IsPair, IsOfCrossing, HasBit, slot_card, crosses, flag, mark_word, region_at, new_start, as_number, word_count}
+use Rattle.g1_race_words.specs.Rule.{IsWord, In, IsWholeShape, IsBegun, IsMarked, IsPair, IsOfCrossing, HasBit, slot_card, crosses, flag, mark_word, region_at, started, as_number, word_count}
 use Rattle.g1_race.specs.Race.{shape_of, word_of}
 use Rattle.g1_race.specs.Over.{Ended, ended, target_of_word, refs_of, marks_of, table_of}
 use Rattle.g1_race.specs.Refining.{Notes}
@@ -113,7 +113,7 @@ pub placed_less : (k : Shape) (t : Table) (old new : List ℕ) (n m : ℕ) → n
 placed_less k t old new n m e h = subst (λ (i : ℕ). ArePlaced k t old new i) e h
 
 -- what a race can begin with stays so where a slot is written whose card is marked or whose pair is recorded
-pub begun_written : (k : Shape) (words : List ℕ) (p n : ℕ) → p < k.slots → IsWord k n → (crosses k p n ≡ true → HasBit k words (slot_card k p, region_at k n) ⊎ IsMarked k words p) → IsBegun (new_start k words) → IsBegun (new_start k (set words p n))
+pub begun_written : (k : Shape) (words : List ℕ) (p n : ℕ) → p < k.slots → IsWord k n → (crosses k p n ≡ true → HasBit k words (slot_card k p, region_at k n) ⊎ IsMarked k words p) → IsBegun (started k words) → IsBegun (started k (set words p n))
 begun_written k words p n lt fits covers h = record {
   shaped = h.shaped;
   sized = length-set words p n ∙ h.sized;

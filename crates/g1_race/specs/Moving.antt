@@ -12,7 +12,7 @@ use Rattle.g1_core.specs.declared.entry.Reply.TheVariants as reply
 use Rattle.g1_race_words.specs.declared.view.Shape.{Shape}
 use Rattle.g1_race_words.specs.Rule.{IsBegun, IsPair, HasBit, slot_card, crosses, mark_word}
 use Rattle.g1_race_words.specs.Rule.{as_number}
-use Rattle.g1_race_words.specs.Rule.{region_at, new_start}
+use Rattle.g1_race_words.specs.Rule.{region_at, started}
 use Rattle.g1_race.specs.Clearing.{IsEmptied}
 
 -- the slot, with this word, lies outside the region and refers into it
@@ -63,7 +63,7 @@ HasMoved (Short refined) = ⊥
 -- all references into the region are moved to the other, and its pairs are forgotten
 pub record AreMovedAway (heap : Shape) (old new : List ℕ) (from to : ℕ) : Type 0 where
   pub between : List ℕ
-  pub begun : IsBegun (new_start heap between)
+  pub begun : IsBegun (started heap between)
   pub moved : AreMoved heap old between from to 0 heap.slots
   pub emptied : IsEmptied heap between new from heap.row
 

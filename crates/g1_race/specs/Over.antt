@@ -11,7 +11,7 @@ use Rattle.g1_core.specs.Machine.{Machine}
 use Rattle.g1_core.specs.Adoption.{table_with, adopted_machine}
 use Rattle.g1_race_words.specs.declared.view.Shape.{Shape}
 use Rattle.g1_race_words.specs.Begin.{Start}
-use Rattle.g1_race_words.specs.Rule.{IsBegun, front, pairs_up_to, new_start}
+use Rattle.g1_race_words.specs.Rule.{IsBegun, front, pairs_up_to, started}
 use Rattle.g1_race.specs.Race.{shape_of}
 
 -- the words of the slots and of the marks, and the recorded pairs
@@ -50,7 +50,7 @@ ended layout heap words =
 -- what the words of a closed race keep
 pub record IsEnded (heap : Shape) (layout : layout.Shape) (words : List ℕ) : Type 0 where
   pub laid : heap ≡ shape_of layout heap.members
-  pub begun : IsBegun (new_start heap words)
+  pub begun : IsBegun (started heap words)
 
 -- a race at a pause: its layout, also in plain numbers, the words of its table, where they lie and
 -- whose they are, the racers' logs, and how many sweepers there are
@@ -68,7 +68,7 @@ ended_of halt = ended halt.layout halt.shape halt.words
 
 -- what a race that goes on from it begins with
 abbrev pub start_at : Halt → Start
-start_at halt = new_start halt.shape halt.words
+start_at halt = started halt.shape halt.words
 
 -- its table
 abbrev pub halted : Halt → Table

@@ -6,7 +6,7 @@ use lib.ListN.{get_elem?}
 use Rattle.g1_core.specs.Table.{Table, Holds, IsPending, IsCovered, AreMembers}
 use Rattle.g1_race_words.specs.declared.view.Shape.{Shape}
 use Rattle.g1_race_words.specs.Rule.{In, IsBegun, IsPair, HasBit, BeganInto, flag, mark_word}
-use Rattle.g1_race_words.specs.Rule.{new_start}
+use Rattle.g1_race_words.specs.Rule.{started}
 use Rattle.g1_race_words.specs.Steps.{pair_at}
 
 -- the pairs of the card's first slots, as many as this
@@ -27,11 +27,11 @@ pub record Notes (heap : Shape) (old new : List ℕ) (pairs : List (ℕ × ℕ))
 pub record IsDirtied (heap : Shape) (old new : List ℕ) (card : ℕ) : Type 0 where
   pub mid : List ℕ
   pub flagged : Notes heap old mid (flag heap card ∷ [])
-  pub begun : IsBegun (new_start heap mid)
+  pub begun : IsBegun (started heap mid)
   pub marked : new ≡ slice_set mid (mark_word heap card) 1
 
 -- the card is clean, and the pairs of its references are recorded
-pub record IsCardRefined (heap : Shape) (old new : List ℕ) (card : ℕ) : Type 0 where
+pub record RefinesCard (heap : Shape) (old new : List ℕ) (card : ℕ) : Type 0 where
   pub slots : (p : ℕ) → p < heap.slots → get_elem? new p ≡ get_elem? old p
   pub clean : get_elem? new (mark_word heap card) ≡ some 0
   pub marks : (d : ℕ) → d < heap.cards → d ≢ card

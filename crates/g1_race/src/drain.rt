@@ -8,7 +8,7 @@ ghost use Rattle.g1_race_words.specs.Rule.{IsOfCrossing, IsWord};
 ghost use Rattle.g1_race_words.specs.Steps.{pair_at};
 ghost use Rattle.g1_race.specs.Members.{racer_log};
 ghost use Rattle.g1_race.specs.Over.{halted};
-ghost use Rattle.g1_race.specs.Refining.{Notes, IsCardRefined, AreRefined};
+ghost use Rattle.g1_race.specs.Refining.{Notes, RefinesCard, AreRefined};
 ghost use Rattle.g1_race.specs.Evacuating.{SlotsBecome, same_word, IsRefinedRace, AreAllRefined};
 ghost use Rattle.g1_race.specs.Evacuating.{IsDrainedInto, IsWhole, IsExactAtPause};
 ghost use Rattle.g1_race_words.specs.Seats.{IsPaused};
@@ -124,7 +124,8 @@ fn refine_card(race: &Race, seat: &mut Place, card: usize)
     requires seat { IsPaused race.now.table.table_id race.now.shape seat.old }
     requires card { card < race.now.shape.cards }
     ensures seat { IsPaused race.now.table.table_id race.now.shape seat.new }
-    ensures refined { IsCardRefined race.now.shape seat.old.me.0.began_words seat.new.me.0.began_words card }
+    ensures refined { RefinesCard race.now.shape seat.old.me.0.began_words
+        seat.new.me.0.began_words card }
 {
     let shape = race.shape;
     for i in 0..shape.size {

@@ -32,7 +32,7 @@ impl Racer {
         ensures view { racer_view self.new ≡ stored_view (race_shape race.now) (racer_view self.old)
             slot (word_of target) (is_logged result.0) }
         ensures log { self.new.log.items ≡ (if is_logged result.0
-            then self.old.log.items ++ card_of (race_shape race.now) slot ∷ []
+            then self.old.log.items ++ slot_card (race_shape race.now) slot ∷ []
             else self.old.log.items) }
         ensures old { HasReferred (racer_view self.old) slot result.1 }
         ensures within { IfSome result.1 (λ place. place < slot_count (race_layout race.now)) }

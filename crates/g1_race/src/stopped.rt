@@ -7,7 +7,7 @@ ghost use Rattle.g1_layout.specs.Shape.{slot_count, card_count};
 ghost use Rattle.g1_core.specs.Table.{target_of};
 ghost use Rattle.g1_core.specs.Run.{IsStep, kind_of, stored};
 ghost use Rattle.g1_core.specs.Calls.{target_entry, pending_entry, store_entry};
-ghost use Rattle.g1_race_words.specs.Rule.{IsBegun, new_start, crosses, word_count};
+ghost use Rattle.g1_race_words.specs.Rule.{IsBegun, started, crosses, word_count};
 ghost use Rattle.g1_race.specs.Race.{shape_of, word_of};
 ghost use Rattle.g1_race.specs.Over.{halted};
 ghost use Rattle.g1_race.specs.Reading.{table_known};
@@ -147,7 +147,8 @@ pub(crate) fn see(race: &Race, seat: &mut Place, word: usize) -> u64
 pub(crate) fn put(race: &Race, seat: &mut Place, word: usize, new: u64)
     requires seat { IsPaused race.now.table.table_id race.now.shape seat.old }
     requires word { word < word_count race.now.shape }
-    requires begun { IsBegun (new_start race.now.shape (slice_set seat.old.me.0.began_words word new)) }
+    requires begun { IsBegun (started race.now.shape
+        (slice_set seat.old.me.0.began_words word new)) }
     ensures seat { IsPaused race.now.table.table_id race.now.shape seat.new }
     ensures words { seat.new.me.0.began_words ≡ slice_set seat.old.me.0.began_words word new }
 {

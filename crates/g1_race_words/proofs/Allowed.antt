@@ -7,7 +7,7 @@ use Rattle.atomic_table.specs.Table.{State, Me, keeps, Allows, Splits, Joins, En
 use Rattle.g1_race_words.specs.declared.view.Shape.{Shape}
 use Rattle.g1_race_words.specs.declared.view.View.{View}
 use Rattle.g1_race_words.specs.Begin.{Start}
-use Rattle.g1_race_words.specs.Rule.{IsWord, StoreHistory, Raced, beginning, mark_word, bit_word, bit_place, In, IsWholeShape, IsPair, AtRest, IsBlank, IsBegun, Going, new_start}
+use Rattle.g1_race_words.specs.Rule.{IsWord, StoreHistory, Raced, beginning, mark_word, bit_word, bit_place, In, IsWholeShape, IsPair, AtRest, IsBlank, IsBegun, Going, started}
 use Rattle.g1_race_words.specs.Steps.{iced, thawed, put, blank, wrote, exchanged, looked, owed_card, dirtied, cleaned, read, sought, recorded, lighter, new_racer, new_sweeper, both, nothing}
 use Rattle.g1_race_words.proofs.PairBits.{with_pair}
 use Rattle.g1_race_words.proofs.Plain.{set_read, set_there, read_at}
@@ -31,7 +31,7 @@ pub record Knows (k : Shape) (v : View) : Type 0 where
   pub blank : IsBlank v
   pub shape : v.shape ≡ k
   pub frozen : v.frozen ≡ true
-  pub begun : IsBegun (new_start k v.began_words)
+  pub begun : IsBegun (started k v.began_words)
 
 module _ {S : Type 0} where
   abbrev Rule : Shape → State S View → Type 0
@@ -162,18 +162,18 @@ module _ {S : Type 0} where
         keeps,
         tt,
         subst (λ (ws : List ℕ). Going k ws (set s.views id (thawed me.0))) (sym (set_read s.words p ∙ words))
-            (going_anew k s.words s.views id me.0 c.all c.pos h at me.0.began_words (thawed me.0) c.begun c.blank c.all c.spare (ap (λ (x : Shape). new_start x me.0.began_words) c.shape)),
+            (going_anew k s.words s.views id me.0 c.all c.pos h at me.0.began_words (thawed me.0) c.begun c.blank c.all c.spare (ap (λ (x : Shape). started x me.0.began_words) c.shape)),
         refl,
       )
 
-  pub allows_set : (k : Shape) (slots id p n : ℕ) (me : Me S View) → Knows k me.0 → IsBegun (new_start k (set me.0.began_words p n)) → Allows (Rule k) slots id me p (λ _. n) (λ _ after. after ≡ (put me.0 p n, me.1))
+  pub allows_set : (k : Shape) (slots id p n : ℕ) (me : Me S View) → Knows k me.0 → IsBegun (started k (set me.0.began_words p n)) → Allows (Rule k) slots id me p (λ _. n) (λ _ after. after ≡ (put me.0 p n, me.1))
   allows_set k slots id p n me c b s h len at fits =
       let words = known_words k s.words s.views id me.0 c.all c.pos h at c.frozen in (
         put me.0 p n,
         keeps,
         tt,
         subst (λ (ws : List ℕ). Going k (set ws p n) (set s.views id (put me.0 p n))) (sym words)
-            (going_anew k s.words s.views id me.0 c.all c.pos h at (set me.0.began_words p n) (put me.0 p n) b c.blank c.all c.spare (ap (λ (x : Shape). new_start x (set me.0.began_words p n)) c.shape)),
+            (going_anew k s.words s.views id me.0 c.all c.pos h at (set me.0.began_words p n) (put me.0 p n) b c.blank c.all c.spare (ap (λ (x : Shape). started x (set me.0.began_words p n)) c.shape)),
         refl,
       )
 
@@ -183,18 +183,18 @@ pub allows_freeze : (k : Shape) (slots id p : ℕ) (me : Me (Unit {0}) View) →
 allows_freeze k slots id p me shaped all pos rest s h len at fits =
     let shape = shape_mine k s.words s.views id me.0 all pos h at in
     let here = begun_here k s.words s.views id me.0 all pos h at shaped rest in
-    let w = iced (new_start me.0.shape s.words) me.0.weight in (
+    let w = iced (started me.0.shape s.words) me.0.weight in (
       w,
       keeps,
       tt,
       subst (λ (ws : List ℕ). Going k ws (set s.views id w)) (sym (set_read s.words p))
-          (going_anew k s.words s.views id me.0 all pos h at s.words w here ((refl, refl, refl, refl), refl, refl, refl, refl) all all (ap (λ (x : Shape). new_start x s.words) shape)),
+          (going_anew k s.words s.views id me.0 all pos h at s.words w here ((refl, refl, refl, refl), refl, refl, refl, refl) all all (ap (λ (x : Shape). started x s.words) shape)),
       record {
         words = s.words;
         views = s.views;
         id = id;
         view = refl;
-        begun = subst (λ (x : Shape). IsBegun (new_start x s.words)) (sym shape) here;
+        begun = subst (λ (x : Shape). IsBegun (started x s.words)) (sym shape) here;
         raced = raced_mine k s.words s.views id me.0 all pos h at;
         mine = at;
         still = known_words k s.words s.views id me.0 all pos h at;

@@ -6,7 +6,7 @@ use mathlib.Core.Option.{some, some-ne-none, some-injective}
 use lib.ListN.{get_elem?}
 use Rattle.g1_race_words.specs.declared.view.Shape.{Shape}
 use Rattle.g1_race_words.specs.declared.view.View.{View}
-use Rattle.g1_race_words.specs.Rule.{MadeDirty, IsBegun, IsWholeShape, HasBit, bit_word, bit_place, slot_card, mark_word, region_at, In, Held, claims_of, pairs_found, IsMarked, IsBlank, Raced, Going, front, pairs_up_to, null_of, new_start, beginning, start_of, word_count}
+use Rattle.g1_race_words.specs.Rule.{MadeDirty, IsBegun, IsWholeShape, HasBit, bit_word, bit_place, slot_card, mark_word, region_at, In, Held, claims_of, pairs_found, IsMarked, IsBlank, Raced, Going, front, pairs_up_to, null_of, started, beginning, start_of, word_count}
 use Rattle.g1_race_words.specs.Steps.{iced}
 use Rattle.g1_race_words.proofs.PairBits.{crossing_pair}
 use Rattle.g1_race_words.proofs.Places.{at_take, at_untake}
@@ -41,8 +41,8 @@ never_both l i z o = absurd (let e : 0 ≡ 1 = some-injective 0 1 (sym z ∙ o) 
 pub same_word : (words : List ℕ) (count i m n : ℕ) → get_elem? (take count words) i ≡ some m → get_elem? words i ≡ some n → m ≡ n
 same_word words count i m n was is = some-injective m n (sym (at_untake words count i m was).1 ∙ is)
 
-pub raced_beginning : (k : Shape) (words : List ℕ) → IsBegun (new_start k words) → Raced (beginning (new_start k words)) words (iced (new_start k words) k.members ∷ [])
-raced_beginning k words h = let v = iced (new_start k words) k.members in record {
+pub raced_beginning : (k : Shape) (words : List ℕ) → IsBegun (started k words) → Raced (beginning (started k words)) words (iced (started k words) k.members ∷ [])
+raced_beginning k words h = let v = iced (started k words) k.members in record {
   sized = h.sized;
   bounded = h.bounded;
   covered = λ p n lt at cr. ⊎_elim (λ (i : HasBit k words (slot_card k p, region_at k n)). inl (set_in k words _ (crossing_pair k p n h.shaped lt (h.bounded p n lt at) cr) i)) (λ (m : IsMarked k words p). inr (inl m)) (h.covered p n lt at cr);

@@ -6,7 +6,7 @@ use Rattle.atomic_table.specs.Seated.{TableId}
 use Rattle.atomic_table.specs.declared.shared.Seat.{Seat}
 use Rattle.g1_race_words.specs.declared.view.Shape.{Shape}
 use Rattle.g1_race_words.specs.declared.view.View.{View}
-use Rattle.g1_race_words.specs.Rule.{AtRest, Going, StoreHistory, IsBegun, IsBlank, IsWholeShape, IsWord, bit_place, flag, new_start, word_count}
+use Rattle.g1_race_words.specs.Rule.{AtRest, Going, StoreHistory, IsBegun, IsBlank, IsWholeShape, IsWord, bit_place, flag, started, word_count}
 use Rattle.g1_race_words.specs.Steps.{both, chair, cleaned, dirtied, exchanged, iced, lighter, looked, new_racer, new_sweeper, nothing, owed_card, put, raised, read, recorded, sought, spotted, thawed, wrote}
 use Rattle.g1_race_words.specs.Seats.{Freezes, HoldsBit, IsChair, IsFound, IsMark, IsPaused, OwesFlag, OwesMark, Sits, Words}
 use Rattle.g1_race_words.proofs.PairBits.{word_below}
@@ -102,7 +102,7 @@ module _ (z : TableId) (k : Shape) (fits : z.words ≡ word_count k) (shaped : I
 
     module _ (paused : IsPaused z k s) where
       pub knows : Knows k s.me.0
-      knows = let view : s.me.0 ≡ iced (new_start k s.me.0.began_words) k.members = ap (λ (m : Me (Unit {0}) View). m.0) paused.view in record {
+      knows = let view : s.me.0 ≡ iced (started k s.me.0.began_words) k.members = ap (λ (m : Me (Unit {0}) View). m.0) paused.view in record {
         all = ap (λ (v : View). v.weight) view;
         pos = pos;
         spare = ap (λ (v : View). v.spare) view;
@@ -115,5 +115,5 @@ module _ (z : TableId) (k : Shape) (fits : z.words ≡ word_count k) (shaped : I
       pub thaw_owed : Owed 0 (λ n. n) (λ n after. after ≡ (thawed s.me.0, s.me.1))
       thaw_owed = (table, some_word, allows_thaw k z.slots s.id 0 s.me knows)
 
-      pub put_owed : (p n : ℕ) → p < word_count k → IsBegun (new_start k (set s.me.0.began_words p n)) → Owed p (λ _. n) (λ _ after. after ≡ (put s.me.0 p n, s.me.1))
+      pub put_owed : (p n : ℕ) → p < word_count k → IsBegun (started k (set s.me.0.began_words p n)) → Owed p (λ _. n) (λ _ after. after ≡ (put s.me.0 p n, s.me.1))
       put_owed p n lt begun = (table, omega (arith, fits, lt), allows_set k z.slots s.id p n s.me knows begun)

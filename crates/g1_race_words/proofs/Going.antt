@@ -7,7 +7,7 @@ use Rattle.atomic_table.proofs.Lists.{at_set, at_snoc, set_else}
 use Rattle.g1_race_words.specs.declared.view.Shape.{Shape}
 use Rattle.g1_race_words.specs.declared.view.View.{View}
 use Rattle.g1_race_words.specs.Begin.{Start, Begun}
-use Rattle.g1_race_words.specs.Rule.{In, Held, histories_of, claims_of, cleanings_of, pairs_found, held_of, flagged_of, slot_card, region_at, mark_word, AnswersFor, IsMarked, IsWholeShape, HasBit, IsNoted, StoredInto, BeganInto, Someone, AtRest, IsBlank, MadeDirty, times, claims_at, cleanings_at, total, as_number, tally, numbers, front, pairs_up_to, Raced, IsBegun, Going, new_start, beginning, start_of}
+use Rattle.g1_race_words.specs.Rule.{In, Held, histories_of, claims_of, cleanings_of, pairs_found, held_of, flagged_of, slot_card, region_at, mark_word, AnswersFor, IsMarked, IsWholeShape, HasBit, IsNoted, StoredInto, BeganInto, Someone, AtRest, IsBlank, MadeDirty, times, claims_at, cleanings_at, total, as_number, tally, numbers, front, pairs_up_to, Raced, IsBegun, Going, started, beginning, start_of}
 use Rattle.g1_race_words.specs.Steps.{lighter, both, nothing}
 use Rattle.g1_race_words.proofs.Plain.{one_there, weigh_set, weigh_all}
 use Rattle.g1_race_words.proofs.PairBits.{crossing_pair}
@@ -33,7 +33,7 @@ Agrees begin frozen v = 0 < v.weight → (start_of v ≡ begin) × (v.frozen ≡
 
 module _ (k : Shape) (words : List ℕ) (views : List View) (h : Going k words views) where
   abbrev pub begin : Start
-  begin = new_start k h.first
+  begin = started k h.first
 
   abbrev pub begun : Begun
   begun = beginning begin
@@ -119,7 +119,7 @@ total_alone f (u ∷ us) (suc id) v w at none = let a = none 0 u refl (λ e. abs
 -- a seat with all the weight
 
 module _ (k : Shape) (words : List ℕ) (views : List View) (id : ℕ) (v : View) (all : v.weight ≡ k.members) (pos : 0 < k.members) (h : Going k words views) (at : get_elem? views id ≡ some v) where
-  pub mine : (start_of v ≡ new_start k h.first) × (v.frozen ≡ h.frozen)
+  pub mine : (start_of v ≡ started k h.first) × (v.frozen ≡ h.frozen)
   mine = h.agreed id v at (omega (arith, all, pos))
 
   pub raced_mine : Raced (beginning (start_of v)) words views
@@ -129,7 +129,7 @@ module _ (k : Shape) (words : List ℕ) (views : List View) (id : ℕ) (v : View
   shape_mine = ap (λ (b : Start). b.shape) mine.0
 
   others : (seat : ℕ) (u : View) → get_elem? views seat ≡ some u → ¬ (seat ≡ id) → IsBlank u
-  others = others_blank (beginning (new_start k h.first)) words views id v h.raced at all
+  others = others_blank (beginning (started k h.first)) words views id v h.raced at all
 
   light : (seat : ℕ) (u : View) → get_elem? views seat ≡ some u → ¬ (seat ≡ id) → u.weight ≡ 0
   light seat u there ne = weigh_all views id seat v u at there ne (h.raced.weighed.0 ∙ sym all)
@@ -150,7 +150,7 @@ module _ (k : Shape) (words : List ℕ) (views : List View) (id : ℕ) (v : View
       let b : tally m u.histories ≡ 0 = ap (tally m) (others seat u there ne).1 in omega (arith, a, b)
 
   -- a race begins anew, with any words that one can start with
-  pub raced_anew : (new : List ℕ) (w : View) → IsBegun (new_start k new) → IsBlank w → w.weight ≡ k.members → w.spare ≡ k.members → Raced (beginning (new_start k new)) new (set views id w)
+  pub raced_anew : (new : List ℕ) (w : View) → IsBegun (started k new) → IsBlank w → w.weight ≡ k.members → w.spare ≡ k.members → Raced (beginning (started k new)) new (set views id w)
   raced_anew new w b still weight spare = record {
     sized = b.sized;
     bounded = b.bounded;
@@ -188,19 +188,19 @@ module _ (k : Shape) (words : List ℕ) (views : List View) (id : ℕ) (v : View
     flagged = record { marked = b.flagged; known = λ c x. absurd (none_held flagged_of (λ u s. s.0.3) w still c x) };
   }
 
-  pub going_anew : (new : List ℕ) (w : View) → IsBegun (new_start k new) → IsBlank w → w.weight ≡ k.members → w.spare ≡ k.members → start_of w ≡ new_start k new → Going k new (set views id w)
+  pub going_anew : (new : List ℕ) (w : View) → IsBegun (started k new) → IsBlank w → w.weight ≡ k.members → w.spare ≡ k.members → start_of w ≡ started k new → Going k new (set views id w)
   going_anew new w b still weight spare is = record {
     first = new;
     frozen = w.frozen;
     raced = raced_anew new w b still weight spare;
     proper = λ x i. let s = in_set k new x i in b.proper x s.0 s.1;
-    agreed = each_set views id w (λ (u : View). Agrees (new_start k new) w.frozen u) (λ seat u there ne lt. let z = light seat u there ne in absurd (omega (arith, z, lt))) (λ lt. (is, refl));
+    agreed = each_set views id w (λ (u : View). Agrees (started k new) w.frozen u) (λ seat u there ne lt. let z = light seat u there ne in absurd (omega (arith, z, lt))) (λ lt. (is, refl));
     spared = each_set views id w (λ (u : View). u.spare ≤ u.weight) (λ seat u there ne. h.spared seat u there) (omega (arith, weight, spare));
     still = λ e. refl;
   }
 
   -- at rest, the words are what a race can start with
-  pub begun_here : IsWholeShape k → AtRest v → IsBegun (new_start k words)
+  pub begun_here : IsWholeShape k → AtRest v → IsBegun (started k words)
   begun_here shaped rest = record {
     shaped = shaped;
     sized = h.raced.sized;

@@ -4,7 +4,7 @@ use Rattle.atomic_table.specs.Seated.{TableId}
 use Rattle.atomic_table.specs.declared.shared.Seat.{Seat}
 use Rattle.g1_race_words.specs.declared.view.Shape.{Shape}
 use Rattle.g1_race_words.specs.declared.view.View.{View}
-use Rattle.g1_race_words.specs.Rule.{IsBegun, IsBlank, new_start, start_of}
+use Rattle.g1_race_words.specs.Rule.{IsBegun, IsBlank, started, start_of}
 use Rattle.g1_race_words.specs.Steps.{blank}
 
 -- a reader, which has one member's weight and no number
@@ -22,7 +22,7 @@ pub record IsLent (table_id : TableId) (heap : Shape) (seat : Seat (Unit {0}) Vi
   pub frozen : seat.me.0.frozen ≡ true
   pub blank : IsBlank seat.me.0
   pub hands : seat.me.1 ≡ []
-  pub begun : IsBegun (new_start heap seat.me.0.began_words)
+  pub begun : IsBegun (started heap seat.me.0.began_words)
 
 -- a seat that knows the words of a race at a pause: the one that has all the weight, or a reader's
 pub record IsReading (table_id : TableId) (heap : Shape)
@@ -31,4 +31,4 @@ pub record IsReading (table_id : TableId) (heap : Shape)
   pub shape : seat.me.0.shape ≡ heap
   pub weight : 0 < seat.me.0.weight
   pub frozen : seat.me.0.frozen ≡ true
-  pub begun : IsBegun (new_start heap seat.me.0.began_words)
+  pub begun : IsBegun (started heap seat.me.0.began_words)

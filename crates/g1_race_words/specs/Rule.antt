@@ -322,8 +322,8 @@ pairs_up_to heap words zero = []
 pairs_up_to heap words (suc card) =
     pairs_up_to heap words card ++ pairs_of_card heap words card heap.regions
 
-abbrev pub new_start : Shape → List ℕ → Start
-new_start heap words = record { shape = heap; words = words }
+abbrev pub started : Shape → List ℕ → Start
+started heap words = record { shape = heap; words = words }
 
 -- what a race that starts so begins with
 abbrev pub beginning : Start → Begun
@@ -336,20 +336,20 @@ beginning begin =
 
 -- all null, all clean, and no pair recorded
 abbrev pub null_of : Shape → Start
-null_of heap = new_start heap (replicate (word_count heap) 0)
+null_of heap = started heap (replicate (word_count heap) 0)
 
 -- what a view says of the last pause
 abbrev pub start_of : View → Start
-start_of view = new_start view.shape view.began_words
+start_of view = started view.shape view.began_words
 
 -- the rule: a race since some pause, on which the seats that have weight agree; and where they are
 -- frozen, no word has changed since
 pub record Going (heap : Shape) (words : List ℕ) (views : List View) : Type 0 where
   pub first : List ℕ
   pub frozen : Bool
-  pub raced : Raced (beginning (new_start heap first)) words views
+  pub raced : Raced (beginning (started heap first)) words views
   pub proper : (x : ℕ × ℕ) → In (pairs_up_to heap first heap.cards) x → IsOfCrossing heap x
   pub agreed : (seat : ℕ) (v : View) → get_elem? views seat ≡ some v → 0 < v.weight
-      → (start_of v ≡ new_start heap first) × (v.frozen ≡ frozen)
+      → (start_of v ≡ started heap first) × (v.frozen ≡ frozen)
   pub spared : (seat : ℕ) (v : View) → get_elem? views seat ≡ some v → v.spare ≤ v.weight
   pub still : frozen ≡ true → words ≡ first

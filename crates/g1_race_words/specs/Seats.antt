@@ -10,7 +10,7 @@ use Rattle.g1_race_words.specs.declared.view.Shape.{Shape}
 use Rattle.g1_race_words.specs.declared.view.View.{View}
 use Rattle.g1_race_words.specs.Begin.{Start}
 use Rattle.g1_race_words.specs.Rule.{IsBegun, IsPair, Raced, beginning, bit_word, flag, mark_word}
-use Rattle.g1_race_words.specs.Rule.{new_start, start_of}
+use Rattle.g1_race_words.specs.Rule.{started, start_of}
 use Rattle.g1_race_words.specs.Steps.{chair, iced}
 
 -- the words of a race: which table they are, the shape of its heap, and where the first one lies
@@ -51,8 +51,8 @@ IsChair view = (begin : Start) × (weight : ℕ) × (view ≡ chair begin weight
 -- the one seat of a race at a pause
 pub record IsPaused (table_id : TableId) (heap : Shape) (seat : Seat (Unit {0}) View) : Type 0 where
   pub table : seat.table_id ≡ table_id
-  pub view : seat.me ≡ (iced (new_start heap seat.me.0.began_words) heap.members, [])
-  pub begun : IsBegun (new_start heap seat.me.0.began_words)
+  pub view : seat.me ≡ (iced (started heap seat.me.0.began_words) heap.members, [])
+  pub begun : IsBegun (started heap seat.me.0.began_words)
 
 -- at some moment of the race, with the seat's view so, the slot had the word
 pub record IsFound (view : View) (slot word : ℕ) : Type 0 where
@@ -69,8 +69,8 @@ pub record Freezes (before after : Me (Unit {0}) View) : Type 0 where
   pub words : List ℕ
   pub views : List View
   pub id : ℕ
-  pub view : after ≡ (iced (new_start before.0.shape words) before.0.weight, before.1)
-  pub begun : IsBegun (new_start before.0.shape words)
+  pub view : after ≡ (iced (started before.0.shape words) before.0.weight, before.1)
+  pub begun : IsBegun (started before.0.shape words)
   pub raced : Raced (beginning (start_of before.0)) words views
   pub mine : get_elem? views id ≡ some before.0
   pub still : before.0.frozen ≡ true → words ≡ before.0.began_words

@@ -1,6 +1,6 @@
 //! The steps of a pause. The one seat that has the weight of all members makes them.
 ghost use Rattle.std.specs.Prelude.{◌≡◌, ◌<◌, slice_set};
-ghost use Rattle.g1_race_words.specs.Rule.{AtRest, IsBegun, new_start, word_count};
+ghost use Rattle.g1_race_words.specs.Rule.{AtRest, IsBegun, started, word_count};
 ghost use Rattle.g1_race_words.specs.Steps.{thawed};
 ghost use Rattle.g1_race_words.specs.Seats.{Freezes, IsPaused};
 
@@ -63,7 +63,7 @@ impl RaceTable {
         requires seat { IsPaused self.now.table_id self.now.shape seat.old }
         requires word { word < word_count self.now.shape }
         requires begun { IsBegun
-            (new_start self.now.shape (slice_set seat.old.me.0.began_words word new)) }
+            (started self.now.shape (slice_set seat.old.me.0.began_words word new)) }
         ensures seat { IsPaused self.now.table_id self.now.shape seat.new }
         ensures words { seat.new.me.0.began_words ≡ slice_set seat.old.me.0.began_words word new }
     {

@@ -3,7 +3,7 @@ use mathlib.Core.Option.{some}
 use lib.ListN.{get_elem?}
 use Rattle.g1_race_words.specs.Rule.{mark_word}
 use Rattle.g1_race.specs.Clearing.{IsEmptied}
-use Rattle.g1_race.specs.Refining.{IsCardRefined}
+use Rattle.g1_race.specs.Refining.{RefinesCard}
 use Rattle.g1_race_words.proofs.AtBeginning.{never_both}
 use Rattle.g1_race.proofs.ClearWords.{none_behind}
 use Rattle.g1_race.proofs.AtPause.{paused_same}
@@ -33,7 +33,7 @@ loop-card-preserved c =
       within = omega (arith, next.1);
       refined = refined_next k old mid new n next.1 (marked_word k mid n i.seat.begun next.1 next.2)
           (refined_past k old mid c.loop-card.from n i.seat.begun next.0 (λ d le lt below at. unmarked_word k mid d (next.3 d le lt) at) i.refined)
-          (subst (λ (l : List ℕ). IsCardRefined k l new n) same c.refine_card.ensures.refined);
+          (subst (λ (l : List ℕ). RefinesCard k l new n) same c.refine_card.ensures.refined);
     }
 
 pub empty_row-requires-clause-seat : goal.empty_row-requires-clause-seat

@@ -4,7 +4,7 @@ use Rattle.std.specs.Prelude.{IfSome}
 use Rattle.g1_layout.specs.Shape as layout
 use Rattle.g1_layout.specs.Shape.{slot_count}
 use Rattle.g1_race_words.specs.declared.view.Shape.{Shape}
-use Rattle.g1_race_words.specs.Rule.{IsBegun, slot_card, new_start}
+use Rattle.g1_race_words.specs.Rule.{IsBegun, slot_card, started}
 use Rattle.g1_race.specs.declared.race.Race.{Race}
 use Rattle.g1_race.specs.Race.{word_of}
 use Rattle.g1_race.specs.Over.{target_of_word}
@@ -40,7 +40,7 @@ put-requires-clause-begun c =
     let target = c.args.target in
     let g = given race c.args.slot target c.requires.slot c.requires.target in
     let dirty = quiet_marked k race.layout race.laid c.args.slot g.lt target (word_of target) g.back words (λ e. c.in_default.not-Logged (c.requires.kind ∙ e)) in
-    subst (λ (ws : List ℕ). IsBegun (new_start k ws)) (λ i. set words (sym c.number.ensures i) (sym c.word_of-word.ensures i))
+    subst (λ (ws : List ℕ). IsBegun (started k ws)) (λ i. set words (sym c.number.ensures i) (sym c.word_of-word.ensures i))
     (begun_placed k words c.args.slot (word_of target) g.lt (inl g.fits) (λ across. inr (dirty across)) c.requires.seat.begun)
 
 pub returns-in_default-clause-words : goal.returns-in_default-clause-words
@@ -65,7 +65,7 @@ put-requires-2-clause-begun c =
     let target = c.args.target in
     let g = given race c.args.slot target c.requires.slot c.requires.target in
     let here = dirtied_here k race.layout race.laid c.args.slot g.lt target (word_of target) g.back _ words c.number-2.result (same_card race c.args.slot c.number-2.result (c.number-2.ensures ∙ c.card_of.ensures.quotient)) c.dirty.ensures.dirtied in
-    subst (λ (ws : List ℕ). IsBegun (new_start k ws)) (λ i. set words (sym c.number.ensures i) (sym c.word_of-word.ensures i))
+    subst (λ (ws : List ℕ). IsBegun (started k ws)) (λ i. set words (sym c.number.ensures i) (sym c.word_of-word.ensures i))
     (begun_placed k words c.args.slot (word_of target) g.lt (inl g.fits) (λ across. inr here) c.dirty.ensures.seat.begun)
 
 pub returns-clause-words : goal.returns-clause-words

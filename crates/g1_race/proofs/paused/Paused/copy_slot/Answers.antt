@@ -19,7 +19,7 @@ abbrev IsLaid : Halt → Type 0
 IsLaid halt = halt.shape ≡ shape_of halt.layout halt.shape.members
 
 -- what the slot refers to
-reads : (halt : Halt) → IsLaid halt → (slot word : ℕ) → slot < slot_count halt.layout → get_elem? halt.words slot ≡ some word → target_of (halted halt) slot ≡ over.target_of word
+reads : (halt : Halt) → IsLaid halt → (slot word : ℕ) → slot < slot_count halt.layout → get_elem? halt.words slot ≡ some word → target_of (halted halt) slot ≡ over.target_of_word word
 reads halt laid slot word lt at = slot_gives halt.shape halt.layout halt.words slot word laid (let e : halt.shape.slots ≡ slot_count halt.layout = ap (λ (k : Shape). k.slots) laid in omega (arith, e, lt)) at
 
 -- the word that is stored is the slot's

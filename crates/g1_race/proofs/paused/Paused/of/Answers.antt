@@ -1,7 +1,7 @@
 use Rattle.std.proofs.Common.{◌≡◌, ◌+◌, length, All, [], map, sym, ap, ◌∙◌, subst, arith}
 use Rattle.g1_race_words.specs.declared.view.Shape.{Shape}
 use Rattle.g1_race.specs.declared.race.Race.{Race}
-use Rattle.g1_race_words.specs.Rule.{IsBegun, new_start, null_of}
+use Rattle.g1_race_words.specs.Rule.{IsBegun, started, null_of}
 use Rattle.g1_race_words.specs.Steps.{iced, blank}
 use Rattle.g1_race.specs.Race.{collected}
 use Rattle.g1_race.specs.Members.{racer_view, sweeper_view, RacerOf}
@@ -40,8 +40,8 @@ count_is g c = let e : length c.args.racers.items + length c.args.sweepers.items
 table_is : (g : _) (c : goal.After-freeze g) → c.freeze.new.seat.table_id ≡ (g.R.Holds.held c.args.race).table.table_id
 table_is g c = c.freeze.ensures.table ∙ (c.join_sweepers.ensures.seat ∙ (c.join_racers.ensures.seat ∙ (c.enter-seat.ensures.table ∙ ap (λ (r : Race). r.table.table_id) c.race.ensures)))
 
-me_is : (g : _) (c : goal.After-freeze g) → c.freeze.new.seat.me ≡ (iced (new_start c.join_sweepers.new.registrar.me.0.shape c.freeze.ensures.told.words) c.join_sweepers.new.registrar.me.0.weight, [])
-me_is g c = c.freeze.ensures.told.view ∙ ap (λ h. (iced (new_start c.join_sweepers.new.registrar.me.0.shape c.freeze.ensures.told.words) c.join_sweepers.new.registrar.me.0.weight, h)) (ap (λ me. me.1) (joined g c))
+me_is : (g : _) (c : goal.After-freeze g) → c.freeze.new.seat.me ≡ (iced (started c.join_sweepers.new.registrar.me.0.shape c.freeze.ensures.told.words) c.join_sweepers.new.registrar.me.0.weight, [])
+me_is g c = c.freeze.ensures.told.view ∙ ap (λ h. (iced (started c.join_sweepers.new.registrar.me.0.shape c.freeze.ensures.told.words) c.join_sweepers.new.registrar.me.0.weight, h)) (ap (λ me. me.1) (joined g c))
 
 pub invariant_of-result : goal.invariant_of-result
 invariant_of-result g c =
@@ -51,7 +51,7 @@ invariant_of-result g c =
       omega (arith, c.join_racers.ensures.len, c.join_sweepers.ensures.len, c.requires.racers.0),
     )
 
-begun_is : (g : _) (c : goal.After-freeze g) → IsBegun (new_start (g.R.Holds.held c.args.race).shape c.freeze.new.seat.me.0.began_words)
+begun_is : (g : _) (c : goal.After-freeze g) → IsBegun (started (g.R.Holds.held c.args.race).shape c.freeze.new.seat.me.0.began_words)
 begun_is g c = (invariant_of-result g c).0.begun
 
 pub returns-clause-over : goal.returns-clause-over

@@ -3,7 +3,7 @@ use Rattle.std.proofs.Common.{List, ◌≡◌, ◌<◌, ◌≤◌, ◌^◌, ℕ,
 use Rattle.g1_layout.specs.declared.kind.Kind.TheVariants.{Null}
 use Rattle.g1_layout.specs.Shape.{slot_count}
 use Rattle.g1_race_words.specs.declared.view.Shape.{Shape}
-use Rattle.g1_race_words.specs.Rule.{IsBegun, new_start}
+use Rattle.g1_race_words.specs.Rule.{IsBegun, started}
 use Rattle.g1_layout.specs.Shape as layout
 use Rattle.g1_core.specs.Run.{kind_of, stored}
 use Rattle.g1_race.specs.Race.{shape_of}
@@ -24,7 +24,7 @@ put-requires-clause-begun g c =
     let words = c.self.inside.seat.me.0.began_words in
     let slots : k.slots ≡ slot_count c.args.self.now.layout = ap (λ (x : Shape). x.slots) race.laid ∙ ap (λ (x : Halt). slot_count x.layout) (lent_view c.race-race.ensures c.self.view_is) in
     let lt : c.args.slot < k.slots = omega (arith, slots, c.requires.slot) in
-    subst (λ (p : ℕ). IsBegun (new_start k (set words p c.args.word))) (sym c.number.ensures)
+    subst (λ (p : ℕ). IsBegun (started k (set words p c.args.word))) (sym c.number.ensures)
     (begun_placed k words c.args.slot c.args.word lt (inr c.requires.high) (λ cr. absurd (let no_one = data_crosses k c.args.slot c.args.word c.requires.high in cc (cr, no_one))) (lent_begun c.race-race.ensures c.self.invariant.0.begun))
 
 pub returns-clause-words : goal.returns-clause-words
@@ -36,7 +36,7 @@ returns-clause-words g c =
 
 -- the new kind and table
 data_stored : (k : Shape) (l : layout.Shape) (words after : List ℕ) (h : Halt) (p word : ℕ) → k ≡ shape_of l k.members → p < k.slots → 2 ^ 32 ≤ word
-    → table_of (ended l k words) ≡ halted h → after ≡ set words p word → IsBegun (new_start k words) → IsBegun (new_start k after)
+    → table_of (ended l k words) ≡ halted h → after ≡ set words p word → IsBegun (started k words) → IsBegun (started k after)
     → (Null ≡ kind_of (halted h) p None) × (table_of (ended l k after) ≡ stored (halted h) p None)
 data_stored k l words after h p word laid lt high was is begun then_begun =
     let back = target_data word high in

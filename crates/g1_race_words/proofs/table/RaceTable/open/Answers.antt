@@ -1,5 +1,5 @@
 use Rattle.std.proofs.Common.{◌≡◌, ℕ, List, [], ◌∷◌, sym, ap, ◌∙◌, subst}
-use Rattle.g1_race_words.specs.Rule.{Going, IsBegun, null_of, new_start, word_count}
+use Rattle.g1_race_words.specs.Rule.{Going, IsBegun, null_of, started, word_count}
 use Rattle.g1_race_words.specs.Steps.{iced}
 use Rattle.g1_race_words.proofs.AtBeginning.{going_first, null_begun, zeros}
 use Rattle.g1_race_words.proofs.table.RaceTable.open.Goals as goal
@@ -17,6 +17,6 @@ returns-clause-seat c =
     let w : c.in_ok-table.seat.me.0.began_words ≡ zeros (word_count k) = ap (λ me. me.0.began_words) t.4 in
     record {
       table = t.2;
-      view = t.4 ∙ (λ i. (iced (new_start k (sym w i)) k.members, []));
-      begun = subst IsBegun (λ i. new_start k (sym w i)) (null_begun k c.requires.shape);
+      view = t.4 ∙ (λ i. (iced (started k (sym w i)) k.members, []));
+      begun = subst IsBegun (λ i. started k (sym w i)) (null_begun k c.requires.shape);
     }
