@@ -145,9 +145,9 @@ abbrev pub round_at : State → List ℕ → ℕ → ℕ → Round
 round_at s refined hot skipped = record { state = s; refined = refined; hot = hot; skipped = skipped }
 
 -- one turn more
-pub tally_more : (s0 : State) (cards : List ℕ) (i card : ℕ) (s s' : State) (xs xs' : List ℕ) (hot hot' skipped skipped' : ℕ) (o : Option Offer) → i < length cards → card ≡ get_or cards i card → o ≡ offer_to s card → s' ≡ state_after s card o
+pub turns_more : (s0 : State) (cards : List ℕ) (i card : ℕ) (s s' : State) (xs xs' : List ℕ) (hot hot' skipped skipped' : ℕ) (o : Option Offer) → i < length cards → card ≡ get_or cards i card → o ≡ offer_to s card → s' ≡ state_after s card o
     → xs' ≡ xs ++ refined_by card o → hot' ≡ hot + hot_by o → skipped' ≡ skipped + skipped_by o → round_at s xs hot skipped ≡ turns (start s0) (take i cards) → round_at s' xs' hot' skipped' ≡ turns (start s0) (take (i + 1) cards)
-tally_more s0 cards i card s s' xs xs' hot hot' skipped skipped' o lt read offer state refined hot_is skipped_is h =
+turns_more s0 cards i card s s' xs xs' hot hot' skipped skipped' o lt read offer state refined hot_is skipped_is h =
     let step : round_at s' xs' hot' skipped' ≡ turn_by (round_at s xs hot skipped) card o = λ i. record { state = state i; refined = refined i; hot = hot_is i; skipped = skipped_is i } in
     let by : turn_by (round_at s xs hot skipped) card o ≡ turn (round_at s xs hot skipped) card = ap (turn_by (round_at s xs hot skipped) card) offer in
     let all : turns (start s0) (take (i + 1) cards) ≡ turn (turns (start s0) (take i cards)) card = fold_more turn (start s0) cards i card lt ∙ ap (turn (turns (start s0) (take i cards))) (sym read) in

@@ -73,14 +73,14 @@ impl Core {
         ensures settings { self.new.settings ≡ self.old.settings }
     {
         let _reads = self.reads();
-        let mut tally = Tally::new(self.alloc, cards.len())?;
+        let mut turns = Turns::new(self.alloc, cards.len())?;
         for card in cards {
             let Ok(offer) = self.turn(*card) else {
-                return Ok(tally.reply(true));
+                return Ok(turns.reply(true));
             };
-            tally.note(*card, offer);
+            turns.note(*card, offer);
         }
-        Ok(tally.reply(false))
+        Ok(turns.reply(false))
     }
 
     /// The turn of a card: what the ring does with it, or `None` if the card is not dirty. Memory
@@ -159,22 +159,22 @@ fn idle(alloc: Global) -> RefineReply
 
 /// What the turns so far did.
 #[derive(Drop)]
-struct Tally {
+struct Turns {
     refined: Vec<Card>,
     hot: u32,
     skipped: u32,
 }
 
-impl Tally {
-    /// No turn yet, with room for a refined card of each of `turns` turns.
-    fn new(alloc: Global, turns: usize) -> Result<Tally, NoMemory>
-        ensures refined { IfOk result (λ tally. tally.refined.items ≡ []) }
-        ensures room { IfOk result (λ tally. turns ≤ vec_capacity tally.refined) }
-        ensures hot { IfOk result (λ tally. tally.hot ≡ 0) }
-        ensures skipped { IfOk result (λ tally. tally.skipped ≡ 0) }
+impl Turns {
+    /// No turn yet, with room for a refined card of each of `most` turns.
+    fn new(alloc: Global, most: usize) -> Result<Turns, NoMemory>
+        ensures refined { IfOk result (λ turns. turns.refined.items ≡ []) }
+        ensures room { IfOk result (λ turns. most ≤ vec_capacity turns.refined) }
+        ensures hot { IfOk result (λ turns. turns.hot ≡ 0) }
+        ensures skipped { IfOk result (λ turns. turns.skipped ≡ 0) }
     {
-        let refined = Vec::with_capacity(alloc, turns)?;
-        Ok(Tally {
+        let refined = Vec::with_capacity(alloc, most)?;
+        Ok(Turns {
             refined,
             hot: 0,
             skipped: 0,

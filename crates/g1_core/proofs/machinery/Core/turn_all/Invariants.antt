@@ -6,12 +6,12 @@ use Rattle.g1_core.proofs.machinery.Core.turn_all.Given as goal
 
 abbrev pub invariant-loop-card : goal.invariant-loop-card
 invariant-loop-card l = record {
-  round : round_at l.self.state l.tally.refined.items l.tally.hot l.tally.skipped ≡ turns (start l.fn.self.state) (take l.card-index l.cards);
-  refined : vec_len l.tally.refined ≤ l.card-index;
-  room : length l.cards ≤ l.tally.refined.cap;
-  hot : l.tally.hot ≤ l.card-index;
-  skipped : l.tally.skipped ≤ l.card-index;
+  round : round_at l.self.state l.turns.refined.items l.turns.hot l.turns.skipped ≡ turns (start l.fn.self.state) (take l.card-index l.cards);
+  refined : vec_len l.turns.refined ≤ l.card-index;
+  room : length l.cards ≤ l.turns.refined.cap;
+  hot : l.turns.hot ≤ l.card-index;
+  skipped : l.turns.skipped ≤ l.card-index;
   settings : l.self.settings ≡ l.fn.self.settings;
   layout : l.self.state.table.layout ≡ l.fn.self.state.table.layout;
-  reads : l.self.reads ≡ reads_after l.fn.self.reads (length l.tally.refined.items * l.fn.self.state.table.layout.slots);
+  reads : l.self.reads ≡ reads_after l.fn.self.reads (length l.turns.refined.items * l.fn.self.state.table.layout.slots);
 }
