@@ -4,12 +4,5 @@ use Rattle.g1_steps.proofs.steps.refiner.refine.Goals as goal
 
 pub returns-then-not-is_empty_for : goal.returns-then-not-is_empty_for
 returns-then-not-is_empty_for g c =
-    record {
-      refined = refinement_from g.C.Calls.did _ _ c.args.taker.now c.is_empty_for.new.taker c.refine_oldest.new.taker c.refine_oldest.result c.is_empty_for.ensures.view c.refine_oldest.ensures.refined;
-      counts = search rules;
-      left = search rules;
-      one = search rules;
-      same = search rules;
-      err = search rules;
-      given_up = search rules;
-    }
+    let refined = refinement_from g.C.Calls.did _ _ c.args.taker.now c.is_empty_for.new.taker c.refine_oldest.new.taker c.refine_oldest.result c.is_empty_for.ensures.view c.refine_oldest.ensures.refined in
+    search rules

@@ -4,7 +4,7 @@ use Rattle.g1_layout.specs.Shape.{card_of}
 use Rattle.g1_layout.specs.declared.kind.Kind.TheVariants.{Logged}
 use Rattle.g1_steps.specs.declared.steps.mutator.Mutator.{Mutator}
 use Rattle.g1_steps.specs.Made.{Stored}
-use Rattle.g1_steps.specs.Steps.{IsPassed, help_calls, filled}
+use Rattle.g1_steps.specs.Steps.{IsPassed, IsStored, help_calls, filled}
 use Rattle.g1_steps.proofs.StepLemmas.{handed_some, store_passed}
 use Rattle.g1_steps.proofs.steps.mutator.Mutator.store.Goals as goal
 
@@ -17,23 +17,14 @@ returns g c =
     let kind : first.kind ≡ Logged = out.0 in
     let did = g.met.C.Calls.then _ _ _ (Stored c.args.slot c.args.target first ∷ []) _ c.in_ok-first.ensures.made h.made in
     let full : first ≡ filled = search rules in
-    record {
-      stored = record {
-        first = first;
-        help = h.help;
-        made = subst (λ (m : Mutator). g.C.Calls.did c.args.calls.now (Stored c.args.slot c.args.target first ∷ help_calls (m.log.cards ++ card_of (g.C.Calls.layout c.args.calls.now) c.args.slot ∷ []) h.help) c.pass_from-passed.new.calls) c.self.view_is did;
-        answer = (λ i. record { kind = first.kind; fill = (h.answer i).fill; refined = (h.answer i).refined; short = (h.answer i).short }) ∙ store_passed first h.help full;
-        plain = c.in_ok-first.ensures.plain;
-        own = search rules;
-        full = λ _. full;
-        helps = search rules;
-      };
-      log = search rules;
-      fill = search rules;
-      put = search rules;
-      helped = search rules;
-      empty = search rules;
-      same = search rules;
-      err = search rules;
-      err_ends = search rules;
-    }
+    let stored : IsStored g.C.Calls.did c.args.calls.now c.args.slot c.args.target _ _ _ = record {
+      first = first;
+      help = h.help;
+      made = subst (λ (m : Mutator). g.C.Calls.did c.args.calls.now (Stored c.args.slot c.args.target first ∷ help_calls (m.log.cards ++ card_of (g.C.Calls.layout c.args.calls.now) c.args.slot ∷ []) h.help) c.pass_from-passed.new.calls) c.self.view_is did;
+      answer = (λ i. record { kind = first.kind; fill = (h.answer i).fill; refined = (h.answer i).refined; short = (h.answer i).short }) ∙ store_passed first h.help full;
+      plain = c.in_ok-first.ensures.plain;
+      own = search rules;
+      full = λ _. full;
+      helps = search rules;
+    } in
+    search rules
