@@ -1,17 +1,18 @@
 -- What a round of refinements does: its calls, what they add up to, and where it ends.
 use Rattle.std.specs.Prelude.{◌≡◌, ◌≤◌, ◌+◌, ◌-◌, ◌/◌, ◌⊎◌, ℕ, Bool, true, false, List, [], ◌∷◌}
 use Rattle.std.specs.Prelude.{◌++◌, length, map, sum_by, All, nat_lt, not, if◌then◌else◌, Option}
-use Rattle.std.specs.Prelude.{Some, None, IsSome}
+use Rattle.std.specs.Prelude.{Some, None, IsSome, Result, IfOk, IfErr, OnErr}
 use Rattle.std.specs.List.{flat_map}
 use Rattle.g1_log.specs.declared.ends.Taker.{Taker}
 use Rattle.g1_log.specs.declared.parcel.Parcel.{Parcel}
-use Rattle.g1_log.specs.Ends.{taken_of}
+use Rattle.g1_log.specs.declared.line.Line.{Line}
+use Rattle.g1_log.specs.Ends.{taken_of, capacity_of, IsSameTaker}
 use Rattle.g1_core.specs.declared.reply.RefineReply.{RefineReply}
 use Rattle.g1_book.specs.declared.refusal.Refusal.{Refusal}
 use Rattle.g1_book.specs.declared.refusal.Refusal.TheVariants.{NoMemory}
 use Rattle.g1_steps.specs.declared.steps.refiner.Sums.{Sums}
 use Rattle.g1_steps.specs.Made.{CallMade, Refined, Refused}
-use Rattle.g1_steps.specs.Steps.{GainsAtMost, FoundEmpty}
+use Rattle.g1_steps.specs.Steps.{GainsAtMost, FoundEmpty, IsOfCalls}
 
 -- how many calls a round makes at most, where it begins at `start` completed buffers and sees
 -- `seen`
@@ -75,6 +76,24 @@ pub record IsRound {S : Type 0} (did : S → List CallMade → S
   pub begun : reply.short ≡ true → 1 ≤ length turns
   pub within : length turns ≤ most
   pub all : reply.short ≡ false → (length turns ≡ most) ⊎ FoundEmpty after
+
+-- A round by a taker of this line that begins at `start` completed buffers, by what it saw.
+abbrev pub IsRoundFrom : {S : Type 0} → (S → List CallMade → S → Type 0) → Line → ℕ → S → Taker
+    → RefineReply → Taker → S → Type 0
+IsRoundFrom did line start s old reply new t =
+    (seen : ℕ) × (seen ≤ capacity_of line)
+    × IsRound did s (taken_of old) (round_size start seen) reply (taken_of new) t
+
+-- The same with its answer.
+pub record IsWorkStep {S : Type 0} (did : S → List CallMade → S → Type 0) (line : Line)
+    (start : ℕ) (s : S) (old : Taker) (result : Result RefineReply Refusal) (new : Taker)
+    (t : S) : Type 0 where
+  pub round : IfOk result (λ reply. IsRoundFrom did line start s old reply new t)
+  pub counts : IfOk result (IsOfCalls (capacity_of line))
+  pub left : IfOk result (λ reply. reply.left ≤ capacity_of line)
+  pub same : IsSameTaker new old
+  pub err : IfErr result (λ refusal. IsRefused did s refusal t)
+  pub given_up : OnErr result (GainsAtMost (taken_of old) 1 (taken_of new))
 
 -- where a round stands: the caller's state, what the calls add up to, and what the taker has taken
 pub record Progress (S : Type 0) : Type 0 where

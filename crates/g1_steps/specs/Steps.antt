@@ -1,14 +1,17 @@
 -- What the steps of a caller do: the calls that they make, what becomes of a completed buffer, and
 -- what was taken from the line.
-use Rattle.std.specs.Prelude.{◌≡◌, ◌≢◌, ◌≤◌, ◌^◌, ◌⊎◌, ℕ, true, false, List, [], ◌∷◌, ◌++◌, length}
-use Rattle.std.specs.Prelude.{Option, Some, None, Result, Ok, Err, IsSome}
+use Rattle.std.specs.Prelude.{◌≡◌, ◌≢◌, ◌≤◌, ◌+◌, ◌*◌, ◌^◌, ◌⊎◌, ◌↔◌, ℕ, true, false, List, []}
+use Rattle.std.specs.Prelude.{◌∷◌, ◌++◌, length, Option, Some, None, Result, Ok, Err, IsSome}
+use Rattle.std.specs.Prelude.{IsNone, IfOk, IfErr, OnErr}
 use Rattle.g1_layout.specs.declared.kind.Kind.TheVariants.{Logged}
 use Rattle.g1_log.specs.declared.line.Line.{Line}
 use Rattle.g1_log.specs.declared.ends.Sender.{Sender}
 use Rattle.g1_log.specs.declared.ends.Taker.{Taker}
 use Rattle.g1_log.specs.declared.buffer.Buffer.{Buffer}
 use Rattle.g1_log.specs.declared.parcel.Parcel.{Parcel}
-use Rattle.g1_log.specs.Ends.{put_of, taken_of, WasFull, WasEmpty}
+use Rattle.g1_log.specs.Ends.{put_of, taken_of, capacity_of, IsSameSender, IsSameTaker, WasFull}
+use Rattle.g1_log.specs.Ends.{WasEmpty}
+use Rattle.g1_core.specs.Barrier.{logged, buffer_of}
 use Rattle.g1_core.specs.declared.reply.Fill.{Fill}
 use Rattle.g1_core.specs.declared.reply.Fill.TheVariants.{No, Full, Helped}
 use Rattle.g1_core.specs.declared.reply.StoreReply.{StoreReply}
@@ -17,7 +20,7 @@ use Rattle.g1_book.specs.declared.refusal.Refusal.{Refusal}
 use Rattle.g1_steps.specs.declared.steps.mutator.FlushReply.{FlushReply}
 use Rattle.g1_steps.specs.declared.steps.mutator.Mutator.{Mutator}
 use Rattle.g1_steps.specs.declared.steps.mutator.Passed.{Passed}
-use Rattle.g1_steps.specs.Made.{CallMade, Stored, Refined, refines}
+use Rattle.g1_steps.specs.Made.{CallMade, Stored, Refined, Refused, refines}
 
 -- What became of a buffer that left its log: the line took it, or its mutator helped: refined it by
 -- a call with this result.
@@ -111,6 +114,34 @@ PutsBy Helped cards old new = new ≡ old
 abbrev pub MayRefuse : Line → Sender → Type 0
 MayRefuse line sender = (length (put_of sender) ≡ 2 ^ 58) ⊎ WasFull line sender
 
+-- A store by a mutator at this line, with its answer: the calls that it makes, what becomes of the
+-- log and of a buffer that the card fills, and what is left where it is refused.
+pub record IsStoreStep {S : Type 0} (did : S → List CallMade → S → Type 0) (line : Line) (s : S)
+    (old : Mutator) (slot : ℕ) (target : Option ℕ) (card : ℕ)
+    (result : Result StoreReply Refusal) (new : Mutator) (t : S) : Type 0 where
+  pub stored : IfOk result (λ reply.
+      IsStored did s slot target (old.log.cards ++ card ∷ []) reply t)
+  pub log : IfOk result (λ reply. new.log ≡ logged reply.kind old.log card)
+  pub fill : IfOk result (λ reply.
+      (reply.fill ≡ No) ↔ IsNone (buffer_of reply.kind old.log card))
+  pub put : IfOk result (λ reply.
+      PutsBy reply.fill (old.log.cards ++ card ∷ []) (put_of old.sender) (put_of new.sender))
+  pub helped : IfOk result (λ reply. reply.fill ≡ Helped → MayRefuse line old.sender)
+  pub empty : IfOk result (λ reply. reply.fill ≢ No → new.log.cards ≡ [])
+  pub same : IsSameSender new.sender old.sender
+  pub err : IfErr result (λ refusal. did s (Refused refusal ∷ []) t)
+  pub err_ends : OnErr result ((new.log ≡ old.log) × (new.sender ≡ old.sender))
+
+-- A flush by a mutator at this line, with its answer.
+pub record IsFlushStep {S : Type 0} (did : S → List CallMade → S → Type 0) (line : Line) (s : S)
+    (old : Mutator) (reply : FlushReply) (new : Mutator) (t : S) : Type 0 where
+  pub flushed : IsFlushed did s old.log.cards reply t
+  pub cards : reply.cards ≡ length old.log.cards
+  pub log : new.log ≡ record { size = old.log.size; cards = [] }
+  pub put : PutsBy reply.fill old.log.cards (put_of old.sender) (put_of new.sender)
+  pub helped : reply.fill ≡ Helped → MayRefuse line old.sender
+  pub same : IsSameSender new.sender old.sender
+
 -- What a take gave: the parcel that the taker's list gained, or none, where the queue was empty at
 -- some moment.
 abbrev pub IsTake : Taker → Option Parcel → Taker → Type 0
@@ -146,6 +177,24 @@ pub record GainsAtMost (old : List Parcel) (most : ℕ) (new : List Parcel) : Ty
   pub parcels : List Parcel
   pub gained : new ≡ old ++ parcels
   pub few : length parcels ≤ most
+
+-- What at most this many calls of refinement add up to.
+abbrev pub IsOfCalls : ℕ → RefineReply → Type 0
+IsOfCalls most reply =
+    (reply.taken ≤ most) × (length reply.refined + reply.skipped ≤ 256 * most)
+    × (reply.hot ≤ 256 * most)
+
+-- A refinement of one buffer by a taker of this line, with its answer.
+pub record IsRefineStep {S : Type 0} (did : S → List CallMade → S → Type 0) (line : Line) (s : S)
+    (old : Taker) (result : Result RefineReply Refusal) (new : Taker) (t : S) : Type 0 where
+  pub refined : IfOk result (λ reply. IsRefinement did s old reply new t)
+  pub counts : IfOk result (IsOfCalls 1)
+  pub left : IfOk result (λ reply. reply.left ≤ capacity_of line)
+  pub one : IfOk result (λ reply.
+      reply.taken ≡ 1 → (x : Parcel) × (taken_of new ≡ taken_of old ++ x ∷ []))
+  pub same : IsSameTaker new old
+  pub err : IfErr result (λ refusal. did s (Refused refusal ∷ []) t)
+  pub given_up : OnErr result (GainsAtMost (taken_of old) 1 (taken_of new))
 
 -- A taker that had taken these parcels found the queue empty at some moment.
 pub record FoundEmpty (taken : List Parcel) : Type 0 where

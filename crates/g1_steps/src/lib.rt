@@ -3,7 +3,8 @@
 //! The steps of a caller are written once, over the [`Calls`] that they make: at a borrowed book
 //! ([`LentBook`]), or at a borrowed core without a history ([`LentCore`]). A [`Mutator`] stores and
 //! flushes. Completed buffers go through a queue ([`Line`](g1_log::Line)), from which [`refine`]
-//! and [`work`] take them (docs/PROFILE.md, The steps of a caller).
+//! and [`work`] take them (docs/PROFILE.md, The steps of a caller). [`Ends`] joins a mutator and a
+//! taker with their queue.
 //!
 //! [`crew`] has workers that run scripts in threads of their own, for the replay of a trace.
 #![tactic(auto)]
@@ -22,4 +23,4 @@ pub use crew::{
 pub use lent_book::LentBook;
 pub use lent_core::LentCore;
 pub use opening::open_line;
-pub use steps::{FlushReply, Mutator, empty_line, refine, stand_still, work};
+pub use steps::{Ends, FlushReply, Mutator, empty_line, refine, stand_still, work};

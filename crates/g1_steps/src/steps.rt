@@ -3,13 +3,16 @@
 //!
 //! A mutator stores and flushes ([`mutator`]), a refinement thread takes completed buffers
 //! ([`refiner`]), and a pause empties logs and queue ([`standstill`]). A step makes no call, one,
-//! or several calls (docs/PROFILE.md, The steps of a caller).
+//! or several calls (docs/PROFILE.md, The steps of a caller). The ends of one caller join them
+//! ([`ends`]).
 
+mod ends;
 mod mutator;
 mod place;
 mod refiner;
 mod standstill;
 
+pub use ends::Ends;
 pub use mutator::{FlushReply, Mutator};
 pub use refiner::{refine, work};
 pub use standstill::{empty_line, stand_still};

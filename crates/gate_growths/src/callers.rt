@@ -6,8 +6,7 @@
 ghost use Rattle.std.specs.Prelude.{◌≡◌, ◌<◌, IfOk, IfSome, vec_len};
 ghost use Rattle.std.specs.List.{All};
 ghost use Rattle.std.specs.Vec.Iter.{into_iter_items};
-ghost use Rattle.std.proofs.Props.{props};
-ghost use Rattle.g1_log.specs.Ends.{IsSenderOf, IsTakerOf, IsNewTaker};
+ghost use Rattle.g1_log.specs.Ends.{IsNewTaker};
 ghost use Rattle.g1_steps.specs.Opening.{AreNewMutators, IsNewMutator};
 
 use crate::books::{Kept, new_book, settings};
@@ -18,7 +17,7 @@ use g1_book::Refusal;
 use g1_core::{CardList, Config, Fill, StoreReply};
 use g1_layout::NoMemory;
 use g1_log::{Line, Log, Taker};
-use g1_steps::{LentBook, Mutator, open_line, refine, work};
+use g1_steps::{Ends, LentBook, Mutator, open_line};
 use std::sync::Wait;
 use std::vec::IntoIter;
 
@@ -37,13 +36,11 @@ pub(crate) fn play<R: Wait + Print + Eprint + AllocGlobal>(rt: &R) -> Result<(),
     Ok(())
 }
 
-/// A mutator, its taker, and the line of both.
+/// A caller of a book, with its ends of the line.
 #[derive(Drop)]
-struct Ends<'a> {
-    line: &'a Line,
-    mutator: Mutator,
-    taker: Taker,
-    ghost of: { IsSenderOf line.now mutator.sender × IsTakerOf line.now taker } by { Prim.hlevel props },
+struct Caller<'a> {
+    ends: Ends<'a>,
+    kept: Kept,
 }
 
 // Plays at a new book and a new line, and drains each region.
@@ -51,7 +48,7 @@ fn at_line<R: Wait + Eprint + AllocGlobal>(rt: &R, plan: &Plan) -> Result<(), Fa
     let config = settings(plan.log, plan.limit)?;
     let book = new_book(rt, config)?;
     let log = Log::new(8);
-    let mut kept = Kept { book, log };
+    let kept = Kept { book, log };
     let (line, mutators, takers) = new_line(rt, config)?;
     let mut mutators = mutators.into_iter();
     let mut takers = takers;
@@ -59,9 +56,10 @@ fn at_line<R: Wait + Eprint + AllocGlobal>(rt: &R, plan: &Plan) -> Result<(), Fa
         return Err(Failure::Wrong);
     };
     let taker = next_taker(&line, &mut takers);
-    let mut ends = Ends::new(&line, mutator, taker);
-    ends.play(rt, &mut kept, plan)?;
-    kept.has_sets(rt, &plan.sets)
+    let ends = Ends::new(&line, mutator, taker);
+    let mut caller = Caller { ends, kept };
+    caller.play(rt, plan)?;
+    caller.kept.has_sets(rt, &plan.sets)
 }
 
 // The first mutator.
@@ -102,101 +100,72 @@ fn new_line<R: Eprint + AllocGlobal>(
     }
 }
 
-impl<'a> Ends<'a> {
-    fn new(line: &'a Line, mutator: Mutator, taker: Taker) -> Ends<'a>
-        requires sender { IsSenderOf line.now mutator.sender }
-        requires taker { IsTakerOf line.now taker }
-    {
-        Ends {
-            line,
-            mutator,
-            taker,
-        }
-    }
-}
-
-impl Ends<'_> {
-    fn play<R: Wait + Eprint>(
-        &mut self,
-        rt: &R,
-        kept: &mut Kept,
-        plan: &Plan,
-    ) -> Result<(), Failure> {
-        check(rt, self.line.len(rt) == 0, "a new line holds a buffer")?;
-        check(rt, self.mutator.log.is_empty(), "a new log has a card")?;
+impl Caller<'_> {
+    fn play<R: Wait + Eprint>(&mut self, rt: &R, plan: &Plan) -> Result<(), Failure> {
+        check(
+            rt,
+            self.ends.line().len(rt) == 0,
+            "a new line holds a buffer",
+        )?;
+        check(rt, self.ends.log().is_empty(), "a new log has a card")?;
         for step in plan.steps {
             match step {
                 Step::Store(reference, fill, cards) => {
-                    self.stored(rt, kept, *reference, *fill, cards)?
+                    self.stored(rt, *reference, *fill, cards)?
                 }
-                Step::Flush(cards) => self.flushed(rt, kept, cards)?,
-                Step::Refine(cards, left) => self.refined(rt, kept, cards, *left)?,
-                Step::Work(cards) => self.worked(rt, kept, cards)?,
+                Step::Flush(cards) => self.flushed(rt, cards)?,
+                Step::Refine(cards, left) => self.refined(rt, cards, *left)?,
+                Step::Work(cards) => self.worked(rt, cards)?,
             }
         }
         Ok(())
     }
 
-    fn store<R: Wait>(
-        &mut self,
-        rt: &R,
-        kept: &mut Kept,
-        from: u32,
-        to: u32,
-    ) -> Result<StoreReply, Failure> {
-        let layout = kept.book.layout();
+    fn store<R: Wait>(&mut self, rt: &R, from: u32, to: u32) -> Result<StoreReply, Failure> {
+        let layout = self.kept.book.layout();
         let from = slot(&layout, from)?;
         let to = slot(&layout, to)?;
-        if kept.book.mutators() == 0 {
+        if self.kept.book.mutators() == 0 {
             return Err(Failure::Wrong);
         }
-        let mut calls = LentBook::new(&mut kept.book, 0);
-        Ok(
-            self.mutator
-                .store(rt, self.line, &mut calls, from, Some(to))?,
-        )
+        let mut calls = LentBook::new(&mut self.kept.book, 0);
+        Ok(self.ends.store(rt, &mut calls, from, Some(to))?)
     }
 
     // Stores a reference, again where that is refused, which leaves entries and log.
     fn stored<R: Wait + Eprint>(
         &mut self,
         rt: &R,
-        kept: &mut Kept,
         reference: (u32, u32),
         fill: Fill,
         cards: &[u32],
     ) -> Result<(), Failure> {
         let (from, to) = reference;
-        let before = (kept.book.entries().len(), self.mutator.log.len());
-        let reply = match self.store(rt, kept, from, to) {
+        let before = (self.kept.book.entries().len(), self.ends.log().len());
+        let reply = match self.store(rt, from, to) {
             Err(Failure::NoMemory) => {
-                refused(rt, "Mutator::store");
-                let now = (kept.book.entries().len(), self.mutator.log.len());
+                refused(rt, "Ends::store");
+                let now = (self.kept.book.entries().len(), self.ends.log().len());
                 check(rt, now == before, "what a refused store left")?;
-                self.store(rt, kept, from, to)?
+                self.store(rt, from, to)?
             }
             answer => answer?,
         };
         check(rt, reply.fill == fill, "what became of the log")?;
-        is_helped(rt, "Mutator::store", &reply.refined, reply.short, cards)?;
+        is_helped(rt, "Ends::store", &reply.refined, reply.short, cards)?;
         // a store is one entry, and its help another, unless that was refused
-        let made = kept.book.entries().len().saturating_sub(before.0);
+        let made = self.kept.book.entries().len().saturating_sub(before.0);
         let wanted = if fill == Fill::Helped { 2 } else { 1 };
         let is_refused = reply.short && reply.refined.is_empty() && made == 1;
         check(rt, made == wanted || is_refused, "what a store entered")
     }
 
     // Flushes the log into a full line, and refines what was in it.
-    fn flushed<R: Wait + Eprint>(
-        &mut self,
-        rt: &R,
-        kept: &mut Kept,
-        cards: &[u32],
-    ) -> Result<(), Failure> {
-        let mut calls = LentBook::new(&mut kept.book, 0);
-        let reply = self.mutator.flush(rt, self.line, &mut calls);
-        is_helped(rt, "Mutator::flush", &reply.refined, reply.short, cards)?;
-        let is = reply.cards as usize == cards.len() && self.mutator.log.is_empty();
+    fn flushed<R: Wait + Eprint>(&mut self, rt: &R, cards: &[u32]) -> Result<(), Failure> {
+        let mut calls = LentBook::new(&mut self.kept.book, 0);
+        let reply = self.ends.flush(rt, &mut calls);
+        is_helped(rt, "Ends::flush", &reply.refined, reply.short, cards)?;
+        let is = reply.cards as usize == cards.len() && self.ends.log().is_empty();
         check(rt, is, "how many cards were flushed")
     }
 
@@ -205,54 +174,48 @@ impl Ends<'_> {
     fn refined<R: Wait + Eprint>(
         &mut self,
         rt: &R,
-        kept: &mut Kept,
         cards: &[u32],
         left: u32,
     ) -> Result<(), Failure> {
-        let entries = kept.book.entries().len();
-        let mut calls = LentBook::new(&mut kept.book, 0);
-        match refine(rt, self.line, &mut self.taker, &mut calls) {
+        let entries = self.kept.book.entries().len();
+        let mut calls = LentBook::new(&mut self.kept.book, 0);
+        match self.ends.refine(rt, &mut calls) {
             Err(Refusal::NoMemory) => {
-                refused(rt, "refine");
-                let now = kept.book.entries().len();
+                refused(rt, "Ends::refine");
+                let now = self.kept.book.entries().len();
                 check(rt, now == entries, "a refused refinement was entered")?;
             }
             answer => {
                 let reply = answer?;
-                is_helped(rt, "refine", &reply.refined, reply.short, cards)?;
+                is_helped(rt, "Ends::refine", &reply.refined, reply.short, cards)?;
                 check(rt, reply.left == left, "how many buffers are left")?;
             }
         }
-        let is = self.line.len(rt) == left as usize;
+        let is = self.ends.line().len(rt) == left as usize;
         check(rt, is, "how many buffers the line holds")
     }
 
     // A round of refinement. A refused one gives up one buffer at most.
-    fn worked<R: Wait + Eprint>(
-        &mut self,
-        rt: &R,
-        kept: &mut Kept,
-        cards: &[u32],
-    ) -> Result<(), Failure> {
-        let entries = kept.book.entries().len();
-        let held = self.line.len(rt);
-        let start = kept.book.config().start();
-        let mut calls = LentBook::new(&mut kept.book, 0);
-        let reply = match work(rt, self.line, &mut self.taker, &mut calls, start) {
+    fn worked<R: Wait + Eprint>(&mut self, rt: &R, cards: &[u32]) -> Result<(), Failure> {
+        let entries = self.kept.book.entries().len();
+        let held = self.ends.line().len(rt);
+        let start = self.kept.book.config().start();
+        let mut calls = LentBook::new(&mut self.kept.book, 0);
+        let reply = match self.ends.work(rt, &mut calls, start) {
             Err(Refusal::NoMemory) => {
-                refused(rt, "work");
-                let now = kept.book.entries().len();
+                refused(rt, "Ends::work");
+                let now = self.kept.book.entries().len();
                 check(rt, now == entries, "a refused round was entered")?;
-                let is = self.line.len(rt) >= held.saturating_sub(1);
+                let is = self.ends.line().len(rt) >= held.saturating_sub(1);
                 return check(rt, is, "what a refused round gave up");
             }
             answer => answer?,
         };
-        is_helped(rt, "work", &reply.refined, reply.short, cards)?;
+        is_helped(rt, "Ends::work", &reply.refined, reply.short, cards)?;
         let refined = reply.refined.len();
         let is = reply.taken as usize == refined;
         check(rt, is, "how many buffers a round took")?;
-        let made = kept.book.entries().len().saturating_sub(entries);
+        let made = self.kept.book.entries().len().saturating_sub(entries);
         // a short call is entered too
         let is = made == refined || reply.short && made == refined.saturating_add(1);
         check(rt, is, "what a round entered")

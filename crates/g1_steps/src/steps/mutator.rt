@@ -1,11 +1,8 @@
 //! What a mutator does: stores, whose filled log goes into the queue of completed buffers, and
 //! flushes.
-ghost use Rattle.std.specs.Prelude.{◌≡◌, ◌≢◌, ◌<◌, ◌↔◌, ◌∷◌, ◌++◌, [], true, length, IfOk, IfSome};
-ghost use Rattle.std.specs.Prelude.{IfErr, OnErr, IsNone, IsSome};
+ghost use Rattle.std.specs.Prelude.{◌≡◌, ◌<◌, true, IfSome, IsNone, IsSome};
 ghost use Rattle.g1_layout.specs.Shape.{slot_count, card_of};
 ghost use Rattle.g1_log.specs.Ends.{IsSenderOf, put_of, IsSameSender};
-ghost use Rattle.g1_core.specs.Barrier.{logged, buffer_of};
-ghost use Rattle.g1_steps.specs.Made.{Refused};
 ghost use Rattle.g1_steps.specs.Steps.{IsPassed, PutsBy, MayRefuse, nothing_flushed};
 
 use crate::calls::Calls;
@@ -44,7 +41,7 @@ pub struct Mutator {
 }
 
 impl Mutator {
-    ghost use Rattle.g1_steps.specs.Steps.{IsStored, IsFlushed, IsStopped};
+    ghost use Rattle.g1_steps.specs.Steps.{IsStoreStep, IsFlushStep, IsStopped};
 
     /// Returns a mutator with this log and this end of the queue. It takes about two kilobytes: its
     /// log, and a place for the buffer that the log completes.
@@ -82,24 +79,8 @@ impl Mutator {
         requires slot { slot < slot_count (C.layout calls.old) }
         requires target { IfSome target (λ place. place < slot_count (C.layout calls.old)) }
         requires line { IsSenderOf line.now self.old.sender }
-        ensures stored { IfOk result (λ reply.
-            IsStored C.did calls.old slot target (self.old.log.cards
-            ++ card_of (C.layout calls.old) slot ∷ []) reply calls.new) }
-        ensures log { IfOk result (λ reply.
-            self.new.log ≡ logged reply.kind self.old.log (card_of (C.layout calls.old) slot)) }
-        ensures fill { IfOk result (λ reply.
-            (reply.fill ≡ Fill.No)
-            ↔ IsNone (buffer_of reply.kind self.old.log (card_of (C.layout calls.old) slot))) }
-        ensures put { IfOk result (λ reply.
-            PutsBy reply.fill (self.old.log.cards ++ card_of (C.layout calls.old) slot
-            ∷ []) (put_of self.old.sender) (put_of self.new.sender)) }
-        ensures helped { IfOk result (λ reply.
-            reply.fill ≡ Fill.Helped → MayRefuse line.now self.old.sender) }
-        ensures empty { IfOk result (λ reply. reply.fill ≢ Fill.No → self.new.log.cards ≡ []) }
-        ensures same { IsSameSender self.new.sender self.old.sender }
-        ensures err { IfErr result (λ refusal. C.did calls.old (Refused refusal ∷ []) calls.new) }
-        ensures err_ends { OnErr result ((self.new.log ≡ self.old.log)
-            × (self.new.sender ≡ self.old.sender)) }
+        ensures { IsStoreStep C.did line.now calls.old self.old
+            slot target (card_of (C.layout calls.old) slot) result self.new calls.new }
     {
         let first = calls.store(&mut self.log, &mut self.place.buffer, slot, target)?;
         if self.place.buffer.is_none() {
@@ -122,13 +103,7 @@ impl Mutator {
     /// its mark, unless it was refined meanwhile.
     pub fn flush<C: Calls, R: Wait>(&mut self, rt: &R, line: &Line, calls: &mut C) -> FlushReply
         requires line { IsSenderOf line.now self.old.sender }
-        ensures flushed { IsFlushed C.did calls.old self.old.log.cards result calls.new }
-        ensures cards { result.cards ≡ length self.old.log.cards }
-        ensures log { self.new.log ≡ record self.old.log { cards = [] } }
-        ensures put { PutsBy result.fill self.old.log.cards (put_of self.old.sender)
-            (put_of self.new.sender) }
-        ensures helped { result.fill ≡ Fill.Helped → MayRefuse line.now self.old.sender }
-        ensures same { IsSameSender self.new.sender self.old.sender }
+        ensures { IsFlushStep C.did line.now calls.old self.old result self.new calls.new }
     {
         let Some(buffer) = self.log.take() else {
             return nothing_flushed(calls.allocator());

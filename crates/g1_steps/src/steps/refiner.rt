@@ -1,12 +1,11 @@
 //! What a refinement thread does: it takes completed buffers from the queue and refines them, one
 //! or a round of them.
-ghost use Rattle.std.specs.Prelude.{◌≡◌, ◌<◌, ◌≤◌, ◌+◌, ◌^◌, ◌*◌, ◌++◌, ◌∷◌, ℕ, [], true, false};
-ghost use Rattle.std.specs.Prelude.{length, vec_len, vec_capacity, IfOk, IfErr, OnErr};
-ghost use Rattle.g1_log.specs.declared.parcel.Parcel.{Parcel as P};
+ghost use Rattle.std.specs.Prelude.{◌≡◌, ◌<◌, ◌≤◌, ◌+◌, ◌^◌, ◌++◌, ◌∷◌, [], true, false, length};
+ghost use Rattle.std.specs.Prelude.{vec_len, vec_capacity, IfOk, IfErr, OnErr};
 ghost use Rattle.g1_log.specs.Ends.{IsTakerOf, IsSameTaker, taken_of, capacity_of};
-ghost use Rattle.g1_steps.specs.Made.{Refused};
-ghost use Rattle.g1_steps.specs.Steps.{IsRefinement, GainsAtMost};
-ghost use Rattle.g1_steps.specs.Rounds.{round_size, IsRefused, IsRound, IsNextOf, so_far, progress};
+ghost use Rattle.g1_steps.specs.Steps.{IsRefineStep, IsOfCalls, GainsAtMost};
+ghost use Rattle.g1_steps.specs.Rounds.{round_size, IsRefused, IsRound, IsWorkStep, IsNextOf};
+ghost use Rattle.g1_steps.specs.Rounds.{so_far, progress};
 
 use crate::calls::Calls;
 use g1_book::Refusal;
@@ -38,16 +37,7 @@ pub fn refine<C: Calls, R: Wait>(
     calls: &mut C,
 ) -> Result<RefineReply, Refusal>
     requires taker { IsTakerOf line.now taker.old }
-    ensures refined { IfOk result (λ reply.
-        IsRefinement C.did calls.old taker.old reply taker.new calls.new) }
-    ensures counts { IfOk result (λ reply.
-        (reply.taken ≤ 1) × (length reply.refined + reply.skipped ≤ 256) × (reply.hot ≤ 256)) }
-    ensures left { IfOk result (λ reply. reply.left ≤ capacity_of line.now) }
-    ensures one { IfOk result (λ reply.
-        reply.taken ≡ 1 → (x : P) × (taken_of taker.new ≡ taken_of taker.old ++ x ∷ [])) }
-    ensures same { IsSameTaker taker.new taker.old }
-    ensures err { IfErr result (λ refusal. C.did calls.old (Refused refusal ∷ []) calls.new) }
-    ensures given_up { OnErr result (GainsAtMost (taken_of taker.old) 1 (taken_of taker.new)) }
+    ensures { IsRefineStep C.did line.now calls.old taker.old result taker.new calls.new }
 {
     if !line.is_empty_for(taker) {
         return refine_oldest(rt, line, taker, calls);
@@ -69,16 +59,7 @@ fn refine_oldest<C: Calls, R: Wait>(
     calls: &mut C,
 ) -> Result<RefineReply, Refusal>
     requires taker { IsTakerOf line.now taker.old }
-    ensures refined { IfOk result (λ reply.
-        IsRefinement C.did calls.old taker.old reply taker.new calls.new) }
-    ensures counts { IfOk result (λ reply.
-        (reply.taken ≤ 1) × (length reply.refined + reply.skipped ≤ 256) × (reply.hot ≤ 256)) }
-    ensures left { IfOk result (λ reply. reply.left ≤ capacity_of line.now) }
-    ensures one { IfOk result (λ reply.
-        reply.taken ≡ 1 → (x : P) × (taken_of taker.new ≡ taken_of taker.old ++ x ∷ [])) }
-    ensures same { IsSameTaker taker.new taker.old }
-    ensures err { IfErr result (λ refusal. C.did calls.old (Refused refusal ∷ []) calls.new) }
-    ensures given_up { OnErr result (GainsAtMost (taken_of taker.old) 1 (taken_of taker.new)) }
+    ensures { IsRefineStep C.did line.now calls.old taker.old result taker.new calls.new }
 {
     let parcel = line.take(rt, taker);
     let left = completed(rt, line);
@@ -108,18 +89,7 @@ pub fn work<C: Calls, R: Wait>(
     start: usize,
 ) -> Result<RefineReply, Refusal>
     requires taker { IsTakerOf line.now taker.old }
-    ensures round { IfOk result (λ reply.
-        (seen : ℕ) × (seen ≤ capacity_of line.now)
-        × IsRound C.did calls.old (taken_of taker.old) (round_size start seen) reply
-        (taken_of taker.new) calls.new) }
-    ensures counts { IfOk result (λ reply.
-        (reply.taken ≤ capacity_of line.now)
-        × (length reply.refined + reply.skipped ≤ 256 * capacity_of line.now)
-        × (reply.hot ≤ 256 * capacity_of line.now)) }
-    ensures left { IfOk result (λ reply. reply.left ≤ capacity_of line.now) }
-    ensures same { IsSameTaker taker.new taker.old }
-    ensures err { IfErr result (λ refusal. IsRefused C.did calls.old refusal calls.new) }
-    ensures given_up { OnErr result (GainsAtMost (taken_of taker.old) 1 (taken_of taker.new)) }
+    ensures { IsWorkStep C.did line.now start calls.old taker.old result taker.new calls.new }
 {
     let seen = completed(rt, line);
     let count = round_size(start, seen);
@@ -151,9 +121,7 @@ fn run_round<C: Calls, R: Wait>(
     ensures round { IfOk result (λ sums.
         IsRound C.did calls.old (taken_of taker.old) count (so_far sums)
         (taken_of taker.new) calls.new) }
-    ensures counts { IfOk result (λ sums.
-        (sums.taken ≤ count) × (length sums.refined.items + sums.skipped ≤ 256 * count)
-        × (sums.hot ≤ 256 * count)) }
+    ensures counts { IfOk result (λ sums. IsOfCalls count (so_far sums)) }
     ensures left { IfOk result (λ sums. sums.left ≤ capacity_of line.now) }
     ensures same { IsSameTaker taker.new taker.old }
     ensures err { IfErr result (λ refusal. IsRefused C.did calls.old refusal calls.new) }
@@ -252,8 +220,7 @@ impl Sums {
     fn add(&mut self, reply: &RefineReply, left: u32)
         requires few { (self.old.taken < 2 ^ 20) × (self.old.hot < 2 ^ 20)
             × (self.old.skipped < 2 ^ 20) }
-        requires counts { (reply.now.taken ≤ 1)
-            × (length reply.now.refined + reply.now.skipped ≤ 256) × (reply.now.hot ≤ 256) }
+        requires counts { IsOfCalls 1 reply.now }
         requires room { vec_len self.old.refined + length reply.now.refined
             ≤ vec_capacity self.old.refined }
         ensures sums { so_far self.new ≡ sums_with (so_far self.old) reply.now }

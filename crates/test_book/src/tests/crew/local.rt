@@ -3,13 +3,11 @@
 //! The heap has 4 regions of 2 cards of 4 slots: card `c` has the slots from `4 * c` on, region `r`
 //! those from `8 * r` on.
 ghost use Rattle.std.specs.Prelude.{◌≡◌, ◌≤◌, true, nat_lt, IfOk};
-ghost use Rattle.g1_log.specs.Ends.{IsSenderOf, IsTakerOf};
 ghost use Rattle.g1_book.specs.History.{layout_in};
 
 use super::*;
 use crate::tests::steps::{assert_flushed, assert_round, assert_stored, whole};
-use g1_log::{Line, Taker};
-use g1_steps::{Desk, LentBook, LocalDesk, Mutator, Outcome, mutate, open_line, refiner};
+use g1_steps::{Desk, Ends, LentBook, LocalDesk, Outcome, mutate, refiner};
 use std::sync::Wait;
 use std::test::Fail;
 
@@ -26,19 +24,15 @@ fn plain_book(rt: &impl Abort, alloc: Global, history: usize) -> Result<Book, No
 /// The desk of caller 0 at the book, whose rounds begin at `start` completed buffers.
 fn desk_at<'a, R>(
     rt: &'a R,
-    line: &'a Line,
+    ends: Ends<'a>,
     book: &'a mut Book,
-    mutator: Mutator,
-    taker: Taker,
     start: usize,
 ) -> LocalDesk<'a, R, LentBook<'a>>
-    requires one { book.old.mutators ≡ 1 }
-    requires sender { IsSenderOf line.now mutator.sender }
-    requires taker { IsTakerOf line.now taker }
+    requires { book.old.mutators ≡ 1 }
     ensures may { nat_lt result.calls.caller result.calls.book.now.mutators ≡ true }
     ensures layout { layout_in result.calls.book.now ≡ layout_in book.old }
 {
-    LocalDesk::new(rt, line, LentBook::new(book, 0), mutator, taker, start)
+    LocalDesk::new(rt, ends, LentBook::new(book, 0), start)
 }
 
 /// A store whose log is flushed leaves one completed buffer in the line, where a round begins at
@@ -49,7 +43,8 @@ fn a_desk_stores_flushes_and_begins_no_round(rt: HostRuntime) -> Result<(), Fail
     let layout = book.layout();
     let config = book.config();
     let (line, mutator, taker) = ends(&rt, rt.alloc(), config)?;
-    let mut desk = desk_at(&rt, &line, &mut book, mutator, taker, config.start());
+    let own = Ends::new(&line, mutator, taker);
+    let mut desk = desk_at(&rt, own, &mut book, config.start());
     let (from, to) = (slot_in(&rt, layout, 0), slot_in(&rt, layout, 8));
     assert_stored(&rt, &desk.store(from, Some(to))?, Fill::No, &[]);
     assert_flushed(&rt, &desk.flush()?, 1, Fill::Full, &[]);
@@ -63,7 +58,8 @@ fn a_desk_begins_a_round_at_its_start(rt: HostRuntime) -> Result<(), Fail> {
     let mut book = plain_book(&rt, rt.alloc(), 10)?;
     let layout = book.layout();
     let (line, mutator, taker) = ends(&rt, rt.alloc(), book.config())?;
-    let mut desk = desk_at(&rt, &line, &mut book, mutator, taker, 2);
+    let own = Ends::new(&line, mutator, taker);
+    let mut desk = desk_at(&rt, own, &mut book, 2);
     let to = slot_in(&rt, layout, 24);
     assert_stored(
         &rt,
@@ -95,7 +91,8 @@ fn worked<R: Abort + Wait>(
     let steps = steps_of(rt, alloc, book.layout(), wishes)?;
     let config = book.config();
     let (line, mutator, taker) = ends(rt, alloc, config)?;
-    let mut desk = desk_at(rt, &line, book, mutator, taker, config.start());
+    let own = Ends::new(&line, mutator, taker);
+    let mut desk = desk_at(rt, own, book, config.start());
     let made = mutate(&mut desk, steps.as_slice());
     Ok((made, refiner(&mut desk, 3)))
 }

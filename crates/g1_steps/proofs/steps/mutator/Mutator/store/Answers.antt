@@ -4,12 +4,12 @@ use Rattle.g1_layout.specs.Shape.{card_of}
 use Rattle.g1_layout.specs.declared.kind.Kind.TheVariants.{Logged}
 use Rattle.g1_steps.specs.declared.steps.mutator.Mutator.{Mutator}
 use Rattle.g1_steps.specs.Made.{Stored}
-use Rattle.g1_steps.specs.Steps.{IsPassed, help_calls, filled}
+use Rattle.g1_steps.specs.Steps.{IsPassed, IsStored, help_calls, filled}
 use Rattle.g1_steps.proofs.StepLemmas.{handed_some, store_passed}
 use Rattle.g1_steps.proofs.steps.mutator.Mutator.store.Goals as goal
 
-pub returns-clause-stored : goal.returns-clause-stored
-returns-clause-stored g c =
+pub returns : goal.returns
+returns g c =
     let first = c.in_ok-first.first in
     let some : IsSome c.store.new.completed = search rules in
     let out = handed_some _ _ _ _ c.in_ok-first.ensures.buffer some in
@@ -17,7 +17,7 @@ returns-clause-stored g c =
     let kind : first.kind ≡ Logged = out.0 in
     let did = g.met.C.Calls.then _ _ _ (Stored c.args.slot c.args.target first ∷ []) _ c.in_ok-first.ensures.made h.made in
     let full : first ≡ filled = search rules in
-    record {
+    let stored : IsStored g.C.Calls.did c.args.calls.now c.args.slot c.args.target _ _ _ = record {
       first = first;
       help = h.help;
       made = subst (λ (m : Mutator). g.C.Calls.did c.args.calls.now (Stored c.args.slot c.args.target first ∷ help_calls (m.log.cards ++ card_of (g.C.Calls.layout c.args.calls.now) c.args.slot ∷ []) h.help) c.pass_from-passed.new.calls) c.self.view_is did;
@@ -26,4 +26,5 @@ returns-clause-stored g c =
       own = search rules;
       full = λ _. full;
       helps = search rules;
-    }
+    } in
+    search rules
