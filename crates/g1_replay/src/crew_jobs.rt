@@ -1,6 +1,6 @@
 //! The jobs of a crew, and the book that they leave.
 ghost use Rattle.std.specs.Prelude.{◌≡◌, ◌+◌, ◌≤◌, ℕ, [], drop, true, IfErr, IfOk, All, map};
-ghost use Rattle.std.specs.Prelude.{count_by, vec_len, vec_capacity};
+ghost use Rattle.std.specs.Prelude.{count_by, sum_by, vec_len, vec_capacity, ◌^◌, ◌<◌};
 ghost use Rattle.g1_shared.specs.Callers.{IsCallerOf};
 ghost use Rattle.g1_shared.specs.Counts.{is_store};
 ghost use Rattle.g1_book.specs.History.{terms_of};
@@ -67,17 +67,20 @@ fn jobs_of<'a, T, M: Frame, S: Ledger>(
     Ok(jobs)
 }
 
-// The callers, and why the first job that was refused was.
+// The callers, how many stores they have made, and why the first job that was refused was.
 fn callers_of<'a, T, M: Frame, S: Ledger>(
     jobs: Vec<Job<SharedDesk<'a, T, M, S>>>,
     room: Vec<Caller<M, S>>,
-) -> (Vec<Caller<M, S>>, Option<Refusal>)
+) -> (Vec<Caller<M, S>>, u64, Option<Refusal>)
     requires { (vec_len room ≡ 0) × (vec_len jobs ≤ vec_capacity room) }
     ensures callers { result.0.items ≡ map (λ job. job.desk.caller) jobs.entry.items }
     ensures len { vec_len result.0 ≡ vec_len jobs.entry }
-    ensures first { result.1 ≡ first_refusal (map (λ job. job.outcome) jobs.entry.items) }
+    ensures stores { let sum = sum_by (λ caller. caller.counts.stored) result.0.items in
+        sum < 2 ^ 64 → result.1 ≡ sum }
+    ensures first { result.2 ≡ first_refusal (map (λ job. job.outcome) jobs.entry.items) }
 {
     let mut callers = room;
+    let mut stores = 0u64;
     let mut refused = None;
     for job in jobs {
         let Job {
@@ -85,15 +88,17 @@ fn callers_of<'a, T, M: Frame, S: Ledger>(
             script: _,
             outcome,
         } = job;
-        callers.push_reserved(desk.into_caller());
+        let caller = desk.into_caller();
+        stores = stores.saturating_add(caller.stored());
+        callers.push_reserved(caller);
         refused = refused.or(refusal_of(outcome));
     }
-    (callers, refused)
+    (callers, stores, refused)
 }
 
 /// Runs one job for each mutator, with its script, and one for each refinement thread. Returns the
-/// book, with why the first of the jobs that were refused was, in the order of the callers. The
-/// book's stores are those of the scripts, of each up to its refusal.
+/// book, how many of its entries are stores, and why the first of the jobs that were refused was,
+/// in the order of the callers. The stores are those of the scripts, of each up to its refusal.
 ///
 /// Returns `NoMemory` if a growth for callers, jobs or scripts was refused, and `NoThread` if a
 /// thread could not be started. The book is then given up.
@@ -104,7 +109,7 @@ pub(crate) fn run_jobs<T: Threads + Wait + Sync, M: Frame + Send + Sync, S: Ledg
     book: Book,
     scripts: Vec<Vec<Step>>,
     options: &Options,
-) -> Result<(Book, Option<Refusal>), Stop>
+) -> Result<(Book, u64, Option<Refusal>), Stop>
     requires made { (blanks.0.name ≡ M.name) × (blanks.0.parts ≡ M.parts)
         × (blanks.0.parts ≡ options.now.mutators + options.now.refiners) }
     requires stored { (blanks.1.name ≡ S.name) × (blanks.1.parts ≡ S.parts)
@@ -116,9 +121,9 @@ pub(crate) fn run_jobs<T: Threads + Wait + Sync, M: Frame + Send + Sync, S: Ledg
     requires fits { All (λ steps. All (StepFits (slot_count M.terms.layout) true) steps.items)
         scripts.items }
     ensures terms { IfOk result (λ done. terms_of done.0 ≡ M.terms) }
+    ensures stores { IfOk result (λ done. done.1 ≡ count_by is_store done.0.entries) }
     ensures came { IfOk result (λ done. HasCome (λ steps. steps.items) options.now.rounds
-        (options.now.mutators + options.now.refiners) scripts.items done.1
-        (count_by is_store done.0.entries)) }
+        (options.now.mutators + options.now.refiners) scripts.items done.2 done.1) }
     ensures stops { IfErr result IsUnstarted }
 {
     let (made, stored) = blanks;
@@ -129,6 +134,8 @@ pub(crate) fn run_jobs<T: Threads + Wait + Sync, M: Frame + Send + Sync, S: Ledg
     };
     let jobs = jobs_of(rt, alloc, &shared, callers, scripts, options.rounds)?;
     let done = run_crew(rt, alloc, jobs)?;
-    let (callers, refused) = callers_of(done, room);
-    Ok((shared.finish(callers), refused))
+    let (callers, stores, refused) = callers_of(done, room);
+    let book = shared.finish(callers);
+    let _entries = book.entries();
+    Ok((book, stores, refused))
 }

@@ -9,33 +9,10 @@ ghost use Rattle.g1_replay.specs.Playing.{HasPlayed, IsBookFull, MayStop, Writes
 use crate::calls::play_call;
 use crate::drains::{Drains, put_drains};
 use crate::stop::Stop;
-use g1_book::{Book, Call, Entry, Refusal};
+use g1_book::{Book, Call, Refusal};
 use g1_layout::Region;
 use g1_trace::put_stores;
 use std::io::Write;
-
-// Whether the call of the entry is a store.
-fn is_store(entry: &Entry) -> bool
-    ensures { result ≡ is_store entry.now }
-{
-    match entry.call {
-        Call::Store { .. } => true,
-        _ => false,
-    }
-}
-
-// How many of the entries are stores.
-fn count_stores(entries: &[Entry]) -> u64
-    ensures { result ≡ count_by is_store entries.now }
-{
-    let mut count = 0;
-    for entry in entries {
-        if is_store(entry) {
-            count += 1;
-        }
-    }
-    count
-}
 
 impl Drains for Book {
     ghost layout = { layout_in };
@@ -57,15 +34,16 @@ impl Drains for Book {
 }
 
 // How many stores there were, and the drains of all regions.
-fn put_book<W: Write>(book: &mut Book, output: &mut W) -> Result<(), Stop>
+fn put_book<W: Write>(book: &mut Book, stores: u64, output: &mut W) -> Result<(), Stop>
+    requires { stores ≡ count_by is_store book.old.entries }
     ensures { (text : List ℕ) × CrewRan (layout_in book.old) book.old.limit result text
         × Writes (W.contents output.old) (W.contents output.new) result text }
 {
     let layout = book.layout();
-    let count = count_stores(book.entries());
-    put_stores(output, count)?;
+    let _before = book.entries();
+    put_stores(output, stores)?;
     let result = put_drains(book, layout, output);
-    let _history = book.entries();
+    let _after = book.entries();
     result
 }
 
@@ -83,19 +61,21 @@ fn stop_of(book: &Book, refusal: Refusal, history: u32) -> Stop
     Stop::NoMemory
 }
 
-/// Writes what comes of the crew's book, if no call was refused.
+/// Writes what comes of the crew's book, which has this many stores, if no call was refused.
 pub(crate) fn put_crew<W: Write>(
     book: &mut Book,
+    stores: u64,
     refused: Option<Refusal>,
     history: u32,
     output: &mut W,
 ) -> Result<(), Stop>
-    requires { book.old.limit ≡ history }
+    requires limit { book.old.limit ≡ history }
+    requires stores { stores ≡ count_by is_store book.old.entries }
     ensures { (text : List ℕ) × CrewRan (layout_in book.old) history result text
         × Writes (W.contents output.old) (W.contents output.new) result text }
 {
     match refused {
         Some(refusal) => Err(stop_of(book, refusal, history)),
-        None => put_book(book, output),
+        None => put_book(book, stores, output),
     }
 }

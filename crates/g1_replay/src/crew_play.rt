@@ -53,10 +53,10 @@ fn run_scripts<T: Threads + Wait + Sync, W: Write>(
         options.history as usize,
     )?;
     let blanks = (Blank::new(count), Blank::new(count));
-    let (mut book, refused) = run_jobs::<T, Brand, Brand>(
+    let (mut book, stores, refused) = run_jobs::<T, Brand, Brand>(
         rt, alloc, blanks, book, scripts, options,
     )?;
-    put_crew(&mut book, refused, options.history, output)
+    put_crew(&mut book, stores, refused, options.history, output)
 }
 
 // The whole trace and then its scripts, but for the line of the end.

@@ -1,6 +1,8 @@
 use Rattle.std.proofs.Common.{ap, sym, ◌∙◌, zero-add, arith}
 use Rattle.g1_layout.specs.Shape.{slot_count}
 use Rattle.std.proofs.lemmas.List.Elements.{length_all_zip}
+use Rattle.std.proofs.lemmas.List.Sums.{count_by-le-length}
+use Rattle.g1_shared.specs.Counts.{is_store}
 use Rattle.g1_log.specs.Ends.{capacity_of}
 use Rattle.g1_replay.proofs.JobLemmas.{has_come}
 use Rattle.g1_replay.proofs.CrewScriptLemmas.{each_from, script_at_fits}
@@ -37,11 +39,18 @@ callers_of-callers-requires g c =
     )
 
 pub returns-clause-terms : goal.returns-clause-terms
-returns-clause-terms g c = c.finish.ensures.terms
+returns-clause-terms g c = c.finish-book.ensures.terms
+
+-- as many as the book has entries at most, which is far from what the sum has no room for
+pub returns-clause-stores : goal.returns-clause-stores
+returns-clause-stores g c =
+    let all = c.finish-book.ensures.stored in
+    c.callers_of-callers.ensures.stores (omega (arith, all, count_by-le-length is_store c.finish-book.result.entries, c.entries-entries.ensures.entries)) ∙ sym all
 
 pub returns-clause-came : goal.returns-clause-came
 returns-clause-came g c =
     has_come (λ d. capacity_of d.shared.now) (λ d. d.caller) (λ steps. steps.items) _ _ _ _ _ c.in-Ok.callers.items c.callers_of-callers.result.0.items c.in_ok-jobs.jobs.items c.in_ok-done.done.items
     c.in_ok-done.ensures c.in_ok-jobs.ensures.scripts c.in_ok-jobs.ensures.callers (omega (arith, c.in-Ok.ensures.callers, c.in-Ok.callers.ok.0))
     (λ k d lt. (c.in-Ok.ensures.each k d (omega (arith, lt, c.in-Ok.ensures.callers, c.in-Ok.callers.ok.0))).counts)
-    c.callers_of-callers.ensures.first c.callers_of-callers.ensures.callers c.finish.ensures.stored
+    c.callers_of-callers.ensures.first c.callers_of-callers.ensures.callers
+    (c.callers_of-callers.ensures.stores (omega (arith, c.finish-book.ensures.stored, count_by-le-length is_store c.finish-book.result.entries, c.entries-entries.ensures.entries)))
