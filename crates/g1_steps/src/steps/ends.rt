@@ -74,7 +74,8 @@ impl<'a> Ends<'a> {
         &self.mutator.log
     }
 
-    /// Stores a reference, or null, by [`Mutator::store`].
+    /// Stores a reference, or null, by [`Mutator::store`]. A log that the store fills goes into the
+    /// queue, or the mutator refines it.
     ///
     /// Returns `Err` if the store itself was refused; calls and ends are then as they were.
     #[inline(always)]
@@ -95,7 +96,8 @@ impl<'a> Ends<'a> {
         self.mutator.store(rt, self.line, calls, slot, target)
     }
 
-    /// Empties the mutator's log, by [`Mutator::flush`].
+    /// Empties the mutator's log, by [`Mutator::flush`]: its cards go the way of a filled log. A
+    /// flush is never refused.
     #[inline(always)]
     pub fn flush<C: Calls, R: Wait>(&mut self, rt: &R, calls: &mut C) -> FlushReply
         ensures step { IsFlushStep C.did self.old.line.now calls.old self.old.mutator
@@ -106,6 +108,9 @@ impl<'a> Ends<'a> {
     }
 
     /// Takes the oldest completed buffer and refines it, by [`refine`].
+    ///
+    /// Returns `Err` if the call was refused. A buffer that was taken is then given up; each of its
+    /// cards is pending by its mark, unless it was refined meanwhile.
     #[inline(always)]
     pub fn refine<C: Calls, R: Wait>(
         &mut self,
@@ -120,6 +125,9 @@ impl<'a> Ends<'a> {
     }
 
     /// Makes a round of refinement that begins at `start` completed buffers, by [`work`].
+    ///
+    /// Returns `Err` if the first take or call was refused. A buffer that was taken is then given
+    /// up, as by a refinement.
     #[inline(always)]
     pub fn work<C: Calls, R: Wait>(
         &mut self,
