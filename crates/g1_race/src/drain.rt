@@ -4,7 +4,7 @@ ghost use Rattle.std.specs.Prelude.{map, replicate, vec_len};
 ghost use Rattle.g1_layout.specs.Shape.{slot_count, card_count};
 ghost use Rattle.g1_core.specs.Run.{IsStep};
 ghost use Rattle.g1_core.specs.Calls.{drain_cards, drain_entry};
-ghost use Rattle.g1_race_words.specs.Rule.{IsOfCrossing, IsWord};
+ghost use Rattle.g1_race_words.specs.Rule.{IsOfCrossing, IsWord, slot_card};
 ghost use Rattle.g1_race_words.specs.Steps.{pair_at};
 ghost use Rattle.g1_race.specs.Members.{racer_log};
 ghost use Rattle.g1_race.specs.Over.{halted};
@@ -22,7 +22,7 @@ use crate::next::{
 use crate::paused::Paused;
 use crate::race::{Race, Racer};
 use crate::stopped::{put, see};
-use crate::word::refers_to;
+use crate::word::pair_of;
 use g1_core::{CardList, Drained};
 use g1_layout::{Card, NoMemory, Region};
 use g1_race_words::Place;
@@ -131,41 +131,24 @@ fn refine_card(race: &Race, seat: &mut Place, card: usize)
     for i in 0..shape.size {
         let slot = card * shape.size + i;
         let word = see(race, seat, slot);
-        note_slot(race, seat, slot as u32, word);
+        note_slot(race, seat, card, slot, word);
     }
     put(race, seat, shape.slots + card, 0);
 }
 
-// Records the pair of a slot's word, if it refers into another region.
-fn note_slot(race: &Race, seat: &mut Place, slot: u32, word: u64)
+// Records the pair of the word of one of the card's slots, if it refers into another region.
+fn note_slot(race: &Race, seat: &mut Place, card: usize, slot: usize, word: u64)
     requires slot { slot < slot_count race.now.layout }
+    requires card { card ≡ slot_card race.now.shape slot }
     requires word { IsWord race.now.shape word }
     requires seat { IsPaused race.now.table.table_id race.now.shape seat.old }
     ensures seat { IsPaused race.now.table.table_id race.now.shape seat.new }
     ensures notes { Notes race.now.shape seat.old.me.0.began_words seat.new.me.0.began_words
         (pair_at race.now.shape slot word) }
 {
-    // Most words are null.
-    if word == 0 {
-        return;
+    if let Some((card, region)) = pair_of(race, card, slot, word) {
+        set_bit(race, seat, card, region);
     }
-    let layout = race.layout;
-    let Some(slot) = layout.slot(slot) else {
-        unreachable!()
-    };
-    let Some(target) = refers_to(layout, word) else {
-        return;
-    };
-    let region = layout.region_of(target);
-    if layout.region_of(slot).number() == region.number() {
-        return;
-    }
-    set_bit(
-        race,
-        seat,
-        layout.card_of(slot).number() as usize,
-        region.number() as usize,
-    );
 }
 
 // Makes sure that the bit of the pair is set, or in the row of flags the card's flag.

@@ -1,7 +1,7 @@
 //! Concurrent refinement, which races with stores.
 ghost use Rattle.std.specs.Prelude.{◌≡◌, ℕ, ◌+◌, ◌-◌, ◌*◌, ◌<◌, ◌≤◌, [], ◌∷◌, OnOk, OnErr};
 ghost use Rattle.std.specs.Result.{IsOk};
-ghost use Rattle.g1_race_words.specs.Rule.{IsPair, IsWord, start_of};
+ghost use Rattle.g1_race_words.specs.Rule.{IsPair, IsWord, slot_card, start_of};
 ghost use Rattle.g1_race_words.specs.Steps.{recorded};
 ghost use Rattle.g1_layout.specs.Shape.{slot_count, card_count};
 ghost use Rattle.g1_race.specs.Members.{race_id, race_layout, sweeper_race, sweeper_start};
@@ -9,7 +9,7 @@ ghost use Rattle.g1_race.specs.Members.{sweeper_view, IsSweeperSeat, Recording, 
 
 use crate::bits::bit_of;
 use crate::race::{Race, Sweeper};
-use crate::word::refers_to;
+use crate::word::pair_of;
 use g1_layout::{Card, NoMemory};
 use g1_race_words::Place;
 
@@ -52,39 +52,22 @@ fn sweep(race: &Race, seat: &mut Place, card: usize)
     for i in 0..shape.size {
         let slot = card * shape.size + i;
         let word = words.read(seat, slot);
-        note_slot(race, seat, slot as u32, word);
+        note_slot(race, seat, card, slot, word);
     }
 }
 
-// Records the pair of a slot's word, if it refers into another region.
-fn note_slot(race: &Race, seat: &mut Place, slot: u32, word: u64)
+// Records the pair of the word of one of the card's slots, if it refers into another region.
+fn note_slot(race: &Race, seat: &mut Place, card: usize, slot: usize, word: u64)
     requires slot { slot < slot_count race.now.layout }
+    requires card { card ≡ slot_card race.now.shape slot }
     requires word { IsWord race.now.shape word }
     requires seat { Recording race.now.table.table_id race.now.shape slot word seat.old }
     ensures table { seat.new.table_id ≡ seat.old.table_id }
     ensures seat { seat.new.me ≡ (recorded seat.old.me.0, seat.old.me.1) }
 {
-    // Most words are null.
-    if word == 0 {
-        return;
+    if let Some((card, region)) = pair_of(race, card, slot, word) {
+        record_pair(race, seat, card, region);
     }
-    let layout = race.layout;
-    let Some(slot) = layout.slot(slot) else {
-        unreachable!()
-    };
-    let Some(target) = refers_to(layout, word) else {
-        return;
-    };
-    let region = layout.region_of(target);
-    if layout.region_of(slot).number() == region.number() {
-        return;
-    }
-    record_pair(
-        race,
-        seat,
-        layout.card_of(slot).number() as usize,
-        region.number() as usize,
-    );
 }
 
 // Makes sure that the bit of the pair is set.

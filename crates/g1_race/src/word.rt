@@ -1,10 +1,12 @@
 //! A slot's word, and what it refers to.
-ghost use Rattle.std.specs.Prelude.{◌≡◌, ◌<◌, ◌^◌, ◌↔◌, IsTrue, IfSome};
+ghost use Rattle.std.specs.Prelude.{◌≡◌, ◌<◌, ◌^◌, ◌↔◌, ◌∷◌, [], IsTrue, IfSome, MatchOption};
 ghost use Rattle.g1_layout.specs.Shape.{slot_count};
-ghost use Rattle.g1_race_words.specs.Rule.{IsReference, IsWord};
+ghost use Rattle.g1_race_words.specs.Rule.{IsReference, IsWord, IsPair, IsOfCrossing, slot_card};
+ghost use Rattle.g1_race_words.specs.Steps.{pair_at};
 ghost use Rattle.g1_race.specs.Race.{shape_of, word_of};
 ghost use Rattle.g1_race.specs.Over.{target_of_word};
 
+use crate::race::Race;
 use g1_layout::{Layout, Slot};
 
 // The word of a slot with this target.
@@ -38,4 +40,29 @@ pub(crate) fn refers_to(layout: Layout, word: u64) -> Option<Slot>
         return None;
     }
     layout.slot(word as u32 - 1)
+}
+
+// The pair of a slot's word: the slot's card, and the region that the word refers into if that is
+// another region.
+#[inline(always)]
+pub(crate) fn pair_of(race: &Race, card: usize, slot: usize, word: u64) -> Option<(usize, usize)>
+    requires slot { slot < slot_count race.now.layout }
+    requires card { card ≡ slot_card race.now.shape slot }
+    requires word { IsWord race.now.shape word }
+    ensures pair { MatchOption result (pair_at race.now.shape slot word ≡ [])
+        (λ pair. pair_at race.now.shape slot word ≡ pair ∷ []) }
+    ensures within { IfSome result (IsPair race.now.shape) }
+    ensures proper { IfSome result (IsOfCrossing race.now.shape) }
+{
+    // Most words are null.
+    if word == 0 {
+        return None;
+    }
+    let layout = race.layout;
+    let target = refers_to(layout, word)?;
+    let region = layout.region_of(target);
+    if layout.region_of(layout.slot(slot as u32)?) == region {
+        return None;
+    }
+    Some((card, region.number() as usize))
 }
