@@ -1,6 +1,7 @@
 -- What contracts see of a book: its machine, how many mutators there are, its entries, and how many
 -- it may have.
-use Rattle.std.specs.Prelude.{◌≡◌, ◌≤◌, ℕ, List, [], ◌∷◌, ◌++◌, length, Option, Some, None, refl}
+use Rattle.std.specs.Prelude.{◌≡◌, ◌≤◌, ◌↔◌, ℕ, List, [], ◌∷◌, ◌++◌, length, Option, Some, None}
+use Rattle.std.specs.Prelude.{refl, Result, Err, OnErr}
 use Rattle.std.specs.Coded.{Coded, code_by, coded×, coded_ℕ, coded_list}
 use Rattle.g1_layout.specs.Shape.{Shape, IsShape}
 use Rattle.g1_core.specs.Machine.{Machine, machine_code, new_machine}
@@ -10,6 +11,8 @@ use Rattle.g1_core.specs.declared.reply.Drained.{Drained}
 use Rattle.g1_core.specs.declared.reply.Drained.TheVariants.{Cards, Short}
 use Rattle.g1_core.specs.declared.entry.Entry.{Entry}
 use Rattle.g1_core.specs.Run.{IsPermitted, IsStep, IsExact, table_of_history}
+use Rattle.g1_book.specs.declared.refusal.Refusal.{Refusal}
+use Rattle.g1_book.specs.declared.refusal.Refusal.TheVariants.{BookFull}
 
 pub record History : Type 0 where
   pub machine : Machine
@@ -74,6 +77,12 @@ pub record IsEntered (old : History) (e : Entry) (new : History) : Type 0 where
   pub step : IsStep (table_in old) e (table_in new)
   pub terms : terms_of new ≡ terms_of old
   pub reads : old.machine.reads ≤ new.machine.reads
+
+-- `BookFull` comes exactly if the history has as many entries as it may have, and a refusal changes
+-- nothing.
+abbrev pub Refuses : {X : Type 0} → History → Result X Refusal → History → Type 0
+Refuses old result new =
+    ((result ≡ Err BookFull) ↔ (length old.entries ≡ old.limit)) × OnErr result (new ≡ old)
 
 -- A drain of the region that is not short answers exactly the cards that references and history
 -- say.

@@ -1,5 +1,5 @@
 //! Drains and clears that are entered in the history.
-ghost use Rattle.std.specs.Prelude.{◌≡◌, ◌≢◌, ◌≤◌, ◌<◌, ◌+◌, ◌*◌, ◌↔◌, length, IfOk, OnErr};
+ghost use Rattle.std.specs.Prelude.{◌≡◌, ◌≢◌, ◌≤◌, ◌<◌, ◌+◌, ◌*◌, length, IfOk};
 ghost use Rattle.std.specs.Prelude.{vec_len, vec_capacity};
 ghost use Rattle.std.specs.FinSet as set;
 ghost use Rattle.g1_core.specs.Calls.{drain_cards, drain_reply, drain_refined};
@@ -15,7 +15,7 @@ impl Book {
     ghost use Rattle.g1_core.specs.Clearing.{member_count};
     ghost use Rattle.g1_core.specs.Machine.{IsOnlyRead};
     ghost use Rattle.g1_core.specs.Pause.{IsDrainOf};
-    ghost use Rattle.g1_book.specs.History.{IsEntered, AnswersExactly, table_in, layout_in};
+    ghost use Rattle.g1_book.specs.History.{IsEntered, AnswersExactly, Refuses, table_in, layout_in};
 
     /// Refines all pending cards, as the core does, returns the region's remembered set, and enters
     /// the call (docs/PROFILE.md, The pause).
@@ -35,9 +35,7 @@ impl Book {
         ensures exact { IfOk result (λ answer. AnswersExactly self.old region answer) }
         ensures drained { IfOk result (λ answer.
             IsDrainOf self.old.machine region answer self.new.machine) }
-        ensures full { (result ≡ Err Refusal.BookFull)
-            ↔ (length self.old.entries ≡ self.old.limit) }
-        ensures err { OnErr result (self.new ≡ self.old) }
+        ensures err { Refuses self.old result self.new }
     {
         make_room(&mut self.entries, self.limit)?;
         let status = self.core.status();
@@ -76,9 +74,7 @@ impl Book {
             + member_count (table_in self.old) region * (layout_in self.old).slots }
         ensures refused { IfOk result (λ answer.
             answer ≢ ClearReply.Cleared → IsOnlyRead self.old.machine self.new.machine) }
-        ensures full { (result ≡ Err Refusal.BookFull)
-            ↔ (length self.old.entries ≡ self.old.limit) }
-        ensures err { OnErr result (self.new ≡ self.old) }
+        ensures err { Refuses self.old result self.new }
     {
         make_room(&mut self.entries, self.limit)?;
         let answer = self.core.clear(region);
@@ -90,7 +86,7 @@ impl Book {
 }
 
 /// The reply of this clear.
-pub(crate) fn clear_reply(answer: &ClearReply) -> Reply
+fn clear_reply(answer: &ClearReply) -> Reply
     ensures { result ≡ Reply.Clear answer.now }
 {
     Reply::Clear(*answer)
@@ -114,16 +110,6 @@ fn drained_reply(room: Vec<Card>, answer: &Drained) -> Reply
 {
     match answer {
         Drained::Cards { cards, .. } => Reply::Cards(copied(room, cards)),
-        Drained::Short { .. } => Reply::Short,
-    }
-}
-
-/// The reply of this drain, with the list itself.
-pub(crate) fn drain_reply(answer: Drained) -> Reply
-    ensures { result ≡ drain_reply answer }
-{
-    match answer {
-        Drained::Cards { cards, .. } => Reply::Cards(cards),
         Drained::Short { .. } => Reply::Short,
     }
 }

@@ -1,11 +1,9 @@
 //! Questions to the core that are entered in the history.
-ghost use Rattle.std.specs.Prelude.{◌≡◌, ◌<◌, ◌↔◌, ◌+◌, ◌-◌, ◌^◌, length, min, IfOk, OnErr};
+ghost use Rattle.std.specs.Prelude.{◌≡◌, ◌<◌, ◌+◌, ◌-◌, ◌^◌, min, IfOk};
 ghost use Rattle.std.specs.FinSet as set;
 ghost use Rattle.g1_layout.specs.Shape.{slot_count, card_count};
 
 use crate::book::Book;
-use crate::pause::{clear_reply, drain_reply};
-use crate::redirection::redirected_reply;
 use crate::refusal::Refusal;
 use crate::room::{enter, make_room};
 use g1_core::{Call, CardList, Reply, Status};
@@ -14,7 +12,7 @@ use g1_layout::{Card, Region, Slot};
 impl Book {
     ghost use Rattle.g1_core.specs.Table.{target_of, AreMembers};
     ghost use Rattle.g1_core.specs.Calls.{target_entry, pending_entry, members_entry, status_entry};
-    ghost use Rattle.g1_book.specs.History.{IsEntered, table_in, layout_in};
+    ghost use Rattle.g1_book.specs.History.{IsEntered, Refuses, table_in, layout_in};
     ghost use Rattle.g1_book.specs.Asked.{IsAsked, IsEnteredAs};
 
     /// Returns the place that a slot refers to, or `None` if it is null, and enters the call. One
@@ -35,9 +33,7 @@ impl Book {
               settings = self.old.machine.settings;
               reads = min (self.old.machine.reads + 1) (2 ^ 64 - 1);
             }) }
-        ensures full { (result ≡ Err Refusal.BookFull)
-            ↔ (length self.old.entries ≡ self.old.limit) }
-        ensures err { OnErr result (self.new ≡ self.old) }
+        ensures err { Refuses self.old result self.new }
     {
         make_room(&mut self.entries, self.limit)?;
         let target = self.core.target(slot);
@@ -60,9 +56,7 @@ impl Book {
         ensures pending { IfOk result (λ answer.
             answer ≡ set.contains (table_in self.old).pending card) }
         ensures machine { self.new.machine ≡ self.old.machine }
-        ensures full { (result ≡ Err Refusal.BookFull)
-            ↔ (length self.old.entries ≡ self.old.limit) }
-        ensures err { OnErr result (self.new ≡ self.old) }
+        ensures err { Refuses self.old result self.new }
     {
         make_room(&mut self.entries, self.limit)?;
         let answer = self.core.is_pending(card);
@@ -85,9 +79,7 @@ impl Book {
             IsEntered self.old (members_entry caller region cards) self.new) }
         ensures members { IfOk result (λ cards. AreMembers (table_in self.old) region cards) }
         ensures machine { self.new.machine ≡ self.old.machine }
-        ensures full { (result ≡ Err Refusal.BookFull)
-            ↔ (length self.old.entries ≡ self.old.limit) }
-        ensures err { OnErr result (self.new ≡ self.old) }
+        ensures err { Refuses self.old result self.new }
     {
         make_room(&mut self.entries, self.limit)?;
         let cards = self.core.members(region)?;
@@ -118,9 +110,7 @@ impl Book {
         ensures recorded { IfOk result (λ status.
             status.recorded ≡ set.len (table_in self.old).recorded) }
         ensures machine { self.new.machine ≡ self.old.machine }
-        ensures full { (result ≡ Err Refusal.BookFull)
-            ↔ (length self.old.entries ≡ self.old.limit) }
-        ensures err { OnErr result (self.new ≡ self.old) }
+        ensures err { Refuses self.old result self.new }
     {
         make_room(&mut self.entries, self.limit)?;
         let status = self.core.status();
@@ -139,18 +129,16 @@ impl Book {
     pub fn ask(&mut self, caller: u32, call: Call) -> Result<Reply, Refusal>
         requires { IsAsked (layout_in self.old) call }
         ensures entered { IfOk result (λ reply. IsEnteredAs self.old caller call reply self.new) }
-        ensures full { (result ≡ Err Refusal.BookFull)
-            ↔ (length self.old.entries ≡ self.old.limit) }
-        ensures err { OnErr result (self.new ≡ self.old) }
+        ensures err { Refuses self.old result self.new }
     {
         match call {
             Call::Target(slot) => Ok(target_reply(&self.target(caller, slot)?)),
             Call::Pending(card) => Ok(Reply::Pending(self.is_pending(caller, card)?)),
             Call::Members(region) => Ok(Reply::Cards(self.members(caller, region)?)),
             Call::Status => Ok(Reply::Status(self.status(caller)?)),
-            Call::Drain(region) => Ok(drain_reply(self.drain(caller, region)?)),
-            Call::Clear(region) => Ok(clear_reply(&self.clear(caller, region)?)),
-            Call::Redirect { from, to } => Ok(redirected_reply(&self.redirect(caller, from, to)?)),
+            Call::Drain(region) => Ok(Reply::from(self.drain(caller, region)?)),
+            Call::Clear(region) => Ok(Reply::Clear(self.clear(caller, region)?)),
+            Call::Redirect { from, to } => Ok(Reply::from(&self.redirect(caller, from, to)?)),
             Call::Store { .. } | Call::Refine => unreachable!(),
         }
     }

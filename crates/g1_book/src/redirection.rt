@@ -1,6 +1,6 @@
 //! Redirects that are entered in the history.
-ghost use Rattle.std.specs.Prelude.{◌≡◌, ◌≢◌, ◌<◌, ◌↔◌, length, IfOk, OnErr};
-ghost use Rattle.g1_core.specs.Calls.{redirect_reply, redirect_refined};
+ghost use Rattle.std.specs.Prelude.{◌≡◌, ◌≢◌, ◌<◌, IfOk};
+ghost use Rattle.g1_core.specs.Calls.{redirect_refined};
 
 use crate::book::Book;
 use crate::refusal::Refusal;
@@ -11,7 +11,7 @@ use g1_layout::Region;
 impl Book {
     ghost use Rattle.g1_core.specs.Calls.{redirect_entry};
     ghost use Rattle.g1_core.specs.Redirect.{IsRedirectOf};
-    ghost use Rattle.g1_book.specs.History.{IsEntered, layout_in};
+    ghost use Rattle.g1_book.specs.History.{IsEntered, Refuses, layout_in};
 
     /// Makes each slot outside `from` that refers into it refer to the same offset of `to`, as the
     /// core does, and enters the call (docs/PROFILE.md, Redirect).
@@ -28,15 +28,13 @@ impl Book {
             IsEntered self.old (redirect_entry caller from to answer) self.new) }
         ensures redirected { IfOk result (λ answer.
             IsRedirectOf self.old.machine from to answer self.new.machine) }
-        ensures full { (result ≡ Err Refusal.BookFull)
-            ↔ (length self.old.entries ≡ self.old.limit) }
-        ensures err { OnErr result (self.new ≡ self.old) }
+        ensures err { Refuses self.old result self.new }
     {
         make_room(&mut self.entries, self.limit)?;
         let status = self.core.status();
         let room = Vec::with_capacity(self.alloc, status.pending as usize)?;
         let answer = self.core.redirect(from, to)?;
-        let reply = redirected_reply(&answer);
+        let reply = Reply::from(&answer);
         let refined = copied(room, redirected_cards(&answer));
         let call = Call::Redirect { from, to };
         enter(&mut self.entries, caller, call, reply, refined);
@@ -51,15 +49,5 @@ fn redirected_cards(answer: &Redirected) -> &CardList
     match answer {
         Redirected::Moved { refined, .. } => refined,
         Redirected::Short { refined } => refined,
-    }
-}
-
-/// What the redirect returned beside them.
-pub(crate) fn redirected_reply(answer: &Redirected) -> Reply
-    ensures { result ≡ redirect_reply answer.now }
-{
-    match answer {
-        Redirected::Moved { slots, .. } => Reply::Moved(*slots),
-        Redirected::Short { .. } => Reply::Short,
     }
 }

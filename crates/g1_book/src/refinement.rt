@@ -1,5 +1,5 @@
 //! Refinements that are entered in the history.
-ghost use Rattle.std.specs.Prelude.{◌≡◌, ◌≤◌, ◌+◌, ◌↔◌, length, IfOk, OnErr, option_map};
+ghost use Rattle.std.specs.Prelude.{◌≡◌, ◌≤◌, ◌+◌, length, IfOk, option_map};
 ghost use Rattle.g1_book.specs.History.{cards_in};
 
 use crate::book::Book;
@@ -11,7 +11,7 @@ use g1_log::Buffer;
 impl Book {
     ghost use Rattle.g1_core.specs.Calls.{refine_entry};
     ghost use Rattle.g1_core.specs.Refinement.{IsRefined, AreCardsRead};
-    ghost use Rattle.g1_book.specs.History.{IsEntered};
+    ghost use Rattle.g1_book.specs.History.{IsEntered, Refuses};
 
     /// Refines a buffer, as the core does, and enters the call: the buffer's cards take their
     /// turns, oldest first. `None` refines nothing, and is entered too (docs/PROFILE.md,
@@ -30,9 +30,7 @@ impl Book {
             AreCardsRead self.old.machine reply self.new.machine) }
         ensures counts { IfOk result (λ reply.
             (reply.taken ≤ 1) × (length reply.refined + reply.skipped ≤ 256) × (reply.hot ≤ 256)) }
-        ensures full { (result ≡ Err Refusal.BookFull)
-            ↔ (length self.old.entries ≡ self.old.limit) }
-        ensures err { OnErr result (self.new ≡ self.old) }
+        ensures err { Refuses self.old result self.new }
     {
         make_room(&mut self.entries, self.limit)?;
         let room = Vec::with_capacity(self.alloc, cards_in(buffer))?;

@@ -1,5 +1,5 @@
 //! Stores of references that are entered in the history.
-ghost use Rattle.std.specs.Prelude.{◌≡◌, ◌<◌, ◌↔◌, [], ◌∷◌, ◌++◌, false, length, IfOk, OnErr};
+ghost use Rattle.std.specs.Prelude.{◌≡◌, ◌<◌, [], ◌∷◌, ◌++◌, false, IfOk, OnErr};
 ghost use Rattle.std.specs.Prelude.{IfSome, IsNone, vec_len, vec_capacity};
 ghost use Rattle.g1_layout.specs.Shape.{slot_count, card_of};
 
@@ -15,7 +15,7 @@ impl Book {
     ghost use Rattle.g1_core.specs.Run.{kind_of};
     ghost use Rattle.g1_core.specs.Barrier.{logged, buffer_of, fill_of, stored_machine};
     ghost use Rattle.g1_core.specs.Calls.{store_entry};
-    ghost use Rattle.g1_book.specs.History.{IsEntered, table_in, layout_in};
+    ghost use Rattle.g1_book.specs.History.{IsEntered, Refuses, table_in, layout_in};
 
     /// Stores a reference, or null, with the given log, as the core does, and enters the call
     /// (docs/PROFILE.md, The barrier).
@@ -50,9 +50,7 @@ impl Book {
             log.new ≡ logged answer.0.kind log.old (card_of (layout_in self.old) slot)) }
         ensures buffer { IfOk result (λ answer.
             answer.1 ≡ buffer_of answer.0.kind log.old (card_of (layout_in self.old) slot)) }
-        ensures full { (result ≡ Err Refusal.BookFull)
-            ↔ (length self.old.entries ≡ self.old.limit) }
-        ensures err { OnErr result (self.new ≡ self.old) }
+        ensures err { Refuses self.old result self.new }
         ensures err_log { OnErr result (log.new ≡ log.old) }
     {
         let mut completed = None;
@@ -96,10 +94,8 @@ impl Book {
             log.new ≡ logged reply.kind log.old (card_of (layout_in self.old) slot)) }
         ensures buffer { IfOk result (λ reply.
             completed.new ≡ buffer_of reply.kind log.old (card_of (layout_in self.old) slot)) }
-        ensures full { (result ≡ Err Refusal.BookFull)
-            ↔ (length self.old.entries ≡ self.old.limit) }
-        ensures err { OnErr result ((self.new ≡ self.old) × (log.new ≡ log.old)
-            × (completed.new ≡ completed.old)) }
+        ensures err { Refuses self.old result self.new }
+        ensures err_lent { OnErr result ((log.new ≡ log.old) × (completed.new ≡ completed.old)) }
     {
         make_room(&mut self.entries, self.limit)?;
         let call = store_call(slot, &target);

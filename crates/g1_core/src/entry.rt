@@ -1,7 +1,9 @@
 //! Entries of a history: calls of a core with what they returned.
+ghost use Rattle.std.specs.Prelude.{◌≡◌};
+ghost use Rattle.g1_core.specs.Calls.{drain_reply, redirect_reply};
 
 use crate::list::CardList;
-use crate::reply::{ClearReply, Fill, Status};
+use crate::reply::{ClearReply, Drained, Fill, Redirected, Status};
 use g1_layout::{Card, Kind, Region, Slot};
 
 /// A call with its arguments. A refinement's buffer is not kept: its entry lists the cards that
@@ -77,6 +79,30 @@ pub enum Reply {
     Clear(ClearReply),
     /// How many slots a redirect changed.
     Moved(u32),
+}
+
+impl From<Drained> for Reply {
+    /// What a drain returned, without the cards that it refined.
+    fn from(answer: Drained) -> Reply
+        ensures { result ≡ drain_reply answer }
+    {
+        match answer {
+            Drained::Cards { cards, .. } => Reply::Cards(cards),
+            Drained::Short { .. } => Reply::Short,
+        }
+    }
+}
+
+impl From<&Redirected> for Reply {
+    /// What a redirect returned, without the cards that it refined.
+    fn from(answer: &Redirected) -> Reply
+        ensures { result ≡ redirect_reply answer.now }
+    {
+        match answer {
+            Redirected::Moved { slots, .. } => Reply::Moved(*slots),
+            Redirected::Short { .. } => Reply::Short,
+        }
+    }
 }
 
 /// One call of the history: who made it, what it was, and exactly what it returned.
