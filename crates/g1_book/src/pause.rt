@@ -15,7 +15,8 @@ impl Book {
     ghost use Rattle.g1_core.specs.Clearing.{member_count};
     ghost use Rattle.g1_core.specs.Machine.{IsOnlyRead};
     ghost use Rattle.g1_core.specs.Pause.{IsDrainOf};
-    ghost use Rattle.g1_book.specs.History.{IsEntered, AnswersExactly, Refuses, table_in, layout_in};
+    ghost use Rattle.g1_book.specs.History.{IsEntered, AnswersExactly, Refuses, table_in};
+    ghost use Rattle.g1_book.specs.History.{layout_in};
 
     /// Refines all pending cards, as the core does, returns the region's remembered set, and enters
     /// the call (docs/PROFILE.md, The pause).

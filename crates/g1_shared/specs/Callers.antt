@@ -1,6 +1,6 @@
 -- A caller of a shared book as contracts see it, and what the steps do to it.
 use Rattle.std.specs.Prelude.{◌≡◌, ℕ, ◌+◌, ◌<◌, ◌≤◌, ◌⊎◌, Bool, true, false, List, [], ◌∷◌, ◌++◌}
-use Rattle.std.specs.Prelude.{length, Option, Some, None, IfSome, IsSome}
+use Rattle.std.specs.Prelude.{length, Option, Some, None, IfSome, IsSome, Result, OnOk, OnErr}
 use Rattle.g1_layout.specs.Shape.{Shape}
 use Rattle.g1_layout.specs.declared.kind.Kind.{Kind}
 use Rattle.g1_log.specs.declared.line.Line.{Line}
@@ -15,6 +15,7 @@ use Rattle.g1_core.specs.declared.reply.Fill.{Fill}
 use Rattle.g1_core.specs.declared.reply.Fill.TheVariants.{No, Full, Helped}
 use Rattle.g1_steps.specs.declared.steps.mutator.Mutator.{Mutator}
 use Rattle.g1_book.specs.History.{Terms}
+use Rattle.g1_book.specs.declared.refusal.Refusal.{Refusal}
 use Rattle.g1_shared.specs.Counts.{Tally, one_call, CountsDid}
 use Rattle.g1_steps.specs.Steps.{IsRefinement}
 use Rattle.g1_steps.specs.Rounds.{IsRound, round_size}
@@ -133,6 +134,11 @@ pub record IsNewCaller (line : Line) (log mutators k : ℕ) (c : Standing) : Typ
 -- the caller after one entry more, which is no store
 abbrev pub called_once : Standing → Standing
 called_once c = record { counts = one_call c.counts; mutator = c.mutator; taker = c.taker }
+
+-- Where the call succeeded, the caller has one call more, which is no store. A refusal leaves it as
+-- it was.
+abbrev pub CallsOnce : {X : Type 0} → Standing → Result X Refusal → Standing → Type 0
+CallsOnce old result new = OnOk result (new ≡ called_once old) × OnErr result (new ≡ old)
 
 -- What a store of this kind and card does to a mutator's log, and the buffer that it hands out.
 abbrev pub HandsOutOf : Option Mutator → Kind → ℕ → Option Buffer → Option Mutator → Type 0

@@ -1,10 +1,15 @@
 -- What contracts see of a core with the totals of its calls.
-use Rattle.std.specs.Prelude.{◌≡◌, ℕ, ◌+◌, ◌-◌, ◌^◌, Option, Some, None, refl}
+use Rattle.std.specs.Prelude.{◌≡◌, ℕ, ◌+◌, ◌-◌, ◌^◌, ◌↔◌, Option, Some, None, refl}
+use Rattle.std.specs.Prelude.{Result, Err, OnErr}
 use Rattle.std.specs.Coded.{Coded, code_by, coded×, coded_ℕ}
 use Rattle.g1_core.specs.Machine.{Machine, machine_code}
 use Rattle.g1_core.specs.Run.{IsStep}
+use Rattle.g1_core.specs.declared.entry.Call.{Call}
 use Rattle.g1_core.specs.declared.entry.Entry.{Entry}
+use Rattle.g1_core.specs.declared.entry.Reply.{Reply}
 use Rattle.g1_book.specs.History.{Terms}
+use Rattle.g1_book.specs.declared.refusal.Refusal.{Refusal}
+use Rattle.g1_book.specs.declared.refusal.Refusal.TheVariants.{BookFull}
 
 -- how many calls were made, how many of these are stores, and how many may be made
 pub record Totals : Type 0 where
@@ -42,10 +47,22 @@ pub record CountedMachine : Type 0 where
 abbrev pub IsFull : CountedMachine → Type 0
 IsFull c = c.totals.made ≡ c.totals.limit
 
+-- `BookFull` comes exactly if no call more may be made, and a refusal changes nothing.
+abbrev pub RefusesCounted : {X : Type 0} → CountedMachine → Result X Refusal → CountedMachine
+    → Type 0
+RefusesCounted old result new =
+    ((result ≡ Err BookFull) ↔ IsFull old) × OnErr result (new ≡ old)
+
 -- The call is a step of the plain table, whoever made it.
 abbrev pub IsCoreStep : CountedMachine → (ℕ → Entry) → CountedMachine → Type 0
 IsCoreStep old entry new =
     (number : ℕ) → IsStep old.machine.state.table (entry number) new.machine.state.table
+
+-- The call was made with this reply, which is a step of the plain table, whoever made it.
+abbrev pub IsAskedOfCore : CountedMachine → Call → Reply → CountedMachine → Type 0
+IsAskedOfCore old call reply new =
+    (number : ℕ) → (e : Entry) × IsStep old.machine.state.table e new.machine.state.table
+    × (e.caller ≡ number) × (e.call ≡ call) × (e.reply ≡ reply)
 
 -- both are stored as the tuples of their fields
 abbrev pub totals_code : Coded Totals

@@ -1,6 +1,6 @@
 //! A book with the totals of its calls and of its stores: what a shared book keeps under its lock.
 //! Its calls are in [`calls`].
-ghost use Rattle.std.specs.Prelude.{◌≡◌, ◌+◌, ◌-◌, ◌<◌, ◌≤◌, ◌↔◌, [], false, length};
+ghost use Rattle.std.specs.Prelude.{◌≡◌, ◌+◌, ◌-◌, ◌<◌, ◌≤◌, [], false, length};
 ghost use Rattle.std.specs.Prelude.{count_by, IfOk, OnErr, OnOk, IfSome, option_map};
 ghost use Rattle.g1_layout.specs.Shape.{slot_count, card_of};
 ghost use Rattle.g1_core.specs.Barrier.{logged, buffer_of, fill_of, stored_machine};
@@ -8,8 +8,8 @@ ghost use Rattle.g1_core.specs.Calls.{store_entry, refine_entry};
 ghost use Rattle.g1_core.specs.Refinement.{IsRefined, AreCardsRead};
 ghost use Rattle.g1_core.specs.Run.{kind_of};
 ghost use Rattle.g1_shared.specs.Counts.{one_store, is_store};
-ghost use Rattle.g1_shared.specs.Callers.{called_once, HandsOut};
-ghost use Rattle.g1_book.specs.History.{IsEntered, table_in, terms_of};
+ghost use Rattle.g1_shared.specs.Callers.{CallsOnce, HandsOut};
+ghost use Rattle.g1_book.specs.History.{IsEntered, Refuses, table_in, terms_of};
 
 mod calls;
 
@@ -97,9 +97,8 @@ impl<M: Frame, S: Ledger> Counted<M, S> {
         ensures buffer { IfOk result (λ answer.
             HandsOut caller.old answer.0.kind (card_of M.terms.layout slot) answer.1 caller.new) }
         ensures counts { OnOk result (caller.new.counts ≡ one_store caller.old.counts) }
-        ensures full { (result ≡ Err Refusal.BookFull)
-            ↔ (length self.old.entries ≡ self.old.limit) }
-        ensures err { OnErr result ((self.new ≡ self.old) × (caller.new ≡ caller.old)) }
+        ensures kept { Refuses self.old result self.new }
+        ensures err { OnErr result (caller.new ≡ caller.old) }
     {
         let Some(mutator) = &mut caller.mutator else {
             unreachable!()
@@ -131,9 +130,8 @@ impl<M: Frame, S: Ledger> Counted<M, S> {
             × (answer.1 ≡ buffer_of answer.0.kind mutator.old.log (card_of M.terms.layout slot))) }
         ensures sender { mutator.new.sender ≡ mutator.old.sender }
         ensures counts { OnOk result (counts.new ≡ one_store counts.old) }
-        ensures full { (result ≡ Err Refusal.BookFull)
-            ↔ (length self.old.entries ≡ self.old.limit) }
-        ensures err { OnErr result ((self.new ≡ self.old) × (counts.new ≡ counts.old)
+        ensures kept { Refuses self.old result self.new }
+        ensures err { OnErr result ((counts.new ≡ counts.old)
             × (mutator.new.log ≡ mutator.old.log)) }
     {
         let mut completed = None;
@@ -156,10 +154,8 @@ impl<M: Frame, S: Ledger> Counted<M, S> {
             AreCardsRead self.old.machine reply self.new.machine) }
         ensures counts { IfOk result (λ reply.
             (reply.taken ≤ 1) × (length reply.refined + reply.skipped ≤ 256) × (reply.hot ≤ 256)) }
-        ensures made { OnOk result (caller.new ≡ called_once caller.old) }
-        ensures full { (result ≡ Err Refusal.BookFull)
-            ↔ (length self.old.entries ≡ self.old.limit) }
-        ensures err { OnErr result ((self.new ≡ self.old) × (caller.new ≡ caller.old)) }
+        ensures called { CallsOnce caller.old result caller.new }
+        ensures kept { Refuses self.old result self.new }
     {
         self.refine_by(&mut caller.counts, buffer)
     }

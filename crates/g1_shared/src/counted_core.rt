@@ -1,6 +1,6 @@
 //! A core with the totals of its calls and of its stores: what is under the lock of a shared core.
 //! Its calls are in [`calls`].
-ghost use Rattle.std.specs.Prelude.{◌≡◌, ◌<◌, ◌≤◌, ◌↔◌, [], false, IfOk, OnErr, OnOk};
+ghost use Rattle.std.specs.Prelude.{◌≡◌, ◌<◌, ◌≤◌, [], false, IfOk, OnErr, OnOk};
 ghost use Rattle.std.specs.Prelude.{IfSome, option_map};
 ghost use Rattle.g1_layout.specs.Shape.{slot_count, card_of};
 ghost use Rattle.g1_core.specs.Barrier.{logged, buffer_of, fill_of, stored_machine};
@@ -9,8 +9,8 @@ ghost use Rattle.g1_core.specs.Machine.{IsLater};
 ghost use Rattle.g1_core.specs.Refinement.{IsRefined, AreCardsRead};
 ghost use Rattle.g1_core.specs.Run.{kind_of};
 ghost use Rattle.g1_shared.specs.Counts.{one_store};
-ghost use Rattle.g1_shared.specs.Callers.{called_once, HandsOut};
-ghost use Rattle.g1_shared.specs.Totals.{with_call, with_store, IsCoreStep, IsFull};
+ghost use Rattle.g1_shared.specs.Callers.{CallsOnce, HandsOut};
+ghost use Rattle.g1_shared.specs.Totals.{with_call, with_store, IsCoreStep, RefusesCounted};
 
 mod calls;
 
@@ -108,8 +108,8 @@ impl<M: Frame, S: Ledger> CountedCore<M, S> {
         ensures later { OnOk result (IsLater self.old.machine self.new.machine) }
         ensures totals { OnOk result (self.new.totals ≡ with_store self.old.totals) }
         ensures counts { OnOk result (caller.new.counts ≡ one_store caller.old.counts) }
-        ensures full { (result ≡ Err Refusal.BookFull) ↔ IsFull self.old }
-        ensures err { OnErr result ((self.new ≡ self.old) × (caller.new ≡ caller.old)) }
+        ensures kept { RefusesCounted self.old result self.new }
+        ensures err { OnErr result (caller.new ≡ caller.old) }
     {
         let Some(mutator) = &mut caller.mutator else {
             unreachable!()
@@ -143,8 +143,8 @@ impl<M: Frame, S: Ledger> CountedCore<M, S> {
         ensures later { OnOk result (IsLater self.old.machine self.new.machine) }
         ensures totals { OnOk result (self.new.totals ≡ with_store self.old.totals) }
         ensures counts { OnOk result (counts.new ≡ one_store counts.old) }
-        ensures full { (result ≡ Err Refusal.BookFull) ↔ IsFull self.old }
-        ensures err { OnErr result ((self.new ≡ self.old) × (counts.new ≡ counts.old)
+        ensures kept { RefusesCounted self.old result self.new }
+        ensures err { OnErr result ((counts.new ≡ counts.old)
             × (mutator.new.log ≡ mutator.old.log)) }
     {
         let mut completed = None;
@@ -166,9 +166,8 @@ impl<M: Frame, S: Ledger> CountedCore<M, S> {
             IsCoreStep self.old (λ number. refine_entry number reply) self.new) }
         ensures later { OnOk result (IsLater self.old.machine self.new.machine) }
         ensures totals { OnOk result (self.new.totals ≡ with_call self.old.totals) }
-        ensures made { OnOk result (caller.new ≡ called_once caller.old) }
-        ensures full { (result ≡ Err Refusal.BookFull) ↔ IsFull self.old }
-        ensures err { OnErr result ((self.new ≡ self.old) × (caller.new ≡ caller.old)) }
+        ensures called { CallsOnce caller.old result caller.new }
+        ensures kept { RefusesCounted self.old result self.new }
     {
         self.refine_by(&mut caller.counts, buffer)
     }

@@ -1,5 +1,5 @@
 //! The calls of a counted book: each is the book's, and counts once.
-ghost use Rattle.std.specs.Prelude.{◌≡◌, ◌≢◌, ◌+◌, ◌-◌, ◌*◌, ◌<◌, ◌≤◌, ◌^◌, ◌↔◌, [], false, length};
+ghost use Rattle.std.specs.Prelude.{◌≡◌, ◌≢◌, ◌+◌, ◌-◌, ◌*◌, ◌<◌, ◌≤◌, ◌^◌, [], false, length};
 ghost use Rattle.std.specs.Prelude.{min, IfOk, OnErr, OnOk, IfSome, IsNone, option_map};
 ghost use Rattle.std.specs.FinSet as set;
 ghost use Rattle.g1_layout.specs.Shape.{slot_count, card_count, card_of};
@@ -16,16 +16,19 @@ ghost use Rattle.g1_core.specs.Run.{kind_of};
 ghost use Rattle.g1_core.specs.Table.{target_of, AreMembers};
 ghost use Rattle.g1_shared.specs.Answers.{IsKindAt, IsReplyAt};
 ghost use Rattle.g1_shared.specs.Counts.{one_call, one_store};
-ghost use Rattle.g1_shared.specs.Callers.{called_once};
-ghost use Rattle.g1_book.specs.History.{IsEntered, AnswersExactly, table_in};
+ghost use Rattle.g1_shared.specs.Callers.{CallsOnce};
+ghost use Rattle.g1_book.specs.Asked.{IsAsked, IsEnteredAs};
+ghost use Rattle.g1_book.specs.History.{IsEntered, AnswersExactly, Refuses, table_in};
 
 use crate::caller::{Caller, Counts};
 use crate::counted::Counted;
 use crate::ledgers::{Frame, raise};
 use crate::lending::LendingCalls;
 use crate::shared::Keeper;
-use g1_book::Refusal;
-use g1_core::{CardList, ClearReply, Drained, Redirected, RefineReply, Status, StoreReply};
+use g1_book::{Book, Refusal};
+use g1_core::{
+    Call, CardList, ClearReply, Drained, Redirected, RefineReply, Reply, Status, StoreReply,
+};
 use g1_layout::{Card, Region, Slot};
 use g1_log::{Buffer, Log};
 use std::sync::ledger;
@@ -61,9 +64,7 @@ impl<M: Frame, S: Ledger> LendingCalls<M, S> for Counted<M, S> {
         ensures buffer { IfOk result (λ reply.
             completed.new ≡ buffer_of reply.kind log.old (card_of M.terms.layout slot)) }
         ensures counts { OnOk result (counts.new ≡ one_store counts.old) }
-        ensures full { (result ≡ Err Refusal.BookFull)
-            ↔ (length self.old.entries ≡ self.old.limit) }
-        ensures kept { OnErr result (self.new ≡ self.old) }
+        ensures kept { Refuses self.old result self.new }
         ensures err { OnErr result ((counts.new ≡ counts.old) × (log.new ≡ log.old)
             × (completed.new ≡ completed.old)) }
     {
@@ -98,13 +99,11 @@ impl<M: Frame, S: Ledger> LendingCalls<M, S> for Counted<M, S> {
         ensures answer { IfOk result (λ reply.
             IsReplyAt M.terms.layout (option_map (λ b. b.now) buffer.entry) reply) }
         ensures counts { OnOk result (counts.new ≡ one_call counts.old) }
-        ensures full { (result ≡ Err Refusal.BookFull)
-            ↔ (length self.old.entries ≡ self.old.limit) }
-        ensures err { OnErr result ((self.new ≡ self.old) × (counts.new ≡ counts.old)) }
+        ensures kept { Refuses self.old result self.new }
+        ensures err { OnErr result (counts.new ≡ counts.old) }
     {
         let reply = self.book.refine(counts.number(), buffer)?;
-        let _entries = self.book.entries();
-        raise(&mut self.made, &mut counts.made_share, &mut counts.made);
+        raise_made(&self.book, &mut self.made, counts);
         Ok(reply)
     }
 }
@@ -121,14 +120,11 @@ impl<M: Frame, S: Ledger> Keeper<M, S> for Counted<M, S> {
         ensures machine { IfOk result (λ _.
             self.new.machine
             ≡ record self.old.machine { reads = min (self.old.machine.reads + 1) (2 ^ 64 - 1) }) }
-        ensures ok { OnOk result (caller.new ≡ called_once caller.old) }
-        ensures full { (result ≡ Err Refusal.BookFull)
-            ↔ (length self.old.entries ≡ self.old.limit) }
-        ensures err { OnErr result ((self.new ≡ self.old) × (caller.new ≡ caller.old)) }
+        ensures called { CallsOnce caller.old result caller.new }
+        ensures kept { Refuses self.old result self.new }
     {
         let target = self.book.target(caller.counts.number(), slot)?;
-        let _entries = self.book.entries();
-        raise_made(&mut self.made, &mut caller.counts);
+        raise_made(&self.book, &mut self.made, &mut caller.counts);
         Ok(target)
     }
 
@@ -140,14 +136,11 @@ impl<M: Frame, S: Ledger> Keeper<M, S> for Counted<M, S> {
         ensures pending { IfOk result (λ answer.
             answer ≡ set.contains (table_in self.old).pending card) }
         ensures machine { self.new.machine ≡ self.old.machine }
-        ensures ok { OnOk result (caller.new ≡ called_once caller.old) }
-        ensures full { (result ≡ Err Refusal.BookFull)
-            ↔ (length self.old.entries ≡ self.old.limit) }
-        ensures err { OnErr result ((self.new ≡ self.old) × (caller.new ≡ caller.old)) }
+        ensures called { CallsOnce caller.old result caller.new }
+        ensures kept { Refuses self.old result self.new }
     {
         let answer = self.book.is_pending(caller.counts.number(), card)?;
-        let _entries = self.book.entries();
-        raise_made(&mut self.made, &mut caller.counts);
+        raise_made(&self.book, &mut self.made, &mut caller.counts);
         Ok(answer)
     }
 
@@ -158,14 +151,11 @@ impl<M: Frame, S: Ledger> Keeper<M, S> for Counted<M, S> {
             IsEntered self.old (members_entry caller.old.counts.number region cards) self.new) }
         ensures members { IfOk result (λ cards. AreMembers (table_in self.old) region cards) }
         ensures machine { self.new.machine ≡ self.old.machine }
-        ensures ok { OnOk result (caller.new ≡ called_once caller.old) }
-        ensures full { (result ≡ Err Refusal.BookFull)
-            ↔ (length self.old.entries ≡ self.old.limit) }
-        ensures err { OnErr result ((self.new ≡ self.old) × (caller.new ≡ caller.old)) }
+        ensures called { CallsOnce caller.old result caller.new }
+        ensures kept { Refuses self.old result self.new }
     {
         let cards = self.book.members(caller.counts.number(), region)?;
-        let _entries = self.book.entries();
-        raise_made(&mut self.made, &mut caller.counts);
+        raise_made(&self.book, &mut self.made, &mut caller.counts);
         Ok(cards)
     }
 
@@ -177,14 +167,11 @@ impl<M: Frame, S: Ledger> Keeper<M, S> for Counted<M, S> {
             (status.pending ≡ set.len (table_in self.old).pending)
             × (status.recorded ≡ set.len (table_in self.old).recorded)) }
         ensures machine { self.new.machine ≡ self.old.machine }
-        ensures ok { OnOk result (caller.new ≡ called_once caller.old) }
-        ensures full { (result ≡ Err Refusal.BookFull)
-            ↔ (length self.old.entries ≡ self.old.limit) }
-        ensures err { OnErr result ((self.new ≡ self.old) × (caller.new ≡ caller.old)) }
+        ensures called { CallsOnce caller.old result caller.new }
+        ensures kept { Refuses self.old result self.new }
     {
         let status = self.book.status(caller.counts.number())?;
-        let _entries = self.book.entries();
-        raise_made(&mut self.made, &mut caller.counts);
+        raise_made(&self.book, &mut self.made, &mut caller.counts);
         Ok(status)
     }
 
@@ -196,14 +183,11 @@ impl<M: Frame, S: Ledger> Keeper<M, S> for Counted<M, S> {
         ensures exact { IfOk result (λ answer. AnswersExactly self.old region answer) }
         ensures drained { IfOk result (λ answer.
             IsDrainOf self.old.machine region answer self.new.machine) }
-        ensures ok { OnOk result (caller.new ≡ called_once caller.old) }
-        ensures full { (result ≡ Err Refusal.BookFull)
-            ↔ (length self.old.entries ≡ self.old.limit) }
-        ensures err { OnErr result ((self.new ≡ self.old) × (caller.new ≡ caller.old)) }
+        ensures called { CallsOnce caller.old result caller.new }
+        ensures kept { Refuses self.old result self.new }
     {
         let answer = self.book.drain(caller.counts.number(), region)?;
-        let _entries = self.book.entries();
-        raise_made(&mut self.made, &mut caller.counts);
+        raise_made(&self.book, &mut self.made, &mut caller.counts);
         Ok(answer)
     }
 
@@ -219,14 +203,11 @@ impl<M: Frame, S: Ledger> Keeper<M, S> for Counted<M, S> {
             → self.new.machine.reads ≡ self.old.machine.reads }
         ensures reads { self.new.machine.reads ≤ self.old.machine.reads
             + member_count (table_in self.old) region * M.terms.layout.slots }
-        ensures ok { OnOk result (caller.new ≡ called_once caller.old) }
-        ensures full { (result ≡ Err Refusal.BookFull)
-            ↔ (length self.old.entries ≡ self.old.limit) }
-        ensures err { OnErr result ((self.new ≡ self.old) × (caller.new ≡ caller.old)) }
+        ensures called { CallsOnce caller.old result caller.new }
+        ensures kept { Refuses self.old result self.new }
     {
         let answer = self.book.clear(caller.counts.number(), region)?;
-        let _entries = self.book.entries();
-        raise_made(&mut self.made, &mut caller.counts);
+        raise_made(&self.book, &mut self.made, &mut caller.counts);
         Ok(answer)
     }
 
@@ -244,23 +225,38 @@ impl<M: Frame, S: Ledger> Keeper<M, S> for Counted<M, S> {
             IsEntered self.old (redirect_entry caller.old.counts.number from to answer) self.new) }
         ensures redirected { IfOk result (λ answer.
             IsRedirectOf self.old.machine from to answer self.new.machine) }
-        ensures ok { OnOk result (caller.new ≡ called_once caller.old) }
-        ensures full { (result ≡ Err Refusal.BookFull)
-            ↔ (length self.old.entries ≡ self.old.limit) }
-        ensures err { OnErr result ((self.new ≡ self.old) × (caller.new ≡ caller.old)) }
+        ensures called { CallsOnce caller.old result caller.new }
+        ensures kept { Refuses self.old result self.new }
     {
         let answer = self.book.redirect(caller.counts.number(), from, to)?;
-        let _entries = self.book.entries();
-        raise_made(&mut self.made, &mut caller.counts);
+        raise_made(&self.book, &mut self.made, &mut caller.counts);
         Ok(answer)
+    }
+
+    /// As the book's `ask`, for this caller.
+    fn ask(&mut self, caller: &mut Caller<M, S>, call: Call) -> Result<Reply, Refusal>
+        requires { IsAsked M.terms.layout call }
+        ensures entered { IfOk result (λ reply.
+            IsEnteredAs self.old caller.old.counts.number call reply self.new) }
+        ensures called { CallsOnce caller.old result caller.new }
+        ensures kept { Refuses self.old result self.new }
+    {
+        let reply = self.book.ask(caller.counts.number(), call)?;
+        raise_made(&self.book, &mut self.made, &mut caller.counts);
+        Ok(reply)
     }
 }
 
-// One more call in the total of all calls and in the caller's counts.
-fn raise_made<M: Frame, S: Ledger>(total: &mut ledger::Book<M>, counts: &mut Counts<M, S>)
-    requires fits { total.old.total + 1 < 2 ^ 64 }
+// One more call in the total of all calls, and in the counts of the caller that made it.
+fn raise_made<M: Frame, S: Ledger>(
+    book: &Book,
+    total: &mut ledger::Book<M>,
+    counts: &mut Counts<M, S>,
+)
+    requires entered { length book.now.entries ≡ total.old.total + 1 }
     ensures total { total.new.total ≡ total.old.total + 1 }
     ensures counts { counts.new ≡ one_call counts.old }
 {
+    let _entries = book.entries();
     raise(total, &mut counts.made_share, &mut counts.made);
 }

@@ -1,5 +1,5 @@
 //! The calls of a counted core: each is the core's, and counts once.
-ghost use Rattle.std.specs.Prelude.{◌≡◌, ◌≢◌, ◌+◌, ◌-◌, ◌*◌, ◌<◌, ◌≤◌, ◌^◌, ◌↔◌, [], false, length};
+ghost use Rattle.std.specs.Prelude.{◌≡◌, ◌≢◌, ◌+◌, ◌-◌, ◌*◌, ◌<◌, ◌≤◌, ◌^◌, [], false, length};
 ghost use Rattle.std.specs.Prelude.{min, All, IfOk, OnErr, OnOk, IfSome, IsNone, option_map};
 ghost use Rattle.std.specs.FinSet as set;
 ghost use Rattle.g1_layout.specs.Shape.{slot_count, card_count, card_of};
@@ -14,10 +14,12 @@ ghost use Rattle.g1_core.specs.Redirect.{IsRedirectOf};
 ghost use Rattle.g1_core.specs.Refinement.{IsRefined, AreCardsRead};
 ghost use Rattle.g1_core.specs.Run.{kind_of};
 ghost use Rattle.g1_core.specs.Table.{target_of, AreMembers};
+ghost use Rattle.g1_book.specs.Asked.{IsAsked};
 ghost use Rattle.g1_shared.specs.Counts.{one_call, one_store};
-ghost use Rattle.g1_shared.specs.Callers.{called_once};
+ghost use Rattle.g1_shared.specs.Callers.{CallsOnce};
 ghost use Rattle.g1_shared.specs.Answers.{IsKindAt, IsReplyAt};
-ghost use Rattle.g1_shared.specs.Totals.{with_call, with_store, IsCoreStep, IsFull};
+ghost use Rattle.g1_shared.specs.Totals.{with_call, with_store, IsAskedOfCore, IsCoreStep};
+ghost use Rattle.g1_shared.specs.Totals.{RefusesCounted};
 
 use crate::caller::{Caller, Counts};
 use crate::counted_core::CountedCore;
@@ -25,7 +27,9 @@ use crate::ledgers::Frame;
 use crate::lending::LendingCalls;
 use crate::shared::Keeper;
 use g1_book::{Refusal, cards_in};
-use g1_core::{CardList, ClearReply, Drained, Redirected, RefineReply, Status, StoreReply};
+use g1_core::{
+    Call, CardList, ClearReply, Drained, Redirected, RefineReply, Reply, Status, StoreReply,
+};
 use g1_layout::{Card, Region, Slot};
 use g1_log::{Buffer, Log};
 use std::sync::ledger::Ledger;
@@ -62,8 +66,7 @@ impl<M: Frame, S: Ledger> LendingCalls<M, S> for CountedCore<M, S> {
         ensures later { OnOk result (IsLater self.old.machine self.new.machine) }
         ensures totals { OnOk result (self.new.totals ≡ with_store self.old.totals) }
         ensures counts { OnOk result (counts.new ≡ one_store counts.old) }
-        ensures full { (result ≡ Err Refusal.BookFull) ↔ IsFull self.old }
-        ensures kept { OnErr result (self.new ≡ self.old) }
+        ensures kept { RefusesCounted self.old result self.new }
         ensures err { OnErr result ((counts.new ≡ counts.old) × (log.new ≡ log.old)
             × (completed.new ≡ completed.old)) }
     {
@@ -96,8 +99,8 @@ impl<M: Frame, S: Ledger> LendingCalls<M, S> for CountedCore<M, S> {
         ensures later { OnOk result (IsLater self.old.machine self.new.machine) }
         ensures totals { OnOk result (self.new.totals ≡ with_call self.old.totals) }
         ensures counts { OnOk result (counts.new ≡ one_call counts.old) }
-        ensures full { (result ≡ Err Refusal.BookFull) ↔ IsFull self.old }
-        ensures err { OnErr result ((self.new ≡ self.old) × (counts.new ≡ counts.old)) }
+        ensures kept { RefusesCounted self.old result self.new }
+        ensures err { OnErr result (counts.new ≡ counts.old) }
     {
         if self.counters.is_full() {
             return Err(Refusal::BookFull);
@@ -126,10 +129,8 @@ impl<M: Frame, S: Ledger> Keeper<M, S> for CountedCore<M, S> {
             IsCoreStep self.old (λ number. target_entry number slot target) self.new) }
         ensures later { OnOk result (IsLater self.old.machine self.new.machine) }
         ensures totals { OnOk result (self.new.totals ≡ with_call self.old.totals) }
-        ensures ok { OnOk result (caller.new ≡ called_once caller.old) }
-        ensures full { (result ≡ Err Refusal.BookFull) ↔ IsFull self.old }
-        ensures kept { OnErr result (self.new ≡ self.old) }
-        ensures err { OnErr result (caller.new ≡ caller.old) }
+        ensures called { CallsOnce caller.old result caller.new }
+        ensures kept { RefusesCounted self.old result self.new }
     {
         if self.counters.is_full() {
             return Err(Refusal::BookFull);
@@ -148,10 +149,8 @@ impl<M: Frame, S: Ledger> Keeper<M, S> for CountedCore<M, S> {
         ensures step { IfOk result (λ answer.
             IsCoreStep self.old (λ number. pending_entry number card answer) self.new) }
         ensures totals { OnOk result (self.new.totals ≡ with_call self.old.totals) }
-        ensures ok { OnOk result (caller.new ≡ called_once caller.old) }
-        ensures full { (result ≡ Err Refusal.BookFull) ↔ IsFull self.old }
-        ensures kept { OnErr result (self.new ≡ self.old) }
-        ensures err { OnErr result (caller.new ≡ caller.old) }
+        ensures called { CallsOnce caller.old result caller.new }
+        ensures kept { RefusesCounted self.old result self.new }
     {
         if self.counters.is_full() {
             return Err(Refusal::BookFull);
@@ -172,10 +171,8 @@ impl<M: Frame, S: Ledger> Keeper<M, S> for CountedCore<M, S> {
         ensures step { IfOk result (λ cards.
             IsCoreStep self.old (λ number. members_entry number region cards) self.new) }
         ensures totals { OnOk result (self.new.totals ≡ with_call self.old.totals) }
-        ensures ok { OnOk result (caller.new ≡ called_once caller.old) }
-        ensures full { (result ≡ Err Refusal.BookFull) ↔ IsFull self.old }
-        ensures kept { OnErr result (self.new ≡ self.old) }
-        ensures err { OnErr result (caller.new ≡ caller.old) }
+        ensures called { CallsOnce caller.old result caller.new }
+        ensures kept { RefusesCounted self.old result self.new }
     {
         if self.counters.is_full() {
             return Err(Refusal::BookFull);
@@ -197,10 +194,8 @@ impl<M: Frame, S: Ledger> Keeper<M, S> for CountedCore<M, S> {
         ensures step { IfOk result (λ status.
             IsCoreStep self.old (λ number. status_entry number status) self.new) }
         ensures totals { OnOk result (self.new.totals ≡ with_call self.old.totals) }
-        ensures ok { OnOk result (caller.new ≡ called_once caller.old) }
-        ensures full { (result ≡ Err Refusal.BookFull) ↔ IsFull self.old }
-        ensures kept { OnErr result (self.new ≡ self.old) }
-        ensures err { OnErr result (caller.new ≡ caller.old) }
+        ensures called { CallsOnce caller.old result caller.new }
+        ensures kept { RefusesCounted self.old result self.new }
     {
         if self.counters.is_full() {
             return Err(Refusal::BookFull);
@@ -221,10 +216,8 @@ impl<M: Frame, S: Ledger> Keeper<M, S> for CountedCore<M, S> {
             IsCoreStep self.old (λ number. drain_entry number region answer) self.new) }
         ensures later { OnOk result (IsLater self.old.machine self.new.machine) }
         ensures totals { OnOk result (self.new.totals ≡ with_call self.old.totals) }
-        ensures ok { OnOk result (caller.new ≡ called_once caller.old) }
-        ensures full { (result ≡ Err Refusal.BookFull) ↔ IsFull self.old }
-        ensures kept { OnErr result (self.new ≡ self.old) }
-        ensures err { OnErr result (caller.new ≡ caller.old) }
+        ensures called { CallsOnce caller.old result caller.new }
+        ensures kept { RefusesCounted self.old result self.new }
     {
         if self.counters.is_full() {
             return Err(Refusal::BookFull);
@@ -250,10 +243,8 @@ impl<M: Frame, S: Ledger> Keeper<M, S> for CountedCore<M, S> {
             + member_count self.old.machine.state.table region * M.terms.layout.slots }
         ensures later { OnOk result (IsLater self.old.machine self.new.machine) }
         ensures totals { OnOk result (self.new.totals ≡ with_call self.old.totals) }
-        ensures ok { OnOk result (caller.new ≡ called_once caller.old) }
-        ensures full { (result ≡ Err Refusal.BookFull) ↔ IsFull self.old }
-        ensures kept { OnErr result (self.new ≡ self.old) }
-        ensures err { OnErr result (caller.new ≡ caller.old) }
+        ensures called { CallsOnce caller.old result caller.new }
+        ensures kept { RefusesCounted self.old result self.new }
     {
         if self.counters.is_full() {
             return Err(Refusal::BookFull);
@@ -279,10 +270,8 @@ impl<M: Frame, S: Ledger> Keeper<M, S> for CountedCore<M, S> {
             IsCoreStep self.old (λ number. redirect_entry number from to answer) self.new) }
         ensures later { OnOk result (IsLater self.old.machine self.new.machine) }
         ensures totals { OnOk result (self.new.totals ≡ with_call self.old.totals) }
-        ensures ok { OnOk result (caller.new ≡ called_once caller.old) }
-        ensures full { (result ≡ Err Refusal.BookFull) ↔ IsFull self.old }
-        ensures kept { OnErr result (self.new ≡ self.old) }
-        ensures err { OnErr result (caller.new ≡ caller.old) }
+        ensures called { CallsOnce caller.old result caller.new }
+        ensures kept { RefusesCounted self.old result self.new }
     {
         if self.counters.is_full() {
             return Err(Refusal::BookFull);
@@ -292,5 +281,25 @@ impl<M: Frame, S: Ledger> Keeper<M, S> for CountedCore<M, S> {
         };
         self.counters.call_of(caller);
         Ok(answer)
+    }
+
+    /// As the core's call of that value, by this caller.
+    fn ask(&mut self, caller: &mut Caller<M, S>, call: Call) -> Result<Reply, Refusal>
+        requires { IsAsked M.terms.layout call }
+        ensures step { IfOk result (λ reply. IsAskedOfCore self.old call reply self.new) }
+        ensures totals { OnOk result (self.new.totals ≡ with_call self.old.totals) }
+        ensures called { CallsOnce caller.old result caller.new }
+        ensures kept { RefusesCounted self.old result self.new }
+    {
+        match call {
+            Call::Target(slot) => Ok(Reply::Target(self.target(caller, slot)?)),
+            Call::Pending(card) => Ok(Reply::Pending(self.is_pending(caller, card)?)),
+            Call::Members(region) => Ok(Reply::Cards(self.members(caller, region)?)),
+            Call::Status => Ok(Reply::Status(self.status(caller)?)),
+            Call::Drain(region) => Ok(Reply::from(self.drain(caller, region)?)),
+            Call::Clear(region) => Ok(Reply::Clear(self.clear(caller, region)?)),
+            Call::Redirect { from, to } => Ok(Reply::from(&self.redirect(caller, from, to)?)),
+            Call::Store { .. } | Call::Refine => unreachable!(),
+        }
     }
 }

@@ -1,14 +1,15 @@
 //! The calls that are one call under the lock: of what is kept there, and of a shared machinery.
-ghost use Rattle.std.specs.Prelude.{◌≡◌, ◌≢◌, ◌<◌, OnErr, OnOk};
+ghost use Rattle.std.specs.Prelude.{◌≢◌, ◌<◌};
 ghost use Rattle.g1_layout.specs.Shape.{slot_count, card_count};
-ghost use Rattle.g1_shared.specs.Callers.{called_once};
+ghost use Rattle.g1_book.specs.Asked.{IsAsked};
+ghost use Rattle.g1_shared.specs.Callers.{CallsOnce};
 
 use crate::caller::Caller;
 use crate::ledgers::Frame;
 use crate::lending::LendingCalls;
 use crate::shared::Shared;
 use g1_book::Refusal;
-use g1_core::{CardList, ClearReply, Drained, Redirected, Status};
+use g1_core::{Call, CardList, ClearReply, Drained, Redirected, Reply, Status};
 use g1_layout::{Card, Region, Slot};
 use std::sync::Wait;
 use std::sync::ledger::Ledger;
@@ -23,37 +24,31 @@ pub trait Keeper<M: Frame, S: Ledger>: LendingCalls<M, S> {
     /// Returns the place that a slot refers to.
     fn target(&mut self, caller: &mut Caller<M, S>, slot: Slot) -> Result<Option<Slot>, Refusal>
         requires { slot < slot_count M.terms.layout }
-        ensures ok { OnOk result (caller.new ≡ called_once caller.old) }
-        ensures err { OnErr result (caller.new ≡ caller.old) };
+        ensures called { CallsOnce caller.old result caller.new };
 
     /// Returns whether a card is pending.
     fn is_pending(&mut self, caller: &mut Caller<M, S>, card: Card) -> Result<bool, Refusal>
         requires { card < card_count M.terms.layout }
-        ensures ok { OnOk result (caller.new ≡ called_once caller.old) }
-        ensures err { OnErr result (caller.new ≡ caller.old) };
+        ensures called { CallsOnce caller.old result caller.new };
 
     /// Returns the remembered set of a region as it is recorded.
     fn members(&mut self, caller: &mut Caller<M, S>, region: Region) -> Result<CardList, Refusal>
         requires { region < M.terms.layout.regions }
-        ensures ok { OnOk result (caller.new ≡ called_once caller.old) }
-        ensures err { OnErr result (caller.new ≡ caller.old) };
+        ensures called { CallsOnce caller.old result caller.new };
 
     /// Returns how many cards are pending and how many pairs are recorded.
     fn status(&mut self, caller: &mut Caller<M, S>) -> Result<Status, Refusal>
-        ensures ok { OnOk result (caller.new ≡ called_once caller.old) }
-        ensures err { OnErr result (caller.new ≡ caller.old) };
+        ensures called { CallsOnce caller.old result caller.new };
 
     /// Refines all that is pending, and returns the remembered set of a region.
     fn drain(&mut self, caller: &mut Caller<M, S>, region: Region) -> Result<Drained, Refusal>
         requires { region < M.terms.layout.regions }
-        ensures ok { OnOk result (caller.new ≡ called_once caller.old) }
-        ensures err { OnErr result (caller.new ≡ caller.old) };
+        ensures called { CallsOnce caller.old result caller.new };
 
     /// Empties the remembered set of a region that no reference enters.
     fn clear(&mut self, caller: &mut Caller<M, S>, region: Region) -> Result<ClearReply, Refusal>
         requires { region < M.terms.layout.regions }
-        ensures ok { OnOk result (caller.new ≡ called_once caller.old) }
-        ensures err { OnErr result (caller.new ≡ caller.old) };
+        ensures called { CallsOnce caller.old result caller.new };
 
     /// Moves the references into a region to the same offsets of another.
     fn redirect(
@@ -65,8 +60,12 @@ pub trait Keeper<M: Frame, S: Ledger>: LendingCalls<M, S> {
         requires from { from < M.terms.layout.regions }
         requires to { to < M.terms.layout.regions }
         requires apart { from ≢ to }
-        ensures ok { OnOk result (caller.new ≡ called_once caller.old) }
-        ensures err { OnErr result (caller.new ≡ caller.old) };
+        ensures called { CallsOnce caller.old result caller.new };
+
+    /// Makes any call but a store and a refinement, and returns its reply.
+    fn ask(&mut self, caller: &mut Caller<M, S>, call: Call) -> Result<Reply, Refusal>
+        requires { IsAsked M.terms.layout call }
+        ensures called { CallsOnce caller.old result caller.new };
 }
 
 /// Each call waits for the lock, makes the call of what is kept under it for the caller, and
@@ -82,8 +81,7 @@ impl<M: Frame, S: Ledger, K: Keeper<M, S>> Shared<M, S, K> {
         slot: Slot,
     ) -> Result<Option<Slot>, Refusal>
         requires { slot < slot_count M.terms.layout }
-        ensures ok { OnOk result (caller.new ≡ called_once caller.old) }
-        ensures err { OnErr result (caller.new ≡ caller.old) }
+        ensures called { CallsOnce caller.old result caller.new }
     {
         self.counted.lock(rt).target(caller, slot)
     }
@@ -96,8 +94,7 @@ impl<M: Frame, S: Ledger, K: Keeper<M, S>> Shared<M, S, K> {
         card: Card,
     ) -> Result<bool, Refusal>
         requires { card < card_count M.terms.layout }
-        ensures ok { OnOk result (caller.new ≡ called_once caller.old) }
-        ensures err { OnErr result (caller.new ≡ caller.old) }
+        ensures called { CallsOnce caller.old result caller.new }
     {
         self.counted.lock(rt).is_pending(caller, card)
     }
@@ -111,16 +108,14 @@ impl<M: Frame, S: Ledger, K: Keeper<M, S>> Shared<M, S, K> {
         region: Region,
     ) -> Result<CardList, Refusal>
         requires { region < M.terms.layout.regions }
-        ensures ok { OnOk result (caller.new ≡ called_once caller.old) }
-        ensures err { OnErr result (caller.new ≡ caller.old) }
+        ensures called { CallsOnce caller.old result caller.new }
     {
         self.counted.lock(rt).members(caller, region)
     }
 
     /// Returns how much is pending and recorded, by a call under the lock (`Counted::status`).
     pub fn status<R: Wait>(&self, rt: &R, caller: &mut Caller<M, S>) -> Result<Status, Refusal>
-        ensures ok { OnOk result (caller.new ≡ called_once caller.old) }
-        ensures err { OnErr result (caller.new ≡ caller.old) }
+        ensures called { CallsOnce caller.old result caller.new }
     {
         self.counted.lock(rt).status(caller)
     }
@@ -134,8 +129,7 @@ impl<M: Frame, S: Ledger, K: Keeper<M, S>> Shared<M, S, K> {
         region: Region,
     ) -> Result<Drained, Refusal>
         requires { region < M.terms.layout.regions }
-        ensures ok { OnOk result (caller.new ≡ called_once caller.old) }
-        ensures err { OnErr result (caller.new ≡ caller.old) }
+        ensures called { CallsOnce caller.old result caller.new }
     {
         self.counted.lock(rt).drain(caller, region)
     }
@@ -148,8 +142,7 @@ impl<M: Frame, S: Ledger, K: Keeper<M, S>> Shared<M, S, K> {
         region: Region,
     ) -> Result<ClearReply, Refusal>
         requires { region < M.terms.layout.regions }
-        ensures ok { OnOk result (caller.new ≡ called_once caller.old) }
-        ensures err { OnErr result (caller.new ≡ caller.old) }
+        ensures called { CallsOnce caller.old result caller.new }
     {
         self.counted.lock(rt).clear(caller, region)
     }
@@ -165,9 +158,22 @@ impl<M: Frame, S: Ledger, K: Keeper<M, S>> Shared<M, S, K> {
         requires from { from < M.terms.layout.regions }
         requires to { to < M.terms.layout.regions }
         requires apart { from ≢ to }
-        ensures ok { OnOk result (caller.new ≡ called_once caller.old) }
-        ensures err { OnErr result (caller.new ≡ caller.old) }
+        ensures called { CallsOnce caller.old result caller.new }
     {
         self.counted.lock(rt).redirect(caller, from, to)
+    }
+
+    /// Makes any call but a store and a refinement by its value, under the lock (`Counted::ask`):
+    /// `target` makes a `Call::Target`, and so on.
+    pub fn ask<R: Wait>(
+        &self,
+        rt: &R,
+        caller: &mut Caller<M, S>,
+        call: Call,
+    ) -> Result<Reply, Refusal>
+        requires { IsAsked M.terms.layout call }
+        ensures called { CallsOnce caller.old result caller.new }
+    {
+        self.counted.lock(rt).ask(caller, call)
     }
 }
