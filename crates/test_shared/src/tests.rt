@@ -6,7 +6,7 @@ ghost use Rattle.g1_shared.specs.Callers.{IsCallerOf, caller_mark};
 ghost use Rattle.g1_shared.specs.Totals.{core_terms};
 
 use g1_book::Refusal;
-use g1_core::{CardList, Config, Core, Drained};
+use g1_core::{Call, CardList, Config, Core, Reply};
 use g1_layout::{Layout, NoMemory, Slot};
 use g1_shared::{Caller, Frame, Keeper, SharedCore, Totals};
 use std::alloc::Global;
@@ -133,9 +133,9 @@ fn drained<M: Frame, S: Ledger, R: Wait + Abort>(
 ) -> Result<CardList, Refusal> {
     let mut guard = shared.lock(rt);
     let region = guard.core().layout().region(region).expect(rt, "a region");
-    match guard.drain(caller, region)? {
-        Drained::Cards { cards, .. } => Ok(cards),
-        Drained::Short { .. } => Err(Refusal::NoMemory),
+    match guard.ask(caller, Call::Drain(region))? {
+        Reply::Cards(cards) => Ok(cards),
+        _ => Err(Refusal::NoMemory),
     }
 }
 
@@ -236,8 +236,8 @@ fn play<M: Frame + Send + Sync, S: Ledger + Send + Sync, R: Threads + Wait + Abo
     let callers = stopped(rt, &shared, callers);
     assert_drains(rt, &shared, &mut drains)?;
     let mut callers = ran(rt, &shared, callers);
-    let status = shared.lock(rt).status(&mut drains);
-    assert!(rt; matches!(status, Err(Refusal::BookFull)));
+    let asked = shared.ask(rt, &mut drains, Call::Status);
+    assert!(rt; matches!(asked, Err(Refusal::BookFull)));
     let Ok(()) = callers.push(drains) else {
         return Err(Refusal::NoMemory);
     };
