@@ -7,7 +7,7 @@ use Rattle.g1_replay.proofs.calls.play_call.Goals as goal
 pub returns-in_err-reply-clause-played : goal.returns-in_err-reply-clause-played
 returns-in_err-reply-clause-played g c =
     let p = err_from_is_err_and c.from_residual.result c.from_residual.ensures.1 in
-    let refused = call_refused _ _ _ c.in_err-reply.ensures.err (λ e. c.in_err-reply.ensures.full.0 (ap Err e)) in
+    let refused = call_refused _ _ _ c.in_err-reply.ensures.err.1 (λ e. c.in_err-reply.ensures.err.0.0 (ap Err e)) in
     rw (p.1, p.2) (does_refused (λ s. s) _ _ (Call c.args.call) _ _ refused)
 
 pub returns-in_err-put_call-clause-played : goal.returns-in_err-put_call-clause-played
