@@ -96,10 +96,9 @@ impl<M: Frame, S: Ledger> Recorder<'_, M, S> {
         let caller = &mut self.caller;
         let place = caller.shared.target(rt, &mut caller.caller, slot)?;
         self.enter_plain(Call::Target(slot), Reply::Target(place))?;
-        let pending = Call::Pending(self.caller.card(rt, 2 * home));
-        let caller = &mut self.caller;
-        let reply = caller.shared.ask(rt, &mut caller.caller, pending)?;
-        self.enter_plain(pending, reply)?;
+        let card = self.caller.card(rt, 2 * home);
+        let pending = self.caller.is_pending(rt, 2 * home)?;
+        self.enter_plain(Call::Pending(card), Reply::Pending(pending))?;
         let region = self.caller.region(rt, next);
         let members = self.caller.members(rt, next)?;
         self.enter_plain(Call::Members(region), Reply::Cards(members))?;
