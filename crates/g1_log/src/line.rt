@@ -81,6 +81,7 @@ impl Line {
     /// some moment of the call (the clause says so in part: docs/DECISIONS.md), or if this sender
     /// has put 2^58 buffers. The call is one step of the queue, which moves the buffer. It takes no
     /// memory.
+    #[inline(always)]
     pub fn put<R: Wait>(&self, rt: &R, sender: &mut Sender, buffer: Buffer) -> Result<(), Buffer>
         requires { IsSenderOf self.now sender.old }
         ensures same { IsSameSender sender.new sender.old }
@@ -112,6 +113,7 @@ impl Line {
     /// part: docs/DECISIONS.md). No clause says that the parcel is the oldest. The rule says that
     /// the numbers of each sender rise in what a taker takes. The call is one step of the queue,
     /// which moves the buffer. It takes no memory.
+    #[inline(always)]
     pub fn take<R: Wait>(&self, rt: &R, taker: &mut Taker) -> Option<Parcel>
         requires { IsTakerOf self.now taker.old }
         ensures same { IsSameTaker taker.new taker.old }

@@ -1,6 +1,6 @@
 //! What a mutator does: stores, whose filled log goes into the queue of completed buffers, and
 //! flushes.
-ghost use Rattle.std.specs.Prelude.{◌≡◌, ◌<◌, true, IfSome, IsNone, IsSome};
+ghost use Rattle.std.specs.Prelude.{◌≡◌, ◌≢◌, ◌<◌, [], true, IfSome, IsNone, IsSome};
 ghost use Rattle.g1_layout.specs.Shape.{slot_count, card_of};
 ghost use Rattle.g1_log.specs.Ends.{IsSenderOf, put_of, IsSameSender};
 ghost use Rattle.g1_steps.specs.Steps.{IsPassed, PutsBy, MayRefuse, nothing_flushed};
@@ -105,8 +105,22 @@ impl Mutator {
         requires line { IsSenderOf line.now self.old.sender }
         ensures { IsFlushStep C.did line.now calls.old self.old result self.new calls.new }
     {
-        let Some(buffer) = self.log.take() else {
+        if self.log.is_empty() {
             return nothing_flushed(calls.allocator());
+        }
+        self.flush_cards(rt, line, calls)
+    }
+
+    // The same of a log with cards. It is a call of its own, since its place for the buffer is filled
+    // with zeros first.
+    #[inline(never)]
+    fn flush_cards<C: Calls, R: Wait>(&mut self, rt: &R, line: &Line, calls: &mut C) -> FlushReply
+        requires line { IsSenderOf line.now self.old.sender }
+        requires some { self.old.log.cards ≢ [] }
+        ensures { IsFlushStep C.did line.now calls.old self.old result self.new calls.new }
+    {
+        let Some(buffer) = self.log.take() else {
+            unreachable!()
         };
         let cards = buffer.cards().len() as u32;
         let passed = pass_on(rt, line, &mut self.sender, calls, buffer);
@@ -163,6 +177,7 @@ fn pass_from<C: Calls, R: Wait>(
 }
 
 /// Puts a buffer into the queue, and refines it if the queue hands it back.
+#[inline(always)]
 fn pass_on<C: Calls, R: Wait>(
     rt: &R,
     line: &Line,
