@@ -111,7 +111,7 @@ impl Mutator {
         self.flush_cards(rt, line, calls)
     }
 
-    // The same of a log with cards. It is a call of its own, since its place for the buffer is filled
+    // The same of a log with cards. It is a call of its own, since its place for a buffer is filled
     // with zeros first.
     #[inline(never)]
     fn flush_cards<C: Calls, R: Wait>(&mut self, rt: &R, line: &Line, calls: &mut C) -> FlushReply
