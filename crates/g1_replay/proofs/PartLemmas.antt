@@ -156,6 +156,10 @@ settled_long a c line p = line_long a p.left c p.before line p.read p.one p.last
 pub settled_more : (a c : Option (List ℕ)) (line : List ℕ) → HasPart a c More line → IsSettled a c (Ok None) line
 settled_more a c line p = line_more a p.left c p.before line p.read p.one p.last
 
+-- a line that the reader showed as a whole
+pub line_shown : (old new : Option (List ℕ)) (shown : List ℕ) (n lost : ℕ) → GoesIntoLine shown 64 Whole n lost → n ≤ length shown → Consumes old new (take lost shown) → ReadsLine old new (Ok true) (take n shown)
+line_shown old new shown n lost p within moved = let long = length-take-le n shown within in (subst (Consumes old new) p.2 moved, p.0, omega arith)
+
 pub nothing_shown : (a c : Option (List ℕ)) (line : List ℕ) → HasPart a c Nothing line → Consumes a c line × IsPart line
 nothing_shown a c line p = stays a p.left c p.before line p.read p.one p.last.0 p.last.1
 

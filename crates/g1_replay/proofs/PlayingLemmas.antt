@@ -1,14 +1,16 @@
 -- Lines that were played: one, and one after another.
-use Rattle.std.proofs.Common.{◌≡◌, ℕ, List, [], ◌∷◌, ◌++◌, refl, sym, ap, ◌∙◌, append_assoc, append-nil, Option, Some, true, arith}
-use Rattle.std.specs.Prelude.{Bool, Result, Ok, Err}
+use Rattle.std.proofs.Common.{◌≡◌, ℕ, ◌+◌, List, [], ◌∷◌, ◌++◌, refl, sym, ap, subst, ◌∙◌, append_assoc, append-nil, take, drop, Option, Some, None, true, arith}
+use Rattle.std.specs.Prelude.{Bool, Result, Ok, Err, IfErr}
+use Rattle.std.specs.Io.KnownBytes.{Consumes}
+use Rattle.std.proofs.lemmas.List.{take-take, drop-take, take-append-drop}
 use Rattle.g1_layout.specs.Shape.{Shape}
 use Rattle.g1_trace.specs.declared.command.Command.{Command}
 use Rattle.g1_trace.specs.declared.dialect.Dialect.{Dialect}
 use Rattle.g1_trace.proofs.PutLemmas.{puts_none, puts_then}
 use Rattle.g1_replay.specs.declared.stop.Stop.{Stop}
 use Rattle.g1_replay.specs.declared.stop.Stop.TheVariants.{Fault, NoMemory, BookFull, NoThread, ReadFailed, WriteFailed}
-use Rattle.g1_replay.specs.Playing.{IsUndone, Does, MayStop, Follows, written_by}
-use Rattle.g1_replay.specs.Reading.{IsReadStop, Reads}
+use Rattle.g1_replay.specs.Playing.{IsUndone, Does, MayStop, Follows, FollowsFront, written_by}
+use Rattle.g1_replay.specs.Reading.{IsReadStop, Reads, more_may_come}
 use Rattle.g1_replay.proofs.ReadingLemmas.{reads_none, reads_then}
 
 -- nothing to be done
@@ -85,3 +87,36 @@ line_stopped did full d l n n' c old new rd rd' out out' stop h read done = reco
     halted d l n n' c rd rd' BookFull h read = record { lines = read.lines; rest = read.rest; consumed = read.consumed; passed = read.passed; met = read.met }
     halted d l n n' c rd rd' WriteFailed h read = record { lines = read.lines; rest = read.rest; consumed = read.consumed; passed = read.passed; met = read.met }
     halted d l n n' c rd rd' stop h read = absurd h
+
+-- a command that was played, or stopped
+pub line_done : {S : Type 0} (did : S → List Command → List ℕ → S → Type 0) (full : S → Type 0) (stops : Stop → Type 0) (may : (stop : Stop) → stops stop → MayStop stop) (d : Dialect) (l : Shape) (n n' : ℕ) (c : Command) (old new : S)
+    (rd rd' out out' : Option (List ℕ)) (r : Result (Unit {0}) Stop) → IfErr r stops → Reads d (Some l) n n' rd rd' (Some l) (c ∷ []) (Ok true) → Does did full (c ∷ []) old new out out' (more_may_come r)
+    → Follows did full d l n n' old new rd rd' out out' (more_may_come r)
+line_done did full stops may d l n n' c old new rd rd' out out' (Ok u) h read done = record { commands = c ∷ []; read = read; done = done }
+line_done did full stops may d l n n' c old new rd rd' out out' (Err stop) h read done = line_stopped did full d l n n' c old new rd rd' out out' stop (may stop h) read done
+
+-- bytes that were taken one part after the other
+consumes_apart : (a c : Option (List ℕ)) (xs ys : List ℕ) → Consumes a c (xs ++ ys) → (b : Option (List ℕ)) × Consumes a b xs × Consumes b c ys
+consumes_apart None c xs ys p = (None, tt, tt)
+consumes_apart (Some old) None xs ys p = absurd p
+consumes_apart (Some old) (Some new) xs ys p = (Some (ys ++ new), p ∙ append_assoc xs ys new, refl)
+
+take_then : (n m : ℕ) (xs : List ℕ) → take n xs ++ take m (drop n xs) ≡ take (n + m) xs
+take_then n m xs =
+    ap (λ w. w ++ take m (drop n xs)) (sym (take-take n (n + m) xs (omega arith))) ∙ ap (λ w. take n (take (n + m) xs) ++ w) (sym (drop-take n m xs)) ∙ take-append-drop n (take (n + m) xs)
+
+-- lines at the front of what is shown: none, and then more
+pub front_none : {S : Type 0} (did : S → List Command → List ℕ → S → Type 0) (full : S → Type 0) (d : Dialect) (l : Shape) (n : ℕ) (s : S) (shown : List ℕ) (out : Option (List ℕ)) → did s [] [] s
+    → FollowsFront did full d l n n s s (take 0 shown) out out (Ok true)
+front_none did full d l n s shown out none = λ rd rd' moved. line_passed did full d l n n s rd rd' out true none (reads_nothing rd rd' moved)
+  where
+    reads_nothing : (rd rd' : Option (List ℕ)) → Consumes rd rd' (take 0 shown) → Reads d (Some l) n n rd rd' (Some l) [] (Ok true)
+    reads_nothing rd rd' moved = record { lines = []; rest = []; consumed = moved; passed = λ x. refl; met = refl }
+
+pub front_then : {S : Type 0} (did : S → List Command → List ℕ → S → Type 0) (full : S → Type 0)
+    (then : (s t u : S) (cs ds : List Command) (xs ys : List ℕ) → did s cs xs t → did t ds ys u → did s (cs ++ ds) (xs ++ ys) u)
+    (d : Dialect) (l : Shape) (n n' n2 k m : ℕ) (old mid new : S) (shown left : List ℕ) (out out' out2 : Option (List ℕ)) (r : Result Bool Stop) → left ≡ drop k shown
+    → FollowsFront did full d l n n' old mid (take k shown) out out' (Ok true) → FollowsFront did full d l n' n2 mid new (take m left) out' out2 r → FollowsFront did full d l n n2 old new (take (k + m) shown) out out2 r
+front_then did full then d l n n' n2 k m old mid new shown left out out' out2 r e p q = λ rd rd2 moved.
+    let apart = consumes_apart rd rd2 (take k shown) (take m left) (subst (Consumes rd rd2) (sym (take_then k m shown) ∙ ap (λ w. take k shown ++ take m w) (sym e)) moved) in
+    follows_then did full then d l n n' n2 old mid new rd apart.0 rd2 out out' out2 r (p rd apart.0 apart.1) (q apart.0 rd2 apart.2)

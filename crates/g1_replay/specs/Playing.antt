@@ -2,6 +2,7 @@
 -- one that plays.
 use Rattle.std.specs.Prelude.{◌≡◌, ◌≤◌, ℕ, List, [], ◌∷◌, ◌++◌, Bool, Result, Ok, Err, Option, Some}
 use Rattle.std.specs.Prelude.{length}
+use Rattle.std.specs.Io.KnownBytes.{Consumes}
 use Rattle.g1_layout.specs.Shape.{Shape}
 use Rattle.g1_log.specs.declared.line.Line.{Line}
 use Rattle.g1_log.specs.Ends.{capacity_of}
@@ -106,3 +107,12 @@ pub record Follows {S : Type 0} (did : S → List Command → List ℕ → S →
   pub commands : List Command
   pub read : Reads d (Some l) n n' rd rd' (Some l) commands r
   pub done : Does did full commands old new out out' r
+
+-- These bytes were taken from a reader, whatever it has behind them: lines that were read, and
+-- their commands were done.
+abbrev pub FollowsFront : {S : Type 0} → (S → List Command → List ℕ → S → Type 0) → (S → Type 0)
+    → Dialect → Shape → ℕ → ℕ → S → S → List ℕ → Option (List ℕ) → Option (List ℕ)
+    → Result Bool Stop → Type 0
+FollowsFront did full d l n n' old new bytes out out' r =
+    (rd rd' : Option (List ℕ)) → Consumes rd rd' bytes
+    → Follows did full d l n n' old new rd rd' out out' r

@@ -10,9 +10,9 @@ ghost use Rattle.g1_replay.specs.Scripted.{no_memory_may, StopsReading};
 ghost use Rattle.g1_replay.specs.Scripts.{AreKept, AreScriptsOf, kept_nothing, kept_then};
 ghost use Rattle.g1_replay.specs.declared.stop.Stop.TheVariants.{NoMemory};
 
-use crate::engine::play_lines;
 use crate::opening::read_heap;
 use crate::player::Player;
+use crate::playing::play_lines;
 use crate::scripts::asked;
 use crate::source::Source;
 use crate::stop::Stop;

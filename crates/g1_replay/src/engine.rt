@@ -1,18 +1,15 @@
 //! Reads a trace line by line, makes the calls of each line, and writes its output line.
-ghost use Rattle.std.specs.Prelude.{◌≡◌, ℕ, List, [], ◌++◌, ◌<◌, ◌≤◌, ◌^◌, ◌⊎◌, Ok, true, Result};
-ghost use Rattle.std.specs.Prelude.{IfSome, IfErr, OnOk};
+ghost use Rattle.std.specs.Prelude.{◌≡◌, ℕ, List, ◌++◌, Result, IfSome};
 ghost use Rattle.g1_trace.specs.declared.mode.Mode.TheVariants.{Run};
-ghost use Rattle.g1_replay.specs.Playing.{Follows, Writes};
-ghost use Rattle.g1_replay.specs.Output.{Told, IsEndWritten, end_met, ending_line, end_or_failed};
+ghost use Rattle.g1_replay.specs.Playing.{Writes};
+ghost use Rattle.g1_replay.specs.Output.{Told, IsEndWritten, ending_line, end_or_failed};
 ghost use Rattle.g1_replay.specs.Output.{IsWholeOutput, IsRefusedOutput};
-ghost use Rattle.g1_replay.specs.Reading.{IsReadStop};
 ghost use Rattle.g1_replay.specs.declared.stop.Stop.{Stop};
 
 use crate::end::End;
 use crate::machinery::Machinery;
-use crate::next::{Next, read_next};
 use crate::opening::read_heap;
-use crate::player::Player;
+use crate::playing::play_lines;
 use crate::source::Source;
 use crate::stop::Stop;
 use g1_layout::Layout;
@@ -24,56 +21,6 @@ use g1_trace::{
 use std::alloc::Global;
 use std::io::{BufRead, Write};
 use std::sync::Wait;
-
-// One line. Returns whether another may come: at the end of the input it does not.
-fn play_line<T: Wait, P: Player, R: BufRead, W: Write>(
-    rt: &T,
-    source: &mut Source,
-    layout: &Layout,
-    dialect: Dialect,
-    input: &mut R,
-    player: &mut P,
-    output: &mut W,
-) -> Result<bool, Stop>
-    requires { P.takes player.old layout.now dialect }
-    ensures followed { Follows P.did P.full dialect layout.now source.old.number source.new.number
-        player.old player.new (R.remaining input.old) (R.remaining input.new)
-        (W.contents output.old) (W.contents output.new) result }
-    ensures more { result ≡ Ok true → source.old.reads < source.new.reads }
-    ensures limit { result ≡ Ok true → source.new.reads ≤ 2 ^ 40 }
-    ensures stops { IfErr result (λ stop. IsReadStop stop ⊎ P.stops stop) }
-    ensures takes { OnOk result (P.takes player.new layout.now dialect) }
-{
-    match read_next(source, layout, dialect, input)? {
-        Next::End => Ok(false),
-        Next::Blank => Ok(true),
-        Next::Do(command) => {
-            player.play(rt, *layout, dialect, command, output)?;
-            Ok(true)
-        }
-    }
-}
-
-/// The lines behind the header, up to the end of the input or to what stops the replay.
-pub(crate) fn play_lines<T: Wait, P: Player, R: BufRead, W: Write>(
-    rt: &T,
-    source: &mut Source,
-    layout: Layout,
-    dialect: Dialect,
-    input: &mut R,
-    player: &mut P,
-    output: &mut W,
-) -> Result<(), Stop>
-    requires { P.takes player.old layout dialect }
-    ensures followed { Follows P.did P.full dialect layout source.old.number source.new.number
-        player.old player.new (R.remaining input.old) (R.remaining input.new)
-        (W.contents output.old) (W.contents output.new) (end_met result) }
-    ensures stops { IfErr result (λ stop. IsReadStop stop ⊎ P.stops stop) }
-    ensures takes { OnOk result (P.takes player.new layout dialect) }
-{
-    'lines: while play_line(rt, source, &layout, dialect, input, player, output)? {}
-    Ok(())
-}
 
 // The whole trace, but for the line of its end.
 fn play_trace<T: Wait, R: BufRead, W: Write>(

@@ -54,9 +54,9 @@ fn part_len(bytes: &[u8]) -> usize
     memchr_iter(b'\n', bytes).next().unwrap_or(bytes.len())
 }
 
-// How much of a line with room for `room` more the bytes have, how many of them go into it, and how
-// many are used up.
-fn part_of(shown: &[u8], room: usize) -> (Part, usize, usize)
+/// How much of a line with room for `room` more the bytes have, how many of them go into it, and
+/// how many are used up.
+pub fn part_of(shown: &[u8], room: usize) -> (Part, usize, usize)
     ensures goes_on { GoesIntoLine shown.now room result.0 result.1 result.2 }
     ensures fits { result.1 ≤ room }
     ensures within { result.1 ≤ result.2 }

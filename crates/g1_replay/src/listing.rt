@@ -6,9 +6,9 @@ ghost use Rattle.g1_replay.specs.Reading.{Reads};
 ghost use Rattle.g1_replay.specs.Scripted.{listed_none, listed_then, no_memory_may, StopsReading};
 ghost use Rattle.g1_replay.specs.declared.stop.Stop.TheVariants.{NoMemory};
 
-use crate::engine::play_lines;
 use crate::opening::read_heap;
 use crate::player::Player;
+use crate::playing::play_lines;
 use crate::source::Source;
 use crate::stop::Stop;
 use g1_layout::Layout;

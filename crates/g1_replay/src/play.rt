@@ -38,6 +38,7 @@ impl Player for Machinery {
     ghost stops = { MayStop };
 
     /// Makes the calls of a command and writes its output line.
+    #[inline(always)]
     fn play<T: Wait, W: Write>(
         &mut self,
         rt: &T,
@@ -139,6 +140,7 @@ fn answer_call<W: Write>(machinery: &mut Machinery, call: Call, output: &mut W) 
 }
 
 // Stores and flushes are calls of their mutator, refinements and rounds of the first.
+#[inline(always)]
 fn store<T: Wait>(
     rt: &T,
     machinery: &mut Machinery,

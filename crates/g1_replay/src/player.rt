@@ -12,8 +12,8 @@ use std::sync::Wait;
 
 /// Takes the commands of a trace, one after the other.
 ///
-/// [`play_lines`](crate::engine::play_lines) reads the lines and passes their commands on. It knows
-/// no more of a player than this trait says.
+/// [`play_lines`](crate::playing::play_lines) reads the lines and passes their commands on. It
+/// knows no more of a player than this trait says.
 pub(crate) trait Player {
     ghost use Rattle.std.specs.Prelude.{ℕ, List, [], ◌++◌};
     ghost use Rattle.g1_layout.specs.Shape.{Shape};

@@ -11,6 +11,7 @@ use std::io::Write;
 
 /// Writes the line of a store: `null`, `same region`, `dirty`, `logged`, `logged full`, or
 /// `logged helped` with the number of refined cards. It ends with ` short` if the reply is short.
+#[inline(always)]
 pub fn put_store_reply<W: Write>(output: &mut W, reply: &StoreReply) -> Result<(), WriteFailed>
     ensures { Puts (W.contents output.old) (W.contents output.new) result (store_text reply.now) }
 {

@@ -1,7 +1,7 @@
 use Rattle.std.proofs.Common.{◌^◌, ◌-◌, true}
 use Rattle.std.specs.Prelude.{Ok}
 use Rattle.g1_replay.specs.Playing.{Follows}
-use Rattle.g1_replay.proofs.engine.play_lines.Given as goal
+use Rattle.g1_replay.proofs.playing.play_lines.Given as goal
 
 -- what was done so far
 abbrev pub invariant-lines : goal.invariant-lines

@@ -1,0 +1,146 @@
+//! The lines that a reader shows as a whole, read where they lie and played one after the other.
+ghost use Rattle.std.specs.Prelude.{◌≡◌, ◌<◌, ◌≤◌, ◌^◌, ◌⊎◌, take, length};
+ghost use Rattle.std.specs.Prelude.{IfSome, IfErr, OnOk, IsNone, ◌∷◌, []};
+ghost use Rattle.g1_trace.specs.Grammar.{IsCommandOf};
+ghost use Rattle.g1_replay.specs.Playing.{Does, FollowsFront};
+ghost use Rattle.g1_replay.specs.Reading.{IsReadStop, more_may_come};
+
+use crate::lines::{LINE_LIMIT, Part, READ_LIMIT, part_of};
+use crate::player::Player;
+use crate::source::Source;
+use crate::stop::Stop;
+use g1_layout::Layout;
+use g1_trace::{Command, Dialect, read_command, read_store};
+use std::io::Write;
+use std::sync::Wait;
+
+/// Plays the lines at the front of what a reader shows, up to the first that is not there as a
+/// whole, or to what stops the replay. Returns how many bytes they take, with those of a line that
+/// stopped it.
+pub(crate) fn play_shown<T: Wait, P: Player, W: Write>(
+    rt: &T,
+    source: &mut Source,
+    layout: &Layout,
+    dialect: Dialect,
+    shown: &[u8],
+    player: &mut P,
+    output: &mut W,
+) -> (usize, Result<(), Stop>)
+    requires takes { P.takes player.old layout.now dialect }
+    requires limit { source.old.reads ≤ 2 ^ 40 }
+    ensures followed { FollowsFront P.did P.full dialect layout.now source.old.number
+        source.new.number player.old player.new (take result.0 shown.now)
+        (W.contents output.old) (W.contents output.new) (more_may_come result.1) }
+    ensures within { result.0 ≤ length shown.now }
+    ensures reads { source.old.reads ≤ source.new.reads }
+    ensures limit { source.new.reads ≤ 2 ^ 40 }
+    ensures stops { IfErr result.1 (λ stop. IsReadStop stop ⊎ P.stops stop) }
+    ensures takes { OnOk result.1 (P.takes player.new layout.now dialect) }
+{
+    let mut taken = 0;
+    'lines: while source.reads < READ_LIMIT {
+        source.reads += 1;
+        let left = shown.split_at(taken).1;
+        let Some((count, played)) = play_first(rt, source, layout, dialect, left, player, output)
+        else {
+            return (taken, Ok(()));
+        };
+        taken += count;
+        if let Err(stop) = played {
+            return (taken, Err(stop));
+        }
+    }
+    (taken, Ok(()))
+}
+
+// Plays the line that these bytes begin with, if it is there as a whole. Returns how many bytes it
+// takes, and what stopped it.
+#[inline(always)]
+fn play_first<T: Wait, P: Player, W: Write>(
+    rt: &T,
+    source: &mut Source,
+    layout: &Layout,
+    dialect: Dialect,
+    bytes: &[u8],
+    player: &mut P,
+    output: &mut W,
+) -> Option<(usize, Result<(), Stop>)>
+    requires takes { P.takes player.old layout.now dialect }
+    requires counted { source.old.number ≤ source.old.reads }
+    requires limit { source.old.reads ≤ 2 ^ 40 }
+    ensures followed { IfSome result (λ r. FollowsFront P.did P.full dialect layout.now
+        source.old.number source.new.number player.old player.new (take r.0 bytes.now)
+        (W.contents output.old) (W.contents output.new) (more_may_come r.1)) }
+    ensures within { IfSome result (λ r. r.0 ≤ length bytes.now) }
+    ensures stops { IfSome result (λ r. IfErr r.1 (λ stop. IsReadStop stop ⊎ P.stops stop)) }
+    ensures takes { IfSome result (λ r. OnOk r.1 (P.takes player.new layout.now dialect)) }
+    ensures none { IsNone result → (source.new ≡ source.old) × (player.new ≡ player.old)
+        × (W.contents output.new ≡ W.contents output.old) }
+    ensures reads { source.new.reads ≡ source.old.reads }
+{
+    if let Some((store, count)) = read_store(*layout, dialect, bytes) {
+        source.number += 1;
+        let played = player.play(rt, *layout, dialect, store, output);
+        return Some((count, played));
+    }
+    play_other(rt, source, layout, dialect, bytes, player, output)
+}
+
+// The same of a line that is no store, or one that is not spelled plainly.
+#[inline(never)]
+fn play_other<T: Wait, P: Player, W: Write>(
+    rt: &T,
+    source: &mut Source,
+    layout: &Layout,
+    dialect: Dialect,
+    bytes: &[u8],
+    player: &mut P,
+    output: &mut W,
+) -> Option<(usize, Result<(), Stop>)>
+    requires takes { P.takes player.old layout.now dialect }
+    requires counted { source.old.number ≤ source.old.reads }
+    requires limit { source.old.reads ≤ 2 ^ 40 }
+    ensures followed { IfSome result (λ r. FollowsFront P.did P.full dialect layout.now
+        source.old.number source.new.number player.old player.new (take r.0 bytes.now)
+        (W.contents output.old) (W.contents output.new) (more_may_come r.1)) }
+    ensures within { IfSome result (λ r. r.0 ≤ length bytes.now) }
+    ensures stops { IfSome result (λ r. IfErr r.1 (λ stop. IsReadStop stop ⊎ P.stops stop)) }
+    ensures takes { IfSome result (λ r. OnOk r.1 (P.takes player.new layout.now dialect)) }
+    ensures none { IsNone result → (source.new ≡ source.old) × (player.new ≡ player.old)
+        × (W.contents output.new ≡ W.contents output.old) }
+    ensures reads { source.new.reads ≡ source.old.reads }
+{
+    let (Part::Whole, size, count) = part_of(bytes, LINE_LIMIT) else {
+        return None;
+    };
+    let asked = match read_command(*layout, dialect, &bytes[..size]) {
+        Ok(asked) => asked,
+        Err(fault) => return Some((count, Err(Stop::Fault(fault)))),
+    };
+    source.number += 1;
+    let Some(command) = asked else {
+        return Some((count, Ok(())));
+    };
+    let played = play_command(rt, layout, dialect, command, player, output);
+    Some((count, played))
+}
+
+/// Plays one command. It is a call of its own, so that the loop over stores has nothing but theirs.
+#[inline(never)]
+pub(crate) fn play_command<T: Wait, P: Player, W: Write>(
+    rt: &T,
+    layout: &Layout,
+    dialect: Dialect,
+    command: Command,
+    player: &mut P,
+    output: &mut W,
+) -> Result<(), Stop>
+    requires takes { P.takes player.old layout.now dialect }
+    requires command { IsCommandOf layout.now dialect.mutators command }
+    ensures played { Does P.did P.full (command ∷ []) player.old player.new
+        (W.contents output.old) (W.contents output.new) (more_may_come result) }
+    ensures stops { IfErr result P.stops }
+    ensures takes { OnOk result (P.takes player.new layout.now dialect) }
+{
+    player.play(rt, *layout, dialect, command, output)
+}
