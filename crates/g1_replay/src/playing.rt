@@ -9,7 +9,7 @@ ghost use Rattle.g1_replay.specs.Reading.{IsReadStop};
 use crate::lines::{Part, READ_LIMIT};
 use crate::next::{Next, read_next};
 use crate::player::Player;
-use crate::shown::{play_command, play_shown};
+use crate::shown::play_shown;
 use crate::source::Source;
 use crate::stop::Stop;
 use g1_layout::Layout;
@@ -56,7 +56,7 @@ fn play_line<T: Wait, P: Player, R: BufRead, W: Write>(
         Next::End => Ok(false),
         Next::Blank => Ok(true),
         Next::Do(command) => {
-            play_command(rt, layout, dialect, command, player, output)?;
+            player.play(rt, *layout, dialect, command, output)?;
             Ok(true)
         }
     }

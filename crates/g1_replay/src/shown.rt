@@ -1,8 +1,7 @@
 //! The lines that a reader shows as a whole, read where they lie and played one after the other.
 ghost use Rattle.std.specs.Prelude.{◌≡◌, ◌<◌, ◌≤◌, ◌^◌, ◌⊎◌, take, length};
-ghost use Rattle.std.specs.Prelude.{IfSome, IfErr, OnOk, IsNone, ◌∷◌, []};
-ghost use Rattle.g1_trace.specs.Grammar.{IsCommandOf};
-ghost use Rattle.g1_replay.specs.Playing.{Does, FollowsFront};
+ghost use Rattle.std.specs.Prelude.{IfSome, IfErr, OnOk, IsNone};
+ghost use Rattle.g1_replay.specs.Playing.{FollowsFront};
 ghost use Rattle.g1_replay.specs.Reading.{IsReadStop, more_may_come};
 
 use crate::lines::{LINE_LIMIT, Part, READ_LIMIT, part_of};
@@ -10,7 +9,7 @@ use crate::player::Player;
 use crate::source::Source;
 use crate::stop::Stop;
 use g1_layout::Layout;
-use g1_trace::{Command, Dialect, read_command, read_store};
+use g1_trace::{Dialect, read_command, read_store};
 use std::io::Write;
 use std::sync::Wait;
 
@@ -121,26 +120,6 @@ fn play_other<T: Wait, P: Player, W: Write>(
     let Some(command) = asked else {
         return Some((count, Ok(())));
     };
-    let played = play_command(rt, layout, dialect, command, player, output);
+    let played = player.play(rt, *layout, dialect, command, output);
     Some((count, played))
-}
-
-/// Plays one command. It is a call of its own, so that the loop over stores has nothing but theirs.
-#[inline(never)]
-pub(crate) fn play_command<T: Wait, P: Player, W: Write>(
-    rt: &T,
-    layout: &Layout,
-    dialect: Dialect,
-    command: Command,
-    player: &mut P,
-    output: &mut W,
-) -> Result<(), Stop>
-    requires takes { P.takes player.old layout.now dialect }
-    requires command { IsCommandOf layout.now dialect.mutators command }
-    ensures played { Does P.did P.full (command ∷ []) player.old player.new
-        (W.contents output.old) (W.contents output.new) (more_may_come result) }
-    ensures stops { IfErr result P.stops }
-    ensures takes { OnOk result (P.takes player.new layout.now dialect) }
-{
-    player.play(rt, *layout, dialect, command, output)
 }

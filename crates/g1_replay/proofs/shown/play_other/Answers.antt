@@ -18,5 +18,5 @@ returns-in_default-asked-clause-followed g c = λ rd rd' moved.
 pub returns-clause-followed : goal.returns-clause-followed
 returns-clause-followed g c = λ rd rd' moved.
     let line = line_shown rd rd' c.args.bytes.now _ _ (rw c.in-Whole-default-default.is-0 at c.part_of.ensures.goes_on) (omega arith) moved in
-    line_done g.P.Player.did g.P.Player.full g.P.Player.stops g.met.P.Player.may_stop _ _ _ _ c.in-Some.command _ _ _ _ _ _ c.play_command-played.result c.play_command-played.ensures.stops
-    (command_read _ _ _ _ _ _ (Some c.in-Some.command) line (rw c.in-Some.is at c.in-Ok.ensures.read)) c.play_command-played.ensures.played
+    line_done g.P.Player.did g.P.Player.full g.P.Player.stops g.met.P.Player.may_stop _ _ _ _ c.in-Some.command _ _ _ _ _ _ c.play-played.result c.play-played.ensures.stops
+    (command_read _ _ _ _ _ _ (Some c.in-Some.command) line (rw c.in-Some.is at c.in-Ok.ensures.read)) c.play-played.ensures.played
