@@ -62,12 +62,6 @@ abbrev pub next_met : Result Next Stop → Result Bool Stop
 next_met (Ok End) = Ok false
 next_met r = more_may_come r
 
--- there was a line
-abbrev pub IsLine : Next → Type 0
-IsLine End = ⊥
-IsLine Blank = Unit {0}
-IsLine (Do c) = Unit {0}
-
 -- a command, if there is one, is of the heap
 abbrev pub IsNextCommandOf : Shape → Dialect → Next → Type 0
 IsNextCommandOf l d End = Unit {0}

@@ -1,4 +1,4 @@
-//! Reads a trace line by line, makes the calls of each line, and writes its output line.
+//! A replay by one thread: the header of its trace, its lines, and the line of its end.
 ghost use Rattle.std.specs.Prelude.{◌≡◌, ℕ, List, ◌++◌, Result, IfSome};
 ghost use Rattle.g1_trace.specs.declared.mode.Mode.TheVariants.{Run};
 ghost use Rattle.g1_replay.specs.Playing.{Writes};

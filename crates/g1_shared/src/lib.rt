@@ -11,6 +11,7 @@
 //! what the counts of its caller say.
 #![tactic(auto)]
 
+mod backoff;
 mod caller;
 mod counted;
 mod counted_core;

@@ -4,6 +4,7 @@ ghost use Rattle.std.proofs.Common.{◌∙◌, ap};
 ghost use Rattle.g1_shared.specs.Counts.{tally_after, tally_after_then, tally_after_number};
 ghost use Rattle.g1_shared.specs.Answers.{AreAnswersAt, answers_then};
 
+use crate::backoff::lock_with_backoff;
 use crate::caller::Counts;
 use crate::ledgers::Frame;
 use crate::shared::Keeper;
@@ -46,13 +47,11 @@ impl<'a, R: Wait, M: Frame, S: Ledger, K: Keeper<M, S>> Calls for LockedCalls<'a
         slot: Slot,
         target: Option<Slot>,
     ) -> Result<StoreReply, Refusal> {
-        self.counted
-            .lock(self.rt)
-            .store_by(self.counts, log, completed, slot, target)
+        lock_with_backoff(self.rt, self.counted).store_by(self.counts, log, completed, slot, target)
     }
 
     fn refine(&mut self, buffer: Option<&Buffer>) -> Result<RefineReply, Refusal> {
-        self.counted.lock(self.rt).refine_by(self.counts, buffer)
+        lock_with_backoff(self.rt, self.counted).refine_by(self.counts, buffer)
     }
 
     fn allocator(&self) -> Global {

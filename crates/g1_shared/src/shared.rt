@@ -10,6 +10,7 @@ mod core_opening;
 mod opening;
 mod steps;
 
+use crate::backoff::lock_with_backoff;
 use crate::counted::Counted;
 use crate::counted_core::CountedCore;
 use crate::ledgers::Frame;
@@ -65,7 +66,7 @@ impl<M: Frame, S: Ledger> Shared<M, S, Counted<M, S>> {
         ensures cover { IsCovered (table_in (mutex_guard_value result)) }
         ensures sound { let h = mutex_guard_value result in IsSound h.machine.state }
     {
-        let guard = self.counted.lock(rt);
+        let guard = lock_with_backoff(rt, &self.counted);
         let _entries = guard.book().entries();
         guard
     }

@@ -4,6 +4,7 @@ ghost use Rattle.g1_layout.specs.Shape.{slot_count, card_count};
 ghost use Rattle.g1_book.specs.Asked.{IsAsked};
 ghost use Rattle.g1_shared.specs.Callers.{CallsOnce};
 
+use crate::backoff::lock_with_backoff;
 use crate::caller::Caller;
 use crate::ledgers::Frame;
 use crate::lending::LendingCalls;
@@ -83,7 +84,7 @@ impl<M: Frame, S: Ledger, K: Keeper<M, S>> Shared<M, S, K> {
         requires { slot < slot_count M.terms.layout }
         ensures called { CallsOnce caller.old result caller.new }
     {
-        self.counted.lock(rt).target(caller, slot)
+        lock_with_backoff(rt, &self.counted).target(caller, slot)
     }
 
     /// Returns whether a card is pending, by a call under the lock (`Counted::is_pending`).
@@ -96,7 +97,7 @@ impl<M: Frame, S: Ledger, K: Keeper<M, S>> Shared<M, S, K> {
         requires { card < card_count M.terms.layout }
         ensures called { CallsOnce caller.old result caller.new }
     {
-        self.counted.lock(rt).is_pending(caller, card)
+        lock_with_backoff(rt, &self.counted).is_pending(caller, card)
     }
 
     /// Returns the recorded remembered set of a region, by a call under the lock
@@ -110,14 +111,14 @@ impl<M: Frame, S: Ledger, K: Keeper<M, S>> Shared<M, S, K> {
         requires { region < M.terms.layout.regions }
         ensures called { CallsOnce caller.old result caller.new }
     {
-        self.counted.lock(rt).members(caller, region)
+        lock_with_backoff(rt, &self.counted).members(caller, region)
     }
 
     /// Returns how much is pending and recorded, by a call under the lock (`Counted::status`).
     pub fn status<R: Wait>(&self, rt: &R, caller: &mut Caller<M, S>) -> Result<Status, Refusal>
         ensures called { CallsOnce caller.old result caller.new }
     {
-        self.counted.lock(rt).status(caller)
+        lock_with_backoff(rt, &self.counted).status(caller)
     }
 
     /// Drains a region by a call under the lock (`Counted::drain`). No clause says what it lists;
@@ -131,7 +132,7 @@ impl<M: Frame, S: Ledger, K: Keeper<M, S>> Shared<M, S, K> {
         requires { region < M.terms.layout.regions }
         ensures called { CallsOnce caller.old result caller.new }
     {
-        self.counted.lock(rt).drain(caller, region)
+        lock_with_backoff(rt, &self.counted).drain(caller, region)
     }
 
     /// Clears the remembered set of a region, by a call under the lock (`Counted::clear`).
@@ -144,7 +145,7 @@ impl<M: Frame, S: Ledger, K: Keeper<M, S>> Shared<M, S, K> {
         requires { region < M.terms.layout.regions }
         ensures called { CallsOnce caller.old result caller.new }
     {
-        self.counted.lock(rt).clear(caller, region)
+        lock_with_backoff(rt, &self.counted).clear(caller, region)
     }
 
     /// Redirects a region's references, by a call under the lock (`Counted::redirect`).
@@ -160,7 +161,7 @@ impl<M: Frame, S: Ledger, K: Keeper<M, S>> Shared<M, S, K> {
         requires apart { from ≢ to }
         ensures called { CallsOnce caller.old result caller.new }
     {
-        self.counted.lock(rt).redirect(caller, from, to)
+        lock_with_backoff(rt, &self.counted).redirect(caller, from, to)
     }
 
     /// Makes any call but a store and a refinement by its value, under the lock (`Counted::ask`):
@@ -174,6 +175,6 @@ impl<M: Frame, S: Ledger, K: Keeper<M, S>> Shared<M, S, K> {
         requires { IsAsked M.terms.layout call }
         ensures called { CallsOnce caller.old result caller.new }
     {
-        self.counted.lock(rt).ask(caller, call)
+        lock_with_backoff(rt, &self.counted).ask(caller, call)
     }
 }

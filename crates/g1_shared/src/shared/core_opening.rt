@@ -5,6 +5,7 @@ ghost use Rattle.g1_log.specs.Ends.{capacity_of};
 ghost use Rattle.g1_shared.specs.Callers.{Standing, IsNewCaller};
 ghost use Rattle.g1_shared.specs.Totals.{core_terms};
 
+use crate::backoff::lock_with_backoff;
 use crate::caller::Caller;
 use crate::counted_core::CountedCore;
 use crate::ledgers::Frame;
@@ -90,7 +91,7 @@ impl<M: Frame, S: Ledger> SharedCore<M, S> {
         ensures cover { IsCovered (mutex_guard_value result).machine.state.table }
         ensures sound { IsSound (mutex_guard_value result).machine.state }
     {
-        let guard = self.counted.lock(rt);
+        let guard = lock_with_backoff(rt, &self.counted);
         let _layout = guard.core().layout();
         let _totals = guard.totals();
         guard

@@ -67,6 +67,7 @@ impl Mutator {
     /// short. Each card of the buffer is then pending by its mark, unless it was refined meanwhile.
     /// Returns `Err` if the store itself was refused; calls, log and sender are then as they were.
     /// A store that fills no log is one call, and doesn't touch the queue.
+    #[inline(always)]
     pub fn store<C: Calls, R: Wait>(
         &mut self,
         rt: &R,
