@@ -11,12 +11,12 @@
 //! what the counts of its caller say.
 #![tactic(auto)]
 
-mod backoff;
 mod caller;
 mod counted;
 mod counted_core;
 mod ledgers;
 mod lending;
+mod lock;
 mod locked_calls;
 mod shared;
 mod shared_desk;

@@ -4,9 +4,9 @@ ghost use Rattle.std.proofs.Common.{◌∙◌, ap};
 ghost use Rattle.g1_shared.specs.Counts.{tally_after, tally_after_then, tally_after_number};
 ghost use Rattle.g1_shared.specs.Answers.{AreAnswersAt, answers_then};
 
-use crate::backoff::lock_with_backoff;
 use crate::caller::Counts;
 use crate::ledgers::Frame;
+use crate::lock::Lock;
 use crate::shared::Keeper;
 use g1_book::Refusal;
 use g1_core::{RefineReply, StoreReply};
@@ -14,8 +14,8 @@ use g1_layout::Slot;
 use g1_log::{Buffer, Log};
 use g1_steps::Calls;
 use std::alloc::Global;
+use std::sync::Wait;
 use std::sync::ledger::Ledger;
-use std::sync::{Mutex, Wait};
 
 /// A counted book or core under its lock, which each call takes and leaves, and the counts of the
 /// caller.
@@ -25,7 +25,7 @@ use std::sync::{Mutex, Wait};
 #[derive(Drop)]
 pub(crate) struct LockedCalls<'a, R, M: Frame, S: Ledger, K: Keeper<M, S>> {
     pub(crate) rt: &'a R,
-    pub(crate) counted: &'a Mutex<K>,
+    pub(crate) counted: &'a Lock<K>,
     pub(crate) counts: &'a mut Counts<M, S>,
     pub(crate) alloc: Global,
 }
@@ -47,11 +47,13 @@ impl<'a, R: Wait, M: Frame, S: Ledger, K: Keeper<M, S>> Calls for LockedCalls<'a
         slot: Slot,
         target: Option<Slot>,
     ) -> Result<StoreReply, Refusal> {
-        lock_with_backoff(self.rt, self.counted).store_by(self.counts, log, completed, slot, target)
+        self.counted
+            .lock(self.rt)
+            .store_by(self.counts, log, completed, slot, target)
     }
 
     fn refine(&mut self, buffer: Option<&Buffer>) -> Result<RefineReply, Refusal> {
-        lock_with_backoff(self.rt, self.counted).refine_by(self.counts, buffer)
+        self.counted.lock(self.rt).refine_by(self.counts, buffer)
     }
 
     fn allocator(&self) -> Global {

@@ -10,16 +10,16 @@ mod core_opening;
 mod opening;
 mod steps;
 
-use crate::backoff::lock_with_backoff;
 use crate::counted::Counted;
 use crate::counted_core::CountedCore;
 use crate::ledgers::Frame;
+use crate::lock::Lock;
 pub use calls::Keeper;
 use g1_log::Line;
 use std::alloc::Global;
 use std::marker::{Model, PhantomData};
 use std::sync::ledger::Ledger;
-use std::sync::{Mutex, MutexGuard, Wait};
+use std::sync::{MutexGuard, Wait};
 
 /// A counted book under a lock, or what else is a [`Keeper`], and the queue of completed buffers
 /// beside it (docs/PROFILE.md, The history under a lock).
@@ -29,7 +29,7 @@ use std::sync::{Mutex, MutexGuard, Wait};
 /// while a buffer is put into the queue or taken from it. Contracts see the queue.
 #[derive(Drop)]
 pub struct Shared<M: Frame, S: Ledger, K: Keeper<M, S> = Counted<M, S>> {
-    counted: Mutex<K>,
+    counted: Lock<K>,
     line: Line,
     alloc: Global,
     start: usize,
@@ -66,7 +66,7 @@ impl<M: Frame, S: Ledger> Shared<M, S, Counted<M, S>> {
         ensures cover { IsCovered (table_in (mutex_guard_value result)) }
         ensures sound { let h = mutex_guard_value result in IsSound h.machine.state }
     {
-        let guard = lock_with_backoff(rt, &self.counted);
+        let guard = self.counted.lock(rt);
         let _entries = guard.book().entries();
         guard
     }

@@ -4,7 +4,6 @@ ghost use Rattle.g1_layout.specs.Shape.{slot_count, card_count};
 ghost use Rattle.g1_book.specs.Asked.{IsAsked};
 ghost use Rattle.g1_shared.specs.Callers.{CallsOnce};
 
-use crate::backoff::lock_with_backoff;
 use crate::caller::Caller;
 use crate::ledgers::Frame;
 use crate::lending::LendingCalls;
@@ -84,7 +83,7 @@ impl<M: Frame, S: Ledger, K: Keeper<M, S>> Shared<M, S, K> {
         requires { slot < slot_count M.terms.layout }
         ensures called { CallsOnce caller.old result caller.new }
     {
-        lock_with_backoff(rt, &self.counted).target(caller, slot)
+        self.counted.lock(rt).target(caller, slot)
     }
 
     /// Returns whether a card is pending, by a call under the lock (`Counted::is_pending`).
@@ -97,7 +96,7 @@ impl<M: Frame, S: Ledger, K: Keeper<M, S>> Shared<M, S, K> {
         requires { card < card_count M.terms.layout }
         ensures called { CallsOnce caller.old result caller.new }
     {
-        lock_with_backoff(rt, &self.counted).is_pending(caller, card)
+        self.counted.lock(rt).is_pending(caller, card)
     }
 
     /// Returns the recorded remembered set of a region, by a call under the lock
@@ -111,14 +110,14 @@ impl<M: Frame, S: Ledger, K: Keeper<M, S>> Shared<M, S, K> {
         requires { region < M.terms.layout.regions }
         ensures called { CallsOnce caller.old result caller.new }
     {
-        lock_with_backoff(rt, &self.counted).members(caller, region)
+        self.counted.lock(rt).members(caller, region)
     }
 
     /// Returns how much is pending and recorded, by a call under the lock (`Counted::status`).
     pub fn status<R: Wait>(&self, rt: &R, caller: &mut Caller<M, S>) -> Result<Status, Refusal>
         ensures called { CallsOnce caller.old result caller.new }
     {
-        lock_with_backoff(rt, &self.counted).status(caller)
+        self.counted.lock(rt).status(caller)
     }
 
     /// Drains a region by a call under the lock (`Counted::drain`). No clause says what it lists;
@@ -132,7 +131,7 @@ impl<M: Frame, S: Ledger, K: Keeper<M, S>> Shared<M, S, K> {
         requires { region < M.terms.layout.regions }
         ensures called { CallsOnce caller.old result caller.new }
     {
-        lock_with_backoff(rt, &self.counted).drain(caller, region)
+        self.counted.lock(rt).drain(caller, region)
     }
 
     /// Clears the remembered set of a region, by a call under the lock (`Counted::clear`).
@@ -145,7 +144,7 @@ impl<M: Frame, S: Ledger, K: Keeper<M, S>> Shared<M, S, K> {
         requires { region < M.terms.layout.regions }
         ensures called { CallsOnce caller.old result caller.new }
     {
-        lock_with_backoff(rt, &self.counted).clear(caller, region)
+        self.counted.lock(rt).clear(caller, region)
     }
 
     /// Redirects a region's references, by a call under the lock (`Counted::redirect`).
@@ -161,7 +160,7 @@ impl<M: Frame, S: Ledger, K: Keeper<M, S>> Shared<M, S, K> {
         requires apart { from ≢ to }
         ensures called { CallsOnce caller.old result caller.new }
     {
-        lock_with_backoff(rt, &self.counted).redirect(caller, from, to)
+        self.counted.lock(rt).redirect(caller, from, to)
     }
 
     /// Makes any call but a store and a refinement by its value, under the lock (`Counted::ask`):
@@ -175,6 +174,6 @@ impl<M: Frame, S: Ledger, K: Keeper<M, S>> Shared<M, S, K> {
         requires { IsAsked M.terms.layout call }
         ensures called { CallsOnce caller.old result caller.new }
     {
-        lock_with_backoff(rt, &self.counted).ask(caller, call)
+        self.counted.lock(rt).ask(caller, call)
     }
 }

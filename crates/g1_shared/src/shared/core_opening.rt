@@ -5,10 +5,10 @@ ghost use Rattle.g1_log.specs.Ends.{capacity_of};
 ghost use Rattle.g1_shared.specs.Callers.{Standing, IsNewCaller};
 ghost use Rattle.g1_shared.specs.Totals.{core_terms};
 
-use crate::backoff::lock_with_backoff;
 use crate::caller::Caller;
 use crate::counted_core::CountedCore;
 use crate::ledgers::Frame;
+use crate::lock::Lock;
 use crate::shared::opening::callers_of;
 use crate::shared::{Keeper, Shared, SharedCore};
 use crate::totals::{Counters, Totals};
@@ -18,7 +18,7 @@ use g1_steps::open_line;
 use std::alloc::Global;
 use std::marker::PhantomData;
 use std::sync::ledger::{Blank, Ledger};
-use std::sync::{Mutex, MutexGuard, Wait};
+use std::sync::{MutexGuard, Wait};
 
 impl<M: Frame, S: Ledger> SharedCore<M, S> {
     ghost use Rattle.std.specs.Sync.Mutex.{mutex_guard_value};
@@ -69,7 +69,7 @@ impl<M: Frame, S: Ledger> SharedCore<M, S> {
         let all = callers_of(&line, &config, callers, shares, (mutators, takers), room);
         let counters = Counters::new(made, stored, limit);
         let shared = Shared {
-            counted: Mutex::new(CountedCore::new(core, counters)),
+            counted: Lock::new(CountedCore::new(core, counters), true),
             line,
             alloc,
             start: config.start(),
@@ -91,7 +91,7 @@ impl<M: Frame, S: Ledger> SharedCore<M, S> {
         ensures cover { IsCovered (mutex_guard_value result).machine.state.table }
         ensures sound { IsSound (mutex_guard_value result).machine.state }
     {
-        let guard = lock_with_backoff(rt, &self.counted);
+        let guard = self.counted.lock(rt);
         let _layout = guard.core().layout();
         let _totals = guard.totals();
         guard

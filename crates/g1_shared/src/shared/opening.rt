@@ -13,6 +13,7 @@ ghost use Rattle.g1_steps.specs.Opening.{IsNewMutator, AreNewMutators};
 use crate::caller::{Caller, Counts};
 use crate::counted::Counted;
 use crate::ledgers::Frame;
+use crate::lock::Lock;
 use crate::shared::{Keeper, Shared};
 use g1_book::Book;
 use g1_core::Config;
@@ -20,7 +21,6 @@ use g1_layout::NoMemory;
 use g1_log::{Line, Taker};
 use g1_steps::{Mutator, open_line};
 use std::marker::PhantomData;
-use std::sync::Mutex;
 use std::sync::ledger::{Blank, Ledger, Share};
 use std::vec::IntoIter;
 
@@ -69,7 +69,7 @@ impl<M: Frame, S: Ledger> Shared<M, S, Counted<M, S>> {
         let shares = (made_share, stored_share);
         let all = callers_of(&line, &config, callers, shares, (mutators, takers), room);
         let shared = Shared {
-            counted: Mutex::new(Counted::new(book, made, stored)),
+            counted: Lock::new(Counted::new(book, made, stored), false),
             line,
             alloc,
             start: config.start(),
