@@ -10,13 +10,13 @@ pub(crate) struct Lock<T: Drop> {
     is_brief: bool,
 }
 
-// How many turns of an empty loop a thread waits each time that it finds a brief lock held. The
-// longer it stays away, the more calls the other makes while the cache lines are its own.
+// How many turns of an empty loop a thread waits each time that it finds a brief lock held. While
+// it stays away, the other makes many calls, and the cache lines stay with that one's processor.
 const WAITS: [u32; 5] = [2, 16, 128, 1_024, 8_192];
 
 impl<T: Drop> Lock<T> {
-    /// Puts a value under a lock. It is brief if nothing that is done under it takes long, so that
-    /// to wait costs less than to sleep.
+    /// Puts a value under a lock. The lock is brief if most of what is done under it ends before a
+    /// waiting thread could fall asleep.
     pub(crate) fn new(value: T, is_brief: bool) -> Lock<T> {
         Lock {
             mutex: Mutex::new(value),
@@ -24,8 +24,8 @@ impl<T: Drop> Lock<T> {
         }
     }
 
-    /// Takes the lock. If another thread has it, this one looks a hundred times and then sleeps; if
-    /// the lock is brief, it looks first after each of five waits, which grow eightfold.
+    /// Takes the lock. While another thread has it, this one waits as in `Mutex::lock`, where it
+    /// sleeps. If the lock is brief, it first looks again after each of [`WAITS`].
     #[inline(always)]
     pub(crate) fn lock<R: Wait>(&self, rt: &R) -> MutexGuard<'_, T> {
         if !self.is_brief {
