@@ -93,7 +93,7 @@ impl Heap {
     }
 
     /// Returns the place that a slot refers to, or `None` if the slot is null. It counts one read,
-    /// and changes nothing else (docs/PROFILE.md, Reads).
+    /// and changes nothing else (docs/rules.md, Reads).
     pub fn get(&mut self, slot: Slot) -> Option<Slot>
         requires { slot < slot_count self.old.layout }
         ensures target { result ≡ slice_index_or self.old.refs slot None }

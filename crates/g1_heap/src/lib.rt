@@ -6,7 +6,7 @@
 //!
 //! A store is [`Heap::set`] and [`Heap::set_mark`]. Refinement asks for a card's [`Heap::targets`]
 //! and then cleans the card. A pause goes from one dirty card to the next by [`Heap::next_dirty`].
-//! docs/PROFILE.md, Card marks and Reads, says what a mark and a read are.
+//! docs/rules.md, Card marks and Reads, says what a mark and a read are.
 #![tactic(auto)]
 
 mod entering;

@@ -9,7 +9,7 @@ pub(crate) const DIRTY: u8 = 1;
 
 pub(crate) const HELD: u8 = 2;
 
-/// A card's entry in the card table (docs/PROFILE.md, Card marks).
+/// A card's entry in the card table (docs/rules.md, Card marks).
 #[derive(Clone, Copy, Debug, PartialEq, Eq)]
 pub enum Mark {
     /// The card is not pending.

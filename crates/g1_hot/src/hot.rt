@@ -38,7 +38,7 @@ impl Hot {
     /// Makes an empty ring, and a count of 0 for every card of the layout.
     ///
     /// `limit` is the count from which on a card is hot; with 0 every card is. `capacity` is how
-    /// many cards the ring holds at most (docs/PROFILE.md, Hotness). The call takes one byte a card
+    /// many cards the ring holds at most (docs/rules.md, Hotness). The call takes one byte a card
     /// and the room of the whole ring, and time in the number of cards.
     ///
     /// Returns `NoMemory` if the room for the counts or the ring was refused. What was taken is
@@ -79,7 +79,7 @@ impl Hot {
     ///
     /// A card is hot if its count was `limit` before this call. The count rises by one, and stops
     /// at the limit. If the card is hot and the ring was full, the oldest card leaves the ring and
-    /// is returned (docs/PROFILE.md, Hotness). The card must not be in the ring. Constant time.
+    /// is returned (docs/rules.md, Hotness). The card must not be in the ring. Constant time.
     pub fn offer(&mut self, card: Card) -> Offer
         requires within { card < length self.old.counts }
         requires absent { Contains self.old.cards card → ⊥ }
@@ -138,7 +138,7 @@ impl Hot {
         self.ring.is_empty()
     }
 
-    /// Sets the count of every card to 0, as a whole drain does at its end (docs/PROFILE.md,
+    /// Sets the count of every card to 0, as a whole drain does at its end (docs/rules.md,
     /// Hotness). The ring does not change. One pass over the counts, at most.
     pub fn reset_counts(&mut self)
         ensures { self.new ≡ reset self.old }

@@ -3,7 +3,7 @@ use g1_layout::Card;
 
 /// What becomes of a card that is about to be refined. This depends on how often it was refined
 /// before ("Garbage-First Garbage Collection", ISMM 2004, "Remembered Set Maintenance";
-/// docs/PROFILE.md, Hotness).
+/// docs/rules.md, Hotness).
 #[derive(Clone, Copy, Debug, PartialEq, Eq)]
 pub enum Offer {
     /// The card is not hot. It is to be refined now.

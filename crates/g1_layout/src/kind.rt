@@ -3,7 +3,7 @@
 /// The kind of a store, which decides whether the slot's card is logged.
 ///
 /// The filters come from Detlefs and others, ISMM 2004, section 2.2. The order in which they are
-/// tried is in docs/PROFILE.md, Kinds of store.
+/// tried is in docs/rules.md, Kinds of store.
 #[derive(Clone, Copy, Debug, PartialEq, Eq)]
 pub enum Kind {
     /// The slot and its target lie in one region. No remembered set needs such a reference.

@@ -24,11 +24,11 @@ const PROFILE_MAX_CARDS: u32 = 256;
 const PROFILE_MAX_HEAP_SLOTS: u32 = 1_048_576;
 
 /// The counts of a heap: how many regions it has, how many cards a region, and how many slots a
-/// card. They say where each slot and card lies (docs/PROFILE.md, Geometry; regions of equal size
+/// card. They say where each slot and card lies (docs/rules.md, Geometry; regions of equal size
 /// come from the ISMM 2004 paper, section 2.1).
 ///
 /// [`Layout::new`] makes a layout within the limits of the profile, [`Layout::large`] one of a
-/// runtime's size (docs/PROFILE.md, Limits). Every call takes either. A layout is seven words,
+/// runtime's size (docs/rules.md, Limits). Every call takes either. A layout is seven words,
 /// which are copied freely. Every call is a few instructions and takes no memory; only `new` and
 /// `large` divide.
 #[derive(Clone, Copy, Debug)]
@@ -95,7 +95,7 @@ impl Layout {
     ///
     /// Returns `None` exactly outside these limits: if a count is 0, or if there are more than 256
     /// regions, 65,536 cards a region, or 64 slots a card. What a heap takes in memory is in
-    /// docs/SPEED.md, Memory.
+    /// docs/costs.md, Memory.
     pub fn large(regions: u32, cards: u32, slots: u32) -> Option<Layout>
         ensures { let l : Shape = record { regions = regions; cards = cards; slots = slots } in
             SomeIff result (IsShape l) l }

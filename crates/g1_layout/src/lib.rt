@@ -1,6 +1,6 @@
 //! The numbers of a heap: its slots, cards and regions, and which lies where.
 //!
-//! A heap has regions of cards of slots (docs/PROFILE.md, Geometry). [`Layout`] holds the three
+//! A heap has regions of cards of slots (docs/rules.md, Geometry). [`Layout`] holds the three
 //! counts. It makes every [`Slot`], [`Card`] and [`Region`], and returns the card and the region of
 //! a slot. Every crate above names places in the heap by these numbers, and returns [`NoMemory`] if
 //! a growth is refused.

@@ -3,7 +3,7 @@
 use std::alloc::{AllocError, AllocFailed};
 use thiserror::Error;
 
-/// A growth was refused (docs/PROFILE.md, No memory). It is returned for no other reason.
+/// A growth was refused (docs/rules.md, No memory). It is returned for no other reason.
 ///
 /// `?` converts the allocator's own errors to it. A call that returns it says what it left
 /// unchanged.

@@ -24,7 +24,7 @@ pub enum Why {
 /// The completed buffers of one thread, oldest first, at most as many as its limit.
 ///
 /// Contracts see the limit and the list of the buffers' lists of cards (`Completed`). Only `add`
-/// takes memory (ISMM 2004, section 2.2, Remembered Set Maintenance; docs/PROFILE.md, Logs and
+/// takes memory (ISMM 2004, section 2.2, Remembered Set Maintenance; docs/rules.md, Logs and
 /// completed buffers).
 #[derive(Debug, Drop)]
 pub struct Done {

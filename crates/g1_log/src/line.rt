@@ -28,7 +28,7 @@ use std::sync::Wait;
 /// - the numbers of one sender rise in the queue and in each taker's list, and those taken are
 ///   below those in the queue.
 ///
-/// The rules are in docs/PROFILE.md, The queue of completed buffers.
+/// The rules are in docs/rules.md, The queue of completed buffers.
 #[derive(Drop)]
 pub struct Line {
     queue: Queue,
@@ -78,9 +78,9 @@ impl Line {
     /// Puts a buffer last into the queue, under this sender's next number.
     ///
     /// `Err` hands the buffer back, and uses up no number. It comes only if the queue was full at
-    /// some moment of the call (the clause says so in part: docs/DECISIONS.md), or if this sender
-    /// has put 2^58 buffers. The call is one step of the queue, which moves the buffer. It takes no
-    /// memory.
+    /// some moment of the call (the clause says so in part: docs/internals/decisions.md), or if
+    /// this sender has put 2^58 buffers. The call is one step of the queue, which moves the buffer.
+    /// It takes no memory.
     #[inline(always)]
     pub fn put<R: Wait>(&self, rt: &R, sender: &mut Sender, buffer: Buffer) -> Result<(), Buffer>
         requires { IsSenderOf self.now sender.old }
@@ -110,9 +110,9 @@ impl Line {
     /// Takes the oldest parcel of the queue.
     ///
     /// `None` comes only if the queue was empty at some moment of the call (the clause says so in
-    /// part: docs/DECISIONS.md). No clause says that the parcel is the oldest. The rule says that
-    /// the numbers of each sender rise in what a taker takes. The call is one step of the queue,
-    /// which moves the buffer. It takes no memory.
+    /// part: docs/internals/decisions.md). No clause says that the parcel is the oldest. The rule
+    /// says that the numbers of each sender rise in what a taker takes. The call is one step of the
+    /// queue, which moves the buffer. It takes no memory.
     #[inline(always)]
     pub fn take<R: Wait>(&self, rt: &R, taker: &mut Taker) -> Option<Parcel>
         requires { IsTakerOf self.now taker.old }

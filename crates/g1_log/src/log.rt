@@ -14,7 +14,7 @@ use std::mem;
 ///
 /// Between two calls it is never full. Contracts see its size and the list of the cards' numbers
 /// (`Cards`). No call takes memory (ISMM 2004, section 2.2, Remembered Set Maintenance;
-/// docs/PROFILE.md, Logs and completed buffers).
+/// docs/rules.md, Logs and completed buffers).
 #[derive(Debug, Drop)]
 pub struct Log {
     size: usize,

@@ -49,21 +49,21 @@ module _ {S : Type 0} where
   }
 
   going_write : (k : Shape) (id p n : ℕ) (v : View) (mine : StoreHistory) → Sits k v → v.owed ≡ None → v.histories ≡ mine ∷ [] → p < k.slots → IsWord k n
-      → (s : State S View) → Rule k s → get_elem? s.views id ≡ some v → Going k (set s.words p n) (set s.views id (wrote v p n))
+      → (s : State S View) → Rule k s → get_elem? s.views id ≡ some v → Going k (set s.words p n) (set s.views id (wrote v p n (get_or s.words p 0)))
   going_write k id p n v mine sits free one lt bound s h at =
-      going_step k s.words s.views h (set s.words p n) id v (wrote v p n) at (omega (arith, sits.weight)) sits.going refl refl refl refl (raced_wrote (begun k s.words s.views h) s.words s.views id v p n mine sits free one lt bound at h.raced)
+      going_step k s.words s.views h (set s.words p n) id v (wrote v p n (get_or s.words p 0)) at (omega (arith, sits.weight)) sits.going refl refl refl refl (raced_wrote (begun k s.words s.views h) s.words s.views id v p n mine sits free one lt bound at h.raced)
 
   pub allows_write : (k : Shape) (slots id p n : ℕ) (me : Me S View) (mine : StoreHistory) → Sits k me.0 → me.0.owed ≡ None → me.0.histories ≡ mine ∷ [] → p < k.slots → IsWord k n
-      → Allows (Rule k) slots id me p (λ _. n) (λ m after. (after ≡ (wrote me.0 p n, me.1)) × IsFound me.0 p m)
+      → Allows (Rule k) slots id me p (λ _. n) (λ m after. (after ≡ (wrote me.0 p n m, me.1)) × IsFound me.0 p m)
   allows_write k slots id p n me mine sits free one lt bound s h len at fits =
-      (wrote me.0 p n, keeps, tt, going_write k id p n me.0 mine sits free one lt bound s h at, (refl, found_there k id p me.0 s h at sits.weight lt))
+      (wrote me.0 p n (get_or s.words p 0), keeps, tt, going_write k id p n me.0 mine sits free one lt bound s h at, (refl, found_there k id p me.0 s h at sits.weight lt))
 
   pub allows_exchange : (k : Shape) (slots id p old n : ℕ) (me : Me S View) (mine : StoreHistory) → Sits k me.0 → me.0.owed ≡ None → me.0.histories ≡ mine ∷ [] → p < k.slots → IsWord k n
       → Allows (Rule k) slots id me p (λ m. either (m == old) n m) (λ m after. (after ≡ (exchanged me.0 p old n m, me.1)) × IsFound me.0 p m)
   allows_exchange k slots id p old n me mine sits free one lt bound s h len at fits =
       let m = get_or s.words p 0 in (exchanged me.0 p old n m, keeps, tt, pick (m == old), (refl, found_there k id p me.0 s h at sits.weight lt))
     where
-      pick : (b : Bool) → Going k (set s.words p (either b n (get_or s.words p 0))) (set s.views id (cond b (wrote me.0 p n) me.0))
+      pick : (b : Bool) → Going k (set s.words p (either b n (get_or s.words p 0))) (set s.views id (cond b (wrote me.0 p n (get_or s.words p 0)) me.0))
       pick true = going_write k id p n me.0 mine sits free one lt bound s h at
       pick false = subst (λ (x : List ℕ × List View). Going k x.0 x.1) (λ i. (sym (set_read s.words p) i, sym (set_there s.views id me.0 at) i)) h
 
@@ -136,7 +136,7 @@ module _ {S : Type 0} where
 
   pub splits_racer : (k : Shape) (id : ℕ) (v : View) → IsBlank v → 0 < v.weight → 0 < v.spare → v.frozen ≡ false → Splits (Rule k) id v (lighter v) (new_racer v)
   splits_racer k id v still heavy given moving s h at = going_split k s.words s.views h id v (new_racer v) at heavy refl (sym moving) (omega arith)
-      (raced_split (begun k s.words s.views h) s.words s.views id v (new_racer v) still heavy refl (number_given v given) fresh refl refl refl refl refl at h.raced)
+      (raced_split (begun k s.words s.views h) s.words s.views id v (new_racer v) still heavy refl (number_given v given) fresh refl refl refl refl refl refl at h.raced)
     where
       fresh : (g : StoreHistory) → In ((v.spare - 1, []) ∷ []) g → g.1 ≡ []
       fresh g (inl e) = ap (λ (x : StoreHistory). x.1) (sym e)
@@ -144,14 +144,14 @@ module _ {S : Type 0} where
 
   pub splits_sweeper : (k : Shape) (id : ℕ) (v : View) → IsBlank v → 0 < v.weight → v.frozen ≡ false → Splits (Rule k) id v (lighter v) (new_sweeper v)
   splits_sweeper k id v still heavy moving s h at = going_split k s.words s.views h id v (new_sweeper v) at heavy refl (sym moving) (omega arith)
-      (raced_split (begun k s.words s.views h) s.words s.views id v (new_sweeper v) still heavy refl (number_dropped v) (λ g i. absurd i) refl refl refl refl refl at h.raced)
+      (raced_split (begun k s.words s.views h) s.words s.views id v (new_sweeper v) still heavy refl (number_dropped v) (λ g i. absurd i) refl refl refl refl refl refl at h.raced)
 
   pub joins_member : (k : Shape) (id : ℕ) (v : View) (other : ℕ) (u : View) → u.weight ≡ 1 → AtRest u → Joins (Rule k) id v other u (both v u) nothing
   joins_member k id v other u one rest s h at apart there = going_join k s.words s.views h id v other u at apart there (omega (arith, one))
-      (raced_join (begun k s.words s.views h) s.words s.views id v other u nothing one rest ((refl, refl, refl, refl), refl, refl, refl, refl) refl refl at apart there h.raced)
+      (raced_join (begun k s.words s.views h) s.words s.views id v other u nothing one rest ((refl, refl, refl, refl), refl, refl, refl, refl, refl) refl refl at apart there h.raced)
 
   pub enters_blank : (k : Shape) (slots i : ℕ) (b : Start) → Enters (Rule k) slots i (λ n w. ◌≡◌ {A = Me S View} (w, []) (blank b 0 [], []))
-  enters_blank k slots i b s h len fits = (blank b 0 [], going_enter k s.words s.views h (blank b 0 []) refl refl (raced_enter (begun k s.words s.views h) s.words s.views (blank b 0 []) ((refl, refl, refl, refl), refl, refl, refl, refl) refl refl h.raced), refl)
+  enters_blank k slots i b s h len fits = (blank b 0 [], going_enter k s.words s.views h (blank b 0 []) refl refl (raced_enter (begun k s.words s.views h) s.words s.views (blank b 0 []) ((refl, refl, refl, refl), refl, refl, refl, refl, refl) refl refl h.raced), refl)
 
   -- at a pause
 
@@ -188,7 +188,7 @@ allows_freeze k slots id p me shaped all pos rest s h len at fits =
       keeps,
       tt,
       subst (λ (ws : List ℕ). Going k ws (set s.views id w)) (sym (set_read s.words p))
-          (going_anew k s.words s.views id me.0 all pos h at s.words w here ((refl, refl, refl, refl), refl, refl, refl, refl) all all (ap (λ (x : Shape). started x s.words) shape)),
+          (going_anew k s.words s.views id me.0 all pos h at s.words w here ((refl, refl, refl, refl), refl, refl, refl, refl, refl) all all (ap (λ (x : Shape). started x s.words) shape)),
       record {
         words = s.words;
         views = s.views;

@@ -46,9 +46,10 @@ raced_beginning k words h = let v = iced (started k words) k.members in record {
   sized = h.sized;
   bounded = h.bounded;
   covered = λ p n lt at cr. ⊎_elim (λ (i : HasBit k words (slot_card k p, region_at k n)). inl (set_in k words _ (crossing_pair k p n h.shaped lt (h.bounded p n lt at) cr) i)) (λ (m : IsMarked k words p). inr (inl m)) (h.covered p n lt at cr);
-  weighed = (omega arith, λ seat u at none. subst IsBlank (only v u seat at) ((refl, refl, refl, refl), refl, refl, refl, refl));
+  weighed = (omega arith, λ seat u at none. subst IsBlank (only v u seat at) ((refl, refl, refl, refl), refl, refl, refl, refl, refl));
   numbered = λ m. omega arith;
   stored = λ p n lt at. inr (at_take words (k.slots + k.cards) p n (omega arith) at, λ g b. absurd (subst (λ (u : View). In u.histories g) (sym (only v b.1 b.0 b.2)) b.3));
+  balanced = λ f p first now lt was is. let e = ap f (same_word words (k.slots + k.cards) p first now was is) in omega (arith, e);
   recorded = λ x b. absurd (subst (λ (u : View). In u.pairs x) (sym (only v b.1 b.0 b.2)) b.3);
   kept = record {
     has = λ x n. ⊎_elim (λ (i : In (pairs_up_to k words k.cards) x). inl (in_set k words x i).1) (λ (b : Held pairs_found (v ∷ []) x). absurd (subst (λ (u : View). In u.pairs x) (sym (only v b.1 b.0 b.2)) b.3)) n;

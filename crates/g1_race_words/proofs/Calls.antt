@@ -26,7 +26,7 @@ module _ (z : TableId) (k : Shape) (fits : z.words ≡ word_count k) (shaped : I
   Owed word f then = (s.table_id ≡ z) × (word < z.words) × Allows (Rule k) z.slots s.id s.me word f then
 
   pub write_owed : (p n : ℕ) → Sits k s.me.0 × ((h : StoreHistory) × (s.me.0.histories ≡ h ∷ [])) → s.me.0.owed ≡ None → p < k.slots → IsWord k n
-      → Owed p (λ _. n) (λ m after. (after ≡ (wrote s.me.0 p n, s.me.1)) × IsFound s.me.0 p m)
+      → Owed p (λ _. n) (λ m after. (after ≡ (wrote s.me.0 p n m, s.me.1)) × IsFound s.me.0 p m)
   write_owed p n racer free lt bound = (table, omega (arith, fits, lt), allows_write k z.slots s.id p n s.me racer.1.0 racer.0 free racer.1.1 lt bound)
 
   pub exchange_owed : (p old n : ℕ) → Sits k s.me.0 × ((h : StoreHistory) × (s.me.0.histories ≡ h ∷ [])) → s.me.0.owed ≡ None → p < k.slots → IsWord k n
@@ -80,7 +80,7 @@ module _ (z : TableId) (k : Shape) (fits : z.words ≡ word_count k) (shaped : I
     table,
     some_word,
     subst (λ (v : View). Splits (Rule k) s.id v (lighter v) (new_racer v)) (sym is)
-        (splits_racer k s.id (chair begin w) ((refl, refl, refl, refl), refl, refl, refl, refl) heavy heavy refl),
+        (splits_racer k s.id (chair begin w) ((refl, refl, refl, refl), refl, refl, refl, refl, refl) heavy heavy refl),
   )
 
   pub split_sweeper_owed : IsChair s.me.0 → Cut new_sweeper
@@ -88,7 +88,7 @@ module _ (z : TableId) (k : Shape) (fits : z.words ≡ word_count k) (shaped : I
     table,
     some_word,
     subst (λ (v : View). Splits (Rule k) s.id v (lighter v) (new_sweeper v)) (sym is)
-        (splits_sweeper k s.id (chair begin w) ((refl, refl, refl, refl), refl, refl, refl, refl) heavy refl),
+        (splits_sweeper k s.id (chair begin w) ((refl, refl, refl, refl), refl, refl, refl, refl, refl) heavy refl),
   )
 
   pub join_owed : (other : ℕ) (u : View) → u.weight ≡ 1 → AtRest u → (0 < z.words) × Joins (Rule k) s.id s.me.0 other u (both s.me.0 u) nothing
@@ -106,7 +106,7 @@ module _ (z : TableId) (k : Shape) (fits : z.words ≡ word_count k) (shaped : I
         all = ap (λ (v : View). v.weight) view;
         pos = pos;
         spare = ap (λ (v : View). v.spare) view;
-        blank = subst IsBlank (sym view) ((refl, refl, refl, refl), refl, refl, refl, refl);
+        blank = subst IsBlank (sym view) ((refl, refl, refl, refl), refl, refl, refl, refl, refl);
         shape = ap (λ (v : View). v.shape) view;
         frozen = ap (λ (v : View). v.frozen) view;
         begun = paused.begun;

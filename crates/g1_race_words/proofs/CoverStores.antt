@@ -16,15 +16,15 @@ use Rattle.g1_race_words.proofs.Cover.{Answered, HandsOn, covered_moves, Passes,
 pub mark_apart : (k : Shape) (p c : ℕ) → p < k.slots → mark_word k c ≢ p
 mark_apart k p c lt e = absurd (omega arith)
 
-pub covered_wrote : (k : Shape) (known : List (ℕ × ℕ)) (words : List ℕ) (views : List View) (id : ℕ) (v : View) (p n : ℕ) → v.shape ≡ k → v.owed ≡ None → p < k.slots
-    → get_elem? views id ≡ some v → Covered k known words views → Covered k known (set words p n) (set views id (wrote v p n))
-covered_wrote k known words views id v p n shape free lt at h = covered_moves k known words new views (set views id w) h one
+pub covered_wrote : (k : Shape) (known : List (ℕ × ℕ)) (words : List ℕ) (views : List View) (id : ℕ) (v : View) (p n o : ℕ) → v.shape ≡ k → v.owed ≡ None → p < k.slots
+    → get_elem? views id ≡ some v → Covered k known words views → Covered k known (set words p n) (set views id (wrote v p n o))
+covered_wrote k known words views id v p n o shape free lt at h = covered_moves k known words new views (set views id w) h one
   where
     new : List ℕ
     new = set words p n
 
     w : View
-    w = wrote v p n
+    w = wrote v p n o
 
     owes : (q m : ℕ) → q ≡ p → n ≡ m → crosses k q m ≡ true → w.owed ≡ Some (slot_card k q)
     owes q m e f cr = subst (λ (s : Shape). cond (crosses s p n) (Some (slot_card s p)) None ≡ Some (slot_card k q)) (sym shape)

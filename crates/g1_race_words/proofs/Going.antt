@@ -7,13 +7,14 @@ use Rattle.atomic_table.proofs.Lists.{at_set, at_snoc, set_else}
 use Rattle.g1_race_words.specs.declared.view.Shape.{Shape}
 use Rattle.g1_race_words.specs.declared.view.View.{View}
 use Rattle.g1_race_words.specs.Begin.{Start, Begun}
-use Rattle.g1_race_words.specs.Rule.{In, Held, histories_of, claims_of, cleanings_of, pairs_found, held_of, flagged_of, slot_card, region_at, mark_word, AnswersFor, IsMarked, IsWholeShape, HasBit, IsNoted, StoredInto, BeganInto, Someone, AtRest, IsBlank, MadeDirty, times, claims_at, cleanings_at, total, as_number, tally, numbers, front, pairs_up_to, Raced, IsBegun, Going, started, beginning, start_of}
+use Rattle.g1_race_words.specs.Rule.{In, Held, histories_of, claims_of, cleanings_of, pairs_found, held_of, flagged_of, slot_card, region_at, mark_word, AnswersFor, IsMarked, IsWholeShape, HasBit, IsNoted, StoredInto, BeganInto, Someone, AtRest, IsBlank, MadeDirty, times, claims_at, cleanings_at, sum_at, stored_sum, overwritten_sum, total, as_number, tally, numbers, front, pairs_up_to, Raced, IsBegun, Going, started, beginning, start_of}
 use Rattle.g1_race_words.specs.Steps.{lighter, both, nothing}
 use Rattle.g1_race_words.proofs.Plain.{one_there, weigh_set, weigh_all}
 use Rattle.g1_race_words.proofs.PairBits.{crossing_pair}
 use Rattle.g1_race_words.proofs.Places.{at_take, at_untake}
 use Rattle.g1_race_words.proofs.Listing.{in_set, set_in}
 use Rattle.g1_race_words.proofs.Tallies.{none_below}
+use Rattle.g1_race_words.proofs.Balance.{sum_in}
 use Rattle.g1_race_words.proofs.AtBeginning.{never_both, same_word}
 
 -- where one seat has all the weight, no other answers for anything
@@ -164,6 +165,12 @@ module _ (k : Shape) (words : List ℕ) (views : List View) (id : ℕ) (v : View
         let t : tally m w.histories ≡ 0 = ap (tally m) still.1 in
         let c : as_number (nat_lt m w.spare) ≡ as_number (nat_lt m k.members) = ap (λ (n : ℕ). as_number (nat_lt m n)) spare in omega (arith, a, t, c);
     stored = λ p n lt there. inr (at_take new (k.slots + k.cards) p n (omega (arith, lt)) there, λ g x. absurd (none_held histories_of (λ u s. s.1) w still g x));
+    balanced = λ f p first now lt was is.
+        let x = total_alone (stored_sum f p) views id v w at (λ seat u there ne. ap (sum_in f p) (others seat u there ne).1) in
+        let y = total_alone (overwritten_sum f p) views id v w at (λ seat u there ne. ap (sum_at f p) (others seat u there ne).5) in
+        let c : stored_sum f p w ≡ 0 = ap (sum_in f p) still.1 in
+        let d : overwritten_sum f p w ≡ 0 = ap (sum_at f p) still.5 in
+        let e = ap f (same_word new (k.slots + k.cards) p first now was is) in omega (arith, x, y, c, d, e);
     recorded = λ x y. absurd (none_held pairs_found (λ u s. s.4) w still x y);
     kept = record {
       has = λ x n. ⊎_elim (λ (i : In (pairs_up_to k new k.cards) x). inl (in_set k new x i).1) (λ (a : Held pairs_found (set views id w) x). absurd (none_held pairs_found (λ u s. s.4) w still x a)) n;

@@ -7,6 +7,7 @@ pub mod Cover
 pub mod CoverStores
 pub mod CoverSweeps
 pub mod Unchanged
+pub mod Balance
 pub mod Keeping
 pub mod Flags
 pub mod Recording
@@ -22,3 +23,5 @@ pub mod Allowed
 pub mod Flagging
 pub mod Calls
 pub mod Readers
+pub mod StepKinds
+pub mod Together

@@ -17,6 +17,7 @@ use Rattle.g1_race_words.proofs.Flags.{flags_stay, none_dirtied}
 use Rattle.g1_race_words.proofs.Raising.{flagged_dirtied}
 use Rattle.g1_race_words.proofs.Keeping.{kept_stays}
 use Rattle.g1_race_words.proofs.Tallies.{one_is, zero_is}
+use Rattle.g1_race_words.proofs.Balance.{balance_stays}
 use Rattle.g1_race_words.proofs.Unchanged.{weighed_step, numbers_stay, same_slots_at_mark, same_slots, bounded_same, Claim, made_on, claim_same, claimed_same, counted_stays, stores_stay, pairs_stay}
 use Rattle.g1_race_words.specs.Seats.{Sits}
 
@@ -31,6 +32,7 @@ raced_looked begun words views id v c sits owes lt at h = let w = looked v (get_
   weighed = weighed_step begun.shape views id v w at sits.weight sits.weight h.weighed;
   numbered = numbers_stay begun.shape views id v w at refl refl h.numbered;
   stored = stores_stay begun.shape begun.words words words views id v w at refl (same_slots begun.shape words) h.stored;
+  balanced = balance_stays begun.shape begun.words words words views id v w at refl refl (same_slots begun.shape words) h.balanced;
   recorded = pairs_stay begun.shape begun.words views id v w at refl refl h.recorded;
   kept = kept_stays begun.shape begun.pairs words words views id v w at refl refl (λ x. refl) h.kept;
   claimed = claimed_same begun.shape begun.words words words views (set views id w) (λ c. refl) (held_same claims_of views id v w at refl) (held_same cleanings_of views id v w at refl) h.claimed;
@@ -142,6 +144,7 @@ raced_dirtied begun words views id v c sits owes is lt at h = let n = get_or wor
   weighed = weighed_step begun.shape views id v w at sits.weight sits.weight h.weighed;
   numbered = numbers_stay begun.shape views id v w at refl refl h.numbered;
   stored = stores_stay begun.shape begun.words words new views id v w at refl (same_slots_at_mark begun.shape words c 1) h.stored;
+  balanced = balance_stays begun.shape begun.words words new views id v w at refl refl (same_slots_at_mark begun.shape words c 1) h.balanced;
   recorded = pairs_stay begun.shape begun.words views id v w at refl refl h.recorded;
   kept = kept_stays begun.shape begun.pairs words new views id v w at refl refl (same_bits begun.shape words (mark_word begun.shape c) 1 (omega arith)) h.kept;
   claimed = claimed_dirtied begun.shape begun.words words views id v c short at h.claimed;
@@ -224,6 +227,7 @@ raced_cleaned begun words views id v c sits pos done lt at h = let n = get_or wo
   weighed = weighed_step begun.shape views id v w at sits.weight sits.weight h.weighed;
   numbered = numbers_stay begun.shape views id v w at refl refl h.numbered;
   stored = stores_stay begun.shape begun.words words new views id v w at refl (same_slots_at_mark begun.shape words c 0) h.stored;
+  balanced = balance_stays begun.shape begun.words words new views id v w at refl refl (same_slots_at_mark begun.shape words c 0) h.balanced;
   recorded = pairs_stay begun.shape begun.words views id v w at refl refl h.recorded;
   kept = kept_stays begun.shape begun.pairs words new views id v w at refl refl (same_bits begun.shape words (mark_word begun.shape c) 0 (omega arith)) h.kept;
   claimed = claimed_cleaned begun.shape begun.words words views id v c short at h.claimed;

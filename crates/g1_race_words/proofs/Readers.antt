@@ -21,7 +21,7 @@ Rule k s = Going k s.words s.views
 
 splits_reader : (k : Shape) (id : ℕ) (v : View) → IsBlank v → 0 < v.weight → v.frozen ≡ true → Splits (Rule k) id v (lighter v) (new_reader v)
 splits_reader k id v still heavy frozen s h at = going_split k s.words s.views h id v (new_reader v) at heavy refl (sym frozen) (omega arith)
-    (raced_split (begun k s.words s.views h) s.words s.views id v (new_reader v) still heavy refl (number_dropped v) (λ g i. absurd i) refl refl refl refl refl at h.raced)
+    (raced_split (begun k s.words s.views h) s.words s.views id v (new_reader v) still heavy refl (number_dropped v) (λ g i. absurd i) refl refl refl refl refl refl at h.raced)
 
 allows_see : (k : Shape) (slots id p : ℕ) (me : Me (Unit {0}) View) → 0 < me.0.weight → me.0.frozen ≡ true → p < word_count k
     → Allows (Rule k) slots id me p (λ n. n) (λ n after. (after ≡ me) × (get_elem? me.0.began_words p ≡ some n))

@@ -13,6 +13,7 @@ use Rattle.g1_race_words.proofs.Plain.{in_either, read_at, true_is, false_is, he
 use Rattle.g1_race_words.proofs.CoverSweeps.{covered_read}
 use Rattle.g1_race_words.proofs.Keeping.{kept_read}
 use Rattle.g1_race_words.proofs.Flags.{flags_stay}
+use Rattle.g1_race_words.proofs.Balance.{balance_stays}
 use Rattle.g1_race_words.proofs.Unchanged.{weighed_step, numbers_stay, same_slots, still_into, claimed_same, counted_stays, stores_stay}
 use Rattle.g1_race_words.specs.Seats.{Sits}
 
@@ -63,6 +64,7 @@ raced_read begun words views id v p sits free next lt at h = let w = read v p (g
   weighed = weighed_step begun.shape views id v w at sits.weight sits.weight h.weighed;
   numbered = numbers_stay begun.shape views id v w at refl refl h.numbered;
   stored = stores_stay begun.shape begun.words words words views id v w at refl (same_slots begun.shape words) h.stored;
+  balanced = balance_stays begun.shape begun.words words words views id v w at refl refl (same_slots begun.shape words) h.balanced;
   recorded = recorded_read begun.shape begun.words words views id v p sits.shape lt (omega (arith, h.sized)) at h.bounded h.stored h.recorded;
   kept = kept_read begun.shape begun.pairs words views id v p (get_or words p 0) free at h.kept;
   claimed = claimed_same begun.shape begun.words words words views (set views id w) (λ c. refl) (held_same claims_of views id v w at refl) (held_same cleanings_of views id v w at refl) h.claimed;

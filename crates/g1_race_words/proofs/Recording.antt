@@ -14,6 +14,7 @@ use Rattle.g1_race_words.proofs.PairBits.{card_below, word_below, with_pair, bit
 use Rattle.g1_race_words.proofs.Cover.{covered_moves, others_pass}
 use Rattle.g1_race_words.proofs.Keeping.{noted_on, held_or}
 use Rattle.g1_race_words.proofs.Flags.{SameFront, flags_stay, front_stays}
+use Rattle.g1_race_words.proofs.Balance.{balance_stays}
 use Rattle.g1_race_words.proofs.Unchanged.{weighed_step, numbers_stay, bounded_same, stores_stay, pairs_stay, claim_same, counted_stays}
 use Rattle.g1_race_words.specs.Seats.{Sits}
 
@@ -30,6 +31,7 @@ raced_held begun words new views id v l m shaped sits len front at kept flags h 
   weighed = weighed_step k views id v w at sits.weight sits.weight h.weighed;
   numbered = numbers_stay k views id v w at refl refl h.numbered;
   stored = stores_stay k begun.words words new views id v w at refl slots h.stored;
+  balanced = balance_stays k begun.words words new views id v w at refl refl slots h.balanced;
   recorded = pairs_stay k begun.words views id v w at refl refl h.recorded;
   kept = kept;
   claimed = λ c lt. claim_same k begun.words words new views (set views id w) c (front (mark_word k c) (omega arith))

@@ -7,7 +7,7 @@ use Rattle.atomic_table.proofs.Lists.{at_set, at_snoc, at_longer}
 use Rattle.g1_race_words.specs.declared.view.Shape.{Shape}
 use Rattle.g1_race_words.specs.declared.view.View.{View}
 use Rattle.g1_race_words.specs.Begin.{Begun}
-use Rattle.g1_race_words.specs.Rule.{In, Held, StoreHistory, histories_of, claims_of, cleanings_of, pairs_found, held_of, flagged_of, Covered, AtRest, IsBlank, weigh, as_number, tally, numbers, Weighed, Numbered, Raced, times, claims_at, cleanings_at, total}
+use Rattle.g1_race_words.specs.Rule.{In, Held, StoreHistory, histories_of, claims_of, cleanings_of, pairs_found, held_of, flagged_of, Covered, AtRest, IsBlank, weigh, as_number, tally, numbers, Weighed, Numbered, Raced, times, claims_at, cleanings_at, sum_at, stored_sum, overwritten_sum, total}
 use Rattle.g1_race_words.specs.Steps.{lighter, both}
 use Rattle.g1_race_words.proofs.Plain.{SameHeld, held_same, held_split, held_join, weigh_set, weigh_snoc, total_set, total_snoc}
 use Rattle.g1_race_words.proofs.Tallies.{tally_append, times_append, none_below}
@@ -15,6 +15,7 @@ use Rattle.g1_race_words.proofs.Cover.{covered_moves}
 use Rattle.g1_race_words.proofs.CoverSweeps.{covered_split, covered_join}
 use Rattle.g1_race_words.proofs.Keeping.{kept_same}
 use Rattle.g1_race_words.proofs.Flags.{flags_moved}
+use Rattle.g1_race_words.proofs.Balance.{sum_both, sum_in_both, sum_in, none_in, balance_same}
 use Rattle.g1_race_words.proofs.Unchanged.{stored_same, same_slots, recorded_same, claimed_same, counted_same}
 
 -- a member's seat is split off from a seat that answers for nothing
@@ -55,15 +56,17 @@ total_join : (f : View → ℕ) (views : List View) (id : ℕ) (v w : View) (oth
     → total f (set (set views id w) other spent) ≡ total f views
 total_join f views id v w other u spent at there adds none = let a = total_set f views id v w at in let b = total_set f (set views id w) other u spent there in omega (arith, a, b, adds, none)
 
-pub raced_split : (begun : Begun) (words : List ℕ) (views : List View) (id : ℕ) (v right : View) → IsBlank v → 0 < v.weight → right.weight ≡ 1 → ((m : ℕ) → numbers m (lighter v) + numbers m right ≤ numbers m v) → ((h : StoreHistory) → In right.histories h → h.1 ≡ []) → right.claims ≡ [] → right.cleanings ≡ [] → right.pairs ≡ [] → right.held ≡ [] → right.flagged ≡ []
+pub raced_split : (begun : Begun) (words : List ℕ) (views : List View) (id : ℕ) (v right : View) → IsBlank v → 0 < v.weight → right.weight ≡ 1 → ((m : ℕ) → numbers m (lighter v) + numbers m right ≤ numbers m v) → ((h : StoreHistory) → In right.histories h → h.1 ≡ []) → right.claims ≡ [] → right.cleanings ≡ [] → right.pairs ≡ [] → right.overwritten ≡ [] → right.held ≡ [] → right.flagged ≡ []
     → get_elem? views id ≡ some v → Raced begun words views → Raced begun words (set views id (lighter v) ++ right ∷ [])
-raced_split begun words views id v right still heavy one fewer fresh claims cleanings pairs held_none flag_none at h = let after = set views id (lighter v) ++ right ∷ [] in let held = held_split_blank views id v (lighter v) right at refl fresh in record {
+raced_split begun words views id v right still heavy one fewer fresh claims cleanings pairs over held_none flag_none at h = let after = set views id (lighter v) ++ right ∷ [] in let held = held_split_blank views id v (lighter v) right at refl fresh in record {
   sized = h.sized;
   bounded = h.bounded;
   covered = covered_split begun.shape begun.pairs words views id v (lighter v) right at (λ q m a. a) h.covered;
   weighed = weighed_split begun.shape views id v right at still heavy one h.weighed;
   numbered = numbered_split begun.shape views id v (lighter v) right at fewer h.numbered;
   stored = stored_same begun.shape begun.words words words views after (same_slots begun.shape words) (λ g. (held g).0) (λ g. (held g).1) h.stored;
+  balanced = balance_same begun.shape begun.words words views after (λ f q. total_split (stored_sum f q) views id v (lighter v) right at refl (none_in f q right.histories fresh))
+      (λ f q. total_split (overwritten_sum f q) views id v (lighter v) right at refl (ap (sum_at f q) over)) h.balanced;
   recorded = recorded_same begun.shape begun.words views after (λ g. (held g).0) (held_split pairs_found views id v (lighter v) right at refl pairs) h.recorded;
   kept = kept_same begun.shape begun.pairs words words views after (λ x. refl) (held_split pairs_found views id v (lighter v) right at refl pairs) (held_split held_of views id v (lighter v) right at refl held_none) h.kept;
   claimed = claimed_same begun.shape begun.words words words views after (λ c. refl) (held_split claims_of views id v (lighter v) right at refl claims) (held_split cleanings_of views id v (lighter v) right at refl cleanings) h.claimed;
@@ -109,6 +112,8 @@ raced_join begun words views id v other u spent one rest still none given at apa
   weighed = weighed_join begun.shape views id v other u spent one still none at apart there h.weighed;
   numbered = numbered_join begun.shape views id v other u spent still given at there h.numbered;
   stored = stored_same begun.shape begun.words words words views after (same_slots begun.shape words) (λ g. (held g).0) (λ g b. inl ((held g).1 b)) h.stored;
+  balanced = balance_same begun.shape begun.words words views after (λ f q. total_join (stored_sum f q) views id v w other u spent at there (sum_in_both f q v.histories u.histories) (ap (sum_in f q) still.1))
+      (λ f q. total_join (overwritten_sum f q) views id v w other u spent at there (sum_both f q v.overwritten u.overwritten) (ap (sum_at f q) still.5)) h.balanced;
   recorded = recorded_same begun.shape begun.words views after (λ g. (held g).0) (held_join pairs_found views id v u w spent other at apart there refl still.4) h.recorded;
   kept = kept_same begun.shape begun.pairs words words views after (λ x. refl) (held_join pairs_found views id v u w spent other at apart there refl still.4)
       (held_join held_of views id v u w spent other at apart there (sym (ap (λ (l : List (ℕ × ℕ)). v.held ++ l) rest.2 ∙ append-nil v.held)) still.0.2) h.kept;
@@ -151,6 +156,7 @@ raced_enter begun words views w still light none h = let after = views ++ w ∷ 
       let e : as_number (nat_lt m w.spare) ≡ 0 = ap (λ (x : ℕ). as_number (nat_lt m x)) none ∙ none_below m in
       let t = h.numbered m in omega arith;
   stored = stored_same begun.shape begun.words words words views after (same_slots begun.shape words) (λ g. (held g).0) (λ g b. inl ((held g).1 b)) h.stored;
+  balanced = balance_same begun.shape begun.words words views after (λ f q. total_more (stored_sum f q) views w (ap (sum_in f q) still.1)) (λ f q. total_more (overwritten_sum f q) views w (ap (sum_at f q) still.5)) h.balanced;
   recorded = recorded_same begun.shape begun.words views after (λ g. (held g).0) (held_more pairs_found views w still.4) h.recorded;
   kept = kept_same begun.shape begun.pairs words words views after (λ x. refl) (held_more pairs_found views w still.4) (held_more held_of views w still.0.2) h.kept;
   claimed = claimed_same begun.shape begun.words words words views after (λ c. refl) (held_more claims_of views w still.2) (held_more cleanings_of views w still.3) h.claimed;

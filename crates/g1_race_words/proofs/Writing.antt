@@ -1,5 +1,5 @@
 -- A racer writes a slot.
-use Rattle.std.proofs.Common.{◌≡◌, ◌≢◌, ◌⊎◌, ℕ, ◌<◌, eqb, List, [], ◌∷◌, set, Some, None, refl, sym, ap, ◌∙◌, subst, inl, inr, ⊎_elim, length-set, eq-eqb, ne_eqb, arith}
+use Rattle.std.proofs.Common.{◌≡◌, ◌≢◌, ◌⊎◌, ℕ, ◌<◌, eqb, List, [], ◌∷◌, set, get_or, Some, None, refl, sym, ap, ◌∙◌, subst, inl, inr, ⊎_elim, length-set, eq-eqb, ne_eqb, arith}
 use mathlib.Core.Option.{some}
 use native.Mathlib.Decide.{ℕ_discrete}
 use lib.ListN.{get_elem?}
@@ -15,6 +15,7 @@ use Rattle.g1_race_words.proofs.CoverStores.{mark_apart, covered_wrote}
 use Rattle.g1_race_words.proofs.PairBits.{same_bits, bit_as}
 use Rattle.g1_race_words.proofs.Flags.{flags_stay}
 use Rattle.g1_race_words.proofs.Keeping.{kept_stays}
+use Rattle.g1_race_words.proofs.Balance.{balanced_wrote}
 use Rattle.g1_race_words.proofs.Unchanged.{weighed_step, numbered_step, same_numbers, bounded_wrote, claimed_same, counted_stays}
 use Rattle.g1_race_words.specs.Seats.{Sits}
 
@@ -40,11 +41,11 @@ gained_back p n [] h i = absurd i
 gained_back p n (g ∷ gs) h (inl e) = inr (g, inl refl, sym e)
 gained_back p n (g ∷ gs) h (inr i) = inl (inr i)
 
-held_gained : (views : List View) (id : ℕ) (v : View) (p n : ℕ) → get_elem? views id ≡ some v → (h : StoreHistory) → Held histories_of views h → Held histories_of (set views id (wrote v p n)) h ⊎ Held histories_of (set views id (wrote v p n)) (grown p n h)
-held_gained views id v p n at h x = pick (ℕ_discrete x.0 id)
+held_gained : (views : List View) (id : ℕ) (v : View) (p n o : ℕ) → get_elem? views id ≡ some v → (h : StoreHistory) → Held histories_of views h → Held histories_of (set views id (wrote v p n o)) h ⊎ Held histories_of (set views id (wrote v p n o)) (grown p n h)
+held_gained views id v p n o at h x = pick (ℕ_discrete x.0 id)
   where
     w : View
-    w = wrote v p n
+    w = wrote v p n o
 
     mine : In v.histories h → Held histories_of (set views id w) h ⊎ Held histories_of (set views id w) (grown p n h)
     mine i = ⊎_elim (λ (a : In (gains_store p n v.histories) h). inl (id, w, put_here views id v w at, a)) (λ (a : In (gains_store p n v.histories) (grown p n h)). inr (id, w, put_here views id v w at, a)) (gained_on p n v.histories h i)
@@ -53,20 +54,20 @@ held_gained views id v p n at h x = pick (ℕ_discrete x.0 id)
     pick (yes e) = mine (subst (λ (u : View). In u.histories h) (one_there views id x.1 v (subst (λ (i : ℕ). get_elem? views i ≡ some x.1) e x.2) at) x.3)
     pick (no ne) = inl (x.0, x.1, set_else views id x.0 w ne ∙ x.2, x.3)
 
-held_before : (views : List View) (id : ℕ) (v : View) (p n : ℕ) → get_elem? views id ≡ some v → (h : StoreHistory) → Held histories_of (set views id (wrote v p n)) h → Held histories_of views h ⊎ ((g : StoreHistory) × Held histories_of views g × (h ≡ grown p n g))
-held_before views id v p n at h x = ⊎_elim
+held_before : (views : List View) (id : ℕ) (v : View) (p n o : ℕ) → get_elem? views id ≡ some v → (h : StoreHistory) → Held histories_of (set views id (wrote v p n o)) h → Held histories_of views h ⊎ ((g : StoreHistory) × Held histories_of views g × (h ≡ grown p n g))
+held_before views id v p n o at h x = ⊎_elim
     (λ (a : Held histories_of views h). inl a)
     (λ (i : In (gains_store p n v.histories) h). ⊎_elim (λ (a : In v.histories h). inl (id, v, at, a)) (λ (a : (g : StoreHistory) × In v.histories g × (h ≡ grown p n g)). inr (a.0, (id, v, at, a.1), a.2)) (gained_back p n v.histories h i))
-    (held_back histories_of views id v (wrote v p n) at h x)
+    (held_back histories_of views id v (wrote v p n o) at h x)
 
-stored_wrote : (k : Shape) (began : List ℕ) (words : List ℕ) (views : List View) (id : ℕ) (v : View) (p n : ℕ) (mine : StoreHistory) → get_elem? views id ≡ some v → v.histories ≡ mine ∷ [] → Stored k began words views → Stored k began (set words p n) (set views id (wrote v p n))
-stored_wrote k began words views id v p n mine at one h q m lt there = ⊎_elim
-    (λ (x : (q ≡ p) × (n ≡ m)). inl (grown p n mine, (id, wrote v p n, put_here views id v (wrote v p n) at, newest), subst (λ (y : ℕ × ℕ). last_to y.0 ((p, n) ∷ mine.1) ≡ Some y.1) (λ i. (sym x.0 i, x.1 i)) (this_last p n mine.1)))
+stored_wrote : (k : Shape) (began : List ℕ) (words : List ℕ) (views : List View) (id : ℕ) (v : View) (p n o : ℕ) (mine : StoreHistory) → get_elem? views id ≡ some v → v.histories ≡ mine ∷ [] → Stored k began words views → Stored k began (set words p n) (set views id (wrote v p n o))
+stored_wrote k began words views id v p n o mine at one h q m lt there = ⊎_elim
+    (λ (x : (q ≡ p) × (n ≡ m)). inl (grown p n mine, (id, wrote v p n o, put_here views id v (wrote v p n o) at, newest), subst (λ (y : ℕ × ℕ). last_to y.0 ((p, n) ∷ mine.1) ≡ Some y.1) (λ i. (sym x.0 i, x.1 i)) (this_last p n mine.1)))
     (λ (x : (q ≢ p) × (get_elem? words q ≡ some m)). ⊎_elim (was x.0) (never x.0) (h q m lt x.1))
     (at_set words p q n m there)
   where
     after : List View
-    after = set views id (wrote v p n)
+    after = set views id (wrote v p n o)
 
     newest : In (gains_store p n v.histories) (grown p n mine)
     newest = subst (λ (l : List StoreHistory). In (gains_store p n l) (grown p n mine)) (sym one) (inl refl)
@@ -78,7 +79,7 @@ stored_wrote k began words views id v p n mine at one h q m lt there = ⊎_elim
     was apart x = ⊎_elim
         (λ (a : Held histories_of after x.0). inl (x.0, a, x.2))
         (λ (a : Held histories_of after (grown p n x.0)). inl (grown p n x.0, a, other_last p n q x.0.1 apart ∙ x.2))
-        (held_gained views id v p n at x.0 x.1)
+        (held_gained views id v p n o at x.0 x.1)
 
     never : q ≢ p → ((get_elem? began q ≡ some m) × ((g : StoreHistory) → Held histories_of views g → last_to q g.1 ≡ None)) → Goal
     never apart x = inr (
@@ -86,32 +87,33 @@ stored_wrote k began words views id v p n mine at one h q m lt there = ⊎_elim
       λ g b. ⊎_elim
           (λ (a : Held histories_of views g). x.1 g a)
           (λ (a : (f : StoreHistory) × Held histories_of views f × (g ≡ grown p n f)). ap (λ (l : StoreHistory). last_to q l.1) a.2 ∙ (other_last p n q a.0.1 apart ∙ x.1 a.0 a.1))
-          (held_before views id v p n at g b),
+          (held_before views id v p n o at g b),
     )
 
-recorded_wrote : (k : Shape) (began : List ℕ) (views : List View) (id : ℕ) (v : View) (p n : ℕ) → get_elem? views id ≡ some v → Recorded k began views → Recorded k began (set views id (wrote v p n))
-recorded_wrote k began views id v p n at h x held = ⊎_elim
+recorded_wrote : (k : Shape) (began : List ℕ) (views : List View) (id : ℕ) (v : View) (p n o : ℕ) → get_elem? views id ≡ some v → Recorded k began views → Recorded k began (set views id (wrote v p n o))
+recorded_wrote k began views id v p n o at h x held = ⊎_elim
     (λ (s : StoredInto k views x). inl (⊎_elim
-    (λ (a : Held histories_of (set views id (wrote v p n)) s.0). (s.0, s.1, s.2, a, s.4, s.5, s.6))
-    (λ (a : Held histories_of (set views id (wrote v p n)) (grown p n s.0)). (grown p n s.0, s.1, s.2, a, inr s.4, s.5, s.6))
-    (held_gained views id v p n at s.0 s.3)))
+    (λ (a : Held histories_of (set views id (wrote v p n o)) s.0). (s.0, s.1, s.2, a, s.4, s.5, s.6))
+    (λ (a : Held histories_of (set views id (wrote v p n o)) (grown p n s.0)). (grown p n s.0, s.1, s.2, a, inr s.4, s.5, s.6))
+    (held_gained views id v p n o at s.0 s.3)))
     (λ (i : BeganInto k began x). inr i)
-    (h x ((held_same pairs_found views id v (wrote v p n) at refl x).1 held))
+    (h x ((held_same pairs_found views id v (wrote v p n o) at refl x).1 held))
 
 pub raced_wrote : (begun : Begun) (words : List ℕ) (views : List View) (id : ℕ) (v : View) (p n : ℕ) (mine : StoreHistory) → Sits begun.shape v → v.owed ≡ None → v.histories ≡ mine ∷ [] → p < begun.shape.slots → IsWord begun.shape n
-    → get_elem? views id ≡ some v → Raced begun words views → Raced begun (set words p n) (set views id (wrote v p n))
-raced_wrote begun words views id v p n mine sits free one lt fits at h = record {
+    → get_elem? views id ≡ some v → Raced begun words views → Raced begun (set words p n) (set views id (wrote v p n (get_or words p 0)))
+raced_wrote begun words views id v p n mine sits free one lt fits at h = let o = get_or words p 0 in let w = wrote v p n o in record {
   sized = length-set words p n ∙ h.sized;
   bounded = bounded_wrote begun.shape words p n fits h.bounded;
-  covered = covered_wrote begun.shape begun.pairs words views id v p n sits.shape free lt at h.covered;
-  weighed = weighed_step begun.shape views id v (wrote v p n) at sits.weight sits.weight h.weighed;
-  numbered = numbered_step begun.shape views id v (wrote v p n) at (λ m. same_numbers m v (wrote v p n) refl (tally_gained m p n v.histories)) h.numbered;
-  stored = stored_wrote begun.shape begun.words words views id v p n mine at one h.stored;
-  recorded = recorded_wrote begun.shape begun.words views id v p n at h.recorded;
-  kept = kept_stays begun.shape begun.pairs words (set words p n) views id v (wrote v p n) at refl refl (same_bits begun.shape words p n (omega arith)) h.kept;
-  claimed = claimed_same begun.shape begun.words words (set words p n) views (set views id (wrote v p n)) (λ c. set_else words p (mark_word begun.shape c) n (mark_apart begun.shape p c lt))
-      (held_same claims_of views id v (wrote v p n) at refl) (held_same cleanings_of views id v (wrote v p n) at refl) h.claimed;
-  counted = counted_stays begun.shape begun.words words (set words p n) views id v (wrote v p n) at refl refl (λ c. set_else words p (mark_word begun.shape c) n (mark_apart begun.shape p c lt)) h.counted;
-  flagged = flags_stay begun.shape words (set words p n) views id v (wrote v p n) at refl (λ c below m. sym (set_else words p (mark_word begun.shape c) n (mark_apart begun.shape p c lt)) ∙ m)
+  covered = covered_wrote begun.shape begun.pairs words views id v p n o sits.shape free lt at h.covered;
+  weighed = weighed_step begun.shape views id v w at sits.weight sits.weight h.weighed;
+  numbered = numbered_step begun.shape views id v w at (λ m. same_numbers m v w refl (tally_gained m p n v.histories)) h.numbered;
+  stored = stored_wrote begun.shape begun.words words views id v p n o mine at one h.stored;
+  balanced = balanced_wrote begun.shape begun.words words views id v p n mine (omega (arith, h.sized)) at one h.balanced;
+  recorded = recorded_wrote begun.shape begun.words views id v p n o at h.recorded;
+  kept = kept_stays begun.shape begun.pairs words (set words p n) views id v w at refl refl (same_bits begun.shape words p n (omega arith)) h.kept;
+  claimed = claimed_same begun.shape begun.words words (set words p n) views (set views id w) (λ c. set_else words p (mark_word begun.shape c) n (mark_apart begun.shape p c lt))
+      (held_same claims_of views id v w at refl) (held_same cleanings_of views id v w at refl) h.claimed;
+  counted = counted_stays begun.shape begun.words words (set words p n) views id v w at refl refl (λ c. set_else words p (mark_word begun.shape c) n (mark_apart begun.shape p c lt)) h.counted;
+  flagged = flags_stay begun.shape words (set words p n) views id v w at refl (λ c below m. sym (set_else words p (mark_word begun.shape c) n (mark_apart begun.shape p c lt)) ∙ m)
       (λ c. bit_as begun.shape words (set words p n) (flag begun.shape c) (same_bits begun.shape words p n (omega arith))) h.flagged;
 }

@@ -7,6 +7,7 @@
 use Rattle.std.specs.Prelude.{nat_lt, ◌≡◌, ◌≢◌, ◌⊎◌, ℕ, ◌+◌, ◌-◌, ◌*◌, ◌/◌, ◌%◌, ◌<◌, ◌≤◌, ◌^◌}
 use Rattle.std.specs.Prelude.{slice_index, replicate, take, List, [], ◌∷◌, ◌++◌, length, zero, suc}
 use Rattle.std.specs.Prelude.{Bool, true, false, not, ◌==◌, if◌then◌else◌, Option, Some, None}
+use Rattle.std.specs.Prelude.{sum_by}
 use Rattle.std.specs.Int.{bit_at}
 use mathlib.Core.Option.{some}
 use lib.ListN.{get_elem?}
@@ -144,7 +145,7 @@ AtRest view = (view.owed ≡ None) × (view.next ≡ view.end) × (view.held ≡
 abbrev pub IsBlank : View → Type 0
 IsBlank view =
     AtRest view × (view.histories ≡ []) × (view.claims ≡ []) × (view.cleanings ≡ [])
-    × (view.pairs ≡ [])
+    × (view.pairs ≡ []) × (view.overwritten ≡ [])
 
 -- the sum over the views
 abbrev pub total : (View → ℕ) → List View → ℕ
@@ -188,6 +189,26 @@ Stored heap began words views = (p n : ℕ) → p < heap.slots → get_elem? wor
     ((h : StoreHistory) × Held histories_of views h × (last_to p h.1 ≡ Some n))
     ⊎ ((get_elem? began p ≡ some n)
     × ((h : StoreHistory) → Held histories_of views h → last_to p h.1 ≡ None))
+
+-- what f gives of each word that stands in the list with the slot, added up
+abbrev pub sum_at : (ℕ → ℕ) → ℕ → List (ℕ × ℕ) → ℕ
+sum_at f slot words = sum_by (λ s. if s.0 == slot then f s.1 else 0) words
+
+-- of the words that a view has stored to the slot, and of those that it has overwritten there
+abbrev pub stored_sum : (ℕ → ℕ) → ℕ → View → ℕ
+stored_sum f slot view = sum_by (λ h. sum_at f slot h.1) view.histories
+
+abbrev pub overwritten_sum : (ℕ → ℕ) → ℕ → View → ℕ
+overwritten_sum f slot view = sum_at f slot view.overwritten
+
+-- The words stored to a slot and the one that it began with are those overwritten there and the one
+-- that it has now: whatever is added up of them gives the same. With an f that is 1 of one word and
+-- 0 of any other, that word was written, or there at first, once for each time that it was
+-- overwritten or is there now. With the words themselves, their sums are equal.
+abbrev pub Balanced : Shape → List ℕ → List ℕ → List View → Type 0
+Balanced heap began words views = (f : ℕ → ℕ) (p first now : ℕ) → p < heap.slots
+    → get_elem? began p ≡ some first → get_elem? words p ≡ some now
+    → total (stored_sum f p) views + f first ≡ total (overwritten_sum f p) views + f now
 
 -- some racer stored a reference into the pair's region to its card, which lies outside
 abbrev pub StoredInto : Shape → List View → ℕ × ℕ → Type 0
@@ -267,6 +288,7 @@ pub record Raced (begun : Begun) (words : List ℕ) (views : List View) : Type 0
   pub weighed : Weighed begun.shape views
   pub numbered : Numbered begun.shape views
   pub stored : Stored begun.shape begun.words words views
+  pub balanced : Balanced begun.shape begun.words words views
   pub recorded : Recorded begun.shape begun.words views
   pub kept : Kept begun.shape begun.pairs words views
   pub claimed : Claimed begun.shape begun.words words views

@@ -19,6 +19,7 @@ blank begin weight histories =
       began_words = begin.words;
       frozen = false;
       histories = histories;
+      overwritten = [];
       owed = None;
       claims = [];
       next = 0;
@@ -51,17 +52,19 @@ abbrev pub gains_store : ℕ → ℕ → List StoreHistory → List StoreHistory
 gains_store slot word [] = []
 gains_store slot word (history ∷ histories) = (history.0, (slot, word) ∷ history.1) ∷ histories
 
--- a racer writes the word to the slot
-abbrev pub wrote : View → ℕ → ℕ → View
-wrote view slot word =
+-- a racer writes the word to the slot, and finds this one there
+abbrev pub wrote : View → ℕ → ℕ → ℕ → View
+wrote view slot word found =
     record view {
       histories = gains_store slot word view.histories;
+      overwritten = (slot, found) ∷ view.overwritten;
       owed = if crosses view.shape slot word then Some (slot_card view.shape slot) else None;
     }
 
 -- a racer finds a word at the slot, and writes another one where it is the one that it expects
 abbrev pub exchanged : View → ℕ → ℕ → ℕ → ℕ → View
-exchanged view slot expected word found = if found == expected then wrote view slot word else view
+exchanged view slot expected word found =
+    if found == expected then wrote view slot word found else view
 
 -- a racer finds this at the mark of the card that it owes
 abbrev pub looked : View → ℕ → View
@@ -155,6 +158,7 @@ both view other =
       frozen = other.frozen;
       weight = view.weight + other.weight;
       histories = view.histories ++ other.histories;
+      overwritten = view.overwritten ++ other.overwritten;
       claims = view.claims ++ other.claims;
       swept = view.swept ++ other.swept;
       cleanings = view.cleanings ++ other.cleanings;

@@ -28,6 +28,7 @@
 //! waits.
 #![tactic(auto)]
 
+mod address;
 mod pausing;
 mod racing;
 mod rule;

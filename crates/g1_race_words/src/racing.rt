@@ -17,7 +17,7 @@ impl Play<(), View> for Writes {
     ghost use Rattle.g1_race_words.specs.Seats.{IsFound};
 
     ghost then = { λ step before found after.
-        (after ≡ (wrote before.0 step.word step.first, before.1))
+        (after ≡ (wrote before.0 step.word step.first found, before.1))
         × IsFound before.0 step.word found };
 }
 
@@ -82,7 +82,7 @@ impl RaceTable {
         requires slot { slot < self.now.shape.slots }
         requires word { IsWord self.now.shape word }
         ensures table { seat.new.table_id ≡ seat.old.table_id }
-        ensures view { seat.new.me ≡ (wrote seat.old.me.0 slot word, seat.old.me.1) }
+        ensures view { seat.new.me ≡ (wrote seat.old.me.0 slot word result, seat.old.me.1) }
         ensures found { IsFound seat.old.me.0 slot result }
     {
         self.table.shared.swap::<Writes>(&mut seat.seat, slot, word)

@@ -69,6 +69,7 @@ impl RaceTable {
         requires sweeper { Sits self.now.shape seat.old.me.0 }
         requires free { seat.old.me.0.held ≡ [] }
         requires next { seat.old.me.0.next ≡ slot }
+        requires unread { slot < seat.old.me.0.end }
         requires slot { slot < self.now.shape.slots }
         ensures table { seat.new.table_id ≡ seat.old.table_id }
         ensures view { seat.new.me ≡ (read seat.old.me.0 slot result, seat.old.me.1) }

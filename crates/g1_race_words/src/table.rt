@@ -5,12 +5,12 @@ ghost use Rattle.g1_race_words.specs.Rule.{IsWholeShape, null_of, word_count};
 ghost use Rattle.g1_race_words.specs.Steps.{iced};
 ghost use Rattle.g1_race_words.specs.Seats.{IsPaused};
 
+use crate::address::words_of;
 use crate::rule::RaceRule;
 use crate::view::{Shape, View};
 use atomic_table::{Closed, Seat, Table};
 use std::alloc::{AllocError, Global};
 use std::marker::Model;
-use table_words::words_of;
 
 /// The words of a race: one for each slot, one for each card's mark, a row of bits for each region,
 /// and a row of flags, one for each eight cards. Threads share it by `&`.

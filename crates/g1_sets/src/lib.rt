@@ -1,5 +1,5 @@
 //! The remembered sets of a heap in regions: for each region, the cards outside it that may hold
-//! references into it (Garbage-First, ISMM 2004, section 2.2; docs/PROFILE.md, "Remembered sets").
+//! references into it (Garbage-First, ISMM 2004, section 2.2; docs/rules.md, "Remembered sets").
 //!
 //! - `Sets` has all sets. A contract sees the recorded pairs (card, region) as one set, and besides
 //!   it the cards of each region in the order of their insertion.

@@ -1,0 +1,126 @@
+-- Each step is one of the five kinds, or changes nothing that is seen.
+use Rattle.std.proofs.Common.{◌≡◌, ◌⊎◌, ℕ, ◌+◌, ◌*◌, ◌/◌, ◌<◌, ◌≤◌, cond, eqb, List, [], ◌∷◌, ◌++◌, map, set, Bool, true, false, refl, sym, ap, ◌∙◌, subst, inl, inr, arith}
+use Rattle.std.proofs.lemmas.List.{take-set-le, take-take, map-set}
+use Rattle.std.proofs.Math.Seq.{take-set-lt}
+use Rattle.atomic_table.proofs.Lists.{at_map, set_again}
+use Rattle.g1_race_words.specs.declared.view.Shape.{Shape}
+use Rattle.g1_race_words.specs.declared.view.View.{View}
+use Rattle.g1_race_words.specs.Rule.{bit_word, flag, front}
+use Rattle.g1_race_words.specs.Steps.{wrote}
+use Rattle.g1_race_words.specs.StepKinds.{Step, Write, Exchange, Look, Dirty, Spot, Raise, Clean, Read, Seek, Record, Status, Makes, May, Run, SeenRun, RunsAreOfFive, StepsAreOfFive, after, five_of, fives_of, found_by, left_by, place_of, seen, seen_view}
+use Rattle.g1_race_words.proofs.Places.{at_take}
+
+seen_twice : (views : List View) → map seen_view (map seen_view views) ≡ map seen_view views
+seen_twice [] = refl
+seen_twice (v ∷ vs) = ap (λ l. seen_view v ∷ l) (seen_twice vs)
+
+status_is : (a b : Status) → a.words ≡ b.words → a.views ≡ b.views → a ≡ b
+status_is a b words views = λ i. record { words = words i; views = views i }
+
+beyond : (a b c : ℕ) → a + b ≤ a + b + c
+beyond a b c = omega arith
+
+module _ (heap : Shape) where
+  abbrev many : ℕ
+  many = heap.slots + heap.cards
+
+  -- a step that shows nowhere
+  quiet : (seat : ℕ) (step : Step) (before next : Status) (m : Makes heap seat step before next) → front heap next.words ≡ front heap before.words → seen_view (after step m.view) ≡ seen_view m.view → seen heap next ≡ seen heap before
+  quiet seat step before next m words view = status_is (seen heap next) (seen heap before) words
+      (ap (map seen_view) m.views ∙ (map-set seen_view before.views seat (after step m.view)
+      ∙ (ap (λ (v : View). set (map seen_view before.views) seat v) view ∙ set_again (map seen_view before.views) seat (seen_view m.view) (at_map seen_view before.views seat m.view m.mine))))
+
+  -- one on the bit of a pair or on a flag
+  on_bit : (seat : ℕ) (step : Step) (before next : Status) (m : Makes heap seat step before next) (pair : ℕ × ℕ) → place_of heap step ≡ bit_word heap pair → seen_view (after step m.view) ≡ seen_view m.view → seen heap next ≡ seen heap before
+  on_bit seat step before next m pair at view = quiet seat step before next m
+      (ap (front heap) m.words ∙ take-set-le many before.words (place_of heap step) (left_by heap step) (subst (λ (p : ℕ). many ≤ p) (sym at) (beyond heap.slots heap.cards (pair.1 * heap.row + pair.0 / 64)))) view
+
+  -- an exchange that finds another word than it expects
+  module _ (seat p old n f : ℕ) (before next : Status) (m : Makes heap seat (Exchange p old n f) before next) where
+    fails : eqb f old ≡ false → seen heap next ≡ seen heap before
+    fails e = quiet seat (Exchange p old n f) before next m
+        (ap (front heap) (m.words ∙ (ap (λ (b : Bool). set before.words p (cond b n f)) e ∙ set_again before.words p f m.found)))
+        (ap (λ (b : Bool). seen_view (cond b (wrote m.view p n f) m.view)) e)
+
+    -- and one that finds it
+    stores : eqb f old ≡ true → Makes heap seat (Write p n f) before next
+    stores e = record {
+      view = m.view;
+      mine = m.mine;
+      may = m.may;
+      found = m.found;
+      words = m.words ∙ ap (λ (b : Bool). set before.words p (cond b n f)) e;
+      views = m.views ∙ ap (λ (b : Bool). set before.views seat (cond b (wrote m.view p n f) m.view)) e;
+    }
+
+    abbrev as_write : List (ℕ × Step)
+    as_write = (seat, Write p n f) ∷ []
+
+    listed : (b : Bool) → eqb f old ≡ b → five_of seat (Exchange p old n f) ≡ cond b as_write []
+    listed b e = ap (λ (b : Bool). cond b as_write []) e
+
+  pub steps_are : (seat : ℕ) (step : Step) (before next : Status) → Makes heap seat step before next
+      → ((five : Step) × (five_of seat step ≡ (seat, five) ∷ []) × Makes heap seat five before next) ⊎ ((five_of seat step ≡ []) × (seen heap next ≡ seen heap before))
+  steps_are seat (Write p n f) before next m = inl (Write p n f, refl, m)
+  steps_are seat (Exchange p old n f) before next m = pick (eqb f old) refl
+    where
+      pick : (b : Bool) → eqb f old ≡ b → ((five : Step) × (five_of seat (Exchange p old n f) ≡ (seat, five) ∷ []) × Makes heap seat five before next) ⊎ ((five_of seat (Exchange p old n f) ≡ []) × (seen heap next ≡ seen heap before))
+      pick true e = inl (Write p n f, listed seat p old n f before next m true e, stores seat p old n f before next m e)
+      pick false e = inr (listed seat p old n f before next m false e, fails seat p old n f before next m e)
+  steps_are seat (Look c f) before next m = inl (Look c f, refl, m)
+  steps_are seat (Dirty c f) before next m = inl (Dirty c f, refl, m)
+  steps_are seat (Spot c f) before next m = inr (refl, on_bit seat (Spot c f) before next m (flag heap c) refl refl)
+  steps_are seat (Raise c f) before next m = inr (refl, on_bit seat (Raise c f) before next m (flag heap c) refl refl)
+  steps_are seat (Clean c f) before next m = inl (Clean c f, refl, m)
+  steps_are seat (Read p f) before next m = inl (Read p f, refl, m)
+  steps_are seat (Seek x f) before next m = inr (refl, on_bit seat (Seek x f) before next m x refl refl)
+  steps_are seat (Record x f) before next m = inr (refl, on_bit seat (Record x f) before next m x refl refl)
+
+  -- one of the five, on what is seen
+  shows : (seat : ℕ) (step : Step) (before next : Status) (m : Makes heap seat step before next) → place_of heap step < many → May heap step (seen_view m.view) → seen_view (after step (seen_view m.view)) ≡ seen_view (after step m.view)
+      → SeenRun heap (seen heap before) ((seat, step) ∷ []) (seen heap next)
+  shows seat step before next m lt may view = (
+    c,
+    record { view = seen_view m.view; mine = at_map seen_view before.views seat m.view m.mine; may = may; found = at_take before.words many (place_of heap step) (found_by step) lt m.found; words = refl; views = refl },
+    status_is (seen heap c) (seen heap next)
+        (ap (front heap) (sym is) ∙ (take-take many many (set before.words (place_of heap step) (left_by heap step)) (omega arith) ∙ ap (front heap) (sym m.words)))
+        (map-set seen_view (map seen_view before.views) seat (after step (seen_view m.view))
+        ∙ ((λ i. set (seen_twice before.views i) seat (view i)) ∙ (sym (map-set seen_view before.views seat (after step m.view)) ∙ ap (map seen_view) (sym m.views)))),
+  )
+    where
+      c : Status
+      c = record { words = set (front heap before.words) (place_of heap step) (left_by heap step); views = set (map seen_view before.views) seat (after step (seen_view m.view)) }
+
+      is : front heap (set before.words (place_of heap step) (left_by heap step)) ≡ set (front heap before.words) (place_of heap step) (left_by heap step)
+      is = take-set-lt many before.words (place_of heap step) (left_by heap step) lt
+
+  one : (seat : ℕ) (step : Step) (before next : Status) → Makes heap seat step before next → SeenRun heap (seen heap before) (five_of seat step) (seen heap next)
+  one seat (Write p n f) before next m = shows seat (Write p n f) before next m (omega (arith, m.may.2)) m.may refl
+  one seat (Exchange p old n f) before next m = pick (eqb f old) refl
+    where
+      pick : (b : Bool) → eqb f old ≡ b → SeenRun heap (seen heap before) (five_of seat (Exchange p old n f)) (seen heap next)
+      pick true e = subst (λ l. SeenRun heap (seen heap before) l (seen heap next)) (sym (listed seat p old n f before next m true e))
+          (let s = stores seat p old n f before next m e in shows seat (Write p n f) before next s (omega (arith, m.may.2)) s.may refl)
+      pick false e = subst (λ l. SeenRun heap (seen heap before) l (seen heap next)) (sym (listed seat p old n f before next m false e)) (sym (fails seat p old n f before next m e))
+  one seat (Look c f) before next m = shows seat (Look c f) before next m (omega (arith, m.may.1)) m.may refl
+  one seat (Dirty c f) before next m = shows seat (Dirty c f) before next m (omega (arith, m.may.1)) m.may refl
+  one seat (Spot c f) before next m = sym (on_bit seat (Spot c f) before next m (flag heap c) refl refl)
+  one seat (Raise c f) before next m = sym (on_bit seat (Raise c f) before next m (flag heap c) refl refl)
+  one seat (Clean c f) before next m = shows seat (Clean c f) before next m (omega (arith, m.may.1)) m.may refl
+  one seat (Read p f) before next m = shows seat (Read p f) before next m (omega (arith, m.may.2)) m.may refl
+  one seat (Seek x f) before next m = sym (on_bit seat (Seek x f) before next m x refl refl)
+  one seat (Record x f) before next m = sym (on_bit seat (Record x f) before next m x refl refl)
+
+  follow : (xs ys : List (ℕ × Step)) (a b c : Status) → SeenRun heap a xs b → SeenRun heap b ys c → SeenRun heap a (xs ++ ys) c
+  follow [] ys a b c e r = subst (λ (s : Status). SeenRun heap s ys c) (sym e) r
+  follow (x ∷ xs) ys a b c (next, made, rest) r = (next, made, follow xs ys (seen heap next) b c rest r)
+
+  runs_are : (first last : Status) (moves : List (ℕ × Step)) → Run heap first moves last → SeenRun heap (seen heap first) (fives_of moves) (seen heap last)
+  runs_are first last [] e = ap (seen heap) e
+  runs_are first last (m ∷ ms) (next, made, rest) = follow (five_of m.0 m.1) (fives_of ms) (seen heap first) (seen heap next) (seen heap last) (one m.0 m.1 first next made) (runs_are next last ms rest)
+
+pub steps_are_of_five : StepsAreOfFive
+steps_are_of_five = steps_are
+
+pub runs_are_of_five : RunsAreOfFive
+runs_are_of_five = runs_are
