@@ -1,62 +1,41 @@
--- The adopted pairs by region.
-use Rattle.std.proofs.Common.{◌≡◌, ◌⊎◌, ◌↔◌, inl, inr, ℕ, ◌+◌, ◌<◌, List, [], ◌∷◌, ◌++◌, length, take, get_or, Contains, sym, ap, ◌∙◌, subst, arith}
+-- The pairs of a core, listed by region.
+use Rattle.std.proofs.Common.{◌≡◌, ◌∙◌, ℕ, zero, suc, ◌+◌, ◌<◌, List, [], ◌∷◌, ◌++◌, length, take, map, refl, ap, sym, append_assoc, arith}
+use Rattle.std.specs.Prelude.{sum_by}
 use Rattle.std.specs.FinSet as set
-use Rattle.std.proofs.lemmas.Bool.{cases_lt}
-use Rattle.std.proofs.lemmas.List.{get_or_past, take_more}
-use Rattle.std.proofs.lemmas.List.Elements.{Contains-append_left, Contains-append_right, Contains-append_cases}
-use Rattle.g1_layout.specs.Sets.{pair_cmp}
-use Rattle.g1_sets.specs.Pairs.{Pairs, AreTied, list_at}
-use Rattle.g1_core.proofs.SetLemmas.{same_pairs, in_pairs, to_pairs}
-use Rattle.g1_core.proofs.MarkLemmas.{one_of, itself}
+use Rattle.std.proofs.lemmas.List.{append-nil, length-append, length-map}
+use Rattle.std.proofs.lemmas.List.Sums.{sum_by-cons}
+use Rattle.g1_sets.specs.Pairs.{Pairs, AreTied, list_at, pairs_from, pairs_of}
+use Rattle.g1_sets.proofs.PairLemmas.{in_set, to_set}
+use Rattle.g1_sets.proofs.TotalLemmas.{total_is}
+use Rattle.g1_core.proofs.SetLemmas.{same_pairs}
 
-abbrev pub PairsTo : List (ℕ × ℕ) → List (ℕ × ℕ) → ℕ → List ℕ → Type 0
-PairsTo items old region cards = (x : ℕ × ℕ) → Contains items x ↔ (Contains old x ⊎ ((x.1 ≡ region) × Contains cards x.0))
+-- the pairs of one region more
+pub pairs_more : (first : ℕ) (lists : List (List ℕ)) (n region : ℕ) → region ≡ first + n → n < length lists
+    → pairs_from first (take (suc n) lists) ≡ pairs_from first (take n lists) ++ map (λ (card : ℕ). (card, region)) (list_at lists n)
+pairs_more first [] n region is below = absurd (omega (arith, below))
+pairs_more first (cards ∷ lists) zero region is below =
+    let here : first ≡ region = omega (arith, is) in
+    append-nil (map (λ (card : ℕ). (card, first)) cards) ∙ ap (λ (r : ℕ). map (λ (card : ℕ). (card, r)) cards) here
+pairs_more first (cards ∷ lists) (suc n) region is below =
+    let row : List (ℕ × ℕ) = map (λ (card : ℕ). (card, first)) cards in
+    let rest = pairs_more (first + 1) lists n region (omega (arith, is)) (omega (arith, below)) in
+    ap (λ (ps : List (ℕ × ℕ)). row ++ ps) rest ∙ sym (append_assoc row (pairs_from (first + 1) (take n lists)) (map (λ (card : ℕ). (card, region)) (list_at lists n)))
 
-module _ (items old : List (ℕ × ℕ)) (list : List ℕ) (i region a : ℕ) (lt : i < length list) (is : a ≡ get_or list i a) (h : PairsTo items old region (take i list)) where
-  longer : take (i + 1) list ≡ take i list ++ a ∷ []
-  longer = take_more list i a lt ∙ ap (λ (q : ℕ). take i list ++ q ∷ []) (sym is)
+length_from : (first : ℕ) (lists : List (List ℕ)) → length (pairs_from first lists) ≡ sum_by length lists
+length_from first [] = refl
+length_from first (cards ∷ lists) =
+    let row : List (ℕ × ℕ) = map (λ (card : ℕ). (card, first)) cards in
+    let joined = length-append row (pairs_from (first + 1) lists) in
+    let mapped : length row ≡ length cards = length-map cards (λ (card : ℕ). (card, first)) in
+    let rest : length (pairs_from (first + 1) lists) ≡ sum_by length lists = length_from (first + 1) lists in
+    let sum : sum_by length (cards ∷ lists) ≡ length cards + sum_by length lists = sum_by-cons length cards lists in
+    omega (arith, joined, mapped, rest, sum)
 
-  pub pair_next : PairsTo (items ++ (a, region) ∷ []) old region (take (i + 1) list)
-  pair_next x = (
-    λ c. elim (Contains-append_cases items ((a, region) ∷ []) x c) [
-      | inl was ↦ elim ((h x).0 was) [
-        | inl o ↦ inl o
-        | inr t ↦ inr (t.0, subst (λ (l : List ℕ). Contains l x.0) (sym longer) (Contains-append_left (take i list) (a ∷ []) x.0 t.1))
-      ]
-      | inr new ↦ let e : ◌≡◌ {A = ℕ × ℕ} (a, region) x = sym (one_of x (a, region) new) in
-          inr (sym (ap (λ (q : ℕ × ℕ). q.1) e), subst (λ (l : List ℕ). Contains l x.0) (sym longer) (Contains-append_right (take i list) (a ∷ []) x.0 (itself x.0 a (sym (ap (λ (q : ℕ × ℕ). q.0) e)))))
-    ],
-    λ c. elim c [
-      | inl o ↦ Contains-append_left items ((a, region) ∷ []) x ((h x).1 (inl o))
-      | inr t ↦ elim (Contains-append_cases (take i list) (a ∷ []) x.0 (subst (λ (l : List ℕ). Contains l x.0) longer t.1)) [
-        | inl was ↦ Contains-append_left items ((a, region) ∷ []) x ((h x).1 (inr (t.0, was)))
-        | inr new ↦ Contains-append_right items ((a, region) ∷ []) x (0, omega arith, λ j. (sym (one_of x.0 a new) j, sym t.0 j))
-      ]
-    ],
-  )
+module _ (sets : Pairs) (tied : AreTied sets) where
+  pub all_recorded : pairs_of sets.lists ≡ sets.pairs
+  all_recorded = same_pairs _ _
+      (λ x c. (tied.members x.0 x.1).0 (in_set sets.lists x.0 x.1 c))
+      (λ x c. to_set sets.lists x.0 x.1 ((tied.members x.0 x.1).1 c))
 
-abbrev pub PairsBelow : List (ℕ × ℕ) → List (List ℕ) → ℕ → Type 0
-PairsBelow items lists n = (x : ℕ × ℕ) → Contains items x ↔ ((x.1 < n) × Contains (list_at lists x.1) x.0)
-
-pub pairs_next : (items new : List (ℕ × ℕ)) (lists : List (List ℕ)) (n region : ℕ) → region ≡ n → PairsBelow items lists n → PairsTo new items region (list_at lists region) → PairsBelow new lists (n + 1)
-pairs_next items new lists n region is h more x = (
-  λ c. elim ((more x).0 c) [
-    | inl o ↦ let b = (h x).0 o in (omega (arith, b.0), b.1)
-    | inr t ↦ (omega (arith, t.0, is), subst (λ (r : ℕ). Contains (list_at lists r) x.0) (sym t.0) t.1)
-  ],
-  λ b. elim (cases_lt x.1 n) [
-    | inl below ↦ (more x).1 (inl ((h x).1 (below, b.1)))
-    | inr past ↦ let e : x.1 ≡ region = omega (arith, b.0, is) in (more x).1 (inr (e, subst (λ (r : ℕ). Contains (list_at lists r) x.0) e b.1))
-  ],
-)
-
-in_lists : (lists : List (List ℕ)) (region card : ℕ) → Contains (list_at lists region) card → region < length lists
-in_lists lists region card c = elim (cases_lt region (length lists)) [
-  | inl below ↦ below
-  | inr past ↦ absurd (let none = subst (λ (l : List ℕ). Contains l card) (get_or_past lists region [] past) c in let lt = none.1 in omega (arith, lt))
-]
-
-pub all_recorded : (sets : Pairs) (items : List (ℕ × ℕ)) → AreTied sets → PairsBelow items sets.lists sets.layout.regions → set.from_list {R = pair_cmp} items ≡ sets.pairs
-all_recorded sets items tied h = same_pairs _ _
-    (λ x c. (tied.members x.0 x.1).0 ((h x).0 (in_pairs items x c)).1)
-    (λ x c. let there = (tied.members x.0 x.1).1 c in to_pairs items x ((h x).1 (omega (arith, in_lists sets.lists x.1 x.0 there, tied.lists.count), there)))
+  pub each_once : length (pairs_from 0 sets.lists) ≡ set.len sets.pairs
+  each_once = length_from 0 sets.lists ∙ total_is sets.lists tied.lists.distinct ∙ ap (λ s. set.len s) all_recorded

@@ -14,7 +14,7 @@ use Rattle.g1_sets.specs.Pairs.{Pairs, AreTied, list_at, without}
 use Rattle.g1_hot.specs.Ring.{Ring}
 use Rattle.g1_core.specs.Table.{Table, Enters, IsCovered, IsRecorded, AreOutside}
 use Rattle.g1_core.specs.declared.config.Settings.{Settings}
-use Rattle.g1_core.specs.Machine.{Machine, IsCore, AreParts, pending_of, table_from, machine_from}
+use Rattle.g1_core.specs.Machine.{Machine, IsCore, IsLater, AreParts, pending_of, table_from, state_from, machine_from}
 use Rattle.g1_core.specs.declared.entry.Call.TheVariants.{Clear}
 use Rattle.g1_core.specs.declared.entry.Reply.TheVariants as reply
 use Rattle.g1_core.specs.Run.{IsFirstInto, IsStep, Answers, settled}
@@ -22,6 +22,7 @@ use Rattle.g1_core.specs.declared.reply.ClearReply.{ClearReply}
 use Rattle.g1_core.specs.declared.reply.ClearReply.TheVariants as clear_reply
 use Rattle.g1_core.specs.Calls.{clear_entry}
 use Rattle.g1_core.specs.Clearing.{member_count, IsLeastOn, AreRead}
+use Rattle.g1_core.specs.Does.{DoesClear}
 use Rattle.g1_core.proofs.SetLemmas.{pair_total, pair_exact}
 use Rattle.g1_core.proofs.RunLemmas.{has_slots, step_covered}
 use Rattle.g1_core.proofs.OutsideLemmas.{cleared_outside}
@@ -30,6 +31,7 @@ use Rattle.g1_core.proofs.RefinedLemmas.{refined_none}
 use Rattle.g1_core.proofs.TurnLemmas.{front_apart, rest_distinct}
 use Rattle.g1_core.proofs.StoreLemmas.{none_refinable}
 use Rattle.g1_core.proofs.LeastSlotLemmas.{read_table}
+use Rattle.g1_core.proofs.SoundLemmas.{core_sound, core_later, same_later, step_later}
 
 -- distinct cards that are recorded for a region are no more than its pairs
 module _ (region : ℕ) where
@@ -76,12 +78,11 @@ clear_step caller t new region answer numbers answers after = record {
 }
 
 -- what a clear leaves
-pub record IsClearedTo (m : Machine) (region : ℕ) (answer : ClearReply) (heap : Cells) (sets : Pairs) (ring : Ring) (pending : ℕ) : Type 0 where
+pub record IsClearedTo (m : Machine) (region : ℕ) (answer : ClearReply) (heap : Cells) (sets : Pairs) (ring : Ring) (pending : ℕ) (settings : Settings) : Type 0 where
   pub core : IsCore heap sets ring pending
+  pub did : DoesClear region answer m (machine_from heap sets.pairs ring settings)
   pub step : (caller : ℕ) → IsStep m.state.table (clear_entry caller region answer) (table_from heap sets.pairs)
-  pub unread : 1 ≤ set.len m.state.table.pending → heap.reads ≡ m.reads
-  pub grown : m.reads ≤ heap.reads
-  pub reads : heap.reads ≤ m.reads + member_count m.state.table region * m.state.table.layout.slots
+  pub later : IsLater m (machine_from heap sets.pairs ring settings)
 
 module _ (heap : Cells) (sets : Pairs) (ring : Ring) (pending : ℕ) (settings : Settings) (core : IsCore heap sets ring pending) (region : ℕ) (within : region < heap.layout.regions) where
   abbrev t : Table
@@ -91,13 +92,12 @@ module _ (heap : Cells) (sets : Pairs) (ring : Ring) (pending : ℕ) (settings :
   m = machine_from heap sets.pairs ring settings
 
   -- some cards are pending
-  pub refused_pending : 0 < pending → IsClearedTo m region (clear_reply.Pending pending) heap sets ring pending
+  pub refused_pending : 0 < pending → IsClearedTo m region (clear_reply.Pending pending) heap sets ring pending settings
   refused_pending some = record {
     core = core;
+    did = record { refused = λ _. record { state = refl; settings = refl; reads = omega arith }; ring = refl; unread = λ _. refl; reads = omega arith };
     step = λ caller. clear_step caller t t region (clear_reply.Pending pending) within (λ after. (refl, core.parts.known, omega arith)) refl;
-    unread = λ _. refl;
-    grown = omega arith;
-    reads = omega arith;
+    later = core_later heap sets ring pending core settings m refl refl refl;
   }
 
   module _ (now : Cells) (zero_pending : pending ≡ 0) (tied : AreTied sets) (read : AreRead heap now (length (list_at sets.lists region) * heap.layout.slots)) where
@@ -134,14 +134,15 @@ module _ (heap : Cells) (sets : Pairs) (ring : Ring) (pending : ℕ) (settings :
     same_table = read_table heap now _ sets.pairs read
 
     -- a slot still enters the region
-    pub refused_entered : (slot : ℕ) → IsLeastOn t (list_at sets.lists region) region (Some slot) → IsClearedTo m region (clear_reply.StillReferenced slot) now sets ring pending
-    refused_entered slot least = record {
-      core = record { layouts = core.layouts ∙ sym layout_is; parts = with_cells sets.pairs (subst IsCovered (sym same_table) core.parts.cover) (subst AreOutside (sym same_table) core.parts.outside) };
-      step = λ caller. clear_step caller t (table_from now sets.pairs) region (clear_reply.StillReferenced slot) within (λ after. (refl, empty, first_enters t region (list_at sets.lists region) empty core.parts.cover recorded slot least)) same_table;
-      unread = contradicted;
-      grown = read.grown;
-      reads = few_reads;
-    }
+    pub refused_entered : (slot : ℕ) → IsLeastOn t (list_at sets.lists region) region (Some slot) → IsClearedTo m region (clear_reply.StillReferenced slot) now sets ring pending settings
+    refused_entered slot least =
+        let same : state_from now sets.pairs ring ≡ m.state = ap (λ (h : Cells). state_from h sets.pairs ring) read.cells in
+        record {
+          core = record { layouts = core.layouts ∙ sym layout_is; parts = with_cells sets.pairs (subst IsCovered (sym same_table) core.parts.cover) (subst AreOutside (sym same_table) core.parts.outside) };
+          did = record { refused = λ _. record { state = same; settings = refl; reads = read.grown }; ring = refl; unread = contradicted; reads = few_reads };
+          step = λ caller. clear_step caller t (table_from now sets.pairs) region (clear_reply.StillReferenced slot) within (λ after. (refl, empty, first_enters t region (list_at sets.lists region) empty core.parts.cover recorded slot least)) same_table;
+          later = same_later m (machine_from now sets.pairs ring settings) same refl (core_sound heap sets ring pending core) read.grown;
+        }
 
     -- the region's set is emptied
     module _ (sets' : Pairs) (layout : sets'.layout ≡ sets.layout) (pairs : sets'.pairs ≡ without sets.pairs region) (least : IsLeastOn t (list_at sets.lists region) region None) where
@@ -151,32 +152,34 @@ module _ (heap : Cells) (sets : Pairs) (ring : Ring) (pending : ℕ) (settings :
       cleared_step : (caller : ℕ) → IsStep t (clear_entry caller region clear_reply.Cleared) (table_from now sets'.pairs)
       cleared_step caller = clear_step caller t (table_from now sets'.pairs) region clear_reply.Cleared within (λ after. (refl, empty, none_enters t region (list_at sets.lists region) empty core.parts.cover recorded least)) cleared_table
 
-      pub granted : IsClearedTo m region clear_reply.Cleared now sets' ring pending
-      granted =
+      cleared_core : IsCore now sets' ring pending
+      cleared_core =
           let step : IsStep t (clear_entry 0 region clear_reply.Cleared) (table_from now sets'.pairs) = cleared_step 0 in
           record {
-            core = record {
-              layouts = layout ∙ core.layouts ∙ sym layout_is;
-              parts = with_cells sets'.pairs (subst IsCovered (sym step.after) (step_covered t (clear_entry 0 region clear_reply.Cleared) (has_slots heap.layout core.parts.cells.shape) step.allowed core.parts.cover)) (subst AreOutside (sym cleared_table) (cleared_outside t region core.parts.outside));
-            };
-            step = cleared_step;
-            unread = contradicted;
-            grown = read.grown;
-            reads = few_reads;
+            layouts = layout ∙ core.layouts ∙ sym layout_is;
+            parts = with_cells sets'.pairs (subst IsCovered (sym step.after) (step_covered t (clear_entry 0 region clear_reply.Cleared) (has_slots heap.layout core.parts.cells.shape) step.allowed core.parts.cover)) (subst AreOutside (sym cleared_table) (cleared_outside t region core.parts.outside));
           }
+
+      pub granted : IsClearedTo m region clear_reply.Cleared now sets' ring pending settings
+      granted = record {
+        core = cleared_core;
+        did = record { refused = λ not. absurd (not refl); ring = refl; unread = contradicted; reads = few_reads };
+        step = cleared_step;
+        later = step_later m (machine_from now sets'.pairs ring settings) (clear_entry 0 region clear_reply.Cleared) (cleared_step 0) refl (core_sound now sets' ring pending cleared_core) read.grown;
+      }
 
 -- the same of the machine that a core stands for
 module _ (heap : Cells) (sets : Pairs) (ring : Ring) (pending : ℕ) (settings : Settings) (machine : Machine) (core : IsCore heap sets ring pending) (view : machine_from heap sets.pairs ring settings ≡ machine) (region : ℕ) (within : region < machine.state.table.layout.regions) where
   inside : region < heap.layout.regions
   inside = subst (λ (m : Machine). region < m.state.table.layout.regions) (sym view) within
 
-  pub pending_at : 0 < pending → IsClearedTo machine region (clear_reply.Pending pending) heap sets ring pending
-  pending_at some = subst (λ (m : Machine). IsClearedTo m region (clear_reply.Pending pending) heap sets ring pending) view (refused_pending heap sets ring pending settings core region inside some)
+  pub pending_at : 0 < pending → IsClearedTo machine region (clear_reply.Pending pending) heap sets ring pending settings
+  pending_at some = subst (λ (m : Machine). IsClearedTo m region (clear_reply.Pending pending) heap sets ring pending settings) view (refused_pending heap sets ring pending settings core region inside some)
 
   pub entered_at : (now : Cells) → pending ≤ 0 → AreTied sets → AreRead heap now (length (list_at sets.lists region) * heap.layout.slots) → (slot : ℕ) → IsLeastOn (table_from heap sets.pairs) (list_at sets.lists region) region (Some slot)
-      → IsClearedTo machine region (clear_reply.StillReferenced slot) now sets ring pending
-  entered_at now nothing tied read slot least = subst (λ (m : Machine). IsClearedTo m region (clear_reply.StillReferenced slot) now sets ring pending) view (refused_entered heap sets ring pending settings core region inside now (omega arith) tied read slot least)
+      → IsClearedTo machine region (clear_reply.StillReferenced slot) now sets ring pending settings
+  entered_at now nothing tied read slot least = subst (λ (m : Machine). IsClearedTo m region (clear_reply.StillReferenced slot) now sets ring pending settings) view (refused_entered heap sets ring pending settings core region inside now (omega arith) tied read slot least)
 
   pub granted_at : (now : Cells) → pending ≤ 0 → AreTied sets → AreRead heap now (length (list_at sets.lists region) * heap.layout.slots) → (sets' : Pairs) → sets'.layout ≡ sets.layout → sets'.pairs ≡ without sets.pairs region
-      → IsLeastOn (table_from heap sets.pairs) (list_at sets.lists region) region None → IsClearedTo machine region clear_reply.Cleared now sets' ring pending
-  granted_at now nothing tied read sets' layout pairs least = subst (λ (m : Machine). IsClearedTo m region clear_reply.Cleared now sets' ring pending) view (granted heap sets ring pending settings core region inside now (omega arith) tied read sets' layout pairs least)
+      → IsLeastOn (table_from heap sets.pairs) (list_at sets.lists region) region None → IsClearedTo machine region clear_reply.Cleared now sets' ring pending settings
+  granted_at now nothing tied read sets' layout pairs least = subst (λ (m : Machine). IsClearedTo m region clear_reply.Cleared now sets' ring pending settings) view (granted heap sets ring pending settings core region inside now (omega arith) tied read sets' layout pairs least)

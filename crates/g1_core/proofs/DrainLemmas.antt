@@ -5,15 +5,12 @@ use Rattle.std.specs.FinSet as set
 use Rattle.std.specs.Ordering.{nat_cmp}
 use Rattle.std.proofs.lemmas.Bool.{true≢false}
 use Rattle.std.proofs.lemmas.List.{append-nil, length-append}
-use Rattle.g1_layout.specs.Shape.{Shape, IsShape}
 use Rattle.g1_layout.specs.Sets.{set_of}
 use Rattle.g1_hot.specs.Ring.{Ring, reset}
-use Rattle.g1_core.specs.declared.entry.Entry.{Entry}
 use Rattle.g1_core.specs.declared.reply.Drained.TheVariants as answers
 use Rattle.g1_core.specs.Run.{IsStep}
 use Rattle.g1_core.specs.Calls.{drain_entry}
-use Rattle.g1_core.proofs.RunLemmas.{HasSlots, has_slots, step_covered}
-use Rattle.g1_core.specs.Table.{Table, AreMembers, IsCovered, refined}
+use Rattle.g1_core.specs.Table.{Table, AreMembers, refined}
 use Rattle.g1_core.specs.Machine.{Machine}
 use Rattle.g1_core.specs.Turns.{is_dirty}
 use Rattle.g1_core.specs.Pause.{AreDirtyBelow, Drains, IsDirtyDrained, IsDirtyStopped, IsRingDrained, IsDrainOrder, IsDrainOf, IsShortDrain, IsWholeDrain, IsAllDrained, reset_machine, ring_with}
@@ -64,10 +61,6 @@ module _ (a b : Machine) (xs : List ℕ) (n : ℕ) (h : IsRingDrained a xs n b) 
             (λ q p. absurd (true≢false (sym (to_dirty c.state q p (λ stands. absurd (omega (arith, (subst (λ (ys : List ℕ). Contains ys q) gone stands).1)))) ∙ none q)))
             (λ q p. absurd (true≢false (sym p ∙ set.contains-empty nat_cmp q)));
       }
-
--- a step keeps cover
-pub step_keeps_cover : (l : Shape) (old new : Table) (e : Entry) → l ≡ old.layout → IsShape l → IsCovered old → IsStep old e new → IsCovered new
-step_keeps_cover l old new e same shape cover step = subst IsCovered (sym step.after) (step_covered old e (subst HasSlots same (has_slots l shape)) step.allowed cover)
 
 -- a drain that stops in the ring is short, and so is a whole one after which the set's list is refused
 pub short_ring : (old new : Machine) (cards : List ℕ) → IsRingDrained old cards (length cards + 1) new → IsShortDrain old cards new

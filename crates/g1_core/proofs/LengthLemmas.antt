@@ -1,14 +1,16 @@
 -- How long the lists of a reply can be.
-use Rattle.std.proofs.Common.{◌≡◌, Bool, true, false, if◌then◌else◌, ℕ, zero, suc, ◌≤◌, ◌+◌, List, [], ◌∷◌, length, take, Option, Some, None, ap, arith}
+use Rattle.std.proofs.Common.{◌≡◌, Bool, true, false, if◌then◌else◌, ℕ, zero, suc, ◌≤◌, ◌+◌, ◌*◌, List, [], ◌∷◌, length, take, Option, Some, None, refl, ap, arith}
 use Rattle.std.specs.FinSet as set
 use Rattle.std.proofs.lemmas.List.{length-append}
+use Rattle.g1_heap.specs.Cells.{reads_after}
 use Rattle.g1_hot.specs.declared.offer.Offer.{Offer}
 use Rattle.g1_hot.specs.declared.offer.Offer.TheVariants.{Cold, Kept, Out}
 use Rattle.g1_core.specs.declared.reply.RefineReply.{RefineReply}
 use Rattle.g1_core.specs.Table.{Table, AreRefinable, refined}
-use Rattle.g1_core.specs.Machine.{State}
+use Rattle.g1_core.specs.Machine.{State, Machine}
 use Rattle.g1_core.specs.Turns.{Round, refined_by, hot_by, skipped_by, offer_to, turn, turns, start}
-use Rattle.g1_core.specs.Refinement.{IsTurned}
+use Rattle.g1_core.specs.Refinement.{IsTurned, IsIdle, AreCardsRead}
+use Rattle.g1_core.specs.Does.{DoesRefine}
 use Rattle.g1_core.proofs.MarkLemmas.{one_less}
 use Rattle.g1_core.proofs.TurnLemmas.{rest_refinable}
 
@@ -74,3 +76,30 @@ turned_counts old cards reply new h =
     let few = turns_hot_few (take h.many cards) (start old) in
     let some : length (take h.many cards) ≤ length cards = taken_few h.many cards in
     (none_or_one reply.short reply.taken h.taken, omega arith)
+
+-- what a refinement does without a buffer, and with one
+pub idle_does : (m : Machine) (reply : RefineReply) → IsIdle reply → m.reads ≡ reads_after m.reads (0 * m.state.table.layout.slots) → DoesRefine None reply m m
+idle_does m reply idle reads =
+    let none : length reply.refined ≡ 0 = ap length idle.refined in
+    record {
+      refined = (idle, refl);
+      reads = record { tried = 0; each = omega (arith, none); most = omega arith; reads = reads };
+      taken = omega (arith, idle.taken);
+      cards = omega (arith, none, idle.skipped);
+      hot = omega (arith, idle.hot);
+      left = idle.left;
+      idle = λ _. idle.taken;
+    }
+
+pub turned_does : (old new : Machine) (cards : List ℕ) (reply : RefineReply) → length cards ≤ 256 → IsTurned old.state cards reply new.state → AreCardsRead old reply new → DoesRefine (Some cards) reply old new
+turned_does old new cards reply few turned read =
+    let counts = turned_counts old.state cards reply new.state turned in
+    record {
+      refined = turned;
+      reads = read;
+      taken = counts.0;
+      cards = omega (arith, few, turned_few old.state cards reply new.state turned);
+      hot = omega (arith, few, counts.1);
+      left = turned.left;
+      idle = λ none. absurd (cc none);
+    }

@@ -32,3 +32,6 @@ pub mod OpeningLemmas
 pub mod RefinedLemmas
 pub mod LengthLemmas
 pub mod ReadLemmas
+pub mod VerifyLemmas
+pub mod StoresApart
+pub mod CopyLemmas

@@ -1,6 +1,6 @@
 //! Adoption: makes a core of a table that exists already, and lists the pairs of a core's table.
-ghost use Rattle.std.specs.Prelude.{◌≡◌, ◌<◌, ◌^◌, ◌↔◌, ◌⊎◌, ℕ, All, Contains, IfSome, IfOk, OnOk};
-ghost use Rattle.std.specs.Prelude.{length, replicate};
+ghost use Rattle.std.specs.Prelude.{◌≡◌, ◌<◌, ◌^◌, ◌++◌, All, IfSome, IfOk, OnOk};
+ghost use Rattle.std.specs.Prelude.{length, map, replicate};
 ghost use Rattle.std.specs.FinSet as set;
 ghost use Rattle.g1_layout.specs.Shape.{slot_count, card_count};
 ghost use Rattle.g1_sets.specs.Pairs.{list_at, AreTied};
@@ -68,12 +68,14 @@ impl Core {
         })
     }
 
-    /// Returns the recorded pairs of a card and a region, as [`Core::adopt`] takes them.
+    /// Returns the recorded pairs of a card and a region, each once, as [`Core::adopt`] takes them.
     ///
     /// Returns `NoMemory` if the room for the list was refused.
     pub fn pairs(&self) -> Result<Vec<(Card, Region)>, NoMemory>
         ensures recorded { IfOk result (λ pairs.
             set.from_list pairs.items ≡ self.now.state.table.recorded) }
+        ensures once { IfOk result (λ pairs.
+            length pairs.items ≡ set.len self.now.state.table.recorded) }
         ensures within { IfOk result (λ pairs.
             All (IsPairOf self.now.state.table.layout) pairs.items) }
     {
@@ -86,6 +88,7 @@ impl Core {
 fn all_pairs(alloc: Global, layout: Layout, sets: &Sets) -> Result<Vec<(Card, Region)>, NoMemory>
     requires { sets.now.layout ≡ layout }
     ensures pairs { IfOk result (λ pairs. set.from_list pairs.items ≡ sets.now.pairs) }
+    ensures once { IfOk result (λ pairs. length pairs.items ≡ set.len sets.now.pairs) }
     ensures tied { AreTied sets.now }
 {
     let (regions, _, _) = layout.counts();
@@ -106,9 +109,8 @@ fn all_pairs(alloc: Global, layout: Layout, sets: &Sets) -> Result<Vec<(Card, Re
 // Adds the pairs at a region.
 fn add_pairs(pairs: &mut Vec<(Card, Region)>, sets: &Sets, region: Region) -> Result<(), NoMemory>
     requires { region < sets.now.layout.regions }
-    ensures pairs { OnOk result ((x : ℕ × ℕ) → Contains pairs.new.items x
-        ↔ (Contains pairs.old.items x
-        ⊎ ((x.1 ≡ region) × Contains (list_at sets.now.lists region) x.0))) }
+    ensures { OnOk result (pairs.new.items
+        ≡ pairs.old.items ++ map (λ card. (card, region)) (list_at sets.now.lists region)) }
 {
     for index in 0..sets.len(region) {
         pairs.push((sets.at(region, index), region))?;

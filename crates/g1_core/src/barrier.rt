@@ -13,11 +13,11 @@ use g1_log::{Buffer, Log};
 use std::alloc::Global;
 
 impl Core {
-    ghost use Rattle.g1_core.specs.Table.{IsCovered};
     ghost use Rattle.g1_core.specs.Machine.{IsLater};
-    ghost use Rattle.g1_core.specs.Run.{kind_of, stored, IsStep};
-    ghost use Rattle.g1_core.specs.Barrier.{logged, buffer_of, fill_of, unfilled, stored_machine};
+    ghost use Rattle.g1_core.specs.Run.{kind_of, IsStep};
+    ghost use Rattle.g1_core.specs.Barrier.{unfilled};
     ghost use Rattle.g1_core.specs.Calls.{store_entry};
+    ghost use Rattle.g1_core.specs.Does.{DoesStore, IsLent};
 
     /// What kind of store it is, and the card that a logged one dirties.
     fn kind(&self, slot: Slot, target: &Option<Slot>) -> (Kind, Option<Card>)
@@ -46,7 +46,7 @@ impl Core {
     }
 
     /// Stores a reference, or null, into a slot: the write barrier (ISMM 2004, section 2.2;
-    /// docs/PROFILE.md, The barrier).
+    /// docs/rules.md, The barrier).
     ///
     /// The slot gets the target. If the store crosses regions and the slot's card is clean, the
     /// card becomes dirty and goes last into the mutator's log (kind `Logged`). Every other store
@@ -64,32 +64,19 @@ impl Core {
     ) -> (StoreReply, Option<Buffer>)
         requires slot { slot < slot_count self.old.state.table.layout }
         requires target { IfSome target (λ place. place < slot_count self.old.state.table.layout) }
-        ensures kind { result.0.kind ≡ kind_of self.old.state.table slot target }
-        ensures plain { (result.0.refined ≡ []) × (result.0.short ≡ false) }
-        ensures fill { result.0.fill ≡ fill_of result.1 }
-        ensures machine { self.new
-            ≡ record {
-              state = record {
-                table = stored self.old.state.table slot target;
-                ring = self.old.state.ring;
-              };
-              settings = self.old.settings;
-              reads = self.old.reads;
-            } }
-        ensures log { log.new ≡ logged result.0.kind log.old
-            (card_of self.old.state.table.layout slot) }
-        ensures buffer { result.1
-            ≡ buffer_of result.0.kind log.old (card_of self.old.state.table.layout slot) }
+        ensures did { DoesStore slot target result.0 self.old self.new }
+        ensures lent { IsLent (card_of self.old.state.table.layout slot) result.0
+            log.old log.new result.1 }
         ensures step { (caller : ℕ)
             → IsStep self.old.state.table (store_entry caller slot target result.0)
             self.new.state.table }
-        ensures cover { IsCovered self.new.state.table }
         ensures later { IsLater self.old self.new }
     {
         let (kind, dirtied) = self.store_unlogged(slot, target);
         let Some(card) = dirtied else {
             return (plain_reply(self.alloc, kind, Fill::No), None);
         };
+        // A place for `store_into` would be filled with zeros at every store.
         let Some(buffer) = log.push(card) else {
             return (plain_reply(self.alloc, kind, Fill::No), None);
         };
@@ -97,7 +84,7 @@ impl Core {
     }
 
     /// Makes the same store as `store`, and puts a completed buffer into the place that the caller
-    /// lends for it, in place of returning it (docs/PROFILE.md, The barrier).
+    /// lends for it, in place of returning it (docs/rules.md, The barrier).
     ///
     /// The place is empty before the call, so no buffer is lost. After it, `completed` has the
     /// buffer if `fill` is `Full`, and is empty otherwise. A store that fills no log moves no
@@ -113,18 +100,12 @@ impl Core {
         requires empty { IsNone completed.old }
         requires slot { slot < slot_count self.old.state.table.layout }
         requires target { IfSome target (λ place. place < slot_count self.old.state.table.layout) }
-        ensures kind { result.kind ≡ kind_of self.old.state.table slot target }
-        ensures plain { (result.refined ≡ []) × (result.short ≡ false) }
-        ensures fill { result.fill ≡ fill_of completed.new }
-        ensures machine { self.new ≡ stored_machine self.old slot target }
-        ensures log { log.new ≡ logged result.kind log.old
-            (card_of self.old.state.table.layout slot) }
-        ensures buffer { completed.new
-            ≡ buffer_of result.kind log.old (card_of self.old.state.table.layout slot) }
+        ensures did { DoesStore slot target result self.old self.new }
+        ensures lent { IsLent (card_of self.old.state.table.layout slot) result
+            log.old log.new completed.new }
         ensures step { (caller : ℕ)
             → IsStep self.old.state.table (store_entry caller slot target result)
             self.new.state.table }
-        ensures cover { IsCovered self.new.state.table }
         ensures later { IsLater self.old self.new }
     {
         let (kind, dirtied) = self.store_unlogged(slot, target);
@@ -136,7 +117,7 @@ impl Core {
     }
 
     /// Makes the same store as `store` without a log, for a runtime that keeps the cards itself: a
-    /// logged store returns its card, which is dirty then, and every other `None` (docs/PROFILE.md,
+    /// logged store returns its card, which is dirty then, and every other `None` (docs/rules.md,
     /// The barrier).
     ///
     /// The marks alone say which cards are pending, so a card that the runtime forgets is still
@@ -145,15 +126,13 @@ impl Core {
     pub fn store_unlogged(&mut self, slot: Slot, target: Option<Slot>) -> (Kind, Option<Card>)
         requires slot { slot < slot_count self.old.state.table.layout }
         requires target { IfSome target (λ place. place < slot_count self.old.state.table.layout) }
-        ensures kind { result.0 ≡ kind_of self.old.state.table slot target }
+        ensures did { DoesStore slot target (unfilled result.0) self.old self.new }
         ensures some { IfSome result.1 (λ card.
             (result.0 ≡ Kind.Logged) × (card ≡ card_of self.old.state.table.layout slot)) }
         ensures none { IsNone result.1 → result.0 ≢ Kind.Logged }
-        ensures machine { self.new ≡ stored_machine self.old slot target }
         ensures step { (caller : ℕ)
             → IsStep self.old.state.table (store_entry caller slot target (unfilled result.0))
             self.new.state.table }
-        ensures cover { IsCovered self.new.state.table }
         ensures later { IsLater self.old self.new }
     {
         let (kind, dirtied) = self.kind(slot, &target);

@@ -15,14 +15,13 @@ use g1_layout::{Card, Layout, Region, Slot};
 use g1_sets::Sets;
 
 impl Core {
-    ghost use Rattle.g1_core.specs.Table.{IsCovered};
-    ghost use Rattle.g1_core.specs.Machine.{IsLater, IsOnlyRead};
+    ghost use Rattle.g1_core.specs.Machine.{IsLater};
     ghost use Rattle.g1_core.specs.Run.{IsStep};
     ghost use Rattle.g1_core.specs.Calls.{clear_entry};
-    ghost use Rattle.g1_core.specs.Clearing.{member_count};
+    ghost use Rattle.g1_core.specs.Does.{DoesClear};
 
     /// Empties the remembered set of a region, once nothing is pending and no slot outside the
-    /// region refers into it (docs/PROFILE.md, Clear; ISMM 2004, "Evacuation Pauses": the region
+    /// region refers into it (docs/rules.md, Clear; ISMM 2004, "Evacuation Pauses": the region
     /// was evacuated).
     ///
     /// `Pending` is how many cards are pending, and nothing has changed. `StillReferenced` names
@@ -34,16 +33,9 @@ impl Core {
     /// nothing is pending.
     pub fn clear(&mut self, region: Region) -> ClearReply
         requires { region < self.old.state.table.layout.regions }
+        ensures did { DoesClear region result self.old self.new }
         ensures step { (caller : ℕ)
             → IsStep self.old.state.table (clear_entry caller region result) self.new.state.table }
-        ensures refused { result ≢ ClearReply.Cleared → IsOnlyRead self.old self.new }
-        ensures ring { self.new.state.ring ≡ self.old.state.ring }
-        ensures unread { 1 ≤ set.len self.old.state.table.pending
-            → self.new.reads ≡ self.old.reads }
-        ensures reads { self.new.reads
-            ≤ self.old.reads + member_count self.old.state.table region
-            * self.old.state.table.layout.slots }
-        ensures cover { IsCovered self.new.state.table }
         ensures later { IsLater self.old self.new }
     {
         if self.parts.pending > 0 {
@@ -92,8 +84,8 @@ fn first_of(layout: Layout, cards: &[Card]) -> Option<Card>
     layout.card(least)
 }
 
-// The same of the cards, if no slot of the first one refers into the region. A card at or past that
-// of the slot found last has no lesser one, and is not read.
+// The same of the cards, if no slot of the first one refers into the region. Cards above the best
+// hit so far are skipped; their slots are larger.
 fn least_after(heap: &mut Heap, cards: &[Card], first: Card, region: Region) -> Option<Slot>
     requires cards { All (λ card. card < card_count heap.old.layout) cards.now }
     requires region { region < heap.old.layout.regions }

@@ -60,7 +60,7 @@ impl Default for Settings {
     }
 }
 
-/// The settings of a core, each within its limits (docs/PROFILE.md, Limits).
+/// The settings of a core, each within its limits (docs/rules.md, Limits).
 #[derive(Clone, Copy, Debug, PartialEq, Eq)]
 pub struct Config {
     settings: Settings,

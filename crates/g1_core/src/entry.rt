@@ -108,7 +108,7 @@ impl From<&Redirected> for Reply {
 /// One call of the history: who made it, what it was, and exactly what it returned.
 ///
 /// It takes 80 bytes in the history's own block. Those of its lists that hold cards take further
-/// memory: 4 bytes a card (docs/PROFILE.md, The history).
+/// memory: 4 bytes a card (docs/rules.md, The history).
 #[derive(Debug, Drop)]
 pub struct Entry {
     /// Who called: for a store the number of its mutator.

@@ -1,5 +1,6 @@
 //! The remembered-set machinery of a heap in regions, for one thread: all that lies between a
-//! reference store and the remembered sets that an evacuation pause scans (docs/ARCHITECTURE.md).
+//! reference store and the remembered sets that an evacuation pause scans
+//! (docs/internals/architecture.md).
 //!
 //! A card passes through these modules, one for each step. [`barrier`] marks a card dirty and logs
 //! it, [`refinement`] gives the cards of a completed buffer their turns, and [`pause`] refines what
@@ -17,6 +18,7 @@ pub mod adoption;
 pub mod barrier;
 pub mod clearing;
 pub mod config;
+pub mod copy;
 pub mod entry;
 pub mod laws;
 pub mod list;
@@ -27,6 +29,7 @@ pub mod queries;
 pub mod redirection;
 pub mod refinement;
 pub mod reply;
+pub mod verify;
 
 pub use config::{Config, Limits, Settings};
 pub use entry::{Call, Entry, Reply};

@@ -34,10 +34,9 @@ impl Parts {
             (self.new.sets.pairs ≡ gained self.old.heap self.old.sets.pairs card) }
         ensures layout { self.new.sets.layout ≡ self.old.sets.layout }
         ensures less { OnOk result (self.new.pending + 1 ≡ self.old.pending) }
-        ensures read { OnErr result
-            (self.new.heap ≡ with_reads self.old.heap self.old.heap.layout.slots) }
-        ensures err { OnErr result (self.new.sets ≡ self.old.sets) }
-        ensures as_many { OnErr result (self.new.pending ≡ self.old.pending) }
+        ensures err { OnErr result ((self.new.sets ≡ self.old.sets)
+            × (self.new.heap ≡ with_reads self.old.heap self.old.heap.layout.slots)
+            × (self.new.pending ≡ self.old.pending)) }
     {
         self.record(card)?;
         self.heap.set_mark(card, Mark::Clean);

@@ -13,12 +13,12 @@ use g1_layout::{Card, NoMemory, Region};
 impl Core {
     ghost use Rattle.g1_heap.specs.Cells.{reads_after};
     ghost use Rattle.g1_hot.specs.Ring.{popped};
-    ghost use Rattle.g1_core.specs.Table.{IsCovered};
     ghost use Rattle.g1_core.specs.Machine.{IsLater};
     ghost use Rattle.g1_core.specs.Run.{IsStep};
     ghost use Rattle.g1_core.specs.Turns.{is_dirty};
-    ghost use Rattle.g1_core.specs.Calls.{drain_cards, drain_entry};
-    ghost use Rattle.g1_core.specs.Pause.{Drains, IsDrainOf, IsShortDrain, IsDrainOrder};
+    ghost use Rattle.g1_core.specs.Calls.{drain_entry};
+    ghost use Rattle.g1_core.specs.Does.{DoesDrain};
+    ghost use Rattle.g1_core.specs.Pause.{Drains, IsShortDrain, IsDrainOrder};
     ghost use Rattle.g1_core.specs.Pause.{IsRingDrained, IsCardDrained, IsCardRead, IsDirtyDrained};
     ghost use Rattle.g1_core.specs.Pause.{IsDirtyStopped, IsAllDrained, reset_machine};
 
@@ -137,7 +137,7 @@ impl Core {
         self.hot.reset_counts();
     }
 
-    /// Refines all that is pending, and returns the remembered set of a region (docs/PROFILE.md,
+    /// Refines all that is pending, and returns the remembered set of a region (docs/rules.md,
     /// The pause).
     ///
     /// The cards of the hot ring are refined first, oldest first, and then the dirty cards,
@@ -151,13 +151,10 @@ impl Core {
     /// read.
     pub fn drain(&mut self, region: Region) -> Result<Drained, NoMemory>
         requires { region < self.old.state.table.layout.regions }
-        ensures drained { IfOk result (λ answer. IsDrainOf self.old region answer self.new) }
-        ensures within { IfOk result (λ answer.
-            All (λ card. card < card_count self.old.state.table.layout) (drain_cards answer)) }
+        ensures did { IfOk result (λ answer. DoesDrain region answer self.old self.new) }
         ensures step { IfOk result (λ answer. (caller : ℕ)
             → IsStep self.old.state.table (drain_entry caller region answer) self.new.state.table) }
         ensures err { OnErr result (self.new ≡ self.old) }
-        ensures cover { IsCovered self.new.state.table }
         ensures later { IsLater self.old self.new }
     {
         let _layout = self.layout();

@@ -1,6 +1,5 @@
 //! Questions to a core: they refine nothing and change nothing but the count of reads.
-ghost use Rattle.std.specs.Prelude.{◌≡◌, ◌<◌, ◌^◌, ℕ, All, IfOk, IfSome};
-ghost use Rattle.std.specs.FinSet as set;
+ghost use Rattle.std.specs.Prelude.{◌≡◌, ◌<◌, ◌^◌, ℕ, IfOk};
 ghost use Rattle.g1_layout.specs.Shape.{slot_count, card_count};
 
 use crate::config::Config;
@@ -12,11 +11,11 @@ use g1_layout::{Card, Layout, NoMemory, Region, Slot};
 
 impl Core {
     ghost use Rattle.g1_layout.specs.Shape.{IsShape};
-    ghost use Rattle.g1_heap.specs.Cells.{reads_after};
-    ghost use Rattle.g1_core.specs.Table.{target_of, AreMembers, IsCovered};
+    ghost use Rattle.g1_core.specs.Table.{IsCovered};
     ghost use Rattle.g1_core.specs.Machine.{IsSound, IsLater};
     ghost use Rattle.g1_core.specs.Run.{IsStep};
     ghost use Rattle.g1_core.specs.Calls.{target_entry, pending_entry, members_entry, status_entry};
+    ghost use Rattle.g1_core.specs.Does.{DoesTarget, DoesPending, DoesMembers, DoesStatus};
 
     /// The layout of the heap. Constant time. The clauses also say what every core keeps, cover
     /// above all.
@@ -50,13 +49,7 @@ impl Core {
     /// Constant time.
     pub fn target(&mut self, slot: Slot) -> Option<Slot>
         requires { slot < slot_count self.old.state.table.layout }
-        ensures target { result ≡ target_of self.old.state.table slot }
-        ensures within { IfSome result (λ place. place < slot_count self.old.state.table.layout) }
-        ensures machine { self.new ≡ record {
-          state = self.old.state;
-          settings = self.old.settings;
-          reads = reads_after self.old.reads 1;
-        } }
+        ensures did { DoesTarget slot result self.old self.new }
         ensures step { (caller : ℕ)
             → IsStep self.old.state.table (target_entry caller slot result) self.new.state.table }
         ensures later { IsLater self.old self.new }
@@ -68,7 +61,7 @@ impl Core {
     /// Whether a card is pending: dirty, or held in the hot ring. Constant time.
     pub fn is_pending(&self, card: Card) -> bool
         requires { card < card_count self.now.state.table.layout }
-        ensures pending { result ≡ set.contains self.now.state.table.pending card }
+        ensures did { DoesPending card result self.now self.now }
         ensures step { (caller : ℕ)
             → IsStep self.now.state.table (pending_entry caller card result) self.now.state.table }
     {
@@ -86,9 +79,7 @@ impl Core {
     /// Returns `NoMemory` if the room for the list was refused.
     pub fn members(&self, region: Region) -> Result<CardList, NoMemory>
         requires { region < self.now.state.table.layout.regions }
-        ensures members { IfOk result (λ cards. AreMembers self.now.state.table region cards) }
-        ensures within { IfOk result (λ cards.
-            All (λ card. card < card_count self.now.state.table.layout) cards) }
+        ensures did { IfOk result (λ cards. DoesMembers region cards self.now self.now) }
         ensures step { IfOk result (λ cards. (caller : ℕ)
             → IsStep self.now.state.table (members_entry caller region cards)
             self.now.state.table) }
@@ -100,8 +91,7 @@ impl Core {
     /// How many cards are pending and how many pairs are recorded. Takes time in the number of
     /// regions.
     pub fn status(&self) -> Status
-        ensures pending { result.pending ≡ set.len self.now.state.table.pending }
-        ensures recorded { result.recorded ≡ set.len self.now.state.table.recorded }
+        ensures did { DoesStatus result self.now self.now }
         ensures step { (caller : ℕ)
             → IsStep self.now.state.table (status_entry caller result) self.now.state.table }
     {

@@ -118,11 +118,12 @@ fn make_changes(heap: &mut Heap, changes: &[Change])
 }
 
 impl Core {
-    ghost use Rattle.g1_core.specs.Table.{IsCovered, moved_count};
+    ghost use Rattle.g1_core.specs.Table.{moved_count};
     ghost use Rattle.g1_core.specs.Machine.{IsLater};
     ghost use Rattle.g1_core.specs.Run.{IsStep};
     ghost use Rattle.g1_core.specs.Calls.{redirect_entry};
-    ghost use Rattle.g1_core.specs.Redirect.{IsMoved, AreMembersRead, IsRedirectOf};
+    ghost use Rattle.g1_core.specs.Does.{DoesRedirect};
+    ghost use Rattle.g1_core.specs.Redirect.{IsMoved, AreMembersRead};
 
     // Moves every reference into a region, where nothing is pending, and returns how many slots
     // changed. The room for the changes and for the cards that they record is made first: if it is
@@ -144,7 +145,7 @@ impl Core {
     }
 
     /// Moves the references into the region `from` to the same offsets of the region `to`, and
-    /// empties the remembered set of `from` (docs/PROFILE.md, Redirect; ISMM 2004, "Evacuation
+    /// empties the remembered set of `from` (docs/rules.md, Redirect; ISMM 2004, "Evacuation
     /// Pauses": the objects of a region were copied).
     ///
     /// All that is pending is refined first, as by a drain. Then each slot outside `from` that
@@ -162,12 +163,11 @@ impl Core {
         requires from { from < self.old.state.table.layout.regions }
         requires to { to < self.old.state.table.layout.regions }
         requires apart { from ≢ to }
-        ensures redirected { IfOk result (λ answer. IsRedirectOf self.old from to answer self.new) }
+        ensures did { IfOk result (λ answer. DoesRedirect from to answer self.old self.new) }
         ensures step { IfOk result (λ answer. (caller : ℕ)
             → IsStep self.old.state.table (redirect_entry caller from to answer)
             self.new.state.table) }
         ensures err { OnErr result (self.new ≡ self.old) }
-        ensures cover { IsCovered self.new.state.table }
         ensures later { IsLater self.old self.new }
     {
         let _layout = self.layout();

@@ -18,15 +18,15 @@ use std::alloc::Global;
 
 impl Core {
     ghost use Rattle.g1_heap.specs.Cells.{reads_after};
-    ghost use Rattle.g1_core.specs.Table.{IsCovered};
     ghost use Rattle.g1_core.specs.Machine.{IsLater};
     ghost use Rattle.g1_core.specs.Turns.{offer_to, state_after};
-    ghost use Rattle.g1_core.specs.Refinement.{IsTurned, IsRefined, AreCardsRead};
+    ghost use Rattle.g1_core.specs.Refinement.{IsTurned, AreCardsRead};
     ghost use Rattle.g1_core.specs.Calls.{refine_entry};
+    ghost use Rattle.g1_core.specs.Does.{DoesRefine};
     ghost use Rattle.g1_core.specs.Run.{IsStep};
 
     /// Refines a completed buffer: its cards take their turns, oldest first. `None` changes nothing
-    /// and takes no memory (ISMM 2004, section 2.2, "Remembered Set Maintenance"; docs/PROFILE.md,
+    /// and takes no memory (ISMM 2004, section 2.2, "Remembered Set Maintenance"; docs/rules.md,
     /// Refinement).
     ///
     /// A card that is not dirty is skipped, as is one that the heap does not have. A dirty card is
@@ -43,12 +43,10 @@ impl Core {
     /// more. Takes memory for the list, with room for each card of the buffer, and for what the
     /// remembered sets gain.
     pub fn refine(&mut self, buffer: Option<&Buffer>) -> Result<RefineReply, NoMemory>
-        ensures turned { IfOk result (λ reply.
-            IsRefined self.old.state (option_map (λ b. b.now) buffer.entry) reply self.new.state) }
+        ensures did { IfOk result (λ reply.
+            DoesRefine (option_map (λ b. b.now) buffer.entry) reply self.old self.new) }
         ensures step { IfOk result (λ reply. (caller : ℕ)
             → IsStep self.old.state.table (refine_entry caller reply) self.new.state.table) }
-        ensures cover { IsCovered self.new.state.table }
-        ensures reads { IfOk result (λ reply. AreCardsRead self.old reply self.new) }
         ensures err { OnErr result (self.new ≡ self.old) }
         ensures later { IsLater self.old self.new }
     {

@@ -1,27 +1,12 @@
-//! The barrier, the pause and the questions.
+//! The barrier and the pause, where a trace (crates/gate_examples/data) cannot show it.
 use crate::numbers::{numbers_of, slot};
-use crate::steps::Step::{Drain, Members, Pending, Refine, Status, Store, Target};
+use crate::steps::Step::{Drain, Refine, Status, Store};
 use crate::steps::play;
 use g1_core::Fill::{Full, No};
-use g1_core::Kind::{AlreadyDirty, Logged, Null, SameRegion};
-use g1_core::{Config, Core, Kind, Layout, Log};
+use g1_core::Kind::{AlreadyDirty, Logged, SameRegion};
+use g1_core::{Config, Core, Layout, Log};
 use std::process::Abort;
 use std::test::Fail;
-
-#[test]
-fn the_barrier_has_four_kinds_of_store(rt: HostRuntime) -> Result<(), Fail> {
-    let steps = [
-        Store(0, None, Null, No),
-        Store(0, Some(5), SameRegion, No),
-        Status(0, 0),
-        Store(0, Some(8), Logged, No),
-        Store(1, Some(16), AlreadyDirty, No),
-        Status(1, 0),
-        Store(31, Some(0), Logged, Full),
-        Status(2, 0),
-    ];
-    play(&rt, rt.alloc(), 4, 4, &steps)
-}
 
 // The third card fills the log, whose cards go into the lent place.
 #[test]
@@ -72,33 +57,17 @@ fn a_store_without_a_log_tells_its_card(rt: HostRuntime) -> Result<(), Fail> {
     Ok(())
 }
 
-// Two stores across regions on one card: the drain reads that card's slots once.
+// Two stores across regions on one card: the drain reads that card's slots once. It leaves the log,
+// which the next card fills.
 #[test]
 fn a_drain_answers_the_set_and_reads_each_card_once(rt: HostRuntime) -> Result<(), Fail> {
     let steps = [
-        Store(0, Some(8), Logged, No),
-        Store(1, Some(16), AlreadyDirty, No),
+        Store(0, 8, Logged, No),
+        Store(1, 16, AlreadyDirty, No),
         Drain(1, &[0], &[0]),
         Status(0, 2),
         Drain(2, &[0], &[]),
-    ];
-    play(&rt, rt.alloc(), 4, 4, &steps)
-}
-
-#[test]
-fn questions_are_answered(rt: HostRuntime) -> Result<(), Fail> {
-    let steps = [
-        Store(12, Some(24), Logged, No),
-        Store(4, Some(24), Logged, Full),
-        Pending(3, true),
-        Pending(1, true),
-        Pending(0, false),
-        Target(12, Some(24)),
-        Target(13, None),
-        Members(3, &[]),
-        Drain(3, &[1, 3], &[1, 3]),
-        Members(3, &[1, 3]),
-        Pending(3, false),
+        Store(4, 8, Logged, Full),
     ];
     play(&rt, rt.alloc(), 4, 4, &steps)
 }
@@ -106,27 +75,13 @@ fn questions_are_answered(rt: HostRuntime) -> Result<(), Fail> {
 #[test]
 fn the_ring_is_drained_before_the_dirty_cards(rt: HostRuntime) -> Result<(), Fail> {
     let steps = [
-        Store(20, Some(0), Logged, No),
-        Store(8, Some(0), Logged, Full),
+        Store(20, 0, Logged, No),
+        Store(8, 0, Logged, Full),
         Refine(&[5, 2], &[], 2, 0),
-        Store(28, Some(0), Logged, No),
-        Store(12, Some(0), Logged, Full),
+        Store(28, 0, Logged, No),
+        Store(12, 0, Logged, Full),
         Drain(0, &[2, 3, 5, 7], &[5, 2, 3, 7]),
         Status(0, 4),
     ];
     play(&rt, rt.alloc(), 0, 4, &steps)
-}
-
-// The second refinement finds the card cold, as the first did.
-#[test]
-fn a_whole_drain_makes_hot_cards_cold(rt: HostRuntime) -> Result<(), Fail> {
-    let steps = [
-        Store(0, Some(8), Logged, No),
-        Refine(&[0], &[0], 0, 0),
-        Drain(1, &[0], &[]),
-        Store(0, Some(8), Logged, Full),
-        Refine(&[0], &[0], 0, 0),
-        Drain(1, &[0], &[]),
-    ];
-    play(&rt, rt.alloc(), 1, 4, &steps)
 }

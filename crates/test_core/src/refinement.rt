@@ -9,9 +9,9 @@ use std::test::Fail;
 #[test]
 fn no_buffer_and_an_empty_one_refine_nothing(rt: HostRuntime) -> Result<(), Fail> {
     let steps = [
-        Store(0, Some(8), Logged, No),
-        Store(4, Some(16), Logged, Full),
-        Store(8, Some(0), Logged, No),
+        Store(0, 8, Logged, No),
+        Store(4, 16, Logged, Full),
+        Store(8, 0, Logged, No),
         RefineNone,
         Status(3, 0),
         Refine(&[], &[], 0, 0),
@@ -25,31 +25,17 @@ fn no_buffer_and_an_empty_one_refine_nothing(rt: HostRuntime) -> Result<(), Fail
     play(&rt, rt.alloc(), 255, 1, &steps)
 }
 
+// Cards outside the heap, one that is clean, and one that is held since its first turn. The drain
+// refines the held one before the dirty ones.
 #[test]
-fn a_stale_card_is_skipped(rt: HostRuntime) -> Result<(), Fail> {
+fn cards_that_are_not_dirty_are_skipped(rt: HostRuntime) -> Result<(), Fail> {
     let steps = [
-        Store(0, Some(8), Logged, No),
-        Store(4, Some(16), Logged, Full),
-        Store(8, Some(0), Logged, No),
-        Refine(&[1, 5, 1, 0], &[1, 0], 0, 2),
-        Status(1, 2),
-        Pending(2, true),
-        Members(0, &[]),
-        Members(1, &[0]),
-        Members(2, &[1]),
-    ];
-    play(&rt, rt.alloc(), 255, 1, &steps)
-}
-
-// Card 2 is held then: the drain refines it before the dirty ones.
-#[test]
-fn a_card_outside_the_heap_is_skipped(rt: HostRuntime) -> Result<(), Fail> {
-    let steps = [
-        Store(0, Some(8), Logged, No),
-        Store(4, Some(16), Logged, Full),
-        Store(8, Some(0), Logged, No),
-        Refine(&[8, 2, 65_535], &[], 1, 2),
+        Store(0, 8, Logged, No),
+        Store(4, 16, Logged, Full),
+        Store(8, 0, Logged, No),
+        Refine(&[8, 2, 5, 65_535, 2], &[], 1, 4),
         Status(3, 0),
+        Pending(2, true),
         Drain(0, &[2], &[2, 0, 1]),
     ];
     play(&rt, rt.alloc(), 0, 1, &steps)
@@ -59,9 +45,9 @@ fn a_card_outside_the_heap_is_skipped(rt: HostRuntime) -> Result<(), Fail> {
 #[test]
 fn at_hot_limit_0_a_ring_of_one_pushes_out_each_card_before(rt: HostRuntime) -> Result<(), Fail> {
     let steps = [
-        Store(0, Some(8), Logged, No),
-        Store(4, Some(16), Logged, Full),
-        Store(8, Some(0), Logged, No),
+        Store(0, 8, Logged, No),
+        Store(4, 16, Logged, Full),
+        Store(8, 0, Logged, No),
         Refine(&[2, 0, 1], &[2, 0], 3, 0),
         Status(1, 2),
         Pending(1, true),
@@ -77,11 +63,11 @@ fn at_hot_limit_0_a_ring_of_one_pushes_out_each_card_before(rt: HostRuntime) -> 
 #[test]
 fn at_hot_limit_1_a_card_is_hot_the_second_time(rt: HostRuntime) -> Result<(), Fail> {
     let steps = [
-        Store(0, Some(8), Logged, No),
-        Store(4, Some(16), Logged, Full),
-        Store(8, Some(0), Logged, No),
+        Store(0, 8, Logged, No),
+        Store(4, 16, Logged, Full),
+        Store(8, 0, Logged, No),
         Refine(&[0, 1], &[0, 1], 0, 0),
-        Store(1, Some(24), Logged, Full),
+        Store(1, 24, Logged, Full),
         Refine(&[0, 2], &[2], 1, 0),
         Status(1, 3),
         Pending(0, true),

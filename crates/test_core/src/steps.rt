@@ -1,9 +1,7 @@
 //! Steps of a core, each with the answer that it must get.
 
 use crate::numbers::{buffer, card, has_cards, numbers_of, region, slot};
-use g1_core::{
-    ClearReply, Config, Core, Drained, Fill, Kind, Layout, Log, NoMemory, Redirected, Status,
-};
+use g1_core::{Config, Core, Drained, Fill, Kind, Layout, Log, NoMemory, Redirected, Status};
 use std::alloc::Global;
 use std::process::Abort;
 use std::test::Fail;
@@ -13,8 +11,8 @@ const SLOTS_A_CARD: u64 = 4;
 /// A call with numbers for its arguments, and its answer.
 #[derive(Clone, Copy)]
 pub(crate) enum Step<'a> {
-    /// A store of a place or null into a slot: its kind, and what becomes of the log.
-    Store(u32, Option<u32>, Kind, Fill),
+    /// A store of a place into a slot: its kind, and what becomes of the log.
+    Store(u32, u32, Kind, Fill),
     /// A refinement of a buffer of cards: which are refined in which order, how many are hot, how
     /// many skipped.
     Refine(&'a [u32], &'a [u32], u32, u32),
@@ -22,27 +20,17 @@ pub(crate) enum Step<'a> {
     RefineNone,
     /// A drain of a region: its set, and which cards are refined in which order.
     Drain(u32, &'a [u32], &'a [u32]),
-    /// A clear of a region.
-    Clear(u32, Cleared),
     /// A redirect from one region to another: how many slots change, and which cards are refined in
     /// which order.
     Redirect(u32, u32, u32, &'a [u32]),
     /// The recorded cards of a region.
     Members(u32, &'a [u32]),
     /// The place that a slot refers to.
-    Target(u32, Option<u32>),
+    Target(u32, u32),
     /// Whether a card is pending.
     Pending(u32, bool),
     /// How many cards are pending, and how many pairs are recorded.
     Status(u32, u32),
-}
-
-/// What a clear answers.
-#[derive(Clone, Copy, Debug, PartialEq, Eq)]
-pub(crate) enum Cleared {
-    Yes,
-    Pending(u32),
-    StillReferenced(u32),
 }
 
 /// Takes the steps on a new core with this hot limit and ring, whose stores share a log of two
@@ -76,7 +64,6 @@ fn take(rt: &impl Abort, core: &mut Core, log: &mut Log, step: Step) -> Result<(
             assert!(rt; reply.taken == 0 && reply.refined.is_empty() && !reply.short);
         }
         Step::Drain(of, set, refined) => return drain(rt, core, of, set, refined),
-        Step::Clear(of, answer) => assert_eq!(rt; clear(rt, core, of), answer),
         Step::Redirect(from, to, slots, refined) => {
             return redirect(rt, core, (from, to), slots, refined);
         }
@@ -86,7 +73,7 @@ fn take(rt: &impl Abort, core: &mut Core, log: &mut Log, step: Step) -> Result<(
         }
         Step::Target(of, place) => {
             let of = slot(rt, core, of);
-            assert_eq!(rt; core.target(of).map(|slot| slot.number()), place);
+            assert_eq!(rt; core.target(of).map(|slot| slot.number()), Some(place));
         }
         Step::Pending(of, pending) => {
             assert_eq!(rt; core.is_pending(card(rt, core, of)), pending);
@@ -103,16 +90,13 @@ fn store(
     core: &mut Core,
     log: &mut Log,
     from: u32,
-    to: Option<u32>,
+    to: u32,
     answer: (Kind, Fill),
 ) {
     let from = slot(rt, core, from);
-    let to = match to {
-        Some(place) => Some(slot(rt, core, place)),
-        None => None,
-    };
+    let to = slot(rt, core, to);
     let mut wanted = numbers_of(rt, log.cards());
-    let (reply, buffer) = core.store(log, from, to);
+    let (reply, buffer) = core.store(log, from, Some(to));
     assert!(rt; reply.refined.is_empty() && !reply.short);
     assert_eq!(rt; buffer.is_some(), reply.fill == Fill::Full);
     assert_eq!(rt; (reply.kind, reply.fill), answer);
@@ -126,15 +110,6 @@ fn store(
     };
     assert!(rt; logged.as_slice() == wanted.as_slice());
     assert_eq!(rt; log.is_empty(), buffer.is_some() || wanted.is_empty());
-}
-
-fn clear(rt: &impl Abort, core: &mut Core, of: u32) -> Cleared {
-    let of = region(rt, core, of);
-    match core.clear(of) {
-        ClearReply::Cleared => Cleared::Yes,
-        ClearReply::Pending(cards) => Cleared::Pending(cards),
-        ClearReply::StillReferenced(slot) => Cleared::StillReferenced(slot.number()),
-    }
 }
 
 fn refine(

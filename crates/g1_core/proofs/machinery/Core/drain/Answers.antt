@@ -1,21 +1,11 @@
 use Rattle.std.proofs.Common.{◌<◌, ap, subst, sym, ◌∙◌, arith}
 use Rattle.std.specs.Prelude.{All}
 use Rattle.g1_layout.specs.Shape.{card_count}
-use Rattle.g1_core.specs.Table.{Table, IsCovered}
+use Rattle.g1_core.specs.Table.{Table}
 use Rattle.g1_core.specs.Machine.{Machine}
-use Rattle.g1_core.proofs.TableLemmas.{refined_covered}
 use Rattle.g1_core.proofs.ReadLemmas.{reads_grow}
 use Rattle.g1_core.proofs.DrainLemmas.{short_drain, short_drain_step, drained_short, whole_drain, whole_drain_step}
 use Rattle.g1_core.proofs.machinery.Core.drain.Goals as goal
-
-pub returns-in_default-clause-cover : goal.returns-in_default-clause-cover
-returns-in_default-clause-cover c = subst IsCovered (sym c.in_default.ensures.err.drains.table) (refined_covered c.drain_pending.new.refined.items c.args.self.now.state.table c.layout-layout.ensures.cover)
-
-pub returns-in_default-members-clause-cover : goal.returns-in_default-members-clause-cover
-returns-in_default-members-clause-cover c = subst IsCovered (sym c.in-Ok.ensures.ok.drains.table) (refined_covered c.drain_pending.new.refined.items c.args.self.now.state.table c.layout-layout.ensures.cover)
-
-pub returns-clause-cover : goal.returns-clause-cover
-returns-clause-cover c = subst IsCovered (sym (ap (λ (m : Machine). m.state.table) c.reset_counts.ensures ∙ c.in-Ok.ensures.ok.drains.table)) (refined_covered c.drain_pending.new.refined.items c.args.self.now.state.table c.layout-layout.ensures.cover)
 
 pub returns-in_default-clause-later : goal.returns-in_default-clause-later
 returns-in_default-clause-later c = record {
@@ -41,38 +31,38 @@ returns-clause-later c = record {
   reads = reads_grow _ _ _ c.reads-reads.ensures.bound (ap (λ (m : Machine). m.reads) c.reset_counts.ensures ∙ c.in-Ok.ensures.ok.drains.reads);
 }
 
-pub returns-in_default-clause-within : goal.returns-in_default-clause-within
-returns-in_default-clause-within c = λ k d lt. absurd (omega (arith, lt))
-
-pub returns-in_default-members-clause-within : goal.returns-in_default-members-clause-within
-returns-in_default-members-clause-within c = λ k d lt. absurd (omega (arith, lt))
-
-pub returns-clause-within : goal.returns-clause-within
-returns-clause-within c = subst (λ (t : Table). All (λ card. card < card_count t.layout) c.in-Ok-members.cards) c.in-Ok.ensures.ok.drains.table c.in-Ok-members.ensures.within
-
-pub returns-in_default-clause-drained : goal.returns-in_default-clause-drained
-returns-in_default-clause-drained c = short_drain c.args.self.now c.args.region c.requires c.drain_pending.new.refined.items c.of-refined.result c.of-refined.ensures c.drain_pending.new.self
-    c.in_default.ensures.err
+pub returns-in_default-clause-did : goal.returns-in_default-clause-did
+returns-in_default-clause-did c = record {
+  drained = short_drain c.args.self.now c.args.region c.requires c.drain_pending.new.refined.items c.of-refined.result c.of-refined.ensures c.drain_pending.new.self
+      c.in_default.ensures.err;
+  within = λ k d lt. absurd (omega (arith, lt));
+}
 
 pub returns-in_default-clause-step : goal.returns-in_default-clause-step
 returns-in_default-clause-step c = short_drain_step c.args.self.now c.args.region c.requires c.drain_pending.new.refined.items c.of-refined.result c.of-refined.ensures c.drain_pending.new.self
     c.in_default.ensures.err
 
-pub returns-in_default-members-clause-drained : goal.returns-in_default-members-clause-drained
-returns-in_default-members-clause-drained c = short_drain c.args.self.now c.args.region c.requires c.drain_pending.new.refined.items c.of-refined-in_default-members.result c.of-refined-in_default-members.ensures c.drain_pending.new.self
-    (drained_short c.args.self.now c.drain_pending.new.self c.drain_pending.new.refined.items c.in-Ok.ensures.ok)
+pub returns-in_default-members-clause-did : goal.returns-in_default-members-clause-did
+returns-in_default-members-clause-did c = record {
+  drained = short_drain c.args.self.now c.args.region c.requires c.drain_pending.new.refined.items c.of-refined-in_default-members.result c.of-refined-in_default-members.ensures c.drain_pending.new.self
+      (drained_short c.args.self.now c.drain_pending.new.self c.drain_pending.new.refined.items c.in-Ok.ensures.ok);
+  within = λ k d lt. absurd (omega (arith, lt));
+}
 
 pub returns-in_default-members-clause-step : goal.returns-in_default-members-clause-step
 returns-in_default-members-clause-step c = short_drain_step c.args.self.now c.args.region c.requires c.drain_pending.new.refined.items c.of-refined-in_default-members.result c.of-refined-in_default-members.ensures c.drain_pending.new.self
     (drained_short c.args.self.now c.drain_pending.new.self c.drain_pending.new.refined.items c.in-Ok.ensures.ok)
 
-pub returns-clause-drained : goal.returns-clause-drained
-returns-clause-drained c = whole_drain c.args.self.now c.args.region c.requires c.drain_pending.new.refined.items c.of-refined-2.result c.of-refined-2.ensures c.drain_pending.new.self c.in-Ok.ensures.ok
-    c.reset_counts.new.self c.reset_counts.ensures c.in-Ok-members.cards c.in-Ok-members.ensures.members
+pub returns-clause-did : goal.returns-clause-did
+returns-clause-did c = record {
+  drained = whole_drain c.args.self.now c.args.region c.requires c.drain_pending.new.refined.items c.of-refined-2.result c.of-refined-2.ensures c.drain_pending.new.self c.in-Ok.ensures.ok
+      c.reset_counts.new.self c.reset_counts.ensures c.in-Ok-members.cards c.in-Ok-members.ensures.did.members;
+  within = subst (λ (t : Table). All (λ card. card < card_count t.layout) c.in-Ok-members.cards) c.in-Ok.ensures.ok.drains.table c.in-Ok-members.ensures.did.within;
+}
 
 pub returns-clause-step : goal.returns-clause-step
 returns-clause-step c = whole_drain_step c.args.self.now c.args.region c.requires c.drain_pending.new.refined.items c.of-refined-2.result c.of-refined-2.ensures c.drain_pending.new.self c.in-Ok.ensures.ok
-    c.reset_counts.new.self c.reset_counts.ensures c.in-Ok-members.cards c.in-Ok-members.ensures.members
+    c.reset_counts.new.self c.reset_counts.ensures c.in-Ok-members.cards c.in-Ok-members.ensures.did.members
 
 pub members-requires : goal.members-requires
 members-requires c = subst (λ (t : Table). c.args.region < t.layout.regions) (sym c.in-Ok.ensures.ok.drains.table) c.requires

@@ -32,9 +32,9 @@ returns-clause-ok c =
 -- a refused record has only read the card
 pub invariant_of-self : goal.invariant_of-self
 invariant_of-self c = read_core c.self.inside.parts.heap c.self.inside.parts.sets c.self.inside.hot c.self.inside.parts.pending c.self.inside.config c.self.invariant c.refine.new.self.heap c.refine.new.self.sets c.refine.new.self.pending
-    c.in_err-refine.ensures.read c.in_err-refine.ensures.err c.in_err-refine.ensures.as_many
+    c.in_err-refine.ensures.err.1 c.in_err-refine.ensures.err.0 c.in_err-refine.ensures.err.2
 
 pub returns-in_err-refine-clause-err : goal.returns-in_err-refine-clause-err
 returns-in_err-refine-clause-err c = err_holds c.from_residual.result (subst (λ (m : Machine). IsCardRead m (machine_from c.refine.new.self.heap c.refine.new.self.sets.pairs c.self.inside.hot c.self.inside.config)) c.self.view_is
     (card_read c.self.inside.parts.heap c.self.inside.parts.sets c.self.inside.hot c.self.inside.parts.pending c.self.inside.config c.self.invariant c.refine.new.self.heap c.refine.new.self.sets c.refine.new.self.pending
-    c.in_err-refine.ensures.read c.in_err-refine.ensures.err c.in_err-refine.ensures.as_many))
+    c.in_err-refine.ensures.err.1 c.in_err-refine.ensures.err.0 c.in_err-refine.ensures.err.2))

@@ -1,17 +1,22 @@
-use Rattle.std.proofs.Common.{subst, sym, List, ℕ}
+use Rattle.std.proofs.Common.{refl, subst, sym, List, ℕ}
 use Rattle.g1_core.specs.Table.{AreMembers}
 use Rattle.g1_core.specs.Machine.{Machine}
 use Rattle.g1_core.proofs.QueryLemmas.{members_step, members_inside}
 use Rattle.g1_core.proofs.SoundLemmas.{seen_sound}
 use Rattle.g1_core.proofs.machinery.Core.members.Goals as goal
 
-pub returns-clause-step : goal.returns-clause-step
-returns-clause-step c = λ caller. members_step caller c.args.self.now.state.table c.args.region c.of.result c.requires
-    (subst (λ (cards : List ℕ). AreMembers c.args.self.now.state.table c.args.region cards) (sym c.of.ensures)
-    (subst (λ (m : Machine). AreMembers m.state.table c.args.region c.in_ok-cards.cards.items) c.self.view_is c.in_ok-cards.ensures))
+-- the list is that of the region
+members_are : (c : goal.After-of) → AreMembers c.args.self.now.state.table c.args.region c.of.result
+members_are c = subst (λ (cards : List ℕ). AreMembers c.args.self.now.state.table c.args.region cards) (sym c.of.ensures)
+    (subst (λ (m : Machine). AreMembers m.state.table c.args.region c.in_ok-cards.cards.items) c.self.view_is c.in_ok-cards.ensures)
 
-pub returns-clause-within : goal.returns-clause-within
-returns-clause-within c = members_inside c.args.self.now.state c.args.region c.of.result
-    (seen_sound c.self.inside.parts.heap c.self.inside.parts.sets c.self.inside.hot c.self.inside.parts.pending c.self.invariant c.self.inside.config c.args.self.now c.self.view_is)
-    (subst (λ (cards : List ℕ). AreMembers c.args.self.now.state.table c.args.region cards) (sym c.of.ensures)
-    (subst (λ (m : Machine). AreMembers m.state.table c.args.region c.in_ok-cards.cards.items) c.self.view_is c.in_ok-cards.ensures))
+pub returns-clause-step : goal.returns-clause-step
+returns-clause-step c = λ caller. members_step caller c.args.self.now.state.table c.args.region c.of.result c.requires (members_are c)
+
+pub returns-clause-did : goal.returns-clause-did
+returns-clause-did c = record {
+  members = members_are c;
+  within = members_inside c.args.self.now.state c.args.region c.of.result
+      (seen_sound c.self.inside.parts.heap c.self.inside.parts.sets c.self.inside.hot c.self.inside.parts.pending c.self.invariant c.self.inside.config c.args.self.now c.self.view_is) (members_are c);
+  machine = refl;
+}

@@ -1,4 +1,4 @@
-use Rattle.std.proofs.Common.{◌≡◌, ap, ◌∙◌, sym, subst}
+use Rattle.std.proofs.Common.{◌≡◌, refl, ap, ◌∙◌, sym, subst}
 use Rattle.std.specs.FinSet as set
 use Rattle.g1_layout.specs.Shape.{Shape}
 use Rattle.g1_sets.specs.Pairs.{HasOnlyOutside}
@@ -6,17 +6,18 @@ use Rattle.g1_core.specs.Machine.{Machine}
 use Rattle.g1_core.proofs.QueryLemmas.{status_step}
 use Rattle.g1_core.proofs.machinery.Core.status.Goals as goal
 
-pub returns-clause-pending : goal.returns-clause-pending
-returns-clause-pending c = c.self.invariant.parts.known ∙ ap (λ (m : Machine). set.len m.state.table.pending) c.self.view_is
-
 -- each recorded card lies outside its region, so that all pairs are counted
 recorded_is : (c : goal.After-total) → c.total.result ≡ set.len c.args.self.now.state.table.recorded
 recorded_is c =
     let outside : HasOnlyOutside c.self.inside.parts.sets.layout c.self.inside.parts.sets.pairs = subst (λ (l : Shape). HasOnlyOutside l c.self.inside.parts.sets.pairs) (sym c.self.invariant.layouts) (λ card region r. (c.self.invariant.parts.outside card region r).2) in
     c.total.ensures.outside outside ∙ ap (λ (m : Machine). set.len m.state.table.recorded) c.self.view_is
 
-pub returns-clause-recorded : goal.returns-clause-recorded
-returns-clause-recorded c = recorded_is c
+pub returns-clause-did : goal.returns-clause-did
+returns-clause-did c = record {
+  pending = c.self.invariant.parts.known ∙ ap (λ (m : Machine). set.len m.state.table.pending) c.self.view_is;
+  recorded = recorded_is c;
+  machine = refl;
+}
 
 pub returns-clause-step : goal.returns-clause-step
 returns-clause-step c = λ caller. status_step caller c.args.self.now.state.table _ (c.self.invariant.parts.known ∙ ap (λ (m : Machine). set.len m.state.table.pending) c.self.view_is) (recorded_is c)

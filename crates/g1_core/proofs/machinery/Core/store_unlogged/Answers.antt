@@ -34,14 +34,11 @@ logged c =
 pub invariant_of-self-2 : goal.invariant_of-self-2
 invariant_of-self-2 c = (logged c).core
 
-pub returns-clause-machine : goal.returns-clause-machine
-returns-clause-machine c = (logged c).machine
+pub returns-clause-did : goal.returns-clause-did
+returns-clause-did c = record { kind = c.kind-kind.ensures.kind; refined = refl; short = refl; machine = (logged c).machine }
 
 pub returns-clause-step : goal.returns-clause-step
 returns-clause-step c = λ caller. stored_step caller c.args.self.now.state.table _ c.args.slot c.args.target (unfilled c.kind-kind.result.0) (c.requires.slot, c.requires.target) c.kind-kind.ensures.kind refl (ap (λ (m : Machine). m.state.table) (logged c).machine)
-
-pub returns-clause-cover : goal.returns-clause-cover
-returns-clause-cover c = (logged c).core.parts.cover
 
 pub returns-clause-later : goal.returns-clause-later
 returns-clause-later c = stored_later c.set_mark.new.self c.self.inside.parts.sets c.self.inside.hot (c.self.inside.parts.pending + 1) c.self.inside.config c.args.self.now c.args.slot c.args.target (logged c)
@@ -57,14 +54,11 @@ plain c = plain_at c.self.inside.parts.heap c.self.inside.parts.sets c.self.insi
 pub invariant_of-self : goal.invariant_of-self
 invariant_of-self c = (plain c).core
 
-pub returns-in_default-clause-machine : goal.returns-in_default-clause-machine
-returns-in_default-clause-machine c = (plain c).machine
+pub returns-in_default-clause-did : goal.returns-in_default-clause-did
+returns-in_default-clause-did c = record { kind = c.kind-kind.ensures.kind; refined = refl; short = refl; machine = (plain c).machine }
 
 pub returns-in_default-clause-step : goal.returns-in_default-clause-step
 returns-in_default-clause-step c = λ caller. stored_step caller c.args.self.now.state.table _ c.args.slot c.args.target (unfilled c.kind-kind.result.0) (c.requires.slot, c.requires.target) c.kind-kind.ensures.kind refl (ap (λ (m : Machine). m.state.table) (plain c).machine)
-
-pub returns-in_default-clause-cover : goal.returns-in_default-clause-cover
-returns-in_default-clause-cover c = (plain c).core.parts.cover
 
 pub returns-in_default-clause-later : goal.returns-in_default-clause-later
 returns-in_default-clause-later c = stored_later c.set.new.self c.self.inside.parts.sets c.self.inside.hot c.self.inside.parts.pending c.self.inside.config c.args.self.now c.args.slot c.args.target (plain c)

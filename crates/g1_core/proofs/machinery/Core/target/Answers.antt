@@ -23,8 +23,13 @@ returns-clause-later c = same_later c.args.self.now (machine_from c.get.new.self
     (seen_sound c.self.inside.parts.heap c.self.inside.parts.sets c.self.inside.hot c.self.inside.parts.pending c.self.invariant c.self.inside.config c.args.self.now c.self.view_is)
     (reads_grow c.args.self.now.reads 1 c.get.new.self.reads c.reads-reads.ensures.bound (ap (λ (h : Cells). h.reads) c.get.ensures.reads ∙ ap (λ (m : Machine). reads_after m.reads 1) c.self.view_is))
 
-pub returns-clause-within : goal.returns-clause-within
-returns-clause-within c =
+pub returns-clause-did : goal.returns-clause-did
+returns-clause-did c =
     let is : c.get.result ≡ target_of c.args.self.now.state.table c.args.slot = c.get.ensures.target ∙ ap (λ (m : Machine). target_of m.state.table c.args.slot) c.self.view_is in
-    subst (λ (o : Option ℕ). IfSome o (λ place. place < slot_count c.args.self.now.state.table.layout)) (sym is) (target_inside c.args.self.now.state c.args.slot
-    (seen_sound c.self.inside.parts.heap c.self.inside.parts.sets c.self.inside.hot c.self.inside.parts.pending c.self.invariant c.self.inside.config c.args.self.now c.self.view_is) c.requires)
+    record {
+      answer = is;
+      within = subst (λ (o : Option ℕ). IfSome o (λ place. place < slot_count c.args.self.now.state.table.layout)) (sym is) (target_inside c.args.self.now.state c.args.slot
+          (seen_sound c.self.inside.parts.heap c.self.inside.parts.sets c.self.inside.hot c.self.inside.parts.pending c.self.invariant c.self.inside.config c.args.self.now c.self.view_is) c.requires);
+      machine = ap (λ (h : Cells). machine_from h c.self.inside.parts.sets.pairs c.self.inside.hot c.self.inside.config) c.get.ensures.reads
+          ∙ ap (λ (m : Machine). record { state = m.state; settings = m.settings; reads = reads_after m.reads 1 }) c.self.view_is;
+    }

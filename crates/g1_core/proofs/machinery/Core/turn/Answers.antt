@@ -87,27 +87,27 @@ returns-in-Out-clause-reads c =
 -- a refused record has only read the card
 pub invariant_of-self : goal.invariant_of-self
 invariant_of-self c = read_core c.self.inside.parts.heap c.self.inside.parts.sets c.self.inside.hot c.self.inside.parts.pending c.self.inside.config c.self.invariant c.refine.new.self.heap c.refine.new.self.sets c.refine.new.self.pending
-    c.in_err-refine-in-Cold.ensures.read c.in_err-refine-in-Cold.ensures.err c.in_err-refine-in-Cold.ensures.as_many
+    c.in_err-refine-in-Cold.ensures.err.1 c.in_err-refine-in-Cold.ensures.err.0 c.in_err-refine-in-Cold.ensures.err.2
 
 pub returns-in_err-refine-in-Cold-clause-err : goal.returns-in_err-refine-in-Cold-clause-err
 returns-in_err-refine-in-Cold-clause-err c = err_holds c.from_residual.result ((card_read c.self.inside.parts.heap c.self.inside.parts.sets c.self.inside.hot c.self.inside.parts.pending c.self.inside.config c.self.invariant c.refine.new.self.heap c.refine.new.self.sets c.refine.new.self.pending
-    c.in_err-refine-in-Cold.ensures.read c.in_err-refine-in-Cold.ensures.err c.in_err-refine-in-Cold.ensures.as_many).state ∙ ap (λ (m : Machine). m.state) c.self.view_is)
+    c.in_err-refine-in-Cold.ensures.err.1 c.in_err-refine-in-Cold.ensures.err.0 c.in_err-refine-in-Cold.ensures.err.2).state ∙ ap (λ (m : Machine). m.state) c.self.view_is)
 
 pub returns-in_err-refine-in-Cold-clause-tried : goal.returns-in_err-refine-in-Cold-clause-tried
 returns-in_err-refine-in-Cold-clause-tried c = err_holds c.from_residual.result ((card_read c.self.inside.parts.heap c.self.inside.parts.sets c.self.inside.hot c.self.inside.parts.pending c.self.inside.config c.self.invariant c.refine.new.self.heap c.refine.new.self.sets c.refine.new.self.pending
-    c.in_err-refine-in-Cold.ensures.read c.in_err-refine-in-Cold.ensures.err c.in_err-refine-in-Cold.ensures.as_many).reads ∙ ap (λ (m : Machine). reads_after m.reads m.state.table.layout.slots) c.self.view_is)
+    c.in_err-refine-in-Cold.ensures.err.1 c.in_err-refine-in-Cold.ensures.err.0 c.in_err-refine-in-Cold.ensures.err.2).reads ∙ ap (λ (m : Machine). reads_after m.reads m.state.table.layout.slots) c.self.view_is)
 
 pub invariant_of-self-in_err-refine-in-Out : goal.invariant_of-self-in_err-refine-in-Out
 invariant_of-self-in_err-refine-in-Out c = read_core c.self.inside.parts.heap c.self.inside.parts.sets c.self.inside.hot c.self.inside.parts.pending c.self.inside.config c.self.invariant c.refine-in-Out.new.self.heap c.refine-in-Out.new.self.sets c.refine-in-Out.new.self.pending
-    c.in_err-refine-in-Out.ensures.read c.in_err-refine-in-Out.ensures.err c.in_err-refine-in-Out.ensures.as_many
+    c.in_err-refine-in-Out.ensures.err.1 c.in_err-refine-in-Out.ensures.err.0 c.in_err-refine-in-Out.ensures.err.2
 
 pub returns-in_err-refine-in-Out-clause-err : goal.returns-in_err-refine-in-Out-clause-err
 returns-in_err-refine-in-Out-clause-err c = err_holds c.from_residual-in_err-refine-in-Out.result ((card_read c.self.inside.parts.heap c.self.inside.parts.sets c.self.inside.hot c.self.inside.parts.pending c.self.inside.config c.self.invariant c.refine-in-Out.new.self.heap c.refine-in-Out.new.self.sets c.refine-in-Out.new.self.pending
-    c.in_err-refine-in-Out.ensures.read c.in_err-refine-in-Out.ensures.err c.in_err-refine-in-Out.ensures.as_many).state ∙ ap (λ (m : Machine). m.state) c.self.view_is)
+    c.in_err-refine-in-Out.ensures.err.1 c.in_err-refine-in-Out.ensures.err.0 c.in_err-refine-in-Out.ensures.err.2).state ∙ ap (λ (m : Machine). m.state) c.self.view_is)
 
 pub returns-in_err-refine-in-Out-clause-tried : goal.returns-in_err-refine-in-Out-clause-tried
 returns-in_err-refine-in-Out-clause-tried c = err_holds c.from_residual-in_err-refine-in-Out.result ((card_read c.self.inside.parts.heap c.self.inside.parts.sets c.self.inside.hot c.self.inside.parts.pending c.self.inside.config c.self.invariant c.refine-in-Out.new.self.heap c.refine-in-Out.new.self.sets c.refine-in-Out.new.self.pending
-    c.in_err-refine-in-Out.ensures.read c.in_err-refine-in-Out.ensures.err c.in_err-refine-in-Out.ensures.as_many).reads ∙ ap (λ (m : Machine). reads_after m.reads m.state.table.layout.slots) c.self.view_is)
+    c.in_err-refine-in-Out.ensures.err.1 c.in_err-refine-in-Out.ensures.err.0 c.in_err-refine-in-Out.ensures.err.2).reads ∙ ap (λ (m : Machine). reads_after m.reads m.state.table.layout.slots) c.self.view_is)
 
 -- the card is one of the heap, and does not stand in the ring
 pub would-offer-requires : goal.would-offer-requires

@@ -1,0 +1,14 @@
+use Rattle.std.proofs.Common.{◌≡◌, ◌+◌}
+use Rattle.g1_heap.specs.Cells.{reads_after}
+use Rattle.g1_core.specs.Copying.{copied}
+use Rattle.g1_core.specs.Machine.{IsLater}
+use Rattle.g1_core.proofs.CopyLemmas.{first_of}
+use Rattle.g1_core.proofs.machinery.Core.copy_slots.Given as goal
+
+abbrev pub invariant-loop-i : goal.invariant-loop-i
+invariant-loop-i l = record {
+  table : l.self.state.table ≡ copied (l.from + first_of l.upwards l.count l.i) (l.to + first_of l.upwards l.count l.i) l.i l.fn.self.state.table;
+  ring : l.self.state.ring ≡ l.fn.self.state.ring;
+  reads : l.self.reads ≡ reads_after l.fn.self.reads l.i;
+  later : IsLater l.fn.self l.self;
+}

@@ -1,0 +1,10 @@
+use Rattle.std.proofs.Common.{◌+◌, ◌<◌, ℕ, map}
+use Rattle.g1_core.specs.Machine.{IsOnlyRead}
+use Rattle.g1_core.specs.Verify.{Differs}
+use Rattle.g1_core.proofs.machinery.Core.first_differing.Given as goal
+
+abbrev pub invariant-loop-i : goal.invariant-loop-i
+invariant-loop-i g l = record {
+  none : (k : ℕ) → k < l.i → Differs l.fn.self.state.table l.first (map g.M.Reference.place l.memory) (l.first + k) → ⊥;
+  read : IsOnlyRead l.fn.self l.self;
+}

@@ -1,0 +1,10 @@
+use Rattle.std.proofs.Common.{◌+◌, ◌<◌, ℕ}
+use Rattle.g1_core.specs.Machine.{IsOnlyRead}
+use Rattle.g1_core.specs.Verify.{IsMissing}
+use Rattle.g1_core.proofs.machinery.Core.first_missing.Given as goal
+
+abbrev pub invariant-loop-i : goal.invariant-loop-i
+invariant-loop-i l = record {
+  none : (k : ℕ) → k < l.i → IsMissing l.fn.self.state.table (l.first + k) → ⊥;
+  read : IsOnlyRead l.fn.self l.self;
+}
