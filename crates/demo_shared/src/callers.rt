@@ -3,8 +3,7 @@ ghost use Rattle.std.specs.Prelude.{◌≡◌, ◌<◌, All, IfOk, vec_len};
 ghost use Rattle.g1_shared.specs.Callers.{IsCallerOf, caller_mark};
 
 use anyhow::Result;
-use g1_book::Refusal;
-use g1_shared::{Caller, Frame, Shared};
+use g1_book::{Caller, Refusal, Shared, Terms};
 use std::alloc::Global;
 use std::marker::Send;
 use std::sync::Wait;
@@ -18,7 +17,7 @@ pub type Stores = &'static [(u32, Option<u32>)];
 const ROUNDS: u32 = 20;
 
 /// Runs the callers, each in a thread of its own, and gives them back at the next pause.
-pub fn run<R: Threads + Wait + Sync, M: Frame + Send + Sync, S: Ledger + Send + Sync>(
+pub fn run<R: Threads + Wait + Sync, M: Terms + Send + Sync, S: Ledger + Send + Sync>(
     rt: &R,
     alloc: Global,
     shared: &Shared<M, S>,
@@ -47,7 +46,7 @@ pub fn run<R: Threads + Wait + Sync, M: Frame + Send + Sync, S: Ledger + Send + 
 }
 
 // Callers 0 to 2 are the mutators, and the others refine.
-fn run_one<R: Wait, M: Frame, S: Ledger>(
+fn run_one<R: Wait, M: Terms, S: Ledger>(
     rt: &R,
     shared: &Shared<M, S>,
     mut caller: Caller<M, S>,
@@ -67,7 +66,7 @@ fn run_one<R: Wait, M: Frame, S: Ledger>(
 // A mutator's stores. A full log goes into the queue, or if that is full, the mutator refines it. A
 // card that is left in its log at the end is pending by its mark until it is refined, by the
 // pause's drain at the latest.
-fn store_each<R: Wait, M: Frame, S: Ledger>(
+fn store_each<R: Wait, M: Terms, S: Ledger>(
     rt: &R,
     shared: &Shared<M, S>,
     caller: &mut Caller<M, S>,
@@ -90,7 +89,7 @@ fn store_each<R: Wait, M: Frame, S: Ledger>(
 }
 
 // The rounds of a refinement thread.
-fn refine_each<R: Wait, M: Frame, S: Ledger>(
+fn refine_each<R: Wait, M: Terms, S: Ledger>(
     rt: &R,
     shared: &Shared<M, S>,
     caller: &mut Caller<M, S>,

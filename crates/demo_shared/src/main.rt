@@ -9,17 +9,16 @@
 #![tactic(auto)]
 
 ghost use Rattle.std.specs.Prelude.{◌≡◌, []};
-ghost use Rattle.g1_book.specs.History.{terms_of};
+ghost use Rattle.g1_shared.specs.Counts.{shared_terms};
 
 mod callers;
 mod pause;
 
 use anyhow::{Context, Result, bail};
 use callers::{Stores, run};
-use g1_book::Book;
+use g1_book::{Book, Shared, Terms};
 use g1_core::{Call, Config, Settings};
 use g1_layout::Layout;
-use g1_shared::{Frame, Shared};
 use pause::evacuate;
 use std::alloc::Global;
 use std::marker::{Brand, Send};
@@ -71,7 +70,7 @@ fn count_stores(book: &Book) -> usize {
 
 // Shares a book among three mutators and two refinement threads, which run up to each of two
 // pauses. No clause can name what is under the lock, so conditions speak of `M.terms`.
-fn live<R: Threads + Wait + Sync + Print, M: Frame + Send + Sync, S: Ledger + Send + Sync>(
+fn live<R: Threads + Wait + Sync + Print, M: Terms + Send + Sync, S: Ledger + Send + Sync>(
     rt: &R,
     alloc: Global,
     made: Blank,
@@ -80,7 +79,7 @@ fn live<R: Threads + Wait + Sync + Print, M: Frame + Send + Sync, S: Ledger + Se
 ) -> Result<Book>
     requires made { (made.name ≡ M.name) × (made.parts ≡ M.parts) × (made.parts ≡ 5) }
     requires stored { (stored.name ≡ S.name) × (stored.parts ≡ S.parts) × (stored.parts ≡ 5) }
-    requires terms { terms_of book ≡ M.terms }
+    requires terms { shared_terms book ≡ M.terms }
     requires mutators { M.terms.mutators ≡ 3 }
     requires empty { book.entries ≡ [] }
 {

@@ -1,19 +1,19 @@
 //! An evacuation pause of a shared book: no caller runs, and the guard makes the calls.
 ghost use Rattle.std.specs.Prelude.{◌≡◌, ◌≢◌, ◌<◌, All, IfOk, vec_len};
-ghost use Rattle.g1_book.specs.History.{layout_in};
+ghost use Rattle.g1_history.specs.History.{layout_in};
 ghost use Rattle.g1_core.specs.Run.{IsExact};
 ghost use Rattle.g1_shared.specs.Callers.{IsCallerOf, caller_mark};
 
 use anyhow::{Context, Result, bail};
+use g1_book::{Caller, Counted, Shared, Terms};
 use g1_core::{CardList, Drained, Redirected};
 use g1_layout::Region;
-use g1_shared::{Caller, Counted, Frame, Keeper, Shared};
 use std::sync::Wait;
 use std::sync::ledger::Ledger;
 
 /// Evacuates region `from` into the empty region `to` at a pause, and gives the callers back to go
 /// on. The slots of `from` are null here; else the guard's stores would copy what they hold.
-pub fn evacuate<R: Wait + Print, M: Frame, S: Ledger>(
+pub fn evacuate<R: Wait + Print, M: Terms, S: Ledger>(
     rt: &R,
     shared: &Shared<M, S>,
     mut callers: Vec<Caller<M, S>>,
@@ -32,7 +32,7 @@ pub fn evacuate<R: Wait + Print, M: Frame, S: Ledger>(
 }
 
 // The calls of the pause, by one caller under one lock.
-fn move_region<R: Wait + Print, M: Frame, S: Ledger>(
+fn move_region<R: Wait + Print, M: Terms, S: Ledger>(
     rt: &R,
     shared: &Shared<M, S>,
     caller: &mut Caller<M, S>,
@@ -59,7 +59,7 @@ fn move_region<R: Wait + Print, M: Frame, S: Ledger>(
 }
 
 // The cards to scan. A drain by the guard has the book's clauses, so its list is exact.
-fn drain<M: Frame, S: Ledger>(
+fn drain<M: Terms, S: Ledger>(
     book: &mut Counted<M, S>,
     caller: &mut Caller<M, S>,
     region: Region,

@@ -1,25 +1,16 @@
-//! The history of a core's calls.
+//! A core's history, the steps of its callers, and a book that threads share under one lock.
 //!
-//! A [`Book`] owns a [`Core`](g1_core::machinery::Core) and makes its calls. Each call that is made
-//! becomes one [`Entry`]: the caller, the call, the reply and the cards that were refined. A call
-//! for which there is no room is refused ([`Refusal`]) and changes nothing. So the entries are
-//! always a permitted run of the plain table (references, pending cards, recorded pairs) that ends
-//! in the core's own table. What a whole drain returns is exact in terms of references and history
-//! alone (docs/PROFILE.md, The history).
+//! - A [`Book`] keeps a history of a core's calls (the crate `g1_history`).
+//! - A [`Mutator`] stores, logs and flushes, [`refine`] and [`work`] take completed buffers from
+//!   their queue, and [`run_crew`] has workers in threads do both ([`g1_steps`]).
+//! - A [`Shared`] is a book under a lock, with a [`Caller`] for each thread ([`g1_shared`]).
 //!
-//! No call of a book waits for another thread.
+//! The definitions that their contracts cite stand in these three crates.
 #![tactic(auto)]
 
-mod book;
-mod pause;
-mod queries;
-mod redirection;
-mod refinement;
-mod refusal;
-mod room;
-mod store;
-
-pub use book::Book;
-pub use g1_core::{Call, Entry, Reply};
-pub use refinement::cards_in;
-pub use refusal::Refusal;
+pub use g1_history::{Book, Call, Entry, Keeps, Kept, Refusal, Reply, Tallied, cards_in};
+pub use g1_shared::{Caller, Counted, Shared, SharedCore, SharedDesk, Terms};
+pub use g1_steps::{
+    Calls, Desk, Ends, FlushReply, Job, LentBook, LocalDesk, Mutator, NotStarted, Outcome, Script,
+    Step, empty_line, mutate, open_line, refine, refiner, run_crew, stand_still, work,
+};

@@ -1,67 +1,140 @@
 -- One call more of a counted book, by one of its callers.
-use Rattle.std.specs.Prelude.{◌≡◌, ◌<◌, ◌≤◌, ◌^◌, ◌↔◌, ℕ, ◌+◌, Bool, true, [], ◌∷◌, Option, Result, Ok, Err, false, length, count_by, cond, IfOk, OnOk, OnErr, IsSome}
+use Rattle.std.specs.Prelude.{◌≡◌, ◌<◌, ◌≤◌, ◌^◌, ◌↔◌, ℕ, ◌+◌, Bool, true, [], ◌∷◌, ◌++◌, Option, Result, Ok, Err, false, length, count_by, cond, IfOk, OnOk, OnErr, IsSome}
 use Rattle.std.specs.Result.{IsErr}
 use Rattle.std.proofs.Common.{sym, ap, ◌∙◌, subst, arith, refl, length-append}
 use Rattle.g1_log.specs.declared.ends.Taker.{Taker}
 use Rattle.g1_core.specs.declared.entry.Entry.{Entry}
-use Rattle.g1_book.specs.declared.refusal.Refusal.{Refusal}
-use Rattle.g1_book.specs.declared.refusal.Refusal.TheVariants.{BookFull}
-use Rattle.g1_book.specs.History.{History, Terms, IsHistory, IsEntered, terms_of}
+use Rattle.g1_layout.specs.Shape.{Shape}
+use Rattle.g1_core.specs.declared.entry.Call.{Call}
+use Rattle.g1_core.specs.declared.entry.Call.TheVariants.{Store, Refine, Target, Pending, Members, Status, Drain, Clear, Redirect}
+use Rattle.g1_history.specs.Asked.{IsAsked}
+use Rattle.g1_history.specs.declared.refusal.Refusal.{Refusal}
+use Rattle.g1_history.specs.declared.refusal.Refusal.TheVariants.{BookFull}
+use Rattle.g1_history.specs.History.{stores_by, History, Totals, IsKept, IsEnteredBy, IsFull, made_of, stored_of}
 use Rattle.g1_steps.specs.declared.steps.mutator.Mutator.{Mutator}
-use Rattle.g1_core.specs.Run.{IsStep}
-use Rattle.g1_core.specs.Table.{Table}
-use Rattle.g1_shared.specs.Counts.{Tally, one_call, is_store, one_store}
-use Rattle.g1_shared.specs.Totals.{CountedMachine}
+use Rattle.g1_shared.specs.Counts.{CallerCounts, SharedTerms, AreCounted, AreNone, LeadsTo, kept_terms, shared_terms, one_call, is_store, one_store}
 use Rattle.g1_shared.specs.Callers.{Standing, called_once}
+use Rattle.std.proofs.lemmas.List.Sums.{count_by-le-length, fold-append}
+use Rattle.g1_core.specs.Table.{Table}
+use Rattle.g1_core.specs.Run.{IsStep, IsAllowed, table_after}
+use Rattle.g1_core.proofs.RunLemmas.{permitted_push}
 use Rattle.g1_shared.proofs.CountLemmas.{stores_more}
 
--- What a counted book keeps.
-abbrev pub AreCounted : Terms → ℕ → ℕ → History → Type 0
-AreCounted terms made stored h = (made ≡ length h.entries) × (stored ≡ count_by is_store h.entries) × (terms_of h ≡ terms)
+pub same_counted : (keeps : Bool) (terms : SharedTerms) (made stored : ℕ) (old new : History) → AreCounted keeps terms made stored old → new ≡ old → AreCounted keeps terms made stored new
+same_counted keeps terms made stored old new was is = subst (AreCounted keeps terms made stored) (sym is) was
 
-pub same_counted : (terms : Terms) (made stored : ℕ) (old new : History) → AreCounted terms made stored old → new ≡ old → AreCounted terms made stored new
-same_counted terms made stored old new was is = subst (AreCounted terms made stored) (sym is) was
+made_more : (keeps : Bool) (old : History) (e : Entry) (new : History) → IsEnteredBy keeps old e new → made_of keeps new.entries new.totals ≡ made_of keeps old.entries old.totals + 1
+made_more true old e new h = ap (length {A = Entry}) h.entries ∙ length-append old.entries (e ∷ [])
+made_more false old e new h = ap (λ (t : Totals). t.made) h.totals
 
-entries_more : (old : History) (e : Entry) (new : History) → IsEntered old e new → length new.entries ≡ length old.entries + 1
-entries_more old e new h = ap (length {A = Entry}) h.entries ∙ length-append old.entries (e ∷ [])
+stored_more : (keeps : Bool) (old : History) (e : Entry) (new : History) → IsEnteredBy keeps old e new → stored_of keeps old.entries old.totals + cond (is_store e) 1 0 ≡ stored_of keeps new.entries new.totals
+stored_more true old e new h = stores_more old.entries new.entries e (count_by is_store old.entries) refl h.entries
+stored_more false old e new h = sym (ap (λ (t : Totals). t.stored) h.totals)
 
 plain_total : (n m : ℕ) (b : Bool) → b ≡ false → n + cond b 1 0 ≡ m → n ≡ m
 plain_total n m true plain is = absurd (cc plain)
 plain_total n m false plain is = omega (arith, is)
 
-pub call_counted : (terms : Terms) (made now stored : ℕ) (old : History) (e : Entry) (new : History) → AreCounted terms made stored old → IsEntered old e new → is_store e ≡ false → now ≡ made + 1 → AreCounted terms now stored new
-call_counted terms made now stored old e new was h plain one = (
-  one ∙ ap (λ (n : ℕ). n + 1) was.0 ∙ sym (entries_more old e new h),
-  plain_total _ _ (is_store e) plain (stores_more old.entries new.entries e stored was.1 h.entries),
+-- one call more leads on
+leads_on : (old now new : Table) (made stored : ℕ) (e : Entry) → LeadsTo old made stored now → IsStep now e new → LeadsTo old (made + 1) (stored + cond (is_store e) 1 0) new
+leads_on old now new made stored e h step = record {
+  entries = h.entries ++ e ∷ [];
+  run = permitted_push old h.entries e h.run (subst (λ (t : Table). IsAllowed t e) h.last step.allowed);
+  last = step.after ∙ ap (λ (t : Table). table_after t e) h.last ∙ sym (fold-append table_after old h.entries (e ∷ []));
+  made = length-append h.entries (e ∷ []) ∙ ap (λ (n : ℕ). n + 1) h.made;
+  stored = sym (stores_more h.entries (h.entries ++ e ∷ []) e stored (sym h.stored) refl);
+}
+
+leads_as : (old new : Table) (made now stored all : ℕ) → LeadsTo old made stored new → now ≡ made → all ≡ stored → LeadsTo old now all new
+leads_as old new made now stored all h one more = subst (λ (n : ℕ). LeadsTo old n all new) (sym one) (subst (λ (n : ℕ). LeadsTo old made n new) (sym more) h)
+
+leads_none : (old new : Table) (made stored : ℕ) → new ≡ old → made ≡ 0 → stored ≡ 0 → LeadsTo old made stored new
+leads_none old new made stored same no_call no_store = record { entries = []; run = tt; last = same; made = sym no_call; stored = sym no_store }
+
+plain_none : (n : ℕ) (b : Bool) → b ≡ false → n ≡ n + cond b 1 0
+plain_none n true plain = absurd (cc plain)
+plain_none n false plain = omega arith
+
+store_one : (n : ℕ) (b : Bool) → b ≡ true → n + 1 ≡ n + cond b 1 0
+store_one n true store = refl
+store_one n false store = absurd (cc store)
+
+pub call_counted : (keeps : Bool) (terms : SharedTerms) (made now stored : ℕ) (old : History) (e : Entry) (new : History) → AreCounted keeps terms made stored old → IsEnteredBy keeps old e new → is_store e ≡ false → now ≡ made + 1 → AreCounted keeps terms now stored new
+call_counted keeps terms made now stored old e new was h plain one = (
+  one ∙ ap (λ (n : ℕ). n + 1) was.0 ∙ sym (made_more keeps old e new h),
+  was.1 ∙ plain_total _ _ (is_store e) plain (stored_more keeps old e new h),
   h.terms ∙ was.2,
+  leads_as _ _ _ _ _ _ (leads_on _ _ _ made stored e was.3 h.step) one (plain_none stored (is_store e) plain),
 )
 
-below_word : (made n m limit : ℕ) → made ≡ n → m ≡ n + 1 → m ≤ limit → limit ≤ 1000000 → made + 1 < 2 ^ 64
-below_word made n m limit same more within high = omega arith
+pub made_raised : (keeps : Bool) (terms : SharedTerms) (made stored : ℕ) (old : History) (e : Entry) (new : History) → AreCounted keeps terms made stored old → IsEnteredBy keeps old e new → made_of keeps new.entries new.totals ≡ made + 1
+made_raised keeps terms made stored old e new was h = made_more keeps old e new h ∙ ap (λ (n : ℕ). n + 1) (sym was.0)
+
+-- what is asked is no store
+pub asked_plain : (l : Shape) (call : Call) → IsAsked l call → stores_by call ≡ false
+asked_plain l (Store slot target) asked = absurd asked
+asked_plain l Refine asked = refl
+asked_plain l (Target slot) asked = refl
+asked_plain l (Pending card) asked = refl
+asked_plain l (Members region) asked = refl
+asked_plain l Status asked = refl
+asked_plain l (Drain region) asked = refl
+asked_plain l (Clear region) asked = refl
+asked_plain l (Redirect from to) asked = refl
 
 -- a store counts in both totals
-pub store_counted : (terms : Terms) (made now stored all : ℕ) (old : History) (e : Entry) (new : History) → AreCounted terms made stored old → IsEntered old e new → is_store e ≡ true → now ≡ made + 1 → all ≡ stored + 1 → AreCounted terms now all new
-store_counted terms made now stored all old e new was h store one more = (
-  one ∙ ap (λ (n : ℕ). n + 1) was.0 ∙ sym (entries_more old e new h),
-  more ∙ ap (λ (b : Bool). stored + cond b 1 0) (sym store) ∙ stores_more old.entries new.entries e stored was.1 h.entries,
+pub store_counted : (keeps : Bool) (terms : SharedTerms) (made now stored all : ℕ) (old : History) (e : Entry) (new : History) → AreCounted keeps terms made stored old → IsEnteredBy keeps old e new → is_store e ≡ true → now ≡ made + 1 → all ≡ stored + 1 → AreCounted keeps terms now all new
+store_counted keeps terms made now stored all old e new was h store one more = (
+  one ∙ ap (λ (n : ℕ). n + 1) was.0 ∙ sym (made_more keeps old e new h),
+  more ∙ ap (λ (n : ℕ). n + 1) was.1 ∙ ap (λ (b : Bool). stored_of keeps old.entries old.totals + cond b 1 0) (sym store) ∙ stored_more keeps old e new h,
   h.terms ∙ was.2,
+  leads_as _ _ _ _ _ _ (leads_on _ _ _ made stored e was.3 h.step) one (more ∙ store_one stored (is_store e) store),
 )
 
+-- a book without calls is counted by new ledgers
+pub none_counted : (keeps : Bool) (terms : SharedTerms) (made stored : ℕ) (h : History) → AreNone keeps h → shared_terms h ≡ terms → made ≡ 0 → stored ≡ 0 → AreCounted keeps terms made stored h
+none_counted true terms made stored h none is no_call no_store =
+    (no_call ∙ sym (ap (length {A = Entry}) none), no_store ∙ sym (ap (count_by is_store) none), ap kept_terms is, leads_none _ _ made stored (ap (λ (t : SharedTerms). t.began.state.table) is) no_call no_store)
+none_counted false terms made stored h none is no_call no_store =
+    (no_call ∙ sym (ap (λ (t : Totals). t.made) none), no_store ∙ sym (ap (λ (t : Totals). t.stored) none), ap kept_terms is, leads_none _ _ made stored (ap (λ (t : SharedTerms). t.began.state.table) is) no_call no_store)
+
+pub kept_mutators : (keeps : Bool) (h : History) → IsKept keeps h → (1 ≤ h.mutators) × (h.mutators ≤ 8)
+kept_mutators true h is = (is.mutators_low, is.mutators_high)
+kept_mutators false h is = (is.mutators_low, is.mutators_high)
+
+limit_fits : (keeps : Bool) (h : History) → IsKept keeps h → (made_of keeps h.entries h.totals ≤ h.limit) × (h.limit < 2 ^ 64)
+limit_fits true h is = (is.within, omega (arith, is.limit_high))
+limit_fits false h is = (is.within, is.limit_high)
+
 -- there is room in the total for one more
-pub total_fits : (terms : Terms) (made stored : ℕ) (old new : History) (e : Entry) → AreCounted terms made stored old → IsEntered old e new → IsHistory new → made + 1 < 2 ^ 64
-total_fits terms made stored old new e was h history = below_word made (length old.entries) (length new.entries) new.limit was.0 (entries_more old e new h) history.within history.limit_high
+pub total_fits : (keeps : Bool) (terms : SharedTerms) (made stored : ℕ) (old new : History) (e : Entry) → AreCounted keeps terms made stored old → IsEnteredBy keeps old e new → IsKept keeps new → made + 1 < 2 ^ 64
+total_fits keeps terms made stored old new e was h kept =
+    let fits = limit_fits keeps new kept in
+    omega (arith, was.0, made_more keeps old e new h, fits.0, fits.1)
+
+stored_few : (keeps : Bool) (h : History) → IsKept keeps h → stored_of keeps h.entries h.totals ≤ made_of keeps h.entries h.totals
+stored_few true h is = count_by-le-length is_store h.entries
+stored_few false h is = is.stored
+
+-- and in that of the stores, of which there are no more
+pub stored_fits : (keeps : Bool) (terms : SharedTerms) (made stored : ℕ) (old new : History) (e : Entry) → AreCounted keeps terms made stored old → IsEnteredBy keeps old e new → is_store e ≡ true → IsKept keeps new → stored + 1 < 2 ^ 64
+stored_fits keeps terms made stored old new e was h store kept =
+    let fits = limit_fits keeps new kept in
+    let few = stored_few keeps new kept in
+    let more = ap (λ (b : Bool). stored_of keeps old.entries old.totals + cond b 1 0) (sym store) ∙ stored_more keeps old e new h in
+    omega (arith, was.1, more, few, fits.0, fits.1)
 
 -- the caller with one call more
-pub called : (counts new : Tally) (m : Option Mutator) (t : Taker) (now : Standing) → record { counts = counts; mutator = m; taker = t } ≡ now → new ≡ one_call counts → record { counts = new; mutator = m; taker = t } ≡ called_once now
-called counts new m t now view is = ap (λ (n : Tally). record { counts = n; mutator = m; taker = t }) is ∙ ap called_once view
+pub called : (counts new : CallerCounts) (m : Option Mutator) (t : Taker) (now : Standing) → record { counts = counts; mutator = m; taker = t } ≡ now → new ≡ one_call counts → record { counts = new; mutator = m; taker = t } ≡ called_once now
+called counts new m t now view is = ap (λ (n : CallerCounts). record { counts = n; mutator = m; taker = t }) is ∙ ap called_once view
 
 -- a full book, as it was before
-pub full_as : {X : Type 0} (r : Result X Refusal) (old now : History) → old ≡ now → ((r ≡ Err BookFull) ↔ (length old.entries ≡ old.limit)) → (r ≡ Err BookFull) ↔ (length now.entries ≡ now.limit)
-full_as r old now same h = subst (λ (b : History). (r ≡ Err BookFull) ↔ (length b.entries ≡ b.limit)) same h
+pub full_as : {X : Type 0} (keeps : Bool) (r : Result X Refusal) (old now : History) → old ≡ now → ((r ≡ Err BookFull) ↔ IsFull keeps old) → (r ≡ Err BookFull) ↔ IsFull keeps now
+full_as keeps r old now same h = subst (λ (b : History). (r ≡ Err BookFull) ↔ IsFull keeps b) same h
 
 -- who is a mutator has its log still
-pub still_some : (counts new : Tally) (m : Option Mutator) (most : ℕ) → (counts.number < most → IsSome m) → new ≡ one_call counts → new.number < most → IsSome m
-still_some counts new m most some is = subst (λ (t : Tally). t.number < most → IsSome m) (sym is) some
+pub still_some : (counts new : CallerCounts) (m : Option Mutator) (most : ℕ) → (counts.number < most → IsSome m) → new ≡ one_call counts → new.number < most → IsSome m
+still_some counts new m most some is = subst (λ (t : CallerCounts). t.number < most → IsSome m) (sym is) some
 
 -- what is said of an answer holds of a refusal
 pub if_refused : {X E : Type 0} (r : Result X E) (P : X → Type 0) → IsErr r → IfOk r P
@@ -77,13 +150,9 @@ err_refused (Ok x) old now new caller same is = tt
 err_refused (Err e) old now new caller same is = (is ∙ same, refl)
 
 -- the counts with one call or one store more
-pub call_tallied : (number made stored now : ℕ) (t : Tally) → record { number = number; made = made; stored = stored } ≡ t → now ≡ made + 1 → record { number = number; made = now; stored = stored } ≡ one_call t
-call_tallied number made stored now t view is = ap (λ (n : ℕ). record { number = number; made = n; stored = stored }) is ∙ ap one_call view
+pub call_of_caller : (number made stored now : ℕ) (t : CallerCounts) → record { number = number; made = made; stored = stored } ≡ t → now ≡ made + 1 → record { number = number; made = now; stored = stored } ≡ one_call t
+call_of_caller number made stored now t view is = ap (λ (n : ℕ). record { number = number; made = n; stored = stored }) is ∙ ap one_call view
 
-pub store_tallied : (number made stored now all : ℕ) (t : Tally) → record { number = number; made = made; stored = stored } ≡ t → now ≡ made + 1 → all ≡ stored + 1 → record { number = number; made = now; stored = all } ≡ one_store t
-store_tallied number made stored now all t view one more =
+pub store_of_caller : (number made stored now all : ℕ) (t : CallerCounts) → record { number = number; made = made; stored = stored } ≡ t → now ≡ made + 1 → all ≡ stored + 1 → record { number = number; made = now; stored = all } ≡ one_store t
+store_of_caller number made stored now all t view one more =
     ap (λ (n : ℕ). record { number = number; made = n; stored = all }) one ∙ ap (λ (n : ℕ). record { number = number; made = made + 1; stored = n }) more ∙ ap one_store view
-
--- a step of the core that was read
-pub step_as : (e : ℕ → Entry) (old now : CountedMachine) (new : Table) → old ≡ now → ((number : ℕ) → IsStep old.machine.state.table (e number) new) → (number : ℕ) → IsStep now.machine.state.table (e number) new
-step_as e old now new is h number = subst (λ (was : CountedMachine). IsStep was.machine.state.table (e number) new) is (h number)

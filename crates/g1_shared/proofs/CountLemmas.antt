@@ -9,12 +9,12 @@ use Rattle.g1_log.specs.declared.ends.Taker.{Taker}
 use Rattle.g1_log.specs.Ends.{taken_of}
 use Rattle.g1_core.specs.declared.reply.RefineReply.{RefineReply}
 use Rattle.g1_core.specs.declared.entry.Entry.{Entry}
-use Rattle.g1_book.specs.declared.refusal.Refusal.{Refusal}
+use Rattle.g1_history.specs.declared.refusal.Refusal.{Refusal}
 use Rattle.g1_steps.specs.Made.{CallMade, Refused}
 use Rattle.g1_steps.specs.Steps.{GainsAtMost, IsTake, IsRefinement}
 use Rattle.g1_steps.proofs.StepLemmas.{gains_nothing, gains_single}
 use Rattle.g1_steps.specs.Rounds.{Turn, turn_call, round_calls, round_size, IsRound}
-use Rattle.g1_shared.specs.Counts.{Tally, one_call, tally_after, tally_after_then, CountsDid, is_store}
+use Rattle.g1_shared.specs.Counts.{CallerCounts, one_call, counts_after, counts_after_then, CountsDid, is_store}
 use Rattle.g1_shared.specs.Callers.{MakesFor}
 
 -- how many stores there are with one entry more
@@ -22,18 +22,18 @@ pub stores_more : (es now : List Entry) (e : Entry) (n : ℕ) → n ≡ count_by
 stores_more es now e n was is = let all = sum_by-append (λ x. cond (is_store x) 1 0) es (e ∷ []) in omega (arith, was, all, ap (count_by is_store) is)
 
 -- each call of a round counts once, and none is a store
-pub record IsWorked (t : Tally) (calls : ℕ) (u : Tally) : Type 0 where
+pub record IsWorked (t : CallerCounts) (calls : ℕ) (u : CallerCounts) : Type 0 where
   pub number : u.number ≡ t.number
   pub made : u.made ≡ t.made + calls
   pub stored : u.stored ≡ t.stored
 
-turns_counted : (t : Tally) (turns : List Turn) → IsWorked t (length turns) (tally_after t (map turn_call turns))
+turns_counted : (t : CallerCounts) (turns : List Turn) → IsWorked t (length turns) (counts_after t (map turn_call turns))
 turns_counted t [] = record { number = refl; made = omega arith; stored = refl }
 turns_counted t (x ∷ xs) = let rest = turns_counted (one_call t) xs in record { number = rest.number; made = omega (arith, rest.made); stored = rest.stored }
 
-pub round_counted : (t : Tally) (turns : List Turn) (refused : Option Refusal) → IsWorked t (length turns) (tally_after t (round_calls turns refused))
+pub round_counted : (t : CallerCounts) (turns : List Turn) (refused : Option Refusal) → IsWorked t (length turns) (counts_after t (round_calls turns refused))
 round_counted t turns None = turns_counted t turns
-round_counted t turns (Some refusal) = subst (IsWorked t (length turns)) (tally_after_then t (map turn_call turns) (Refused refusal ∷ [])) (turns_counted t turns)
+round_counted t turns (Some refusal) = subst (IsWorked t (length turns)) (counts_after_then t (map turn_call turns) (Refused refusal ∷ [])) (turns_counted t turns)
 
 size_by : (less : Bool) (start seen : ℕ) → (if less then 0 else seen - start / 4) ≤ seen
 size_by true start seen = omega arith
@@ -52,6 +52,7 @@ round_as did tells old new was now before most reply after told h = record {
   ends = h.ends;
   taken = h.taken;
   kept = h.kept;
+  cause = h.cause;
   sums = h.sums;
   order = h.order;
   few = h.few;
@@ -61,14 +62,14 @@ round_as did tells old new was now before most reply after told h = record {
 }
 
 -- a round makes no more entries than its taker gains parcels
-pub round_makes : (layout : Shape) (t : Tally) (before : List Parcel) (most : ℕ) (reply : RefineReply) (after : List Parcel) (u : Tally) → IsRound (CountsDid layout) t before most reply after u → MakesFor t.made before u.made after
+pub round_makes : (layout : Shape) (t : CallerCounts) (before : List Parcel) (most : ℕ) (reply : RefineReply) (after : List Parcel) (u : CallerCounts) → IsRound (CountsDid layout) t before most reply after u → MakesFor t.made before u.made after
 round_makes layout t before most reply after u h =
     let all = map (λ (x : Turn). x.parcel) h.turns in
     let worked = round_counted t h.turns h.refused in
     record {
       parcels = all ++ h.taken.parcels;
       gained = h.taken.gained ∙ append_assoc before all h.taken.parcels;
-      within = omega (arith, ap (λ (c : Tally). c.made) h.made.0, worked.made, length-append all h.taken.parcels, length-map h.turns (λ (x : Turn). x.parcel));
+      within = omega (arith, ap (λ (c : CallerCounts). c.made) h.made.0, worked.made, length-append all h.taken.parcels, length-map h.turns (λ (x : Turn). x.parcel));
     }
 
 -- where none was made, its taker may have gained parcels or not

@@ -1,21 +1,22 @@
 -- What is known of the kind of a store under a lock.
-use Rattle.std.proofs.Common.{◌≡◌, ℕ, List, ◌∷◌, Option, Some, None, refl, sym, ap, subst, ◌∙◌}
+use Rattle.std.proofs.Common.{◌≡◌, ℕ, Bool, List, ◌∷◌, Option, Some, None, refl, sym, ap, subst, ◌∙◌}
 use Rattle.std.specs.Prelude.{Result, Ok, Err, IfOk}
 use Rattle.g1_layout.specs.Shape.{Shape}
 use Rattle.g1_layout.specs.declared.kind.Kind.{Kind}
 use Rattle.g1_core.specs.declared.reply.StoreReply.{StoreReply}
 use Rattle.g1_core.specs.Run.{kind_of}
-use Rattle.g1_book.specs.declared.refusal.Refusal.{Refusal}
-use Rattle.g1_book.specs.History.{History, Terms, table_in}
+use Rattle.g1_history.specs.declared.refusal.Refusal.{Refusal}
+use Rattle.g1_history.specs.History.{History, Terms, table_in}
+use Rattle.g1_shared.specs.Counts.{SharedTerms}
 use Rattle.g1_steps.specs.Made.{CallMade, Stored}
 use Rattle.g1_steps.specs.Steps.{Help, IsStored, help_calls, store_answer}
 use Rattle.g1_shared.specs.Answers.{IsKindAt, AreAnswersAt}
-use Rattle.g1_shared.proofs.CallLemmas.{AreCounted}
+use Rattle.g1_shared.specs.Counts.{AreCounted}
 
 -- the kind of a store at a counted book
-pub kind_at : (terms : Terms) (made stored : ℕ) (h : History) (slot : ℕ) (target : Option ℕ) (kind : Kind)
-    → AreCounted terms made stored h → kind ≡ kind_of (table_in h) slot target → IsKindAt terms.layout slot target kind
-kind_at terms made stored h slot target kind was is = (table_in h, ap (λ (t : Terms). t.layout) was.2, is)
+pub kind_at : (keeps : Bool) (terms : SharedTerms) (made stored : ℕ) (h : History) (slot : ℕ) (target : Option ℕ) (kind : Kind)
+    → AreCounted keeps terms made stored h → kind ≡ kind_of (table_in h) slot target → IsKindAt terms.layout slot target kind
+kind_at keeps terms made stored h slot target kind was is = (table_in h, ap (λ (t : Terms). t.layout) was.2, is)
 
 answer_kind : (first : StoreReply) (help : Help) → (store_answer first help).kind ≡ first.kind
 answer_kind first None = refl

@@ -2,21 +2,20 @@
 use Rattle.std.specs.Prelude.{◌≡◌, ℕ, ◌+◌, ◌<◌, ◌≤◌, ◌⊎◌, Bool, true, false, List, [], ◌∷◌, ◌++◌}
 use Rattle.std.specs.Prelude.{length, Option, Some, None, IfSome, IsSome, Result, OnOk, OnErr}
 use Rattle.g1_layout.specs.Shape.{Shape}
-use Rattle.g1_layout.specs.declared.kind.Kind.{Kind}
 use Rattle.g1_log.specs.declared.line.Line.{Line}
 use Rattle.g1_log.specs.declared.ends.Taker.{Taker}
 use Rattle.g1_log.specs.declared.buffer.Buffer.{Buffer}
 use Rattle.g1_log.specs.declared.parcel.Parcel.{Parcel}
 use Rattle.g1_log.specs.Log.{Cards}
 use Rattle.g1_log.specs.Ends.{line_home, capacity_of, put_of, taken_of}
-use Rattle.g1_core.specs.Barrier.{logged, buffer_of}
+use Rattle.g1_core.specs.declared.reply.StoreReply.{StoreReply}
+use Rattle.g1_core.specs.Does.{IsLent}
 use Rattle.g1_core.specs.declared.reply.RefineReply.{RefineReply}
 use Rattle.g1_core.specs.declared.reply.Fill.{Fill}
 use Rattle.g1_core.specs.declared.reply.Fill.TheVariants.{No, Full, Helped}
 use Rattle.g1_steps.specs.declared.steps.mutator.Mutator.{Mutator}
-use Rattle.g1_book.specs.History.{Terms}
-use Rattle.g1_book.specs.declared.refusal.Refusal.{Refusal}
-use Rattle.g1_shared.specs.Counts.{Tally, one_call, CountsDid}
+use Rattle.g1_history.specs.declared.refusal.Refusal.{Refusal}
+use Rattle.g1_shared.specs.Counts.{CallerCounts, SharedTerms, one_call, CountsDid}
 use Rattle.g1_steps.specs.Steps.{IsRefinement}
 use Rattle.g1_steps.specs.Rounds.{IsRound, round_size}
 use Rattle.g1_steps.specs.Opening.{IsNewMutator}
@@ -24,7 +23,7 @@ use Rattle.g1_steps.specs.Marks.{MutatorMark, TakerMark, mutator_mark, taker_mar
 
 -- A caller: its counts, its log and sender where it is a mutator, and its taker.
 pub record Standing : Type 0 where
-  pub counts : Tally
+  pub counts : CallerCounts
   pub mutator : Option Mutator
   pub taker : Taker
 
@@ -104,7 +103,7 @@ IsRefinementAt layout c reply d =
 
 -- A round of a caller at a line, on these terms: its counts tell of the calls, and the replies are
 -- those of the buffers.
-abbrev pub IsRoundAt : Terms → Line → Standing → RefineReply → Standing → Type 0
+abbrev pub IsRoundAt : SharedTerms → Line → Standing → RefineReply → Standing → Type 0
 IsRoundAt terms line c reply d =
     (seen : ℕ) × (seen ≤ capacity_of line)
     × IsRound (CountsDid terms.layout) c.counts (taken_list c)
@@ -140,12 +139,12 @@ called_once c = record { counts = one_call c.counts; mutator = c.mutator; taker 
 abbrev pub CallsOnce : {X : Type 0} → Standing → Result X Refusal → Standing → Type 0
 CallsOnce old result new = OnOk result (new ≡ called_once old) × OnErr result (new ≡ old)
 
--- What a store of this kind and card does to a mutator's log, and the buffer that it hands out.
-abbrev pub HandsOutOf : Option Mutator → Kind → ℕ → Option Buffer → Option Mutator → Type 0
-HandsOutOf (Some m) kind card buffer (Some n) =
-    (n.log ≡ logged kind m.log card) × (n.sender ≡ m.sender) × (buffer ≡ buffer_of kind m.log card)
-HandsOutOf _ kind card buffer _ = ⊥
+-- What a store of this card does to a mutator, and the buffer that its log hands out.
+abbrev pub HandsOutOf : Option Mutator → ℕ → StoreReply → Option Buffer → Option Mutator → Type 0
+HandsOutOf (Some m) card reply buffer (Some n) =
+    IsLent card reply m.log n.log buffer × (n.sender ≡ m.sender)
+HandsOutOf _ card reply buffer _ = ⊥
 
-abbrev pub HandsOut : Standing → Kind → ℕ → Option Buffer → Standing → Type 0
-HandsOut c kind card buffer d =
-    HandsOutOf c.mutator kind card buffer d.mutator × (d.taker ≡ c.taker)
+abbrev pub HandsOut : Standing → ℕ → StoreReply → Option Buffer → Standing → Type 0
+HandsOut c card reply buffer d =
+    HandsOutOf c.mutator card reply buffer d.mutator × (d.taker ≡ c.taker)

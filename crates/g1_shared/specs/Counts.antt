@@ -1,61 +1,111 @@
 -- What is counted of a caller: its entries, and the stores among them.
 use Rattle.std.specs.Prelude.{◌≡◌, ℕ, ◌+◌, Bool, true, false, List, [], ◌∷◌, ◌++◌, refl}
+use Rattle.std.specs.Prelude.{length, count_by, fold}
 use Rattle.std.specs.Coded.{Coded, code_by, coded×, coded_ℕ}
 use Rattle.g1_layout.specs.Shape.{Shape}
+use Rattle.g1_core.specs.declared.config.Settings.{Settings}
 use Rattle.g1_core.specs.declared.entry.Entry.{Entry}
-use Rattle.g1_core.specs.declared.entry.Call.{Call}
-use Rattle.g1_core.specs.declared.entry.Call.TheVariants.{Store}
+use Rattle.g1_core.specs.Machine.{Machine}
+use Rattle.g1_core.specs.Run.{IsPermitted, table_after}
+use Rattle.g1_core.specs.Table.{Table}
+use Rattle.g1_history.specs.History as book
+use Rattle.g1_history.specs.History.{History, Terms, made_of, stored_of, terms_of, table_in}
+use Rattle.g1_history.specs.History.{layout_in}
 use Rattle.g1_steps.specs.Made.{CallMade, Stored, Refined, Refused}
 use Rattle.g1_shared.specs.Answers.{AreAnswersAt}
 
-abbrev pub stores_by : Call → Bool
-stores_by (Store slot target) = true
-stores_by _ = false
-
 -- whether an entry is that of a store
 abbrev pub is_store : Entry → Bool
-is_store e = stores_by e.call
+is_store e = book.is_store e
+
+-- On what terms a book is shared: those that it keeps, and the machine that it begins with.
+pub record SharedTerms : Type 0 where
+  pub layout : Shape
+  pub settings : Settings
+  pub mutators : ℕ
+  pub limit : ℕ
+  pub began : Machine
+
+abbrev pub shared_terms : History → SharedTerms
+shared_terms h = record {
+  layout = layout_in h;
+  settings = h.machine.settings;
+  mutators = h.mutators;
+  limit = h.limit;
+  began = h.machine;
+}
+
+abbrev pub kept_terms : SharedTerms → Terms
+kept_terms t = record {
+  layout = t.layout;
+  settings = t.settings;
+  mutators = t.mutators;
+  limit = t.limit;
+}
+
+-- A permitted run of so many calls, of which so many are stores, leads from the one table to the
+-- other.
+pub record LeadsTo (old : Table) (calls stores : ℕ) (new : Table) : Type 0 where
+  pub entries : List Entry
+  pub run : IsPermitted old entries
+  pub last : new ≡ fold table_after old entries
+  pub made : length entries ≡ calls
+  pub stored : count_by is_store entries ≡ stores
+
+-- What a counted book keeps: the totals of its ledgers are those of the book, on these terms, and
+-- so many calls led to its table.
+abbrev pub AreCounted : Bool → SharedTerms → ℕ → ℕ → History → Type 0
+AreCounted keeps terms made stored h =
+    (made ≡ made_of keeps h.entries h.totals) × (stored ≡ stored_of keeps h.entries h.totals)
+    × (terms_of h ≡ kept_terms terms)
+    × LeadsTo terms.began.state.table made stored (table_in h)
+
+-- no call was made
+abbrev pub AreNone : Bool → History → Type 0
+AreNone true h = h.entries ≡ []
+AreNone false h = h.totals ≡ record { made = 0; stored = 0 }
 
 -- a caller's number, how many of its calls were entered, and how many of these are stores
-pub record Tally : Type 0 where
+pub record CallerCounts : Type 0 where
   pub number : ℕ
   pub made : ℕ
   pub stored : ℕ
 
--- a tally is stored as the tuple of its fields
-abbrev pub tally_code : Coded Tally
-tally_code =
+-- it is stored as the tuple of its fields
+abbrev pub counts_code : Coded CallerCounts
+counts_code =
     code_by (ℕ × (ℕ × ℕ)) (coded× coded_ℕ (coded× coded_ℕ coded_ℕ))
     (λ t. (t.number, (t.made, t.stored)))
     (λ p. record { number = p.0; made = p.1.0; stored = p.1.1 }) (λ _. refl)
 
 -- one entry more, which is no store, or is one
-abbrev pub one_call : Tally → Tally
+abbrev pub one_call : CallerCounts → CallerCounts
 one_call t = record { number = t.number; made = t.made + 1; stored = t.stored }
 
-abbrev pub one_store : Tally → Tally
+abbrev pub one_store : CallerCounts → CallerCounts
 one_store t = record { number = t.number; made = t.made + 1; stored = t.stored + 1 }
 
--- the tally after these calls: a refused one is no entry
-abbrev pub tally_after : Tally → List CallMade → Tally
-tally_after t [] = t
-tally_after t (Stored slot target reply ∷ ms) = tally_after (one_store t) ms
-tally_after t (Refined buffer reply ∷ ms) = tally_after (one_call t) ms
-tally_after t (Refused refusal ∷ ms) = tally_after t ms
+-- the counts after these calls: a refused one is no entry
+abbrev pub counts_after : CallerCounts → List CallMade → CallerCounts
+counts_after t [] = t
+counts_after t (Stored slot target reply ∷ ms) = counts_after (one_store t) ms
+counts_after t (Refined buffer reply ∷ ms) = counts_after (one_call t) ms
+counts_after t (Refused refusal ∷ ms) = counts_after t ms
 
 -- the counts tell of the calls that were made, and the heap which answers these can have
-abbrev pub CountsDid : Shape → Tally → List CallMade → Tally → Type 0
-CountsDid layout t calls u = (u ≡ tally_after t calls) × AreAnswersAt layout calls
+abbrev pub CountsDid : Shape → CallerCounts → List CallMade → CallerCounts → Type 0
+CountsDid layout t calls u = (u ≡ counts_after t calls) × AreAnswersAt layout calls
 
-pub tally_after_then : (t : Tally) (xs ys : List CallMade)
-    → tally_after (tally_after t xs) ys ≡ tally_after t (xs ++ ys)
-tally_after_then t [] ys = refl
-tally_after_then t (Stored slot target reply ∷ xs) ys = tally_after_then (one_store t) xs ys
-tally_after_then t (Refined buffer reply ∷ xs) ys = tally_after_then (one_call t) xs ys
-tally_after_then t (Refused refusal ∷ xs) ys = tally_after_then t xs ys
+pub counts_after_then : (t : CallerCounts) (xs ys : List CallMade)
+    → counts_after (counts_after t xs) ys ≡ counts_after t (xs ++ ys)
+counts_after_then t [] ys = refl
+counts_after_then t (Stored slot target reply ∷ xs) ys = counts_after_then (one_store t) xs ys
+counts_after_then t (Refined buffer reply ∷ xs) ys = counts_after_then (one_call t) xs ys
+counts_after_then t (Refused refusal ∷ xs) ys = counts_after_then t xs ys
 
-pub tally_after_number : (t : Tally) (ms : List CallMade) → (tally_after t ms).number ≡ t.number
-tally_after_number t [] = refl
-tally_after_number t (Stored slot target reply ∷ ms) = tally_after_number (one_store t) ms
-tally_after_number t (Refined buffer reply ∷ ms) = tally_after_number (one_call t) ms
-tally_after_number t (Refused refusal ∷ ms) = tally_after_number t ms
+pub counts_after_number : (t : CallerCounts) (ms : List CallMade)
+    → (counts_after t ms).number ≡ t.number
+counts_after_number t [] = refl
+counts_after_number t (Stored slot target reply ∷ ms) = counts_after_number (one_store t) ms
+counts_after_number t (Refined buffer reply ∷ ms) = counts_after_number (one_call t) ms
+counts_after_number t (Refused refusal ∷ ms) = counts_after_number t ms

@@ -2,4 +2,4 @@ pub mod Answers
 pub mod Callers
 pub mod Counts
 pub mod Did
-pub mod Totals
+pub mod Stores

@@ -1,7 +1,7 @@
 //! The callers of a shared book or core.
 ghost use Rattle.std.specs.Prelude.{◌≡◌};
 
-use crate::ledgers::Frame;
+use crate::ledgers::Terms;
 use g1_log::Taker;
 use g1_steps::Mutator;
 use std::marker::Model;
@@ -10,7 +10,7 @@ use std::sync::ledger::{Ledger, Share};
 /// A caller's number, how many of its calls were entered and how many of these are stores, with its
 /// shares of both totals.
 #[derive(Drop)]
-pub struct Counts<M: Frame, S: Ledger> {
+pub struct CallerCounts<M: Terms, S: Ledger> {
     number: u32,
     pub(crate) made: u64,
     pub(crate) stored: u64,
@@ -18,13 +18,13 @@ pub struct Counts<M: Frame, S: Ledger> {
     pub(crate) stored_share: Share<S>,
 }
 
-impl<M: Frame, S: Ledger> Model for Counts<M, S> {
+impl<M: Terms, S: Ledger> Model for CallerCounts<M, S> {
     ghost use Rattle.std.specs.Prelude.{◌≡◌};
-    ghost use Rattle.g1_shared.specs.Counts.{Tally, tally_code};
+    ghost use Rattle.g1_shared.specs.Counts.{CallerCounts as C, counts_code};
 
-    ghost Value = { Tally };
+    ghost Value = { C };
 
-    ghost coded = { tally_code };
+    ghost coded = { counts_code };
 
     ghost view = { λ c. record { number = c.number; made = c.made; stored = c.stored } };
 
@@ -32,16 +32,20 @@ impl<M: Frame, S: Ledger> Model for Counts<M, S> {
         × (c.stored_share.parts ≡ 1) × (c.stored_share.amount ≡ c.stored) };
 }
 
-impl<M: Frame, S: Ledger> Counts<M, S> {
-    ghost use Rattle.g1_shared.specs.Counts.{Tally};
+impl<M: Terms, S: Ledger> CallerCounts<M, S> {
+    ghost use Rattle.g1_shared.specs.Counts.{CallerCounts as C};
 
     /// No call yet, with a part of each ledger.
-    pub(crate) fn new(number: u32, made_share: Share<M>, stored_share: Share<S>) -> Counts<M, S>
+    pub(crate) fn new(
+        number: u32,
+        made_share: Share<M>,
+        stored_share: Share<S>,
+    ) -> CallerCounts<M, S>
         requires made { (made_share.parts ≡ 1) × (made_share.amount ≡ 0) }
         requires stored { (stored_share.parts ≡ 1) × (stored_share.amount ≡ 0) }
-        ensures { let t : Tally = record { number = number; made = 0; stored = 0 } in result ≡ t }
+        ensures { let t : C = record { number = number; made = 0; stored = 0 } in result ≡ t }
     {
-        Counts {
+        CallerCounts {
             number,
             made: 0,
             stored: 0,
@@ -62,7 +66,7 @@ impl<M: Frame, S: Ledger> Counts<M, S> {
         ensures made { (result.0.parts ≡ 1) × (result.0.amount ≡ self.made) }
         ensures stored { (result.1.parts ≡ 1) × (result.1.amount ≡ self.stored) }
     {
-        let Counts {
+        let CallerCounts {
             number: _,
             made: _,
             stored: _,
@@ -79,13 +83,13 @@ impl<M: Frame, S: Ledger> Counts<M, S> {
 /// It belongs to one thread at a time, and each call borrows it. A caller is used with the
 /// `Shared` that made it.
 #[derive(Drop)]
-pub struct Caller<M: Frame, S: Ledger> {
-    pub(crate) counts: Counts<M, S>,
+pub struct Caller<M: Terms, S: Ledger> {
+    pub(crate) counts: CallerCounts<M, S>,
     pub(crate) mutator: Option<Mutator>,
     pub(crate) taker: Taker,
 }
 
-impl<M: Frame, S: Ledger> Model for Caller<M, S> {
+impl<M: Terms, S: Ledger> Model for Caller<M, S> {
     ghost use Rattle.std.specs.Prelude.{◌<◌, IsSome};
     ghost use Rattle.g1_shared.specs.Callers.{Standing};
 
@@ -96,7 +100,7 @@ impl<M: Frame, S: Ledger> Model for Caller<M, S> {
     ghost invariant = { λ c. c.counts.number < M.terms.mutators → IsSome c.mutator };
 }
 
-impl<M: Frame, S: Ledger> Caller<M, S> {
+impl<M: Terms, S: Ledger> Caller<M, S> {
     /// The caller's number. If it is below the count of mutators, the caller is a mutator, which
     /// may store and flush. Constant time.
     pub fn number(&self) -> u32

@@ -3,29 +3,24 @@
 //! A [`Shared`] keeps a book under its lock with the totals of its calls and of its stores
 //! ([`Counted`]), and the queue of completed buffers beside it. Each [`Caller`] makes its calls
 //! from a thread of its own, and counts them. Once all callers are handed in, the book is returned
-//! with as many entries as they have made (docs/PROFILE.md, The history under a lock). A
-//! [`SharedCore`] is the same over a core that keeps only the totals ([`CountedCore`]).
+//! with as many entries as they have made (docs/rules.md, The history under a lock). A
+//! [`SharedCore`] is the same over a book that keeps only the totals.
 //!
 //! No clause can name what is under the lock. So a ledger has the terms of the book or core
-//! ([`Frame`]), and the conditions of its calls speak of these. A [`SharedDesk`] says of its calls
+//! ([`Terms`]), and the conditions of its calls speak of these. A [`SharedDesk`] says of its calls
 //! what the counts of its caller say.
 #![tactic(auto)]
 
 mod caller;
 mod counted;
-mod counted_core;
 mod ledgers;
-mod lending;
 mod lock;
 mod locked_calls;
 mod shared;
 mod shared_desk;
-mod totals;
 
 pub use caller::Caller;
 pub use counted::Counted;
-pub use counted_core::CountedCore;
-pub use ledgers::Frame;
-pub use shared::{Keeper, Shared, SharedCore};
+pub use ledgers::Terms;
+pub use shared::{Shared, SharedCore};
 pub use shared_desk::SharedDesk;
-pub use totals::Totals;

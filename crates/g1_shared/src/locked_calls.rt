@@ -1,15 +1,15 @@
 //! The calls of one caller at a book or core under a lock.
 ghost use Rattle.std.specs.Prelude.{◌≡◌, refl, nat_lt};
 ghost use Rattle.std.proofs.Common.{◌∙◌, ap};
-ghost use Rattle.g1_shared.specs.Counts.{tally_after, tally_after_then, tally_after_number};
+ghost use Rattle.g1_shared.specs.Counts.{counts_after, counts_after_then, counts_after_number};
 ghost use Rattle.g1_shared.specs.Answers.{AreAnswersAt, answers_then};
 
-use crate::caller::Counts;
-use crate::ledgers::Frame;
+use crate::caller::CallerCounts;
+use crate::counted::Counted;
+use crate::ledgers::Terms;
 use crate::lock::Lock;
-use crate::shared::Keeper;
-use g1_book::Refusal;
 use g1_core::{RefineReply, StoreReply};
+use g1_history::{Keeps, Refusal};
 use g1_layout::Slot;
 use g1_log::{Buffer, Log};
 use g1_steps::Calls;
@@ -20,23 +20,23 @@ use std::sync::ledger::Ledger;
 /// A counted book or core under its lock, which each call takes and leaves, and the counts of the
 /// caller.
 ///
-/// Only the counts say anything of the calls that were made, and their answers what slot and
-/// target, or the buffer, tell: no clause can say what was under the lock at that moment.
+/// A clause cannot name what is under the lock, so these calls promise only the caller's counts and
+/// what follows from the arguments.
 #[derive(Drop)]
-pub(crate) struct LockedCalls<'a, R, M: Frame, S: Ledger, K: Keeper<M, S>> {
+pub(crate) struct LockedCalls<'a, R, M: Terms, S: Ledger, H: Keeps> {
     pub(crate) rt: &'a R,
-    pub(crate) counted: &'a Lock<K>,
-    pub(crate) counts: &'a mut Counts<M, S>,
+    pub(crate) counted: &'a Lock<Counted<M, S, H>>,
+    pub(crate) counts: &'a mut CallerCounts<M, S>,
     pub(crate) alloc: Global,
 }
 
-impl<'a, R: Wait, M: Frame, S: Ledger, K: Keeper<M, S>> Calls for LockedCalls<'a, R, M, S, K> {
+impl<'a, R: Wait, M: Terms, S: Ledger, H: Keeps> Calls for LockedCalls<'a, R, M, S, H> {
     ghost layout = { λ s. M.terms.layout };
 
     ghost may_store = { λ s. nat_lt s.counts.now.number M.terms.mutators };
 
     ghost did = { λ s ms t. (t.counts.ghost_name ≡ s.counts.ghost_name)
-        × (t.counts.now ≡ tally_after s.counts.now ms)
+        × (t.counts.now ≡ counts_after s.counts.now ms)
         × AreAnswersAt M.terms.layout ms };
 
     #[inline(always)]
@@ -64,13 +64,13 @@ impl<'a, R: Wait, M: Frame, S: Ledger, K: Keeper<M, S>> Calls for LockedCalls<'a
 
     ghost then = { λ s t u xs ys h k. (
       k.0 ∙ h.0,
-      k.1 ∙ ap (λ n. tally_after n ys) h.1 ∙ tally_after_then s.counts.now xs ys,
+      k.1 ∙ ap (λ n. counts_after n ys) h.1 ∙ counts_after_then s.counts.now xs ys,
       answers_then M.terms.layout xs ys h.2 k.2,
     ) };
 
     ghost stays = { λ s t ms h. (
       refl,
       ap (λ n. nat_lt n M.terms.mutators)
-          (ap (λ t. t.number) h.1 ∙ tally_after_number s.counts.now ms),
+          (ap (λ t. t.number) h.1 ∙ counts_after_number s.counts.now ms),
     ) };
 }

@@ -10,11 +10,10 @@ ghost use Rattle.g1_shared.specs.Answers.{IsKindAt};
 ghost use Rattle.g1_shared.specs.Did.{DeskDid, caller_did_none, desk_did_then};
 
 use crate::caller::Caller;
-use crate::counted::Counted;
-use crate::ledgers::Frame;
-use crate::shared::{Keeper, Shared};
-use g1_book::Refusal;
+use crate::ledgers::Terms;
+use crate::shared::Shared;
 use g1_core::{RefineReply, StoreReply};
+use g1_history::{Keeps, Kept, Refusal};
 use g1_layout::Slot;
 use g1_steps::{Desk, FlushReply};
 use std::sync::Wait;
@@ -25,20 +24,20 @@ use std::sync::ledger::Ledger;
 /// Its calls are those of [`Shared`]. Of the calls that were made, only what the caller's counts
 /// say is known.
 #[derive(Drop)]
-pub struct SharedDesk<'a, R, M: Frame, S: Ledger, K: Keeper<M, S> = Counted<M, S>> {
+pub struct SharedDesk<'a, R, M: Terms, S: Ledger, H: Keeps = Kept> {
     rt: &'a R,
-    shared: &'a Shared<M, S, K>,
+    shared: &'a Shared<M, S, H>,
     caller: Caller<M, S>,
     ghost of: { IsCallerOf shared.now caller } by { Prim.hlevel props },
 }
 
-impl<'a, R, M: Frame, S: Ledger, K: Keeper<M, S>> SharedDesk<'a, R, M, S, K> {
+impl<'a, R, M: Terms, S: Ledger, H: Keeps> SharedDesk<'a, R, M, S, H> {
     /// Returns a desk of this caller at the book or core that made it.
     pub fn new(
         rt: &'a R,
-        shared: &'a Shared<M, S, K>,
+        shared: &'a Shared<M, S, H>,
         caller: Caller<M, S>,
-    ) -> SharedDesk<'a, R, M, S, K>
+    ) -> SharedDesk<'a, R, M, S, H>
         requires { IsCallerOf shared.now caller }
         ensures caller { result.caller ≡ caller }
         ensures shared { result.shared.now ≡ shared.now }
@@ -61,7 +60,7 @@ impl<'a, R, M: Frame, S: Ledger, K: Keeper<M, S>> SharedDesk<'a, R, M, S, K> {
 }
 
 #[tactic(auto, using(crate::proofs::CountLemmas::makes_none, crate::proofs::CountLemmas::makes_lost))]
-impl<'a, R: Wait, M: Frame, S: Ledger, K: Keeper<M, S>> Desk for SharedDesk<'a, R, M, S, K> {
+impl<'a, R: Wait, M: Terms, S: Ledger, H: Keeps> Desk for SharedDesk<'a, R, M, S, H> {
     ghost did = { λ s asks t. DeskDid (capacity_of s.shared.now) s.caller asks
         (capacity_of t.shared.now) t.caller };
 

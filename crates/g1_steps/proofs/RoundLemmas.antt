@@ -1,6 +1,6 @@
 -- A round of refinements, call after call.
 use Rattle.std.proofs.Common.{◌≡◌, ◌+◌, ◌<◌, ◌≤◌, ◌⊎◌, inl, inr, ℕ, suc, Bool, true, false, not, List, [], ◌∷◌, ◌++◌, length, map, refl, sym, subst, ap, ◌∙◌, arith, append_assoc, append-nil, length-append, Option, Some, None}
-use Rattle.std.specs.Prelude.{All}
+use Rattle.std.specs.Prelude.{All, IsSome, IsNone}
 use Rattle.std.specs.List.{flat_map}
 use Rattle.std.proofs.lemmas.List.{map-append}
 use Rattle.std.proofs.lemmas.List.Sums.{sum_by-append}
@@ -8,7 +8,7 @@ use Rattle.std.proofs.lemmas.List.Elements.{All-nil, All-push}
 use Rattle.std.proofs.lemmas.Grind.{flat_map-append}
 use Rattle.g1_log.specs.declared.parcel.Parcel.{Parcel}
 use Rattle.g1_core.specs.declared.reply.RefineReply.{RefineReply}
-use Rattle.g1_book.specs.declared.refusal.Refusal.{Refusal}
+use Rattle.g1_history.specs.declared.refusal.Refusal.{Refusal}
 use Rattle.g1_steps.specs.Made.{CallMade, Refused}
 use Rattle.g1_steps.specs.Steps.{GainsAtMost, FoundEmpty}
 use Rattle.g1_steps.specs.Rounds.{Turn, turn_call, round_calls, IsRound, IsSumOf, IsRefused, replies_of, parcels_of, AreWholeButLast, Progress, IsNextOf, sums_with}
@@ -118,6 +118,7 @@ round_stops did old before calls most p h few ends = record {
   ends = λ some. cc some;
   taken = gains_nothing (before ++ parcels_of h.turns) p.taken h.taken;
   kept = λ _. h.taken;
+  cause = λ short. absurd (cc (short, h.short));
   sums = h.sums;
   order = whole_all (replies_of h.turns) h.whole;
   few = h.few;
@@ -143,6 +144,7 @@ round_ends did then old before calls most mid new more h less ends (inl call) =
       ends = λ some. cc some;
       taken = gains_nothing (before ++ parcels_of (h.turns ++ t ∷ [])) new.taken taken;
       kept = λ _. taken;
+      cause = λ _. inl (record { front = h.turns; last = t; turns_are = refl; short = short });
       sums = subst (IsSumOf (replies_of (h.turns ++ t ∷ []))) (sym call.sum) (sums_turn h.turns mid.sum t h.sums h.whole);
       order = subst AreWholeButLast (replies_more h.turns t) (whole_but_last (replies_of h.turns) t.reply h.whole);
       few = omega (arith, h.few, call.one, ap (λ (q : RefineReply). q.taken) call.sum, length-append h.turns (t ∷ []));
@@ -154,23 +156,19 @@ round_ends did then old before calls most mid new more h less ends (inr none) =
     subst (λ p. IsRound did old before most p.sum p.taken p.state) (sym none.same)
     (round_stops did old before calls most mid h (omega (arith, less)) (inr (subst (λ p. FoundEmpty p.taken) none.same none.empty)))
 
--- the calls of a round whose next call was refused
-calls_refused : {S : Type 0} (did : S → List CallMade → S → Type 0) (then : Then did) (old mid : S) (ts : List Turn) (refusal : Refusal) (new : S) → did old (map turn_call ts) mid → IsRefused did mid refusal new → (refused : Option Refusal) × did old (round_calls ts refused) new
-calls_refused did then old mid ts refusal new h (inl none) = (None, subst (λ s. did old (map turn_call ts) s) (sym none.1) h)
-calls_refused did then old mid ts refusal new h (inr call) = (Some refusal, then old mid new (map turn_call ts) (Refused refusal ∷ []) h call)
-
--- a round whose next call is refused is short
-pub round_refused : {S : Type 0} (did : S → List CallMade → S → Type 0) (then : Then did) (old : S) (before : List Parcel) (calls most : ℕ) (mid : Progress S) (reply : RefineReply) (after : List Parcel) (refusal : Refusal) (new : S) → IsRoundSoFar did old before calls mid → 1 ≤ calls → calls < most
-    → IsRefused did mid.state refusal new → GainsAtMost mid.taken 1 after → reply ≡ record { taken = mid.sum.taken; refined = mid.sum.refined; hot = mid.sum.hot; skipped = mid.sum.skipped; left = mid.sum.left; short = true } → IsRound did old before most reply after new
-round_refused did then old before calls most mid reply after refusal new h some less refused given_up is =
-    let all = calls_refused did then old mid.state h.turns refusal new h.made refused in
+-- a round that ends before its last call, since the next was refused or room for its cards was
+round_cut : {S : Type 0} (did : S → List CallMade → S → Type 0) (old : S) (before : List Parcel) (calls most : ℕ) (mid : Progress S) (reply : RefineReply) (after : List Parcel) (new : S) (h : IsRoundSoFar did old before calls mid) → 1 ≤ calls → calls < most
+    → (refused : Option Refusal) → did old (round_calls h.turns refused) new → GainsAtMost (before ++ parcels_of h.turns) 1 after → (IsNone refused → after ≡ before ++ parcels_of h.turns) → IsSome refused ⊎ (1 ≤ length mid.sum.refined)
+    → reply ≡ record { taken = mid.sum.taken; refined = mid.sum.refined; hot = mid.sum.hot; skipped = mid.sum.skipped; left = mid.sum.left; short = true } → IsRound did old before most reply after new
+round_cut did old before calls most mid reply after new h some less refused made taken kept cause is =
     subst (λ q. IsRound did old before most q after new) (sym is) (record {
       turns = h.turns;
-      refused = all.0;
-      made = all.1;
+      refused = refused;
+      made = made;
       ends = λ _. refl;
-      taken = subst (λ l. GainsAtMost l 1 after) h.taken given_up;
-      kept = λ whole. absurd (cc whole);
+      taken = taken;
+      kept = kept;
+      cause = λ _. inr cause;
       sums = record { taken = h.sums.taken; refined = h.sums.refined; hot = h.sums.hot; skipped = h.sums.skipped; whole = λ _. h.whole };
       order = whole_all (replies_of h.turns) h.whole;
       few = h.few;
@@ -178,3 +176,11 @@ round_refused did then old before calls most mid reply after refusal new h some 
       within = omega (arith, h.many, less);
       all = λ whole. absurd (cc whole);
     })
+
+pub round_refused : {S : Type 0} (did : S → List CallMade → S → Type 0) (then : Then did) (lacks : Type 0) (old : S) (before : List Parcel) (calls most : ℕ) (mid : Progress S) (reply : RefineReply) (after : List Parcel) (refusal : Refusal) (new : S) → IsRoundSoFar did old before calls mid → 1 ≤ calls → calls < most
+    → (lacks → 1 ≤ length mid.sum.refined) → IsRefused did lacks mid.state mid.taken refusal new after → reply ≡ record { taken = mid.sum.taken; refined = mid.sum.refined; hot = mid.sum.hot; skipped = mid.sum.skipped; left = mid.sum.left; short = true } → IsRound did old before most reply after new
+round_refused did then lacks old before calls most mid reply after refusal new h some less listed (inl room) is =
+    let taken = room.3 ∙ h.taken in
+    round_cut did old before calls most mid reply after new h some less None (subst (λ s. did old (map turn_call h.turns) s) (sym room.2) h.made) (gains_nothing (before ++ parcels_of h.turns) after taken) (λ _. taken) (inr (listed room.1)) is
+round_refused did then lacks old before calls most mid reply after refusal new h some less listed (inr call) is =
+    round_cut did old before calls most mid reply after new h some less (Some refusal) (then old mid.state new (map turn_call h.turns) (Refused refusal ∷ []) h.made call.0) (subst (λ l. GainsAtMost l 1 after) h.taken call.1) (λ none. absurd (cc none)) (inl refl) is

@@ -4,7 +4,7 @@ use Rattle.std.specs.Prelude.{filter, Ok, Err}
 use Rattle.g1_log.specs.declared.parcel.Parcel.{Parcel}
 use Rattle.g1_core.specs.declared.reply.StoreReply.{StoreReply}
 use Rattle.g1_core.specs.declared.reply.RefineReply.{RefineReply}
-use Rattle.g1_book.specs.declared.refusal.Refusal.{Refusal}
+use Rattle.g1_history.specs.declared.refusal.Refusal.{Refusal}
 use Rattle.g1_steps.specs.declared.steps.mutator.FlushReply.{FlushReply}
 use Rattle.g1_steps.specs.Made.{CallMade, Stored}
 use Rattle.g1_steps.specs.Steps.{Help, help_calls, IsStored, IsFlushed}

@@ -14,8 +14,8 @@ use Rattle.g1_core.specs.declared.reply.Fill.TheVariants.{Full}
 use Rattle.g1_core.specs.declared.reply.StoreReply.{StoreReply}
 use Rattle.g1_core.specs.declared.entry.Entry.{Entry}
 use Rattle.g1_core.specs.Calls.{store_entry, refine_entry}
-use Rattle.g1_book.specs.History.{History, IsEntered}
-use Rattle.g1_book.specs.declared.refusal.Refusal.{Refusal}
+use Rattle.g1_history.specs.History.{History, IsEntered}
+use Rattle.g1_history.specs.declared.refusal.Refusal.{Refusal}
 use Rattle.g1_steps.specs.Made.{CallMade, Stored, Refined, Refused, AreCalls, entries_made}
 use Rattle.g1_steps.specs.Lent.{Grows, IsBookCall}
 use Rattle.g1_steps.specs.Rounds.{Turn, round_calls, replies_of}

@@ -5,7 +5,7 @@ use Rattle.g1_core.specs.declared.reply.StoreReply.{StoreReply}
 use Rattle.g1_core.specs.declared.reply.RefineReply.{RefineReply}
 use Rattle.g1_core.specs.declared.entry.Entry.{Entry}
 use Rattle.g1_core.specs.Calls.{store_entry, refine_entry}
-use Rattle.g1_book.specs.declared.refusal.Refusal.{Refusal}
+use Rattle.g1_history.specs.declared.refusal.Refusal.{Refusal}
 
 -- a store or a refinement with its answer, or a call that was refused
 pub data CallMade : Type 0 where

@@ -1,15 +1,15 @@
 -- What a round of refinements does: its calls, what they add up to, and where it ends.
 use Rattle.std.specs.Prelude.{◌≡◌, ◌≤◌, ◌+◌, ◌-◌, ◌/◌, ◌⊎◌, ℕ, Bool, true, false, List, [], ◌∷◌}
 use Rattle.std.specs.Prelude.{◌++◌, length, map, sum_by, All, nat_lt, not, if◌then◌else◌, Option}
-use Rattle.std.specs.Prelude.{Some, None, IsSome, Result, IfOk, IfErr, OnErr}
+use Rattle.std.specs.Prelude.{Some, None, IsSome, IsNone, Result, IfOk, IfErr}
 use Rattle.std.specs.List.{flat_map}
 use Rattle.g1_log.specs.declared.ends.Taker.{Taker}
 use Rattle.g1_log.specs.declared.parcel.Parcel.{Parcel}
 use Rattle.g1_log.specs.declared.line.Line.{Line}
 use Rattle.g1_log.specs.Ends.{taken_of, capacity_of, IsSameTaker}
 use Rattle.g1_core.specs.declared.reply.RefineReply.{RefineReply}
-use Rattle.g1_book.specs.declared.refusal.Refusal.{Refusal}
-use Rattle.g1_book.specs.declared.refusal.Refusal.TheVariants.{NoMemory}
+use Rattle.g1_history.specs.declared.refusal.Refusal.{Refusal}
+use Rattle.g1_history.specs.declared.refusal.Refusal.TheVariants.{NoMemory}
 use Rattle.g1_steps.specs.declared.steps.refiner.Sums.{Sums}
 use Rattle.g1_steps.specs.Made.{CallMade, Refined, Refused}
 use Rattle.g1_steps.specs.Steps.{GainsAtMost, FoundEmpty, IsOfCalls}
@@ -52,15 +52,25 @@ pub record IsSumOf (replies : List RefineReply) (reply : RefineReply) : Type 0 w
   pub skipped : reply.skipped ≡ sum_by (λ r. r.skipped) replies
   pub whole : reply.short ≡ false → All (λ r. r.short ≡ false) replies
 
--- The next call was refused: room for its cards, before a buffer was taken, or the call itself,
--- whose buffer is given up.
-abbrev pub IsRefused : {S : Type 0} → (S → List CallMade → S → Type 0) → S → Refusal → S → Type 0
-IsRefused did old refusal new =
-    ((refusal ≡ NoMemory) × (new ≡ old)) ⊎ did old (Refused refusal ∷ []) new
+-- The next call was refused: room for its cards, before a buffer was taken, which happens only
+-- where `lacks` holds; or the call itself, whose buffer is given up.
+abbrev pub IsRefused : {S : Type 0} → (S → List CallMade → S → Type 0) → Type 0 → S → List Parcel
+    → Refusal → S → List Parcel → Type 0
+IsRefused did lacks old before refusal new after =
+    ((refusal ≡ NoMemory) × lacks × (new ≡ old) × (after ≡ before))
+    ⊎ (did old (Refused refusal ∷ []) new × GainsAtMost before 1 after)
+
+-- The last of these turns was short.
+pub record IsLastShort (turns : List Turn) : Type 0 where
+  pub front : List Turn
+  pub last : Turn
+  pub turns_are : turns ≡ front ++ last ∷ []
+  pub short : last.reply.short ≡ true
 
 -- A round of one caller that makes at most `most` calls: refinements of what its taker took, one
--- after the other, with these sums. Fewer are made only where the last one was short, the line was
--- empty, or the next was refused; then one parcel more may be given up.
+-- after the other, with these sums. Fewer are made only where the line was empty or the round is
+-- short: its last call was, or the next call was refused, whose parcel is given up, or room for the
+-- next call's cards, which happens only where the list has cards.
 pub record IsRound {S : Type 0} (did : S → List CallMade → S
     → Type 0) (old : S) (before : List Parcel) (most : ℕ) (reply : RefineReply)
     (after : List Parcel) (new : S) : Type 0 where
@@ -69,7 +79,9 @@ pub record IsRound {S : Type 0} (did : S → List CallMade → S
   pub made : did old (round_calls turns refused) new
   pub ends : IsSome refused → reply.short ≡ true
   pub taken : GainsAtMost (before ++ parcels_of turns) 1 after
-  pub kept : reply.short ≡ false → after ≡ before ++ parcels_of turns
+  pub kept : IsNone refused → after ≡ before ++ parcels_of turns
+  pub cause : reply.short ≡ true
+      → IsLastShort turns ⊎ (IsSome refused ⊎ (1 ≤ length reply.refined))
   pub sums : IsSumOf (replies_of turns) reply
   pub order : AreWholeButLast (replies_of turns)
   pub few : reply.taken ≤ length turns
@@ -92,8 +104,8 @@ pub record IsWorkStep {S : Type 0} (did : S → List CallMade → S → Type 0) 
   pub counts : IfOk result (IsOfCalls (capacity_of line))
   pub left : IfOk result (λ reply. reply.left ≤ capacity_of line)
   pub same : IsSameTaker new old
-  pub err : IfErr result (λ refusal. IsRefused did s refusal t)
-  pub given_up : OnErr result (GainsAtMost (taken_of old) 1 (taken_of new))
+  pub err : IfErr result (λ refusal.
+      IsRefused did (Unit {0}) s (taken_of old) refusal t (taken_of new))
 
 -- where a round stands: the caller's state, what the calls add up to, and what the taker has taken
 pub record Progress (S : Type 0) : Type 0 where

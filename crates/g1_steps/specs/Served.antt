@@ -2,7 +2,9 @@
 use Rattle.std.specs.Prelude.{◌≡◌, Bool, true, false, List, [], ◌∷◌, ◌++◌, filter}
 use Rattle.std.proofs.Common.{sym, ap, subst, ◌∙◌, append_assoc}
 use Rattle.std.proofs.lemmas.List.Elements.{filter-append}
-use Rattle.g1_book.specs.declared.refusal.Refusal.{Refusal}
+use Rattle.g1_log.specs.declared.ends.Taker.{Taker}
+use Rattle.g1_log.specs.Ends.{taken_of}
+use Rattle.g1_history.specs.declared.refusal.Refusal.{Refusal}
 use Rattle.g1_steps.specs.Made.{CallMade, Stored, Refined, Refused}
 use Rattle.g1_steps.specs.Rounds.{IsRefused}
 use Rattle.g1_steps.specs.Ask.{Ask, AskStore, AskFlush, AskWork}
@@ -35,12 +37,14 @@ Serves AskFlush help = IsHelp help
 Serves AskWork calls = AreRefinements calls
 
 -- What was asked is refused: a store by its own call, a round for room or by its first call. A
--- flush never is.
-abbrev pub IsRefusedFor : {S : Type 0} → (S → List CallMade → S → Type 0) → S → Ask → Refusal → S
-    → Type 0
-IsRefusedFor did old (AskStore slot target) why new = did old (Refused why ∷ []) new
-IsRefusedFor did old AskFlush why new = ⊥
-IsRefusedFor did old AskWork why new = IsRefused did old why new
+-- flush never is. Nothing is taken, but by a round whose first call is refused.
+abbrev pub IsRefusedFor : {S : Type 0} → (S → List CallMade → S → Type 0) → S → Taker → Ask
+    → Refusal → S → Taker → Type 0
+IsRefusedFor did old before (AskStore slot target) why new after =
+    did old (Refused why ∷ []) new × (after ≡ before)
+IsRefusedFor did old before AskFlush why new after = ⊥
+IsRefusedFor did old before AskWork why new after =
+    IsRefused did (Unit {0}) old (taken_of before) why new (taken_of after)
 
 -- The same of all that was asked, one after the other.
 abbrev pub ServesAll : List Ask → List CallMade → Type 0

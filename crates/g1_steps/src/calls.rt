@@ -2,11 +2,11 @@
 ghost use Rattle.std.specs.Prelude.{◌≡◌, ◌<◌, ◌≤◌, ◌+◌, ℕ, Bool, [], ◌∷◌, ◌++◌, List, true, false};
 ghost use Rattle.std.specs.Prelude.{length, IfOk, OnErr, IfSome, IsNone, option_map};
 ghost use Rattle.g1_layout.specs.Shape.{Shape, slot_count, card_of};
-ghost use Rattle.g1_core.specs.Barrier.{logged, buffer_of, fill_of};
+ghost use Rattle.g1_core.specs.Does.{IsLent};
 ghost use Rattle.g1_steps.specs.Made.{CallMade, stores, refines};
 
-use g1_book::Refusal;
 use g1_core::{RefineReply, StoreReply};
+use g1_history::Refusal;
 use g1_layout::Slot;
 use g1_log::{Buffer, Log};
 use std::alloc::Global;
@@ -15,9 +15,8 @@ use std::alloc::Global;
 ///
 /// The steps of a caller ([`Mutator`](crate::Mutator), [`refine`](crate::refine),
 /// [`work`](crate::work)) are written over these calls. A borrowed book
-/// ([`LentBook`](crate::LentBook)) makes them, or a borrowed core without a history
-/// ([`LentCore`](crate::LentCore)). A step says through `did` which calls it made, so each
-/// implementation says as much of them as it knows (docs/PROFILE.md, The steps of a caller).
+/// ([`LentBook`](crate::LentBook)) makes them. A step says through `did` which calls it made, so
+/// each implementation says as much of them as it knows (docs/rules.md, The steps of a caller).
 pub trait Calls {
     /// The layout of the heap.
     ghost layout: { Self → Shape };
@@ -46,12 +45,9 @@ pub trait Calls {
         requires slot { slot < slot_count (layout self.old) }
         requires target { IfSome target (λ place. place < slot_count (layout self.old)) }
         ensures made { did self.old (stores slot target result ∷ []) self.new }
-        ensures fill { IfOk result (λ reply. reply.fill ≡ fill_of completed.new) }
         ensures plain { IfOk result (λ reply. (reply.refined ≡ []) × (reply.short ≡ false)) }
-        ensures log { IfOk result (λ reply.
-            log.new ≡ logged reply.kind log.old (card_of (layout self.old) slot)) }
-        ensures buffer { IfOk result (λ reply.
-            completed.new ≡ buffer_of reply.kind log.old (card_of (layout self.old) slot)) }
+        ensures lent { IfOk result (λ reply.
+            IsLent (card_of (layout self.old) slot) reply log.old log.new completed.new) }
         ensures err { OnErr result ((log.new ≡ log.old) × (completed.new ≡ completed.old)) };
 
     /// Refines a buffer: its cards take their turns, oldest first. `None` refines nothing, and is a

@@ -3,7 +3,7 @@
 //!
 //! A worker ([`worker`]) makes the steps of a [`Script`] at a [`Desk`], which has all that they
 //! take: a [`LocalDesk`], which shares nothing with another desk, or a desk of another crate. A
-//! crew runs workers in threads of their own ([`job`]; docs/PROFILE.md, Workers and a crew).
+//! crew runs workers in threads of their own ([`job`]; docs/rules.md, Workers and a crew).
 
 mod desk;
 mod job;

@@ -1,13 +1,13 @@
 //! The calls of one caller at a borrowed book.
 ghost use Rattle.std.specs.Prelude.{◌≡◌, refl, nat_lt};
 ghost use Rattle.std.proofs.Common.{◌∙◌, ap, subst};
-ghost use Rattle.g1_book.specs.History.{Terms, layout_in};
+ghost use Rattle.g1_history.specs.History.{Terms, layout_in};
 ghost use Rattle.g1_steps.specs.Made.{AreCalls, calls_then};
-ghost use Rattle.g1_steps.specs.Lent.{IsBookCall, book_calls_stay};
+ghost use Rattle.g1_steps.specs.Lent.{IsBookCallBy, book_calls_stay};
 
 use crate::calls::Calls;
-use g1_book::{Book, Refusal};
 use g1_core::{RefineReply, StoreReply};
+use g1_history::{Book, Keeps, Kept, Refusal};
 use g1_layout::Slot;
 use g1_log::{Buffer, Log};
 use std::alloc::Global;
@@ -17,15 +17,15 @@ use std::alloc::Global;
 /// Each call that is not refused is one entry of that caller, and does what the book's own method
 /// does.
 #[derive(Drop)]
-pub struct LentBook<'a> {
-    book: &'a mut Book,
+pub struct LentBook<'a, H: Keeps = Kept> {
+    book: &'a mut Book<H>,
     caller: u32,
 }
 
-impl<'a> LentBook<'a> {
+impl<'a, H: Keeps> LentBook<'a, H> {
     /// Makes the calls of this caller at the book. The caller may store if its number is below the
     /// book's count of mutators.
-    pub fn new(book: &'a mut Book, caller: u32) -> LentBook<'a>
+    pub fn new(book: &'a mut Book<H>, caller: u32) -> LentBook<'a, H>
         ensures lends { result.book.ghost_name ≡ book.entry.ghost_name }
         ensures book { result.book.now ≡ book.old }
         ensures caller { result.caller ≡ caller }
@@ -34,13 +34,13 @@ impl<'a> LentBook<'a> {
     }
 }
 
-impl Calls for LentBook<'_> {
+impl<H: Keeps> Calls for LentBook<'_, H> {
     ghost layout = { λ s. layout_in s.book.now };
 
     ghost may_store = { λ s. nat_lt s.caller s.book.now.mutators };
 
     ghost did = { λ s ms t. (t.book.ghost_name ≡ s.book.ghost_name) × (t.caller ≡ s.caller)
-        × AreCalls (IsBookCall s.caller) s.book.now ms t.book.now };
+        × AreCalls (IsBookCallBy H.KEEPS s.caller) s.book.now ms t.book.now };
 
     #[inline(always)]
     fn store(
@@ -68,10 +68,11 @@ impl Calls for LentBook<'_> {
       k.0 ∙ h.0,
       k.1 ∙ h.1,
       calls_then
-          (IsBookCall s.caller) s.book.now t.book.now u.book.now xs ys h.2
-          (subst (λ n. AreCalls (IsBookCall n) t.book.now ys u.book.now) h.1 k.2),
+          (IsBookCallBy H.KEEPS s.caller) s.book.now t.book.now u.book.now xs ys h.2
+          (subst (λ n. AreCalls (IsBookCallBy H.KEEPS n) t.book.now ys u.book.now) h.1 k.2),
     ) };
 
-    ghost stays = { λ s t ms h. let same = book_calls_stay s.caller s.book.now t.book.now ms h.2 in
+    ghost stays = { λ s t ms h.
+        let same = book_calls_stay H.KEEPS s.caller s.book.now t.book.now ms h.2 in
         (ap (λ (k : Terms). k.layout) same, λ i. nat_lt (h.1 i) (same i).mutators) };
 }

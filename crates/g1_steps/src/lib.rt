@@ -1,9 +1,9 @@
 //! The steps of a mutator and of a refinement thread, and workers that make them.
 //!
 //! The steps of a caller are written once, over the [`Calls`] that they make: at a borrowed book
-//! ([`LentBook`]), or at a borrowed core without a history ([`LentCore`]). A [`Mutator`] stores and
-//! flushes. Completed buffers go through a queue ([`Line`](g1_log::Line)), from which [`refine`]
-//! and [`work`] take them (docs/PROFILE.md, The steps of a caller). [`Ends`] joins a mutator and a
+//! ([`LentBook`]), which keeps a history or only counts. A [`Mutator`] stores and flushes.
+//! Completed buffers go through a queue ([`Line`](g1_log::Line)), from which [`refine`] and
+//! [`work`] take them (docs/rules.md, The steps of a caller). [`Ends`] joins a mutator and a
 //! taker with their queue.
 //!
 //! [`crew`] has workers that run scripts in threads of their own, for the replay of a trace.
@@ -12,7 +12,6 @@
 mod calls;
 mod crew;
 mod lent_book;
-mod lent_core;
 mod opening;
 mod steps;
 
@@ -21,6 +20,5 @@ pub use crew::{
     Desk, Job, LocalDesk, NotStarted, Outcome, Script, Step, mutate, refiner, run_crew,
 };
 pub use lent_book::LentBook;
-pub use lent_core::LentCore;
 pub use opening::open_line;
 pub use steps::{Ends, FlushReply, Mutator, empty_line, refine, stand_still, work};

@@ -12,7 +12,7 @@ use g1_log::{Line, Sender, Taker};
 use std::alloc::Global;
 
 /// Returns a queue of completed buffers for a core or a book with these settings, its mutators, and
-/// its takers (docs/PROFILE.md, The steps of a caller).
+/// its takers (docs/rules.md, The steps of a caller).
 ///
 /// There are 1 to 8 mutators and 1 to 12 takers. The queue holds as many buffers as the settings'
 /// limit. Mutator `k` has an empty log of the settings' size and sender `k`. Returns `NoMemory` if

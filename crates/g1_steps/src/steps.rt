@@ -2,8 +2,8 @@
 //! queue, which each step borrows.
 //!
 //! A mutator stores and flushes ([`mutator`]), a refinement thread takes completed buffers
-//! ([`refiner`]), and a pause empties logs and queue ([`standstill`]). A step makes no call, one,
-//! or several calls (docs/PROFILE.md, The steps of a caller). The ends of one caller join them
+//! ([`refiner`]), and a pause empties logs and queue ([`standstill`]). A step makes any number of
+//! calls, or none (docs/rules.md, The steps of a caller). The ends of one caller join them
 //! ([`ends`]).
 
 mod ends;

@@ -5,28 +5,28 @@
 ghost use Rattle.std.specs.Prelude.{◌≡◌, ◌≤◌, ◌<◌, [], IfOk};
 ghost use Rattle.g1_layout.specs.Shape.{slot_count, card_count};
 ghost use Rattle.g1_log.specs.Ends.{IsSenderOf, IsTakerOf};
-ghost use Rattle.g1_book.specs.Asked.{IsAsked};
-ghost use Rattle.g1_book.specs.History.{layout_in};
+ghost use Rattle.g1_history.specs.Asked.{IsAsked};
+ghost use Rattle.g1_history.specs.History.{layout_in};
 
 use calls::{drain, number_of};
-use g1_book::{Book, Refusal};
+use g1_book::{Book, FlushReply, Mutator, Refusal, open_line};
 use g1_core::{
     Call, CardList, ClearReply, Config, Drained, Entry, Fill, Redirected, RefineReply, Reply,
-    Status, StoreReply,
+    Settings, Status, StoreReply,
 };
 use g1_layout::{Card, Kind, Layout, NoMemory, Region, Slot};
 use g1_log::{Buffer, Line, Log, Taker};
-use g1_steps::{FlushReply, Mutator, open_line};
+use replies::assert_drained;
 use std::alloc::Global;
 use std::process::Abort;
-use steps::assert_drained;
 
 mod answers;
 mod calls;
 mod crew;
 mod lent;
+mod replies;
 mod shared;
-mod steps;
+mod shared_core;
 
 /// A new book for two mutators, with logs of `log` cards, a line of `limit` buffers and room for
 /// `history` entries.
@@ -44,6 +44,27 @@ pub(crate) fn book(
     let layout = Layout::new(4, 2, 4).expect(rt, "a layout within the limits");
     let config = Config::new(log, limit, 4, 4, 5).expect(rt, "settings within the limits");
     Book::open(alloc, layout, config, 2, history)
+}
+
+/// A new book for one mutator, with logs of `log` cards, and the settings where nobody chooses
+/// otherwise.
+pub(crate) fn plain_book(
+    rt: &impl Abort,
+    alloc: Global,
+    log: usize,
+    history: usize,
+) -> Result<Book, NoMemory>
+    requires low { 1 ≤ history }
+    requires high { history ≤ 1000000 }
+    ensures { IfOk result (λ book. (book.entries ≡ []) × (book.mutators ≡ 1)) }
+{
+    let layout = Layout::new(4, 2, 4).expect(rt, "a layout within the limits");
+    let settings = Settings {
+        log,
+        ..Settings::default()
+    };
+    let config = Config::of(settings).expect(rt, "settings within the limits");
+    Book::open(alloc, layout, config, 1, history)
 }
 
 pub(crate) fn slot(rt: &impl Abort, book: &Book, number: u32) -> Slot
@@ -116,11 +137,17 @@ const ASKER: u32 = 9;
 
 /// How much is pending and recorded, by a question of the test itself. A refused one is asked
 /// again.
-pub(crate) fn counts(book: &mut Book) -> Result<Status, Refusal> {
+fn counts(book: &mut Book) -> Result<Status, Refusal> {
     match book.status(ASKER) {
         Ok(status) => Ok(status),
         Err(_) => book.status(ASKER),
     }
+}
+
+/// Checks how many cards are pending.
+pub(crate) fn assert_pending(rt: &impl Abort, book: &mut Book, cards: u32) -> Result<(), Refusal> {
+    assert_eq!(rt; counts(book)?.pending, cards);
+    Ok(())
 }
 
 /// Whether the list has just these cards, in this order.

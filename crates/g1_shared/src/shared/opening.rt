@@ -6,17 +6,17 @@ ghost use Rattle.std.specs.List.{All};
 ghost use Rattle.std.specs.Vec.Iter.{into_iter_items, into_iter_len};
 ghost use Rattle.g1_log.specs.Ends.{capacity_of, IsNewTaker};
 ghost use Rattle.g1_shared.specs.Callers.{Standing, IsNewCaller};
-ghost use Rattle.g1_shared.specs.Counts.{is_store};
-ghost use Rattle.g1_book.specs.History.{terms_of};
+ghost use Rattle.g1_shared.specs.Counts.{AreNone, LeadsTo, kept_terms, shared_terms};
+ghost use Rattle.g1_history.specs.History.{made_of, stored_of, terms_of, table_in};
 ghost use Rattle.g1_steps.specs.Opening.{IsNewMutator, AreNewMutators};
 
-use crate::caller::{Caller, Counts};
+use crate::caller::{Caller, CallerCounts};
 use crate::counted::Counted;
-use crate::ledgers::Frame;
+use crate::ledgers::Terms;
 use crate::lock::Lock;
-use crate::shared::{Keeper, Shared};
-use g1_book::Book;
+use crate::shared::Shared;
 use g1_core::Config;
+use g1_history::{Book, Keeps};
 use g1_layout::NoMemory;
 use g1_log::{Line, Taker};
 use g1_steps::{Mutator, open_line};
@@ -24,9 +24,9 @@ use std::marker::PhantomData;
 use std::sync::ledger::{Blank, Ledger, Share};
 use std::vec::IntoIter;
 
-impl<M: Frame, S: Ledger> Shared<M, S, Counted<M, S>> {
+impl<M: Terms, S: Ledger, H: Keeps> Shared<M, S, H> {
     /// Puts a book without entries under a lock, with a queue of completed buffers beside it, and
-    /// makes its callers (docs/PROFILE.md, The history under a lock).
+    /// makes its callers (docs/rules.md, The history under a lock).
     ///
     /// There are at least as many callers as the book has mutators, and at most 12, numbered from
     /// 0. Caller `k` below the mutators is mutator `k`, with an empty log and sender `k`; only
@@ -34,17 +34,18 @@ impl<M: Frame, S: Ledger> Shared<M, S, Counted<M, S>> {
     /// settings' limit. The ledgers are cut into one part for each caller.
     ///
     /// If a growth was refused, the book is returned as it was, and the ledgers are given up.
+    #[tactic(auto, using(crate::proofs::CallLemmas::none_counted, crate::proofs::CallLemmas::kept_mutators))]
     pub fn open(
         made: Blank,
         stored: Blank,
-        book: Book,
+        book: Book<H>,
         callers: u32,
-    ) -> Result<(Shared<M, S>, Vec<Caller<M, S>>), (Book, NoMemory)>
-        requires made { (made.name ≡ M.name) × (made.parts ≡ M.parts) × (made.parts ≡ callers) }
-        requires stored { (stored.name ≡ S.name) × (stored.parts ≡ S.parts)
+    ) -> Result<(Shared<M, S, H>, Vec<Caller<M, S>>), (Book<H>, NoMemory)>
+        requires ledgers { ((made.name ≡ M.name) × (made.parts ≡ M.parts)
+            × (made.parts ≡ callers)) × (stored.name ≡ S.name) × (stored.parts ≡ S.parts)
             × (stored.parts ≡ callers) }
-        requires terms { terms_of book ≡ M.terms }
-        requires empty { book.entries ≡ [] }
+        requires terms { shared_terms book ≡ M.terms }
+        requires empty { AreNone H.KEEPS book }
         requires callers { (M.terms.mutators ≤ callers) × (callers ≤ 12) }
         ensures callers { IfOk result (λ opened. vec_len opened.1 ≡ callers) }
         ensures each { IfOk result (λ opened.
@@ -57,7 +58,7 @@ impl<M: Frame, S: Ledger> Shared<M, S, Counted<M, S>> {
         let alloc = book.allocator();
         let config = book.config();
         let mutators = book.mutators();
-        let _entries = book.entries();
+        let _layout = book.layout();
         let Ok(room) = Vec::with_capacity(alloc, callers as usize) else {
             return Err((book, NoMemory));
         };
@@ -69,7 +70,7 @@ impl<M: Frame, S: Ledger> Shared<M, S, Counted<M, S>> {
         let shares = (made_share, stored_share);
         let all = callers_of(&line, &config, callers, shares, (mutators, takers), room);
         let shared = Shared {
-            counted: Lock::new(Counted::new(book, made, stored), false),
+            counted: Lock::new(Counted::new(book, made, stored), !H::KEEPS),
             line,
             alloc,
             start: config.start(),
@@ -78,29 +79,32 @@ impl<M: Frame, S: Ledger> Shared<M, S, Counted<M, S>> {
         Ok((shared, all))
     }
 
-    /// Ends the sharing and returns the book, once all callers are handed in (docs/PROFILE.md, The
+    /// Ends the sharing and returns the book, once all callers are handed in (docs/rules.md, The
     /// history under a lock).
     ///
     /// The book has as many entries as its callers have made, and as many stores among them as they
-    /// have stored. What is left in logs and queue is given up: each card there is pending by its
-    /// mark, unless it was refined meanwhile. No memory is taken.
-    pub fn finish(self, callers: Vec<Caller<M, S>>) -> Book
+    /// have stored; and a permitted run of so many calls and stores leads from the machine that was
+    /// shared to the one that comes back. What is left in logs and queue is given up: each card
+    /// there is pending by its mark, unless it was refined meanwhile. No memory is taken.
+    pub fn finish(self, callers: Vec<Caller<M, S>>) -> Book<H>
         requires some { 0 < vec_len callers }
         requires made { vec_len callers ≡ M.parts }
         requires stored { vec_len callers ≡ S.parts }
-        ensures made { length result.entries ≡ sum_by (λ caller. caller.counts.made) callers.items }
-        ensures stored { count_by is_store result.entries
+        ensures made { made_of H.KEEPS result.entries result.totals
+            ≡ sum_by (λ caller. caller.counts.made) callers.items }
+        ensures stored { stored_of H.KEEPS result.entries result.totals
             ≡ sum_by (λ caller. caller.counts.stored) callers.items }
-        ensures terms { terms_of result ≡ M.terms }
+        ensures terms { terms_of result ≡ kept_terms M.terms }
+        ensures run { LeadsTo M.terms.began.state.table
+            (sum_by (λ caller. caller.counts.made) callers.items)
+            (sum_by (λ caller. caller.counts.stored) callers.items) (table_in result) }
     {
         let (counted, mut made, mut stored) = self.give_up(callers);
         counted.audited(&mut made, &mut stored)
     }
-}
 
-impl<M: Frame, S: Ledger, K: Keeper<M, S>> Shared<M, S, K> {
     /// What was kept under the lock, and all callers' shares, merged.
-    pub(crate) fn give_up(self, callers: Vec<Caller<M, S>>) -> (K, Share<M>, Share<S>)
+    fn give_up(self, callers: Vec<Caller<M, S>>) -> (Counted<M, S, H>, Share<M>, Share<S>)
         requires some { 0 < vec_len callers }
         requires made { vec_len callers ≡ M.parts }
         requires stored { vec_len callers ≡ S.parts }
@@ -130,7 +134,7 @@ impl<M: Frame, S: Ledger, K: Keeper<M, S>> Shared<M, S, K> {
 
 /// The callers, each with a part of both shares and a taker, and those below the mutators with the
 /// mutator of their number.
-pub(crate) fn callers_of<M: Frame, S: Ledger>(
+fn callers_of<M: Terms, S: Ledger>(
     line: &Line,
     config: &Config,
     count: u32,
@@ -153,7 +157,7 @@ pub(crate) fn callers_of<M: Frame, S: Ledger>(
     let (mutators, mut takers) = ends;
     let mut mutators = mutators.into_iter();
     for number in 0..count {
-        let counts = Counts::new(number, made.split_off(1, 0), stored.split_off(1, 0));
+        let counts = CallerCounts::new(number, made.split_off(1, 0), stored.split_off(1, 0));
         let mutator = next_mutator(line, config, number, &mut mutators);
         let taker = next_taker(line, &mut takers);
         all.push_reserved(new_caller(line, config, counts, mutator, taker));
@@ -194,10 +198,10 @@ fn next_taker(line: &Line, takers: &mut Vec<Taker>) -> Taker
 }
 
 /// The caller of these counts.
-fn new_caller<M: Frame, S: Ledger>(
+fn new_caller<M: Terms, S: Ledger>(
     line: &Line,
     config: &Config,
-    counts: Counts<M, S>,
+    counts: CallerCounts<M, S>,
     mutator: Option<Mutator>,
     taker: Taker,
 ) -> Caller<M, S>

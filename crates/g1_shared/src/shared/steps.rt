@@ -6,26 +6,26 @@ ghost use Rattle.g1_log.specs.declared.parcel.Parcel.{Parcel as P};
 ghost use Rattle.g1_log.specs.Ends.{capacity_of, taken_of, IsTakerOf, IsSameTaker};
 ghost use Rattle.g1_steps.specs.Steps.{GainsAtMost, Empties, MayRefuse};
 ghost use Rattle.g1_steps.specs.Rounds.{IsRound, round_size};
-ghost use Rattle.g1_core.specs.Barrier.{logged, buffer_of};
+ghost use Rattle.g1_shared.specs.Stores.{StoresBy};
 ghost use Rattle.g1_shared.specs.Counts.{CountsDid};
 ghost use Rattle.g1_shared.specs.Answers.{IsKindAt};
 ghost use Rattle.g1_shared.specs.Callers.{Standing, caller_mark, IsCallerOf, caller_log};
-ghost use Rattle.g1_shared.specs.Callers.{taken_list, IsStoreAt, IsFlushAt, IsRefinementAt};
+ghost use Rattle.g1_shared.specs.Callers.{taken_list, IsFlushAt, IsRefinementAt};
 ghost use Rattle.g1_shared.specs.Callers.{IsRoundAt, IsCallerAtPause};
 
-use crate::caller::{Caller, Counts};
-use crate::ledgers::Frame;
+use crate::caller::{Caller, CallerCounts};
+use crate::ledgers::Terms;
 use crate::locked_calls::LockedCalls;
-use crate::shared::{Keeper, Shared};
-use g1_book::Refusal;
+use crate::shared::Shared;
 use g1_core::{Fill, RefineReply, StoreReply};
+use g1_history::{Keeps, Refusal};
 use g1_layout::Slot;
 use g1_log::Taker;
 use g1_steps::{FlushReply, empty_line, refine, work};
 use std::sync::Wait;
 use std::sync::ledger::Ledger;
 
-impl<M: Frame, S: Ledger, K: Keeper<M, S>> Shared<M, S, K> {
+impl<M: Terms, S: Ledger, H: Keeps> Shared<M, S, H> {
     /// Stores a reference, or null, as a mutator does (`Mutator::store`), by a call under the lock.
     ///
     /// A log that was filled goes into the queue of completed buffers once the lock is left. If the
@@ -44,21 +44,9 @@ impl<M: Frame, S: Ledger, K: Keeper<M, S>> Shared<M, S, K> {
         requires target { IfSome target (λ place. place < slot_count M.terms.layout) }
         requires mine { IsCallerOf self.now caller.old }
         ensures mark { caller_mark caller.new ≡ caller_mark caller.old }
-        ensures stored { OnOk result (caller.new.counts.stored ≡ caller.old.counts.stored + 1) }
-        ensures taker { caller.new.taker ≡ caller.old.taker }
         ensures kind { IfOk result (λ reply. IsKindAt M.terms.layout slot target reply.kind) }
-        ensures log { IfOk result (λ reply.
-            caller_log caller.new
-            ≡ logged reply.kind (caller_log caller.old) (card_of M.terms.layout slot)) }
-        ensures fill { IfOk result (λ reply.
-            (reply.fill ≡ Fill.No)
-            ↔ IsNone (buffer_of reply.kind (caller_log caller.old) (card_of M.terms.layout slot))) }
-        ensures helped { IfOk result (λ reply.
-            reply.fill ≡ Fill.Helped
-            → IfSome caller.old.mutator (λ m. MayRefuse self.now m.sender)) }
-        ensures ok { IfOk result (λ reply.
-            IsStoreAt caller.old (card_of M.terms.layout slot)
-            reply.fill reply.refined reply.short caller.new) }
+        ensures stored { IfOk result (λ reply.
+            StoresBy self.now caller.old (card_of M.terms.layout slot) reply caller.new) }
         ensures err { OnErr result (caller.new ≡ caller.old) }
     {
         let Some(mutator) = &mut caller.mutator else {
@@ -79,14 +67,14 @@ impl<M: Frame, S: Ledger, K: Keeper<M, S>> Shared<M, S, K> {
         requires mutator { caller.old.counts.number < M.terms.mutators }
         requires mine { IsCallerOf self.now caller.old }
         ensures mark { caller_mark caller.new ≡ caller_mark caller.old }
-        ensures stored { caller.new.counts.stored ≡ caller.old.counts.stored }
-        ensures taker { caller.new.taker ≡ caller.old.taker }
+        ensures kept { (caller.new.counts.stored ≡ caller.old.counts.stored)
+            × (caller.new.taker ≡ caller.old.taker) }
         ensures helped { result.fill ≡ Fill.Helped
             → IfSome caller.old.mutator (λ m. MayRefuse self.now m.sender) }
         ensures some { result.fill ≡ Fill.Full → 1 ≤ result.cards }
         ensures flushed { IsFlushAt caller.old result.fill result.refined result.short caller.new }
-        ensures cards { result.cards ≡ length (caller_log caller.old).cards }
-        ensures empty { (caller_log caller.new).cards ≡ [] }
+        ensures log { (result.cards ≡ length (caller_log caller.old).cards)
+            × ((caller_log caller.new).cards ≡ []) }
     {
         let Some(mutator) = &mut caller.mutator else {
             unreachable!()
@@ -108,10 +96,10 @@ impl<M: Frame, S: Ledger, K: Keeper<M, S>> Shared<M, S, K> {
     pub fn refine<R: Wait>(&self, rt: &R, caller: &mut Caller<M, S>) -> Result<RefineReply, Refusal>
         requires mine { IsCallerOf self.now caller.old }
         ensures mark { caller_mark caller.new ≡ caller_mark caller.old }
-        ensures stored { caller.new.counts.stored ≡ caller.old.counts.stored }
-        ensures mutator { caller.new.mutator ≡ caller.old.mutator }
-        ensures ok { OnOk result (caller.new.counts.made ≡ caller.old.counts.made + 1) }
-        ensures err { OnErr result (caller.new.counts ≡ caller.old.counts) }
+        ensures kept { (caller.new.counts.stored ≡ caller.old.counts.stored)
+            × (caller.new.mutator ≡ caller.old.mutator) }
+        ensures made { OnOk result (caller.new.counts.made ≡ caller.old.counts.made + 1)
+            × OnErr result (caller.new.counts ≡ caller.old.counts) }
         ensures numbers { IfOk result (λ reply.
             (reply.taken ≤ 1) × (length reply.refined + reply.skipped ≤ 256) × (reply.hot ≤ 256)
             × (reply.left ≤ capacity_of self.now)) }
@@ -137,8 +125,8 @@ impl<M: Frame, S: Ledger, K: Keeper<M, S>> Shared<M, S, K> {
     pub fn work<R: Wait>(&self, rt: &R, caller: &mut Caller<M, S>) -> Result<RefineReply, Refusal>
         requires mine { IsCallerOf self.now caller.old }
         ensures mark { caller_mark caller.new ≡ caller_mark caller.old }
-        ensures stored { caller.new.counts.stored ≡ caller.old.counts.stored }
-        ensures mutator { caller.new.mutator ≡ caller.old.mutator }
+        ensures kept { (caller.new.counts.stored ≡ caller.old.counts.stored)
+            × (caller.new.mutator ≡ caller.old.mutator) }
         ensures round { IfOk result (λ reply.
             IsRoundAt M.terms self.now caller.old reply caller.new) }
         ensures given_up { OnErr result
@@ -158,7 +146,7 @@ impl<M: Frame, S: Ledger, K: Keeper<M, S>> Shared<M, S, K> {
     fn work_by<R: Wait>(
         &self,
         rt: &R,
-        counts: &mut Counts<M, S>,
+        counts: &mut CallerCounts<M, S>,
         taker: &mut Taker,
     ) -> Result<RefineReply, Refusal>
         requires taker { IsTakerOf self.now taker.old }

@@ -3,13 +3,13 @@ ghost use Rattle.std.specs.Prelude.{◌≡◌, ℕ, ◌<◌, [], ◌∷◌, ◌+
 ghost use Rattle.std.specs.Prelude.{IfErr, OnErr, OnOk, Option};
 ghost use Rattle.g1_core.specs.declared.reply.StoreReply.{StoreReply as Stored};
 ghost use Rattle.g1_core.specs.declared.reply.RefineReply.{RefineReply as Worked};
-ghost use Rattle.g1_book.specs.declared.refusal.Refusal.{Refusal as Why};
+ghost use Rattle.g1_history.specs.declared.refusal.Refusal.{Refusal as Why};
 ghost use Rattle.g1_steps.specs.declared.steps.mutator.FlushReply.{FlushReply as Flushed};
 ghost use Rattle.g1_steps.specs.Ask.{Ask, AskStore, AskFlush, AskWork};
 
 use crate::steps::FlushReply;
-use g1_book::Refusal;
 use g1_core::{RefineReply, StoreReply};
+use g1_history::Refusal;
 use g1_layout::Slot;
 
 /// A call in a mutator's script.

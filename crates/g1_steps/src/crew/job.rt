@@ -113,7 +113,7 @@ fn join_all<D: Desk + Drop, R: Threads>(
     done
 }
 
-/// Runs each job in a thread of its own (docs/PROFILE.md, Workers and a crew).
+/// Runs each job in a thread of its own (docs/rules.md, Workers and a crew).
 ///
 /// Every job is started before one is joined. The jobs are returned in their order, each with its
 /// script, its outcome, and the desk at which exactly the calls of that outcome were made. Room for

@@ -10,15 +10,15 @@ ghost use Rattle.g1_steps.specs.Served.{HasServed, IsRefusedFor, served_then};
 use crate::calls::Calls;
 use crate::crew::desk::Desk;
 use crate::steps::{Ends, FlushReply};
-use g1_book::Refusal;
 use g1_core::{RefineReply, StoreReply};
+use g1_history::Refusal;
 use g1_layout::Slot;
 use std::sync::Wait;
 
 /// Makes the calls of one caller, at a borrowed book or core, by the caller's ends of the queue of
 /// completed buffers.
 ///
-/// Its calls are the steps of that caller (docs/PROFILE.md, The steps of a caller).
+/// Its calls are the steps of that caller (docs/rules.md, The steps of a caller).
 #[derive(Drop)]
 pub struct LocalDesk<'a, R, C> {
     rt: &'a R,
@@ -75,7 +75,8 @@ impl<'a, R: Wait, C: Calls> Desk for LocalDesk<'a, R, C> {
     ghost worked = { λ s reply t. IsRoundFrom C.did s.ends.line.now s.start
         s.calls s.ends.taker reply t.ends.taker t.calls };
 
-    ghost refused = { λ s ask why t. IsRefusedFor C.did s.calls ask why t.calls };
+    ghost refused = { λ s ask why t.
+        IsRefusedFor C.did s.calls s.ends.taker ask why t.calls t.ends.taker };
 
     fn store(&mut self, slot: Slot, target: Option<Slot>) -> Result<StoreReply, Refusal> {
         let reply = self.ends.store(self.rt, &mut self.calls, slot, target)?;

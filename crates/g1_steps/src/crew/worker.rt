@@ -4,7 +4,7 @@ ghost use Rattle.g1_steps.specs.Ask.{AskWork, ask_of, asks_of, StepFits};
 ghost use Rattle.g1_steps.specs.Ran.{HasAsked};
 
 use crate::crew::desk::{Desk, Outcome, Step};
-use g1_book::Refusal;
+use g1_history::Refusal;
 
 /// Makes the calls of a mutator's script, in order, and returns how many were made: all of them. If
 /// a call is refused the script ends, and `Err` has how many were made before it, and the refusal.

@@ -6,15 +6,15 @@ ghost use Rattle.g1_log.specs.Ends.{IsSenderOf, IsTakerOf, IsSameTaker, taken_of
 
 use crate::calls::Calls;
 use crate::steps::{FlushReply, Mutator, empty_line, refine, work};
-use g1_book::Refusal;
 use g1_core::{RefineReply, StoreReply};
+use g1_history::Refusal;
 use g1_layout::Slot;
 use g1_log::{Line, Log, Taker};
 use std::sync::Wait;
 
 /// A mutator and a taker of one caller, with the queue of completed buffers that both belong to.
 ///
-/// Its calls are the steps of that caller ([`Mutator`], [`refine`], [`work`]; docs/PROFILE.md, The
+/// Its calls are the steps of that caller ([`Mutator`], [`refine`], [`work`]; docs/rules.md, The
 /// steps of a caller). Each borrows what makes the calls ([`Calls`]).
 #[derive(Drop)]
 pub struct Ends<'a> {

@@ -7,8 +7,8 @@ ghost use Rattle.g1_steps.specs.Steps.{IsPassed, PutsBy, MayRefuse, nothing_flus
 
 use crate::calls::Calls;
 use crate::steps::place::Place;
-use g1_book::Refusal;
 use g1_core::{CardList, Fill, StoreReply};
+use g1_history::Refusal;
 use g1_layout::Slot;
 use g1_log::{Buffer, Line, Log, Sender};
 use std::alloc::Global;
@@ -56,7 +56,7 @@ impl Mutator {
         }
     }
 
-    /// Stores a reference, or null (docs/PROFILE.md, The steps of a caller).
+    /// Stores a reference, or null (docs/rules.md, The steps of a caller).
     ///
     /// A log that the store fills is put into the queue of completed buffers: `fill` is `Full`. If
     /// the queue hands the buffer back, the mutator helps: it refines that buffer by one more call.
@@ -97,7 +97,7 @@ impl Mutator {
     }
 
     /// Empties the mutator's log. If it has cards, they become a completed buffer and go the way of
-    /// a filled log (docs/PROFILE.md, The steps of a caller).
+    /// a filled log (docs/rules.md, The steps of a caller).
     ///
     /// `cards` is how many cards left the log. A flush is never refused, and makes a call only if
     /// it helps. A help that is refused makes the reply short. Each of the cards is then pending by

@@ -1,15 +1,15 @@
 //! What a refinement thread does: it takes completed buffers from the queue and refines them, one
 //! or a round of them.
 ghost use Rattle.std.specs.Prelude.{◌≡◌, ◌<◌, ◌≤◌, ◌+◌, ◌^◌, ◌++◌, ◌∷◌, [], true, false, length};
-ghost use Rattle.std.specs.Prelude.{vec_len, vec_capacity, IfOk, IfErr, OnErr};
+ghost use Rattle.std.specs.Prelude.{vec_len, vec_capacity, IfOk, IfErr, OnErr, OnOk};
 ghost use Rattle.g1_log.specs.Ends.{IsTakerOf, IsSameTaker, taken_of, capacity_of};
-ghost use Rattle.g1_steps.specs.Steps.{IsRefineStep, IsOfCalls, GainsAtMost};
+ghost use Rattle.g1_steps.specs.Steps.{IsRefineStep, IsOfCalls};
 ghost use Rattle.g1_steps.specs.Rounds.{round_size, IsRefused, IsRound, IsWorkStep, IsNextOf};
 ghost use Rattle.g1_steps.specs.Rounds.{so_far, progress};
 
 use crate::calls::Calls;
-use g1_book::Refusal;
 use g1_core::{CardList, RefineReply};
+use g1_history::Refusal;
 use g1_layout::Card;
 use g1_log::{Line, Taker};
 use std::alloc::Global;
@@ -24,7 +24,7 @@ pub(crate) fn completed<R: Wait>(rt: &R, line: &Line) -> u32
 }
 
 /// Takes the oldest completed buffer from the queue and refines it, as one call. If the queue was
-/// empty, the call refines nothing (docs/PROFILE.md, The steps of a caller).
+/// empty, the call refines nothing (docs/rules.md, The steps of a caller).
 ///
 /// `left` is how many buffers the queue held at some moment after the take. If the call is refused,
 /// a buffer that was taken is given up. Each of its cards is then pending by its mark, unless it
@@ -73,7 +73,7 @@ fn refine_oldest<C: Calls, R: Wait>(
 
 /// Makes a round of refinement. If the queue has `n` completed buffers and `n` is at least the
 /// threshold `start`, it takes and refines the oldest until a quarter of the threshold, rounded
-/// down, is left, each by a call of its own (docs/PROFILE.md, The steps of a caller).
+/// down, is left, each by a call of its own (docs/rules.md, The steps of a caller).
 ///
 /// The round ends early, without a further call, if the queue is empty. A refusal at the first take
 /// or call is returned. At a later one, or after a short call, the round ends with `short` true.
@@ -124,8 +124,8 @@ fn run_round<C: Calls, R: Wait>(
     ensures counts { IfOk result (λ sums. IsOfCalls count (so_far sums)) }
     ensures left { IfOk result (λ sums. sums.left ≤ capacity_of line.now) }
     ensures same { IsSameTaker taker.new taker.old }
-    ensures err { IfErr result (λ refusal. IsRefused C.did calls.old refusal calls.new) }
-    ensures given_up { OnErr result (GainsAtMost (taken_of taker.old) 1 (taken_of taker.new)) }
+    ensures err { IfErr result (λ refusal. IsRefused C.did (Unit {0})
+        calls.old (taken_of taker.old) refusal calls.new (taken_of taker.new)) }
 {
     let mut sums = Sums::new(calls.allocator(), seen);
     for turn in 0..count {
@@ -166,9 +166,11 @@ fn next_of_round<C: Calls, R: Wait>(
         + sums.old.skipped + 256) × (sums.new.hot ≤ sums.old.hot + 256) }
     ensures left { sums.old.left ≤ capacity_of line.now → sums.new.left ≤ capacity_of line.now }
     ensures same { IsSameTaker taker.new taker.old }
-    ensures err { IfErr result (λ refusal. IsRefused C.did calls.old refusal calls.new) }
-    ensures err_sums { OnErr result (so_far sums.new ≡ so_far sums.old) }
-    ensures given_up { OnErr result (GainsAtMost (taken_of taker.old) 1 (taken_of taker.new)) }
+    ensures room { OnOk result (256 ≤ vec_capacity sums.new.refined) }
+    ensures err { IfErr result (λ refusal. IsRefused C.did
+        (vec_capacity sums.old.refined < length sums.old.refined.items + 256)
+        calls.old (taken_of taker.old) refusal calls.new (taken_of taker.new)
+        × (so_far sums.new ≡ so_far sums.old)) }
 {
     sums.refined.reserve(MOST_CARDS)?;
     let Some(parcel) = line.take(rt, taker) else {
@@ -224,6 +226,7 @@ impl Sums {
         requires room { vec_len self.old.refined + length reply.now.refined
             ≤ vec_capacity self.old.refined }
         ensures sums { so_far self.new ≡ sums_with (so_far self.old) reply.now }
+        ensures capacity { vec_capacity self.old.refined ≤ vec_capacity self.new.refined }
         ensures left { self.new.left ≡ left }
     {
         let Ok(()) = self.refined.extend_from_slice(reply.refined.as_slice()) else {

@@ -12,7 +12,7 @@ use std::sync::Wait;
 
 /// Empties the logs of mutators that are stopped, and the queue by this taker (`empty_line`). It
 /// makes no call. Each card that was there is pending by its mark, unless it was refined meanwhile,
-/// and a drain refines each that is pending (docs/PROFILE.md, The steps of a caller).
+/// and a drain refines each that is pending (docs/rules.md, The steps of a caller).
 pub fn stand_still<R: Wait>(rt: &R, line: &Line, taker: &mut Taker, mutators: &mut [Mutator])
     requires taker { IsTakerOf line.now taker.old }
     ensures stopped { (k : ℕ) (d : M) → k < length mutators.old
@@ -45,7 +45,7 @@ pub fn empty_line<R: Wait>(rt: &R, line: &Line, taker: &mut Taker)
     }
 }
 
-// A take, of which the loop above needs no more.
+// Takes one parcel; the contract keeps only what `empty_line` uses.
 fn take<R: Wait>(rt: &R, line: &Line, taker: &mut Taker) -> Option<Parcel>
     requires taker { IsTakerOf line.now taker.old }
     ensures taken { MatchOption result ((taken_of taker.new ≡ taken_of taker.old)

@@ -1,7 +1,7 @@
 //! Each call once, with memory enough: what it answers and what it enters.
 use super::calls::{clear, is_pending, members, redirect, refine, status, target};
 use super::*;
-use crate::tests::steps::{assert_moved, assert_round, whole};
+use crate::tests::replies::{assert_moved, assert_round, whole};
 use std::test::Fail;
 
 /// Two stores by two mutators fill logs of one card, and two refiners refine a buffer and none.
@@ -50,7 +50,6 @@ fn assert_stores_and_refinements(rt: &impl Abort, book: &Book) {
 #[test]
 fn questions_are_entered(rt: HostRuntime) -> Result<(), Fail> {
     let mut book = book(&rt, rt.alloc(), 1, 4, 10)?;
-    one_recorded_one_pending(&rt, &mut book)?;
     Ok(ask(&rt, &mut book)?)
 }
 
@@ -63,10 +62,16 @@ fn one_recorded_one_pending(rt: &impl Abort, book: &mut Book) -> Result<(), Refu
 }
 
 fn ask(rt: &impl Abort, book: &mut Book) -> Result<(), Refusal> {
+    one_recorded_one_pending(rt, book)?;
     assert_eq!(rt; target(rt, book, 1, 0)?, Some(8));
     assert!(rt; is_pending(rt, book, 2, 1)?);
     assert!(rt; has_cards(&members(rt, book, 3, 1)?, &[0]));
     assert_eq!(rt; status(book, 4)?, (1, 1));
+    assert_questions(rt, book);
+    Ok(())
+}
+
+fn assert_questions(rt: &impl Abort, book: &Book) {
     let wanted = [
         (
             1,
@@ -89,7 +94,6 @@ fn ask(rt: &impl Abort, book: &mut Book) -> Result<(), Refusal> {
         (4, Call::Status, Want::Status(1, 1), [].as_slice()),
     ];
     assert_last(rt, book, 3, &wanted);
-    Ok(())
 }
 
 /// Each call that a book makes by its value, while card 1 is pending and card 0 is recorded for
@@ -97,9 +101,13 @@ fn ask(rt: &impl Abort, book: &mut Book) -> Result<(), Refusal> {
 #[test]
 fn calls_by_their_values_are_answered(rt: HostRuntime) -> Result<(), Fail> {
     let mut book = book(&rt, rt.alloc(), 1, 4, 10)?;
-    one_recorded_one_pending(&rt, &mut book)?;
-    ask_questions(&rt, &mut book)?;
-    ask_changes(&rt, &mut book)?;
+    Ok(ask_by_value(&rt, &mut book)?)
+}
+
+fn ask_by_value(rt: &impl Abort, book: &mut Book) -> Result<(), Refusal> {
+    one_recorded_one_pending(rt, book)?;
+    ask_questions(rt, book)?;
+    ask_changes(rt, book)?;
     assert_eq!(rt; book.entries().len(), 10);
     Ok(())
 }
@@ -129,9 +137,7 @@ fn ask_changes(rt: &impl Abort, book: &mut Book) -> Result<(), Refusal> {
 #[test]
 fn drains_and_clears_are_entered(rt: HostRuntime) -> Result<(), Fail> {
     let mut book = book(&rt, rt.alloc(), 2, 4, 10)?;
-    drain_and_clear(&rt, &mut book)?;
-    assert_drains_and_clears(&rt, &book);
-    Ok(())
+    Ok(drain_and_clear(&rt, &mut book)?)
 }
 
 fn drain_and_clear(rt: &impl Abort, book: &mut Book) -> Result<(), Refusal> {
@@ -143,6 +149,7 @@ fn drain_and_clear(rt: &impl Abort, book: &mut Book) -> Result<(), Refusal> {
     assert_eq!(rt; clear(rt, book, 2, 2)?, still);
     let _ = store(rt, book, 0, &mut log, 4, None)?;
     assert_eq!(rt; clear(rt, book, 3, 2)?, ClearReply::Cleared);
+    assert_drains_and_clears(rt, book);
     Ok(())
 }
 
@@ -188,9 +195,7 @@ fn assert_drains_and_clears(rt: &impl Abort, book: &Book) {
 #[test]
 fn a_redirect_is_entered(rt: HostRuntime) -> Result<(), Fail> {
     let mut book = book(&rt, rt.alloc(), 2, 4, 10)?;
-    move_one(&rt, &mut book)?;
-    assert_move_is_entered(&rt, &book);
-    Ok(())
+    Ok(move_one(&rt, &mut book)?)
 }
 
 fn move_one(rt: &impl Abort, book: &mut Book) -> Result<(), Refusal> {
@@ -199,7 +204,9 @@ fn move_one(rt: &impl Abort, book: &mut Book) -> Result<(), Refusal> {
     assert_moved(rt, &redirect(rt, book, 7, 1, 2)?, 1, &[0]);
     assert_eq!(rt; target(rt, book, 0, 0)?, Some(17));
     assert_set(rt, book, 1, &[])?;
-    assert_set(rt, book, 2, &[0])
+    assert_set(rt, book, 2, &[0])?;
+    assert_move_is_entered(rt, book);
+    Ok(())
 }
 
 fn assert_move_is_entered(rt: &impl Abort, book: &Book) {

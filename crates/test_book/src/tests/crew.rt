@@ -5,7 +5,7 @@ ghost use Rattle.g1_layout.specs.Shape.{slot_count};
 ghost use Rattle.g1_steps.specs.Ask.{StepFits};
 
 use super::*;
-use g1_steps::Step;
+use g1_book::Step;
 
 mod local;
 mod meeting;

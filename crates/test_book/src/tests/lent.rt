@@ -1,98 +1,191 @@
-//! What no clause says of the steps at a lent book: that a line takes what is put and gives it
-//! back, and what the steps answer, worked by hand.
+//! The callers of a lent book: each of their steps once, and a pause of two mutators. What steps
+//! answer is in the worked traces (crates/gate_examples/data).
+ghost use Rattle.std.specs.Prelude.{◌≡◌, All};
+ghost use Rattle.g1_log.specs.Ends.{IsSenderOf, IsTakerOf};
+
 use super::*;
-use crate::tests::steps::{Calls, Step, take_all};
-use g1_steps::{Ends, LentBook};
+use crate::tests::replies::{assert_flushed, assert_round, whole};
+use g1_book::{Ends, LentBook, stand_still};
+use g1_core::Fill::{Full, No};
+use g1_log::Sender;
 use std::sync::Wait;
+use std::test::Fail;
 
-mod logs;
-mod pause;
-mod rounds;
-
-/// A caller of a book that is lent.
-#[derive(Drop)]
-struct AtBook<'a, 'b> {
-    book: &'a mut Book,
-    number: u32,
-    ends: Ends<'b>,
+/// The ends of a caller with an empty log that two cards fill, with one of the senders and one of
+/// the takers.
+fn ends_of<'a>(
+    rt: &impl Abort,
+    line: &'a Line,
+    senders: &mut Vec<Sender>,
+    takers: &mut Vec<Taker>,
+) -> Ends<'a>
+    requires senders { All (IsSenderOf line.now) senders.old.items }
+    requires takers { All (IsTakerOf line.now) takers.old.items }
+    ensures line { result.line.now ≡ line.now }
+    ensures senders { All (IsSenderOf line.now) senders.new.items }
+    ensures takers { All (IsTakerOf line.now) takers.new.items }
+{
+    let sender = senders.pop().expect(rt, "a sender for each mutator");
+    let taker = takers.pop().expect(rt, "a taker for each caller");
+    Ends::new(line, Mutator::new(Log::new(2), sender), taker)
 }
 
-impl Calls for AtBook<'_, '_> {
-    fn store<R: Wait + Abort>(
-        &mut self,
-        rt: &R,
-        from: u32,
-        to: u32,
-    ) -> Result<StoreReply, Refusal> {
-        assert!(rt; self.number < self.book.mutators());
-        let from = slot(rt, self.book, from);
-        let to = slot(rt, self.book, to);
-        let mut calls = LentBook::new(self.book, self.number);
-        self.ends.store(rt, &mut calls, from, Some(to))
-    }
-
-    fn flush<R: Wait + Abort>(&mut self, rt: &R) -> FlushReply {
-        let mut calls = LentBook::new(self.book, self.number);
-        self.ends.flush(rt, &mut calls)
-    }
-
-    fn refine<R: Wait + Abort>(&mut self, rt: &R) -> Result<RefineReply, Refusal> {
-        let mut calls = LentBook::new(self.book, self.number);
-        self.ends.refine(rt, &mut calls)
-    }
-
-    fn work<R: Wait + Abort>(&mut self, rt: &R) -> Result<RefineReply, Refusal> {
-        let start = self.book.config().start();
-        let mut calls = LentBook::new(self.book, self.number);
-        self.ends.work(rt, &mut calls, start)
-    }
-
-    fn target<R: Wait + Abort>(&mut self, rt: &R, of: u32) -> Result<Option<u32>, Refusal> {
-        calls::target(rt, self.book, self.number, of)
-    }
-
-    fn is_pending<R: Wait + Abort>(&mut self, rt: &R, of: u32) -> Result<bool, Refusal> {
-        calls::is_pending(rt, self.book, self.number, of)
-    }
-
-    fn members<R: Wait + Abort>(&mut self, rt: &R, of: u32) -> Result<CardList, Refusal> {
-        calls::members(rt, self.book, self.number, of)
-    }
-
-    fn status<R: Wait + Abort>(&mut self, _rt: &R) -> Result<Status, Refusal> {
-        self.book.status(self.number)
-    }
-
-    fn drain<R: Wait + Abort>(&mut self, rt: &R, of: u32) -> Result<Drained, Refusal> {
-        calls::drain(rt, self.book, self.number, of)
-    }
-
-    fn clear<R: Wait + Abort>(&mut self, rt: &R, of: u32) -> Result<ClearReply, Refusal> {
-        calls::clear(rt, self.book, self.number, of)
-    }
-
-    fn redirect<R: Wait + Abort>(
-        &mut self,
-        rt: &R,
-        from: u32,
-        to: u32,
-    ) -> Result<Redirected, Refusal> {
-        calls::redirect(rt, self.book, self.number, from, to)
-    }
-}
-
-/// Takes the steps as the one caller of the book.
-fn play<R: Abort + Wait>(
+/// Stores a reference to slot 24 as the caller of this number, and checks what becomes of its log.
+fn store_by<R: Abort + Wait>(
     rt: &R,
-    alloc: Global,
     book: &mut Book,
-    steps: &[Step<'_>],
-) -> Result<(), Refusal> {
+    ends: &mut Ends<'_>,
+    number: u32,
+    from: u32,
+    fill: Fill,
+) -> Result<(), Refusal>
+    ensures { ends.new.line ≡ ends.old.line }
+{
+    assert!(rt; number < book.mutators());
+    let from = slot(rt, book, from);
+    let to = slot(rt, book, 24);
+    let mut calls = LentBook::new(book, number);
+    let reply = ends.store(rt, &mut calls, from, Some(to))?;
+    assert_eq!(rt; reply.fill, fill);
+    Ok(())
+}
+
+fn flush_by<R: Abort + Wait>(
+    rt: &R,
+    book: &mut Book,
+    ends: &mut Ends<'_>,
+    number: u32,
+) -> FlushReply {
+    let mut calls = LentBook::new(book, number);
+    ends.flush(rt, &mut calls)
+}
+
+fn refine_by<R: Abort + Wait>(
+    rt: &R,
+    book: &mut Book,
+    ends: &mut Ends<'_>,
+    number: u32,
+) -> Result<RefineReply, Refusal> {
+    let mut calls = LentBook::new(book, number);
+    ends.refine(rt, &mut calls)
+}
+
+fn work_by<R: Abort + Wait>(
+    rt: &R,
+    book: &mut Book,
+    ends: &mut Ends<'_>,
+    number: u32,
+) -> Result<RefineReply, Refusal> {
+    let start = book.config().start();
+    let mut calls = LentBook::new(book, number);
+    ends.work(rt, &mut calls, start)
+}
+
+/// A flushed card is too little for a round, and is refined.
+fn each_step<R: Abort + Wait>(rt: &R, book: &mut Book, ends: &mut Ends<'_>) -> Result<(), Refusal> {
+    store_by(rt, book, ends, 0, 0, No)?;
+    assert_flushed(rt, &flush_by(rt, book, ends, 0), 1, Full);
+    assert_round(rt, &work_by(rt, book, ends, 0)?, whole(0, &[], 1));
+    assert_round(rt, &refine_by(rt, book, ends, 0)?, whole(1, &[0], 0));
+    Ok(())
+}
+
+fn steps_of_one<R: Abort + Wait>(rt: &R, alloc: Global, book: &mut Book) -> Result<(), Refusal> {
     let (line, mutator, taker) = ends(rt, alloc, book.config())?;
-    let mut caller = AtBook {
-        book,
-        number: 0,
-        ends: Ends::new(&line, mutator, taker),
-    };
-    take_all(rt, &mut caller, steps)
+    each_step(rt, book, &mut Ends::new(&line, mutator, taker))
+}
+
+#[test]
+fn a_caller_makes_each_step(rt: HostRuntime) -> Result<(), Fail> {
+    let mut book = plain_book(&rt, rt.alloc(), 256, 10)?;
+    Ok(steps_of_one(&rt, rt.alloc(), &mut book)?)
+}
+
+/// Three stores by each of two callers: each puts a buffer into the line, and keeps a card.
+fn store_six<R: Abort + Wait>(
+    rt: &R,
+    book: &mut Book,
+    first: &mut Ends<'_>,
+    second: &mut Ends<'_>,
+) -> Result<(), Refusal>
+    ensures first { first.new.line ≡ first.old.line }
+    ensures second { second.new.line ≡ second.old.line }
+{
+    store_by(rt, book, first, 0, 0, No)?;
+    store_by(rt, book, second, 1, 4, No)?;
+    store_by(rt, book, first, 0, 8, Full)?;
+    store_by(rt, book, second, 1, 12, Full)?;
+    store_by(rt, book, first, 0, 16, No)?;
+    store_by(rt, book, second, 1, 20, No)?;
+    assert_eq!(rt; first.line().len(rt), 2);
+    Ok(())
+}
+
+/// Checks that a pause has emptied the line without an entry, and that a drain then finds each card
+/// by its mark.
+fn assert_paused<R: Abort + Wait>(rt: &R, book: &mut Book, line: &Line) -> Result<(), Refusal> {
+    assert_eq!(rt; line.len(rt), 0);
+    assert_eq!(rt; book.entries().len(), 6);
+    assert_set(rt, book, 3, &[0, 1, 2, 3, 4, 5])
+}
+
+/// Stores by both callers, and a pause by each.
+fn pause_each<R: Abort + Wait>(
+    rt: &R,
+    book: &mut Book,
+    first: &mut Ends<'_>,
+    second: &mut Ends<'_>,
+) -> Result<(), Refusal> {
+    store_six(rt, book, first, second)?;
+    first.pause(rt);
+    second.pause(rt);
+    assert!(rt; first.log().is_empty() && second.log().is_empty());
+    assert_paused(rt, book, first.line())
+}
+
+/// Stores by both callers, who then stand still together.
+fn stop_both<R: Abort + Wait>(
+    rt: &R,
+    book: &mut Book,
+    line: &Line,
+    callers: (Ends<'_>, Ends<'_>),
+) -> Result<(), Refusal>
+    requires { (callers.0.line.now ≡ line.now) × (callers.1.line.now ≡ line.now) }
+{
+    let (mut first, mut second) = callers;
+    store_six(rt, book, &mut first, &mut second)?;
+    let (first, mut taker) = first.into_parts();
+    let (second, _) = second.into_parts();
+    let mut all = [first, second];
+    stand_still(rt, line, &mut taker, &mut all);
+    assert!(rt; all.iter().all(|mutator| mutator.log.is_empty()));
+    assert_paused(rt, book, line)
+}
+
+fn two_pauses<R: Abort + Wait>(rt: &R, alloc: Global, book: &mut Book) -> Result<(), Refusal> {
+    let (line, mut senders, mut takers) = Line::new(alloc, 4, 2, 2)?;
+    let mut first = ends_of(rt, &line, &mut senders, &mut takers);
+    let mut second = ends_of(rt, &line, &mut senders, &mut takers);
+    pause_each(rt, book, &mut first, &mut second)
+}
+
+fn one_standstill<R: Abort + Wait>(rt: &R, alloc: Global, book: &mut Book) -> Result<(), Refusal> {
+    let (line, mut senders, mut takers) = Line::new(alloc, 4, 2, 2)?;
+    let first = ends_of(rt, &line, &mut senders, &mut takers);
+    let second = ends_of(rt, &line, &mut senders, &mut takers);
+    stop_both(rt, book, &line, (first, second))
+}
+
+/// A pause by each caller empties its log, and that of the first the line.
+#[test]
+fn a_pause_of_each_caller_empties_logs_and_line(rt: HostRuntime) -> Result<(), Fail> {
+    let mut book = book(&rt, rt.alloc(), 2, 4, 20)?;
+    Ok(two_pauses(&rt, rt.alloc(), &mut book)?)
+}
+
+/// Mutators that stand still together are emptied by one taker.
+#[test]
+fn a_standstill_empties_logs_and_line(rt: HostRuntime) -> Result<(), Fail> {
+    let mut book = book(&rt, rt.alloc(), 2, 4, 20)?;
+    Ok(one_standstill(&rt, rt.alloc(), &mut book)?)
 }

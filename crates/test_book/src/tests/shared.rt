@@ -4,30 +4,32 @@ ghost use Rattle.std.specs.Prelude.{◌≡◌, ◌<◌, ◌≤◌, [], vec_len, 
 ghost use Rattle.std.proofs.Props.{props};
 ghost use Rattle.g1_layout.specs.Shape.{slot_count, card_count};
 ghost use Rattle.g1_shared.specs.Callers.{IsCallerOf};
-ghost use Rattle.g1_book.specs.History.{terms_of};
+ghost use Rattle.g1_shared.specs.Counts.{shared_terms};
 
 use super::*;
 use crate::tests::calls::number_of;
-use crate::tests::steps::{Calls, Step, take};
-use g1_shared::{Caller, Frame, Shared};
+use g1_book::{Caller, Shared, Terms};
 use std::marker::Brand;
 use std::sync::Wait;
 use std::sync::ledger::{Blank, Ledger};
+use steps::{Step, take};
 
 mod answers;
+mod asks;
 mod guard;
 mod pause;
+mod steps;
 mod threads;
 
 /// A caller, and the shared book that made it.
 #[derive(Drop)]
-struct SharedCaller<'a, M: Frame, S: Ledger> {
+struct SharedCaller<'a, M: Terms, S: Ledger> {
     shared: &'a Shared<M, S>,
     caller: Caller<M, S>,
     ghost mine: { IsCallerOf shared.now caller } by { Prim.hlevel props },
 }
 
-impl<M: Frame, S: Ledger> SharedCaller<'_, M, S> {
+impl<M: Terms, S: Ledger> SharedCaller<'_, M, S> {
     fn slot<R: Wait + Abort>(&self, rt: &R, number: u32) -> Slot
         ensures { result < slot_count M.terms.layout }
     {
@@ -54,7 +56,8 @@ impl<M: Frame, S: Ledger> SharedCaller<'_, M, S> {
     }
 }
 
-impl<M: Frame, S: Ledger> Calls for SharedCaller<'_, M, S> {
+/// The calls of a caller, with numbers for their arguments.
+impl<M: Terms, S: Ledger> SharedCaller<'_, M, S> {
     fn store<R: Wait + Abort>(
         &mut self,
         rt: &R,
@@ -124,7 +127,7 @@ impl<M: Frame, S: Ledger> Calls for SharedCaller<'_, M, S> {
 
 /// What the callers of a shared book do, from when it is opened until it is finished.
 trait Play {
-    fn play<M: Frame, S: Ledger, R: Wait + Abort>(
+    fn play<M: Terms, S: Ledger, R: Wait + Abort>(
         &self,
         rt: &R,
         callers: &mut [SharedCaller<'_, M, S>],
@@ -135,7 +138,7 @@ trait Play {
 type Steps<'a> = &'a [(usize, Step<'a>)];
 
 impl Play for Steps<'_> {
-    fn play<M: Frame, S: Ledger, R: Wait + Abort>(
+    fn play<M: Terms, S: Ledger, R: Wait + Abort>(
         &self,
         rt: &R,
         callers: &mut [SharedCaller<'_, M, S>],
@@ -149,7 +152,7 @@ impl Play for Steps<'_> {
 }
 
 /// The shared book, and its callers.
-fn opened<M: Frame, S: Ledger>(
+fn opened<M: Terms, S: Ledger>(
     made: Blank,
     stored: Blank,
     book: Book,
@@ -157,7 +160,7 @@ fn opened<M: Frame, S: Ledger>(
 ) -> Result<(Shared<M, S>, Vec<Caller<M, S>>), Refusal>
     requires made { (made.name ≡ M.name) × (made.parts ≡ M.parts) × (made.parts ≡ callers) }
     requires stored { (stored.name ≡ S.name) × (stored.parts ≡ S.parts) × (stored.parts ≡ callers) }
-    requires terms { terms_of book ≡ M.terms }
+    requires terms { shared_terms book ≡ M.terms }
     requires empty { book.entries ≡ [] }
     requires callers { (M.terms.mutators ≤ callers) × (callers ≤ 12) }
     ensures len { IfOk result (λ opened. vec_len opened.1 ≡ callers) }
@@ -170,7 +173,7 @@ fn opened<M: Frame, S: Ledger>(
 }
 
 /// Checks how many calls the caller has made under the lock, and how many of them are stores.
-fn assert_made<M: Frame, S: Ledger>(
+fn assert_made<M: Terms, S: Ledger>(
     rt: &impl Abort,
     caller: &Caller<M, S>,
     calls: u64,
@@ -180,7 +183,7 @@ fn assert_made<M: Frame, S: Ledger>(
 }
 
 /// The caller with the book that made it.
-fn shared_caller<'a, M: Frame, S: Ledger>(
+fn shared_caller<'a, M: Terms, S: Ledger>(
     shared: &'a Shared<M, S>,
     caller: Caller<M, S>,
 ) -> SharedCaller<'a, M, S>
@@ -190,7 +193,7 @@ fn shared_caller<'a, M: Frame, S: Ledger>(
 }
 
 /// The callers with the book that made them, in order.
-fn shared_callers<'a, M: Frame, S: Ledger>(
+fn shared_callers<'a, M: Terms, S: Ledger>(
     alloc: Global,
     shared: &'a Shared<M, S>,
     callers: Vec<Caller<M, S>>,
@@ -205,7 +208,7 @@ fn shared_callers<'a, M: Frame, S: Ledger>(
 }
 
 /// The callers alone.
-fn bare_callers<M: Frame, S: Ledger>(
+fn bare_callers<M: Terms, S: Ledger>(
     alloc: Global,
     callers: Vec<SharedCaller<'_, M, S>>,
 ) -> Result<Vec<Caller<M, S>>, NoMemory> {
@@ -217,7 +220,7 @@ fn bare_callers<M: Frame, S: Ledger>(
 }
 
 /// Opens the shared book, lets its callers play, and finishes it.
-fn share<M: Frame, S: Ledger, P: Play, R: Wait + Abort>(
+fn share<M: Terms, S: Ledger, P: Play, R: Wait + Abort>(
     rt: &R,
     alloc: Global,
     made: Blank,
@@ -228,7 +231,7 @@ fn share<M: Frame, S: Ledger, P: Play, R: Wait + Abort>(
 ) -> Result<Book, Refusal>
     requires made { (made.name ≡ M.name) × (made.parts ≡ M.parts) × (made.parts ≡ callers) }
     requires stored { (stored.name ≡ S.name) × (stored.parts ≡ S.parts) × (stored.parts ≡ callers) }
-    requires terms { terms_of book ≡ M.terms }
+    requires terms { shared_terms book ≡ M.terms }
     requires empty { book.entries ≡ [] }
     requires callers { (1 ≤ callers) × (M.terms.mutators ≤ callers) × (callers ≤ 12) }
 {
@@ -239,7 +242,7 @@ fn share<M: Frame, S: Ledger, P: Play, R: Wait + Abort>(
 }
 
 /// The callers, once they have played.
-fn played_by<M: Frame, S: Ledger, P: Play, R: Wait + Abort>(
+fn played_by<M: Terms, S: Ledger, P: Play, R: Wait + Abort>(
     rt: &R,
     alloc: Global,
     shared: &Shared<M, S>,

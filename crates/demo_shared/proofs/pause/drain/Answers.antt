@@ -1,5 +1,5 @@
 use Rattle.std.proofs.Common.{subst}
-use Rattle.g1_book.specs.History.{AnswersExactly}
+use Rattle.g1_history.specs.History.{AnswersExactly}
 use Rattle.demo_shared.proofs.pause.drain.Goals as goal
 
 pub returns-clause-exact : goal.returns-clause-exact

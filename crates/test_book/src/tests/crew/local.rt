@@ -2,24 +2,15 @@
 //!
 //! The heap has 4 regions of 2 cards of 4 slots: card `c` has the slots from `4 * c` on, region `r`
 //! those from `8 * r` on.
-ghost use Rattle.std.specs.Prelude.{◌≡◌, ◌≤◌, true, nat_lt, IfOk};
-ghost use Rattle.g1_book.specs.History.{layout_in};
+ghost use Rattle.std.specs.Prelude.{◌≡◌, ◌<◌, ◌≤◌, true, nat_lt};
+ghost use Rattle.g1_layout.specs.Shape.{slot_count};
+ghost use Rattle.g1_history.specs.History.{layout_in};
 
 use super::*;
-use crate::tests::steps::{assert_flushed, assert_round, assert_stored, whole};
-use g1_steps::{Desk, Ends, LentBook, LocalDesk, Outcome, mutate, refiner};
+use crate::tests::replies::{assert_flushed, assert_round, assert_stored, whole};
+use g1_book::{Desk, Ends, LentBook, LocalDesk, Outcome, mutate, refiner};
 use std::sync::Wait;
 use std::test::Fail;
-
-/// A new book for one mutator, with the settings where nobody chooses.
-fn plain_book(rt: &impl Abort, alloc: Global, history: usize) -> Result<Book, NoMemory>
-    requires low { 1 ≤ history }
-    requires high { history ≤ 1000000 }
-    ensures { IfOk result (λ book. book.mutators ≡ 1) }
-{
-    let layout = Layout::new(4, 2, 4).expect(rt, "a layout within the limits");
-    Book::open(alloc, layout, Config::default(), 1, history)
-}
 
 /// The desk of caller 0 at the book, whose rounds begin at `start` completed buffers.
 fn desk_at<'a, R>(
@@ -35,48 +26,68 @@ fn desk_at<'a, R>(
     LocalDesk::new(rt, ends, LentBook::new(book, 0), start)
 }
 
+/// Stores a reference and flushes the log: its card goes into the line.
+fn flush_one<D: Desk>(rt: &impl Abort, desk: &mut D, from: Slot, to: Slot) -> Result<(), Refusal>
+    requires mutator { D.may_store desk.old ≡ true }
+    requires slots { (from < D.slots desk.old) × (to < D.slots desk.old) }
+    ensures same { (D.slots desk.new ≡ D.slots desk.old)
+        × (D.may_store desk.new ≡ D.may_store desk.old) }
+{
+    assert_stored(rt, &desk.store(from, Some(to))?, Fill::No);
+    assert_flushed(rt, &desk.flush()?, 1, Fill::Full);
+    Ok(())
+}
+
+/// Flushes a card twice.
+fn flush_two<D: Desk>(rt: &impl Abort, desk: &mut D, layout: Layout) -> Result<(), Refusal>
+    requires mutator { D.may_store desk.old ≡ true }
+    requires slots { D.slots desk.old ≡ slot_count layout }
+{
+    let to = slot_in(rt, layout, 24);
+    let from = slot_in(rt, layout, 0);
+    flush_one(rt, desk, from, to)?;
+    let from = slot_in(rt, layout, 4);
+    flush_one(rt, desk, from, to)
+}
+
+fn one_flush<R: Abort + Wait>(rt: &R, alloc: Global, book: &mut Book) -> Result<(), Refusal>
+    requires { book.old.mutators ≡ 1 }
+{
+    let config = book.config();
+    let (from, to) = (slot(rt, book, 0), slot(rt, book, 8));
+    let (line, mutator, taker) = ends(rt, alloc, config)?;
+    let own = Ends::new(&line, mutator, taker);
+    let mut desk = desk_at(rt, own, book, config.start());
+    flush_one(rt, &mut desk, from, to)?;
+    assert_round(rt, &desk.work()?, whole(0, &[], 1));
+    Ok(())
+}
+
 /// A store whose log is flushed leaves one completed buffer in the line, where a round begins at
 /// five.
 #[test]
 fn a_desk_stores_flushes_and_begins_no_round(rt: HostRuntime) -> Result<(), Fail> {
-    let mut book = plain_book(&rt, rt.alloc(), 10)?;
+    let mut book = plain_book(&rt, rt.alloc(), 256, 10)?;
+    Ok(one_flush(&rt, rt.alloc(), &mut book)?)
+}
+
+fn two_flushes<R: Abort + Wait>(rt: &R, alloc: Global, book: &mut Book) -> Result<(), Refusal>
+    requires { book.old.mutators ≡ 1 }
+{
     let layout = book.layout();
-    let config = book.config();
-    let (line, mutator, taker) = ends(&rt, rt.alloc(), config)?;
+    let (line, mutator, taker) = ends(rt, alloc, book.config())?;
     let own = Ends::new(&line, mutator, taker);
-    let mut desk = desk_at(&rt, own, &mut book, config.start());
-    let (from, to) = (slot_in(&rt, layout, 0), slot_in(&rt, layout, 8));
-    assert_stored(&rt, &desk.store(from, Some(to))?, Fill::No, &[]);
-    assert_flushed(&rt, &desk.flush()?, 1, Fill::Full, &[]);
-    assert_round(&rt, &desk.work()?, whole(0, &[], 1));
+    let mut desk = desk_at(rt, own, book, 2);
+    flush_two(rt, &mut desk, layout)?;
+    assert_round(rt, &desk.work()?, whole(2, &[0, 1], 0));
     Ok(())
 }
 
 /// At a desk whose rounds begin at two buffers, two begin a round, which leaves none.
 #[test]
 fn a_desk_begins_a_round_at_its_start(rt: HostRuntime) -> Result<(), Fail> {
-    let mut book = plain_book(&rt, rt.alloc(), 10)?;
-    let layout = book.layout();
-    let (line, mutator, taker) = ends(&rt, rt.alloc(), book.config())?;
-    let own = Ends::new(&line, mutator, taker);
-    let mut desk = desk_at(&rt, own, &mut book, 2);
-    let to = slot_in(&rt, layout, 24);
-    assert_stored(
-        &rt,
-        &desk.store(slot_in(&rt, layout, 0), Some(to))?,
-        Fill::No,
-        &[],
-    );
-    assert_flushed(&rt, &desk.flush()?, 1, Fill::Full, &[]);
-    assert_stored(
-        &rt,
-        &desk.store(slot_in(&rt, layout, 4), Some(to))?,
-        Fill::No,
-        &[],
-    );
-    assert_flushed(&rt, &desk.flush()?, 1, Fill::Full, &[]);
-    assert_round(&rt, &desk.work()?, whole(2, &[0, 1], 0));
-    Ok(())
+    let mut book = plain_book(&rt, rt.alloc(), 256, 10)?;
+    Ok(two_flushes(&rt, rt.alloc(), &mut book)?)
 }
 
 /// Makes the calls of a script at a desk of caller 0, and then three rounds.
@@ -110,7 +121,7 @@ fn assert_worked<R: Abort + Wait>(
     requires low { 1 ≤ history }
     requires high { history ≤ 1000000 }
 {
-    let mut book = plain_book(rt, alloc, history)?;
+    let mut book = plain_book(rt, alloc, 256, history)?;
     assert_eq!(rt; worked(rt, alloc, &mut book, wishes)?, ends);
     assert_eq!(rt; book.entries().len(), entries);
     Ok(())

@@ -4,8 +4,8 @@ ghost use Rattle.g1_layout.specs.Shape.{slot_count};
 ghost use Rattle.g1_steps.specs.Ask.{ScriptFits};
 
 use super::*;
+use g1_book::{Desk, FlushReply, Job, NotStarted, Script, run_crew};
 use g1_core::RefineReply;
-use g1_steps::{Desk, FlushReply, Job, NotStarted, Script, run_crew};
 use std::alloc::AllocError;
 use std::hint;
 use std::sync::Wait;
@@ -133,6 +133,15 @@ fn run_both<R: Threads + Wait + Sync + Abort>(
 ) -> Result<(), Fail> {
     let done = run_crew(rt, alloc, both(rt, alloc, first, second)?)?;
     assert_both_made(rt, done.as_slice());
+    Ok(())
+}
+
+#[test]
+fn a_crew_that_is_not_started_has_its_text(rt: HostRuntime) -> Result<(), Fail> {
+    assert_eq!(rt;
+        format!(in rt.alloc(); "{NotStarted}")?.as_str(),
+        "no thread"
+    );
     Ok(())
 }
 

@@ -3,11 +3,10 @@ ghost use Rattle.std.specs.Prelude.{◌≡◌, ◌≤◌, [], All, IfOk, nat_lt,
 ghost use Rattle.g1_layout.specs.Shape.{slot_count};
 ghost use Rattle.g1_steps.specs.Ask.{ScriptFits};
 ghost use Rattle.g1_shared.specs.Callers.{IsCallerOf};
-ghost use Rattle.g1_book.specs.History.{terms_of};
+ghost use Rattle.g1_shared.specs.Counts.{shared_terms};
 
 use super::*;
-use g1_shared::{Caller, Frame, Shared, SharedDesk};
-use g1_steps::{Job, Script, run_crew};
+use g1_book::{Caller, Job, Script, Shared, SharedDesk, Terms, run_crew};
 use std::marker::{Brand, Send};
 use std::sync::Wait;
 use std::sync::ledger::{Blank, Ledger};
@@ -58,7 +57,7 @@ fn script_of(
 }
 
 /// The caller's job at the book.
-fn job_of<'a, R: Abort, M: Frame, S: Ledger>(
+fn job_of<'a, R: Abort, M: Terms, S: Ledger>(
     rt: &'a R,
     alloc: Global,
     layout: Layout,
@@ -81,7 +80,7 @@ fn job_of<'a, R: Abort, M: Frame, S: Ledger>(
 }
 
 /// A job for each caller.
-fn jobs_of<'a, R: Abort, M: Frame, S: Ledger>(
+fn jobs_of<'a, R: Abort, M: Terms, S: Ledger>(
     rt: &'a R,
     alloc: Global,
     layout: Layout,
@@ -105,7 +104,7 @@ fn jobs_of<'a, R: Abort, M: Frame, S: Ledger>(
 
 /// The callers once their jobs are done, each with as many calls as its script has. Beside them how
 /// many of their calls were entered.
-fn callers_of<'a, R: Abort, M: Frame, S: Ledger>(
+fn callers_of<'a, R: Abort, M: Terms, S: Ledger>(
     rt: &R,
     jobs: Vec<Job<SharedDesk<'a, R, M, S>>>,
     room: Vec<Caller<M, S>>,
@@ -134,7 +133,7 @@ fn callers_of<'a, R: Abort, M: Frame, S: Ledger>(
 }
 
 /// The book after all jobs have run, and how many calls its callers say were entered.
-fn run_all<R: Threads + Wait + Sync + Abort, M: Frame + Send + Sync, S: Ledger + Send + Sync>(
+fn run_all<R: Threads + Wait + Sync + Abort, M: Terms + Send + Sync, S: Ledger + Send + Sync>(
     rt: &R,
     alloc: Global,
     made: Blank,
@@ -143,7 +142,7 @@ fn run_all<R: Threads + Wait + Sync + Abort, M: Frame + Send + Sync, S: Ledger +
 ) -> Result<(Book, u64), Fail>
     requires made { (made.name ≡ M.name) × (made.parts ≡ M.parts) × (made.parts ≡ 12) }
     requires stored { (stored.name ≡ S.name) × (stored.parts ≡ S.parts) × (stored.parts ≡ 12) }
-    requires terms { terms_of book ≡ M.terms }
+    requires terms { shared_terms book ≡ M.terms }
     requires mutators { M.terms.mutators ≡ 8 }
     requires empty { book.entries ≡ [] }
 {

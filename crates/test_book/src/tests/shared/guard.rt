@@ -1,15 +1,14 @@
 //! Calls of the book itself, by who holds the lock.
 ghost use Rattle.std.specs.Prelude.{◌≡◌, []};
-ghost use Rattle.g1_book.specs.History.{terms_of};
+ghost use Rattle.g1_shared.specs.Counts.{shared_terms};
 
 use super::*;
-use crate::tests::steps::assert_stored;
-use g1_shared::Keeper;
+use crate::tests::replies::assert_stored;
 use std::test::Fail;
 
 /// A store and two questions under one lock, and how many calls and stores the caller has made
 /// after each.
-fn under_one_lock<M: Frame, S: Ledger, R: Wait + Abort>(
+fn under_one_lock<M: Terms, S: Ledger, R: Wait + Abort>(
     rt: &R,
     made: Blank,
     stored: Blank,
@@ -17,7 +16,7 @@ fn under_one_lock<M: Frame, S: Ledger, R: Wait + Abort>(
 ) -> Result<Book, Refusal>
     requires made { (made.name ≡ M.name) × (made.parts ≡ M.parts) × (made.parts ≡ 2) }
     requires stored { (stored.name ≡ S.name) × (stored.parts ≡ S.parts) × (stored.parts ≡ 2) }
-    requires terms { terms_of book ≡ M.terms }
+    requires terms { shared_terms book ≡ M.terms }
     requires empty { book.entries ≡ [] }
 {
     assert!(rt; book.mutators() == 2);
@@ -27,7 +26,7 @@ fn under_one_lock<M: Frame, S: Ledger, R: Wait + Abort>(
     Ok(shared.finish(callers))
 }
 
-fn call_by_hand<M: Frame, S: Ledger, R: Wait + Abort>(
+fn call_by_hand<M: Terms, S: Ledger, R: Wait + Abort>(
     rt: &R,
     shared: &Shared<M, S>,
     caller: &mut Caller<M, S>,
@@ -38,7 +37,7 @@ fn call_by_hand<M: Frame, S: Ledger, R: Wait + Abort>(
     let of = region(rt, guard.book(), 1);
     assert!(rt; caller.number() < guard.book().mutators());
     let (reply, buffer) = guard.store(caller, from, Some(to))?;
-    assert_stored(rt, &reply, Fill::Full, &[]);
+    assert_stored(rt, &reply, Fill::Full);
     assert!(rt; buffer.is_some());
     assert_made(rt, caller, 1, 1);
     assert!(rt; guard.members(caller, of)?.is_empty());

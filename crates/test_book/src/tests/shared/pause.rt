@@ -1,13 +1,13 @@
 //! What a pause does to the callers that are lent.
 ghost use Rattle.std.specs.Prelude.{◌≡◌, [], All, IfOk};
-ghost use Rattle.g1_book.specs.History.{terms_of};
+ghost use Rattle.g1_shared.specs.Counts.{shared_terms};
 ghost use Rattle.g1_shared.specs.Callers.{IsCallerOf};
 
 use super::*;
-use crate::tests::steps::Step::{Flush, Refine, Store};
-use crate::tests::steps::{assert_flushed, assert_round, whole};
+use crate::tests::replies::{assert_flushed, assert_round, whole};
 use g1_core::Fill::{Full, No};
 use std::test::Fail;
+use steps::Step::{Flush, Refine, Store};
 
 /// Steps of the callers before a pause that is lent none of them, and after it.
 #[derive(Clone, Copy)]
@@ -17,7 +17,7 @@ struct AroundAPause<'a> {
 }
 
 impl Play for AroundAPause<'_> {
-    fn play<M: Frame, S: Ledger, R: Wait + Abort>(
+    fn play<M: Terms, S: Ledger, R: Wait + Abort>(
         &self,
         rt: &R,
         callers: &mut [SharedCaller<'_, M, S>],
@@ -29,7 +29,7 @@ impl Play for AroundAPause<'_> {
     }
 }
 
-fn pause_nobody<M: Frame, S: Ledger, R: Wait>(rt: &R, shared: &Shared<M, S>) {
+fn pause_nobody<M: Terms, S: Ledger, R: Wait>(rt: &R, shared: &Shared<M, S>) {
     let mut nobody: [Caller<M, S>; 0] = [];
     shared.pause(rt, &mut nobody);
 }
@@ -40,24 +40,23 @@ fn a_pause_without_callers_does_nothing(rt: HostRuntime) -> Result<(), Fail> {
     let book = book(&rt, rt.alloc(), 2, 4, 10)?;
     let play = AroundAPause {
         before: &[
-            (0, Store(0, 24, No, &[])),
-            (0, Store(4, 24, Full, &[])),
-            (0, Store(8, 24, No, &[])),
+            (0, Store(0, 24, No)),
+            (0, Store(4, 24, Full)),
+            (0, Store(8, 24, No)),
         ],
         after: &[
-            (0, Flush(1, Full, &[])),
+            (0, Flush(1, Full)),
             (0, Refine(whole(1, &[0, 1], 1))),
             (0, Refine(whole(1, &[2], 0))),
         ],
     };
     let mut book = played(&rt, rt.alloc(), book, 2, &play)?;
     assert_eq!(rt; book.entries().len(), 5);
-    assert_eq!(rt; counts(&mut book)?.pending, 0);
-    Ok(())
+    Ok(assert_pending(&rt, &mut book, 0)?)
 }
 
 /// The caller, once it has stored references to slot 24 in the first slots of three cards.
-fn stored<M: Frame, S: Ledger, R: Wait + Abort>(
+fn stored<M: Terms, S: Ledger, R: Wait + Abort>(
     rt: &R,
     shared: &Shared<M, S>,
     mut caller: Caller<M, S>,
@@ -81,7 +80,7 @@ fn stored<M: Frame, S: Ledger, R: Wait + Abort>(
 }
 
 /// The callers, once each has stored.
-fn all_stored<M: Frame, S: Ledger, R: Wait + Abort>(
+fn all_stored<M: Terms, S: Ledger, R: Wait + Abort>(
     rt: &R,
     alloc: Global,
     shared: &Shared<M, S>,
@@ -98,7 +97,7 @@ fn all_stored<M: Frame, S: Ledger, R: Wait + Abort>(
 }
 
 /// Two callers whose stores leave a card in each log and two buffers in the line; then a pause.
-fn paused<M: Frame, S: Ledger, R: Wait + Abort>(
+fn paused<M: Terms, S: Ledger, R: Wait + Abort>(
     rt: &R,
     alloc: Global,
     made: Blank,
@@ -107,7 +106,7 @@ fn paused<M: Frame, S: Ledger, R: Wait + Abort>(
 ) -> Result<(), Refusal>
     requires made { (made.name ≡ M.name) × (made.parts ≡ M.parts) × (made.parts ≡ 2) }
     requires stored { (stored.name ≡ S.name) × (stored.parts ≡ S.parts) × (stored.parts ≡ 2) }
-    requires terms { terms_of book ≡ M.terms }
+    requires terms { shared_terms book ≡ M.terms }
     requires empty { book.entries ≡ [] }
 {
     assert!(rt; book.mutators() == 2);
@@ -119,7 +118,7 @@ fn paused<M: Frame, S: Ledger, R: Wait + Abort>(
 }
 
 /// The callers, after a pause that was lent all of them.
-fn stopped<M: Frame, S: Ledger, R: Wait>(
+fn stopped<M: Terms, S: Ledger, R: Wait>(
     rt: &R,
     shared: &Shared<M, S>,
     mut callers: Vec<Caller<M, S>>,
@@ -132,7 +131,7 @@ fn stopped<M: Frame, S: Ledger, R: Wait>(
 }
 
 /// Checks that a pause has emptied each caller's log and the line.
-fn assert_all_emptied<M: Frame, S: Ledger, R: Wait + Abort>(
+fn assert_all_emptied<M: Terms, S: Ledger, R: Wait + Abort>(
     rt: &R,
     shared: &Shared<M, S>,
     callers: Vec<Caller<M, S>>,
@@ -146,7 +145,7 @@ fn assert_all_emptied<M: Frame, S: Ledger, R: Wait + Abort>(
 }
 
 /// Checks that log and line are empty, and that six cards are pending.
-fn assert_emptied<M: Frame, S: Ledger, R: Wait + Abort>(
+fn assert_emptied<M: Terms, S: Ledger, R: Wait + Abort>(
     rt: &R,
     shared: &Shared<M, S>,
     caller: &mut Caller<M, S>,
@@ -156,7 +155,7 @@ fn assert_emptied<M: Frame, S: Ledger, R: Wait + Abort>(
     assert_made(rt, caller, 3, 3);
     assert_round(rt, &shared.work(rt, caller)?, whole(0, &[], 0));
     assert!(rt; caller.number() < shared.lock(rt).book().mutators());
-    assert_flushed(rt, &shared.flush(rt, caller), 0, No, &[]);
+    assert_flushed(rt, &shared.flush(rt, caller), 0, No);
     assert_eq!(rt; shared.status(rt, caller)?.pending, 6);
     Ok(())
 }

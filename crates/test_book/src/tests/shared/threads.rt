@@ -1,7 +1,7 @@
 //! Callers in threads of their own.
 ghost use Rattle.std.specs.Prelude.{◌≡◌, ◌<◌, [], All};
 ghost use Rattle.g1_shared.specs.Callers.{IsCallerOf};
-ghost use Rattle.g1_book.specs.History.{terms_of};
+ghost use Rattle.g1_shared.specs.Counts.{shared_terms};
 
 use super::*;
 use g1_core::Entry;
@@ -21,13 +21,13 @@ struct Record {
 
 /// A caller that keeps a record.
 #[derive(Drop)]
-struct Recorder<'a, M: Frame, S: Ledger> {
+struct Recorder<'a, M: Terms, S: Ledger> {
     caller: SharedCaller<'a, M, S>,
     alloc: Global,
     record: Record,
 }
 
-impl<M: Frame, S: Ledger> Recorder<'_, M, S> {
+impl<M: Terms, S: Ledger> Recorder<'_, M, S> {
     /// The region of the slot that the caller writes, and the next one, into which it refers.
     fn regions(&self) -> (u32, u32)
         ensures { (result.0 < 4) × (result.1 < 4) }
@@ -131,7 +131,7 @@ impl<M: Frame, S: Ledger> Recorder<'_, M, S> {
 }
 
 /// A recorder for each caller.
-fn recorders<'a, M: Frame, S: Ledger>(
+fn recorders<'a, M: Terms, S: Ledger>(
     alloc: Global,
     callers: Vec<SharedCaller<'a, M, S>>,
 ) -> Result<Vec<Recorder<'a, M, S>>, NoMemory> {
@@ -151,7 +151,7 @@ fn recorders<'a, M: Frame, S: Ledger>(
 }
 
 /// The callers alone, and their records in order.
-fn taken_apart<M: Frame, S: Ledger>(
+fn taken_apart<M: Terms, S: Ledger>(
     alloc: Global,
     recorders: Vec<Recorder<'_, M, S>>,
 ) -> Result<(Vec<Caller<M, S>>, Vec<Record>), NoMemory> {
@@ -170,7 +170,7 @@ fn taken_apart<M: Frame, S: Ledger>(
 }
 
 /// Each recorder makes its calls in a thread of its own.
-fn run_all<M: Frame + Send + Sync, S: Ledger + Send + Sync, R: Threads + Wait + Abort + Sync>(
+fn run_all<M: Terms + Send + Sync, S: Ledger + Send + Sync, R: Threads + Wait + Abort + Sync>(
     rt: &R,
     recorders: &mut [Recorder<'_, M, S>],
 ) {
@@ -183,7 +183,7 @@ fn run_all<M: Frame + Send + Sync, S: Ledger + Send + Sync, R: Threads + Wait + 
 }
 
 /// Four callers of a book, each in a thread of its own.
-fn four_threads<M: Frame + Send + Sync, S: Ledger + Send + Sync, R: Threads + Wait + Abort + Sync>(
+fn four_threads<M: Terms + Send + Sync, S: Ledger + Send + Sync, R: Threads + Wait + Abort + Sync>(
     rt: &R,
     alloc: Global,
     made: Blank,
@@ -192,7 +192,7 @@ fn four_threads<M: Frame + Send + Sync, S: Ledger + Send + Sync, R: Threads + Wa
 ) -> Result<(Book, Vec<Record>), Refusal>
     requires made { (made.name ≡ M.name) × (made.parts ≡ M.parts) × (made.parts ≡ 4) }
     requires stored { (stored.name ≡ S.name) × (stored.parts ≡ S.parts) × (stored.parts ≡ 4) }
-    requires terms { terms_of book ≡ M.terms }
+    requires terms { shared_terms book ≡ M.terms }
     requires empty { book.entries ≡ [] }
 {
     assert!(rt; book.mutators() == 4);
@@ -203,7 +203,7 @@ fn four_threads<M: Frame + Send + Sync, S: Ledger + Send + Sync, R: Threads + Wa
 }
 
 /// The callers with their records, once each has made its calls.
-fn run_four<M: Frame + Send + Sync, S: Ledger + Send + Sync, R: Threads + Wait + Abort + Sync>(
+fn run_four<M: Terms + Send + Sync, S: Ledger + Send + Sync, R: Threads + Wait + Abort + Sync>(
     rt: &R,
     alloc: Global,
     shared: &Shared<M, S>,

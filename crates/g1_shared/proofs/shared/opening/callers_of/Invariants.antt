@@ -11,5 +11,5 @@ invariant-loop-number g l =
     × (l.stored.parts + l.number ≡ l.count) × (l.stored.amount ≡ 0)
     × (vec_len l.all ≡ l.number) × (l.count ≤ vec_capacity l.all)
     × (vec_len l.takers + l.number ≡ l.count) × All (IsNewTaker l.line) l.takers.items
-    × (into_iter_len l.mutators ≡ g.M.Frame.terms.mutators - l.number) × AreNewMutators l.line l.config.log l.number (into_iter_items l.mutators)
-    × ((k : ℕ) (d : Standing) → k < l.number → IsNewCaller l.line l.config.log g.M.Frame.terms.mutators k (get_or l.all.items k d))
+    × (into_iter_len l.mutators ≡ g.M.Terms.terms.mutators - l.number) × AreNewMutators l.line l.config.log l.number (into_iter_items l.mutators)
+    × ((k : ℕ) (d : Standing) → k < l.number → IsNewCaller l.line l.config.log g.M.Terms.terms.mutators k (get_or l.all.items k d))

@@ -8,6 +8,7 @@ loop-turn-preserved g c = (
   (λ none. absurd (omega (arith, none))),
   (omega arith, omega arith, omega arith, search rules),
   search rules,
+  λ _. c.in-Ok-true.ensures.room,
 )
 
 pub returns-in-Ok-false-clause-round : goal.returns-in-Ok-false-clause-round
@@ -15,8 +16,9 @@ returns-in-Ok-false-clause-round g c = round_ends _ g.met.C.Calls.then _ _ _ _ _
 
 pub returns-in-Err-clause-round : goal.returns-in-Err-clause-round
 returns-in-Err-clause-round g c =
-    round_refused _ g.met.C.Calls.then _ _ _ _ _ _ _ _ _ c.loop-turn.invariant.0 (omega (arith, c.if-turn-eq0.false)) c.loop-turn-test.true c.in-Err.ensures.err c.in-Err.ensures.given_up
-    (λ i. let was = c.in-Err.ensures.err_sums i in record { taken = was.taken; refined = was.refined; hot = was.hot; skipped = was.skipped; left = was.left; short = true })
+    round_refused _ g.met.C.Calls.then _ _ _ _ _ _ _ _ _ _ c.loop-turn.invariant.0 (omega (arith, c.if-turn-eq0.false)) c.loop-turn-test.true
+    (λ lacks. let room = c.loop-turn.invariant.4 (omega (arith, c.if-turn-eq0.false)) in omega (arith, lacks, room)) c.in-Err.ensures.err.0
+    (λ i. let was = c.in-Err.ensures.err.1 i in record { taken = was.taken; refined = was.refined; hot = was.hot; skipped = was.skipped; left = was.left; short = true })
 
 pub returns-clause-round : goal.returns-clause-round
 returns-clause-round g c = round_done _ _ _ _ _ _ c.loop-turn.invariant.0 (omega arith)

@@ -1,4 +1,4 @@
-use Rattle.std.proofs.Common.{◌≡◌, ◌≤◌, ◌*◌, ◌+◌, length}
+use Rattle.std.proofs.Common.{◌≡◌, ◌≤◌, ◌*◌, ◌+◌, length, vec_capacity}
 use Rattle.g1_log.specs.Ends.{taken_of, capacity_of, IsSameTaker}
 use Rattle.g1_steps.specs.Rounds.{progress}
 use Rattle.g1_steps.proofs.RoundLemmas.{IsRoundSoFar}
@@ -10,3 +10,4 @@ invariant-loop-turn g l =
     × (l.turn ≡ 0 → (l.calls ≡ l.initial.calls) × (taken_of l.taker ≡ taken_of l.initial.taker))
     × ((l.sums.taken ≤ l.turn) × (length l.sums.refined.items + l.sums.skipped ≤ 256 * l.turn) × (l.sums.hot ≤ 256 * l.turn) × (l.sums.left ≤ capacity_of l.line))
     × IsSameTaker l.taker l.initial.taker
+    × (1 ≤ l.turn → 256 ≤ vec_capacity l.sums.refined)

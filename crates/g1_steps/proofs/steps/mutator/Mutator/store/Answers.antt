@@ -12,7 +12,7 @@ pub returns : goal.returns
 returns g c =
     let first = c.in_ok-first.first in
     let some : IsSome c.store.new.completed = search rules in
-    let out = handed_some _ _ _ _ c.in_ok-first.ensures.buffer some in
+    let out = handed_some _ _ _ _ c.in_ok-first.ensures.lent.handed some in
     let h = subst (λ (o : Option (List ℕ)). IfSome o (λ cards. IsPassed g.C.Calls.did c.store.new.self cards c.pass_from-passed.result c.pass_from-passed.new.calls)) out.1 c.pass_from-passed.ensures.passed in
     let kind : first.kind ≡ Logged = out.0 in
     let did = g.met.C.Calls.then _ _ _ (Stored c.args.slot c.args.target first ∷ []) _ c.in_ok-first.ensures.made h.made in

@@ -12,5 +12,5 @@ loop-caller-preserved g c =
       omega arith,
       omega arith,
       All-rest (IsCallerOf c.args.shared.now) _ _ _ steps.0 was.2,
-      rw c.push_reserved.ensures.items (All-push (λ job. ScriptFits (slot_count g.M.Frame.terms.layout) (nat_lt job.desk.caller.counts.number g.M.Frame.terms.mutators) job.script) _ _ was.3 c.in_ok-job_of.ensures),
+      rw c.push_reserved.ensures.items (All-push (λ job. ScriptFits (slot_count g.M.Terms.terms.layout) (nat_lt job.desk.caller.counts.number g.M.Terms.terms.mutators) job.script) _ _ was.3 c.in_ok-job_of.ensures),
     )

@@ -10,4 +10,4 @@ invariant-loop-caller g l =
     (vec_len l.jobs + into_iter_len l.caller-iterator ≡ vec_len l.fn.callers)
     × (vec_len l.fn.callers ≤ vec_capacity l.jobs)
     × All (IsCallerOf l.shared) (into_iter_items l.caller-iterator)
-    × All (λ job. ScriptFits (slot_count g.M.Frame.terms.layout) (nat_lt job.desk.caller.counts.number g.M.Frame.terms.mutators) job.script) l.jobs.items
+    × All (λ job. ScriptFits (slot_count g.M.Terms.terms.layout) (nat_lt job.desk.caller.counts.number g.M.Terms.terms.mutators) job.script) l.jobs.items

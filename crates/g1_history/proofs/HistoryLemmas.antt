@@ -1,0 +1,121 @@
+-- A history goes on by a step.
+use Rattle.std.proofs.Common.{◌≡◌, ℕ, ◌+◌, ◌<◌, ◌≤◌, Bool, true, false, cond, List, [], ◌∷◌, ◌++◌, length, refl, sym, subst, ap, ◌∙◌, arith}
+use Rattle.std.proofs.lemmas.List.{length-append}
+use Rattle.g1_layout.specs.Shape.{Shape, IsShape, card_count}
+use Rattle.g1_core.specs.Machine.{Machine, IsLater, IsSound}
+use Rattle.g1_core.specs.Table.{Table, opening, IsCovered}
+use Rattle.g1_core.specs.declared.entry.Entry.{Entry}
+use Rattle.g1_core.specs.declared.entry.Call.{Call}
+use Rattle.g1_core.specs.declared.entry.Reply.{Reply}
+use Rattle.g1_core.specs.Run.{IsStep, IsAllowed, IsPermitted, table_of_history, drained}
+use Rattle.g1_core.specs.declared.entry.Call.TheVariants as call
+use Rattle.g1_core.specs.declared.reply.Redirected.{Redirected}
+use Rattle.g1_core.specs.declared.reply.Redirected.TheVariants as redirected
+use Rattle.g1_core.specs.Calls.{drain_entry, drain_cards, drain_reply, redirect_entry, redirect_reply}
+use Rattle.g1_core.specs.declared.reply.Drained.{Drained}
+use Rattle.g1_core.specs.declared.reply.Drained.TheVariants.{Cards, Short}
+use Rattle.g1_core.proofs.TableLemmas.{opening_covered}
+use Rattle.g1_core.proofs.RunLemmas.{permitted_step, run_covered, run_layout, has_slots}
+use Rattle.g1_core.proofs.SinceLemmas.{drain_exact}
+use Rattle.g1_history.specs.History.{History, Past, IsHistory, IsTallied, IsKept, Made, AnswersExactly, AnswersBy, table_in, layout_in, history_of, past_with, made_of, is_store}
+use Rattle.g1_core.specs.Does.{DoesDrain, DoesRedirect}
+use Rattle.g1_history.specs.Asked.{MadeAsked}
+use Rattle.g1_history.proofs.RoomLemmas.{drained_few}
+
+store_counts : (b : Bool) (stored made : ℕ) → stored ≤ made → stored + cond b 1 0 ≤ made + 1
+store_counts true stored made h = omega (arith, h)
+store_counts false stored made h = omega (arith, h)
+
+-- one call more is kept
+pub call_kept : (keeps : Bool) (m n : Machine) (mutators : ℕ) (p q : Past) (e : Entry) → IsKept keeps (history_of m mutators p) → made_of keeps p.entries p.totals < p.limit
+    → q ≡ past_with keeps p e → IsStep m.state.table e n.state.table → IsKept keeps (history_of n mutators q)
+call_kept true m n mutators p q e h room is step =
+    let run = permitted_step m.state.table.layout p.entries e m.state.table n.state.table h.last h.run step in
+    let same : m.state.table.layout ≡ n.state.table.layout = sym run.2 in
+    let more : length (p.entries ++ e ∷ []) ≤ p.limit = omega (arith, length-append p.entries (e ∷ []), room) in
+    subst (λ (x : Past). IsHistory (history_of n mutators x)) (sym is) (record {
+      shape = subst IsShape same h.shape;
+      run = subst (λ (l : Shape). IsPermitted (opening l) (p.entries ++ e ∷ [])) same run.0;
+      last = run.1 ∙ ap (λ (l : Shape). table_of_history l (p.entries ++ e ∷ [])) same;
+      within = more;
+      limit_high = h.limit_high;
+      mutators_low = h.mutators_low;
+      mutators_high = h.mutators_high;
+    })
+call_kept false m n mutators p q e h room is step =
+    let same : n.state.table.layout ≡ m.state.table.layout = ap (λ (t : Table). t.layout) step.after ∙ run_layout m.state.table (e ∷ []) in
+    subst (λ (x : Past). IsTallied (history_of n mutators x)) (sym is) (record {
+      shape = subst IsShape (sym same) h.shape;
+      stored = store_counts (is_store e) p.totals.stored p.totals.made h.stored;
+      within = omega (arith, room);
+      limit_high = h.limit_high;
+      mutators_low = h.mutators_low;
+      mutators_high = h.mutators_high;
+    })
+
+-- and it was made
+pub call_made : (keeps : Bool) (old : History) (m n : Machine) (mutators : ℕ) (p q : Past) (e : Entry) (did : Machine → Machine → Type 0) → history_of m mutators p ≡ old
+    → q ≡ past_with keeps p e → IsStep m.state.table e n.state.table → IsLater m n → did m n → Made keeps old e did (history_of n mutators q)
+call_made keeps old m n mutators p q e did was is step later does =
+    subst (λ h. Made keeps h e did (history_of n mutators q)) was (record {
+      entered = record {
+        entries = ap (λ (x : Past). x.entries) is;
+        totals = ap (λ (x : Past). x.totals) is;
+        step = step;
+        terms = λ i. record { layout = later.layout i; settings = later.settings i; mutators = mutators; limit = (is i).limit };
+        later = later;
+      };
+      did = does;
+    })
+
+-- what was entered, after room was made for it
+pub entered_as : (keeps : Bool) (p q r : Past) (e f : Entry) → q ≡ p → r ≡ past_with keeps q f → f ≡ e → r ≡ past_with keeps p e
+entered_as keeps p q r e f same is called = is ∙ (λ i. past_with keeps (same i) (called i))
+
+-- a list is the same only where entries are kept
+pub copied_as : (keeps : Bool) (p : Past) (caller : ℕ) (call : Call) (reply reply' : Reply) (xs ys : List ℕ) → (keeps ≡ true → reply ≡ reply') → (keeps ≡ true → xs ≡ ys)
+    → past_with keeps p (record { caller = caller; call = call; reply = reply; refined = xs }) ≡ past_with keeps p (record { caller = caller; call = call; reply = reply'; refined = ys })
+copied_as true p caller call reply reply' xs ys replies lists = λ i. past_with true p (record { caller = caller; call = call; reply = replies refl i; refined = lists refl i })
+copied_as false p caller call reply reply' xs ys replies lists = refl
+
+-- a question leaves the core as it was
+pub same_later : (m : Machine) → IsSound m.state → IsLater m m
+same_later m sound = record { layout = refl; settings = refl; sound = sound; reads = omega arith }
+
+-- as many calls were made as there may be at most
+pub kept_within : (keeps : Bool) (h : History) → IsKept keeps h → made_of keeps h.entries h.totals ≤ h.limit
+kept_within true h is = is.within
+kept_within false h is = is.within
+
+pub kept_shape : (keeps : Bool) (h : History) → IsKept keeps h → IsShape (layout_in h)
+kept_shape true h is = is.shape
+kept_shape false h is = is.shape
+
+-- cover holds after every history
+pub history_covered : (h : History) → IsHistory h → IsCovered (table_in h)
+history_covered h is = subst IsCovered (sym is.last) (run_covered (opening (layout_in h)) h.entries (has_slots (layout_in h) is.shape) is.run (opening_covered (layout_in h)))
+
+-- what a drain answers after a history is exact
+drain_is_exact : (h : History) (caller region : ℕ) (answer : Drained) → IsHistory h → IsAllowed (table_in h) (drain_entry caller region answer) → AnswersExactly h region answer
+drain_is_exact h caller region (Cards cards done) is allowed =
+    drain_exact (layout_in h) (has_slots (layout_in h) is.shape) h.entries is.run caller region cards done (subst (λ t. IsAllowed t (drained caller region cards done)) is.last allowed)
+drain_is_exact h caller region (Short done) is allowed = tt
+
+pub drain_answers : (keeps : Bool) (h old : History) (caller region : ℕ) (answer : Drained) → h ≡ old → IsKept keeps h → IsAllowed (table_in h) (drain_entry caller region answer) → AnswersBy keeps old region answer
+drain_answers true h old caller region answer was is allowed = subst (λ (x : History). AnswersExactly x region answer) was (drain_is_exact h caller region answer is allowed)
+drain_answers false h old caller region answer was is allowed = tt
+
+-- and its list is no longer than there are cards
+pub drain_few : (keeps : Bool) (h : History) (caller region : ℕ) (answer : Drained) → IsKept keeps h → IsAllowed (table_in h) (drain_entry caller region answer)
+    → keeps ≡ true → length (drain_cards answer) ≤ card_count (layout_in h)
+drain_few true h caller region answer is allowed kept = drained_few h is.shape region answer (drain_is_exact h caller region answer is allowed)
+drain_few false h caller region answer is allowed kept = absurd (cc kept)
+
+-- what is asked by its value, where the reply is one of two kinds
+pub drain_asked : (keeps : Bool) (old : History) (caller region : ℕ) (answer : Drained) (reply : Reply) (new : History) → Made keeps old (drain_entry caller region answer) (DoesDrain region answer) new → reply ≡ drain_reply answer → MadeAsked keeps old caller (call.Drain region) reply new
+drain_asked keeps old caller region (Cards cards done) reply new made is = subst (λ (r : Reply). MadeAsked keeps old caller (call.Drain region) r new) (sym is) (done, made)
+drain_asked keeps old caller region (Short done) reply new made is = subst (λ (r : Reply). MadeAsked keeps old caller (call.Drain region) r new) (sym is) (done, made)
+
+pub redirect_asked : (keeps : Bool) (old : History) (caller from to : ℕ) (answer : Redirected) (reply : Reply) (new : History) → Made keeps old (redirect_entry caller from to answer) (DoesRedirect from to answer) new → reply ≡ redirect_reply answer → MadeAsked keeps old caller (call.Redirect from to) reply new
+redirect_asked keeps old caller from to (redirected.Moved slots done) reply new made is = subst (λ (r : Reply). MadeAsked keeps old caller (call.Redirect from to) r new) (sym is) (done, made)
+redirect_asked keeps old caller from to (redirected.Short done) reply new made is = subst (λ (r : Reply). MadeAsked keeps old caller (call.Redirect from to) r new) (sym is) (done, made)

@@ -1,0 +1,27 @@
+-- The calls that a book can be asked by their values alone, and what comes of one.
+use Rattle.std.specs.Prelude.{ℕ, Bool, List}
+use Rattle.g1_layout.specs.Shape.{Shape}
+use Rattle.g1_core.specs.declared.entry.Call.{Call}
+use Rattle.g1_core.specs.declared.entry.Call.TheVariants.{Store, Refine}
+use Rattle.g1_core.specs.declared.entry.Reply.{Reply}
+use Rattle.g1_core.specs.declared.entry.Entry.{Entry}
+use Rattle.g1_core.specs.Run.{IsCallOf}
+use Rattle.g1_core.specs.Does.{DoesAsked}
+use Rattle.g1_history.specs.History.{History, Made}
+
+-- The call is neither a store nor a refinement, and its numbers are of the layout.
+abbrev pub IsAsked : Shape → Call → Type 0
+IsAsked l (Store slot target) = ⊥
+IsAsked l Refine = ⊥
+IsAsked l call = IsCallOf l call
+
+-- the entry of such a call
+abbrev pub asked_entry : ℕ → Call → Reply → List ℕ → Entry
+asked_entry caller call reply cards =
+    record { caller = caller; call = call; reply = reply; refined = cards }
+
+-- The caller's call was made and entered, once, with this reply, and did its work.
+abbrev pub MadeAsked : Bool → History → ℕ → Call → Reply → History → Type 0
+MadeAsked keeps old caller call reply new =
+    (cards : List ℕ)
+    × Made keeps old (asked_entry caller call reply cards) (DoesAsked call reply cards) new

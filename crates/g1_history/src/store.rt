@@ -1,0 +1,123 @@
+//! Stores of references that are entered in the history.
+ghost use Rattle.std.specs.Prelude.{◌≡◌, ◌<◌, [], false, IfOk, OnErr, IfSome, IsNone};
+ghost use Rattle.g1_layout.specs.Shape.{slot_count, card_of};
+ghost use Rattle.g1_history.specs.History.{past_with};
+
+use crate::book::Book;
+use crate::keeps::Keeps;
+use crate::refusal::Refusal;
+use g1_core::{Call, CardList, Reply, StoreReply};
+use g1_layout::Slot;
+use g1_log::{Buffer, Log};
+use std::alloc::Global;
+
+impl<H: Keeps> Book<H> {
+    ghost use Rattle.g1_core.specs.Calls.{store_entry};
+    ghost use Rattle.g1_core.specs.Does.{DoesStore, IsLent};
+    ghost use Rattle.g1_history.specs.History.{Made, RefusesBy, layout_in};
+
+    /// Stores a reference, or null, with the given log, as the core does, and enters the call
+    /// (docs/rules.md, The barrier).
+    ///
+    /// The caller is a mutator: its number is below the count that the book was opened with. A
+    /// buffer that the log hands out is returned beside the reply. Each of its cards stays pending
+    /// until it is refined.
+    ///
+    /// Returns `BookFull` exactly if the history is full, `NoMemory` if room for the entry was
+    /// refused. Either leaves book and log as they were. Constant time except for the growth of the
+    /// history. The entry holds no list.
+    #[inline(always)]
+    pub fn store(
+        &mut self,
+        caller: u32,
+        log: &mut Log,
+        slot: Slot,
+        target: Option<Slot>,
+    ) -> Result<(StoreReply, Option<Buffer>), Refusal>
+        requires caller { caller < self.old.mutators }
+        requires slot { slot < slot_count (layout_in self.old) }
+        requires target { IfSome target (λ place. place < slot_count (layout_in self.old)) }
+        ensures made { IfOk result (λ answer. Made H.KEEPS self.old
+            (store_entry caller slot target answer.0) (DoesStore slot target answer.0) self.new) }
+        ensures lent { IfOk result (λ answer.
+            IsLent (card_of (layout_in self.old) slot) answer.0 log.old log.new answer.1) }
+        ensures err { RefusesBy H.KEEPS self.old result self.new }
+        ensures err_log { OnErr result (log.new ≡ log.old) }
+    {
+        let mut completed = None;
+        let reply = self.store_into(caller, log, &mut completed, slot, target)?;
+        match completed {
+            // No kilobyte is moved then.
+            None => Ok((reply, None)),
+            filled => Ok((reply, filled)),
+        }
+    }
+
+    /// Stores and enters as `store` does, and puts a completed buffer into the place that the
+    /// caller lends for it, in place of returning it (docs/rules.md, The barrier).
+    ///
+    /// The place is empty before the call, so no buffer is lost. After it, `completed` has the
+    /// buffer if `fill` is `Full`, and is empty otherwise. `BookFull` and `NoMemory` are returned
+    /// as by `store`, and leave book, log and place as they were. Constant time except for the
+    /// growth of the history.
+    #[inline(always)]
+    pub fn store_into(
+        &mut self,
+        caller: u32,
+        log: &mut Log,
+        completed: &mut Option<Buffer>,
+        slot: Slot,
+        target: Option<Slot>,
+    ) -> Result<StoreReply, Refusal>
+        requires caller { caller < self.old.mutators }
+        requires empty { IsNone completed.old }
+        requires slot { slot < slot_count (layout_in self.old) }
+        requires target { IfSome target (λ place. place < slot_count (layout_in self.old)) }
+        ensures made { IfOk result (λ reply. Made H.KEEPS self.old
+            (store_entry caller slot target reply) (DoesStore slot target reply) self.new) }
+        ensures lent { IfOk result (λ reply.
+            IsLent (card_of (layout_in self.old) slot) reply log.old log.new completed.new) }
+        ensures err { RefusesBy H.KEEPS self.old result self.new }
+        ensures err_lent { OnErr result ((log.new ≡ log.old) × (completed.new ≡ completed.old)) }
+    {
+        self.history.make_room()?;
+        let call = store_call(slot, &target);
+        let reply = self.core.store_into(log, completed, slot, target);
+        enter_store(&mut self.history, self.alloc, caller, call, &reply);
+        Ok(reply)
+    }
+}
+
+/// The call that stores this target.
+fn store_call(slot: Slot, target: &Option<Slot>) -> Call
+    ensures { result ≡ Call.Store slot target.now }
+{
+    Call::Store {
+        slot,
+        target: *target,
+    }
+}
+
+/// Enters a store with its reply, which refined nothing, in room that was made for it.
+fn enter_store<H: Keeps>(
+    history: &mut H,
+    alloc: Global,
+    caller: u32,
+    call: Call,
+    reply: &StoreReply,
+)
+    requires ready { H.is_ready history.old }
+    ensures { H.past history.new ≡ past_with H.KEEPS (H.past history.old) (record {
+      caller = caller;
+      call = call;
+      reply = Reply.Stored reply.now.kind reply.now.fill reply.now.short;
+      refined = [];
+    }) }
+{
+    let answer = Reply::Stored {
+        kind: reply.kind,
+        fill: reply.fill,
+        short: reply.short,
+    };
+    history.enter(caller, call, answer, CardList::new(alloc));
+}

@@ -1,0 +1,15 @@
+use Rattle.std.proofs.Common.{refl, ap}
+use Rattle.g1_history.specs.History.{Terms}
+use Rattle.g1_shared.proofs.CallLemmas.{call_counted, made_raised}
+use Rattle.g1_shared.proofs.counted.Counted.refine_by.Goals as goal
+
+pub raise_made-requires : goal.raise_made-requires
+raise_made-requires g c = record { entered = made_raised _ g.M.Terms.terms _ _ _ _ _ c.self.invariant c.in_ok-reply.ensures.made.entered }
+
+pub invariant_of-self-2 : goal.invariant_of-self-2
+invariant_of-self-2 g c = call_counted _ g.M.Terms.terms _ _ _ _ _ _ c.self.invariant c.in_ok-reply.ensures.made.entered refl c.raise_made.ensures.total
+
+-- the reply is one of the book's state
+pub returns-clause-answer : goal.returns-clause-answer
+returns-clause-answer g c =
+    (c.self.inside.book.machine.state, c.refine.new.self.machine.state, ap (λ (t : Terms). t.layout) c.self.invariant.2, c.in_ok-reply.ensures.made.did.refined)
