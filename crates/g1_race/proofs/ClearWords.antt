@@ -15,7 +15,7 @@ use Rattle.g1_core.specs.Table.{Enters}
 use Rattle.g1_core.specs.Run.{IsFirstInto}
 use Rattle.g1_core.proofs.SetLemmas.{pair_exact, same_pairs}
 use Rattle.g1_race_words.specs.declared.view.Shape.{Shape}
-use Rattle.g1_race_words.specs.Rule.{IsBegun, IsMarked, IsWholeShape, IsPair, HasBit, bit_word, bit_place, slot_card, crosses, flag, front, mark_word, word_count, pairs_up_to, region_at, started}
+use Rattle.g1_race_words.specs.Rule.{IsBegun, IsMarked, IsWholeShape, HasBit, bit_word, bit_place, slot_card, crosses, flag, front, mark_word, word_count, pairs_up_to, region_at, started}
 use Rattle.g1_race.specs.Race.{shape_of}
 use Rattle.g1_race.specs.Over.{ended, refs_of, table_of}
 use Rattle.g1_core.specs.declared.entry.Call.TheVariants.{Clear}
@@ -116,12 +116,12 @@ module _ (k : Shape) (words : List ℕ) (region i : ℕ) (h : IsBegun (started k
   pub emptied_next : (old : List ℕ) → IsEmptied k old words region i → IsEmptied k old less region (i + 1)
   emptied_next old g = record {
     front = take-set-le (k.slots + k.cards) words (row_word k region i) 0 (let r : ℕ = region * k.row in let goal : k.slots + k.cards ≤ k.slots + k.cards + (r + i) = omega arith in goal) ∙ g.front;
-    kept = λ x pair ne b. bit_on x (row_apart k x region i h.shaped pair.0 ne below) (g.kept x pair ne b);
+    kept = λ x pair ne b. bit_on x (row_apart k x region i h.shaped pair ne below) (g.kept x pair ne b);
     only = λ x pair b. g.only x pair (bit_back x b);
     clear = λ x pair e up b. pick x pair e up b (ℕ_discrete (x.0 / 64) i);
   }
     where
-      pick : (x : ℕ × ℕ) → IsPair k x → x.1 ≡ region → x.0 / 64 < i + 1 → HasBit k less x → Dec (x.0 / 64 ≡ i) → ⊥
+      pick : (x : ℕ × ℕ) → x.0 < k.cards → x.1 ≡ region → x.0 / 64 < i + 1 → HasBit k less x → Dec (x.0 / 64 ≡ i) → ⊥
       pick x pair e up b (yes f) = gone x (λ j. k.slots + k.cards + (e j * k.row + f j)) b
       pick x pair e up b (no ne) = g.clear x pair e (let n : ℕ = x.0 / 64 in let a : n < i + 1 = up in let c : n ≢ i = ne in let goal : n < i = omega (arith, a, c) in goal) (bit_back x b)
 
@@ -129,7 +129,7 @@ module _ (k : Shape) (words : List ℕ) (region i : ℕ) (h : IsBegun (started k
 pub emptied_past : (k : Shape) (old words : List ℕ) (region i found : ℕ) → get_elem? words (row_word k region i) ≡ some found → found ≡ 0 → IsEmptied k old words region i → IsEmptied k old words region (i + 1)
 emptied_past k old words region i found at none g = record { front = g.front; kept = g.kept; only = g.only; clear = λ x pair e up b. pick x pair e up b (ℕ_discrete (x.0 / 64) i) }
   where
-    pick : (x : ℕ × ℕ) → IsPair k x → x.1 ≡ region → x.0 / 64 < i + 1 → HasBit k words x → Dec (x.0 / 64 ≡ i) → ⊥
+    pick : (x : ℕ × ℕ) → x.0 < k.cards → x.1 ≡ region → x.0 / 64 < i + 1 → HasBit k words x → Dec (x.0 / 64 ≡ i) → ⊥
     pick x pair e up b (yes f) = no_bit k words x (ap (λ (j : ℕ). get_or words j 0) (λ j. k.slots + k.cards + (e j * k.row + f j)) ∙ (reads_as words (row_word k region i) found 0 at ∙ none)) b
     pick x pair e up b (no ne) = g.clear x pair e (let n : ℕ = x.0 / 64 in let a : n < i + 1 = up in let c : n ≢ i = ne in let goal : n < i = omega (arith, a, c) in goal) b
 
@@ -198,12 +198,12 @@ module _ (k : Shape) (l : layout.Shape) (laid : k ≡ shape_of l k.members) wher
       recorded : (table_of (ended l k new)).recorded ≡ fin.retain (table_of (ended l k old)).recorded keep
       recorded = same_pairs _ _
           (λ x c. let s = recorded_set k l new laid h x c in
-          let was : fin.contains (table_of (ended l k old)).recorded x ≡ true = set_recorded k l old laid b x s.0 (g.only x s.0 s.1) in
-          let out : keep x ≡ true = ap not (ne_eqb x.1 region (λ e. g.clear x s.0 e (in_row k x h.shaped s.0) s.1)) in
+          let was : fin.contains (table_of (ended l k old)).recorded x ≡ true = set_recorded k l old laid b x s.0 (g.only x s.0.0 s.1) in
+          let out : keep x ≡ true = ap not (ne_eqb x.1 region (λ e. g.clear x s.0.0 e (in_row k x h.shaped s.0) s.1)) in
           retained x ∙ (λ i. was i && out i))
           (λ x c. let t = both_true _ _ (sym (retained x) ∙ c) in
           let s = recorded_set k l old laid b x t.0 in
-          set_recorded k l new laid h x s.0 (g.kept x s.0 (λ e. absurd (let f = not-true (eqb x.1 region) t.1 in let y = eq-eqb x.1 region e in cc (f, y))) s.1))
+          set_recorded k l new laid h x s.0 (g.kept x s.0.0 (λ e. absurd (let f = not-true (eqb x.1 region) t.1 in let y = eq-eqb x.1 region e in cc (f, y))) s.1))
 
 -- slot by slot of a card
 

@@ -1,36 +1,15 @@
 -- A range of slots that is copied, slot by slot.
-use Rattle.std.proofs.Common.{◌≡◌, ◌≢◌, ◌⊎◌, ℕ, zero, suc, ◌+◌, ◌-◌, ◌<◌, ◌≤◌, ◌&&◌, ltb, leb, eqb, get_or, length, List, Bool, cond, true, false, Option, None, refl, sym, ap, ◌∙◌, subst, inl, inr, arith, eq-eqb, ne_eqb}
+use Rattle.std.proofs.Common.{◌≡◌, ◌≢◌, ◌⊎◌, ℕ, suc, ◌+◌, ◌-◌, ◌<◌, ◌≤◌, ◌&&◌, ltb, leb, eqb, get_or, length, List, refl, sym, ap, ◌∙◌, subst, inl, inr, arith, eq-eqb, ne_eqb}
 use mathlib.Core.Option.{some}
 use Rattle.std.proofs.lemmas.Bool.{and_from, and_left, and_right, cases_eq, cases_lt, le-leb, le-ltb, lt-leb, lt-ltb}
-use Rattle.std.proofs.lemmas.List.{get_or-set_other}
-use Rattle.g1_core.specs.Table.{Table, target_of}
+use Rattle.g1_core.specs.Table.{target_of}
 use Rattle.g1_core.specs.Run.{stored}
+use Rattle.g1_core.specs.Copying.{copied}
+use Rattle.g1_core.proofs.CopyLemmas.{table_up, table_down}
 use Rattle.g1_race_words.proofs.Plain.{false_is, read_at, read_is, true_is}
 use Rattle.g1_race_words.specs.declared.view.Shape.{Shape}
 use Rattle.g1_race.specs.Over.{Halt, halted}
-use Rattle.g1_race.proofs.StoresApart.{stores_apart}
-use Rattle.g1_race.specs.Evacuating.{IsSameRace, SlotsBecome, copied, copied_word, one_word}
-
--- the first slot may be copied last
-copied_first : (from to count : ℕ) (t : Table) → copied from to (suc count) t ≡ stored (copied (suc from) (suc to) count t) to (target_of t from)
-copied_first from to zero t = λ i. stored t ((let e : to + 0 ≡ to = omega arith in e) i) (target_of t ((let e : from + 0 ≡ from = omega arith in e) i))
-copied_first from to (suc count) t =
-    let rest : Table = copied (suc from) (suc to) count t in
-    let last : to + suc count ≡ suc to + count = omega arith in
-    let source : from + suc count ≡ suc from + count = omega arith in
-    ap (λ (u : Table). stored u (to + suc count) (target_of t (from + suc count))) (copied_first from to count t)
-    ∙ (stores_apart rest to (to + suc count) (target_of t from) (target_of t (from + suc count)) (λ e. absurd (omega (arith, e)))
-    ∙ (λ i. stored (stored rest (last i) (target_of t (source i))) to (target_of t from)))
-
--- the other slots keep their targets
-copied_other : (from to count : ℕ) (t : Table) (p : ℕ) → (p < to) ⊎ (to + count ≤ p) → target_of (copied from to count t) p ≡ target_of t p
-copied_other from to zero t p out = refl
-copied_other from to (suc count) t p out =
-    let apart : (p ≢ to + count) × ((p < to) ⊎ (to + count ≤ p)) = elim out [
-      | inl low ↦ ((λ e. absurd (omega (arith, low, e))), inl low)
-      | inr high ↦ ((λ e. absurd (omega (arith, high, e))), inr (omega (arith, high)))
-    ] in
-    get_or-set_other (copied from to count t).refs (to + count) p (target_of t (from + count)) None apart.0 ∙ copied_other from to count t p apart.1
+use Rattle.g1_race.specs.Evacuating.{IsSameRace, SlotsBecome, copied_word, one_word}
 
 -- the words
 
@@ -107,7 +86,7 @@ module _ (old mid new : Halt) (full : old.shape.slots ≤ length old.words) wher
               | inl i ↦ copied_in old.words from to count p n i.0 i.1 ∙ sym (copied_in old.words from to (suc count) p n i.0 (omega (arith, i.1)))
               | inr o ↦ copied_out old.words from to count p n o ∙ sym (copied_out old.words from to (suc count) p n (elim o [ inl low ↦ inl low | inr high ↦ inr (omega (arith, high, ne)) ]))
             ]);
-        table = one.table ∙ (ap (λ (u : Table). stored u (to + count) (target_of u (from + count))) so.table ∙ ap (λ (o : Option ℕ). stored (copied from to count (halted old)) (to + count) o) (copied_other from to count (halted old) (from + count) out));
+        table = table_up (halted old) (halted mid) (halted new) from to count le so.table one.table;
       }
 
   -- the slot before those that are copied
@@ -123,36 +102,5 @@ module _ (old mid new : Halt) (full : old.shape.slots ≤ length old.words) wher
                   ∙ (ap (λ (q : ℕ). get_or old.words q 0) (let low : suc to ≤ p = i.0 in let e : suc from + (p - suc to) ≡ from + (p - to) = omega (arith, low) in e) ∙ sym (copied_in old.words from to (suc count) p n (omega (arith, i.0)) (omega (arith, i.1))))
               | inr o ↦ copied_out old.words (suc from) (suc to) count p n o ∙ sym (copied_out old.words from to (suc count) p n (elim o [ inl low ↦ inl (omega (arith, low, ne)) | inr high ↦ inr (omega (arith, high)) ]))
             ]);
-        table = one.table ∙ (ap (λ (u : Table). stored u to (target_of u from)) so.table
-            ∙ (ap (λ (o : Option ℕ). stored (copied (suc from) (suc to) count (halted old)) to o) (copied_other (suc from) (suc to) count (halted old) from out) ∙ sym (copied_first from to count (halted old))));
+        table = table_down (halted old) (halted mid) (halted new) from to count less so.table one.table;
       }
-
--- the same places, by other terms
-copied_at : (old new : Halt) (from to count : ℕ) (place : ℕ × ℕ) (all : ℕ) → from ≡ place.0 → to ≡ place.1 → count ≡ all → Copied old new from to count → Copied old new place.0 place.1 all
-copied_at old new from to count place all e f h = subst (λ (x : ℕ × (ℕ × ℕ)). Copied old new x.0 x.1.0 x.1.1) (λ i. (e i, (f i, h i)))
-
--- how far behind the first slot the copied ones begin: from the first one on, or up to the last one
-abbrev pub first_of : Bool → ℕ → ℕ → ℕ
-first_of upwards count done = cond upwards 0 (count - done)
-
-pub copied_on : (old mid new : Halt) → old.shape.slots ≤ length old.words → (upwards : Bool) (from to count i next : ℕ) → (upwards ≡ true → to ≤ from) → (upwards ≡ false → from < to) → i < count → from + count ≤ old.shape.slots
-    → Copied old mid (from + first_of upwards count i) (to + first_of upwards count i) i → (upwards ≡ true → next ≡ i) → (upwards ≡ false → next ≡ count - 1 - i) → CopiesOne mid new (from + next) (to + next)
-    → Copied old new (from + first_of upwards count (i + 1)) (to + first_of upwards count (i + 1)) (i + 1)
-copied_on old mid new full true from to count i next up down lt all so here there one =
-    let e : next ≡ i = here refl in
-    let le : to ≤ from = up refl in
-    copied_at old new from to (suc i) (from + 0, to + 0) (i + 1) (omega arith) (omega arith) (omega arith)
-    (copied_up old mid new full from to i le (omega (arith, lt, all))
-    (copied_at old mid (from + 0) (to + 0) i (from, to) i (omega arith) (omega arith) refl so)
-    (subst (λ (n : ℕ). CopiesOne mid new (from + n) (to + n)) e one))
-copied_on old mid new full false from to count i next up down lt all so here there one =
-    let e : next ≡ count - 1 - i = there refl in
-    let less : from < to = down refl in
-    copied_at old new (from + next) (to + next) (suc i) (from + (count - (i + 1)), to + (count - (i + 1))) (i + 1) (omega (arith, e, lt)) (omega (arith, e, lt)) (omega arith)
-    (copied_down old mid new full (from + next) (to + next) i (omega (arith, less)) (omega (arith, e, lt, all))
-    (copied_at old mid (from + (count - i)) (to + (count - i)) i (suc (from + next), suc (to + next)) i (omega (arith, e, lt)) (omega (arith, e, lt)) refl so)
-    one)
-
-pub copied_all : (old new : Halt) (upwards : Bool) (from to count i : ℕ) → i ≡ count → Copied old new (from + first_of upwards count i) (to + first_of upwards count i) i → Copied old new from to count
-copied_all old new true from to count i e = copied_at old new (from + 0) (to + 0) i (from, to) count (omega arith) (omega arith) e
-copied_all old new false from to count i e = copied_at old new (from + (count - i)) (to + (count - i)) i (from, to) count (omega (arith, e)) (omega (arith, e)) e

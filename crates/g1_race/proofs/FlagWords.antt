@@ -1,5 +1,5 @@
 -- The cards' flags at a pause.
-use Rattle.std.proofs.Common.{◌≡◌, ℕ, zero, suc, ◌+◌, ◌*◌, ◌/◌, ◌%◌, ◌<◌, ◌≤◌, ◌++◌, List, [], ◌∷◌, Option, false, Some, None, sym, ap, ◌∙◌, subst, inl, inr, ⊎_elim, arith, eq-eqb}
+use Rattle.std.proofs.Common.{◌≡◌, ℕ, zero, suc, ◌+◌, ◌*◌, ◌/◌, ◌%◌, ◌<◌, ◌≤◌, ◌++◌, List, [], ◌∷◌, Option, false, Some, None, refl, sym, ap, ◌∙◌, subst, inl, inr, ⊎_elim, arith, eq-eqb}
 use native.Mathlib.Decide.{ℕ_discrete}
 use lib.ListN.{get_elem?}
 use Rattle.std.specs.Int.{bit_at}
@@ -7,11 +7,14 @@ use Rattle.std.specs.List.{slice_index}
 use Rattle.std.proofs.lemmas.Bool.{cases_Bool, cases_lt, true≢false}
 use Rattle.g1_layout.specs.Shape as layout
 use Rattle.g1_race_words.specs.declared.view.Shape.{Shape}
-use Rattle.g1_race_words.specs.Rule.{HasBit, In, IsBegun, IsPair, bit_place, bit_word, flag, front, mark_word, pairs_of_card, pairs_up_to, started}
+use Rattle.g1_race_words.specs.Rule.{HasBit, In, IsBegun, IsPair, IsWholeShape, bit_place, bit_word, flag, front, mark_word, pairs_of_card, pairs_up_to, started}
 use Rattle.g1_race.specs.Over.{ended}
 use Rattle.g1_race.specs.Clearing.{IsEmptied}
-use Rattle.g1_race.specs.Refining.{AreRefined, Notes}
+use Rattle.g1_race.specs.Refining.{AreRefined, AreUnflagged, Notes}
+use Rattle.g1_race.specs.Moving.{Acquires, AreMovedAway}
 use Rattle.g1_race.specs.Telling.{IsNext, SkipsNone, is_marked, is_member}
+use Rattle.g1_race_words.proofs.Flags.{flag_card}
+use Rattle.g1_race_words.proofs.PairBits.{card_in_row}
 use Rattle.g1_race_words.proofs.Listing.{one_pair, pair_clear, pair_set}
 use Rattle.g1_race_words.proofs.Places.{take_at, take_same}
 use Rattle.g1_race.proofs.NextCards.{marked_word}
@@ -53,7 +56,7 @@ clean_after k words from next none is c le lt = elim (cases_lt c next) [
 
 -- a flag is no pair's bit
 pub flag_only : (k : Shape) (old new : List ℕ) (c : ℕ) → Notes k old new (flag k c ∷ []) → (x : ℕ × ℕ) → IsPair k x → HasBit k new x → HasBit k old x
-flag_only k old new c notes x pair b = ⊎_elim (λ (o : HasBit k old x). o) (λ (i : In (flag k c ∷ []) x). absurd (apart i)) (notes.only x pair b)
+flag_only k old new c notes x pair b = ⊎_elim (λ (o : HasBit k old x). o) (λ (i : In (flag k c ∷ []) x). absurd (apart i)) (notes.only x pair.0 b)
   where
     apart : In (flag k c ∷ []) x → ⊥
     apart (inl e) = absurd (let r : k.regions ≡ x.1 = ap (λ (y : ℕ × ℕ). y.1) e in let lt : x.1 < k.regions = pair.1 in omega (arith, r, lt))
@@ -91,11 +94,22 @@ pub front_at : (k : Shape) (old new : List ℕ) (i : ℕ) → front k new ≡ fr
 front_at k old new i same lt = sym (take_at new (k.slots + k.cards) i lt) ∙ (ap (λ (l : List ℕ). get_elem? l i) same ∙ take_at old (k.slots + k.cards) i lt)
 
 -- the flags are cleared then
+pub unflagged : (k : Shape) (old new : List ℕ) → IsWholeShape k → IsEmptied k old new k.regions k.row → AreUnflagged k new
+unflagged k old new shaped g c lt = g.clear (flag k c) (flag_card k c lt) refl (card_in_row k (c / 8 * 8) shaped (flag_card k c lt))
+
+-- and stay so where references are moved
+pub still_unflagged : (k : Shape) (old new : List ℕ) (from to : ℕ) → to < k.regions → AreMovedAway k old new from to → AreUnflagged k old → AreUnflagged k new
+still_unflagged k old new from to low away none c lt b =
+    let card = flag_card k c lt in ⊎_elim
+    (λ (u : HasBit k old (flag k c)). none c lt u)
+    (λ (u : Acquires k old from to (flag k c)). absurd (let e : to ≡ k.regions = ap (λ (y : ℕ × ℕ). y.1) u.6 in omega (arith, e, low)))
+    (away.moved.only (flag k c) card (away.emptied.only (flag k c) card b))
+
 pub refined_emptied : (k : Shape) (old mid new : List ℕ) (n : ℕ) → AreRefined k old mid n → IsEmptied k mid new k.regions k.row → AreRefined k old new n
 refined_emptied k old mid new n h g = record {
   slots = λ p lt. front_at k mid new p g.front (omega (arith, lt)) ∙ h.slots p lt;
   clean = λ c up below. front_at k mid new (mark_word k c) g.front (omega (arith, below)) ∙ h.clean c up below;
   marks = λ c up below. front_at k mid new (mark_word k c) g.front (omega (arith, below)) ∙ h.marks c up below;
-  kept = λ x pair b. g.kept x pair (λ e. absurd (let lt : x.1 < k.regions = pair.1 in omega (arith, lt, e))) (h.kept x pair b);
-  only = λ x pair b. h.only x pair (g.only x pair b);
+  kept = λ x pair b. g.kept x pair.0 (λ e. absurd (let lt : x.1 < k.regions = pair.1 in omega (arith, lt, e))) (h.kept x pair b);
+  only = λ x card b. h.only x card (g.only x card b);
 }

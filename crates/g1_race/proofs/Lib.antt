@@ -31,5 +31,4 @@ pub mod Counting
 pub mod Blocks
 pub mod SlotWords
 pub mod Copying
-pub mod StoresApart
 pub mod Held

@@ -189,17 +189,17 @@ module _ (k : Shape) (l : layout.Shape) (laid : k ≡ shape_of l k.members) wher
         (λ c p. let w = pending_word k l laid new c p in word_pending k l laid old c w.0 (mark_then c 1 w.0 w.1))
         (λ c p. let w = pending_word k l laid old c p in word_pending k l laid new c w.0 (mark_now c 1 w.0 w.1))
         (λ x pair bit.
-        let out : x.1 ≢ from = λ e. away.emptied.clear x pair e (in_row k x b.shaped pair) bit in
+        let out : x.1 ≢ from = λ e. away.emptied.clear x pair.0 e (in_row k x b.shaped pair) bit in
         recorded_is x ∙ and_from _ _ (⊎_elim
         (λ (u : HasBit k old x). or_left _ _ (set_recorded k l old laid b x pair u))
         (λ (u : Acquires k old from to x). or_right _ _ (gained x u))
-        (away.moved.only x pair (away.emptied.only x pair bit))) (ap not (ne_eqb x.1 from out)))
+        (away.moved.only x pair.0 (away.emptied.only x pair.0 bit))) (ap not (ne_eqb x.1 from out)))
         (λ x c.
         let p = and_parts _ _ (sym (recorded_is x) ∙ c) in
         let out : x.1 ≢ from = eqb-false x.1 from (not-true (eqb x.1 from) p.1) in
         elim (or_cases _ _ p.0) [
-          | inl was ↦ let s = recorded_set k l old laid b x was in (s.0, away.emptied.kept x s.0 out (away.moved.kept x s.1))
-          | inr gain ↦ let s = kept_bit x (from_kept (moved_pair l from to) (enumerate_from 0 refs) x (listed pair_total pair_exact _ _ gain)) in (s.1, away.emptied.kept x s.1 out s.0)
+          | inl was ↦ let s = recorded_set k l old laid b x was in (s.0, away.emptied.kept x s.0.0 out (away.moved.kept x s.1))
+          | inr gain ↦ let s = kept_bit x (from_kept (moved_pair l from to) (enumerate_from 0 refs) x (listed pair_total pair_exact _ _ gain)) in (s.1, away.emptied.kept x s.1.0 out s.0)
         ])
 
     counted : (i : ℕ) → i ≤ slot_count l → count_by (enters l from) (take i (enumerate_from 0 refs)) ≡ into_count k old from 0 i

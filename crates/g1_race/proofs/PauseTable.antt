@@ -86,6 +86,13 @@ covered_held t c r clean cover h =
 pub members_exact : MembersAreExact
 members_exact t region cards clean cover m c h = m.all c (covered_held t c region clean cover h)
 
+-- no more cards are members than were members or dirty
+pub members_room : (k : Shape) (old new : List ℕ) (region : ℕ) → AreRefined k old new k.cards → length (member_cards k new region) ≤ length (member_cards k old region) + length (marked_cards k old)
+members_room k old new region r = at_most_both (is_member k new region) (is_member k old region) (is_marked k old) k.cards (λ c lt e. ⊎_elim
+    (λ (u : HasBit k old (c, region)). inl (eq-eqb _ 1 u))
+    (λ (u : (get_elem? old (mark_word k c) ≡ some 1) × BeganInto k old (c, region)). inr (mark_is k old c 1 u.0 refl))
+    (r.only (c, region) lt (eqb-true _ 1 e)))
+
 module _ (k : Shape) (l : layout.Shape) (laid : k ≡ shape_of l k.members) where
   pub slots_are : k.slots ≡ slot_count l
   slots_are = ap (λ (s : Shape). s.slots) laid
@@ -156,13 +163,6 @@ module _ (k : Shape) (l : layout.Shape) (laid : k ≡ shape_of l k.members) wher
   })
 
   module _ (old new : List ℕ) (b : IsBegun (started k old)) (h : IsBegun (started k new)) (r : AreRefined k old new k.cards) where
-    -- no more cards are members than were members or dirty
-    pub members_room : (region : ℕ) → region < k.regions → length (member_cards k new region) ≤ length (member_cards k old region) + length (marked_cards k old)
-    members_room region low = at_most_both (is_member k new region) (is_member k old region) (is_marked k old) k.cards (λ c lt e. ⊎_elim
-        (λ (u : HasBit k old (c, region)). inl (eq-eqb _ 1 u))
-        (λ (u : (get_elem? old (mark_word k c) ≡ some 1) × BeganInto k old (c, region)). inr (mark_is k old c 1 u.0 refl))
-        (r.only (c, region) (lt, low) (eqb-true _ 1 e)))
-
     never_pending : (c : ℕ) → IsPending (table_of (ended l k new)) c → ⊥
     never_pending c p = let w = pending_word new c p in never_both new (mark_word k c) (r.clean c w.0 w.0) w.1
 
@@ -177,6 +177,7 @@ module _ (k : Shape) (l : layout.Shape) (laid : k ≡ shape_of l k.members) wher
 
     pub all_refined : AreAllRefined (table_of (ended l k old)) (marked_cards k old) (table_of (ended l k new))
     all_refined = record {
+      ascending = (gathered (is_marked k old) k.cards).ascending;
       refinable = record { distinct = listed_distinct (is_marked k old) k.cards; pending = All_by_member _ _ (λ c i. listed_pending old c b i) };
       table = table_is new (refined (marked_cards k old) (table_of (ended l k old))) h refl refs_stay
           (λ c p. absurd (never_pending c p))
@@ -186,7 +187,7 @@ module _ (k : Shape) (l : layout.Shape) (laid : k ≡ shape_of l k.members) wher
           (λ (u : (get_elem? old (mark_word k x.0) ≡ some 1) × BeganInto k old x). newly_recorded (marked_cards k old) (table_of (ended l k old)) x.0 x.1
           (held_from_Holds (table_of (ended l k old)) x.0 x.1 (holds_now old x.0 x.1 b.shaped u.1))
           (in_cards (marked_cards k old) x.0 (is_listed (is_marked k old) k.cards x.0 pair.0 (mark_is k old x.0 1 u.0 refl))))
-          (r.only x pair bit))
+          (r.only x pair.0 bit))
           (λ x c. elim (recorded_cases (marked_cards k old) (table_of (ended l k old)) x.0 x.1 c) [
             | inl was ↦ let s = recorded_set k l old laid b x was in (s.0, r.kept x s.0 s.1)
             | inr held ↦ now_set x.0 x.1 (Holds_from_held (table_of (ended l k old)) x.0 x.1 held)

@@ -45,7 +45,7 @@ module _ (k : Shape) (words : List ℕ) (x : ℕ × ℕ) (h : IsBegun (started k
     front = front_stays k words x;
     kept = λ y b. bits_stay k words x short y b;
     has = λ y i. ⊎_elim (λ (e : x ≡ y). subst (HasBit k (with_pair k words x)) e (bit_here k words x short)) (λ (n : ⊥). absurd n) i;
-    only = λ y py b. ⊎_elim (λ (c : HasBit k words y). inl c) (λ (e : x ≡ y). inr (inl e)) (bits_back k words x short y h.shaped card py.0 b);
+    only = λ y py b. ⊎_elim (λ (c : HasBit k words y). inl c) (λ (e : x ≡ y). inr (inl e)) (bits_back k words x short y h.shaped card py b);
   }
 
 -- the word as the call writes it

@@ -305,7 +305,7 @@ module _ (s : State) (l : layout.Shape) (k : Shape) (old a b : List ℕ) (pairs 
   bit_back x pair h = ⊎_elim
       (λ (o : HasBit k old x). absurd (no_bit k (zeros (word_count k)) x (zeros_read (word_count k) _) (subst (λ (ws : List ℕ). HasBit k ws x) null o)))
       (λ (i : In pairs x). subst (λ r. set_of.contains r x ≡ true) recorded (to_pairs pairs x (in_contains pairs x i)))
-      (notes.only x pair h)
+      (notes.only x pair.0 h)
 
   module _ (marked : AreMarked k s.table a b k.cards) where
     pub null_slots : (p : ℕ) → p < k.slots → get_elem? b p ≡ some 0

@@ -1,5 +1,5 @@
 -- Cards that are told apart by a test.
-use Rattle.std.proofs.Common.{◌≡◌, ◌⊎◌, inl, inr, ℕ, zero, suc, ◌+◌, ◌<◌, ◌≤◌, cond, Bool, true, false, List, [], ◌∷◌, ◌++◌, length, Contains, Some, None, refl, sym, ap, ◌∙◌, subst, arith}
+use Rattle.std.proofs.Common.{◌≡◌, ◌⊎◌, inl, inr, ℕ, zero, suc, ◌+◌, ◌<◌, ◌≤◌, cond, Bool, true, false, List, [], ◌∷◌, ◌++◌, length, Contains, Some, None, sym, ap, ◌∙◌, subst, arith}
 use Rattle.std.proofs.lemmas.Bool.{cases_Bool, cases_lt}
 use Rattle.std.proofs.lemmas.List.{append-nil, length_push}
 use Rattle.std.specs.FinSet as set
@@ -16,9 +16,6 @@ use Rattle.g1_layout.specs.Sets.{set_of}
 use Rattle.g1_core.proofs.SetLemmas.{in_list, in_set, same_cards}
 use Rattle.g1_core.proofs.MarkLemmas.{one_more}
 use Rattle.g1_core.proofs.RefinedLemmas.{push_distinct}
-use Rattle.std.proofs.Common.{get_or, set as list_set}
-use Rattle.std.proofs.lemmas.List.{get_or-set_other, get_or-set_same, get_or_append_left, get_or_push}
-use Rattle.g1_race.specs.Evacuating.{AreWritten}
 use Rattle.g1_race.specs.Telling.{cards_where, IsNext}
 use Rattle.g1_race.proofs.Gathering.{Gathered, gathered_none, gathered_in, gathered_out}
 
@@ -136,23 +133,3 @@ at_most_both f g h (suc n) each =
       ]
       | inr e ↦ let a : length (cards_where f (suc n)) ≡ length (cards_where f n) = ap length (left_out f n e) in omega (arith, a, rest, more_g, more_h)
     ]
-
--- one card more is written into a slice, where there is room
-
-pub written_none : (old : List ℕ) → AreWritten [] old old
-written_none old = record { first = λ i lt. absurd (omega (arith, lt)); rest = λ i le. refl }
-
-pub written_in : (xs old mid : List ℕ) (card : ℕ) → length mid ≡ length old → length xs < length mid → AreWritten xs old mid → AreWritten (xs ++ card ∷ []) old (list_set mid (length xs) card)
-written_in xs old mid card same room h = record {
-  first = λ i lt low. let few : length (xs ++ card ∷ []) ≡ length xs + 1 = length_push xs card in elim (cases_lt i (length xs)) [
-    | inl before ↦ get_or-set_other mid (length xs) i card 0 (λ e. absurd (omega (arith, e, before))) ∙ (h.first i before low ∙ sym (get_or_append_left xs (card ∷ []) 0 i before))
-    | inr at ↦ let e : i ≡ length xs = omega (arith, at, lt, few) in ap (λ (j : ℕ). get_or (list_set mid (length xs) card) j 0) e ∙ (get_or-set_same mid (length xs) card 0 room ∙ sym (get_or_push xs card 0 i (sym e)))
-  ];
-  rest = λ i le. let few : length (xs ++ card ∷ []) ≡ length xs + 1 = length_push xs card in get_or-set_other mid (length xs) i card 0 (λ e. absurd (omega (arith, e, le, few))) ∙ h.rest i (omega (arith, le, few));
-}
-
-pub written_past : (xs old mid : List ℕ) (card : ℕ) → length mid ≡ length old → length mid ≤ length xs → AreWritten xs old mid → AreWritten (xs ++ card ∷ []) old mid
-written_past xs old mid card same full h = record {
-  first = λ i lt low. let before : i < length xs = omega (arith, low, same, full) in h.first i before low ∙ sym (get_or_append_left xs (card ∷ []) 0 i before);
-  rest = λ i le. let few : length (xs ++ card ∷ []) ≡ length xs + 1 = length_push xs card in h.rest i (omega (arith, le, few));
-}

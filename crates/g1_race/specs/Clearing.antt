@@ -2,7 +2,6 @@
 use Rattle.std.specs.Prelude.{◌≡◌, ◌≢◌, ℕ, ◌/◌, ◌<◌, ◌≤◌, List, Option, Some, None, true}
 use mathlib.Core.Option.{some}
 use lib.ListN.{get_elem?}
-use Rattle.g1_core.specs.Table.{Table, IsPending}
 use Rattle.g1_race_words.specs.declared.view.Shape.{Shape}
 use Rattle.g1_race_words.specs.Rule.{IsPair, HasBit, slot_card, crosses, front, region_at}
 
@@ -28,9 +27,10 @@ IsLeastOfCard heap words card region (Some slot) =
 -- the first words of the region's row, as many as this, are 0, and nothing else has changed
 pub record IsEmptied (heap : Shape) (old new : List ℕ) (region words : ℕ) : Type 0 where
   pub front : front heap new ≡ front heap old
-  pub kept : (x : ℕ × ℕ) → IsPair heap x → x.1 ≢ region → HasBit heap old x → HasBit heap new x
-  pub only : (x : ℕ × ℕ) → IsPair heap x → HasBit heap new x → HasBit heap old x
-  pub clear : (x : ℕ × ℕ) → IsPair heap x → x.1 ≡ region → x.0 / 64 < words → HasBit heap new x → ⊥
+  pub kept : (x : ℕ × ℕ) → x.0 < heap.cards → x.1 ≢ region → HasBit heap old x → HasBit heap new x
+  pub only : (x : ℕ × ℕ) → x.0 < heap.cards → HasBit heap new x → HasBit heap old x
+  pub clear : (x : ℕ × ℕ) → x.0 < heap.cards → x.1 ≡ region → x.0 / 64 < words
+      → HasBit heap new x → ⊥
 
 -- the bits of the pairs that are gone are 0, and nothing else has changed
 pub record AreUnset (heap : Shape) (old new : List ℕ) (Gone : ℕ × ℕ → Type 0) : Type 0 where
@@ -38,8 +38,3 @@ pub record AreUnset (heap : Shape) (old new : List ℕ) (Gone : ℕ × ℕ → T
   pub kept : (x : ℕ × ℕ) → IsPair heap x → (Gone x → ⊥) → HasBit heap old x → HasBit heap new x
   pub only : (x : ℕ × ℕ) → IsPair heap x → HasBit heap new x → HasBit heap old x
   pub clear : (x : ℕ × ℕ) → IsPair heap x → Gone x → HasBit heap new x → ⊥
-
--- the least pending card
-abbrev pub IsLeastPending : Table → Option ℕ → Type 0
-IsLeastPending table None = (c : ℕ) → IsPending table c → ⊥
-IsLeastPending table (Some card) = IsPending table card × ((c : ℕ) → IsPending table c → card ≤ c)

@@ -1,10 +1,11 @@
 -- What the calls of an evacuation pause do to the plain table.
-use Rattle.std.specs.Prelude.{◌≡◌, ◌⊎◌, ℕ, ◌+◌, ◌*◌, ◌/◌, ◌<◌, ◌≤◌, ◌==◌, not, if◌then◌else◌, zero}
+use Rattle.std.specs.Prelude.{◌≡◌, ◌⊎◌, ℕ, ◌+◌, ◌*◌, ◌/◌, ◌<◌, ◌==◌, not, if◌then◌else◌, zero}
 use Rattle.std.specs.Prelude.{suc, false, List, [], None, Contains, length, replicate, slice_index}
 use Rattle.std.specs.Prelude.{◌-◌, ◌&&◌, nat_le, nat_lt}
 use mathlib.Core.Option.{some}
 use lib.ListN.{get_elem?}
 use Rattle.std.specs.FinSet as set
+use Rattle.std.specs.List.Sorted.{IsStrictlyIncreasing}
 use Rattle.g1_core.specs.declared.reply.Drained.{Drained}
 use Rattle.g1_core.specs.declared.reply.Drained.TheVariants.{Cards, Short}
 use Rattle.g1_layout.specs.declared.kind.Kind.{Kind}
@@ -12,10 +13,10 @@ use Rattle.g1_layout.specs.Shape.{region_of_card}
 use Rattle.g1_core.specs.declared.reply.Fill.TheVariants.{No}
 use Rattle.g1_core.specs.declared.reply.StoreReply.{StoreReply}
 use Rattle.g1_core.specs.Table.{Table, Holds, IsRecorded, IsCovered, AreRefinable, refined}
-use Rattle.g1_core.specs.Table.{target_of}
-use Rattle.g1_core.specs.Run.{IsStep, drained, stored}
+use Rattle.g1_core.specs.Run.{stored}
 use Rattle.g1_race_words.specs.declared.view.Shape.{Shape}
 use Rattle.g1_race.specs.Over.{Halt}
+use Rattle.g1_race.specs.Refining.{AreUnflagged}
 
 -- all of a race at a pause but its words is as it was
 pub record IsSameRace (old new : Halt) : Type 0 where
@@ -26,7 +27,7 @@ pub record IsSameRace (old new : Halt) : Type 0 where
   pub logs : new.logs ≡ old.logs
   pub sweepers : new.sweepers ≡ old.sweepers
 
--- the same once all is refined: each racer's log is empty
+-- the same once all is refined: each racer's log is empty, and no flag is set
 pub record IsRefinedRace (old new : Halt) : Type 0 where
   pub layout : new.layout ≡ old.layout
   pub shape : new.shape ≡ old.shape
@@ -34,6 +35,7 @@ pub record IsRefinedRace (old new : Halt) : Type 0 where
   pub table_id : new.table_id ≡ old.table_id
   pub logs : new.logs ≡ replicate (length old.logs) []
   pub sweepers : new.sweepers ≡ old.sweepers
+  pub flags : AreUnflagged new.shape new.words
 
 -- each slot's word becomes this
 abbrev pub WordsBecome : (ℕ → ℕ → ℕ) → Shape → List ℕ → List ℕ → Type 0
@@ -61,8 +63,9 @@ copied_word old from to count slot word =
     if nat_le to slot && nat_lt slot (to + count) then slice_index old (from + (slot - to))
     else word
 
--- all that was pending is refined, which are these cards
+-- all that was pending is refined, which are these cards, ascending
 pub record AreAllRefined (old : Table) (cards : List ℕ) (new : Table) : Type 0 where
+  pub ascending : IsStrictlyIncreasing cards
   pub refinable : AreRefinable old cards
   pub table : new ≡ refined cards old
   pub clean : new.pending ≡ set.empty
@@ -93,27 +96,6 @@ abbrev pub wiped : ℕ → Table → Table
 wiped region table =
     nulled (region * (table.layout.cards * table.layout.slots))
     (table.layout.cards * table.layout.slots) table
-
--- the old targets of as many slots, from one on, are stored to those from another on
-abbrev pub copied : ℕ → ℕ → ℕ → Table → Table
-copied from to zero table = table
-copied from to (suc count) table =
-    stored (copied from to count table) (to + count) (target_of table (from + count))
-
--- the first ones of these cards stand in the slice, as far as it reaches, and behind them it is as
--- it was
-pub record AreWritten (cards old new : List ℕ) : Type 0 where
-  pub first : (i : ℕ) → i < length cards → i < length old → slice_index new i ≡ slice_index cards i
-  pub rest : (i : ℕ) → length cards ≤ i → slice_index new i ≡ slice_index old i
-
--- a drain of the region leaves the new table, and its answer is written into the slice
-pub record IsDrainedInto (old new : Table) (region count : ℕ) (before after : List ℕ) : Type 0 where
-  pub cards : List ℕ
-  pub done : List ℕ
-  pub step : (caller : ℕ) → IsStep old (drained caller region cards done) new
-  pub exact : IsExactAtPause old region cards
-  pub counted : count ≡ length cards
-  pub written : AreWritten cards before after
 
 -- the pairs of the region's cards are recorded no more
 abbrev pub forgotten : ℕ → Table → Table

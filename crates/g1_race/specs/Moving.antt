@@ -5,12 +5,8 @@ use mathlib.Core.Option.{some}
 use lib.ListN.{get_elem?}
 use Rattle.g1_core.specs.declared.reply.Redirected.{Redirected}
 use Rattle.g1_core.specs.declared.reply.Redirected.TheVariants.{Moved, Short}
-use Rattle.g1_core.specs.Table.{Table}
-use Rattle.g1_core.specs.Run.{IsStep}
-use Rattle.g1_core.specs.declared.entry.Call.TheVariants.{Redirect}
-use Rattle.g1_core.specs.declared.entry.Reply.TheVariants as reply
 use Rattle.g1_race_words.specs.declared.view.Shape.{Shape}
-use Rattle.g1_race_words.specs.Rule.{IsBegun, IsPair, HasBit, slot_card, crosses, mark_word}
+use Rattle.g1_race_words.specs.Rule.{IsBegun, HasBit, slot_card, crosses, mark_word}
 use Rattle.g1_race_words.specs.Rule.{as_number}
 use Rattle.g1_race_words.specs.Rule.{region_at, started}
 use Rattle.g1_race.specs.Clearing.{IsEmptied}
@@ -50,7 +46,7 @@ pub record AreMoved (heap : Shape) (old new : List ℕ) (from to first count : �
   pub marks : (c : ℕ) → c < heap.cards →
       get_elem? new (mark_word heap c) ≡ get_elem? old (mark_word heap c)
   pub kept : (x : ℕ × ℕ) → HasBit heap old x → HasBit heap new x
-  pub only : (x : ℕ × ℕ) → IsPair heap x → HasBit heap new x
+  pub only : (x : ℕ × ℕ) → x.0 < heap.cards → HasBit heap new x
       → HasBit heap old x ⊎ Acquires heap old from to x
   pub has : (p n : ℕ) → first ≤ p → p < first + count → p < heap.slots → get_elem? old p ≡ some n →
       is_into heap from p n ≡ true → p / heap.span ≢ to → HasBit heap new (slot_card heap p, to)
@@ -66,13 +62,3 @@ pub record AreMovedAway (heap : Shape) (old new : List ℕ) (from to : ℕ) : Ty
   pub begun : IsBegun (started heap between)
   pub moved : AreMoved heap old between from to 0 heap.slots
   pub emptied : IsEmptied heap between new from heap.row
-
--- a redirect from the one region to the other leaves the new table, and has changed as many slots
-pub record IsRedirected (old : Table) (from to slots : ℕ) (new : Table) : Type 0 where
-  pub done : List ℕ
-  pub step : (caller : ℕ) → IsStep old (record {
-    caller = caller;
-    call = Redirect from to;
-    reply = reply.Moved slots;
-    refined = done;
-  }) new

@@ -2,7 +2,7 @@
 use Rattle.std.specs.Prelude.{◌≡◌, ℕ, ◌≤◌, Option, Some, None}
 use Rattle.atomic_table.specs.Seated.{TableId}
 use Rattle.atomic_table.specs.declared.shared.Seat.{Seat}
-use Rattle.g1_core.specs.Table.{Table, IsPending}
+use Rattle.g1_core.specs.Table.{Table, IsPending, IsRecorded}
 use Rattle.g1_race_words.specs.declared.view.Shape.{Shape}
 use Rattle.g1_race_words.specs.declared.view.View.{View}
 use Rattle.g1_race_words.specs.Begin.{Start}
@@ -44,3 +44,10 @@ abbrev pub IsNextPending : Table → ℕ → Option ℕ → Type 0
 IsNextPending table from None = (card : ℕ) → from ≤ card → IsPending table card → ⊥
 IsNextPending table from (Some next) = (from ≤ next) × IsPending table next
     × ((card : ℕ) → from ≤ card → IsPending table card → next ≤ card)
+
+-- the least card from one on that is recorded for the region
+abbrev pub IsNextMember : Table → ℕ → ℕ → Option ℕ → Type 0
+IsNextMember table region from None =
+    (card : ℕ) → from ≤ card → IsRecorded table card region → ⊥
+IsNextMember table region from (Some next) = (from ≤ next) × IsRecorded table next region
+    × ((card : ℕ) → from ≤ card → IsRecorded table card region → next ≤ card)

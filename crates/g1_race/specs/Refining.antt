@@ -21,7 +21,7 @@ pub record Notes (heap : Shape) (old new : List ℕ) (pairs : List (ℕ × ℕ))
   pub front : (i : ℕ) → i < heap.slots + heap.cards → get_elem? new i ≡ get_elem? old i
   pub kept : (x : ℕ × ℕ) → HasBit heap old x → HasBit heap new x
   pub has : (x : ℕ × ℕ) → In pairs x → HasBit heap new x
-  pub only : (x : ℕ × ℕ) → IsPair heap x → HasBit heap new x → HasBit heap old x ⊎ In pairs x
+  pub only : (x : ℕ × ℕ) → x.0 < heap.cards → HasBit heap new x → HasBit heap old x ⊎ In pairs x
 
 -- the card is dirtied: its flag is set, and then its mark, and nothing else changes
 pub record IsDirtied (heap : Shape) (old new : List ℕ) (card : ℕ) : Type 0 where
@@ -37,7 +37,7 @@ pub record RefinesCard (heap : Shape) (old new : List ℕ) (card : ℕ) : Type 0
   pub marks : (d : ℕ) → d < heap.cards → d ≢ card
       → get_elem? new (mark_word heap d) ≡ get_elem? old (mark_word heap d)
   pub kept : (x : ℕ × ℕ) → HasBit heap old x → HasBit heap new x
-  pub only : (x : ℕ × ℕ) → IsPair heap x → HasBit heap new x
+  pub only : (x : ℕ × ℕ) → x.0 < heap.cards → HasBit heap new x
       → HasBit heap old x ⊎ ((x.0 ≡ card) × BeganInto heap old x)
 
 -- the dirty ones of the first cards, as many as this, are clean, and beside the old pairs only
@@ -48,8 +48,12 @@ pub record AreRefined (heap : Shape) (old new : List ℕ) (count : ℕ) : Type 0
   pub marks : (c : ℕ) → count ≤ c → c < heap.cards
       → get_elem? new (mark_word heap c) ≡ get_elem? old (mark_word heap c)
   pub kept : (x : ℕ × ℕ) → IsPair heap x → HasBit heap old x → HasBit heap new x
-  pub only : (x : ℕ × ℕ) → IsPair heap x → HasBit heap new x
+  pub only : (x : ℕ × ℕ) → x.0 < heap.cards → HasBit heap new x
       → HasBit heap old x ⊎ ((get_elem? old (mark_word heap x.0) ≡ some 1) × BeganInto heap old x)
+
+-- no flag is set: a walk over the dirty cards reads no mark then
+abbrev pub AreUnflagged : Shape → List ℕ → Type 0
+AreUnflagged heap words = (c : ℕ) → c < heap.cards → HasBit heap words (flag heap c) → ⊥
 
 -- where nothing is pending and each reference is covered, the members of a region are exact: every
 -- card that holds into it is one

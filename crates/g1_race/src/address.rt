@@ -14,7 +14,7 @@ impl Race {
     /// The words are the references: there is no other copy, so what a load finds there is what the
     /// last store to the slot wrote. They stay where they are from the birth of the heap to its
     /// end, over each pause. Whoever loads a slot there does so by an atomic load of its whole
-    /// word, and never writes there (docs/RACES.md, Fields that are the race's words).
+    /// word, and never writes there (docs/rattle.md, Fields that are the race's words).
     pub fn words(&self) -> *const u64
         ensures { result ≡ race_words self.now }
     {

@@ -3,8 +3,9 @@ ghost use Rattle.std.specs.Prelude.{◌≡◌, ◌+◌, ◌<◌, ◌≤◌, slic
 ghost use Rattle.g1_layout.specs.Shape.{slot_count};
 ghost use Rattle.g1_core.specs.Table.{target_of};
 ghost use Rattle.g1_core.specs.Run.{stored};
+ghost use Rattle.g1_core.specs.Copying.{copied};
 ghost use Rattle.g1_race.specs.Over.{halted};
-ghost use Rattle.g1_race.specs.Evacuating.{IsSameRace, SlotsBecome, copied, copied_word, one_word};
+ghost use Rattle.g1_race.specs.Evacuating.{IsSameRace, SlotsBecome, copied_word, one_word};
 
 use crate::holds::Holds;
 use crate::paused::Paused;
@@ -60,7 +61,7 @@ impl<R: Holds> Paused<R> {
 }
 
 // The slot that lies so far behind the first one.
-fn slot_behind(layout: Layout, first: Slot, distance: u32) -> Slot
+pub(crate) fn slot_behind(layout: Layout, first: Slot, distance: u32) -> Slot
     requires { first + distance < slot_count layout }
     ensures { result ≡ first + distance }
 {

@@ -36,7 +36,8 @@ impl Racer {
         ensures race { racer_race self.new ≡ racer_race self.old }
         ensures start { racer_start self.new ≡ racer_start self.old }
         ensures view { racer_view self.new
-            ≡ racing.stored_view (race_shape race.now) (racer_view self.old) slot word false }
+            ≡ racing.stored_view (race_shape race.now) (racer_view self.old) slot word result
+            false }
         ensures log { racer_log self.new ≡ racer_log self.old }
         ensures old { IsFound (racer_view self.old) slot result }
         ensures word { IsWord (race_shape race.now) result }

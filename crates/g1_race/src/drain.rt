@@ -1,41 +1,44 @@
 //! Refinement and drains at a pause.
-ghost use Rattle.std.specs.Prelude.{◌≡◌, ℕ, ◌+◌, ◌*◌, ◌<◌, ◌≤◌, [], ◌∷◌, IfOk, OnErr, List, length};
+ghost use Rattle.std.specs.Prelude.{◌≡◌, ℕ, ◌+◌, ◌*◌, ◌<◌, ◌≤◌, [], ◌∷◌, IfOk, OnErr, length};
 ghost use Rattle.std.specs.Prelude.{map, replicate, vec_len};
+ghost use Rattle.std.specs.List.Sorted.{IsStrictlyIncreasing};
 ghost use Rattle.g1_layout.specs.Shape.{slot_count, card_count};
 ghost use Rattle.g1_core.specs.Run.{IsStep};
-ghost use Rattle.g1_core.specs.Calls.{drain_cards, drain_entry};
+ghost use Rattle.g1_core.specs.Calls.{drain_cards, drain_entry, drain_refined};
 ghost use Rattle.g1_race_words.specs.Rule.{IsOfCrossing, IsWord, slot_card};
 ghost use Rattle.g1_race_words.specs.Steps.{pair_at};
 ghost use Rattle.g1_race.specs.Members.{racer_log};
 ghost use Rattle.g1_race.specs.Over.{halted};
-ghost use Rattle.g1_race.specs.Refining.{Notes, RefinesCard, AreRefined};
+ghost use Rattle.g1_race.specs.Refining.{Notes, RefinesCard, AreRefined, AreUnflagged};
+ghost use Rattle.g1_race.specs.Telling.{marked_cards};
 ghost use Rattle.g1_race.specs.Evacuating.{SlotsBecome, same_word, IsRefinedRace, AreAllRefined};
-ghost use Rattle.g1_race.specs.Evacuating.{IsDrainedInto, IsWhole, IsExactAtPause};
+ghost use Rattle.g1_race.specs.Evacuating.{IsWhole, IsExactAtPause};
 ghost use Rattle.g1_race_words.specs.Seats.{IsPaused};
 
 use crate::bits::bit_of;
 use crate::clear::empty_row;
 use crate::holds::Holds;
-use crate::next::{
-    count_marked, count_members, list_marked, list_members, next_marked, write_members,
-};
+use crate::next::next_marked;
 use crate::paused::Paused;
 use crate::race::{Race, Racer};
 use crate::stopped::{put, see};
 use crate::word::pair_of;
 use g1_core::{CardList, Drained};
-use g1_layout::{Card, NoMemory, Region};
+use g1_layout::{NoMemory, Region};
 use g1_race_words::Place;
 use std::alloc::Global;
 
 impl<R: Holds> Paused<R> {
     /// Refines every dirty card, and returns the remembered set of a region, ascending, each card
     /// once. It has every card that holds into the region, and besides these only cards whose pair
-    /// was recorded before. Then no card is dirty, and the racers' logs are empty.
+    /// was recorded before. Then no card is dirty, and the racers' logs are empty. The refined
+    /// cards are listed too, ascending.
     ///
     /// Reads a word for each 64 cards of the heap a few times over, what each dirty card needs, and
     /// the set. The room for the lists is asked for first, and refinement takes none. Returns
     /// `NoMemory` if that room was refused: nothing has changed. A drain is never `Short`.
+    ///
+    /// [`Paused::refine_all`] and [`Paused::next_member`] do the same without a list.
     pub fn drain(&mut self, alloc: Global, region: Region) -> Result<Drained, NoMemory>
         requires { region < self.old.layout.regions }
         ensures race { IfOk result (λ answer. IsRefinedRace self.old self.new) }
@@ -43,41 +46,22 @@ impl<R: Holds> Paused<R> {
         ensures whole { IfOk result IsWhole }
         ensures few { IfOk result (λ answer.
             length (drain_cards answer) ≤ card_count self.old.layout) }
+        ensures ascending { IfOk result (λ answer.
+            IsStrictlyIncreasing (drain_refined answer)) }
         ensures step { IfOk result (λ answer. (caller : ℕ)
             → IsStep (halted self.old) (drain_entry caller region answer) (halted self.new)) }
         ensures exact { IfOk result (λ answer.
             IsExactAtPause (halted self.old) region (drain_cards answer)) }
         ensures err { OnErr result (self.new ≡ self.old) }
     {
-        let race = self.race.race();
-        let number = region.number() as usize;
-        let pending = count_marked(race, &mut self.seat);
-        let members = count_members(race, &mut self.seat, number);
-        let mut refined = Vec::with_capacity(alloc, pending)?;
-        let mut cards = Vec::with_capacity(alloc, members + pending)?;
-        list_marked(race, &mut self.seat, &mut refined);
-        refine_cards(race, &mut self.seat);
-        list_members(race, &mut self.seat, number, &mut cards);
-        clear_logs(&mut self.racers);
-        let refined = CardList::of(refined);
+        let refined = self.dirty_cards(alloc)?;
+        let room = self.member_count(region) + refined.len();
+        let mut cards = Vec::with_capacity(alloc, room)?;
+        self.refine_all();
+        self.gather(region, &mut cards);
         let cards = CardList::of(cards);
+        let refined = CardList::of(refined);
         Ok(Drained::Cards { cards, refined })
-    }
-
-    /// Drains a region, writes its remembered set into a slice, as far as that reaches, and returns
-    /// how many cards the set has. Takes no memory.
-    pub fn drain_into(&mut self, region: Region, cards: &mut [Card]) -> usize
-        requires { region < self.old.layout.regions }
-        ensures race { IsRefinedRace self.old self.new }
-        ensures words { SlotsBecome same_word self.old self.new }
-        ensures drained { IsDrainedInto (halted self.old) (halted self.new) region result cards.old
-            cards.new }
-    {
-        let race = self.race.race();
-        let number = region.number() as usize;
-        refine_cards(race, &mut self.seat);
-        clear_logs(&mut self.racers);
-        write_members(race, &mut self.seat, number, cards)
     }
 
     /// Refines every dirty card, in ascending order, and empties the racers' logs. The members of
@@ -85,8 +69,10 @@ impl<R: Holds> Paused<R> {
     pub fn refine_all(&mut self)
         ensures race { IsRefinedRace self.old self.new }
         ensures words { SlotsBecome same_word self.old self.new }
-        ensures refined { (cards : List ℕ)
-            × AreAllRefined (halted self.old) cards (halted self.new) }
+        ensures bits { AreRefined self.old.shape self.old.words self.new.words
+            self.old.shape.cards }
+        ensures refined { AreAllRefined (halted self.old)
+            (marked_cards self.old.shape self.old.words) (halted self.new) }
     {
         let race = self.race.race();
         refine_cards(race, &mut self.seat);
@@ -110,6 +96,7 @@ pub(crate) fn refine_cards(race: &Race, seat: &mut Place)
     ensures seat { IsPaused race.now.table.table_id race.now.shape seat.new }
     ensures refined { AreRefined race.now.shape seat.old.me.0.began_words seat.new.me.0.began_words
         race.now.shape.cards }
+    ensures flags { AreUnflagged race.now.shape seat.new.me.0.began_words }
 {
     let mut from = 0;
     while let Some(card) = next_marked(race, seat, from) {

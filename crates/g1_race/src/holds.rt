@@ -4,7 +4,7 @@ use crate::race::Race;
 use std::alloc::Global;
 use std::sync::Arc;
 
-/// What a pause may hold its race by: the race itself, or a share of it.
+/// How a pause owns its race: by value or by `Arc`.
 ///
 /// With a share, the threads that share the race keep their own shares over the pause. These can do
 /// nothing to its words meanwhile, since each call on them takes a racer or a sweeper, and all of

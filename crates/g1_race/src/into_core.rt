@@ -13,7 +13,7 @@ impl Closed {
     /// Makes a core of this table. Each slot refers to what it referred to when the race ended. The
     /// cards that were dirty then are pending. The pairs that were recorded, by the sweepers or
     /// before the race, are recorded. Nothing is counted, nothing was read and the hot ring is
-    /// empty (docs/PROFILE.md, Racing stores).
+    /// empty (docs/rules.md, Racing stores).
     ///
     /// Takes the memory of a core ([`Core::adopt`]) and, during the call, 8 bytes for each slot,
     /// one for each card and 8 for each recorded pair. Returns `NoMemory` if memory was refused,

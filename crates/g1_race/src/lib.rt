@@ -70,6 +70,7 @@ mod resume;
 mod shared;
 mod stopped;
 mod sweeper;
+mod verify;
 mod wipe;
 mod word;
 

@@ -2,7 +2,6 @@
 ghost use Rattle.std.specs.Prelude.{◌≡◌, ◌+◌, ◌*◌, ◌<◌, ◌≤◌, ℕ, [], length, vec_capacity};
 ghost use Rattle.g1_race.specs.Telling.{IsNext, SkipsNone, is_marked, is_member, marked_cards};
 ghost use Rattle.g1_race.specs.Telling.{member_cards, pair_count};
-ghost use Rattle.g1_race.specs.Evacuating.{AreWritten};
 ghost use Rattle.g1_race_words.specs.Readers.{IsReading};
 
 use crate::bits::bit_of;
@@ -150,33 +149,6 @@ pub(crate) fn list_members(race: &Race, seat: &mut Place, region: usize, cards: 
         cards.push_reserved(card_at(race, card));
         from = card + 1;
     }
-}
-
-// Writes the cards of the region's set into the slice, as far as it reaches, and returns how many
-// there are.
-pub(crate) fn write_members(
-    race: &Race,
-    seat: &mut Place,
-    region: usize,
-    cards: &mut [Card],
-) -> usize
-    requires seat { IsReading race.now.table.table_id race.now.shape seat.old }
-    requires region { region < race.now.shape.regions }
-    ensures count { result ≡ length (member_cards race.now.shape seat.old.me.0.began_words region) }
-    ensures cards { AreWritten (member_cards race.now.shape seat.old.me.0.began_words region)
-        cards.old cards.new }
-    ensures seat { (seat.new.table_id ≡ seat.old.table_id) × (seat.new.me ≡ seat.old.me) }
-{
-    let mut count = 0;
-    let mut from = 0;
-    while let Some(card) = next_member(race, seat, from, region) {
-        if count < cards.len() {
-            cards[count] = card_at(race, card);
-        }
-        count += 1;
-        from = card + 1;
-    }
-    count
 }
 
 // The card with a number.

@@ -22,6 +22,8 @@ impl Race {
     ///
     /// - Each slot has the last target that some racer stored into it. If no racer stored into it,
     ///   it refers to what it referred to when the race began.
+    /// - Take the words that were stored to a slot, and the one that it had when the race began.
+    ///   They are the words that stores overwrote there and the one that it has now, each as often.
     /// - A dirty card was claimed by a racer or was dirty at the beginning. A clean card of which
     ///   either is true was cleaned by a sweeper.
     /// - Take the number of a card's claims, plus 1 if it was dirty at the beginning. That is the

@@ -14,7 +14,7 @@ use g1_race_words::{Place, RaceTable, Shape};
 /// it by `&`.
 ///
 /// It has 8 bytes a slot, 8 bytes a card, a bit for each pair of a card and a region, and a bit for
-/// each card. Once it is open it takes no memory.
+/// each card. It never allocates after `open`.
 #[derive(Drop)]
 pub struct Race {
     pub(crate) table: RaceTable,

@@ -6,9 +6,9 @@ ghost use Rattle.g1_core.specs.Table.{target_of, AreMembers, IsRecorded};
 ghost use Rattle.g1_core.specs.Run.{IsStep};
 ghost use Rattle.g1_core.specs.Calls.{target_entry, pending_entry, members_entry};
 ghost use Rattle.g1_race.specs.Members.{race_id, race_layout};
-ghost use Rattle.g1_race.specs.Reading.{IsNextPending, reader_race, table_read};
+ghost use Rattle.g1_race.specs.Reading.{IsNextMember, IsNextPending, reader_race, table_read};
 
-use crate::listed::{is_recorded, members_of, next_dirty_from};
+use crate::listed::{is_recorded, members_of, next_dirty_from, next_member_from};
 use crate::race::Race;
 use crate::reading::Reader;
 use crate::stopped::{is_dirty, target_of};
@@ -77,15 +77,30 @@ impl Reader {
         members_of(race, &mut self.seat, alloc, region)
     }
 
-    /// Returns the least dirty card from `from` on, or `None` if there is none. So each of several
-    /// readers can look for the dirty cards of a stretch of the heap. Reads a word for each 64
-    /// cards up to the card that it returns, and the marks of each eight of these of which one was
-    /// dirtied since all were last refined at a pause. The reader must be of this race.
-    pub fn next_dirty(&mut self, race: &Race, from: Card) -> Option<Card>
+    /// Returns the least dirty card from the number `from` on, as [`Paused::next_dirty`] does. So
+    /// each of several readers can look for the dirty cards of a stretch of the heap. The reader
+    /// must be of this race.
+    ///
+    /// [`Paused::next_dirty`]: crate::Paused::next_dirty
+    pub fn next_dirty(&mut self, race: &Race, from: u32) -> Option<Card>
         requires reader { reader_race self.old ≡ race_id race.now }
         ensures dirty { IsNextPending (table_read race.now self.old) from result }
         ensures same { self.new ≡ self.old }
     {
-        next_dirty_from(race, &mut self.seat, from.number() as usize)
+        next_dirty_from(race, &mut self.seat, from)
+    }
+
+    /// Returns the least card from the number `from` on that is recorded for a region, as
+    /// [`Paused::next_member`] does. The reader and the region must be of this race.
+    ///
+    /// [`Paused::next_member`]: crate::Paused::next_member
+    pub fn next_member(&mut self, race: &Race, region: Region, from: u32) -> Option<Card>
+        requires reader { reader_race self.old ≡ race_id race.now }
+        requires region { region < (race_layout race.now).regions }
+        ensures member { IsNextMember (table_read race.now self.old) region from result }
+        ensures within { IfSome result (λ card. card < card_count (race_layout race.now)) }
+        ensures same { self.new ≡ self.old }
+    {
+        next_member_from(race, &mut self.seat, region, from)
     }
 }

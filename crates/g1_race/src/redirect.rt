@@ -4,18 +4,23 @@ ghost use Rattle.std.specs.Prelude.{◌≡◌, ◌≢◌, ℕ, ◌*◌, ◌<◌,
 ghost use mathlib.Core.Option.{some};
 ghost use lib.ListN.{get_elem?};
 ghost use Rattle.g1_core.specs.Run.{IsStep};
-ghost use Rattle.g1_core.specs.Calls.{redirect_entry};
+ghost use Rattle.g1_core.specs.Calls.{redirect_entry, redirect_refined};
+ghost use Rattle.g1_core.specs.Table.{moved, moved_count};
+ghost use Rattle.g1_core.specs.declared.reply.Redirected.TheVariants.{Moved};
+ghost use Rattle.std.specs.FinSet as set;
+ghost use Rattle.std.specs.List.Sorted.{IsStrictlyIncreasing};
 ghost use Rattle.g1_race_words.specs.Rule.{crosses, mark_word, region_at};
 ghost use Rattle.g1_race.specs.Over.{halted};
-ghost use Rattle.g1_race.specs.Moving.{AreMoved, AreMovedAway, HasMoved, IsRedirected, into_count};
-ghost use Rattle.g1_race.specs.Moving.{word_after};
-ghost use Rattle.g1_race.specs.Evacuating.{IsRefinedRace, SlotsBecome};
+ghost use Rattle.g1_race.specs.Moving.{AreMoved, AreMovedAway, HasMoved, into_count, word_after};
+ghost use Rattle.g1_race.specs.Evacuating.{IsRefinedRace, IsSameRace, SlotsBecome};
+ghost use Rattle.g1_race.specs.Refining.{AreUnflagged};
+ghost use Rattle.g1_race.specs.Telling.{marked_cards};
 ghost use Rattle.g1_race_words.specs.Seats.{IsPaused};
 
 use crate::clear::{empty_row, enters};
-use crate::drain::{clear_logs, refine_cards, set_bit};
+use crate::drain::set_bit;
 use crate::holds::Holds;
-use crate::next::{count_marked, list_marked, next_member};
+use crate::next::next_member;
 use crate::paused::Paused;
 use crate::race::Race;
 use crate::stopped::{put, see};
@@ -51,19 +56,14 @@ impl<R: Holds> Paused<R> {
         ensures words { IfOk result (λ answer.
             SlotsBecome (word_after self.old.shape from to) self.old self.new) }
         ensures whole { IfOk result HasMoved }
+        ensures ascending { IfOk result (λ answer.
+            IsStrictlyIncreasing (redirect_refined answer)) }
         ensures step { IfOk result (λ answer. (caller : ℕ) →
             IsStep (halted self.old) (redirect_entry caller from to answer) (halted self.new)) }
         ensures err { OnErr result (self.new ≡ self.old) }
     {
-        let race = self.race.race();
-        let pending = count_marked(race, &mut self.seat);
-        let mut refined = Vec::with_capacity(alloc, pending)?;
-        list_marked(race, &mut self.seat, &mut refined);
-        refine_cards(race, &mut self.seat);
-        let (from, to) = (from.number() as usize, to.number() as usize);
-        let slots = move_references(race, &mut self.seat, from, to);
-        clear_logs(&mut self.racers);
-        let refined = CardList::of(refined);
+        let refined = CardList::of(self.dirty_cards(alloc)?);
+        let slots = self.redirect_in_place(from, to);
         Ok(Redirected::Moved { slots, refined })
     }
 
@@ -75,11 +75,30 @@ impl<R: Holds> Paused<R> {
         requires apart { from ≢ to }
         ensures race { IsRefinedRace self.old self.new }
         ensures words { SlotsBecome (word_after self.old.shape from to) self.old self.new }
-        ensures redirected { IsRedirected (halted self.old) from to result (halted self.new) }
+        ensures step { (caller : ℕ) →
+            let refined = marked_cards self.old.shape self.old.words in
+            IsStep (halted self.old) (redirect_entry caller from to (Moved result refined))
+            (halted self.new) }
+    {
+        self.refine_all();
+        self.move_all(from, to)
+    }
+
+    // Moves the references into the region, and returns how many slots have changed. No card is
+    // dirty.
+    fn move_all(&mut self, from: Region, to: Region) -> u32
+        requires from { from < self.old.layout.regions }
+        requires to { to < self.old.layout.regions }
+        requires apart { from ≢ to }
+        requires clean { (halted self.old).pending ≡ set.empty }
+        ensures race { IsSameRace self.old self.new }
+        ensures words { SlotsBecome (word_after self.old.shape from to) self.old self.new }
+        ensures flags { AreUnflagged self.old.shape self.old.words →
+            AreUnflagged self.new.shape self.new.words }
+        ensures moved { halted self.new ≡ moved from to (halted self.old) }
+        ensures count { result ≡ moved_count from (halted self.old) }
     {
         let race = self.race.race();
-        refine_cards(race, &mut self.seat);
-        clear_logs(&mut self.racers);
         let (from, to) = (from.number() as usize, to.number() as usize);
         move_references(race, &mut self.seat, from, to)
     }

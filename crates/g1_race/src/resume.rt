@@ -58,7 +58,7 @@ impl<R: Holds> Paused<R> {
 impl Race {
     /// Opens a race that begins with a core's whole table, with 1 to 8 racers and 1 to 4 sweepers.
     /// Each slot refers to what it refers to in the core, the pending cards are dirty, and the
-    /// recorded pairs are recorded (docs/PROFILE.md, Racing stores).
+    /// recorded pairs are recorded (docs/rules.md, Racing stores).
     ///
     /// No racer has stored and no sweeper has refined. A card that is dirty from the beginning is
     /// in no racer's log: a sweep of that card, or a drain after the race, refines it. The settings
@@ -90,8 +90,7 @@ impl Race {
     }
 
     /// Opens a race as [`Race::resume`] does, and the core stays as it is, except for its count of
-    /// reads. It is for a caller that drops the core only once it has the memory for all that it
-    /// does with the race.
+    /// reads. Use it to keep the core until every later allocation has succeeded.
     pub fn begin_from(
         alloc: Global,
         core: &mut Core,

@@ -70,7 +70,7 @@ impl<R: Holds> Paused<R> {
     }
 }
 
-// Which kind of store it would be.
+// The kind of a store of `target` into `slot`.
 fn kind_of(race: &Race, seat: &mut Place, slot: &Slot, target: &Option<Slot>) -> Kind
     requires seat { IsReading race.now.table.table_id race.now.shape seat.old }
     requires slot { slot.now < slot_count race.now.layout }

@@ -1,7 +1,7 @@
 //! A race becomes a core, and the core a race again.
 use crate::small::Seen::{Has, Marked, Target};
 use crate::small::Step::{First, Refine, Second};
-use crate::small::{Small, are, see};
+use crate::small::{Small, are, raced, see};
 use g1_core::{Config, Core, Drained};
 use g1_layout::Kind::{AlreadyDirty, Logged, Null};
 use g1_layout::NoMemory;
@@ -44,7 +44,7 @@ fn is_unread_and_pending(core: &Core, number: u32) -> bool {
 #[test]
 fn a_race_is_a_core_and_a_race_again(rt: HostRuntime) -> Result<(), Fail> {
     let steps = [First(0, Some(8), Logged), Second(1, Some(16), AlreadyDirty)];
-    let closed = Small::open(rt.alloc())?.close_after(&rt, rt.alloc(), &steps)?;
+    let closed = raced(&rt, rt.alloc(), &steps)?;
     let mut core = core_of(rt.alloc(), closed)?;
     assert!(rt; is_unread_and_pending(&core, 0));
     assert!(rt; drains(&mut core, 1, &[0]));
@@ -67,7 +67,7 @@ fn a_race_is_a_core_and_a_race_again(rt: HostRuntime) -> Result<(), Fail> {
 #[test]
 fn a_card_that_began_dirty_is_dirty_until_it_is_swept(rt: HostRuntime) -> Result<(), Fail> {
     let steps = [First(0, Some(8), Logged)];
-    let closed = Small::open(rt.alloc())?.close_after(&rt, rt.alloc(), &steps)?;
+    let closed = raced(&rt, rt.alloc(), &steps)?;
     let core = core_of(rt.alloc(), closed)?;
     let steps = [
         First(1, Some(8), AlreadyDirty),

@@ -1,7 +1,7 @@
 //! Races of two racers and one sweeper.
 use crate::small::Seen::{Has, Marked, Target};
 use crate::small::Step::{First, FirstLog, FirstSwap, Refine, Second, SecondExchange, SecondLog};
-use crate::small::{Small, see};
+use crate::small::{raced, see};
 use g1_layout::Kind::{AlreadyDirty, Logged, Null, SameRegion};
 use std::test::Fail;
 
@@ -14,7 +14,7 @@ fn a_card_is_logged_once_and_refined_with_all_its_pairs(rt: HostRuntime) -> Resu
         SecondLog(&[]),
         Refine(0),
     ];
-    let closed = Small::open(rt.alloc())?.close_after(&rt, rt.alloc(), &steps)?;
+    let closed = raced(&rt, rt.alloc(), &steps)?;
     let seen = [Marked(0, false), Has(0, 1, true), Has(0, 2, true)];
     see(&rt, &closed, &seen);
     Ok(())
@@ -29,7 +29,7 @@ fn a_refined_card_stays_recorded_when_its_reference_goes(rt: HostRuntime) -> Res
         First(0, None, Null),
         FirstLog(&[]),
     ];
-    let closed = Small::open(rt.alloc())?.close_after(&rt, rt.alloc(), &steps)?;
+    let closed = raced(&rt, rt.alloc(), &steps)?;
     let seen = [Target(0, None), Marked(0, false), Has(0, 1, true)];
     see(&rt, &closed, &seen);
     Ok(())
@@ -44,7 +44,7 @@ fn a_store_after_a_refinement_claims_the_card_again(rt: HostRuntime) -> Result<(
         First(0, Some(8), Logged),
         FirstLog(&[0]),
     ];
-    let closed = Small::open(rt.alloc())?.close_after(&rt, rt.alloc(), &steps)?;
+    let closed = raced(&rt, rt.alloc(), &steps)?;
     let seen = [Target(0, Some(8)), Marked(0, true), Has(0, 1, true)];
     see(&rt, &closed, &seen);
     Ok(())
@@ -52,7 +52,7 @@ fn a_store_after_a_refinement_claims_the_card_again(rt: HostRuntime) -> Result<(
 
 #[test]
 fn a_clean_card_with_nothing_in_it_is_refined_to_nothing(rt: HostRuntime) -> Result<(), Fail> {
-    let closed = Small::open(rt.alloc())?.close_after(&rt, rt.alloc(), &[Refine(7)])?;
+    let closed = raced(&rt, rt.alloc(), &[Refine(7)])?;
     let seen = [
         Marked(7, false),
         Has(7, 0, false),
@@ -72,7 +72,7 @@ fn only_a_reference_across_regions_is_logged(rt: HostRuntime) -> Result<(), Fail
         First(31, Some(0), Logged),
         FirstLog(&[7]),
     ];
-    let closed = Small::open(rt.alloc())?.close_after(&rt, rt.alloc(), &steps)?;
+    let closed = raced(&rt, rt.alloc(), &steps)?;
     let seen = [
         Target(0, Some(5)),
         Target(31, Some(0)),
@@ -94,7 +94,7 @@ fn a_swap_returns_what_it_overwrites(rt: HostRuntime) -> Result<(), Fail> {
         FirstSwap(0, None, (Null, Some(6))),
         FirstLog(&[0]),
     ];
-    let closed = Small::open(rt.alloc())?.close_after(&rt, rt.alloc(), &steps)?;
+    let closed = raced(&rt, rt.alloc(), &steps)?;
     let seen = [Target(0, None), Marked(0, true)];
     see(&rt, &closed, &seen);
     Ok(())
@@ -113,7 +113,7 @@ fn an_exchange_stores_only_over_what_is_expected(rt: HostRuntime) -> Result<(), 
         FirstLog(&[0]),
         SecondLog(&[3]),
     ];
-    let closed = Small::open(rt.alloc())?.close_after(&rt, rt.alloc(), &steps)?;
+    let closed = raced(&rt, rt.alloc(), &steps)?;
     let seen = [
         Target(0, Some(16)),
         Target(12, None),

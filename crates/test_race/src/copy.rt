@@ -1,7 +1,7 @@
 //! Ranges of slots that are copied at a pause.
 use g1_layout::Layout;
 use g1_race::Paused;
-use std::alloc::Global;
+use std::alloc::{AllocError, Global};
 use std::process::Abort;
 use std::test::Fail;
 
@@ -9,7 +9,7 @@ use std::test::Fail;
 const TEXT: u64 = 0x6461_7461_0000_0009;
 
 // The words of all slots.
-fn words_of(rt: &impl Abort, alloc: Global, paused: &mut Paused) -> Result<Vec<u64>, Fail> {
+fn words_of(rt: &impl Abort, alloc: Global, paused: &mut Paused) -> Result<Vec<u64>, AllocError> {
     let mut words = Vec::new(alloc);
     for number in 0..paused.layout().slot_count() {
         let slot = paused.layout().slot(number).expect(rt, "slot");
@@ -31,7 +31,7 @@ fn copies(
     alloc: Global,
     paused: &mut Paused,
     range: (u32, u32, u32),
-) -> Result<(), Fail> {
+) -> Result<(), AllocError> {
     let (from, to, count) = range;
     let mut words = words_of(rt, alloc, paused)?;
     let layout = paused.layout();
@@ -54,26 +54,31 @@ fn are_dirty(rt: &impl Abort, paused: &mut Paused, numbers: &[u32]) {
     }
 }
 
+// Copies ranges of a heap whose cards 0 and 1 are dirty. The second and the third copy have ranges
+// that overlap, upwards and downwards.
+fn copy_in_turn(rt: &impl Abort, alloc: Global, paused: &mut Paused) -> Result<(), AllocError> {
+    copies(rt, alloc, paused, (0, 16, 5))?;
+    are_dirty(rt, paused, &[0, 1, 4, 5]);
+    copies(rt, alloc, paused, (16, 18, 5))?;
+    copies(rt, alloc, paused, (18, 17, 6))?;
+    are_dirty(rt, paused, &[0, 1, 4, 5]);
+    copies(rt, alloc, paused, (3, 12, 0))?;
+    copies(rt, alloc, paused, (0, 27, 5))?;
+    are_dirty(rt, paused, &[0, 1, 4, 5, 6, 7]);
+    copies(rt, alloc, paused, (0, 0, 32))?;
+    copies(rt, alloc, paused, (1, 0, 31))?;
+    copies(rt, alloc, paused, (0, 1, 31))
+}
+
 #[test]
 fn copies_are_those_of_a_list(rt: HostRuntime) -> Result<(), Fail> {
-    let layout = Layout::new(4, 2, 4).ok_or("layout")?;
+    let layout = Layout::new(4, 2, 4).expect(&rt, "layout");
     let mut paused = Paused::open(rt.alloc(), layout, 1, 1)?;
     refers(&rt, &mut paused, 0, 8);
-    let slot = paused.layout().slot(1).ok_or("slot")?;
+    let slot = paused.layout().slot(1).expect(&rt, "slot");
     paused.store_data(slot, TEXT);
     refers(&rt, &mut paused, 3, 5);
     refers(&rt, &mut paused, 4, 31);
     are_dirty(&rt, &mut paused, &[0, 1]);
-    copies(&rt, rt.alloc(), &mut paused, (0, 16, 5))?;
-    are_dirty(&rt, &mut paused, &[0, 1, 4, 5]);
-    // These ranges overlap, upwards and downwards.
-    copies(&rt, rt.alloc(), &mut paused, (16, 18, 5))?;
-    copies(&rt, rt.alloc(), &mut paused, (18, 17, 6))?;
-    are_dirty(&rt, &mut paused, &[0, 1, 4, 5]);
-    copies(&rt, rt.alloc(), &mut paused, (3, 12, 0))?;
-    copies(&rt, rt.alloc(), &mut paused, (0, 27, 5))?;
-    are_dirty(&rt, &mut paused, &[0, 1, 4, 5, 6, 7]);
-    copies(&rt, rt.alloc(), &mut paused, (0, 0, 32))?;
-    copies(&rt, rt.alloc(), &mut paused, (1, 0, 31))?;
-    copies(&rt, rt.alloc(), &mut paused, (0, 1, 31))
+    Ok(copy_in_turn(&rt, rt.alloc(), &mut paused)?)
 }

@@ -1,9 +1,13 @@
 //! Data in slots: words from 2^32 on, which refer to nothing.
-use crate::small::Step::{First, FirstLog, FirstSwap, Refine, Second, SecondData, SecondExchange};
+use crate::pause_calls::open;
+use crate::small::Step::{
+    First, FirstLog, FirstSwap, FirstWord, Refine, Second, SecondData, SecondExchange, SecondLog,
+    SecondWord,
+};
 use crate::small::{Small, Step, are, number_of};
 use g1_core::{ClearReply, Config, Drained};
 use g1_layout::Kind::{AlreadyDirty, Logged, Null, SameRegion};
-use g1_layout::Layout;
+use g1_layout::NoMemory;
 use g1_race::Paused;
 use std::alloc::Global;
 use std::process::Abort;
@@ -15,9 +19,8 @@ const LEAST: u64 = 4_294_967_296;
 const TEXT: u64 = 0x6461_7461_0000_0009;
 
 // Races by these steps, from a heap of nulls to a pause.
-fn race(rt: &impl Abort, alloc: Global, steps: &[Step]) -> Result<Paused, Fail> {
-    let layout = Layout::new(4, 2, 4).ok_or("layout")?;
-    let paused = Paused::open(alloc, layout, 2, 1)?;
+fn race(rt: &impl Abort, alloc: Global, steps: &[Step]) -> Result<Paused, NoMemory> {
+    let paused = open(rt, alloc)?;
     Ok(Small::go_on(rt, paused).pause_after(rt, alloc, steps)?)
 }
 
@@ -38,7 +41,7 @@ fn drains(
     paused: &mut Paused,
     number: u32,
     wanted: &[u32],
-) -> Result<(), Fail> {
+) -> Result<(), NoMemory> {
     let region = paused.layout().region(number).expect(rt, "region");
     let Drained::Cards { cards, refined: _ } = paused.drain(alloc, region)? else {
         panic!(rt; "a drain was short");
@@ -72,7 +75,41 @@ fn data_is_null_to_a_race(rt: HostRuntime) -> Result<(), Fail> {
     let status = paused.status();
     assert!(rt; status.pending == 0 && status.recorded == 0);
     drains(&rt, rt.alloc(), &mut paused, 1, &[])?;
-    drains(&rt, rt.alloc(), &mut paused, 0, &[])
+    Ok(drains(&rt, rt.alloc(), &mut paused, 0, &[])?)
+}
+
+#[test]
+fn any_word_is_swapped_and_expected(rt: HostRuntime) -> Result<(), Fail> {
+    let steps = [
+        FirstWord(0, LEAST, (Null, 0)),
+        SecondWord(0, 0, 9, Err(LEAST)),
+        SecondWord(0, TEXT, 9, Err(LEAST)),
+        SecondWord(0, LEAST, TEXT, Ok(Null)),
+        FirstWord(0, 9, (Logged, TEXT)),
+        SecondWord(0, 10, LEAST, Err(9)),
+        SecondWord(0, 9, 6, Ok(SameRegion)),
+        SecondWord(0, 6, 17, Ok(AlreadyDirty)),
+        FirstWord(0, 17, (AlreadyDirty, 17)),
+        SecondWord(4, 0, 9, Ok(Logged)),
+        FirstWord(4, 0, (Null, 9)),
+        SecondWord(1, 0, 1, Ok(SameRegion)),
+        SecondWord(1, 1, 0, Ok(Null)),
+        FirstWord(2, 2, (SameRegion, 0)),
+        SecondWord(3, 0, u64::MAX, Ok(Null)),
+        FirstLog(&[0]),
+        SecondLog(&[1]),
+    ];
+    let mut paused = race(&rt, rt.alloc(), &steps)?;
+    are_words(
+        &rt,
+        &mut paused,
+        [17, 0, 2, u64::MAX],
+        [Some(16), None, Some(1), None],
+    );
+    let status = paused.status();
+    assert!(rt; status.pending == 2 && status.recorded == 0);
+    drains(&rt, rt.alloc(), &mut paused, 2, &[0])?;
+    Ok(drains(&rt, rt.alloc(), &mut paused, 1, &[])?)
 }
 
 #[test]
@@ -86,29 +123,25 @@ fn data_survives_a_pause_and_a_redirect(rt: HostRuntime) -> Result<(), Fail> {
     let steps = [Second(3, Some(24), AlreadyDirty), Refine(0)];
     let mut paused = Small::go_on(&rt, paused).pause_after(&rt, rt.alloc(), &steps)?;
     drains(&rt, rt.alloc(), &mut paused, 1, &[0])?;
-    let from = paused.layout().region(1).expect(&rt, "region");
-    let to = paused.layout().region(2).expect(&rt, "region");
-    assert_eq!(rt; paused.redirect_in_place(from, to), 1);
-    are_words(
-        &rt,
-        &mut paused,
-        [TEXT, 18, LEAST, 25],
-        [None, Some(17), None, Some(24)],
-    );
-    let slot = paused.layout().slot(3).expect(&rt, "slot");
-    paused.store_data(slot, TEXT);
-    let region = paused.layout().region(3).expect(&rt, "region");
-    assert!(rt; paused.clear(region) == ClearReply::Cleared);
-    are_words(
-        &rt,
-        &mut paused,
-        [TEXT, 18, LEAST, TEXT],
-        [None, Some(17), None, None],
-    );
-    let region = paused.layout().region(0).expect(&rt, "region");
-    paused.wipe(region);
-    are_words(&rt, &mut paused, [0, 0, 0, 0], [None, None, None, None]);
+    redirect_and_clear(&rt, &mut paused);
     Ok(())
+}
+
+fn redirect_and_clear(rt: &impl Abort, paused: &mut Paused) {
+    let from = paused.layout().region(1).expect(rt, "region");
+    let to = paused.layout().region(2).expect(rt, "region");
+    assert_eq!(rt; paused.redirect_in_place(from, to), 1);
+    let places = [None, Some(17), None, Some(24)];
+    are_words(rt, paused, [TEXT, 18, LEAST, 25], places);
+    let slot = paused.layout().slot(3).expect(rt, "slot");
+    paused.store_data(slot, TEXT);
+    let region = paused.layout().region(3).expect(rt, "region");
+    assert!(rt; paused.clear(region) == ClearReply::Cleared);
+    let places = [None, Some(17), None, None];
+    are_words(rt, paused, [TEXT, 18, LEAST, TEXT], places);
+    let region = paused.layout().region(0).expect(rt, "region");
+    paused.wipe(region);
+    are_words(rt, paused, [0, 0, 0, 0], [None, None, None, None]);
 }
 
 #[test]

@@ -3,7 +3,7 @@ ghost use Rattle.std.specs.Prelude.{◌≡◌, ◌<◌};
 
 use crate::in_threads::{Plan, run_race};
 use g1_core::{ClearReply, Drained, Status};
-use g1_layout::{Card, Layout, Region};
+use g1_layout::{Card, Layout, NoMemory, Region};
 use g1_race::Paused;
 use std::alloc::Global;
 use std::process::Abort;
@@ -77,7 +77,12 @@ fn region(rt: &impl Abort, paused: &Paused, number: u32) -> Region
 
 // Empties a region: its drain misses no card, all that a scan finds moves to the next region, and
 // the counts are those of the single cards and pairs.
-fn evacuate(rt: &impl Abort, alloc: Global, paused: &mut Paused, number: u32) -> Result<(), Fail>
+fn evacuate(
+    rt: &impl Abort,
+    alloc: Global,
+    paused: &mut Paused,
+    number: u32,
+) -> Result<(), NoMemory>
     requires { number < 15 }
 {
     assert!(rt; paused.status() == counted(rt, paused));

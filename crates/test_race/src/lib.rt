@@ -28,3 +28,5 @@ mod readers;
 mod shares;
 #[cfg(test)]
 mod small;
+#[cfg(test)]
+mod verify;

@@ -1,19 +1,18 @@
 //! Calls at a pause, and their answers.
 use crate::small::{Small, Step, are, number_of};
 use g1_core::{ClearReply, Drained, Redirected};
-use g1_layout::Layout;
+use g1_layout::{Layout, NoMemory};
 use g1_race::Paused;
 use std::alloc::Global;
 use std::process::Abort;
-use std::test::Fail;
 
 /// A call at a pause, and its answer.
 #[derive(Clone, Copy)]
 pub(crate) enum Call<'a> {
     /// A drain of a region: the cards that it lists, and those that it refines.
     Drain(u32, &'a [u32], &'a [u32]),
-    /// The cards that a drain writes into a slice of 8 cards, all of which were card 7.
-    DrainInto(u32, &'a [u32]),
+    /// The cards that a walk over a region's set meets once all is refined.
+    Walk(u32, &'a [u32]),
     /// The references into a region move to another: how many, and the cards that are refined.
     Redirect(u32, u32, u32, &'a [u32]),
     /// The same, without a list.
@@ -41,9 +40,20 @@ pub(crate) enum Call<'a> {
 }
 
 /// A heap of nulls at a pause.
-pub(crate) fn open(alloc: Global) -> Result<Paused, Fail> {
-    let layout = Layout::new(4, 2, 4).ok_or("layout")?;
-    Ok(Paused::open(alloc, layout, 2, 1)?)
+pub(crate) fn open(rt: &impl Abort, alloc: Global) -> Result<Paused, NoMemory> {
+    let layout = Layout::new(4, 2, 4).expect(rt, "layout");
+    Paused::open(alloc, layout, 2, 1)
+}
+
+/// Races over a heap of nulls, and makes these calls at the next pause.
+pub(crate) fn live(
+    rt: &impl Abort,
+    alloc: Global,
+    steps: &[Step],
+    calls: &[Call],
+) -> Result<Paused, NoMemory> {
+    let paused = open(rt, alloc)?;
+    live_on(rt, alloc, paused, steps, calls)
 }
 
 /// Races up to the next pause, and makes these calls there.
@@ -53,7 +63,7 @@ pub(crate) fn live_on(
     paused: Paused,
     steps: &[Step],
     calls: &[Call],
-) -> Result<Paused, Fail> {
+) -> Result<Paused, NoMemory> {
     let mut paused = Small::go_on(rt, paused).pause_after(rt, alloc, steps)?;
     for call in calls {
         make(rt, alloc, &mut paused, *call)?;
@@ -61,19 +71,19 @@ pub(crate) fn live_on(
     Ok(paused)
 }
 
-fn make(rt: &impl Abort, alloc: Global, paused: &mut Paused, call: Call) -> Result<(), Fail> {
+fn make(rt: &impl Abort, alloc: Global, paused: &mut Paused, call: Call) -> Result<(), NoMemory> {
     match call {
         Call::Drain(number, wanted, wanted_refined) => {
-            drain(rt, alloc, paused, number, wanted, wanted_refined)?;
+            return drain(rt, alloc, paused, number, wanted, wanted_refined);
         }
         Call::Members(number, wanted) => {
             let region = paused.layout().region(number).expect(rt, "region");
             let cards = paused.members(alloc, region)?;
             assert!(rt; are(cards.as_slice(), wanted));
         }
-        Call::DrainInto(number, wanted) => drain_into(rt, paused, number, wanted),
+        Call::Walk(number, wanted) => walk(rt, paused, number, wanted),
         Call::Redirect(from, to, slots, refined) => {
-            redirect(rt, alloc, paused, from, to, slots, refined)?;
+            return redirect(rt, alloc, paused, from, to, slots, refined);
         }
         Call::RedirectInPlace(from, to, slots) => redirect_in_place(rt, paused, from, to, slots),
         Call::Refine => paused.refine_all(),
@@ -101,7 +111,7 @@ fn drain(
     number: u32,
     wanted: &[u32],
     wanted_refined: &[u32],
-) -> Result<(), Fail> {
+) -> Result<(), NoMemory> {
     let region = paused.layout().region(number).expect(rt, "region");
     let Drained::Cards { cards, refined } = paused.drain(alloc, region)? else {
         panic!(rt; "a drain was short");
@@ -111,16 +121,19 @@ fn drain(
     Ok(())
 }
 
-fn drain_into(rt: &impl Abort, paused: &mut Paused, number: u32, wanted: &[u32]) {
-    let layout = paused.layout();
-    let region = layout.region(number).expect(rt, "region");
-    let last = layout.card(7).expect(rt, "card");
-    let mut cards = [last; 8];
-    assert_eq!(rt; paused.drain_into(region, &mut cards), wanted.len());
-    for (index, card) in cards.iter().enumerate() {
-        let number = wanted.get(index).copied().unwrap_or(7);
-        assert_eq!(rt; card.number(), number);
+fn walk(rt: &impl Abort, paused: &mut Paused, number: u32, wanted: &[u32]) {
+    paused.refine_all();
+    assert!(rt; paused.next_dirty(0).is_none());
+    let mut from = 0;
+    for card in wanted {
+        let region = paused.layout().region(number).expect(rt, "region");
+        let met = paused.next_member(region, from).expect(rt, "a member");
+        assert_eq!(rt; met.number(), *card);
+        from = card.wrapping_add(1);
     }
+    let region = paused.layout().region(number).expect(rt, "region");
+    assert!(rt; paused.next_member(region, from).is_none());
+    assert!(rt; paused.next_member(region, u32::MAX).is_none());
 }
 
 fn redirect(
@@ -131,7 +144,7 @@ fn redirect(
     to: u32,
     wanted: u32,
     wanted_refined: &[u32],
-) -> Result<(), Fail> {
+) -> Result<(), NoMemory> {
     assert!(rt; from != to);
     let from = paused.layout().region(from).expect(rt, "region");
     let to = paused.layout().region(to).expect(rt, "region");
@@ -165,7 +178,7 @@ fn look(rt: &impl Abort, paused: &mut Paused, call: Call) {
             assert_eq!(rt; status.recorded, recorded);
             assert_eq!(rt; paused.pending_count(), pending);
         }
-        Call::Dirty(wanted) => match (paused.next_dirty(), wanted) {
+        Call::Dirty(wanted) => match (paused.next_dirty(0), wanted) {
             (Some(card), Some(wanted)) => assert_eq!(rt; card.number(), wanted),
             (None, None) => {}
             (Some(_), None) | (None, Some(_)) => panic!(rt; "another card is dirty"),
@@ -184,7 +197,7 @@ fn look(rt: &impl Abort, paused: &mut Paused, call: Call) {
             assert_eq!(rt; paused.has(card, region), wanted);
         }
         Call::Drain(_, _, _)
-        | Call::DrainInto(_, _)
+        | Call::Walk(_, _)
         | Call::Redirect(_, _, _, _)
         | Call::RedirectInPlace(_, _, _)
         | Call::Members(_, _)

@@ -1,9 +1,9 @@
 //! Pauses in place of races of two racers and one sweeper, over the heap `4 2 4`: card `c` has the
 //! slots from `4 * c` on, region `r` those from `8 * r` on.
-use crate::pause_calls::{Call, live_on, open};
+use crate::pause_calls::{Call, live, live_on};
 use crate::small::Step::{First, FirstLog, Refine, Second, SecondLog};
 use g1_layout::Kind::{AlreadyDirty, Logged, Null, SameRegion};
-use g1_layout::Layout;
+use g1_layout::{Layout, NoMemory};
 use g1_race::Paused;
 use std::alloc::Global;
 use std::process::Abort;
@@ -23,7 +23,7 @@ fn a_heap_is_born_at_a_pause_and_a_race_of_no_step_changes_nothing(
         Call::Drain(0, &[], &[]),
         Call::Clear(0),
     ];
-    let paused = live_on(&rt, rt.alloc(), open(rt.alloc())?, &[], &empty)?;
+    let paused = live(&rt, rt.alloc(), &[], &empty)?;
     live_on(&rt, rt.alloc(), paused, &[], &empty)?;
     Ok(())
 }
@@ -49,7 +49,7 @@ fn a_drain_refines_all_and_a_second_one_finds_the_same(rt: HostRuntime) -> Resul
         Call::Drain(0, &[5], &[]),
         Call::Dirty(None),
     ];
-    live_on(&rt, rt.alloc(), open(rt.alloc())?, &steps, &calls)?;
+    live(&rt, rt.alloc(), &steps, &calls)?;
     Ok(())
 }
 
@@ -70,7 +70,7 @@ fn one_refinement_serves_each_region(rt: HostRuntime) -> Result<(), Fail> {
         Call::Members(2, &[0]),
         Call::Members(3, &[3]),
     ];
-    live_on(&rt, rt.alloc(), open(rt.alloc())?, &steps, &calls)?;
+    live(&rt, rt.alloc(), &steps, &calls)?;
     Ok(())
 }
 
@@ -87,7 +87,7 @@ fn a_clear_is_refused_twice_and_then_done(rt: HostRuntime) -> Result<(), Fail> {
         Call::ClearReferenced(1, 5),
         Call::Has(1, 1, true),
     ];
-    let paused = live_on(&rt, rt.alloc(), open(rt.alloc())?, &steps, &refused)?;
+    let paused = live(&rt, rt.alloc(), &steps, &refused)?;
     let steps = [First(5, None, Null), Second(6, None, Null)];
     let cleared = [
         Call::Members(1, &[1]),
@@ -103,10 +103,9 @@ fn a_clear_is_refused_twice_and_then_done(rt: HostRuntime) -> Result<(), Fail> {
 #[test]
 fn a_log_comes_back_after_a_pause_without_a_drain(rt: HostRuntime) -> Result<(), Fail> {
     let steps = [First(0, Some(8), Logged), Second(16, Some(9), Logged)];
-    let paused = live_on(
+    let paused = live(
         &rt,
         rt.alloc(),
-        open(rt.alloc())?,
         &steps,
         &[Call::Pending(0, true), Call::Pending(4, true)],
     )?;
@@ -122,32 +121,37 @@ fn a_log_comes_back_after_a_pause_without_a_drain(rt: HostRuntime) -> Result<(),
     Ok(())
 }
 
+// Two cards that are dirty at a pause are logged anew after this call.
+fn logs_anew(rt: &impl Abort, alloc: Global, way: Call) -> Result<(), NoMemory> {
+    let steps = [First(0, Some(8), Logged), Second(16, Some(9), Logged)];
+    let paused = live(rt, alloc, &steps, &[way])?;
+    let steps = [
+        FirstLog(&[]),
+        SecondLog(&[]),
+        First(0, Some(10), Logged),
+        FirstLog(&[0]),
+    ];
+    live_on(rt, alloc, paused, &steps, &[Call::Pending(0, true)])?;
+    Ok(())
+}
+
 #[test]
 fn the_logs_are_empty_once_all_is_refined(rt: HostRuntime) -> Result<(), Fail> {
-    let ways = [
+    for way in [
         Call::Drain(1, &[0, 4], &[0, 4]),
-        Call::DrainInto(1, &[0, 4]),
+        Call::Walk(1, &[0, 4]),
         Call::Refine,
         Call::Redirect(1, 3, 2, &[0, 4]),
         Call::RedirectInPlace(1, 3, 2),
-    ];
-    for way in ways {
-        let steps = [First(0, Some(8), Logged), Second(16, Some(9), Logged)];
-        let paused = live_on(&rt, rt.alloc(), open(rt.alloc())?, &steps, &[way])?;
-        let steps = [
-            FirstLog(&[]),
-            SecondLog(&[]),
-            First(0, Some(10), Logged),
-            FirstLog(&[0]),
-        ];
-        live_on(&rt, rt.alloc(), paused, &steps, &[Call::Pending(0, true)])?;
+    ] {
+        logs_anew(&rt, rt.alloc(), way)?;
     }
     Ok(())
 }
 
 // Slots 0 and 1 of region 0 and slot 16 of region 2 refer into region 1 from outside, and slot 9
 // from inside. They move to region 2, where slot 16 lies.
-fn move_to_region_2(rt: &impl Abort, alloc: Global, redirect: Call) -> Result<(), Fail> {
+fn move_to_region_2(rt: &impl Abort, alloc: Global, redirect: Call) -> Result<(), NoMemory> {
     let steps = [
         First(0, Some(8), Logged),
         First(1, Some(9), AlreadyDirty),
@@ -170,18 +174,18 @@ fn move_to_region_2(rt: &impl Abort, alloc: Global, redirect: Call) -> Result<()
         Call::Members(3, &[]),
         Call::Clear(1),
     ];
-    live_on(rt, alloc, open(alloc)?, &steps, &calls)?;
+    live(rt, alloc, &steps, &calls)?;
     Ok(())
 }
 
 #[test]
 fn a_redirect_moves_references_and_records_their_cards(rt: HostRuntime) -> Result<(), Fail> {
-    move_to_region_2(&rt, rt.alloc(), Call::Redirect(1, 2, 3, &[0, 3, 4]))
+    Ok(move_to_region_2(&rt, rt.alloc(), Call::Redirect(1, 2, 3, &[0, 3, 4]))?)
 }
 
 #[test]
 fn a_redirect_in_place_does_the_same(rt: HostRuntime) -> Result<(), Fail> {
-    move_to_region_2(&rt, rt.alloc(), Call::RedirectInPlace(1, 2, 3))
+    Ok(move_to_region_2(&rt, rt.alloc(), Call::RedirectInPlace(1, 2, 3))?)
 }
 
 #[test]
@@ -205,7 +209,7 @@ fn a_redirect_of_recorded_references_refines_no_card(rt: HostRuntime) -> Result<
         Call::Target(31, Some(30)),
         Call::Status(0, 0),
     ];
-    live_on(&rt, rt.alloc(), open(rt.alloc())?, &steps, &calls)?;
+    live(&rt, rt.alloc(), &steps, &calls)?;
     Ok(())
 }
 

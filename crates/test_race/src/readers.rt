@@ -106,7 +106,7 @@ fn ask(rt: &impl Abort, race: &Race, reader: &mut Reader, told: &Told)
     let number = told.card.number();
     let card = race.layout().card(number).expect(rt, "card");
     assert!(rt; reader.is_pending(race, card) == told.pending);
-    assert!(rt; (reader.next_dirty(race, card) == Some(card)) == told.pending);
+    assert!(rt; (reader.next_dirty(race, number) == Some(card)) == told.pending);
     for pair in &told.pairs {
         assert!(rt; reader.has(race, card, pair.0) == pair.1);
     }

@@ -9,7 +9,6 @@ use g1_layout::{Card, Kind, Layout, NoMemory, Slot};
 use g1_race::{Closed, Paused, Race, Racer, Sweeper};
 use std::alloc::{AllocError, Global};
 use std::process::Abort;
-use std::test::Fail;
 
 /// A call of a race, and its answer.
 #[derive(Clone, Copy)]
@@ -25,6 +24,11 @@ pub(crate) enum Step<'a> {
     SecondExchange(u32, Option<u32>, Option<u32>, Result<Kind, Option<u32>>),
     /// A store of data by the second racer: the word, and the one that it overwrites.
     SecondData(u32, u64, u64),
+    /// A store of any word by the first racer: the word, and the kind and what it overwrites.
+    FirstWord(u32, u64, (Kind, u64)),
+    /// One by the second racer into a slot that has the first word: its kind, or the word that the
+    /// slot has instead.
+    SecondWord(u32, u64, u64, Result<Kind, u64>),
     /// The cards that the first racer has logged, which it gives up.
     FirstLog(&'a [u32]),
     /// Those of the second racer.
@@ -59,8 +63,8 @@ pub(crate) struct Small {
 
 impl Small {
     /// A race over nulls.
-    pub(crate) fn open(alloc: Global) -> Result<Small, Fail> {
-        let layout = Layout::new(4, 2, 4).ok_or("layout")?;
+    pub(crate) fn open(rt: &impl Abort, alloc: Global) -> Result<Small, NoMemory> {
+        let layout = Layout::new(4, 2, 4).expect(rt, "layout");
         let (race, racers, sweepers) = Race::open(alloc, layout, 2, 1)?;
         Ok(Small::new(race, racers, sweepers))
     }
@@ -138,6 +142,13 @@ impl Small {
             Step::SecondData(slot, word, old) => {
                 store_data(rt, &self.race, &mut self.second, slot, word, old);
             }
+            Step::FirstWord(slot, word, answer) => {
+                swap_word(rt, &self.race, &mut self.first, slot, word, answer);
+            }
+            Step::SecondWord(slot, expected, word, answer) => {
+                let found = exchange_word(rt, &self.race, &mut self.second, slot, expected, word);
+                assert!(rt; found == answer);
+            }
             Step::FirstLog(cards) => {
                 assert!(rt; are(self.first.take_log().as_slice(), cards));
             }
@@ -165,6 +176,11 @@ impl Small {
         sweepers.push(sweeper)?;
         Ok(race.pause(racers, sweepers))
     }
+}
+
+/// A race over nulls that was closed after these steps.
+pub(crate) fn raced(rt: &impl Abort, alloc: Global, steps: &[Step]) -> Result<Closed, NoMemory> {
+    Ok(Small::open(rt, alloc)?.close_after(rt, alloc, steps)?)
 }
 
 // The members of a race.
@@ -241,6 +257,40 @@ fn exchange(
         Ok(kind) => Ok(kind),
         Err(found) => Err(number_of(found)),
     }
+}
+
+fn swap_word(
+    rt: &impl Abort,
+    race: &Race,
+    racer: &mut Racer,
+    slot: u32,
+    word: u64,
+    answer: (Kind, u64),
+)
+    requires { racer_race racer.old ≡ race_id race.now }
+    ensures { racer_race racer.new ≡ racer_race racer.old }
+{
+    let slot = race.layout().slot(slot).expect(rt, "slot");
+    assert!(rt; racer.has_room() && race.is_word(word));
+    let (kind, old) = racer.swap_word(race, slot, word);
+    assert_eq!(rt; kind, answer.0);
+    assert_eq!(rt; old, answer.1);
+}
+
+fn exchange_word(
+    rt: &impl Abort,
+    race: &Race,
+    racer: &mut Racer,
+    slot: u32,
+    expected: u64,
+    word: u64,
+) -> Result<Kind, u64>
+    requires { racer_race racer.old ≡ race_id race.now }
+    ensures { racer_race racer.new ≡ racer_race racer.old }
+{
+    let slot = race.layout().slot(slot).expect(rt, "slot");
+    assert!(rt; racer.has_room() && race.is_word(word));
+    racer.compare_exchange_word(race, slot, expected, word)
 }
 
 // The place of this number.

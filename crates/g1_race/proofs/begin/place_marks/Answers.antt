@@ -21,7 +21,7 @@ loop-number-preserved c =
     let mid = c.loop-number.seat.me.0.began_words in
     let n = c.loop-number.number in
     let lt = c.loop-number-test.true in
-    let flag = c.is_pending.ensures.pending ∙ ap (λ (x : ℕ). set_of.contains t.pending x) c.in-Some.ensures.1 in
+    let flag = c.is_pending.ensures.did.pending ∙ ap (λ (x : ℕ). set_of.contains t.pending x) c.in-Some.ensures.1 in
     elim c.if-is_pending.branch [
       | then-is_pending w ↦ subst (λ (s : Seat (Unit {0}) View). record { below : n + 1 ≤ k.cards; seat : IsPaused z k s; marks : AreMarked k t old s.me.0.began_words (n + 1) }) (sym w.seat-is)
           (record {

@@ -23,9 +23,9 @@ put-requires-clause-begun c =
     let i = c.loop-number.invariant in
     let n = c.loop-number.number in
     let lt = c.loop-number-test.true in
-    let same : c.target.new.self.state ≡ s = ap (λ (m : Machine). m.state) c.target.ensures.machine ∙ i.same.state in
+    let same : c.target.new.self.state ≡ s = ap (λ (m : Machine). m.state) c.target.ensures.did.machine ∙ i.same.state in
     let sound : IsSound s = subst IsSound same c.target.ensures.later.sound in
-    let word = c.word_of-word.ensures ∙ ap word_of (c.target.ensures.target ∙ ((λ j. let q : State = i.same.state j in target_of q.table c.in-Some.slot) ∙ ap (λ (p : ℕ). target_of s.table p) c.in-Some.ensures.1)) in
+    let word = c.word_of-word.ensures ∙ ap word_of (c.target.ensures.did.answer ∙ ((λ j. let q : State = i.same.state j in target_of q.table c.in-Some.slot) ∙ ap (λ (p : ℕ). target_of s.table p) c.in-Some.ensures.1)) in
     let slots : k.slots ≡ slot_count s.table.layout = ap (λ (x : Shape). x.slots) race.laid ∙ ap slot_count c.requires.layout in
     let bound : word_of (target_of s.table n) ≤ slot_count s.table.layout = word_bound s n sound (omega (arith, lt, slots)) in
     begun_written k c.loop-number.seat.me.0.began_words n c.word_of-word.result lt (inl (omega (arith, word, bound, slots)))
@@ -41,8 +41,8 @@ loop-number-preserved c =
     let mid = c.loop-number.seat.me.0.began_words in
     let n = c.loop-number.number in
     let lt = c.loop-number-test.true in
-    let word = c.word_of-word.ensures ∙ ap word_of (c.target.ensures.target ∙ ((λ j. let q : State = i.same.state j in target_of q.table c.in-Some.slot) ∙ ap (λ (p : ℕ). target_of t p) c.in-Some.ensures.1)) in
-    let same : IsSame c.args.core.now c.target.new.self = record { state = ap (λ (m : Machine). m.state) c.target.ensures.machine ∙ i.same.state; settings = ap (λ (m : Machine). m.settings) c.target.ensures.machine ∙ i.same.settings } in
+    let word = c.word_of-word.ensures ∙ ap word_of (c.target.ensures.did.answer ∙ ((λ j. let q : State = i.same.state j in target_of q.table c.in-Some.slot) ∙ ap (λ (p : ℕ). target_of t p) c.in-Some.ensures.1)) in
+    let same : IsSame c.args.core.now c.target.new.self = record { state = ap (λ (m : Machine). m.state) c.target.ensures.did.machine ∙ i.same.state; settings = ap (λ (m : Machine). m.settings) c.target.ensures.did.machine ∙ i.same.settings } in
     elim c.if-word-ne0.branch [
       | then-word-ne0 w ↦ subst (λ (s : Seat (Unit {0}) View). record { below : n + 1 ≤ k.slots; seat : IsPaused z k s; slots : ArePlaced k t old s.me.0.began_words (n + 1); same : IsSame c.args.core.now c.target.new.self }) (sym w.seat-is)
           (record {

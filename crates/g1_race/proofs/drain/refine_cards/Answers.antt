@@ -9,7 +9,7 @@ use Rattle.g1_race.proofs.ClearWords.{none_behind}
 use Rattle.g1_race.proofs.AtPause.{paused_same}
 use Rattle.g1_race.proofs.NextCards.{marked_word, unmarked_word}
 use Rattle.g1_race.proofs.PauseWords.{refined_none, refined_next, refined_past}
-use Rattle.g1_race.proofs.FlagWords.{refined_emptied}
+use Rattle.g1_race.proofs.FlagWords.{refined_emptied, unflagged}
 use Rattle.g1_race.proofs.drain.refine_cards.Goals as goal
 
 pub loop-card-init : goal.loop-card-init
@@ -59,3 +59,6 @@ returns-clause-refined c =
     let new = c.empty_row.new.seat.me.0.began_words in
     let refined = refined_past k old mid c.loop-card.from k.cards i.seat.begun i.within (λ d le lt below at. unmarked_word k mid d (c.in_default.ensures.next d le lt) at) i.refined in
     refined_emptied k old mid new k.cards refined (subst (λ (l : List ℕ). IsEmptied k l new k.regions k.row) (ap (λ m. m.0.began_words) c.next_marked.ensures.seat.1) c.empty_row.ensures.emptied)
+
+pub returns-clause-flags : goal.returns-clause-flags
+returns-clause-flags c = unflagged c.args.race.now.shape c.next_marked.new.seat.me.0.began_words c.empty_row.new.seat.me.0.began_words c.args.race.now.shaped c.empty_row.ensures.emptied

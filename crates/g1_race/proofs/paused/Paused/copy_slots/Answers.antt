@@ -3,7 +3,8 @@ use Rattle.std.proofs.lemmas.Bool.{leb-false, leb-true}
 use Rattle.g1_layout.specs.Shape.{slot_count}
 use Rattle.g1_race_words.specs.declared.view.Shape.{Shape}
 use Rattle.g1_race.specs.Over.{Halt}
-use Rattle.g1_race.proofs.Copying.{Copied, CopiesOne, copied_all, copied_on, first_of}
+use Rattle.g1_core.proofs.CopyLemmas.{copied_all, copied_on, first_of}
+use Rattle.g1_race.proofs.Copying.{Copied, CopiesOne, copied_down, copied_up}
 use Rattle.g1_race.proofs.Held.{lent_begun, lent_view}
 use Rattle.g1_race.proofs.paused.Paused.copy_slots.Goals.{else-upwards, then-upwards}
 use Rattle.g1_race.proofs.paused.Paused.copy_slots.Goals as goal
@@ -22,7 +23,7 @@ loop-i-preserved g c =
     subst (λ (x : ℕ × ℕ). CopiesOne c.loop-i.self c.copy_slot.new.self x.0 x.1) (λ i. (c.slot_behind.ensures i, c.slot_behind-in-loop-i.ensures i))
     (record { race = c.copy_slot.ensures.race; words = c.copy_slot.ensures.words; table = c.copy_slot.ensures.table }) in
     let on : (upwards ≡ true → next ≡ c.loop-i.i) → (upwards ≡ false → next ≡ c.args.count - 1 - c.loop-i.i) → Copied old c.copy_slot.new.self (c.args.from + first_of upwards c.args.count (c.loop-i.i + 1)) (c.args.to + first_of upwards c.args.count (c.loop-i.i + 1)) (c.loop-i.i + 1) =
-    λ here there. copied_on old c.loop-i.self c.copy_slot.new.self full upwards c.args.from c.args.to c.args.count c.loop-i.i next
+    λ here there. copied_on (Copied old c.loop-i.self) (Copied old c.copy_slot.new.self) (CopiesOne c.loop-i.self c.copy_slot.new.self) old.shape.slots (copied_up old c.loop-i.self c.copy_slot.new.self full) (copied_down old c.loop-i.self c.copy_slot.new.self full) upwards c.args.from c.args.to c.args.count c.loop-i.i next
     (λ e. omega (arith, leb-true c.number.result c.number-2.result e, c.number.ensures, c.number-2.ensures)) (λ e. omega (arith, leb-false c.number.result c.number-2.result e, c.number.ensures, c.number-2.ensures))
     c.loop-i-test.true (omega (arith, c.requires.from, slots)) c.loop-i.invariant here there one in
     elim c.if-upwards.branch [
@@ -31,4 +32,4 @@ loop-i-preserved g c =
     ]
 
 pub returns-clause-words : goal.returns-clause-words
-returns-clause-words g c = (copied_all c.args.self.now c.loop-i.self (leb c.number.result c.number-2.result) c.args.from c.args.to c.args.count c.loop-i.i (omega (arith, c.loop-i-test.false)) c.loop-i.invariant).words
+returns-clause-words g c = (copied_all (Copied c.args.self.now c.loop-i.self) (leb c.number.result c.number-2.result) c.args.from c.args.to c.args.count c.loop-i.i (omega (arith, c.loop-i-test.false)) c.loop-i.invariant).words

@@ -1,5 +1,6 @@
 use Rattle.std.proofs.Common.{◌+◌}
-use Rattle.g1_race.proofs.Copying.{Copied, first_of}
+use Rattle.g1_core.proofs.CopyLemmas.{first_of}
+use Rattle.g1_race.proofs.Copying.{Copied}
 use Rattle.g1_race.proofs.paused.Paused.copy_slots.Given as goal
 
 abbrev pub invariant-loop-i : goal.invariant-loop-i

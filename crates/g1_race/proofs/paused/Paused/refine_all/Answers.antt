@@ -1,11 +1,14 @@
 use Rattle.std.proofs.Common.{ℕ, List, [], length, replicate, ap, ◌∙◌, subst}
-use Rattle.g1_race.specs.Over.{Halt}
+use Rattle.g1_core.specs.Table.{Table}
+use Rattle.g1_race.specs.declared.race.Race.{Race}
+use Rattle.g1_race.specs.Over.{Halt, ended, halted, table_of}
+use Rattle.g1_race.specs.Refining.{AreRefined, AreUnflagged}
 use Rattle.g1_race.specs.Evacuating.{WordsBecome, same_word, AreAllRefined}
 use Rattle.g1_race.specs.Telling.{marked_cards}
 use Rattle.g1_race.proofs.Logs.{emptied}
 use Rattle.g1_race.proofs.PauseTable.{all_refined}
 use Rattle.g1_race.proofs.SlotWords.{refined_words}
-use Rattle.g1_race.proofs.Held.{at_pause, lent_begun, lent_view}
+use Rattle.g1_race.proofs.Held.{held_table, lent_begun, lent_view}
 use Rattle.g1_race.proofs.paused.Paused.refine_all.Goals as goal
 
 pub returns-clause-refined : goal.returns-clause-refined
@@ -13,11 +16,15 @@ returns-clause-refined g c =
     let race = c.race-race.result.now in
     let k = race.shape in
     let old = c.self.inside.seat.me.0.began_words in
-    let new = c.refine_cards.new.seat.me.0.began_words in (
-      marked_cards k old,
-      at_pause (λ t u. AreAllRefined t (marked_cards k old) u) new c.race-race.ensures c.self.view_is
-          (all_refined k race.layout race.laid old new (lent_begun c.race-race.ensures c.self.invariant.0.begun) c.refine_cards.ensures.seat.begun c.refine_cards.ensures.refined),
-    )
+    let new = c.refine_cards.new.seat.me.0.began_words in
+    let all = all_refined k race.layout race.laid old new (lent_begun c.race-race.ensures c.self.invariant.0.begun) c.refine_cards.ensures.seat.begun c.refine_cards.ensures.refined in
+    subst (λ (h : Halt). AreAllRefined (halted h) (marked_cards h.shape h.words) (table_of (ended (g.R.Holds.held c.self.inside.race).layout (g.R.Holds.held c.self.inside.race).shape new))) (lent_view c.race-race.ensures c.self.view_is)
+    (subst (λ (t : Table). AreAllRefined (table_of (ended race.layout k old)) (marked_cards k old) t) (held_table new c.race-race.ensures) all)
+
+pub returns-clause-bits : goal.returns-clause-bits
+returns-clause-bits g c =
+    let new = c.refine_cards.new.seat.me.0.began_words in
+    subst (λ (h : Halt). AreRefined h.shape h.words new h.shape.cards) (lent_view c.race-race.ensures c.self.view_is) c.refine_cards.ensures.refined
 
 pub returns-clause-race : goal.returns-clause-race
 returns-clause-race g c =
@@ -29,6 +36,7 @@ returns-clause-race g c =
       table_id = ap (λ (h : Halt). h.table_id) c.self.view_is;
       logs = logs ∙ ap (λ (h : Halt). replicate {A = List ℕ} (length h.logs) []) c.self.view_is;
       sweepers = ap (λ (h : Halt). h.sweepers) c.self.view_is;
+      flags = subst (λ (r : Race). AreUnflagged r.shape c.refine_cards.new.seat.me.0.began_words) c.race-race.ensures c.refine_cards.ensures.flags;
     }
 
 pub returns-clause-words : goal.returns-clause-words

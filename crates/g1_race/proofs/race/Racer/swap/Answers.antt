@@ -9,5 +9,5 @@ refers_to-requires-clause-low c =
     let slots : race.shape.slots ≡ slot_count race.layout = ap (λ (k : Shape). k.slots) race.laid in
     omega (arith, slots, race.shaped.3)
 
-pub returns-clause-old : goal.returns-clause-old
-returns-clause-old c = record { word = c.write-kind.result.1; found = c.write-kind.ensures.found; refers = sym c.refers_to.ensures.target }
+pub returns-clause-view : goal.returns-clause-view
+returns-clause-view c = record { old = c.write-kind.result.1; found = c.write-kind.ensures.found; refers = sym c.refers_to.ensures.target; view = c.write-kind.ensures.view }

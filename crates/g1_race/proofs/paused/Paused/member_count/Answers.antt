@@ -1,0 +1,18 @@
+use Rattle.std.proofs.Common.{ℕ, length, ap, ◌∙◌, arith}
+use Rattle.g1_race.specs.Telling.{is_member, member_cards}
+use Rattle.g1_race.specs.Over.{Halt}
+use Rattle.g1_race.proofs.Telling.{few}
+use Rattle.g1_race.proofs.NextCards.{cards_fit}
+use Rattle.g1_race.proofs.Held.{lent_view}
+use Rattle.g1_race.proofs.paused.Paused.member_count.Goals as goal
+
+pub returns-clause-count : goal.returns-clause-count
+returns-clause-count g c =
+    let k = c.race.result.now.shape in
+    c.count_members.ensures.count ∙ (ap (λ (r : ℕ). length (member_cards k c.self.inside.seat.me.0.began_words r)) c.number.ensures ∙ ap (λ (h : Halt). length (member_cards h.shape h.words c.args.region)) (lent_view c.race.ensures c.self.view_is))
+
+pub returns-clause-few : goal.returns-clause-few
+returns-clause-few g c =
+    let race = c.race.result.now in
+    let a = few (is_member race.shape c.self.inside.seat.me.0.began_words c.number.result) race.shape.cards in
+    omega (arith, a, c.count_members.ensures.count, cards_fit race.shape race.shaped)

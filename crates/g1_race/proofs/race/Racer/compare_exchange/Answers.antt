@@ -1,5 +1,0 @@
-use Rattle.g1_race.proofs.SeatCalls.{may_write}
-use Rattle.g1_race.proofs.race.Racer.compare_exchange.Goals as goal
-
-pub exchange-found-requires-clause-racer : goal.exchange-found-requires-clause-racer
-exchange-found-requires-clause-racer c = may_write c.args.race.now c.args.self.now c.requires.race
