@@ -1,19 +1,19 @@
 /*
  * The remembered-set machinery of a heap in regions, for C and C++.
  *
- * There are two kinds of heap. A struct g1 is for one call at a time. In a struct g1_heap, mutators
- * store beside refinement threads, lock-free, and pauses are for the collector (see "A heap whose
- * stores race" below).
+ * There are two kinds of heap. A core (struct g1) is for one call at a time. A concurrent heap
+ * (struct g1_heap) has racers, by which mutators store, and sweepers, by which refinement threads
+ * refine, all at once and lock-free; pauses are for the collector (see "A concurrent heap" below).
  *
  * Either keeps a table of a runtime's references. The heap has regions, each region has cards, and
  * each card has slots. Regions, cards and slots are each numbered from 0 in the order of the heap:
  * card c has the slots from c * slots on, and region r has the cards from r * cards on. A slot
  * holds null or refers to a place, which is named by the number of its slot. The runtime reports
  * each reference store to the library. Refinement and pauses read the references that were
- * reported, and no memory of the runtime's. The table of a struct g1_heap may also be the
+ * reported, and no memory of the runtime's. The table of a concurrent heap may also be the
  * references themselves: then a report is the store.
  *
- * The path of a card in a struct g1:
+ * The path of a card in a core:
  *   - If g1_store stores a reference into another region and the slot's card is clean, it marks
  *     the card dirty, and the kind of the store is G1_STORED_LOGGED. The caller puts the card into
  *     its thread's dirty card queue, an array of its own, and hands full queues to g1_refine, which
@@ -21,7 +21,8 @@
  *   - An evacuation pause calls g1_drain for each region of the collection set. A drain refines all
  *     that is still pending, and returns the remembered set of the region. Once the region is
  *     evacuated, g1_clear empties that set; or g1_redirect empties it, and moves the references
- *     into the region as well.
+ *     into the region as well. What the copies refer to is reported by neither: that is yours to
+ *     store, before the redirect.
  *   - A queue that is lost costs only time. Each of its cards stays pending until it is refined, by
  *     the next drain at the latest.
  *
@@ -31,18 +32,29 @@
  * (g1_store_all takes 256 at once, and g1_heap_wipe takes the region), and elsewhere to the slots
  * of dead objects, at the latest when a refused clear names one.
  *
- * Linking, without an install: libg1_c.a, and the toolchain's liblibc_c.a after it. The code is for
- * x86-64-v2.
+ * What a runtime must decide:
+ *   - An object without a field for references needs a slot too if anything refers to it, as a
+ *     reference is the number of a slot.
+ *   - An object that is larger than a region has slots in several. References to it enter the
+ *     region of its first slot alone, so its regions are kept, or freed, together.
+ *   - A weak reference is reported like any other, and then drains return its card and a clear
+ *     counts it. Or it is in no slot, and the collector finds it by a list of the runtime's.
+ *   - A runtime whose compiled code marks a card table of its own keeps that. Before a drain it
+ *     reports what the slots of each marked card refer to now, and cleans that card in its table.
+ *
+ * Linking, without an install: libg1_c.a of the target. The code is for x86-64-v2, or for ARM
+ * (AArch64), on Linux.
  *
  * Every call relies on the following, which nothing can test:
  *   - A handle was made of zeros (struct g1 handle = {0};), is in one place at a time, and was
  *     written by these calls alone.
- *   - One call at a time uses a handle. A handle may go from thread to thread: the caller orders
- *     their calls, for instance by a lock or a join. A thread that is stopped inside a call, as by
- *     a signal, still uses its handle, so a pause waits until it has left the call. No thread is
- *     cancelled, and none jumps away, inside a call.
- *   - No pause begins between a runtime's own store and the call that reports it: a drain knows
- *     what was reported.
+ *   - One call at a time uses a handle. A handle may go from thread to thread: you order their
+ *     calls, for instance by a lock or a join.
+ *   - The library stops no thread and waits for none. Before a pause you see to it that no thread
+ *     is inside a call, also not one that a signal or a debugger has stopped there, and none is
+ *     between a store of its own and the call that reports it: a drain knows what was reported.
+ *     Threads that stop at safepoints outside both fulfil this.
+ *   - You cancel no thread inside a call, and let none jump out of one.
  *   - Each pointer points to what its type says. A pointer to an array points to as many elements
  *     as the length after it says. No pointer is null, even for a length of 0. Nothing that a call
  *     writes overlaps anything else that is passed.
@@ -50,8 +62,17 @@
  *     them at once, and one may free what another took.
  *   - No call is made in a signal handler, or in the forked child of a process with threads.
  *
+ * A call that lists cards writes the list to the front of the array, and its count is the length of
+ * the list, which is never more than the array has room for. The elements behind it stay as they
+ * were. (G1_NO_ROOM alone may count more: the cards that there are, none of which is written.)
+ *
  * Numbers are not tied to a heap: a call accepts a slot of another heap if its own heap has a slot
  * of that number.
+ *
+ * Where several codes apply to a call, it returns the one that stands first in its list below.
+ *
+ * "Constant time" says that no loop of the call grows with the heap, and "never waits" that it
+ * takes no lock. Neither promises how long a call takes.
  */
 #ifndef G1_H
 #define G1_H
@@ -63,8 +84,8 @@
 extern "C" {
 #endif
 
-/* The version of the library. Its first number changes where programs must be compiled again. */
-#define G1_VERSION "2.0.0"
+/* The version of the library. A new major version means: compile again. */
+#define G1_VERSION "3.0.0"
 
 /*
  * Marks a call that may be refused, or do less than it was asked for, although its caller keeps
@@ -77,7 +98,33 @@ extern "C" {
 #define G1_MUST_USE
 #endif
 
-/* A handle of the machinery of one heap. It is closed if the pointer is null. */
+/*
+ * For a runtime that runs under the thread sanitizer. The library is not compiled with it, so the
+ * sanitizer does not see that a call that stores a reference comes before a load that finds it. It
+ * then reports plain memory beside the slots, such as an object's header, as a data race.
+ *
+ * G1_TSAN_RELEASE(place) before the call that stores the reference, and G1_TSAN_ACQUIRE(place)
+ * after the load or the call that finds it, tell the sanitizer. The place is an address that both
+ * use, such as that of the object. Without the sanitizer they do nothing.
+ */
+#if defined(__SANITIZE_THREAD__)
+#define G1_THREAD_SANITIZER
+#elif defined(__has_feature)
+#if __has_feature(thread_sanitizer)
+#define G1_THREAD_SANITIZER
+#endif
+#endif
+#ifdef G1_THREAD_SANITIZER
+void __tsan_acquire(void *place);
+void __tsan_release(void *place);
+#define G1_TSAN_ACQUIRE(place) __tsan_acquire((void *)(uintptr_t)(place))
+#define G1_TSAN_RELEASE(place) __tsan_release((void *)(uintptr_t)(place))
+#else
+#define G1_TSAN_ACQUIRE(place) ((void)(place))
+#define G1_TSAN_RELEASE(place) ((void)(place))
+#endif
+
+/* A handle of a core. It is closed if the pointer is null. */
 struct g1 {
     void *core;
 };
@@ -102,8 +149,8 @@ enum g1_code {
     G1_SHORT = 1,             /* memory was refused midway: the work that is reported was done,
                                  and no more */
     G1_DIFFERS = 2,           /* a slot has something else than was expected: nothing was stored */
-    G1_STOPPED = 3,           /* one of several stores names no slot of the heap: those before it
-                                 were made, and it and the later ones were not */
+    G1_STOPPED = 3,           /* one of several stores names a slot or a target that the heap does
+                                 not have: those before it were made, it and the later ones not */
     G1_FULL = 4,              /* the racer's log is full before one of several stores: those before
                                  it were made. Take the log, and go on from there */
     G1_NOT_OPEN = 8,          /* the handle is closed */
@@ -111,7 +158,7 @@ enum g1_code {
     G1_NO_MEMORY = 10,        /* memory was refused before anything changed */
     G1_BAD_LAYOUT = 11,       /* the counts of the heap are outside their limits */
     G1_BAD_SETTINGS = 12,     /* the hot limit or the size of the ring is outside its limits */
-    G1_NO_SLOT = 13,          /* the heap has no such slot */
+    G1_NO_SLOT = 13,          /* the heap has no such slot, or no such target */
     G1_NO_CARD = 14,          /* the heap has no such card */
     G1_NO_REGION = 15,        /* the heap has no such region */
     G1_NO_ROOM = 16,          /* an array is too small */
@@ -121,12 +168,14 @@ enum g1_code {
     G1_STILL_REFERENCED = 20, /* a clear, while a slot outside the region refers into it; or
                                  g1_heap_forget, while one inside refers out of it */
     G1_LOG_FULL = 22,         /* the racer's log has G1_LOG cards: take it, and store again */
-    G1_BAD_MEMBERS = 23,      /* not as many members as the heap has, or as a heap may have */
+    G1_BAD_MEMBERS = 23,      /* not as many racers or sweepers as the heap has, or as a heap may
+                                 have */
     G1_OTHER_RACE = 24,       /* the handles are not those of all members of one heap, each given
                                  once */
     G1_NOT_PAUSED = 25,       /* the members of the heap race, so it is at no pause */
     G1_NOT_RACING = 26,       /* the heap is at a pause already */
-    G1_BAD_WORD = 27          /* a word of data is less than G1_DATA */
+    G1_BAD_WORD = 27          /* a word of data is less than G1_DATA, or a word is none that a slot
+                                 may have */
 };
 
 /*
@@ -138,7 +187,7 @@ static inline const char *g1_code_text(uint32_t code) {
     case G1_DONE: return "done";
     case G1_SHORT: return "memory was refused midway";
     case G1_DIFFERS: return "the slot has something else than was expected";
-    case G1_STOPPED: return "a store names no slot of the heap, and those before it were made";
+    case G1_STOPPED: return "a store names a wrong slot or target; those before it were made";
     case G1_FULL: return "the racer's log is full, and the stores before that were made";
     case G1_NOT_OPEN: return "a handle is closed";
     case G1_ALREADY_OPEN: return "a handle that was to be opened is open";
@@ -158,12 +207,15 @@ static inline const char *g1_code_text(uint32_t code) {
     case G1_OTHER_RACE: return "the handles are not those of all members of one heap";
     case G1_NOT_PAUSED: return "the members of the heap race";
     case G1_NOT_RACING: return "the heap is at a pause already";
-    case G1_BAD_WORD: return "a word of data is less than the least one";
+    case G1_BAD_WORD: return "the word is no data, or no slot may have it";
     default: return "no code of the library";
     }
 }
 
-/* The most cards that g1_refine takes at once, and the most stores that g1_store_all takes. */
+/*
+ * The most cards that g1_refine takes at once, the most stores that g1_store_all takes, and the
+ * cards of a racer's log.
+ */
 #define G1_LOG 256
 
 /* The limits of a heap: the most regions, cards a region, and slots a card. Each is at least 1. */
@@ -208,11 +260,13 @@ struct g1_totals {
 };
 
 /*
- * Opens a closed handle on a new heap: each slot is null, no card is pending, and nothing is
+ * Opens a closed handle on a new core: each slot is null, no card is pending, and nothing is
  * recorded. From `hot` refinements on (0 to G1_MAX_HOT), a card is hot. The hot ring holds `ring`
- * cards (1 to G1_MAX_RING). The heap takes 4 bytes a slot, 34 bytes a card and the ring.
+ * cards (1 to G1_MAX_RING). The core takes 4 bytes a slot, 34 bytes a card and the ring.
  *
- * Returns G1_DONE, G1_ALREADY_OPEN, G1_NO_MEMORY, G1_BAD_LAYOUT or G1_BAD_SETTINGS.
+ * Returns:
+ *   - G1_DONE.
+ *   - G1_ALREADY_OPEN, G1_BAD_LAYOUT, G1_BAD_SETTINGS or G1_NO_MEMORY: nothing has changed.
  */
 G1_MUST_USE
 uint32_t g1_open(struct g1 *handle, const struct g1_counts *counts, uint32_t hot, uint32_t ring);
@@ -261,7 +315,7 @@ uint32_t g1_store_all(struct g1 *handle, const struct g1_reference *stores, size
  *   - G1_DONE.
  *   - G1_SHORT: the cards before some card had their turns, and that card and the later ones had
  *     none. Hand the queue in again; cards that are clean by then are skipped.
- *   - G1_NOT_OPEN, G1_NO_MEMORY, G1_NO_CARD, G1_NO_ROOM or G1_TOO_MANY_CARDS: nothing has changed,
+ *   - G1_NOT_OPEN, G1_NO_ROOM, G1_TOO_MANY_CARDS, G1_NO_CARD or G1_NO_MEMORY: nothing has changed,
  *     and the tally is 0.
  */
 G1_MUST_USE
@@ -270,8 +324,8 @@ uint32_t g1_refine(struct g1 *handle, const uint32_t *cards, size_t cards_length
 
 /*
  * Refines all that is pending, and returns the remembered set of a region: every card outside the
- * region that refers into it, and perhaps some that no longer do. Those did at some time since the
- * set was last cleared.
+ * region that refers into it. Some may be stale: they did at some time since the set was last
+ * cleared, and no longer do.
  *
  * The first `count` elements of `cards` are the set, ascending, each card once. The first
  * `refined_count` elements of `refined` are the cards that were refined, in order. Each array has
@@ -281,7 +335,7 @@ uint32_t g1_refine(struct g1 *handle, const uint32_t *cards, size_t cards_length
  *   - G1_DONE.
  *   - G1_SHORT: only the cards in `refined` were refined, and the others are pending as before.
  *     `count` is 0. Drain again.
- *   - G1_NOT_OPEN, G1_NO_MEMORY, G1_NO_REGION or G1_NO_ROOM: nothing has changed, and both counts
+ *   - G1_NOT_OPEN, G1_NO_REGION, G1_NO_ROOM or G1_NO_MEMORY: nothing has changed, and both counts
  *     are 0.
  */
 G1_MUST_USE
@@ -326,9 +380,9 @@ uint32_t g1_status(struct g1 *handle, struct g1_totals *totals);
  *
  * Returns:
  *   - G1_DONE.
+ *   - G1_NOT_OPEN, G1_NO_REGION or G1_NO_MEMORY: `count` is 0, and nothing is written to the array.
  *   - G1_NO_ROOM: `count` is how many cards there are, which is more than the array has room for.
  *     Nothing is written to the array.
- *   - G1_NOT_OPEN, G1_NO_MEMORY or G1_NO_REGION: `count` is 0, and nothing is written to the array.
  */
 G1_MUST_USE
 uint32_t g1_members(struct g1 *handle, uint32_t region, uint32_t *cards, size_t cards_length,
@@ -336,19 +390,20 @@ uint32_t g1_members(struct g1 *handle, uint32_t region, uint32_t *cards, size_t 
 
 /*
  * Empties the remembered set of a region, once nothing is pending and no slot outside the region
- * refers into it. Before that the region is evacuated, and the references into it are stored anew
- * and drained. (g1_redirect does all that in one call.) The clear takes no memory, and reads the
- * slots of the cards in the set.
+ * refers into it. Before that the region is evacuated, what the copies refer to is stored, the
+ * references into the region are stored anew, and a drain refines these. (g1_redirect does the last
+ * two, and the clear, in one call.) The clear takes no memory, and reads the slots of the cards in
+ * the set.
  *
  * A slot outside the region counts even if its object is dead or its own region was freed. The
  * clear is refused while such a slot still refers into the region, so store null to it first.
  *
  * Returns:
  *   - G1_DONE: `detail` is 0.
+ *   - G1_NOT_OPEN or G1_NO_REGION: nothing has changed, and `detail` is 0.
  *   - G1_STILL_PENDING: nothing has changed. `detail` is how many cards are pending; drain first.
  *   - G1_STILL_REFERENCED: nothing has changed. `detail` is the least slot of the heap that is
  *     outside the region and refers into it.
- *   - G1_NOT_OPEN or G1_NO_REGION: nothing has changed, and `detail` is 0.
  */
 G1_MUST_USE
 uint32_t g1_clear(struct g1 *handle, uint32_t region, uint32_t *detail);
@@ -356,8 +411,12 @@ uint32_t g1_clear(struct g1 *handle, uint32_t region, uint32_t *detail);
 /*
  * Refines all that is pending, as g1_drain does. Then it moves each reference from a slot outside
  * the region `from` into that region to the same offset of the region `to`, and empties the
- * remembered set of `from`. `moved` is how many slots changed. Slots inside `from` stay as they
- * are, and so may keep a clear of another region refused (see g1_clear).
+ * remembered set of `from`. The card of each slot that changed outside `to` is recorded for `to`,
+ * and no card becomes pending. `moved` is how many slots changed.
+ *
+ * It copies no slot: what the copies in `to` refer to is in no remembered set until you store it.
+ * So store each copy's slots first, as they were in `from`, and redirect then. Slots inside `from`
+ * stay as they are, and so may keep a clear of another region refused (see g1_clear).
  *
  * The first `refined_count` elements of `refined` are the cards that were refined, in order.
  * `refined` has room for every card of the heap.
@@ -366,7 +425,7 @@ uint32_t g1_clear(struct g1 *handle, uint32_t region, uint32_t *detail);
  *   - G1_DONE.
  *   - G1_SHORT: only the cards in `refined` were refined, and no slot has changed. `moved` is 0.
  *     Redirect again.
- *   - G1_NOT_OPEN, G1_NO_MEMORY, G1_NO_REGION for either region, G1_SAME_REGION or G1_NO_ROOM:
+ *   - G1_NOT_OPEN, G1_NO_REGION for either region, G1_SAME_REGION, G1_NO_ROOM or G1_NO_MEMORY:
  *     nothing has changed, and both counts are 0.
  */
 G1_MUST_USE
@@ -374,11 +433,41 @@ uint32_t g1_redirect(struct g1 *handle, uint32_t from, uint32_t to, uint32_t *mo
                      uint32_t *refined, size_t refined_length, uint32_t *refined_count);
 
 /*
- * A heap whose stores race.
+ * Copies what `count` slots refer to, from the slot `from` on to the slots from `to` on, as if all
+ * were read before any is written: the ranges may overlap. Cards become pending as by g1_store, but
+ * the caller gets none for a queue: the next drain finds them. The call takes time in `count`, and
+ * no memory. A copy of no slots is done if both ranges begin at a slot of the heap or just behind
+ * its last one, and refused if one begins farther behind.
  *
- * A struct g1_heap has racers, which store (mutators), and sweepers, which refine (refinement
- * threads). Each of these members is in a thread of its own. They take no lock and never wait: they
- * synchronise on single words alone. The life of a heap is races with pauses between them:
+ * Returns G1_DONE, or G1_NOT_OPEN, or G1_NO_SLOT if either range ends behind the last slot: nothing
+ * has changed.
+ */
+uint32_t g1_copy(struct g1 *handle, uint32_t from, uint32_t to, uint32_t count);
+
+/*
+ * Looks for a runtime's own mistakes, in a debug build: before a pause drains, say, and after it.
+ *   - `references` is what the runtime's memory has in the slots from `first` on, as many as
+ *     references_length, each a place or G1_NULL. `differing` is the least of these slots that
+ *     refers to something else here, such as one whose store was not reported.
+ *   - `missing` is the least of the `count` slots from `first` on that refers into another region
+ *     while its card is neither pending nor recorded for that region, so that no drain would
+ *     return the card. The library's calls leave no such slot: something else wrote to its memory.
+ * Each is G1_NULL if there is no such slot. The call takes time in the slots, and no memory.
+ *
+ * Returns:
+ *   - G1_DONE.
+ *   - G1_NOT_OPEN, or G1_NO_SLOT if either range ends behind the last slot: both are G1_NULL.
+ */
+uint32_t g1_verify(struct g1 *handle, uint32_t first, uint32_t count, const uint32_t *references,
+                   size_t references_length, uint32_t *differing, uint32_t *missing);
+
+/*
+ * A concurrent heap.
+ *
+ * A struct g1_heap has members: racers, by each of which a mutator stores, and sweepers, by each of
+ * which a refinement thread refines. Each member is in one thread at a time. They take no lock and
+ * never wait: they synchronise on single words alone. The life of such a heap has two states in
+ * turn. It is at a pause, or its members are out and race:
  *
  *     g1_heap_open      the heap begins, at a pause
  *     g1_heap_resume    opens the members' handles: they race from here on
@@ -386,14 +475,14 @@ uint32_t g1_redirect(struct g1 *handle, uint32_t from, uint32_t to, uint32_t *mo
  *     g1_heap_close     at a pause: frees it
  *
  * The collector's calls (g1_heap_drain, g1_heap_clear, ..) are on the heap's handle, at a pause. A
- * pause and a resume copy nothing and take no memory. All memory that a heap ever takes is taken by
- * its open, except for the lists of g1_heap_drain and g1_heap_members, which free them.
+ * pause and a resume copy nothing. All memory that a heap ever takes is taken by its open: no call
+ * between that and its close takes any or frees any, so none can be refused for it.
  *
  * The path of a card that a racer logs:
  *   - If g1_race_store stores a reference into another region, it marks the slot's card dirty. If
  *     the kind of the store is G1_STORED_LOGGED, the card is in the racer's own log.
- *   - The caller takes the log (g1_race_take_log) and hands its cards to a sweeper, by a queue of
- *     its own (g1_refiner.h has one). The sweeper refines each of them (g1_race_refine).
+ *   - The caller takes the log (g1_race_take_log) and hands its cards to a thread with a sweeper,
+ *     by a queue of its own (g1_refiner.h has one). That refines each of them (g1_race_refine).
  *   - A log that is lost costs only time. Each of its cards stays dirty until it is refined, by the
  *     first drain at a pause at the latest. A log that was not taken stays with its racer over a
  *     pause, and is empty if the pause has refined.
@@ -403,6 +492,10 @@ uint32_t g1_redirect(struct g1 *handle, uint32_t from, uint32_t to, uint32_t *mo
  * under a lock of its own. A thread that begins takes a racer's handle from there. Before it ends
  * it takes the racer's log and hands it on, or leaves it in the racer, and puts the handle back. A
  * racer that waits there holds nothing up. The next pause takes it in with all others.
+ *   - A thread that leaves for a system call, or blocks, puts its handle back before, and takes one
+ *     when it returns. Else you have to wait for it before a pause, which takes all handles in.
+ *   - If there may be more mutators than G1_RACERS, several share a racer: each of them makes its
+ *     calls while it has a lock of that racer's.
  *
  * Besides what every call relies on, these calls rely on the following:
  *   - A call writes its handle, so each thread keeps its member's in a local, and not in a row that
@@ -413,9 +506,9 @@ uint32_t g1_redirect(struct g1 *handle, uint32_t from, uint32_t to, uint32_t *mo
  *     the call, or makes each by the loop below. If two of them race, the library may keep a
  *     different value than memory does, and then a drain can miss what memory holds. Stores to
  *     different slots need no order.
- *   - While g1_heap_pause of one heap is under way, no other call of g1_heap_pause, in another
- *     thread, is given a member of that heap. (A pause that is given members of several heaps is
- *     refused: it counts the owners of what they share, and the other would disturb the count.)
+ *   - You never make two calls of g1_heap_pause at once that are given members of one heap. (A
+ *     pause that is given members of several heaps is refused: it counts the owners of what they
+ *     share, and the other would disturb the count.)
  *
  * The loop, for a runtime that keeps its references in atomic words of its own and has no lock for
  * the stores to one slot:
@@ -449,17 +542,17 @@ uint32_t g1_redirect(struct g1 *handle, uint32_t from, uint32_t to, uint32_t *mo
  *   - The words stay at their place until the heap is closed.
  */
 
-/* A handle of a heap whose stores race. It is closed if the pointer is null. */
+/* A handle of a concurrent heap. It is closed if the pointer is null. */
 struct g1_heap {
     void *heap;
 };
 
-/* A handle of a racer. It is closed if the pointer is null. */
+/* A handle of a racer, by which a mutator stores. It is closed if the pointer is null. */
 struct g1_racer {
     void *racer;
 };
 
-/* A handle of a sweeper. It is closed if the pointer is null. */
+/* A handle of a sweeper, by which a refinement thread refines. It is closed if it is null. */
 struct g1_sweeper {
     void *sweeper;
 };
@@ -492,7 +585,8 @@ uint32_t g1_heap_open(struct g1_heap *heap, const struct g1_counts *counts, uint
  * recorded. Each racer has the log of the racer that was at its place in the row of the last pause,
  * or an empty one if there was none or the pause has refined. A card that is dirty from the
  * beginning and in no log is refined if a sweeper is given it, or at the next pause. The call takes
- * time in the number of members, and no memory.
+ * time in the number of members, and no memory. It is never refused to a caller that passes a
+ * closed handle for each member.
  *
  * Returns:
  *   - G1_DONE: each member's handle is open.
@@ -503,15 +597,18 @@ uint32_t g1_heap_resume(struct g1_heap *heap, struct g1_racer *racers, size_t ra
                         struct g1_sweeper *sweepers, size_t sweepers_length);
 
 /*
- * Begins a pause. All racers and sweepers of the heap are handed in, in any order, and none of them
- * is in use. Their logs stay with the heap. The call takes time in the number of members, and no
- * memory.
+ * Begins a pause. All racers and sweepers of the heap are handed in, in any order. Before the call
+ * you see to it that no thread is inside a call of a member, or between a store of its own and the
+ * call that reports it: this call stops no thread and waits for none. The members' logs stay with
+ * the heap. The call takes time in the number of members, and no memory. It is never refused to a
+ * caller that passes each member once.
  *
  * Returns:
  *   - G1_DONE: the members' handles are closed, and the collector's calls may be made.
- *   - G1_NOT_OPEN for any of the handles, G1_NOT_RACING, G1_BAD_MEMBERS (not the numbers of handles
- *     that the heap was opened with) or G1_OTHER_RACE (a member of another heap, or one that is
- *     given twice): nothing has changed.
+ *   - G1_NOT_OPEN for the heap's handle, G1_NOT_RACING or G1_BAD_MEMBERS (not the numbers of
+ *     handles that the heap was opened with): nothing has changed.
+ *   - G1_NOT_OPEN for a member's handle, or G1_OTHER_RACE (a member of another heap, or one that is
+ *     given twice): nothing has changed. Where both apply, either may be returned.
  */
 uint32_t g1_heap_pause(struct g1_heap *heap, struct g1_racer *racers, size_t racers_length,
                        struct g1_sweeper *sweepers, size_t sweepers_length);
@@ -533,8 +630,8 @@ uint32_t g1_heap_close(struct g1_heap *heap);
  *
  * Returns:
  *   - G1_DONE.
- *   - G1_LOG_FULL (for any store, of null too, while the log is full), G1_NO_SLOT for the slot or
- *     the target, or G1_NOT_OPEN: nothing has changed, and `kind` is G1_STORED_NULL.
+ *   - G1_NOT_OPEN, G1_LOG_FULL (for any store, of null too, while the log is full), or G1_NO_SLOT
+ *     for the slot or the target: nothing has changed, and `kind` is G1_STORED_NULL.
  */
 G1_MUST_USE
 uint32_t g1_race_store(struct g1_racer *racer, uint32_t slot, uint32_t target, uint32_t *kind);
@@ -542,12 +639,12 @@ uint32_t g1_race_store(struct g1_racer *racer, uint32_t slot, uint32_t target, u
 /*
  * A racer stores as g1_race_store does, and `old` is what the slot referred to before: the place,
  * or G1_NULL for null or data. One atomic step reads that and writes the slot, so no other store
- * falls between them. It is for a collector that marks from a snapshot. The call costs what that
- * store does.
+ * falls between them. It is for a collector that marks from a snapshot. The call takes about 20
+ * instructions more than that store.
  *
  * Returns:
  *   - G1_DONE.
- *   - G1_LOG_FULL, G1_NO_SLOT or G1_NOT_OPEN, as g1_race_store does: nothing has changed, `old` is
+ *   - G1_NOT_OPEN, G1_LOG_FULL or G1_NO_SLOT, as g1_race_store does: nothing has changed, `old` is
  *     G1_NULL, and `kind` is G1_STORED_NULL.
  */
 G1_MUST_USE
@@ -561,11 +658,11 @@ uint32_t g1_race_swap(struct g1_racer *racer, uint32_t slot, uint32_t target, ui
  *
  * Returns:
  *   - G1_DONE: the slot had `expected`, which `found` is too, and it has `target` now.
+ *   - G1_NOT_OPEN, G1_LOG_FULL (whatever the slot has, while the log is full), or G1_NO_SLOT for
+ *     the slot, `expected` or the target: nothing has changed, `found` is G1_NULL, and `kind` is
+ *     G1_STORED_NULL.
  *   - G1_DIFFERS: the slot had something else, such as data where null was expected. Nothing was
  *     stored, and `kind` is G1_STORED_NULL.
- *   - G1_LOG_FULL (whatever the slot has, while the log is full), G1_NO_SLOT for the slot,
- *     `expected` or the target, or G1_NOT_OPEN: nothing has changed, `found` is G1_NULL, and `kind`
- *     is G1_STORED_NULL.
  */
 G1_MUST_USE
 uint32_t g1_race_compare_exchange(struct g1_racer *racer, uint32_t slot, uint32_t expected,
@@ -578,11 +675,11 @@ uint32_t g1_race_compare_exchange(struct g1_racer *racer, uint32_t slot, uint32_
  *
  * Returns:
  *   - G1_DONE: `stored` is stores_length.
- *   - G1_STOPPED: the store at index `stored` names a slot or a target that the heap does not have.
- *     The stores before it were made; it and the later ones were not.
+ *   - G1_NOT_OPEN: nothing has changed, and `stored` is 0.
  *   - G1_FULL: the log is full before the store at index `stored`. The stores before it were made;
  *     it and the later ones were not. Take the log, and go on with this store.
- *   - G1_NOT_OPEN: nothing has changed, and `stored` is 0.
+ *   - G1_STOPPED: the store at index `stored` names a slot or a target that the heap does not have.
+ *     The stores before it were made; it and the later ones were not.
  */
 G1_MUST_USE
 uint32_t g1_race_store_all(struct g1_racer *racer, const struct g1_reference *stores,
@@ -595,9 +692,43 @@ uint32_t g1_race_store_all(struct g1_racer *racer, const struct g1_reference *st
  *
  * Returns:
  *   - G1_DONE.
- *   - G1_BAD_WORD, G1_NO_SLOT or G1_NOT_OPEN: nothing has changed, and `old` is 0.
+ *   - G1_NOT_OPEN, G1_NO_SLOT or G1_BAD_WORD: nothing has changed, and `old` is 0.
  */
 uint32_t g1_race_store_data(struct g1_racer *racer, uint32_t slot, uint64_t word, uint64_t *old);
+
+/*
+ * A racer stores a word into a slot: 0 for null, the number of a slot plus 1 for a reference, or
+ * data, from G1_DATA on. A reference is stored as g1_race_store does. Data is stored as null: it
+ * marks and logs nothing, and `kind` is G1_STORED_NULL. `old` is the word that the slot had. One
+ * atomic step reads it and writes the new one. The call takes constant time and no memory, and
+ * never waits.
+ *
+ * Returns:
+ *   - G1_DONE.
+ *   - G1_NOT_OPEN, G1_LOG_FULL (whatever the word is, while the log is full), G1_NO_SLOT, or
+ *     G1_BAD_WORD for a word that is none of these: nothing has changed, `old` is 0, and `kind` is
+ *     G1_STORED_NULL.
+ */
+G1_MUST_USE
+uint32_t g1_race_swap_word(struct g1_racer *racer, uint32_t slot, uint64_t word, uint64_t *old,
+                           uint32_t *kind);
+
+/*
+ * A racer stores a word as g1_race_swap_word does, if the slot has the word `expected`, which may
+ * be null, a reference or data: for an atomic counter, say, or to claim an object's forwarding
+ * word. One atomic step compares and writes. `found` is the word that the slot had. The call takes
+ * constant time and no memory, and never waits.
+ *
+ * Returns:
+ *   - G1_DONE: the slot had `expected`, which `found` is too, and it has `word` now.
+ *   - G1_NOT_OPEN, G1_LOG_FULL (whatever the slot has, while the log is full), G1_NO_SLOT, or
+ *     G1_BAD_WORD for either word: nothing has changed, `found` is 0, and `kind` is
+ *     G1_STORED_NULL.
+ *   - G1_DIFFERS: the slot had another word. Nothing was stored, and `kind` is G1_STORED_NULL.
+ */
+G1_MUST_USE
+uint32_t g1_race_compare_exchange_word(struct g1_racer *racer, uint32_t slot, uint64_t expected,
+                                       uint64_t word, uint64_t *found, uint32_t *kind);
 
 /*
  * Takes the cards of a racer's log, and leaves the log empty. The first `count` elements of `cards`
@@ -618,7 +749,7 @@ uint32_t g1_race_take_log(struct g1_racer *racer, uint32_t *cards, size_t cards_
  *
  * Returns:
  *   - G1_DONE.
- *   - G1_NO_CARD or G1_NOT_OPEN: nothing has changed.
+ *   - G1_NOT_OPEN or G1_NO_CARD: nothing has changed.
  */
 uint32_t g1_race_refine(struct g1_sweeper *sweeper, uint32_t card);
 
@@ -631,17 +762,13 @@ uint32_t g1_race_refine(struct g1_sweeper *sweeper, uint32_t card);
  */
 uint32_t g1_heap_words(struct g1_heap *heap, const uint64_t **words);
 
-/*
- * The calls below are the collector's, at a pause. Each also returns G1_NOT_OPEN if the handle is
- * closed, and G1_NOT_PAUSED while the members race. Then nothing has changed, and what the call
- * writes is as after its other refusals.
- */
+/* The calls below are the collector's, at a pause. */
 
 /*
  * Sets `target` to what a slot refers to: the place, or G1_NULL for null or data. It takes constant
  * time and no memory.
  *
- * Returns G1_DONE, or G1_NO_SLOT: `target` is G1_NULL.
+ * Returns G1_DONE, or G1_NOT_OPEN, G1_NOT_PAUSED or G1_NO_SLOT: `target` is G1_NULL.
  */
 uint32_t g1_heap_target(struct g1_heap *heap, uint32_t slot, uint32_t *target);
 
@@ -649,7 +776,7 @@ uint32_t g1_heap_target(struct g1_heap *heap, uint32_t slot, uint32_t *target);
  * Sets `word` to the word of a slot: 0, the number of a slot plus 1, or data. It takes constant
  * time and no memory.
  *
- * Returns G1_DONE, or G1_NO_SLOT: `word` is 0.
+ * Returns G1_DONE, or G1_NOT_OPEN, G1_NOT_PAUSED or G1_NO_SLOT: `word` is 0.
  */
 uint32_t g1_heap_word(struct g1_heap *heap, uint32_t slot, uint64_t *word);
 
@@ -657,54 +784,72 @@ uint32_t g1_heap_word(struct g1_heap *heap, uint32_t slot, uint64_t *word);
  * Sets `pending` to 1 if a card is dirty, and to 0 if it is not. It takes constant time and no
  * memory.
  *
- * Returns G1_DONE, or G1_NO_CARD: `pending` is 0.
+ * Returns G1_DONE, or G1_NOT_OPEN, G1_NOT_PAUSED or G1_NO_CARD: `pending` is 0.
  */
 uint32_t g1_heap_is_pending(struct g1_heap *heap, uint32_t card, uint32_t *pending);
 
 /*
  * Sets `totals` to how many cards are dirty and how many pairs of a card and a region are recorded.
- * It reads a bit for each card, that many again for each region, and a word for each of the pairs.
- * It takes no memory.
+ * It reads a bit for each card, that many again for each region, and a word for each of the pairs:
+ * 4 to 8 ms on a heap of 33 million slots, so it is no call for every pause. It takes no memory.
  *
- * Returns G1_DONE; if it is refused, both totals are 0.
+ * Returns G1_DONE, or G1_NOT_OPEN or G1_NOT_PAUSED: both totals are 0.
  */
 uint32_t g1_heap_status(struct g1_heap *heap, struct g1_totals *totals);
 
 /*
  * Returns the remembered set of a region as it is recorded, and refines nothing. The first `count`
  * elements of `cards` are the cards of the set, ascending, each once. Dirty cards may be missing
- * from it; after g1_heap_refine, and until the next store, none is. The call takes memory for the
- * list, and frees it.
+ * from it; after g1_heap_refine, and until the next store, none is. The call takes no memory.
  *
  * Returns:
  *   - G1_DONE.
+ *   - G1_NOT_OPEN, G1_NOT_PAUSED or G1_NO_REGION: `count` is 0, and nothing is written to the
+ *     array.
  *   - G1_NO_ROOM: `count` is how many cards there are, which is more than the array has room for.
- *     Nothing is written to the array.
- *   - G1_NO_MEMORY or G1_NO_REGION: `count` is 0, and nothing is written to the array.
+ *     The array is full: it has the first of them.
  */
 G1_MUST_USE
 uint32_t g1_heap_members(struct g1_heap *heap, uint32_t region, uint32_t *cards,
                          size_t cards_length, uint32_t *count);
 
 /*
- * Refines all that is dirty, and empties the racers' logs. Then the members of each region are
- * exact, so one call serves a whole collection set. It takes no memory.
+ * Sets `card` to the least card from the number `from` on that is recorded for a region, or to
+ * G1_NULL if there is none. So a walk over a remembered set needs no array:
  *
- * Returns G1_DONE.
+ *     for (from = 0; g1_heap_next_member(&heap, region, from, &card) == G1_DONE && card != G1_NULL;
+ *          from = card + 1)
+ *
+ * `from` may be greater than any card's number. What a walk meets is what g1_heap_members returns,
+ * if nothing was stored meanwhile to a card that it has still to come to. The call reads a word for
+ * each 64 cards up to the one that it finds, and takes no memory.
+ *
+ * Returns G1_DONE, or G1_NOT_OPEN, G1_NOT_PAUSED or G1_NO_REGION: `card` is G1_NULL.
+ */
+uint32_t g1_heap_next_member(struct g1_heap *heap, uint32_t region, uint32_t from, uint32_t *card);
+
+/*
+ * Refines all that is dirty, and empties the racers' logs. For a collection set, call it once, and
+ * then g1_heap_members or g1_heap_next_member for each region: they return what drains would. It
+ * takes no memory.
+ *
+ * Returns G1_DONE, or G1_NOT_OPEN or G1_NOT_PAUSED: nothing has changed.
  */
 uint32_t g1_heap_refine(struct g1_heap *heap);
 
 /*
  * Refines all that is dirty, empties the racers' logs, and returns the remembered set of a region:
- * every card outside the region that refers into it, and perhaps some that no longer do. Those did
- * at some time since the set was last cleared. The first `count` elements of `cards` are the set,
- * ascending, each card once. The call takes memory for the list, and frees it. It is never short.
+ * every card outside the region that refers into it. Some may be stale: they did at some time since
+ * the set was last cleared, and no longer do. The first `count` elements of `cards` are the set,
+ * ascending, each card once. The call takes no memory. It is never short.
  *
  * Returns:
  *   - G1_DONE.
+ *   - G1_NOT_OPEN, G1_NOT_PAUSED or G1_NO_REGION: nothing has changed, `count` is 0, and nothing is
+ *     written to the array.
  *   - G1_NO_ROOM: all is refined. `count` is how many cards the set has, which is more than the
- *     array has room for, and nothing is written to it. Call again with room.
- *   - G1_NO_MEMORY or G1_NO_REGION: nothing has changed, and `count` is 0.
+ *     array has room for, and the array has the first of them. g1_heap_members returns them all,
+ *     given an array with room, or g1_heap_next_member one by one.
  */
 G1_MUST_USE
 uint32_t g1_heap_drain(struct g1_heap *heap, uint32_t region, uint32_t *cards,
@@ -715,8 +860,8 @@ uint32_t g1_heap_drain(struct g1_heap *heap, uint32_t region, uint32_t *cards,
  * the kind of store (enum g1_kind). If it is G1_STORED_LOGGED, the slot's card was clean, and is
  * dirty now; no log has it. The call takes constant time and no memory.
  *
- * Returns G1_DONE, or G1_NO_SLOT for the slot or the target: nothing has changed, and `kind` is
- * G1_STORED_NULL.
+ * Returns G1_DONE, or G1_NOT_OPEN, G1_NOT_PAUSED, or G1_NO_SLOT for the slot or the target: nothing
+ * has changed, and `kind` is G1_STORED_NULL.
  */
 uint32_t g1_heap_store(struct g1_heap *heap, uint32_t slot, uint32_t target, uint32_t *kind);
 
@@ -728,7 +873,7 @@ uint32_t g1_heap_store(struct g1_heap *heap, uint32_t slot, uint32_t target, uin
  *   - G1_DONE: `stored` is stores_length.
  *   - G1_STOPPED: the store at index `stored` names a slot or a target that the heap does not have.
  *     The stores before it were made; it and the later ones were not.
- *   - If it is refused, nothing has changed, and `stored` is 0.
+ *   - G1_NOT_OPEN or G1_NOT_PAUSED: nothing has changed, and `stored` is 0.
  */
 uint32_t g1_heap_store_all(struct g1_heap *heap, const struct g1_reference *stores,
                            size_t stores_length, size_t *stored);
@@ -737,7 +882,7 @@ uint32_t g1_heap_store_all(struct g1_heap *heap, const struct g1_reference *stor
  * The collector stores data, a word from G1_DATA on, into a slot. To a drain the slot is null. The
  * call takes constant time and no memory.
  *
- * Returns G1_DONE, or G1_BAD_WORD or G1_NO_SLOT: nothing has changed.
+ * Returns G1_DONE, or G1_NOT_OPEN, G1_NOT_PAUSED, G1_NO_SLOT or G1_BAD_WORD: nothing has changed.
  */
 uint32_t g1_heap_store_data(struct g1_heap *heap, uint32_t slot, uint64_t word);
 
@@ -745,9 +890,11 @@ uint32_t g1_heap_store_data(struct g1_heap *heap, uint32_t slot, uint64_t word);
  * The collector copies the words of `count` slots, references and data, from the slot `from` on to
  * the slots from `to` on, as if all were read before any is written: the ranges may overlap. Cards
  * become dirty as by g1_heap_store, and no log has them. The call takes time in `count`, and no
- * memory.
+ * memory. A copy of no slots is done if both ranges begin at a slot of the heap or just behind its
+ * last one, and refused if one begins farther behind.
  *
- * Returns G1_DONE, or G1_NO_SLOT if either range ends behind the last slot: nothing has changed.
+ * Returns G1_DONE, or G1_NOT_OPEN, G1_NOT_PAUSED, or G1_NO_SLOT if either range ends behind the
+ * last slot: nothing has changed.
  */
 uint32_t g1_heap_copy(struct g1_heap *heap, uint32_t from, uint32_t to, uint32_t count);
 
@@ -757,10 +904,10 @@ uint32_t g1_heap_copy(struct g1_heap *heap, uint32_t from, uint32_t to, uint32_t
  *
  * Returns:
  *   - G1_DONE: `detail` is 0.
+ *   - G1_NOT_OPEN, G1_NOT_PAUSED or G1_NO_REGION: nothing has changed, and `detail` is 0.
  *   - G1_STILL_PENDING: nothing has changed. `detail` is how many cards are dirty; refine first.
  *   - G1_STILL_REFERENCED: nothing has changed. `detail` is the least slot of the heap that is
  *     outside the region and refers into it.
- *   - G1_NO_REGION: nothing has changed, and `detail` is 0.
  */
 G1_MUST_USE
 uint32_t g1_heap_clear(struct g1_heap *heap, uint32_t region, uint32_t *detail);
@@ -768,35 +915,57 @@ uint32_t g1_heap_clear(struct g1_heap *heap, uint32_t region, uint32_t *detail);
 /*
  * Refines all that is dirty, and empties the racers' logs. Then it moves each reference from a slot
  * outside the region `from` into that region to the same offset of the region `to`, and empties the
- * remembered set of `from`. `moved` is how many slots changed. Slots inside `from` stay as they
- * are, and so may keep a clear of another region refused. The call takes no memory.
+ * remembered set of `from`. The card of each slot that changed outside `to` is recorded for `to`,
+ * and no card becomes dirty. `moved` is how many slots changed. The call takes no memory.
+ *
+ * It copies no slot: copy the region first (g1_heap_copy), or store what the copies refer to, and
+ * redirect then. Slots inside `from` stay as they are, and so may keep a clear of another region
+ * refused.
  *
  * Returns:
  *   - G1_DONE.
- *   - G1_NO_REGION for either region, or G1_SAME_REGION: nothing has changed, and `moved` is 0.
+ *   - G1_NOT_OPEN, G1_NOT_PAUSED, G1_NO_REGION for either region, or G1_SAME_REGION: nothing has
+ *     changed, and `moved` is 0.
  */
 uint32_t g1_heap_redirect(struct g1_heap *heap, uint32_t from, uint32_t to, uint32_t *moved);
 
 /*
- * Stores null into each slot of a region that is freed, also where it has data. It takes time in
- * the slots of a region, and no memory.
+ * Stores null into each slot of a region that is freed, also where it has data. Cards that are
+ * dirty stay dirty, and what is recorded stays recorded. It takes time in the slots of a region,
+ * and no memory.
  *
- * Returns G1_DONE, or G1_NO_REGION: nothing has changed.
+ * Returns G1_DONE, or G1_NOT_OPEN, G1_NOT_PAUSED or G1_NO_REGION: nothing has changed.
  */
 uint32_t g1_heap_wipe(struct g1_heap *heap, uint32_t region);
 
 /*
  * Removes the cards of a region from the remembered sets of all regions, once no slot of the region
  * refers out of it, as after g1_heap_wipe. Later drains return no card of the region until one is
- * stored to. It takes no memory, and reads the slots of the region.
+ * stored to. Cards that are dirty stay dirty, so a clear that follows needs a g1_heap_refine first.
+ * It takes no memory, and reads the slots of the region.
  *
  * Returns:
  *   - G1_DONE.
- *   - G1_STILL_REFERENCED (a slot of the region refers out of it) or G1_NO_REGION: nothing has
- *     changed.
+ *   - G1_NOT_OPEN, G1_NOT_PAUSED, G1_NO_REGION, or G1_STILL_REFERENCED (a slot of the region refers
+ *     out of it): nothing has changed.
  */
 G1_MUST_USE
 uint32_t g1_heap_forget(struct g1_heap *heap, uint32_t region);
+
+/*
+ * Looks for a runtime's own mistakes, in a debug build, as g1_verify does. A runtime whose fields
+ * are the library's words passes no references (a references_length of 0): then `missing` shows
+ * where it wrote to one itself. A slot that has data refers to nothing. The call takes time in the
+ * slots, and no memory.
+ *
+ * Returns:
+ *   - G1_DONE.
+ *   - G1_NOT_OPEN, G1_NOT_PAUSED, or G1_NO_SLOT if either range ends behind the last slot: both
+ *     are G1_NULL.
+ */
+uint32_t g1_heap_verify(struct g1_heap *heap, uint32_t first, uint32_t count,
+                        const uint32_t *references, size_t references_length,
+                        uint32_t *differing, uint32_t *missing);
 
 #ifdef __cplusplus
 }

@@ -2,13 +2,14 @@
 //
 // Each method makes the one call of g1.h that is named beside it, and that header says what the
 // call does, what it relies on and what it returns. What is added here:
-//   - A handle begins closed, can be moved and not copied, and closes itself at its end. A member's
-//     handle has no end of its own: it goes back into a pause.
+//   - A handle begins closed and can be moved, not copied. A core and a concurrent heap close
+//     themselves at their end. A racer and a sweeper have no end of their own: they go back into a
+//     pause.
 //   - A code is a g1_code, a kind a g1_kind, and whether a card is pending a bool. The compiler
 //     warns where a code is thrown away that has to be looked at. Nothing throws.
 //   - An array is any container with std::data and std::size, of std::uint32_t (of g1_reference
 //     for several stores), and may be empty. One that a call writes has its size before the call:
-//     nothing here grows it.
+//     nothing here grows it. Several stores may also be given by pointer and length.
 //
 // The namespace has a name of its own because `g1` is a struct of g1.h.
 #ifndef G1_HPP
@@ -18,6 +19,7 @@
 
 #include <cstddef>
 #include <cstdint>
+#include <exception>
 #include <iterator>
 #include <type_traits>
 #include <utility>
@@ -53,6 +55,23 @@ template <typename Container> auto elements(Container &container) noexcept {
     return std::size(container) == 0 ? &none : std::data(container);
 }
 
+// Elements by pointer and length. If there are none, the pointer may be null.
+template <typename Element> class Elements {
+public:
+    Elements(Element *first, std::size_t length) noexcept : start(first), count(length) {}
+    Element *data() const noexcept { return start; }
+    std::size_t size() const noexcept { return count; }
+
+private:
+    Element *start;
+    std::size_t count;
+};
+
+inline bool is_open(const g1 &handle) noexcept { return handle.core != nullptr; }
+inline bool is_open(const g1_heap &handle) noexcept { return handle.heap != nullptr; }
+inline bool is_open(const g1_racer &handle) noexcept { return handle.racer != nullptr; }
+inline bool is_open(const g1_sweeper &handle) noexcept { return handle.sweeper != nullptr; }
+
 } // namespace internal
 
 // A handle of g1.h that is moved and never copied. What it is moved away from is a closed handle.
@@ -61,13 +80,8 @@ public:
     Moved() noexcept = default;
     Moved(Moved &&other) noexcept : handle(other.release()) {}
 
-    Moved &operator=(Moved &&other) noexcept {
-        handle = other.release();
-        return *this;
-    }
-
-    // Has another handle in the place of this one.
-    void reset(Handle other) noexcept { handle = other; }
+    // Whether the handle is open.
+    bool is_open() const noexcept { return internal::is_open(handle); }
 
     // Gives the handle up to the caller, and leaves a closed one.
     Handle release() noexcept { return std::exchange(handle, Handle{}); }
@@ -77,6 +91,8 @@ public:
 
 protected:
     ~Moved() = default;
+
+    void replace(Handle other) noexcept { handle = other; }
 
 private:
     Handle handle{};
@@ -98,14 +114,44 @@ public:
     // Closes the handle, if it is open.
     g1_code close() noexcept { return internal::code(close_handle(this->get())); }
 
-    // Closes the handle, if it is open, and owns another in its place.
+    // Closes the handle, if it is open, and owns another in its place. A concurrent heap whose
+    // members race can't be closed: then the program ends by std::terminate.
     void reset(Handle other) noexcept {
-        close();
-        Moved<Handle>::reset(other);
+        if (this->is_open() && close() != G1_DONE) {
+            std::terminate();
+        }
+        this->replace(other);
     }
 };
 
-// The machinery of a heap for one call at a time.
+// A member of a concurrent heap, which can be paused only with all of them. If another is moved
+// into the place of an open one, the program ends by std::terminate, as with a std::thread that
+// runs. If an open one is destroyed, its heap can't be paused any more.
+template <typename Handle> class Member : public Moved<Handle> {
+public:
+    Member() noexcept = default;
+    Member(Member &&) noexcept = default;
+
+    Member &operator=(Member &&other) noexcept {
+        if (this != &other) {
+            reset(other.release());
+        }
+        return *this;
+    }
+
+    // Has another handle in the place of this one, which is closed.
+    void reset(Handle other) noexcept {
+        if (this->is_open()) {
+            std::terminate();
+        }
+        this->replace(other);
+    }
+
+protected:
+    ~Member() = default;
+};
+
+// A core.
 class Core : public Owned<g1, g1_close> {
 public:
     // g1_open
@@ -124,6 +170,13 @@ public:
     g1_code store_all(const Stores &stores, Cards &cards, g1_batch &batch) noexcept {
         return internal::code(g1_store_all(get(), internal::elements(stores), std::size(stores),
                                          internal::elements(cards), std::size(cards), &batch));
+    }
+
+    // g1_store_all
+    g1_code store_all(const g1_reference *stores, std::size_t stores_length, std::uint32_t *cards,
+                      std::size_t cards_length, g1_batch &batch) noexcept {
+        internal::Elements room(cards, cards_length);
+        return store_all(internal::Elements(stores, stores_length), room, batch);
     }
 
     // g1_refine
@@ -175,11 +228,23 @@ public:
         return internal::code(g1_redirect(get(), from, to, &moved, internal::elements(refined),
                                         std::size(refined), &refined_count));
     }
+
+    // g1_copy
+    g1_code copy(std::uint32_t from, std::uint32_t to, std::uint32_t count) noexcept {
+        return internal::code(g1_copy(get(), from, to, count));
+    }
+
+    // g1_verify
+    template <typename References>
+    g1_code verify(std::uint32_t first, std::uint32_t count, const References &references,
+                   std::uint32_t &differing, std::uint32_t &missing) noexcept {
+        return internal::code(g1_verify(get(), first, count, internal::elements(references),
+                                        std::size(references), &differing, &missing));
+    }
 };
 
-// A member of a heap that stores. A thread moves it into a local, and back before a pause. If it is
-// destroyed while it is open, its heap can't be paused any more.
-class Racer : public Moved<g1_racer> {
+// A racer, by which a mutator stores. The thread moves it into a local, and back before a pause.
+class Racer : public Member<g1_racer> {
 public:
     // g1_race_store
     [[nodiscard]] g1_code store(std::uint32_t slot, std::uint32_t target, g1_kind &kind) noexcept {
@@ -207,9 +272,29 @@ public:
             g1_race_store_all(get(), internal::elements(stores), std::size(stores), &stored));
     }
 
+    // g1_race_store_all
+    [[nodiscard]] g1_code store_all(const g1_reference *stores, std::size_t stores_length,
+                                    std::size_t &stored) noexcept {
+        return store_all(internal::Elements(stores, stores_length), stored);
+    }
+
     // g1_race_store_data
     g1_code store_data(std::uint32_t slot, std::uint64_t word, std::uint64_t &old) noexcept {
         return internal::code(g1_race_store_data(get(), slot, word, &old));
+    }
+
+    // g1_race_swap_word
+    [[nodiscard]] g1_code swap_word(std::uint32_t slot, std::uint64_t word, std::uint64_t &old,
+                                    g1_kind &kind) noexcept {
+        return internal::code(g1_race_swap_word(get(), slot, word, &old, internal::Out(kind)));
+    }
+
+    // g1_race_compare_exchange_word
+    [[nodiscard]] g1_code compare_exchange_word(std::uint32_t slot, std::uint64_t expected,
+                                                std::uint64_t word, std::uint64_t &found,
+                                                g1_kind &kind) noexcept {
+        return internal::code(g1_race_compare_exchange_word(get(), slot, expected, word, &found,
+                                                            internal::Out(kind)));
     }
 
     // g1_race_take_log
@@ -219,9 +304,9 @@ public:
     }
 };
 
-// A member of a heap that refines. A thread moves it into a local, and back before a pause. If it
-// is destroyed while it is open, its heap can't be paused any more.
-class Sweeper : public Moved<g1_sweeper> {
+// A sweeper, by which a refinement thread refines. The thread moves it into a local, and back
+// before a pause.
+class Sweeper : public Member<g1_sweeper> {
 public:
     // g1_race_refine
     g1_code refine(std::uint32_t card) noexcept {
@@ -282,8 +367,8 @@ g1_code with_members(Racers &racers, Sweepers &sweepers, Call call) noexcept {
 
 } // namespace internal
 
-// A heap whose stores race. If it is destroyed while its members race, its memory is not freed.
-class Heap : public Owned<g1_heap, g1_heap_close> {
+// A concurrent heap. If it is destroyed while its members race, its memory is not freed.
+class ConcurrentHeap : public Owned<g1_heap, g1_heap_close> {
 public:
     // g1_heap_open
     [[nodiscard]] g1_code open(const g1_counts &counts, std::uint32_t racers,
@@ -340,6 +425,11 @@ public:
             g1_heap_members(get(), region, internal::elements(cards), std::size(cards), &count));
     }
 
+    // g1_heap_next_member
+    g1_code next_member(std::uint32_t region, std::uint32_t from, std::uint32_t &card) noexcept {
+        return internal::code(g1_heap_next_member(get(), region, from, &card));
+    }
+
     // g1_heap_refine
     g1_code refine() noexcept { return internal::code(g1_heap_refine(get())); }
 
@@ -360,6 +450,12 @@ public:
     g1_code store_all(const Stores &stores, std::size_t &stored) noexcept {
         return internal::code(
             g1_heap_store_all(get(), internal::elements(stores), std::size(stores), &stored));
+    }
+
+    // g1_heap_store_all
+    g1_code store_all(const g1_reference *stores, std::size_t stores_length,
+                      std::size_t &stored) noexcept {
+        return store_all(internal::Elements(stores, stores_length), stored);
     }
 
     // g1_heap_store_data
@@ -390,6 +486,14 @@ public:
     // g1_heap_forget
     [[nodiscard]] g1_code forget(std::uint32_t region) noexcept {
         return internal::code(g1_heap_forget(get(), region));
+    }
+
+    // g1_heap_verify
+    template <typename References>
+    g1_code verify(std::uint32_t first, std::uint32_t count, const References &references,
+                   std::uint32_t &differing, std::uint32_t &missing) noexcept {
+        return internal::code(g1_heap_verify(get(), first, count, internal::elements(references),
+                                             std::size(references), &differing, &missing));
     }
 };
 

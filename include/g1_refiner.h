@@ -1,10 +1,11 @@
 /*
- * Refinement threads for a heap whose stores race (g1.h), in C11 or C++17 with POSIX threads.
+ * Refinement threads for a concurrent heap (g1.h), in C11 or C++17 with POSIX threads.
  *
  * A struct g1_refiner has a bounded queue of logs, and one refinement thread for each sweeper of a
- * heap. Mutators hand on their full logs. The threads refine the cards of these, and sleep while
- * the queue is empty. At a pause they give their sweepers back. All of the code is in this file,
- * and is compiled into the runtime; no proof covers it.
+ * heap (a sweeper is the handle by which a thread refines). Mutators hand on their full logs. The
+ * threads refine the cards of these, and sleep while the queue is empty. At a pause they give their
+ * sweepers back. All of the code is in this file, and is compiled into the runtime; no proof covers
+ * it.
  *
  * A runtime opens a refiner, which is paused, beside its heap. From there on it goes round:
  *   1. g1_heap_resume opens the members' handles, and g1_refiner_resume takes the sweepers over.
@@ -15,11 +16,11 @@
  *
  * Besides what g1.h relies on, these calls rely on the following:
  *   - One thread at a time, the collector's, opens, resumes, pauses and closes a refiner. It
- *     resumes and closes one that is paused, and pauses one that is not.
+ *     resumes one that is paused, and pauses one that is not.
  *   - While a refiner is open, it and the array of its queue stay where they are, and only these
  *     calls use them. The heaps whose sweepers it takes have the same counts.
- *   - No thread is stopped or cancelled inside one of these calls (by a signal, for instance): it
- *     may have the refiner's lock.
+ *   - You stop and cancel no thread inside one of these calls (by a signal, for instance): it may
+ *     have the refiner's lock.
  *
  * Several threads may call g1_refiner_store and g1_refiner_hand_on at once, each with a racer of
  * its own. These calls take no memory. They wait for the refiner's lock alone, which no thread has
@@ -50,6 +51,15 @@ enum g1_queued {
     G1_DROP_QUEUED    /* they are dropped: the drain refines those of their cards that are dirty */
 };
 
+/* What a refiner did since it was opened, and what waits for it. */
+struct g1_refiner_counts {
+    uint64_t queued;  /* logs that were put into the queue */
+    uint64_t dropped; /* logs that were dropped: for want of room, or queued ones at a pause */
+    uint64_t refined; /* cards that were refined */
+    size_t length;    /* logs that are in the queue now */
+    size_t longest;   /* the most logs that were in the queue at once */
+};
+
 /* Private: a refinement thread. The lock of the refiner has all but its number. */
 struct g1_refiner_thread {
     struct g1_refiner *refiner;
@@ -60,7 +70,8 @@ struct g1_refiner_thread {
 
 /*
  * A refiner. A runtime may read the three counts while the refiner is paused and the mutators have
- * stopped. All else is private. The lock has what changes while the refiner is open.
+ * stopped, and at any time by g1_refiner_read. All else is private. The lock has what changes while
+ * the refiner is open.
  */
 struct g1_refiner {
     uint64_t queued;  /* logs that were put into the queue since the refiner was opened */
@@ -73,6 +84,7 @@ struct g1_refiner {
     size_t logs_length;
     size_t first;
     size_t length;
+    size_t longest;
     struct g1_refiner_thread threads[G1_SWEEPERS];
     size_t threads_length;
     size_t running; /* how many threads are */
@@ -148,18 +160,28 @@ static inline int g1_refiner_make_lock(struct g1_refiner *refiner) {
     return error;
 }
 
-/* Closes a paused refiner: ends its threads, and waits for their ends. It may be opened again. */
-static inline void g1_refiner_close(struct g1_refiner *refiner) {
+/*
+ * Closes a paused refiner: ends its threads, and waits for their ends. It may be opened again.
+ *
+ * Returns 0, or EBUSY if the refiner is not paused: nothing has changed, and its threads have their
+ * sweepers.
+ */
+static inline int g1_refiner_close(struct g1_refiner *refiner) {
     pthread_mutex_lock(&refiner->lock);
-    refiner->is_ending = 1;
+    int is_paused = refiner->is_paused;
+    refiner->is_ending = is_paused;
     pthread_cond_broadcast(&refiner->work);
     pthread_mutex_unlock(&refiner->lock);
+    if (!is_paused) {
+        return EBUSY;
+    }
     for (size_t i = 0; i < refiner->threads_length; i++) {
         pthread_join(refiner->threads[i].id, NULL);
     }
     pthread_cond_destroy(&refiner->stopped);
     pthread_cond_destroy(&refiner->work);
     pthread_mutex_destroy(&refiner->lock);
+    return 0;
 }
 
 /*
@@ -251,8 +273,8 @@ static inline uint32_t g1_refiner_pause(struct g1_refiner *refiner, enum g1_queu
  * If the queue is full or the refiner is paused, the log is dropped. Each of its cards stays dirty
  * until it is refined, by the first drain at the pause at the latest. A mutator cannot refine, as
  * its handle is a racer's. And it does not wait for room: the threads that would make room may have
- * stopped, for a pause that waits for this mutator. If many logs are dropped, lengthen the queue or
- * add sweepers.
+ * stopped, for a pause for which this mutator has to stop too. If many logs are dropped, lengthen
+ * the queue or add sweepers.
  *
  * Returns G1_DONE, or the code with which g1_race_take_log refused; then nothing has changed.
  */
@@ -268,10 +290,27 @@ static inline uint32_t g1_refiner_hand_on(struct g1_refiner *refiner, struct g1_
     } else {
         refiner->logs[(refiner->first + refiner->length++) % refiner->logs_length] = log;
         refiner->queued++;
+        if (refiner->length > refiner->longest) {
+            refiner->longest = refiner->length;
+        }
         pthread_cond_signal(&refiner->work);
     }
     pthread_mutex_unlock(&refiner->lock);
     return G1_DONE;
+}
+
+/*
+ * Sets `counts` to what the refiner did since it was opened, and to what waits for it now. Any
+ * thread may call this while the refiner is open. It waits for the lock alone.
+ */
+static inline void g1_refiner_read(struct g1_refiner *refiner, struct g1_refiner_counts *counts) {
+    pthread_mutex_lock(&refiner->lock);
+    counts->queued = refiner->queued;
+    counts->dropped = refiner->dropped;
+    counts->refined = refiner->refined;
+    counts->length = refiner->length;
+    counts->longest = refiner->longest;
+    pthread_mutex_unlock(&refiner->lock);
 }
 
 /*

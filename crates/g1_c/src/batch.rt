@@ -1,5 +1,6 @@
 //! Several stores by one call.
 ghost use Rattle.std.specs.Prelude.{◌≡◌, ◌⊎◌, ◌<◌, ◌≤◌, length, take, IfSome};
+ghost use Rattle.g1_handles.specs.Arrays.{IsWritten};
 ghost use Rattle.g1_handles.specs.Codes.{Between, IsRefusal};
 ghost use Rattle.g1_handles.specs.Batch.{Made, made_all, IsFaultAt};
 ghost use Rattle.g1_handles.specs.Refusals.{AreStoresRefused};
@@ -21,16 +22,7 @@ pub struct Batch {
     pub logged: u32,
 }
 
-/// Makes at most 256 stores in order, up to the first that names a slot or a target that the heap
-/// does not have. The first `batch.logged` elements of `cards` are the cards of the logged stores,
-/// in order. `cards` has room for at least as many cards as there are stores. Takes no memory.
-///
-/// Returns:
-///
-/// - 0: all stores were made.
-/// - 3: they stopped early. The first `batch.stored` of them were made.
-/// - The word of `NotOpen`, of `NoRoom` if `cards` is shorter than `stores`, or of `TooManyCards`
-///   ([`Refusal`]): nothing has changed, and both counts are 0.
+/// As in `g1.h`.
 #[unsafe(no_mangle)]
 pub extern "C" fn g1_store_all(
     alloc: Global,
@@ -51,7 +43,7 @@ pub extern "C" fn g1_store_all(
         (AreStoresRefused handle.old.value (length stores.now) (length cards.old)) }
     ensures refused { 3 < result → handle.new.value ≡ handle.old.value }
     ensures none { 3 < result → (batch.new.stored ≡ 0) × (batch.new.logged ≡ 0) }
-    ensures unwritten { 3 < result → cards.new ≡ cards.old }
+    ensures written { IsWritten cards.old batch.new.logged cards.new }
 {
     *batch = Batch {
         stored: 0,
@@ -60,10 +52,9 @@ pub extern "C" fn g1_store_all(
     match replace_with(handle, (alloc, stores, cards.len()), store_all_in) {
         Err(refusal) => refusal.word(),
         Ok(stored) => {
-            put(stored.cards.as_slice(), cards);
             *batch = Batch {
                 stored: stored.count as u32,
-                logged: stored.cards.len() as u32,
+                logged: put(stored.cards.as_slice(), cards),
             };
             if stored.is_whole { DONE } else { STOPPED }
         }

@@ -5,17 +5,12 @@ ghost use Rattle.g1_handles.specs.Codes.{layout_of, settings_of, IsRefusal};
 ghost use Rattle.g1_handles.specs.Refusals.{IsOpenRefused, SaysNotOpen};
 
 use core::mem::replace_with;
-use g1_handles::calls::{Counts, close_in, new_core, open_in};
+use g1_handles::calls::{Counts, close_in, open_core};
 use g1_handles::code::DONE;
 use g1_handles::handle::Handle;
 use std::alloc::Global;
 
-/// Opens a closed handle on a new heap: each slot is null, no card is pending, and nothing is
-/// recorded. From `hot` refinements on (0 to 255), a card is hot. The hot ring holds `ring` cards
-/// (1 to 4096).
-///
-/// Returns 0, or the word of `AlreadyOpen`, `BadLayout`, `BadSettings` or `NoMemory`: the handle is
-/// as it was.
+/// As in `g1.h`.
 #[unsafe(no_mangle)]
 pub extern "C" fn g1_open(
     alloc: Global,
@@ -32,18 +27,13 @@ pub extern "C" fn g1_open(
         (IsOpenRefused handle.old.value (layout_of counts.now) (settings_of hot ring)) }
     ensures refused { 0 < result → handle.new.value ≡ handle.old.value }
 {
-    let core = match new_core(alloc, counts, hot, ring) {
-        Ok(core) => core,
-        Err(refusal) => return refusal.word(),
-    };
-    match replace_with(handle, core, open_in) {
+    match open_core(alloc, handle, counts, hot, ring) {
         Ok(()) => DONE,
         Err(refusal) => refusal.word(),
     }
 }
 
-/// Closes a handle, and frees all its memory. The handle may be opened again. Returns 0, or the
-/// word of `NotOpen` if the handle was closed.
+/// As in `g1.h`.
 #[unsafe(no_mangle)]
 pub extern "C" fn g1_close(alloc: Global, handle: &mut Handle) -> u32
     ensures closed { handle.new.value ≡ None }

@@ -10,17 +10,9 @@ use g1_handles::clearing::clear_in;
 use g1_handles::handle::Handle;
 use std::alloc::Global;
 
-/// Empties the remembered set of a region, once nothing is pending and no slot outside the region
-/// refers into it. Takes no memory.
+/// As in `g1.h`.
 ///
-/// Returns:
-///
-/// - 0: `detail` is 0.
-/// - 19: `detail` is how many cards are pending.
-/// - 20: `detail` is the least slot outside the region that refers into it.
-/// - The word of `NotOpen` or `NoRegion`: `detail` is 0.
-///
-/// Unless it returns 0, the core is as it was, except for its count of reads.
+/// A refused clear may have raised the core's count of reads.
 #[unsafe(no_mangle)]
 pub extern "C" fn g1_clear(alloc: Global, handle: &mut Handle, region: u32, detail: &mut u32) -> u32
     ensures cleared { result ≡ 0 → Between handle.old.value handle.new.value (λ old new.

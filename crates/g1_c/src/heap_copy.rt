@@ -13,13 +13,7 @@ use g1_handles::heap_copy::copy_at;
 use g1_handles::heap_handle::HeapHandle;
 use std::alloc::Global;
 
-/// Copies the words of `count` slots, from the slot `from` on, into as many from the slot `to` on:
-/// references, null and data. The two ranges may overlap: each slot gets the word that its source
-/// had before the call. A slot's card becomes dirty if the reference crosses regions from there,
-/// and no log gets the card. Takes time in proportion to `count`, and no memory.
-///
-/// Returns 0, or the word of `NotOpen`, `NotPaused`, or `NoSlot` if one of the ranges leaves the
-/// heap: nothing has changed.
+/// As in `g1.h`.
 #[unsafe(no_mangle)]
 pub extern "C" fn g1_heap_copy(
     alloc: Global,

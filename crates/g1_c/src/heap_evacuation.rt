@@ -15,17 +15,7 @@ use g1_handles::heap_evacuation::{clear_at, forget_at, redirect_at, wipe_at};
 use g1_handles::heap_handle::HeapHandle;
 use std::alloc::Global;
 
-/// Empties the remembered set of a region, once nothing is pending and no slot outside the region
-/// refers into it. Takes no memory.
-///
-/// Returns:
-///
-/// - 0: `detail` is 0.
-/// - 19: `detail` is how many cards are pending.
-/// - 20: `detail` is the least slot outside the region that refers into it.
-/// - The word of `NotOpen`, `NotPaused` or `NoRegion`: `detail` is 0.
-///
-/// Unless it returns 0, nothing has changed.
+/// As in `g1.h`.
 #[unsafe(no_mangle)]
 pub extern "C" fn g1_heap_clear(
     alloc: Global,
@@ -60,12 +50,7 @@ pub extern "C" fn g1_heap_clear(
     }
 }
 
-/// Refines all that is pending, moves each reference from outside into the region `from` to the
-/// same offset of the region `to`, and empties the remembered set of `from`. `moved` is how many
-/// slots changed. Takes no memory.
-///
-/// Returns 0, or the word of `NotOpen`, `NotPaused`, `NoRegion` for either region, or `SameRegion`:
-/// nothing has changed, and `moved` is 0.
+/// As in `g1.h`.
 #[unsafe(no_mangle)]
 pub extern "C" fn g1_heap_redirect(
     alloc: Global,
@@ -98,9 +83,7 @@ pub extern "C" fn g1_heap_redirect(
     }
 }
 
-/// Stores null into each slot of a region, also where it has data. Takes no memory.
-///
-/// Returns 0, or the word of `NotOpen`, `NotPaused` or `NoRegion`: nothing has changed.
+/// As in `g1.h`.
 #[unsafe(no_mangle)]
 pub extern "C" fn g1_heap_wipe(alloc: Global, heap: &mut HeapHandle, region: u32) -> u32
     ensures wiped { result ≡ 0 → IsSameHeap heap.old.value heap.new.value (λ old new.
@@ -120,12 +103,7 @@ pub extern "C" fn g1_heap_wipe(alloc: Global, heap: &mut HeapHandle, region: u32
     }
 }
 
-/// Removes a region's cards from all remembered sets. No slot of the region may refer out of it, as
-/// after a wipe. Later drains then return no card of the region until one is stored to. Takes no
-/// memory.
-///
-/// Returns 0, or the word of `NotOpen`, `NotPaused`, `NoRegion`, or `StillReferenced` if a slot of
-/// the region refers out of it: nothing has changed.
+/// As in `g1.h`.
 #[unsafe(no_mangle)]
 pub extern "C" fn g1_heap_forget(alloc: Global, heap: &mut HeapHandle, region: u32) -> u32
     ensures forgotten { result ≡ 0 → IsSameHeap heap.old.value heap.new.value (λ old new.

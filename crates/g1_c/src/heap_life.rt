@@ -18,11 +18,7 @@ use g1_handles::racer_handle::RacerHandle;
 use g1_handles::sweeper_handle::SweeperHandle;
 use std::alloc::Global;
 
-/// Opens a heap at a pause in a closed handle, for this many racers and sweepers, 1 to 64 of each.
-/// Its slots are all null and its cards are all clean. Takes all memory that the heap ever takes.
-///
-/// Returns 0, or the word of `BadMembers`, `AlreadyOpen`, `BadLayout` or `NoMemory`: the handle has
-/// not changed.
+/// As in `g1.h`.
 #[unsafe(no_mangle)]
 pub extern "C" fn g1_heap_open(
     alloc: Global,
@@ -44,12 +40,7 @@ pub extern "C" fn g1_heap_open(
     }
 }
 
-/// Lets a heap go on after a pause, and puts its racers and its sweepers into handles that are
-/// closed. The race begins with the table that the pause left, and each racer has its log. Takes no
-/// memory.
-///
-/// Returns 0, or the word of `NotOpen`, `NotPaused`, `BadMembers` if there are not as many handles
-/// as the heap was opened for, or `AlreadyOpen` for a member's handle: nothing has changed.
+/// As in `g1.h`.
 #[unsafe(no_mangle)]
 pub extern "C" fn g1_heap_resume(
     alloc: Global,
@@ -78,17 +69,11 @@ pub extern "C" fn g1_heap_resume(
     }
 }
 
-/// Brings a heap to a pause. All its racers and sweepers must be handed in, and their handles are
-/// closed. Takes no memory.
-///
-/// Returns 0, or the word of `NotOpen`, also for a member's handle, `NotRacing`, `BadMembers` if
-/// there are not as many handles as the heap was opened for, or `OtherRace` for a member of another
-/// heap or one that is given twice: nothing has changed.
+/// As in `g1.h`.
 ///
 /// Members of other heaps are refused before anything changes, by counts of each race's owners. No
-/// proof knows what these counts say, so the condition `one` takes their place: members that
-/// are as many as the heap's are of its race. Nothing relies on the condition before the counts are
-/// taken.
+/// proof knows what these counts say, so the condition `one` takes their place: members that are as
+/// many as the heap's are of its race. Nothing relies on the condition before the counts are taken.
 #[unsafe(no_mangle)]
 pub extern "C" fn g1_heap_pause(
     alloc: Global,
@@ -121,10 +106,7 @@ pub extern "C" fn g1_heap_pause(
     }
 }
 
-/// Closes a heap at a pause, and frees all that it has.
-///
-/// Returns 0, or the word of `NotOpen`, or of `NotPaused` if its members are out: the handle has
-/// not changed.
+/// As in `g1.h`.
 #[unsafe(no_mangle)]
 pub extern "C" fn g1_heap_close(alloc: Global, heap: &mut HeapHandle) -> u32
     ensures closed { result ≡ 0 → heap.new.value ≡ None }

@@ -1,27 +1,26 @@
 //! Queries on a heap at a pause: what a slot refers to, whether a card is pending, how much is
 //! pending and recorded, and what is recorded for a region.
-ghost use Rattle.std.specs.Prelude.{◌≡◌, ◌≢◌, ◌⊎◌, ◌<◌, ◌≤◌, ◌==◌, length, take};
+ghost use Rattle.std.specs.Prelude.{◌≡◌, ◌≢◌, ◌<◌, ◌≤◌, ◌==◌, take};
+ghost use Rattle.g1_race.specs.Over.{halted};
+ghost use Rattle.g1_race.specs.Reading.{IsNextMember};
 ghost use Rattle.g1_handles.specs.AtPause.{SlotRefers, TellsPending, TellsStatus, TellsMembers};
 ghost use Rattle.g1_handles.specs.AtPause.{LacksSlot, LacksCard, LacksRegion};
+ghost use Rattle.g1_handles.specs.Arrays.{IsWritten};
 ghost use Rattle.g1_handles.specs.Codes.{IsRefusal, reference_of};
 ghost use Rattle.g1_handles.specs.HeapCalls.{IsHeapRefused};
 ghost use Rattle.g1_handles.specs.Life.{IsSameHeap};
-ghost use Rattle.g1_handles.specs.Queries.{Overflows};
+ghost use Rattle.g1_handles.specs.Sets.{HasFirst};
 
 use crate::queries::Totals;
 use core::mem::replace_with;
 use g1_handles::at_pause::{PausedHeap, at_pause};
 use g1_handles::code::{DONE, NULL, Refusal};
 use g1_handles::heap_handle::HeapHandle;
-use g1_handles::heap_queries::{is_pending_at, members_at, status_at, target_at};
-use g1_handles::list::put;
-use g1_handles::members::Listed;
+use g1_handles::heap_queries::{is_pending_at, next_member_at, status_at, target_at};
+use g1_handles::heap_sets::{Told, Which, set_of_heap};
 use std::alloc::Global;
 
-/// Sets `target` to what a slot refers to: the number of a slot, or the word for null. Reads one
-/// slot.
-///
-/// Returns 0, or the word of `NotOpen`, `NotPaused` or `NoSlot`: `target` is the word for null.
+/// As in `g1.h`.
 #[unsafe(no_mangle)]
 pub extern "C" fn g1_heap_target(
     alloc: Global,
@@ -52,9 +51,7 @@ pub extern "C" fn g1_heap_target(
     }
 }
 
-/// Sets `pending` to 1 if a card is pending, and to 0 if it is not. Reads one word.
-///
-/// Returns 0, or the word of `NotOpen`, `NotPaused` or `NoCard`: `pending` is 0.
+/// As in `g1.h`.
 #[unsafe(no_mangle)]
 pub extern "C" fn g1_heap_is_pending(
     alloc: Global,
@@ -86,9 +83,7 @@ pub extern "C" fn g1_heap_is_pending(
     }
 }
 
-/// Counts the pending cards and the recorded pairs.
-///
-/// Returns 0, or the word of `NotOpen` or `NotPaused`: both totals are 0.
+/// As in `g1.h`.
 #[unsafe(no_mangle)]
 pub extern "C" fn g1_heap_status(alloc: Global, heap: &mut HeapHandle, totals: &mut Totals) -> u32
     ensures status { result ≡ 0 → IsSameHeap heap.old.value heap.new.value (λ old new.
@@ -122,16 +117,7 @@ pub extern "C" fn g1_heap_status(alloc: Global, heap: &mut HeapHandle, totals: &
     }
 }
 
-/// Returns the remembered set of a region as it is recorded, and changes nothing. The first `count`
-/// elements of `cards` are the cards of the set, ascending. Pending cards may be missing from it.
-/// Takes memory for the list, and frees it.
-///
-/// Returns:
-///
-/// - 0.
-/// - 16: the array is too small, and `count` is how many cards there are. The array is not written.
-/// - The word of `NotOpen`, `NotPaused`, `NoRegion` or `NoMemory`: `count` is 0, and the array is
-///   not written.
+/// As in `g1.h`.
 #[unsafe(no_mangle)]
 pub extern "C" fn g1_heap_members(
     alloc: Global,
@@ -143,32 +129,58 @@ pub extern "C" fn g1_heap_members(
     ensures members { result ≡ 0 → IsSameHeap heap.old.value heap.new.value (λ old new.
         TellsMembers old region (take count.new cards.new)) }
     ensures room { result ≡ 16 → IsSameHeap heap.old.value heap.new.value (λ old new.
-        Overflows (TellsMembers old region) (length cards.old) count.new) }
+        HasFirst (TellsMembers old region) cards.new count.new) }
     ensures why { 0 < result → result ≢ 16 → IsRefusal result
-        (IsHeapRefused heap.old.value (λ old r.
-        LacksRegion old region r ⊎ (r ≡ Refusal.NoMemory))) }
+        (IsHeapRefused heap.old.value (λ old. LacksRegion old region)) }
     ensures none { result ≢ 0 → result ≢ 16 → count.new ≡ 0 }
-    ensures unwritten { 0 < result → cards.new ≡ cards.old }
+    ensures written { result ≡ 0 → IsWritten cards.old count.new cards.new }
+    ensures unwritten { 0 < result → result ≢ 16 → cards.new ≡ cards.old }
     ensures same { heap.new.value ≡ heap.old.value }
 {
     *count = 0;
-    let room = cards.len();
+    match set_of_heap(alloc, heap, Which::Recorded, region, cards) {
+        Err(refusal) => refusal.word(),
+        Ok(Told::First(size)) => {
+            *count = size;
+            Refusal::NoRoom.word()
+        }
+        Ok(Told::All(size)) => {
+            *count = size;
+            DONE
+        }
+    }
+}
+
+/// As in `g1.h`.
+#[unsafe(no_mangle)]
+pub extern "C" fn g1_heap_next_member(
+    alloc: Global,
+    heap: &mut HeapHandle,
+    region: u32,
+    from: u32,
+    card: &mut u32,
+) -> u32
+    ensures next { result ≡ 0 → IsSameHeap heap.old.value heap.new.value (λ old new.
+        IsNextMember (halted old) region from (reference_of card.new)) }
+    ensures null { 0 < result → card.new ≡ 4294967295 }
+    ensures why { 0 < result → IsRefusal result
+        (IsHeapRefused heap.old.value (λ old. LacksRegion old region)) }
+    ensures same { heap.new.value ≡ heap.old.value }
+{
     match replace_with(
         heap,
         (
             alloc,
-            |heap: &mut PausedHeap| members_at(heap, alloc, region, room),
+            |heap: &mut PausedHeap| next_member_at(heap, region, from),
         ),
         at_pause,
     ) {
-        Err(refusal) => refusal.word(),
-        Ok(Listed::NoRoom(needed)) => {
-            *count = needed;
-            Refusal::NoRoom.word()
+        Err(refusal) => {
+            *card = NULL;
+            refusal.word()
         }
-        Ok(Listed::Members(members)) => {
-            put(members.as_slice(), cards);
-            *count = members.len() as u32;
+        Ok(word) => {
+            *card = word;
             DONE
         }
     }

@@ -15,11 +15,7 @@ use g1_handles::heap_handle::HeapHandle;
 use g1_handles::heap_stores::{store_all_at, store_at};
 use std::alloc::Global;
 
-/// Stores a reference, or null, into a slot, for the collector. No log gets the card. `kind` is the
-/// kind of the store: 0 null, 1 same region, 2 dirty, 3 logged. Takes no memory and constant time.
-///
-/// Returns 0, or the word of `NotOpen`, `NotPaused`, or `NoSlot` for the slot or the target:
-/// nothing has changed, and `kind` is 0.
+/// As in `g1.h`.
 #[unsafe(no_mangle)]
 pub extern "C" fn g1_heap_store(
     alloc: Global,
@@ -51,14 +47,7 @@ pub extern "C" fn g1_heap_store(
     }
 }
 
-/// Makes stores in order, as [`g1_heap_store`] does, up to the first that names a slot or a target
-/// that the heap does not have. `stored` is how many were made. Takes no memory.
-///
-/// Returns:
-///
-/// - 0: all stores were made.
-/// - 3: they stopped early.
-/// - The word of `NotOpen` or `NotPaused`: nothing has changed, and `stored` is 0.
+/// As in `g1.h`.
 #[unsafe(no_mangle)]
 pub extern "C" fn g1_heap_store_all(
     alloc: Global,

@@ -15,10 +15,7 @@ use g1_handles::heap_words::{store_data_at, word_at, words_in};
 use std::alloc::Global;
 use std::ptr::null;
 
-/// Sets `words` to the address of the words of a heap, at a pause or not: the word of each slot, in
-/// order. It stays the same for as long as the heap lasts.
-///
-/// Returns 0, or the word of `NotOpen`: `words` is null.
+/// As in `g1.h`.
 #[unsafe(no_mangle)]
 pub extern "C" fn g1_heap_words(alloc: Global, heap: &mut HeapHandle, words: &mut *const u64) -> u32
     ensures words { result ≡ 0 → OfHeap heap.old.value (λ race. words.new ≡ race_words race) }
@@ -38,10 +35,7 @@ pub extern "C" fn g1_heap_words(alloc: Global, heap: &mut HeapHandle, words: &mu
     }
 }
 
-/// Sets `word` to a slot's word: 0 for null, the number of the slot that it refers to plus 1, or
-/// data from 2^32 on. Reads that word.
-///
-/// Returns 0, or the word of `NotOpen`, `NotPaused` or `NoSlot`: `word` is 0.
+/// As in `g1.h`.
 #[unsafe(no_mangle)]
 pub extern "C" fn g1_heap_word(
     alloc: Global,
@@ -72,10 +66,7 @@ pub extern "C" fn g1_heap_word(
     }
 }
 
-/// Stores data into a slot: a word from 2^32 on, which refers to nothing. Takes no memory.
-///
-/// Returns 0, or the word of `NotOpen`, `NotPaused`, `NoSlot`, or `BadWord` for a lower word:
-/// nothing has changed.
+/// As in `g1.h`.
 #[unsafe(no_mangle)]
 pub extern "C" fn g1_heap_store_data(
     alloc: Global,

@@ -1,5 +1,5 @@
 //! The machinery of a heap as a static library: calls on a handle that C keeps, with words and
-//! arrays of the caller's (`include/g1.h` describes each call to a C programmer).
+//! arrays of the caller's. `include/g1.h` describes each call; here its clauses say it exactly.
 //!
 //! Here is what C sees and nothing else: the exported functions, each with what it promises, and
 //! the structs that they fill. The handles and the work of each call are in the crate `g1_handles`,
@@ -12,11 +12,13 @@
 //! - [`calls`] opens and closes a handle.
 //! - [`store`], [`batch`], [`refinement`] and [`pause`] are the path of a card.
 //! - [`clearing`] and [`redirection`] may follow an evacuation.
-//! - [`queries`] and [`members`] read what is known.
+//! - [`copy`] copies a range of slots. [`queries`] and [`members`] read what is known, and
+//!   [`verify`] and [`heap_verify`] check it for a debug build.
 //! - [`heap_life`] opens a heap whose stores race, lets it go on, pauses it, and closes it.
 //! - [`race_store`], [`race_log`] and [`race_refine`] are the path of a card in a race.
 //!   [`race_exchange`] has the stores that tell what a slot referred to or depend on it,
-//!   [`race_batch`] several stores by one call, and [`race_data`] a store of data.
+//!   [`race_batch`] several stores by one call, and [`race_data`] a store of data,
+//!   and [`race_words`] the stores of any word that return or compare the one before.
 //! - [`heap_queries`], [`heap_drains`], [`heap_stores`], [`heap_copy`], [`heap_evacuation`] and
 //!   [`heap_words`] are the collector's calls on such a heap, at a pause.
 //!
@@ -31,12 +33,14 @@
 pub mod batch;
 pub mod calls;
 pub mod clearing;
+pub mod copy;
 pub mod heap_copy;
 pub mod heap_drains;
 pub mod heap_evacuation;
 pub mod heap_life;
 pub mod heap_queries;
 pub mod heap_stores;
+pub mod heap_verify;
 pub mod heap_words;
 pub mod members;
 pub mod pause;
@@ -47,6 +51,8 @@ pub mod race_exchange;
 pub mod race_log;
 pub mod race_refine;
 pub mod race_store;
+pub mod race_words;
 pub mod redirection;
 pub mod refinement;
 pub mod store;
+pub mod verify;

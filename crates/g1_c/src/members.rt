@@ -1,5 +1,6 @@
 //! The remembered set of a region, as it is recorded.
 ghost use Rattle.std.specs.Prelude.{◌≡◌, ◌≢◌, ◌<◌, length, take};
+ghost use Rattle.g1_handles.specs.Arrays.{IsWritten};
 ghost use Rattle.g1_handles.specs.Codes.{OfOpen, IsRefusal};
 ghost use Rattle.g1_handles.specs.Queries.{HasMembers, Overflows};
 ghost use Rattle.g1_handles.specs.Refusals.{AreMembersRefused};
@@ -11,15 +12,7 @@ use g1_handles::list::put;
 use g1_handles::members::{Listed, members_in};
 use std::alloc::Global;
 
-/// Returns the remembered set of a region as it is recorded, and changes nothing. The first `count`
-/// elements of `cards` are the cards of the set, ascending. Pending cards may be missing from it.
-/// Takes memory for the list, and frees it.
-///
-/// Returns:
-///
-/// - 0.
-/// - 16: the array is too small, and `count` is how many cards there are. The array is not written.
-/// - The word of `NotOpen`, `NoRegion` or `NoMemory`: `count` is 0, and the array is not written.
+/// As in `g1.h`.
 #[unsafe(no_mangle)]
 pub extern "C" fn g1_members(
     alloc: Global,
@@ -35,6 +28,7 @@ pub extern "C" fn g1_members(
     ensures why { 0 < result → result ≢ 16 →
         IsRefusal result (AreMembersRefused handle.old.value region) }
     ensures none { result ≢ 0 → result ≢ 16 → count.new ≡ 0 }
+    ensures written { result ≡ 0 → IsWritten cards.old count.new cards.new }
     ensures unwritten { 0 < result → cards.new ≡ cards.old }
     ensures same { handle.new.value ≡ handle.old.value }
 {
@@ -46,8 +40,7 @@ pub extern "C" fn g1_members(
             Refusal::NoRoom.word()
         }
         Ok(Listed::Members(members)) => {
-            put(members.as_slice(), cards);
-            *count = members.len() as u32;
+            *count = put(members.as_slice(), cards);
             DONE
         }
     }

@@ -1,5 +1,6 @@
 //! The pause.
 ghost use Rattle.std.specs.Prelude.{◌≡◌, ◌<◌, length, take};
+ghost use Rattle.g1_handles.specs.Arrays.{IsWritten};
 ghost use Rattle.g1_handles.specs.Codes.{Between, IsRefusal};
 ghost use Rattle.g1_handles.specs.Refusals.{IsDrainRefused};
 ghost use Rattle.g1_handles.specs.Replies.{DrainsTo};
@@ -12,17 +13,7 @@ use g1_handles::list::put;
 use g1_handles::pause::drain_in;
 use std::alloc::Global;
 
-/// Refines all that is pending, and returns the remembered set of a region. The first `count`
-/// elements of `cards` are its cards, ascending. The first `refined_count` elements of `refined`
-/// are the cards that were refined, in order. Each array has room for every card of the heap.
-///
-/// Returns:
-///
-/// - 0.
-/// - 1: memory was refused midway. Just the cards in `refined` were refined, the others are pending
-///   as before, and `count` is 0.
-/// - The word of `NotOpen`, `NoRegion`, `NoRoom` or `NoMemory`: nothing has changed, and both
-///   counts are 0.
+/// As in `g1.h`.
 #[unsafe(no_mangle)]
 pub extern "C" fn g1_drain(
     alloc: Global,
@@ -44,7 +35,8 @@ pub extern "C" fn g1_drain(
         (IsDrainRefused handle.old.value region (length cards.old) (length refined.old)) }
     ensures empty { 1 < result → refined_count.new ≡ 0 }
     ensures refused { 1 < result → handle.new.value ≡ handle.old.value }
-    ensures unwritten { 1 < result → (cards.new ≡ cards.old) × (refined.new ≡ refined.old) }
+    ensures cards { IsWritten cards.old count.new cards.new }
+    ensures refined { IsWritten refined.old refined_count.new refined.new }
 {
     *count = 0;
     *refined_count = 0;
@@ -55,8 +47,7 @@ pub extern "C" fn g1_drain(
     ) {
         Err(refusal) => refusal.word(),
         Ok(Drained::Short { refined: list }) => {
-            put(list.as_slice(), refined);
-            *refined_count = list.len() as u32;
+            *refined_count = put(list.as_slice(), refined);
             SHORT
         }
         Ok(
@@ -65,10 +56,8 @@ pub extern "C" fn g1_drain(
                 refined: list,
             },
         ) => {
-            put(members.as_slice(), cards);
-            *count = members.len() as u32;
-            put(list.as_slice(), refined);
-            *refined_count = list.len() as u32;
+            *count = put(members.as_slice(), cards);
+            *refined_count = put(list.as_slice(), refined);
             DONE
         }
     }

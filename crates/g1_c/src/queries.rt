@@ -21,11 +21,7 @@ pub struct Totals {
     pub recorded: u32,
 }
 
-/// Sets `target` to what a slot refers to: the number of a slot, or the word for null. Reads one
-/// slot.
-///
-/// Returns 0, or the word of `NotOpen` or `NoSlot`: nothing has changed, and `target` is the word
-/// for null.
+/// As in `g1.h`.
 #[unsafe(no_mangle)]
 pub extern "C" fn g1_target(alloc: Global, handle: &mut Handle, slot: u32, target: &mut u32) -> u32
     ensures target { result ≡ 0 → Between handle.old.value handle.new.value (λ old new.
@@ -46,9 +42,7 @@ pub extern "C" fn g1_target(alloc: Global, handle: &mut Handle, slot: u32, targe
     }
 }
 
-/// Sets `pending` to 1 if a card is pending, and to 0 if it is not. Changes nothing.
-///
-/// Returns 0, or the word of `NotOpen` or `NoCard`: `pending` is 0.
+/// As in `g1.h`.
 #[unsafe(no_mangle)]
 pub extern "C" fn g1_is_pending(
     alloc: Global,
@@ -77,9 +71,7 @@ pub extern "C" fn g1_is_pending(
     }
 }
 
-/// Sets `totals` to how many cards are pending and how many pairs are recorded. Changes nothing.
-///
-/// Returns 0, or the word of `NotOpen`: both totals are 0.
+/// As in `g1.h`.
 #[unsafe(no_mangle)]
 pub extern "C" fn g1_status(alloc: Global, handle: &mut Handle, totals: &mut Totals) -> u32
     ensures totals { result ≡ 0 → OfOpen handle.old.value (λ machine.

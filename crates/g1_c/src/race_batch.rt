@@ -15,18 +15,7 @@ use g1_handles::race_batch::{BatchEnd, store_all_in};
 use g1_handles::racer_handle::RacerHandle;
 use std::alloc::Global;
 
-/// A racer makes stores in order, each as [`g1_race_store`] does, up to the first that it cannot
-/// make. `stored` is how many were made. Takes no memory and never waits.
-///
-/// Returns:
-///
-/// - 0: all stores were made.
-/// - 3: the store at index `stored` names a slot or a target that the heap does not have.
-/// - 4: the racer's log is full before the store at index `stored`. Once the log is taken, the
-///   stores from there on can be made.
-/// - The word of `NotOpen`: nothing has changed, and `stored` is 0.
-///
-/// [`g1_race_store`]: crate::race_store::g1_race_store
+/// As in `g1.h`.
 #[unsafe(no_mangle)]
 pub extern "C" fn g1_race_store_all(
     alloc: Global,

@@ -12,12 +12,7 @@ use g1_handles::race_data::store_data_in;
 use g1_handles::racer_handle::RacerHandle;
 use std::alloc::Global;
 
-/// A racer stores data into a slot, a word from 2^32 on, which refers to nothing, concurrently with
-/// whatever the other members of the race do. `old` is the slot's word before. Takes no memory,
-/// marks and logs nothing, and never waits.
-///
-/// Returns 0, or the word of `BadWord`, `NoSlot` or `NotOpen`: nothing has changed, and `old` is
-/// 0.
+/// As in `g1.h`.
 #[unsafe(no_mangle)]
 pub extern "C" fn g1_race_store_data(
     alloc: Global,

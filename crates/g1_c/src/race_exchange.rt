@@ -13,14 +13,7 @@ use g1_handles::race_exchange::{Exchange, compare_exchange_in, swap_in};
 use g1_handles::racer_handle::RacerHandle;
 use std::alloc::Global;
 
-/// A racer stores a reference, or null, into a slot, as [`g1_race_store`] does. `old` is what the
-/// slot referred to before: the number of a slot, or the word for null also where it had data. One
-/// atomic step reads the one and writes the other. Takes no memory and never waits.
-///
-/// Returns 0, or the word of `LogFull`, of `NoSlot` for the slot or the target, or of `NotOpen`:
-/// nothing has changed, `old` is the word for null, and `kind` is 0.
-///
-/// [`g1_race_store`]: crate::race_store::g1_race_store
+/// As in `g1.h`.
 #[unsafe(no_mangle)]
 pub extern "C" fn g1_race_swap(
     alloc: Global,
@@ -54,19 +47,7 @@ pub extern "C" fn g1_race_swap(
     }
 }
 
-/// A racer stores a reference, or null, into a slot if the slot has what is expected, a reference
-/// or null; one atomic step compares and writes. Takes no memory and never waits.
-///
-/// Returns:
-///
-/// - 0: the target is stored, as [`g1_race_store`] does. `found` is what was expected, and `kind`
-///   is the kind of the store.
-/// - 2: the slot has something else, and nothing was stored. `found` is what it refers to, the word
-///   for null also where it has data, and `kind` is 0.
-/// - The word of `LogFull`, of `NoSlot` for the slot, what is expected or the target, or of
-///   `NotOpen`: nothing has changed, `found` is the word for null, and `kind` is 0.
-///
-/// [`g1_race_store`]: crate::race_store::g1_race_store
+/// As in `g1.h`.
 #[unsafe(no_mangle)]
 pub extern "C" fn g1_race_compare_exchange(
     alloc: Global,

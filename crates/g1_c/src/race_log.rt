@@ -1,6 +1,7 @@
 //! The log of a racer.
 ghost use Rattle.std.specs.Prelude.{◌≡◌, ◌⊎◌, ◌<◌, ◌≤◌, length, take};
 ghost use Rattle.g1_handles.specs.Racing.{OfRacer, IfRacer, TakesLog};
+ghost use Rattle.g1_handles.specs.Arrays.{IsWritten};
 ghost use Rattle.g1_handles.specs.Codes.{IsRefusal};
 ghost use Rattle.g1_handles.specs.Refusals.{SaysNoMember};
 
@@ -11,11 +12,7 @@ use g1_handles::race_log::{LOG, take_in};
 use g1_handles::racer_handle::RacerHandle;
 use std::alloc::Global;
 
-/// Takes the cards of a racer's log, and leaves the log empty. The first `count` elements of
-/// `cards` are these cards, oldest first. `cards` has room for 256. The marks stay: each of the
-/// cards is dirty until a sweeper of the race refines it, or a drain after the race.
-///
-/// Returns 0, or the word of `NoRoom` or `NotOpen`: `count` is 0, and the log is as it was.
+/// As in `g1.h`.
 #[unsafe(no_mangle)]
 pub extern "C" fn g1_race_take_log(
     alloc: Global,
@@ -30,7 +27,7 @@ pub extern "C" fn g1_race_take_log(
     ensures why { 0 < result → IsRefusal result (λ refusal. SaysNoMember racer.old.value refusal
         ⊎ ((refusal ≡ Refusal.NoRoom) × (length cards.old < 256))) }
     ensures refused { 0 < result → racer.new.value ≡ racer.old.value }
-    ensures unwritten { 0 < result → cards.new ≡ cards.old }
+    ensures written { IsWritten cards.old count.new cards.new }
 {
     *count = 0;
     if cards.len() < LOG {
@@ -39,8 +36,7 @@ pub extern "C" fn g1_race_take_log(
     match replace_with(racer, alloc, take_in) {
         Err(word) => word,
         Ok(log) => {
-            put(log.as_slice(), cards);
-            *count = log.len() as u32;
+            *count = put(log.as_slice(), cards);
             DONE
         }
     }

@@ -11,11 +11,7 @@ use g1_handles::race_refine::refine_in;
 use g1_handles::sweeper_handle::SweeperHandle;
 use std::alloc::Global;
 
-/// A sweeper refines a card, concurrently with whatever the other members of the race do. It makes
-/// the card clean, and then reads its slots and records the region of each reference into another
-/// region, whether the card was dirty or not. Takes no memory and never waits.
-///
-/// Returns 0, or the word of `NoCard` or `NotOpen`: nothing has changed.
+/// As in `g1.h`.
 #[unsafe(no_mangle)]
 pub extern "C" fn g1_race_refine(alloc: Global, sweeper: &mut SweeperHandle, card: u32) -> u32
     ensures refined { result ≡ 0 → OfSweeper sweeper.old.value (λ a.

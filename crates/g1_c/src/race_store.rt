@@ -12,13 +12,7 @@ use g1_handles::race_store::store_in;
 use g1_handles::racer_handle::RacerHandle;
 use std::alloc::Global;
 
-/// A racer stores a reference, or null, into a slot, concurrently with whatever the other members
-/// of the race do. `kind` is the kind of the store: 0 null, 1 same region, 2 dirty, 3 logged. If it
-/// is 3, the slot's card is last in the racer's log, which has room for 256 cards. Takes no memory
-/// and never waits.
-///
-/// Returns 0, or the word of `LogFull`, of `NoSlot` for the slot or the target, or of `NotOpen`:
-/// nothing has changed, and `kind` is 0.
+/// As in `g1.h`.
 #[unsafe(no_mangle)]
 pub extern "C" fn g1_race_store(
     alloc: Global,

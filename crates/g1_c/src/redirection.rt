@@ -1,5 +1,6 @@
 //! The redirect.
 ghost use Rattle.std.specs.Prelude.{◌≡◌, ◌<◌, length, take};
+ghost use Rattle.g1_handles.specs.Arrays.{IsWritten};
 ghost use Rattle.g1_handles.specs.Codes.{Between, IsRefusal};
 ghost use Rattle.g1_handles.specs.Refusals.{IsRedirectRefused};
 ghost use Rattle.g1_handles.specs.Replies.{RedirectsTo};
@@ -12,18 +13,7 @@ use g1_handles::list::put;
 use g1_handles::redirection::redirect_in;
 use std::alloc::Global;
 
-/// Refines all that is pending, moves each reference from outside into the region `from` to the
-/// same offset of the region `to`, and empties the remembered set of `from`. `moved` is how many
-/// slots changed. The first `refined_count` elements of `refined` are the cards that were refined,
-/// in order. `refined` has room for every card of the heap.
-///
-/// Returns:
-///
-/// - 0.
-/// - 1: memory was refused midway. Just the cards in `refined` were refined, no slot has changed,
-///   and `moved` is 0.
-/// - The word of `NotOpen`, `NoRegion` for either region, `SameRegion`, `NoRoom` or `NoMemory`:
-///   nothing has changed, and both counts are 0.
+/// As in `g1.h`.
 #[unsafe(no_mangle)]
 pub extern "C" fn g1_redirect(
     alloc: Global,
@@ -44,15 +34,14 @@ pub extern "C" fn g1_redirect(
         IsRefusal result (IsRedirectRefused handle.old.value from to (length refined.old)) }
     ensures empty { 1 < result → refined_count.new ≡ 0 }
     ensures refused { 1 < result → handle.new.value ≡ handle.old.value }
-    ensures unwritten { 1 < result → refined.new ≡ refined.old }
+    ensures written { IsWritten refined.old refined_count.new refined.new }
 {
     *moved = 0;
     *refined_count = 0;
     match replace_with(handle, (alloc, from, to, refined.len()), redirect_in) {
         Err(refusal) => refusal.word(),
         Ok(Redirected::Short { refined: list }) => {
-            put(list.as_slice(), refined);
-            *refined_count = list.len() as u32;
+            *refined_count = put(list.as_slice(), refined);
             SHORT
         }
         Ok(
@@ -62,8 +51,7 @@ pub extern "C" fn g1_redirect(
             },
         ) => {
             *moved = slots;
-            put(list.as_slice(), refined);
-            *refined_count = list.len() as u32;
+            *refined_count = put(list.as_slice(), refined);
             DONE
         }
     }

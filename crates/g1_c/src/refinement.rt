@@ -1,5 +1,6 @@
 //! Refinement.
 ghost use Rattle.std.specs.Prelude.{◌≡◌, ◌<◌, ◌≤◌, length, take};
+ghost use Rattle.g1_handles.specs.Arrays.{IsWritten};
 ghost use Rattle.g1_handles.specs.Codes.{Between, IsRefusal};
 ghost use Rattle.g1_handles.specs.Refusals.{IsRefinementRefused};
 ghost use Rattle.g1_handles.specs.Replies.{RefinesTo, reply_of};
@@ -22,17 +23,7 @@ pub struct Tally {
     pub skipped: u32,
 }
 
-/// Refines the cards of a log, at most 256, in order. The first `tally.refined` elements of
-/// `refined` are the cards that were refined, in order. `refined` has room for at least as many
-/// cards as are given.
-///
-/// Returns:
-///
-/// - 0.
-/// - 1: memory was refused midway. The cards before some card had their turns, and that card and
-///   the later ones had none.
-/// - The word of `NotOpen`, `NoRoom`, `TooManyCards`, `NoCard` or `NoMemory`: nothing has changed,
-///   and the tally is 0.
+/// As in `g1.h`.
 #[unsafe(no_mangle)]
 pub extern "C" fn g1_refine(
     alloc: Global,
@@ -49,7 +40,7 @@ pub extern "C" fn g1_refine(
     ensures refused { 1 < result → handle.new.value ≡ handle.old.value }
     ensures none { 1 < result → (tally.new.refined ≡ 0) × (tally.new.hot ≡ 0)
         × (tally.new.skipped ≡ 0) }
-    ensures unwritten { 1 < result → refined.new ≡ refined.old }
+    ensures written { IsWritten refined.old tally.new.refined refined.new }
 {
     *tally = Tally {
         refined: 0,
@@ -59,9 +50,8 @@ pub extern "C" fn g1_refine(
     match replace_with(handle, (alloc, cards, refined.len()), refine_in) {
         Err(refusal) => refusal.word(),
         Ok(reply) => {
-            put(reply.refined.as_slice(), refined);
             *tally = Tally {
-                refined: reply.refined.len() as u32,
+                refined: put(reply.refined.as_slice(), refined),
                 hot: reply.hot,
                 skipped: reply.skipped,
             };

@@ -12,12 +12,7 @@ use g1_handles::handle::Handle;
 use g1_handles::store::store_in;
 use std::alloc::Global;
 
-/// Stores a reference, or null, into a slot. `kind` is the kind of the store: 0 null, 1 same
-/// region, 2 dirty, 3 logged. If it is 3, the caller logs the slot's card. Takes no memory and
-/// constant time.
-///
-/// Returns 0, or the word of `NotOpen`, or of `NoSlot` for the slot or the target: nothing has
-/// changed, and `kind` is 0.
+/// As in `g1.h`.
 #[unsafe(no_mangle)]
 pub extern "C" fn g1_store(
     alloc: Global,

@@ -8,8 +8,10 @@ use Rattle.g1_layout.specs.declared.kind.Kind.TheVariants as kinds
 use Rattle.g1_layout.specs.Shape.{slot_count, card_count, region_of}
 use Rattle.g1_core.specs.Table.{Table, Crosses, target_of, AreMembers}
 use Rattle.g1_core.specs.Run.{IsStep, drained, kind_of, stored}
+use Rattle.g1_core.specs.Copying.{copied}
 use Rattle.g1_core.specs.Calls.{target_entry, pending_entry, members_entry, status_entry}
-use Rattle.g1_core.specs.Calls.{store_entry, clear_entry}
+use Rattle.g1_core.specs.Calls.{store_entry, clear_entry, redirect_entry}
+use Rattle.g1_core.specs.declared.reply.Redirected.TheVariants.{Moved}
 use Rattle.g1_core.specs.declared.reply.Status.{Status}
 use Rattle.g1_core.specs.declared.reply.ClearReply.{ClearReply}
 use Rattle.g1_core.specs.declared.reply.ClearReply.TheVariants as clear_reply
@@ -18,8 +20,9 @@ use Rattle.g1_race.specs.Race.{word_of}
 use Rattle.g1_race.specs.Over.{Halt, halted}
 use Rattle.g1_race.specs.Evacuating.{IsSameRace, IsRefinedRace, SlotsBecome, same_word, one_word}
 use Rattle.g1_race.specs.Evacuating.{wiped_word, wiped, forgotten, plain_reply, AreAllRefined}
-use Rattle.g1_race.specs.Evacuating.{IsExactAtPause, copied_word, copied}
-use Rattle.g1_race.specs.Moving.{word_after, IsRedirected}
+use Rattle.g1_race.specs.Evacuating.{IsExactAtPause, copied_word}
+use Rattle.g1_race.specs.Moving.{word_after}
+use Rattle.g1_race.specs.Telling.{marked_cards}
 use Rattle.g1_handles.specs.declared.batch.Store.{Store}
 use Rattle.g1_handles.specs.declared.code.Refusal.{Refusal}
 use Rattle.g1_handles.specs.declared.code.Refusal.TheVariants as refusal
@@ -84,8 +87,7 @@ pub record DrainsAtPause (old : Halt) (region : ℕ) (new : Halt) (cards : List 
 pub record Refines (old new : Halt) : Type 0 where
   pub race : IsRefinedRace old new
   pub words : SlotsBecome same_word old new
-  pub cards : List ℕ
-  pub refined : AreAllRefined (halted old) cards (halted new)
+  pub refined : AreAllRefined (halted old) (marked_cards old.shape old.words) (halted new)
 
 -- the target is stored into the slot, by a store of this kind
 pub record StoresAt (old : Halt) (slot : ℕ) (target : Option ℕ) (kind : Kind) (new : Halt)
@@ -124,7 +126,8 @@ pub record ClearsAt (old : Halt) (region : ℕ) (reply : ClearReply) (new : Halt
 pub record Redirects (old : Halt) (from to slots : ℕ) (new : Halt) : Type 0 where
   pub race : IsRefinedRace old new
   pub words : SlotsBecome (word_after old.shape from to) old new
-  pub redirected : IsRedirected (halted old) from to slots (halted new)
+  pub step : (caller : ℕ) → let refined = marked_cards old.shape old.words in
+      IsStep (halted old) (redirect_entry caller from to (Moved slots refined)) (halted new)
 
 -- null is stored to each slot of the region
 pub record Wipes (old : Halt) (region : ℕ) (new : Halt) : Type 0 where

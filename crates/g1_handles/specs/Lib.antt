@@ -3,9 +3,14 @@ pub mod Codes
 pub mod Refusals
 pub mod Replies
 pub mod Queries
+pub mod Arrays
 pub mod Batch
 pub mod Racing
 pub mod RaceStores
+pub mod RaceWords
 pub mod AtPause
 pub mod Life
 pub mod HeapCalls
+pub mod Sets
+pub mod Verifying
+pub mod Copies

@@ -83,13 +83,18 @@ pub record IsNewHeap (l : layout.Shape) (racers sweepers : ℕ) (p : Halt) : Typ
   pub logs : p.logs ≡ replicate racers []
   pub members : p.sweepers ≡ sweepers
 
--- a heap of these counts, with this many racers and sweepers, in this handle
-abbrev pub IsOpeningRefused : Option RacingHeap → layout.Shape → ℕ → ℕ → Refusal → Type 0
-IsOpeningRefused h l racers sweepers r =
+-- a heap of these counts, with this many racers and sweepers
+abbrev pub IsNewHeapRefused : layout.Shape → ℕ → ℕ → Refusal → Type 0
+IsNewHeapRefused l racers sweepers r =
     ((r ≡ refusal.BadMembers) × (AreHeapCounts racers sweepers → ⊥))
-    ⊎ ((r ≡ refusal.AlreadyOpen) × IsSome h)
     ⊎ ((r ≡ refusal.BadLayout) × (IsShape l → ⊥))
     ⊎ (r ≡ refusal.NoMemory)
+
+-- such a heap in this handle: it is open already, or the heap is not to be had
+abbrev pub IsOpeningRefused : Option RacingHeap → layout.Shape → ℕ → ℕ → Refusal → Type 0
+IsOpeningRefused h l racers sweepers r =
+    ((r ≡ refusal.AlreadyOpen) × IsSome h)
+    ⊎ ((h ≡ None) × IsNewHeapRefused l racers sweepers r)
 
 -- the end of the heap of this handle
 abbrev pub IsEndRefused : Option RacingHeap → Refusal → Type 0

@@ -1,9 +1,12 @@
 -- What a racer's stores do that return what was there, depend on it, or are several.
-use Rattle.std.specs.Prelude.{◌≡◌, ◌+◌, ◌<◌, ◌≤◌, ℕ, List, [], ◌∷◌, All, length, take, Option}
+use Rattle.std.specs.Prelude.{◌≡◌, ◌+◌, ◌<◌, ◌≤◌, ℕ, List, [], ◌∷◌, ◌++◌, All, length, take, Option}
+use Rattle.std.specs.Prelude.{if◌then◌else◌}
 use Rattle.arrayvec.specs.ArrayVec.{array_vec_len}
 use Rattle.g1_layout.specs.declared.kind.Kind.{Kind}
 use Rattle.g1_race_words.specs.Seats.{IsFound}
-use Rattle.g1_race.specs.Members.{HasReferred, HasDiffered, HasNotStored, race_layout, racer_view}
+use Rattle.g1_race_words.specs.Rule.{slot_card}
+use Rattle.g1_race.specs.Members.{HasOverwritten, HasStored, HasDiffered, HasNotStored, IsKind}
+use Rattle.g1_race.specs.Members.{is_logged, race_layout, race_shape, racer_view}
 use Rattle.g1_race.specs.Race.{word_of}
 use Rattle.g1_handles.specs.declared.batch.Store.{Store}
 use Rattle.g1_handles.specs.Racing.{Racing}
@@ -16,15 +19,22 @@ use Rattle.g1_handles.specs.Batch.{IsFaultAt}
 use Rattle.g1_handles.specs.Codes.{IsStoreOf, reference_of}
 use Rattle.g1_handles.specs.Racing.{Stores, racer_race_of}
 
--- a racer before and after a store of the place t to slot p, which referred to the old one
+-- a racer before and after a store of the place t to slot p, whose overwritten word referred to the
+-- old one
 pub record Swaps (a : Racing) (p : ℕ) (t old : Option ℕ) (k : Kind) (b : Racing) : Type 0 where
-  pub stores : Stores a p t k b
-  pub referred : HasReferred (racer_view a.racer) p old
+  pub race : racer_race_of b ≡ racer_race_of a
+  pub kind : IsKind (race_shape (racer_race_of a)) p t k
+  pub view : HasOverwritten (race_shape (racer_race_of a)) p (word_of t) old (is_logged k)
+      (racer_view a.racer) (racer_view b.racer)
+  pub log : b.racer.log.items ≡ (if is_logged k
+      then a.racer.log.items ++ slot_card (race_shape (racer_race_of a)) p ∷ []
+      else a.racer.log.items)
 
--- a racer before and after such a store, where slot p had what was expected
+-- a racer before and after such a store, which overwrote what was expected
 pub record Exchanges (a : Racing) (p : ℕ) (expected t : Option ℕ) (k : Kind) (b : Racing)
     : Type 0 where
-  pub stores : Stores a p t k b
+  pub race : racer_race_of b ≡ racer_race_of a
+  pub stored : HasStored (race_shape (racer_race_of a)) p t (word_of expected) k a.racer b.racer
   pub had : IsFound (racer_view a.racer) p (word_of expected)
 
 -- a racer before and after it stored nothing to slot p, which had something else than was expected

@@ -67,8 +67,8 @@ sweeper_race_of b = b.race
 pub record Stores (a : Racing) (p : ℕ) (t : Option ℕ) (k : Kind) (b : Racing) : Type 0 where
   pub race : racer_race_of b ≡ racer_race_of a
   pub kind : IsKind (race_shape (racer_race_of a)) p t k
-  pub view : racer_view b.racer ≡ stored_view (race_shape (racer_race_of a)) (racer_view a.racer) p
-      (word_of t) (is_logged k)
+  pub view : (old : ℕ) × (racer_view b.racer ≡ stored_view (race_shape (racer_race_of a))
+      (racer_view a.racer) p (word_of t) old (is_logged k))
   pub log : b.racer.log.items ≡ (if is_logged k
       then a.racer.log.items ++ slot_card (race_shape (racer_race_of a)) p ∷ []
       else a.racer.log.items)
@@ -77,7 +77,7 @@ pub record Stores (a : Racing) (p : ℕ) (t : Option ℕ) (k : Kind) (b : Racing
 pub record StoresData (a : Racing) (p word old : ℕ) (b : Racing) : Type 0 where
   pub race : racer_race_of b ≡ racer_race_of a
   pub view : racer_view b.racer ≡ stored_view (race_shape (racer_race_of a)) (racer_view a.racer) p
-      word false
+      word old false
   pub log : b.racer.log.items ≡ a.racer.log.items
   pub found : IsFound (racer_view a.racer) p old
   pub fits : IsWord (race_shape (racer_race_of a)) old

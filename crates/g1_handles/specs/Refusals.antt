@@ -110,10 +110,10 @@ IsNewRefused l s r =
     ⊎ ((r ≡ refusal.BadSettings) × (AreSettings s → ⊥))
     ⊎ (r ≡ refusal.NoMemory)
 
--- a handle that is to be opened on such a heap
+-- a handle that is to be opened on such a heap: it is open already, or the heap is not to be had
 abbrev pub IsOpenRefused : Option Machine → Shape → Settings → Refusal → Type 0
 IsOpenRefused handle l s r =
-    ((r ≡ refusal.AlreadyOpen) × IsSome handle) ⊎ IsNewRefused l s r
+    ((r ≡ refusal.AlreadyOpen) × IsSome handle) ⊎ ((handle ≡ None) × IsNewRefused l s r)
 
 -- several stores, which take no memory, with an array for their cards
 abbrev pub AreStoresRefused : Option Machine → ℕ → ℕ → Refusal → Type 0

@@ -4,9 +4,9 @@ ghost use Rattle.std.specs.Prelude.{IsSome};
 ghost use Rattle.g1_core.specs.Machine.{new_machine};
 ghost use Rattle.g1_core.specs.Settings.{AreSettings};
 ghost use Rattle.g1_handles.specs.Codes.{layout_of, settings_of, IsRefusal};
-ghost use Rattle.g1_handles.specs.Refusals.{IsNewRefused, SaysNotOpen};
+ghost use Rattle.g1_handles.specs.Refusals.{IsNewRefused, IsOpenRefused, SaysNotOpen};
 
-use crate::any_handle::{closed, into_box, opened};
+use crate::any_handle::{closed, into_box, is_closed, opened};
 use crate::code::{DONE, Refusal};
 use crate::handle::Handle;
 use g1_core::{Config, Core};
@@ -30,7 +30,7 @@ pub struct Counts {
 ///
 /// Returns `BadLayout` or `BadSettings` if the counts or the settings are outside their limits, or
 /// `NoMemory` if memory was refused.
-pub fn new_core(alloc: Global, counts: &Counts, hot: u32, ring: u32) -> Result<Box<Core>, Refusal>
+fn new_core(alloc: Global, counts: &Counts, hot: u32, ring: u32) -> Result<Box<Core>, Refusal>
     ensures new { IfOk result (λ core.
         core.value ≡ new_machine (layout_of counts.now) (settings_of hot ring)) }
     ensures why { IfErr result (λ refusal.
@@ -61,18 +61,27 @@ fn config(hot: u32, ring: u32) -> Option<Config>
     Config::new(log, limit, hot, ring as usize, start)
 }
 
-/// Puts a core into a closed handle. Returns `AlreadyOpen` if the handle is open: it keeps its own
-/// core, and the other one is dropped.
-pub fn open_in(handle: Handle, core: Box<Core>) -> (Handle, Result<(), Refusal>)
-    ensures new { OnOk result.1 ((handle.value ≡ None) × (result.0.value ≡ Some core.value)) }
-    ensures why { IfErr result.1 (λ refusal.
-        (refusal ≡ Refusal.AlreadyOpen) × IsSome handle.value) }
-    ensures refused { OnErr result.1 (result.0.value ≡ handle.value) }
+/// Opens a closed handle on a new core ([`new_core`]). Returns `AlreadyOpen` if the handle is open,
+/// before anything is made, or what refused the core: the handle has not changed.
+pub fn open_core(
+    alloc: Global,
+    handle: &mut Handle,
+    counts: &Counts,
+    hot: u32,
+    ring: u32,
+) -> Result<(), Refusal>
+    ensures new { OnOk result
+        (handle.new.value ≡ Some (new_machine (layout_of counts.now) (settings_of hot ring))) }
+    ensures closed { OnOk result (handle.old.value ≡ None) }
+    ensures why { IfErr result (λ refusal.
+        IsOpenRefused handle.old.value (layout_of counts.now) (settings_of hot ring) refusal) }
+    ensures refused { OnErr result (handle.new.value ≡ handle.old.value) }
 {
-    match into_box(handle) {
-        Some(kept) => (opened(kept), Err(Refusal::AlreadyOpen)),
-        None => (opened(core), Ok(())),
+    if !is_closed(alloc, handle) {
+        return Err(Refusal::AlreadyOpen);
     }
+    *handle = opened(new_core(alloc, counts, hot, ring)?);
+    Ok(())
 }
 
 /// Closes a handle, and drops its core. Returns 0, or the word of `NotOpen` if the handle was

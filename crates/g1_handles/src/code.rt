@@ -64,7 +64,7 @@ pub enum Refusal {
     NotPaused,
     /// The heap is at a pause: its members are in.
     NotRacing,
-    /// A word below 2^32 is a reference's, and no data.
+    /// A word below 2^32 where data is stored, or one that no slot may have.
     BadWord,
 }
 

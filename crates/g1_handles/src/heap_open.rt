@@ -1,6 +1,6 @@
 //! How a heap whose stores race begins and ends: at a pause.
 ghost use Rattle.std.specs.Prelude.{◌≡◌, IsTrue, Some, None, All, IfOk, IfErr, OnOk, OnErr};
-ghost use Rattle.std.specs.Prelude.{vec_len};
+ghost use Rattle.std.specs.Prelude.{ℕ, ◌<◌, slice_index_or, vec_len};
 ghost use Rattle.std.specs.Arc.{arc_value};
 ghost use Rattle.g1_handles.specs.Codes.{layout_of};
 ghost use Rattle.g1_handles.specs.Life.{IsNewHeap, IsOpeningRefused, AreHeapCounts, OfPaused};
@@ -21,7 +21,8 @@ use std::sync::Arc;
 /// Opens a heap at a pause in a closed handle, for this many racers and sweepers, 1 to 64 of each.
 /// Its slots are all null and its cards are all clean. Takes all memory that the heap ever takes.
 ///
-/// Returns `BadMembers`, `AlreadyOpen`, `BadLayout` or `NoMemory`: the handle has not changed.
+/// Returns `AlreadyOpen`, whatever else is so, `BadMembers`, `BadLayout` or `NoMemory`: the handle
+/// has not changed.
 pub fn open_heap(
     alloc: Global,
     handle: &mut HeapHandle,
@@ -36,11 +37,11 @@ pub fn open_heap(
         IsOpeningRefused handle.old.value (layout_of counts.now) racers sweepers refusal) }
     ensures refused { OnErr result (handle.new.value ≡ handle.old.value) }
 {
-    if !are_heap_counts(racers, sweepers) {
-        return Err(Refusal::BadMembers);
-    }
     if !is_closed(alloc, handle) {
         return Err(Refusal::AlreadyOpen);
+    }
+    if !are_heap_counts(racers, sweepers) {
+        return Err(Refusal::BadMembers);
     }
     let Some(layout) = Layout::large(counts.regions, counts.cards, counts.slots) else {
         return Err(Refusal::BadLayout);
@@ -82,7 +83,7 @@ fn new_heap(
     Ok(Box::new(alloc, RacingHeap::Paused(at))?)
 }
 
-/// As many members that wait, each in its box.
+/// As many members that wait, each in its box. The number of each is its place.
 fn waiting<P: Part>(
     alloc: Global,
     race: &Arc<Race, Global>,
@@ -91,6 +92,8 @@ fn waiting<P: Part>(
     ensures count { IfOk result (λ members. vec_len members ≡ count) }
     ensures race { IfOk result (λ members.
         All (λ m. arc_value m.value.race ≡ arc_value race.now) members.items) }
+    ensures numbers { IfOk result (λ members. (i : ℕ) (m : _) → i < vec_len members →
+        (slice_index_or members.items i m).value.number ≡ i) }
 {
     let mut members = Vec::with_capacity(alloc, count)?;
     for number in 0..count {

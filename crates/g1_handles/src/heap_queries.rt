@@ -1,18 +1,17 @@
 //! Queries at a pause: what a slot refers to, whether a card is pending, how much is pending and
-//! recorded, and what is recorded for a region.
-ghost use Rattle.std.specs.Prelude.{◌≡◌, ◌<◌, ◌≤◌, ◌⊎◌, IfOk, IfErr};
+//! recorded, and what is recorded for a region, card by card.
+ghost use Rattle.std.specs.Prelude.{◌≡◌, ◌<◌, ◌≤◌, IfOk, IfErr};
 ghost use Rattle.g1_layout.specs.Shape.{slot_count};
 ghost use Rattle.g1_handles.specs.Codes.{reference_of};
 ghost use Rattle.g1_handles.specs.AtPause.{IsKept, SlotRefers, TellsPending, TellsStatus};
-ghost use Rattle.g1_handles.specs.AtPause.{TellsMembers, LacksSlot, LacksCard, LacksRegion};
-ghost use Rattle.g1_handles.specs.Queries.{Lists};
+ghost use Rattle.g1_handles.specs.AtPause.{LacksSlot, LacksCard, LacksRegion};
+ghost use Rattle.g1_race.specs.Over.{halted};
+ghost use Rattle.g1_race.specs.Reading.{IsNextMember};
 
 use crate::at_pause::PausedHeap;
-use crate::code::Refusal;
-use crate::members::{Listed, list_of};
+use crate::code::{NULL, Refusal};
 use crate::queries::word_of;
 use g1_core::Status;
-use std::alloc::Global;
 
 /// Returns the word of what a slot refers to, or `NoSlot`.
 #[tactic(auto, using(crate::proofs::Kept::kept_same))]
@@ -53,19 +52,13 @@ pub fn status_at(heap: &mut PausedHeap) -> Status
     heap.status()
 }
 
-/// Returns the remembered set of a region as it is recorded, or how many cards it has if the
-/// caller's array, of length `room`, is shorter. Returns `NoRegion` or `NoMemory` if the call was
-/// refused.
+/// Returns the word of the least card from the number `from` on that is recorded for a region, or
+/// of null if there is none. Returns `NoRegion` if the call was refused.
 #[tactic(auto, using(crate::proofs::Kept::kept_same))]
-pub fn members_at(
-    heap: &mut PausedHeap,
-    alloc: Global,
-    region: u32,
-    room: usize,
-) -> Result<Listed, Refusal>
-    ensures members { IfOk result (Lists (TellsMembers heap.old region) room) }
-    ensures why { IfErr result (λ refusal. LacksRegion heap.old region refusal
-        ⊎ (refusal ≡ Refusal.NoMemory)) }
+pub fn next_member_at(heap: &mut PausedHeap, region: u32, from: u32) -> Result<u32, Refusal>
+    ensures next { IfOk result (λ word.
+        IsNextMember (halted heap.old) region from (reference_of word)) }
+    ensures why { IfErr result (LacksRegion heap.old region) }
     ensures same { heap.new ≡ heap.old }
     ensures kept { IsKept heap.old heap.new }
 {
@@ -74,8 +67,8 @@ pub fn members_at(
     let Some(region) = layout.region(region) else {
         return Err(Refusal::NoRegion);
     };
-    let Ok(members) = heap.members(alloc, region) else {
-        return Err(Refusal::NoMemory);
-    };
-    Ok(list_of(members, room))
+    match heap.next_member(region, from) {
+        Some(card) => Ok(card.number()),
+        None => Ok(NULL),
+    }
 }

@@ -8,7 +8,8 @@
 //!   the words of a box behind a pointer that may be null (`nullable_box`, `raw_box`).
 //! - [`store`], [`batch`], [`refinement`] and [`pause`] are the path of a card.
 //! - [`clearing`] and [`redirection`] may follow an evacuation.
-//! - [`queries`] and [`members`] read what is known, and [`code`] has the codes that calls return.
+//! - [`copy`] copies a range of slots. [`queries`] and [`members`] read what is known, [`verify`]
+//!   checks it for a debug build, and [`code`] has the codes that calls return.
 //! - [`racing_heap`] is a heap whose stores race, at a pause or with its members out, and
 //!   [`heap_handle`] its handle. [`heap_open`] begins and ends it, [`heap_resume`] hands its
 //!   members out, and [`heap_pause`] takes them in. Before anything changes, a pause checks that
@@ -16,9 +17,11 @@
 //! - [`member`] is a racer or a sweeper with its race, and [`racer_handle`] and [`sweeper_handle`]
 //!   are their handles. [`race_store`], [`race_log`] and [`race_refine`] are the path of a card
 //!   while members are out. [`race_exchange`] has the stores that return what a slot referred to or
-//!   depend on it, [`race_batch`] several stores by one call, and [`race_data`] a store of data.
-//! - [`heap_queries`], [`heap_drains`], [`heap_stores`], [`heap_copy`], [`heap_evacuation`] and
-//!   [`heap_words`] are the collector's calls at a pause, on an [`at_pause::PausedHeap`].
+//!   depend on it, [`race_batch`] several stores by one call, [`race_data`] a store of data, and
+//!   [`race_words`] the stores of any word that return or compare the one before.
+//! - [`heap_queries`], [`heap_sets`], [`heap_drains`], [`heap_stores`], [`heap_copy`],
+//!   [`heap_evacuation`] and [`heap_words`] are the collector's calls at a pause, on an
+//!   [`at_pause::PausedHeap`].
 //!
 //! A function `.._in` takes what is behind one handle, and gives the handle back with a result. A
 //! call over several handles is one function. The crate `g1_c` exports each, in the file of the
@@ -35,6 +38,7 @@ pub mod batch;
 pub mod calls;
 pub mod clearing;
 pub mod code;
+pub mod copy;
 pub mod handle;
 pub mod heap_copy;
 pub mod heap_drains;
@@ -44,7 +48,9 @@ pub mod heap_open;
 pub mod heap_pause;
 pub mod heap_queries;
 pub mod heap_resume;
+pub mod heap_sets;
 pub mod heap_stores;
+pub mod heap_verify;
 pub mod heap_words;
 pub mod list;
 mod look;
@@ -60,6 +66,7 @@ pub mod race_exchange;
 pub mod race_log;
 pub mod race_refine;
 pub mod race_store;
+pub mod race_words;
 pub mod racer_handle;
 pub mod racing_heap;
 mod raw_box;
@@ -68,3 +75,4 @@ pub mod refinement;
 pub mod sent;
 pub mod store;
 pub mod sweeper_handle;
+pub mod verify;

@@ -8,13 +8,13 @@ use g1_race::{Race, Racer, Sweeper};
 use std::alloc::Global;
 use std::sync::Arc;
 
-/// What a member takes part by: a racer stores, and a sweeper refines.
+/// A racer, which stores, or a sweeper, which refines.
 pub trait Part: Drop {
     ghost use Rattle.atomic_table.specs.Seated.{TableId};
     ghost use Rattle.g1_race_words.specs.declared.view.Shape.{Shape};
     ghost use Rattle.g1_race_words.specs.declared.view.View.{View};
 
-    /// The race that it is of.
+    /// Its race.
     ghost of: { Self → TableId × Shape };
 
     /// What it knows.

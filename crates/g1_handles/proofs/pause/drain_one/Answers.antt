@@ -9,12 +9,12 @@ use Rattle.g1_handles.proofs.pause.drain_one.Goals as goal
 pub returns-in-Ok-clause-drained : goal.returns-in-Ok-clause-drained
 returns-in-Ok-clause-drained c =
     subst (λ (region : ℕ). DrainsTo c.args.core.now region c.in-Ok.answer c.drain.new.self) c.in-Some.ensures.1
-    (record { drained = c.in-Ok.ensures.drained; step = c.in-Ok.ensures.step; later = c.in-Ok.ensures.later })
+    (record { drained = c.in-Ok.ensures.did.drained; step = c.in-Ok.ensures.step; later = c.in-Ok.ensures.later })
 
 pub returns-in-Ok-clause-cards : goal.returns-in-Ok-clause-cards
 returns-in-Ok-clause-cards c =
     let count : card_count c.layout-layout.result ≡ card_count c.args.core.now.state.table.layout = ap card_count c.layout-layout.ensures.value in
-    let few = few_drained c.args.core.now c.drain.new.self c.in-Some.region c.in-Ok.answer (card_count c.args.core.now.state.table.layout) c.in-Ok.ensures.drained c.in-Ok.ensures.within in
+    let few = few_drained c.args.core.now c.drain.new.self c.in-Some.region c.in-Ok.answer (card_count c.args.core.now.state.table.layout) c.in-Ok.ensures.did.drained c.in-Ok.ensures.did.within in
     (omega (arith, few, count, c.card_count-most.ensures.count, c.if-room-most.false), fits_words c.args.core.now.state (drain_cards c.in-Ok.answer) c.layout-layout.ensures.sound few)
 
 pub returns-in-Ok-clause-refined : goal.returns-in-Ok-clause-refined

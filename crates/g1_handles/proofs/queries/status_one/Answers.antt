@@ -2,4 +2,4 @@
 use Rattle.g1_handles.proofs.queries.status_one.Goals as goal
 
 pub returns : goal.returns
-returns c = record { pending = c.status.ensures.pending; recorded = c.status.ensures.recorded; step = c.status.ensures.step }
+returns c = record { pending = c.status.ensures.did.pending; recorded = c.status.ensures.did.recorded; step = c.status.ensures.step }

@@ -1,0 +1,6 @@
+-- What a call writes to an array of the caller's.
+use Rattle.std.specs.Prelude.{◌≡◌, ◌≤◌, ℕ, List, length, drop}
+
+-- at most so many elements were written, those at the front; the array has as many
+abbrev pub IsWritten : List ℕ → ℕ → List ℕ → Type 0
+IsWritten old count new = (count ≤ length old) × (drop count new ≡ drop count old)

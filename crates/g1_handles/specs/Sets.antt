@@ -1,0 +1,45 @@
+-- What C is told of a region's set at a pause.
+use Rattle.std.specs.Prelude.{◌≡◌, ◌<◌, ◌+◌, ◌++◌, ℕ, List, All, Contains, Result, IfOk, IfErr}
+use Rattle.std.specs.Prelude.{OnErr, length, take}
+use Rattle.std.specs.List.Sorted.{IsStrictlyIncreasing}
+use Rattle.g1_core.specs.Table.{Table, IsRecorded}
+use Rattle.g1_race.specs.Over.{Halt}
+use Rattle.g1_handles.specs.Arrays.{IsWritten}
+use Rattle.g1_handles.specs.AtPause.{DrainsAtPause, LacksRegion, TellsMembers}
+use Rattle.g1_handles.specs.declared.code.Refusal.{Refusal}
+use Rattle.g1_handles.specs.declared.heap_sets.Told.{Told}
+use Rattle.g1_handles.specs.declared.heap_sets.Told.TheVariants.{All as All-of, First}
+use Rattle.g1_handles.specs.declared.heap_sets.Which.{Which}
+use Rattle.g1_handles.specs.declared.heap_sets.Which.TheVariants.{Recorded, Refined}
+
+-- the array has the first of so many cards that are so, and there are more
+pub record HasFirst (AreSo : List ℕ → Type 0) (array : List ℕ) (count : ℕ) : Type 0 where
+  pub rest : List ℕ
+  pub so : AreSo (array ++ rest)
+  pub counted : count ≡ length array + length rest
+  pub more : length array < count
+
+-- the cards that are so are written to the front of the array, or the first of them fill it
+abbrev pub Tells : (List ℕ → Type 0) → List ℕ → Told → List ℕ → Type 0
+Tells AreSo old (All-of count) new = AreSo (take count new) × IsWritten old count new
+Tells AreSo old (First count) new = HasFirst AreSo new count × (length new ≡ length old)
+
+-- the members of the region that are below a number, ascending
+pub record AreMembersBelow (t : Table) (region from : ℕ) (cards : List ℕ) : Type 0 where
+  pub ascending : IsStrictlyIncreasing cards
+  pub below : All (λ c. c < from) cards
+  pub recorded : (card : ℕ) → Contains cards card → IsRecorded t card region
+  pub all : (card : ℕ) → card < from → IsRecorded t card region → Contains cards card
+
+-- these cards are the set
+abbrev pub IsSet : Which → Halt → ℕ → Halt → List ℕ → Type 0
+IsSet Recorded old region new cards = TellsMembers old region cards
+IsSet Refined old region new cards = DrainsAtPause old region new cards
+
+-- a call for the set of a region, with what the array had before and has after it
+pub record IsSetCall (which : Which) (region : ℕ) (before after : List ℕ) (old : Halt)
+    (r : Result Told Refusal) (new : Halt) : Type 0 where
+  pub told : IfOk r (λ told. Tells (IsSet which old region new) before told after)
+  pub why : IfErr r (LacksRegion old region)
+  pub refused : OnErr r (new ≡ old)
+  pub same : which ≡ Recorded → new ≡ old
