@@ -16,10 +16,12 @@ use clap::{ArgMatches, Command, Error};
 use g1_core::Config;
 use g1_trace::{Mode, TRACES};
 use std::alloc::{AllocError, Global};
+use thiserror::Error;
 
 /// Why the program doesn't start: the command line was refused, asks for help or the version, or
 /// memory was refused.
-#[derive(Debug, Drop)]
+#[derive(Debug, Drop, Error)]
+#[error("{text}")]
 pub struct LineFault {
     /// What the program writes to standard error. It is empty if memory was refused.
     pub text: String,

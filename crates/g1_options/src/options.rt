@@ -3,7 +3,7 @@ ghost use Rattle.std.specs.Prelude.{◌≡◌, ◌≤◌};
 
 use g1_core::Config;
 
-/// What a replay is run with, each number within its limits (docs/TRACES.md, Options).
+/// What a replay is run with, each number within its limits (docs/traces.md, Options).
 #[derive(Clone, Copy, Debug, PartialEq, Eq)]
 pub struct Options {
     /// How many mutators there are.

@@ -15,10 +15,10 @@ use Rattle.g1_core.specs.Machine.{State}
 use Rattle.g1_core.specs.Refinement.{IsRefined}
 use Rattle.g1_log.specs.declared.parcel.Parcel.{Parcel}
 use Rattle.g1_steps.specs.declared.steps.mutator.FlushReply.{FlushReply}
-use Rattle.g1_book.specs.declared.refusal.Refusal.{Refusal}
-use Rattle.g1_book.specs.declared.refusal.Refusal.TheVariants.{NoMemory, BookFull}
-use Rattle.g1_book.specs.History.{History}
-use Rattle.g1_book.specs.Asked.{IsEnteredAs}
+use Rattle.g1_history.specs.declared.refusal.Refusal.{Refusal}
+use Rattle.g1_history.specs.declared.refusal.Refusal.TheVariants.{NoMemory, BookFull}
+use Rattle.g1_history.specs.History.{History}
+use Rattle.g1_history.specs.Asked.{MadeAsked, asked_entry}
 use Rattle.g1_steps.specs.Made.{CallMade, Stored, Refined, AreCalls, entries_made as calls_entries}
 use Rattle.g1_steps.specs.Lent.{Grows, IsBookCall}
 use Rattle.g1_steps.specs.Steps.{Help, IsStored, help_calls, store_answer, flush_answer, nothing_flushed, filled, called}
@@ -49,20 +49,20 @@ HelpTakes (Some (Err e)) = Unit {0}
 
 store_takes : (m : ℕ) (old new : History) (slot : ℕ) (target : Option ℕ) (first : StoreReply) (cards : List ℕ) (help : Help) → AreCalls (IsBookCall m) old (Stored slot target first ∷ help_calls cards help) new → HelpTakes help
 store_takes m old new slot target first cards None h = tt
-store_takes m old new slot target first cards (Some (Ok reply)) h = h.2.1.taken
+store_takes m old new slot target first cards (Some (Ok reply)) h = h.2.1.refined.taken
 store_takes m old new slot target first cards (Some (Err e)) h = tt
 
 flush_takes : (m : ℕ) (old new : History) (cards : List ℕ) (help : Help) → AreCalls (IsBookCall m) old (help_calls cards help) new → HelpTakes help
 flush_takes m old new cards None h = tt
-flush_takes m old new cards (Some (Ok reply)) h = h.1.taken
+flush_takes m old new cards (Some (Ok reply)) h = h.1.refined.taken
 flush_takes m old new cards (Some (Err e)) h = tt
 
 turns_take : (m : ℕ) (old new : History) (turns : List Turn) (refused : Option Refusal) → AreCalls (IsBookCall m) old (round_calls turns refused) new → All Takes (replies_of turns)
 turns_take m old new [] refused h = All-nil Takes
-turns_take m old new (t ∷ []) None h = All-cons Takes t.reply [] h.1.taken (All-nil Takes)
-turns_take m old new (t ∷ []) (Some e) h = All-cons Takes t.reply [] h.1.1.taken (All-nil Takes)
-turns_take m old new (t ∷ u ∷ turns) None h = All-cons Takes t.reply (replies_of (u ∷ turns)) h.1.1.taken (turns_take m h.0 new (u ∷ turns) None h.2)
-turns_take m old new (t ∷ u ∷ turns) (Some e) h = All-cons Takes t.reply (replies_of (u ∷ turns)) h.1.1.taken (turns_take m h.0 new (u ∷ turns) (Some e) h.2)
+turns_take m old new (t ∷ []) None h = All-cons Takes t.reply [] h.1.refined.taken (All-nil Takes)
+turns_take m old new (t ∷ []) (Some e) h = All-cons Takes t.reply [] h.1.1.refined.taken (All-nil Takes)
+turns_take m old new (t ∷ u ∷ turns) None h = All-cons Takes t.reply (replies_of (u ∷ turns)) h.1.1.refined.taken (turns_take m h.0 new (u ∷ turns) None h.2)
+turns_take m old new (t ∷ u ∷ turns) (Some e) h = All-cons Takes t.reply (replies_of (u ∷ turns)) h.1.1.refined.taken (turns_take m h.0 new (u ∷ turns) (Some e) h.2)
 
 -- a store whose own answer was the first
 store_calls : (old new : History) (m slot : ℕ) (target : Option ℕ) (cards : List ℕ) (first : StoreReply) (help : Help) → Grows old (store_entry m slot target first ∷ calls_entries m (help_calls cards help)) new → HelpTakes help
@@ -105,7 +105,7 @@ refine_finds old new (Some cards) reply h = inl h.taken
 
 pub refine_made : (old new : History) (buffer : Option (List ℕ)) (reply : RefineReply) → AreCalls (IsBookCall 0) old (Refined buffer (called reply) ∷ []) new → Says old new command.Refine (refine_text reply)
 refine_made old new buffer reply h =
-    (plain_piece (refine_entry 0 (called reply) ∷ []), calls_grow 0 old new (Refined buffer (called reply) ∷ []) h, refine_says reply 0 (refine_finds old.machine.state new.machine.state buffer (called reply) h.1), tt)
+    (plain_piece (refine_entry 0 (called reply) ∷ []), calls_grow 0 old new (Refined buffer (called reply) ∷ []) h, refine_says reply 0 (refine_finds old.machine.state new.machine.state buffer (called reply) h.1.refined), tt)
 
 rounds_within : (turns : List Turn) (most size : ℕ) → length turns ≤ most → most ≡ size → length (map (refine_entry 0) (replies_of turns)) ≤ size
 rounds_within turns most size h is =
@@ -123,8 +123,8 @@ work_made did s before most reply after t r old new seen within is h = (
 )
 
 -- one call of the first caller, and the line of its reply
-pub call_says : (old new : History) (call : Call) (reply : Reply) → IsEnteredAs old 0 call reply new → Says old new (command.Call call) (call_line call reply)
-call_says old new call reply p = (plain_piece (p.0 ∷ []), grows_entered old p.0 new p.1, record { piece = (p.2, p.3); line = λ i. call_line (sym p.3 i) (sym p.4 i) }, tt)
+pub call_says : (old new : History) (call : Call) (reply : Reply) → MadeAsked true old 0 call reply new → Says old new (command.Call call) (call_line call reply)
+call_says old new call reply p = let e = asked_entry 0 call reply p.0 in (plain_piece (e ∷ []), grows_entered old e new p.1.entered, record { piece = (refl, refl); line = refl }, tt)
 
 -- a call that was refused left the book, and its history was full if that is why
 pub call_refused : (old new : History) (refusal : Refusal) → new ≡ old → (refusal ≡ BookFull → length old.entries ≡ old.limit) → IsCallRefused old new refusal

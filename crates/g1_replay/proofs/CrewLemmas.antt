@@ -22,7 +22,7 @@ whole_said l history text ran = said ran.said
   where
     said : IsCrewText ran.entries (drains ran.drained) ran.pieces (Ok tt) text → text ≡ stores_text (count_by is_store ran.entries) ++ lines_of (drains ran.drained) ran.pieces
     said (inl s) = let bad = s.1 in cc
-    said (inr e) = e
+    said (inr e) = e.1
 
 pub whole_crew : (d : Dialect) (history n : ℕ) (rd rd' out out' : Option (List ℕ)) (r : Result (Unit {0}) Stop) (text : List ℕ) (end : End) → Crewed d history 1 n rd rd' r text
     → IsEndWritten out out' r (text ++ ending_line n r) end → end ≡ Whole → IfSome rd (λ bytes. IsWholeCrew d history bytes out out')

@@ -5,13 +5,13 @@ use Rattle.std.specs.List.{All, AllZip}
 use Rattle.std.proofs.lemmas.List.{get_or-map, length-map}
 use Rattle.std.proofs.lemmas.List.Elements.{length_all_zip}
 use Rattle.std.proofs.lemmas.List.Sums.{sum_by-cons}
-use Rattle.g1_book.specs.declared.refusal.Refusal.{Refusal}
+use Rattle.g1_history.specs.declared.refusal.Refusal.{Refusal}
 use Rattle.g1_steps.specs.Ask.{Ask, asks_in, is_store_ask}
 use Rattle.g1_steps.specs.Ran.{Ran}
 use Rattle.g1_steps.specs.declared.crew.desk.Script.{Script}
 use Rattle.g1_steps.specs.declared.crew.desk.Step.{Step}
 use Rattle.g1_steps.specs.declared.crew.job.Job.{Job}
-use Rattle.g1_shared.specs.Counts.{Tally}
+use Rattle.g1_shared.specs.Counts.{CallerCounts}
 use Rattle.g1_shared.specs.Callers.{Standing}
 use Rattle.g1_shared.specs.Did.{DeskDid}
 use Rattle.g1_replay.specs.Scripts.{IsScriptAt, first_refusal, JobEnd, asked_by, stored_by, HasCome}
@@ -80,8 +80,8 @@ has_come {X} {E} limit stood steps rounds count asked refused stored callers aft
     let zip = length_all_zip (HasRun limit stood) begun done ran in
     let called = ap (λ (l : List Standing). length l) at in
     let number : (k : ℕ) (d : Job X) → k < length begun → (stand (get_or begun k d)).counts.number ≡ k =
-    λ k d lt. ap (λ (c : Standing). c.counts.number) (sym (get_or-map stand begun k d (stand d) lt) ∙ ap (λ (l : List Standing). get_or l k (stand d)) at) ∙ ap (λ (t : Tally). t.number) (new k (stand d) (omega (arith, lt, n, called))) in
-    let none = none_stored callers (λ k d lt. ap (λ (t : Tally). t.stored) (new k d lt)) in
+    λ k d lt. ap (λ (c : Standing). c.counts.number) (sym (get_or-map stand begun k d (stand d) lt) ∙ ap (λ (l : List Standing). get_or l k (stand d)) at) ∙ ap (λ (t : CallerCounts). t.number) (new k (stand d) (omega (arith, lt, n, called))) in
+    let none = none_stored callers (λ k d lt. ap (λ (t : CallerCounts). t.stored) (new k d lt)) in
     record {
       jobs = map end_of done;
       many = omega (arith, length-map done (end_of {X = X}), zip, n, called, many);

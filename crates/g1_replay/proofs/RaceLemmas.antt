@@ -15,21 +15,34 @@ use Rattle.g1_trace.proofs.PutLemmas.{front_more, puts_none, puts_then}
 use Rattle.g1_replay.specs.declared.end.End.{End}
 use Rattle.g1_replay.specs.declared.end.End.TheVariants.{Whole}
 use Rattle.g1_replay.specs.declared.stop.Stop.{Stop}
-use Rattle.g1_replay.specs.declared.stop.Stop.TheVariants.{Fault, WriteFailed}
+use Rattle.g1_replay.specs.declared.stop.Stop.TheVariants.{Fault, NoMemory, BookFull, NoThread, WriteFailed}
 use Rattle.g1_replay.specs.CoreDrains.{AreDrains, CoreDrained}
 use Rattle.g1_replay.specs.Drains.{drains, HasDrained}
 use Rattle.g1_replay.specs.Output.{IsEndWritten, ending_line}
 use Rattle.g1_replay.specs.Playing.{MayStop, Writes, written_by}
-use Rattle.g1_replay.specs.Race.{HasRaced, IsRaceText, IsWholeRace, RacedTrace, RaceRan, drained_text, is_store_command}
+use Rattle.g1_replay.specs.Race.{HasRaced, IsRaceEnd, IsRaceText, IsWholeRace, RacedTrace, RaceRan, drained_text, is_store_command}
 use Rattle.g1_replay.specs.RaceJobs.{IsTableLeftBy}
 use Rattle.g1_replay.specs.Scripted.{IsRunEnd, IsUnstarted}
 use Rattle.g1_replay.proofs.CoreDrainLemmas.{are_exact, from_itself}
 use Rattle.g1_replay.proofs.EndLemmas.{whole_trace}
-use Rattle.g1_replay.proofs.RanLemmas.{ends_by, unstarted_end}
+use Rattle.g1_replay.proofs.RanLemmas.{drains_alone}
+
+unstarted_race : (stop : Stop) → IsUnstarted stop → IsRaceEnd (Err stop)
+unstarted_race NoMemory h = tt
+unstarted_race NoThread h = tt
+unstarted_race stop h = absurd h
+
+-- a core has no book
+no_book_ends : (r : Result (Unit {0}) Stop) → IfErr r MayStop → (r ≡ Err BookFull → ⊥) → IsRaceEnd r
+no_book_ends (Ok done) h none = tt
+no_book_ends (Err NoMemory) h none = tt
+no_book_ends (Err BookFull) h none = absurd (none refl)
+no_book_ends (Err WriteFailed) h none = tt
+no_book_ends (Err stop) h none = absurd h
 
 -- no job was run, or one was refused
 pub race_stopped : (mutators : ℕ) (l : Shape) (commands : List Command) (stop : Stop) (out : Option (List ℕ)) → IsUnstarted stop → (text : List ℕ) × RaceRan mutators l commands (Err stop) text × Writes {V = Unit {0}} out out (Err stop) text
-race_stopped mutators l commands stop out h = ([], (unstarted_end stop h, inl (stop, refl, refl)), puts_none out (written_by {V = Unit {0}} (Err stop)))
+race_stopped mutators l commands stop out h = ([], (unstarted_race stop h, inl (stop, refl, refl)), puts_none out (written_by {V = Unit {0}} (Err stop)))
 
 module _ (e : Ended) (mutators : ℕ) (commands : List Command) (old : Machine) (is : old.state.table ≡ table_of e) (left : IsTableLeftBy mutators commands e) where
   -- drains of the core
@@ -44,7 +57,7 @@ module _ (e : Ended) (mutators : ℕ) (commands : List Command) (old : Machine) 
   pub count_failed : (out out' : Option (List ℕ)) → AppendsFront out out' (stores_text (count_by is_store_command commands)) → (text : List ℕ) × RaceRan mutators e.layout commands (Err WriteFailed) text × Writes {V = Unit {0}} out out' (Err WriteFailed) text
   count_failed out out' w = (
     stores_text (count_by is_store_command commands) ++ [],
-    (tt, inr (0, [], record { refs = refs_of e; left = left.left; exact = tt }, λ bad. cc, refl)),
+    (tt, inr (0, [], record { refs = refs_of e; left = left.left; exact = tt }, tt, λ bad. cc, refl)),
     front_more out out' (stores_text (count_by is_store_command commands)) [] w,
   )
 
@@ -53,18 +66,24 @@ module _ (e : Ended) (mutators : ℕ) (commands : List Command) (old : Machine) 
       → HasDrained CoreDrained (λ m. ⊥) e.layout.regions old new mid_out out' r → (text : List ℕ) × RaceRan mutators e.layout commands r text × Writes out out' r text
   race_written new out mid_out out' r stops w d = (
     stores_text (count_by is_store_command commands) ++ d.text,
-    (ends_by r stops, inr (d.drained, d.played.answers, raced new d.drained d.text d.played, d.all, ap (λ t. stores_text (count_by is_store_command commands) ++ t) d.played.said)),
+    (no_book_ends r stops d.filled, inr (d.drained, d.played.answers, raced new d.drained d.text d.played, drains_alone r stops, d.all, ap (λ t. stores_text (count_by is_store_command commands) ++ t) d.played.said)),
     puts_then out mid_out out' (written_by r) (stores_text (count_by is_store_command commands)) d.text w d.written,
   )
 
 pub race_ends : (mutators : ℕ) (l : Shape) (commands : List Command) (r : Result (Unit {0}) Stop) (text : List ℕ) → RaceRan mutators l commands r text → IsRunEnd r
-race_ends mutators l commands r text ran = ran.0
+race_ends mutators l commands r text ran = run_end r ran.0
+  where
+    run_end : (r : Result (Unit {0}) Stop) → IsRaceEnd r → IsRunEnd r
+    run_end (Ok done) h = tt
+    run_end (Err BookFull) h = absurd h
+    run_end (Err (Fault f)) h = h
+    run_end (Err stop) h = h
 
 -- the text of a whole end
 whole_text : (l : Shape) (mutators : ℕ) (commands : List Command) (text : List ℕ) → IsRaceText l mutators commands (Ok tt) text
     → (answers : List Drained) × HasRaced l mutators commands l.regions answers × (text ≡ stores_text (count_by is_store_command commands) ++ drained_text answers)
 whole_text l mutators commands text (inl s) = let bad = s.1 in cc
-whole_text l mutators commands text (inr s) = (s.1, subst (λ k. HasRaced l mutators commands k s.1) (s.3 refl) s.2, s.4)
+whole_text l mutators commands text (inr s) = (s.1, subst (λ k. HasRaced l mutators commands k s.1) (s.4 refl) s.2, s.5)
 
 pub whole_race : (d : Dialect) (n : ℕ) (rd rd' out out' : Option (List ℕ)) (r : Result (Unit {0}) Stop) (text : List ℕ) (end : End) → RacedTrace d 1 n rd rd' r text
     → IsEndWritten out out' r (text ++ ending_line n r) end → end ≡ Whole → IfSome rd (λ bytes. IsWholeRace d bytes out out')

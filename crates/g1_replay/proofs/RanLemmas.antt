@@ -6,24 +6,25 @@ use Rattle.g1_core.specs.Table.{opening}
 use Rattle.g1_core.specs.declared.entry.Entry.{Entry}
 use Rattle.g1_core.specs.Run.{IsPermitted}
 use Rattle.g1_shared.specs.Counts.{is_store}
-use Rattle.g1_book.specs.History.{History, IsHistory, Terms, layout_in}
+use Rattle.g1_history.specs.History.{History, IsHistory, Terms, layout_in}
 use Rattle.g1_trace.specs.Bytes.{AppendsFront}
 use Rattle.g1_trace.specs.Text.{stores_text}
 use Rattle.g1_trace.proofs.PutLemmas.{front_more, puts_none, puts_then}
 use Rattle.g1_replay.specs.declared.stop.Stop.{Stop}
-use Rattle.g1_replay.specs.declared.stop.Stop.TheVariants.{NoMemory, BookFull, NoThread, WriteFailed}
+use Rattle.g1_replay.specs.declared.stop.Stop.TheVariants.{Fault, NoMemory, BookFull, NoThread, WriteFailed}
 use Rattle.g1_replay.specs.Crew.{CrewRan}
 use Rattle.g1_replay.specs.Drains.{drains, HasDrained}
 use Rattle.g1_replay.specs.Laws.{played_none}
+use Rattle.g1_replay.specs.Output.{StartsNoThread}
 use Rattle.g1_replay.specs.Pieces.{entries_of}
 use Rattle.g1_replay.specs.Playing.{HasPlayed, IsBookFull, MayStop, Writes, written_by}
 use Rattle.g1_replay.specs.Scripted.{IsRunEnd, IsUnstarted}
 use Rattle.std.specs.Io.KnownBytes.{Appends}
 
 -- a book with drains behind it is a run, and its text counts the stores in front of them
-ran_book : (old new : History) (k : ℕ) (r : Result (Unit {0}) Stop) (text : List ℕ) → HasPlayed old (drains k) text new → IsHistory new → IsRunEnd r → (r ≡ Err BookFull → IsBookFull new) → (r ≡ Ok tt → k ≡ (layout_in old).regions)
+ran_book : (old new : History) (k : ℕ) (r : Result (Unit {0}) Stop) (text : List ℕ) → HasPlayed old (drains k) text new → IsHistory new → IsRunEnd r → StartsNoThread r → (r ≡ Err BookFull → IsBookFull new) → (r ≡ Ok tt → k ≡ (layout_in old).regions)
     → CrewRan (layout_in old) old.limit r (stores_text (count_by is_store old.entries) ++ text)
-ran_book old new k r text p h ends full all =
+ran_book old new k r text p h ends alone full all =
     let es : new.entries ≡ old.entries ++ entries_of p.pieces = p.grows.entries in
     let most : new.limit ≡ old.limit = ap (λ (t : Terms). t.limit) p.grows.terms in
     let shape : layout_in new ≡ layout_in old = ap (λ (t : Terms). t.layout) p.grows.terms in
@@ -37,7 +38,7 @@ ran_book old new k r text p h ends full all =
       within = subst (λ (xs : List Entry). length xs ≤ old.limit) es (subst (λ (n : ℕ). length new.entries ≤ n) most h.within);
       full = λ e. ap (λ (xs : List Entry). length xs) (sym es) ∙ full e ∙ most;
       all = all;
-      said = inr (ap (λ t. stores_text (count_by is_store old.entries) ++ t) p.said);
+      said = inr (alone, ap (λ t. stores_text (count_by is_store old.entries) ++ t) p.said);
     }
 
 pub may_end : (stop : Stop) → MayStop stop → IsRunEnd (Err stop)
@@ -46,21 +47,28 @@ may_end BookFull h = tt
 may_end WriteFailed h = tt
 may_end stop h = absurd h
 
-pub ends_by : (r : Result (Unit {0}) Stop) → IfErr r MayStop → IsRunEnd r
+ends_by : (r : Result (Unit {0}) Stop) → IfErr r MayStop → IsRunEnd r
 ends_by (Ok done) h = tt
 ends_by (Err stop) h = may_end stop h
+
+-- drains start no thread
+pub drains_alone : (r : Result (Unit {0}) Stop) → IfErr r MayStop → StartsNoThread r
+drains_alone (Ok done) h = tt
+drains_alone (Err NoThread) h = absurd h
+drains_alone (Err (Fault f)) h = tt
+drains_alone (Err stop) h = tt
 
 -- the count could not be written
 pub stores_failed : (h : History) (out out' : Option (List ℕ)) → IsHistory h → AppendsFront out out' (stores_text (count_by is_store h.entries))
     → (text : List ℕ) × CrewRan (layout_in h) h.limit (Err WriteFailed) text × Writes {V = Unit {0}} out out' (Err WriteFailed) text
 stores_failed h out out' history w =
-    (stores_text (count_by is_store h.entries) ++ [], ran_book h h 0 (Err WriteFailed) [] (played_none h) history tt (λ e. cc) (λ e. cc), front_more out out' (stores_text (count_by is_store h.entries)) [] w)
+    (stores_text (count_by is_store h.entries) ++ [], ran_book h h 0 (Err WriteFailed) [] (played_none h) history tt tt (λ e. cc) (λ e. cc), front_more out out' (stores_text (count_by is_store h.entries)) [] w)
 
 -- the count was written, and drains behind it
 pub book_written : (old new : History) (out mid_out out' : Option (List ℕ)) (r : Result (Unit {0}) Stop) → IfErr r MayStop → IsHistory new → Appends out mid_out (stores_text (count_by is_store old.entries))
     → HasDrained HasPlayed IsBookFull (layout_in old).regions old new mid_out out' r → (text : List ℕ) × CrewRan (layout_in old) old.limit r text × Writes out out' r text
 book_written old new out mid_out out' r stops history w d =
-    (stores_text (count_by is_store old.entries) ++ d.text, ran_book old new d.drained r d.text d.played history (ends_by r stops) d.filled d.all, puts_then out mid_out out' (written_by r) (stores_text (count_by is_store old.entries)) d.text w d.written)
+    (stores_text (count_by is_store old.entries) ++ d.text, ran_book old new d.drained r d.text d.played history (ends_by r stops) (drains_alone r stops) d.filled d.all, puts_then out mid_out out' (written_by r) (stores_text (count_by is_store old.entries)) d.text w d.written)
 
 -- a job was refused, and nothing was written
 pub job_refused : (h : History) (stop : Stop) (out : Option (List ℕ)) → IsHistory h → MayStop stop → (stop ≡ BookFull → IsBookFull h) → (text : List ℕ) × CrewRan (layout_in h) h.limit (Err stop) text × Writes {V = Unit {0}} out out (Err stop) text
@@ -81,7 +89,7 @@ job_refused h stop out history may full = (
   puts_none out (written_by {V = Unit {0}} (Err stop)),
 )
 
-pub unstarted_end : (stop : Stop) → IsUnstarted stop → IsRunEnd (Err stop)
+unstarted_end : (stop : Stop) → IsUnstarted stop → IsRunEnd (Err stop)
 unstarted_end NoMemory h = tt
 unstarted_end NoThread h = tt
 unstarted_end stop h = absurd h

@@ -17,7 +17,7 @@ use Rattle.g1_race.specs.Members.{racer_view}
 use Rattle.g1_steps.specs.declared.crew.job.Job.{Job}
 use Rattle.g1_steps.specs.declared.crew.desk.Script.{Script}
 use Rattle.g1_steps.specs.declared.crew.desk.Script.TheVariants.{Mutate, Refine}
-use Rattle.g1_book.specs.declared.refusal.Refusal.{Refusal}
+use Rattle.g1_history.specs.declared.refusal.Refusal.{Refusal}
 use Rattle.g1_steps.specs.declared.crew.desk.Step.{Step}
 use Rattle.g1_steps.specs.declared.crew.desk.Step.TheVariants as step
 use Rattle.g1_steps.specs.Ask.{Ask, ScriptFits, StepFits, asks_in, asks_of}

@@ -1,6 +1,6 @@
 -- Lines that were read: one, and one after another.
 use Rattle.std.proofs.Common.{◌≡◌, ◌≢◌, ℕ, ◌+◌, ◌<◌, ◌≤◌, List, [], ◌∷◌, ◌++◌, refl, length, take, sym, ap, ◌∙◌, subst, arith, append_assoc, append-nil, Option, Some, None, true, false, rules}
-use Rattle.std.specs.Prelude.{Bool, Result, Ok, Err, nat_lt, option_to_list}
+use Rattle.std.specs.Prelude.{Bool, Result, Ok, Err, nat_lt, option_to_list, zero, suc}
 use Rattle.std.proofs.KnownBytes.{Consumes-nil, Consumes-trans}
 use Rattle.std.proofs.lemmas.Bool.{ne_eqb}
 use Rattle.std.proofs.lemmas.List.{length-append}
@@ -86,6 +86,15 @@ header_read d heap n rd rd' line h e = line_read d None heap n rd rd' line [] h 
 pub command_read : (d : Dialect) (l : Shape) (n : ℕ) (rd rd' : Option (List ℕ)) (line : List ℕ) (o : Option Command) → ReadsLine rd rd' (Ok true) line → Ok o ≡ read_command l d line
     → Reads d (Some l) n (n + 1) rd rd' (Some l) (option_to_list o) (Ok true)
 command_read d l n rd rd' line o h e = line_read d (Some l) (Some l) n rd rd' line (option_to_list o) h (rw (← e) refl)
+
+-- a line has a byte at least, its line feed
+pub takes_some : (n : ℕ) (bytes line : List ℕ) → take n bytes ≡ line ++ 10 ∷ [] → 0 < n
+takes_some zero bytes line e = absurd (no_feed line e)
+  where
+    no_feed : (line : List ℕ) → [] ≡ line ++ 10 ∷ [] → ⊥
+    no_feed [] e = cc
+    no_feed (x ∷ line) e = cc
+takes_some (suc n) bytes line e = omega arith
 
 -- a line at the front of what a reader shows
 pub shown_read : (d : Dialect) (l : Shape) (n : ℕ) (rd rd' : Option (List ℕ)) (shown : List ℕ) (c : Command) (count : ℕ) → IsLineBefore l d shown c count → Consumes rd rd' (take count shown)

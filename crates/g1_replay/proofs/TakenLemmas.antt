@@ -4,7 +4,7 @@ use Rattle.std.specs.List.{All}
 use Rattle.g1_layout.specs.Shape.{Shape}
 use Rattle.g1_log.specs.declared.line.Line.{Line}
 use Rattle.g1_log.specs.Ends.{IsSenderOf, capacity_of}
-use Rattle.g1_book.specs.History.{History}
+use Rattle.g1_history.specs.History.{History}
 use Rattle.g1_steps.specs.Lent.{Grows}
 use Rattle.g1_steps.specs.Opening.{AreNewMutators}
 use Rattle.g1_steps.specs.declared.steps.mutator.Mutator.{Mutator}

@@ -1,22 +1,22 @@
 -- From what was read and played to the text of a permitted run.
-use Rattle.std.proofs.Common.{◌≡◌, ◌≤◌, ℕ, List, [], ◌++◌, refl, length, sym, ap, ◌∙◌, subst, arith, Option, Some, None, true}
-use Rattle.std.specs.Prelude.{Result, Ok, Err, IfSome, IfNone}
+use Rattle.std.proofs.Common.{◌≡◌, ◌≤◌, ℕ, List, [], ◌++◌, refl, length, sym, ap, ◌∙◌, subst, arith, Option, Some, None, true, inl, inr, ◌⊎◌}
+use Rattle.std.specs.Prelude.{Result, Ok, Err, IfErr, IfSome, IfNone}
 use Rattle.std.proofs.KnownBytes.{Appends-nil}
 use Rattle.g1_layout.specs.Shape.{Shape}
 use Rattle.g1_core.specs.declared.config.Settings.{Settings}
 use Rattle.g1_core.specs.Table.{opening}
 use Rattle.g1_core.specs.declared.entry.Entry.{Entry}
 use Rattle.g1_core.specs.Run.{IsPermitted}
-use Rattle.g1_book.specs.History.{History, IsHistory, Terms, layout_in}
+use Rattle.g1_history.specs.History.{History, IsHistory, Terms, layout_in}
 use Rattle.g1_steps.specs.Lent.{Grows}
 use Rattle.g1_trace.specs.declared.command.Command.{Command}
 use Rattle.g1_trace.specs.declared.dialect.Dialect.{Dialect}
 use Rattle.g1_options.specs.declared.options.Options.{Options}
 use Rattle.g1_replay.specs.declared.stop.Stop.{Stop}
 use Rattle.g1_replay.specs.declared.stop.Stop.TheVariants.{Fault, NoMemory, BookFull, NoThread, ReadFailed, WriteFailed}
-use Rattle.g1_replay.specs.Output.{Told, end_met}
+use Rattle.g1_replay.specs.Output.{StartsNoThread, Told, end_met}
 use Rattle.g1_replay.specs.Pieces.{AreSetBy, entries_of}
-use Rattle.g1_replay.specs.Playing.{IsOpened, IsBookFull, IsUndone, HasPlayed, Follows, Writes}
+use Rattle.g1_replay.specs.Playing.{IsOpened, IsBookFull, IsUndone, HasPlayed, Follows, MayStop, Writes}
 use Rattle.g1_replay.specs.Reading.{IsReadStop, Reads}
 use Rattle.g1_replay.proofs.ReadingLemmas.{reads_then}
 
@@ -36,14 +36,15 @@ nothing_full history BookFull none e = cc
 nothing_full history stop none e = cc
 
 -- nothing was done
-told_nothing : (d : Dialect) (s : Settings) (history n n' : ℕ) (rd rd' : Option (List ℕ)) (heap : Option Shape) (stop : Stop) → IsUndone {V = Unit {0}} (Err stop) [] → Reads d None n n' rd rd' heap [] (Err stop)
+told_nothing : (d : Dialect) (s : Settings) (history n n' : ℕ) (rd rd' : Option (List ℕ)) (heap : Option Shape) (stop : Stop) → StartsNoThread (Err stop) → IsUndone {V = Unit {0}} (Err stop) [] → Reads d None n n' rd rd' heap [] (Err stop)
     → Told d s history n n' rd rd' (Err stop) []
-told_nothing d s history n n' rd rd' heap stop none read = record {
+told_nothing d s history n n' rd rd' heap stop ends none read = record {
   heap = heap;
   commands = [];
   done = [];
   undone = [];
   pieces = [];
+  ends = ends;
   read = read;
   all = refl;
   stopped = none;
@@ -59,8 +60,8 @@ told_nothing d s history n n' rd rd' heap stop none read = record {
 -- a trace without a header
 pub head_told : (d : Dialect) (s : Settings) (history n n' : ℕ) (rd rd' out : Option (List ℕ)) (stop : Stop) → IsReadStop stop → Reads d None n n' rd rd' None [] (Err stop)
     → (text : List ℕ) × Told d s history n n' rd rd' (Err stop) text × Writes {V = Unit {0}} out out (Err stop) text
-head_told d s history n n' rd rd' out (Fault f) h read = ([], told_nothing d s history n n' rd rd' None (Fault f) refl read, Appends-nil out)
-head_told d s history n n' rd rd' out ReadFailed h read = ([], told_nothing d s history n n' rd rd' None ReadFailed refl read, Appends-nil out)
+head_told d s history n n' rd rd' out (Fault f) h read = ([], told_nothing d s history n n' rd rd' None (Fault f) tt refl read, Appends-nil out)
+head_told d s history n n' rd rd' out ReadFailed h read = ([], told_nothing d s history n n' rd rd' None ReadFailed tt refl read, Appends-nil out)
 head_told d s history n n' rd rd' out stop h read = absurd h
 
 -- a header, and no memory for what it asks for
@@ -68,7 +69,7 @@ pub unopened_told : (d : Dialect) (s : Settings) (history n n' : ℕ) (l : Shape
     → (text : List ℕ) × Told d s history n n' rd rd' (Err NoMemory) text × Writes {V = Unit {0}} out out (Err NoMemory) text
 unopened_told d s history n n' l rd rd' out read =
     let halted : Reads d None n n' rd rd' (Some l) [] (Err NoMemory) = record { lines = read.lines; rest = read.rest; consumed = read.consumed; passed = read.passed; met = read.met } in
-    ([], told_nothing d s history n n' rd rd' (Some l) NoMemory (omega arith) halted, Appends-nil out)
+    ([], told_nothing d s history n n' rd rd' (Some l) NoMemory tt (omega arith) halted, Appends-nil out)
 
 entries_grown : (l : Shape) (o : Options) (book new : History) (es : List Entry) → IsOpened l o book → Grows book es new → new.entries ≡ es
 entries_grown l o book new es is g = g.entries ∙ ap (λ (h : History). h.entries ++ es) is
@@ -100,12 +101,20 @@ written_as out out' (Err NoThread) text w = w
 written_as out out' (Err ReadFailed) text w = w
 written_as out out' (Err WriteFailed) text w = w
 
+-- neither a line nor a command starts a thread
+starts_none : (r : Result (Unit {0}) Stop) → IfErr r (λ stop. IsReadStop stop ⊎ MayStop stop) → StartsNoThread r
+starts_none (Ok done) h = tt
+starts_none (Err (Fault f)) h = tt
+starts_none (Err NoThread) (inl h) = absurd h
+starts_none (Err NoThread) (inr h) = absurd h
+starts_none (Err stop) h = tt
+
 -- what was read and played behind the header is the text of a permitted run
 pub played_told : {S : Type 0} (book_of : S → History) (d : Dialect) (o : Options) (n n1 n' : ℕ) (l : Shape) (old new : S) (rd rd1 rd' out out' : Option (List ℕ)) (r : Result (Unit {0}) Stop)
     → IsOpened l o (book_of old) → Reads d None n n1 rd rd1 (Some l) [] (Ok true)
-    → Follows (λ s cs text t. HasPlayed (book_of s) cs text (book_of t)) (λ s. IsBookFull (book_of s)) d l n1 n' old new rd1 rd' out out' (end_met r) → IsHistory (book_of new)
+    → Follows (λ s cs text t. HasPlayed (book_of s) cs text (book_of t)) (λ s. IsBookFull (book_of s)) d l n1 n' old new rd1 rd' out out' (end_met r) → IfErr r (λ stop. IsReadStop stop ⊎ MayStop stop) → IsHistory (book_of new)
     → (text : List ℕ) × Told d o.config o.history n n' rd rd' r text × Writes out out' r text
-played_told book_of d o n n1 n' l old new rd rd1 rd' out out' r is head f h =
+played_told book_of d o n n1 n' l old new rd rd1 rd' out out' r is head f stops h =
     let p = f.done.made in
     let es : (book_of new).entries ≡ entries_of p.pieces = entries_grown l o (book_of old) (book_of new) (entries_of p.pieces) is p.grows in
     let most : (book_of new).limit ≡ o.history = limit_kept l o (book_of old) (book_of new) (entries_of p.pieces) is p.grows in
@@ -117,6 +126,7 @@ played_told book_of d o n n1 n' l old new rd rd1 rd' out out' r is head f h =
         done = f.done.done;
         undone = f.done.undone;
         pieces = p.pieces;
+        ends = starts_none r stops;
         read = reads_then d None (Some l) (Some l) n n1 n' rd rd1 rd' [] f.commands (end_met r) head f.read;
         all = f.done.all;
         stopped = undone_as r f.done.undone f.done.stopped;

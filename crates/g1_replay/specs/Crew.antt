@@ -14,6 +14,7 @@ use Rattle.g1_trace.specs.Trace.{read_trace}
 use Rattle.g1_replay.specs.declared.stop.Stop.{Stop}
 use Rattle.g1_replay.specs.declared.stop.Stop.TheVariants.{BookFull}
 use Rattle.g1_replay.specs.Drains.{drains}
+use Rattle.g1_replay.specs.Output.{StartsNoThread}
 use Rattle.g1_replay.specs.Pieces.{Piece, Walks, lines_of, entries_of}
 use Rattle.g1_replay.specs.Scripted.{IsRunEnd, Scripted}
 
@@ -23,7 +24,8 @@ abbrev pub IsCrewText : List Entry → List Command → List Piece → Result (U
     → Type 0
 IsCrewText entries commands pieces r text =
     ((stop : Stop) × (r ≡ Err stop) × (commands ≡ []) × (text ≡ []))
-    ⊎ (text ≡ stores_text (count_by is_store entries) ++ lines_of commands pieces)
+    ⊎ (StartsNoThread r
+    × (text ≡ stores_text (count_by is_store entries) ++ lines_of commands pieces))
 
 -- The scripts came to a permitted run, which drains of the first regions end; at the whole end
 -- those of all regions. The run has at most `history` entries, and just as many where the book is

@@ -3,7 +3,7 @@ use Rattle.std.proofs.Common.{◌≡◌, ℕ, List, [], ◌∷◌, ◌++◌, ref
 use Rattle.std.proofs.Common.{append-nil}
 use Rattle.g1_core.specs.declared.config.Settings.{Settings}
 use Rattle.g1_core.specs.declared.entry.Entry.{Entry}
-use Rattle.g1_book.specs.History.{History, Terms, layout_in}
+use Rattle.g1_history.specs.History.{History, Terms, layout_in}
 use Rattle.g1_steps.specs.Lent.{Grows}
 use Rattle.g1_trace.specs.declared.command.Command.{Command}
 use Rattle.g1_replay.specs.Playing.{HasPlayed}

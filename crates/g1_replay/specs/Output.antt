@@ -29,6 +29,11 @@ abbrev pub end_met : Result (Unit {0}) Stop → Result Bool Stop
 end_met (Ok done) = Ok false
 end_met (Err stop) = Err stop
 
+-- what may end a part of a replay that starts no thread
+abbrev pub StartsNoThread : Result (Unit {0}) Stop → Type 0
+StartsNoThread (Err NoThread) = ⊥
+StartsNoThread r = Unit {0}
+
 -- The text is that of a permitted run which belongs to the commands before the end, by a book of
 -- these settings. The run has at most `history` entries, and just as many where the book is full.
 pub record Told (d : Dialect) (s : Settings) (history n n' : ℕ) (rd rd' : Option (List ℕ))
@@ -38,6 +43,7 @@ pub record Told (d : Dialect) (s : Settings) (history n n' : ℕ) (rd rd' : Opti
   pub done : List Command
   pub undone : List Command
   pub pieces : List Piece
+  pub ends : StartsNoThread r
   pub read : Reads d None n n' rd rd' heap commands (end_met r)
   pub all : commands ≡ done ++ undone
   pub stopped : IsUndone r undone

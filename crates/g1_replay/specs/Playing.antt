@@ -6,10 +6,10 @@ use Rattle.std.specs.Io.KnownBytes.{Consumes}
 use Rattle.g1_layout.specs.Shape.{Shape}
 use Rattle.g1_log.specs.declared.line.Line.{Line}
 use Rattle.g1_log.specs.Ends.{capacity_of}
-use Rattle.g1_book.specs.History.{History, opened, layout_in}
+use Rattle.g1_history.specs.History.{History, opened, layout_in}
 use Rattle.g1_steps.specs.Lent.{Grows}
-use Rattle.g1_book.specs.declared.refusal.Refusal.{Refusal}
-use Rattle.g1_book.specs.declared.refusal.Refusal.TheVariants as refusal
+use Rattle.g1_history.specs.declared.refusal.Refusal.{Refusal}
+use Rattle.g1_history.specs.declared.refusal.Refusal.TheVariants as refusal
 use Rattle.g1_trace.specs.declared.command.Command.{Command}
 use Rattle.g1_trace.specs.declared.dialect.Dialect.{Dialect}
 use Rattle.g1_options.specs.declared.options.Options.{Options}

@@ -17,7 +17,9 @@ use Rattle.g1_trace.specs.declared.dialect.Dialect.{Dialect}
 use Rattle.g1_trace.specs.Text.{drained_line, stores_text}
 use Rattle.g1_trace.specs.Trace.{read_trace}
 use Rattle.g1_replay.specs.declared.stop.Stop.{Stop}
+use Rattle.g1_replay.specs.declared.stop.Stop.TheVariants.{BookFull}
 use Rattle.g1_replay.specs.Drains.{drains}
+use Rattle.g1_replay.specs.Output.{StartsNoThread}
 use Rattle.g1_replay.specs.Scripted.{IsRunEnd, Scripted}
 
 abbrev pub is_store_command : Command → Bool
@@ -90,17 +92,22 @@ pub record HasRaced (l : Shape) (mutators : ℕ) (commands : List Command) (drai
   pub left : AreLeftBy l mutators commands refs
   pub exact : AreExact l commands refs (drains drained) answers
 
+-- what may end the race of a trace that was read to its end: it has no book
+abbrev pub IsRaceEnd : Result (Unit {0}) Stop → Type 0
+IsRaceEnd (Err BookFull) = ⊥
+IsRaceEnd r = IsRunEnd r
+
 -- Nothing was written, since something stopped the race; or how many stores there are was, and the
 -- lines of the drains of the first regions behind it, at the end without a stop of all regions.
 abbrev pub IsRaceText : Shape → ℕ → List Command → Result (Unit {0}) Stop → List ℕ → Type 0
 IsRaceText l mutators commands r text = ((stop : Stop) × (r ≡ Err stop) × (text ≡ []))
     ⊎ ((drained : ℕ) × (answers : List Drained) × HasRaced l mutators commands drained answers
-    × (r ≡ Ok tt → drained ≡ l.regions)
+    × StartsNoThread r × (r ≡ Ok tt → drained ≡ l.regions)
     × (text ≡ stores_text (count_by is_store_command commands) ++ drained_text answers))
 
 -- what racing the scripts of these commands comes to
 abbrev pub RaceRan : ℕ → Shape → List Command → Result (Unit {0}) Stop → List ℕ → Type 0
-RaceRan mutators l commands r text = IsRunEnd r × IsRaceText l mutators commands r text
+RaceRan mutators l commands r text = IsRaceEnd r × IsRaceText l mutators commands r text
 
 -- what a race reads and writes, but for the line of its end
 abbrev pub RacedTrace : Dialect → ℕ → ℕ → Option (List ℕ) → Option (List ℕ) → Result (Unit {0}) Stop

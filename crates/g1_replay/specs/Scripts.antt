@@ -11,7 +11,7 @@ use Rattle.g1_steps.specs.declared.crew.desk.Step.{Step}
 use Rattle.g1_steps.specs.declared.crew.desk.Step.TheVariants as step
 use Rattle.g1_steps.specs.declared.crew.desk.Script.{Script}
 use Rattle.g1_steps.specs.declared.crew.desk.Script.TheVariants.{Mutate, Refine}
-use Rattle.g1_book.specs.declared.refusal.Refusal.{Refusal}
+use Rattle.g1_history.specs.declared.refusal.Refusal.{Refusal}
 use Rattle.g1_trace.specs.declared.command.Command.{Command}
 use Rattle.g1_trace.specs.declared.command.Command.TheVariants.{Store, Flush}
 

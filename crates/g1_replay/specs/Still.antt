@@ -1,8 +1,12 @@
--- Logs of mutators that stand still, and logs as they begin.
+-- Logs of mutators that stand still, logs as they begin, and the line of completed buffers at a
+-- pause.
 use Rattle.std.specs.Prelude.{◌≡◌, ℕ, ◌<◌, Bool, true, false, List, [], length, slice_index_or}
+use Rattle.g1_log.specs.declared.ends.Taker.{Taker}
+use Rattle.g1_log.specs.Ends.{taken_of}
 use Rattle.g1_log.specs.Log.{Cards}
 use Rattle.g1_core.specs.declared.entry.Call.{Call}
 use Rattle.g1_core.specs.declared.entry.Call.TheVariants.{Drain, Redirect}
+use Rattle.g1_steps.specs.Steps.{Empties}
 use Rattle.g1_steps.specs.declared.steps.mutator.Mutator.{Mutator}
 use Rattle.g1_trace.specs.declared.command.Command.{Command}
 use Rattle.g1_trace.specs.declared.command.Command.TheVariants as command
@@ -21,6 +25,12 @@ pauses _ = false
 abbrev pub AreStill : List Mutator → Type 0
 AreStill mutators =
     (k : ℕ) (d : Mutator) → k < length mutators → (slice_index_or mutators k d).log.cards ≡ []
+
+-- The first of the takers emptied a line of at most `most` parcels.
+abbrev pub FirstEmpties : List Taker → ℕ → List Taker → Type 0
+FirstEmpties old most new =
+    (d : Taker)
+    → Empties (taken_of (slice_index_or old 0 d)) most (taken_of (slice_index_or new 0 d))
 
 -- An empty log of this size.
 abbrev pub IsNewLog : ℕ → Cards → Type 0

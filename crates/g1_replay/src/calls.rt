@@ -1,7 +1,7 @@
 //! The questions, drains, clears and redirects of a trace: each is one call of the first caller,
 //! and its line.
 ghost use Rattle.std.specs.Prelude.{◌∷◌, [], IfErr, codes};
-ghost use Rattle.g1_book.specs.History.{layout_in};
+ghost use Rattle.g1_history.specs.History.{layout_in};
 ghost use Rattle.g1_trace.specs.Bytes.{Puts};
 ghost use Rattle.g1_trace.specs.Grammar.{IsCommandCall};
 ghost use Rattle.g1_trace.specs.Text.{call_line};
@@ -9,8 +9,8 @@ ghost use Rattle.g1_replay.specs.Playing.{Does, HasPlayed, IsBookFull, MayStop};
 ghost use Rattle.g1_replay.specs.Reading.{more_may_come};
 
 use crate::stop::Stop;
-use g1_book::Book;
 use g1_core::{Call, Reply};
+use g1_history::Book;
 use g1_trace::{
     Command, WriteFailed, put, put_cards, put_clear_reply, put_either, put_redirected, put_status,
     put_target,

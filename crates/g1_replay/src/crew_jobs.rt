@@ -2,8 +2,8 @@
 ghost use Rattle.std.specs.Prelude.{◌≡◌, ◌+◌, ◌≤◌, ℕ, [], drop, true, IfErr, IfOk, All, map};
 ghost use Rattle.std.specs.Prelude.{count_by, sum_by, vec_len, vec_capacity, ◌^◌, ◌<◌};
 ghost use Rattle.g1_shared.specs.Callers.{IsCallerOf};
-ghost use Rattle.g1_shared.specs.Counts.{is_store};
-ghost use Rattle.g1_book.specs.History.{terms_of};
+ghost use Rattle.g1_shared.specs.Counts.{is_store, kept_terms, shared_terms};
+ghost use Rattle.g1_history.specs.History.{terms_of};
 ghost use Rattle.g1_layout.specs.Shape.{slot_count};
 ghost use Rattle.g1_steps.specs.Ask.{StepFits};
 ghost use Rattle.g1_replay.specs.RaceJobs.{AllFrom};
@@ -12,10 +12,10 @@ ghost use Rattle.g1_replay.specs.Scripts.{first_refusal, HasCome, IsScriptAt};
 
 use crate::scripts::refusal_of;
 use crate::stop::Stop;
-use g1_book::{Book, Refusal};
+use g1_history::{Book, Refusal};
 use g1_layout::NoMemory;
 use g1_options::Options;
-use g1_shared::{Caller, Frame, Shared, SharedDesk};
+use g1_shared::{Caller, Shared, SharedDesk, Terms};
 use g1_steps::{Job, Script, Step, run_crew};
 use std::alloc::Global;
 use std::marker::Send;
@@ -37,7 +37,7 @@ fn next_script(scripts: &mut Vec<Vec<Step>>, rounds: u32) -> Script
 
 // One job for each caller, in the order of the callers: each mutator's calls, and then rounds of
 // refinement.
-fn jobs_of<'a, T, M: Frame, S: Ledger>(
+fn jobs_of<'a, T, M: Terms, S: Ledger>(
     rt: &'a T,
     alloc: Global,
     shared: &'a Shared<M, S>,
@@ -68,7 +68,7 @@ fn jobs_of<'a, T, M: Frame, S: Ledger>(
 }
 
 // The callers, how many stores they have made, and why the first job that was refused was.
-fn callers_of<'a, T, M: Frame, S: Ledger>(
+fn callers_of<'a, T, M: Terms, S: Ledger>(
     jobs: Vec<Job<SharedDesk<'a, T, M, S>>>,
     room: Vec<Caller<M, S>>,
 ) -> (Vec<Caller<M, S>>, u64, Option<Refusal>)
@@ -102,7 +102,7 @@ fn callers_of<'a, T, M: Frame, S: Ledger>(
 ///
 /// Returns `NoMemory` if a growth for callers, jobs or scripts was refused, and `NoThread` if a
 /// thread could not be started. The book is then given up.
-pub(crate) fn run_jobs<T: Threads + Wait + Sync, M: Frame + Send + Sync, S: Ledger + Send + Sync>(
+pub(crate) fn run_jobs<T: Threads + Wait + Sync, M: Terms + Send + Sync, S: Ledger + Send + Sync>(
     rt: &T,
     alloc: Global,
     blanks: (Blank, Blank),
@@ -114,13 +114,13 @@ pub(crate) fn run_jobs<T: Threads + Wait + Sync, M: Frame + Send + Sync, S: Ledg
         × (blanks.0.parts ≡ options.now.mutators + options.now.refiners) }
     requires stored { (blanks.1.name ≡ S.name) × (blanks.1.parts ≡ S.parts)
         × (blanks.1.parts ≡ options.now.mutators + options.now.refiners) }
-    requires terms { terms_of book ≡ M.terms }
+    requires terms { shared_terms book ≡ M.terms }
     requires mutators { options.now.mutators ≡ M.terms.mutators }
     requires empty { book.entries ≡ [] }
     requires count { vec_len scripts ≡ M.terms.mutators }
     requires fits { All (λ steps. All (StepFits (slot_count M.terms.layout) true) steps.items)
         scripts.items }
-    ensures terms { IfOk result (λ done. terms_of done.0 ≡ M.terms) }
+    ensures terms { IfOk result (λ done. terms_of done.0 ≡ kept_terms M.terms) }
     ensures stores { IfOk result (λ done. done.1 ≡ count_by is_store done.0.entries) }
     ensures came { IfOk result (λ done. HasCome (λ steps. steps.items) options.now.rounds
         (options.now.mutators + options.now.refiners) scripts.items done.2 done.1) }

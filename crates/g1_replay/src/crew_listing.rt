@@ -84,7 +84,7 @@ impl Player for Scripts {
 /// Reads a trace to its end: its heap, and for each mutator its calls in the order of the trace.
 /// Nothing is written.
 ///
-/// A fault is of the line that `source` then counts as the next one. Returns `NoMemory` if a growth
+/// On a fault, `source.number` is the faulty line. Returns `NoMemory` if a growth
 /// for the calls was refused.
 pub(crate) fn read_crew<T: Wait, R: BufRead, W: Write>(
     rt: &T,

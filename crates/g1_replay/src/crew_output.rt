@@ -1,7 +1,7 @@
 //! What a crew prints of its book: how many stores there were, and a drain of each region.
 ghost use Rattle.std.specs.Prelude.{◌≡◌, ℕ, List, count_by};
 ghost use Rattle.g1_shared.specs.Counts.{is_store};
-ghost use Rattle.g1_book.specs.History.{IsHistory, layout_in};
+ghost use Rattle.g1_history.specs.History.{IsHistory, layout_in};
 ghost use Rattle.g1_replay.specs.Crew.{CrewRan};
 ghost use Rattle.g1_replay.specs.Laws.{played_in, played_none, played_then};
 ghost use Rattle.g1_replay.specs.Playing.{HasPlayed, IsBookFull, MayStop, Writes};
@@ -9,7 +9,7 @@ ghost use Rattle.g1_replay.specs.Playing.{HasPlayed, IsBookFull, MayStop, Writes
 use crate::calls::play_call;
 use crate::drains::{Drains, put_drains};
 use crate::stop::Stop;
-use g1_book::{Book, Call, Refusal};
+use g1_history::{Book, Call, Refusal};
 use g1_layout::Region;
 use g1_trace::put_stores;
 use std::io::Write;

@@ -17,7 +17,7 @@ use crate::end::End;
 use crate::engine::put_end;
 use crate::source::Source;
 use crate::stop::Stop;
-use g1_book::Book;
+use g1_history::Book;
 use g1_layout::Layout;
 use g1_options::Options;
 use g1_steps::Step;
@@ -29,7 +29,7 @@ use std::sync::Wait;
 use std::sync::ledger::Blank;
 use std::thread::Threads;
 
-// Runs the scripts, and writes what has come of it.
+// Runs the scripts, and prints the result.
 fn run_scripts<T: Threads + Wait + Sync, W: Write>(
     rt: &T,
     alloc: Global,
@@ -85,7 +85,7 @@ fn play_crew<T: Threads + Wait + Sync, R: BufRead, W: Write>(
 
 /// Replays a trace by a crew: reads all of it, makes the calls of each mutator in a thread of its
 /// own with refinement threads beside them, and writes how many stores were made and what a drain
-/// of each region returns (docs/TRACES.md).
+/// of each region returns (docs/traces.md).
 ///
 /// It writes how many stores a permitted run of the plain table has, then the lines of the drains
 /// that end this run, of each region in order, and then the line of the end, if it has one. Returns

@@ -25,8 +25,8 @@ pub(crate) trait Drains {
     /// It has no room for one more.
     ghost full: { Self → Type 0 };
 
-    /// Drains a region, and writes the line of its reply. A drain that is refused changes nothing
-    /// that a later one can tell.
+    /// Drains a region, and writes the line of its reply. A drain that is refused has no
+    /// effect that a later drain can see.
     fn put_drain<W: Write>(&mut self, region: Region, output: &mut W) -> Result<(), Stop>
         requires { region < (layout self.old).regions }
         ensures played { Does did full (Command.Call (Call.Drain region) ∷ []) self.old self.new

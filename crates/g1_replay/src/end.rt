@@ -1,6 +1,6 @@
 //! How a replay ends.
 
-/// How a replay ended (docs/TRACES.md, Ends).
+/// How a replay ended (docs/traces.md, Ends).
 #[derive(Clone, Copy, Debug, PartialEq, Eq)]
 pub enum End {
     /// The whole trace was done.

@@ -76,7 +76,7 @@ fn end_unless(written: Result<(), WriteFailed>, end: End) -> End
 }
 
 /// Replays a trace: reads it line by line, makes the calls of each command and writes its output
-/// line (docs/TRACES.md).
+/// line (docs/traces.md).
 ///
 /// It writes the text of a permitted run of the plain table that belongs to the commands that were
 /// read, a line for each command, and then the line of the end, if it has one. Returns `Whole` only
@@ -91,8 +91,8 @@ fn end_unless(written: Result<(), WriteFailed>, end: End) -> End
 ///
 /// It holds one line of the trace at a time, asks the reader for bytes at most 2^40 times, and
 /// tries no failed read or write again. A line is one write or a few, so give it a writer with a
-/// buffer. No line takes memory; only the history grows. It may wait for the queue of completed
-/// buffers, which nothing else uses.
+/// buffer. Reading and writing take no memory; history and sets grow, and the lists of replies. It
+/// may wait for the queue of completed buffers, which nothing else uses.
 pub fn run<T: Wait, R: BufRead, W: Write>(
     rt: &T,
     alloc: Global,

@@ -8,17 +8,15 @@ ghost use Rattle.g1_replay.specs.Lines.{GoesIntoLine, HasPart, ReadsPartOfShown,
 ghost use Rattle.g1_replay.specs.Lines.{ReadsPart, Reads, ReadsLine, EndsAtFeed};
 ghost use Rattle.g1_replay.specs.Reading.{IsReadStop};
 
+use crate::source::READ_LIMIT;
 use crate::stop::Stop;
 use arrayvec::ArrayVec;
 use g1_trace::TraceFault;
 use memchr::memchr_iter;
 use std::io::{BufRead, Read};
 
-/// How many bytes a line may have before its line feed (docs/TRACES.md, Lines and words).
+/// How many bytes a line may have before its line feed (docs/traces.md, Lines and words).
 pub const LINE_LIMIT: usize = 64;
-
-/// How many reads of the input are made at most (docs/TRACES.md, Ends).
-pub const READ_LIMIT: u64 = 1 << 40;
 
 /// How much of the line a reader's bytes have.
 #[derive(Clone, Copy)]
@@ -198,7 +196,7 @@ pub fn rest_of_line<R: BufRead>(
 }
 
 /// Reads the next line into `line`, which is empty, and counts the reads in `reads`
-/// (docs/TRACES.md, Lines and words). Returns whether there is one: at the end of the input there
+/// (docs/traces.md, Lines and words). Returns whether there is one: at the end of the input there
 /// is none.
 ///
 /// What the reader shows is taken at once. If it shows nothing, one read of one byte tells whether
@@ -213,7 +211,7 @@ pub fn next_line<R: BufRead>(
     ensures line { ReadsLine (R.remaining input.old) (R.remaining input.new) result line.new.items }
     ensures reads { reads.old ≤ reads.new }
     ensures more { result ≡ Ok true → reads.old < reads.new }
-    ensures limit { result ≡ Ok true → reads.new ≤ 2 ^ 40 }
+    ensures limit { reads.old ≤ 2 ^ 40 → reads.new ≤ 2 ^ 40 }
 {
     if *reads >= READ_LIMIT {
         return Err(Stop::ReadFailed);

@@ -56,7 +56,7 @@ impl Player for Listing {
 
 /// Reads a trace to its end: its heap, and its commands in order. Nothing is written.
 ///
-/// A fault is of the line that `source` then counts as the next one. Returns `NoMemory` if a growth
+/// On a fault, `source.number` is the faulty line. Returns `NoMemory` if a growth
 /// for the commands was refused.
 pub(crate) fn read_scripts<T: Wait, R: BufRead, W: Write>(
     rt: &T,

@@ -1,33 +1,35 @@
 //! What the commands of a trace are played on.
-ghost use Rattle.std.specs.Prelude.{◌≡◌, vec_len, IfOk};
+ghost use Rattle.std.specs.Prelude.{◌≡◌, ◌≤◌, vec_len, IfOk};
 ghost use Rattle.std.specs.List.{All};
 ghost use Rattle.std.proofs.Props.{props};
 ghost use Rattle.g1_log.specs.Ends.{IsSenderOf, IsTakerOf, capacity_of};
 ghost use Rattle.g1_replay.specs.Playing.{IsOpened};
 ghost use Rattle.g1_replay.specs.Still.{IsNewLog};
 
-use g1_book::Book;
+use g1_history::Book;
 use g1_layout::{Layout, NoMemory};
 use g1_log::{Line, Taker};
 use g1_options::Options;
 use g1_steps::{Mutator, open_line};
 use std::alloc::Global;
 
-/// A book, the queue of its completed buffers, and its mutators, with the taker of the first.
+/// A book, and its callers with the queue of their completed buffers: each of them is a mutator and
+/// has a taker.
 #[derive(Drop)]
 pub(crate) struct Machinery {
     pub book: Book,
     pub line: Line,
     pub mutators: Vec<Mutator>,
-    pub taker: Taker,
+    pub takers: Vec<Taker>,
     ghost of: { All (λ m. IsSenderOf line m.sender) mutators.items
-        × IsTakerOf line taker } by { Prim.hlevel props },
+        × All (IsTakerOf line) takers.items } by { Prim.hlevel props },
+    ghost callers: { (1 ≤ vec_len takers) × (vec_len takers ≡ vec_len mutators) },
 }
 
 impl Machinery {
     /// An empty heap, history and queue of completed buffers.
     ///
-    /// Returns `NoMemory` if a growth for heap, queue or mutators was refused.
+    /// Returns `NoMemory` if a growth for heap, queue or callers was refused.
     #[tactic(auto, using(crate::proofs::TakenLemmas::are_senders))]
     pub(crate) fn open(
         alloc: Global,
@@ -42,21 +44,20 @@ impl Machinery {
         ensures line { IfOk result (λ machinery.
             capacity_of machinery.line ≡ machinery.book.machine.settings.limit) }
     {
-        let (line, mutators, takers) = open_line(alloc, options.config, options.mutators, 1)?;
-        let mut takers = takers;
-        let taker = takers.take_last();
+        let callers = options.mutators;
+        let (line, mutators, takers) = open_line(alloc, options.config, callers, callers)?;
         let book = Book::open(
             alloc,
             layout,
             options.config,
-            options.mutators,
+            callers,
             options.history as usize,
         )?;
         Ok(Machinery {
             book,
             line,
             mutators,
-            taker,
+            takers,
         })
     }
 }

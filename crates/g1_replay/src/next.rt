@@ -1,6 +1,6 @@
 //! A line of a trace that the reader does not show as a whole.
 
-ghost use Rattle.std.specs.Prelude.{◌≤◌, ◌^◌, [], ℕ, List, Option, Some, IfOk, IfErr};
+ghost use Rattle.std.specs.Prelude.{◌≤◌, ◌*◌, ◌^◌, [], ℕ, List, Option, Some, IfOk, IfErr};
 ghost use Rattle.g1_replay.specs.Lines.{HasPart};
 ghost use Rattle.g1_replay.specs.Reading.{Reads, commands_of, next_met, IsNextCommandOf};
 ghost use Rattle.g1_replay.specs.Reading.{IsReadStop};
@@ -25,9 +25,9 @@ pub enum Next {
 }
 
 /// Reads on from the first part of a line behind the header, of which no byte is kept yet, and
-/// returns what the line asks for (docs/TRACES.md, Lines and words, Commands).
+/// returns what the line asks for (docs/traces.md, Lines and words, Commands).
 ///
-/// A fault is of the line that `source` then counts as the next one. Nothing behind the line is
+/// On a fault, `source.number` is the faulty line. Nothing behind the line is
 /// read, and no read follows a failed one. It takes no memory.
 pub fn read_next<R: BufRead>(
     part: Part,
@@ -36,15 +36,13 @@ pub fn read_next<R: BufRead>(
     dialect: Dialect,
     input: &mut R,
 ) -> Result<Next, Stop>
-    requires counted { source.old.number ≤ source.old.reads }
-    requires limit { source.old.reads ≤ 2 ^ 40 }
+    requires counted { source.old.number ≤ 2 ^ 20 * source.old.reads }
     ensures read { (begun : Option (List ℕ)) → HasPart begun (R.remaining input.old) part []
         → Reads dialect (Some layout.now) source.old.number source.new.number begun
         (R.remaining input.new) (Some layout.now) (commands_of result) (next_met result) }
     ensures stops { IfErr result IsReadStop }
     ensures valid { IfOk result (λ next. IsNextCommandOf layout.now dialect next) }
     ensures reads { source.old.reads ≤ source.new.reads }
-    ensures limit { source.new.reads ≤ 2 ^ 40 }
 {
     let mut line = ArrayVec::new();
     if !rest_of_line(part, &mut source.reads, input, &mut line)? {

@@ -1,6 +1,6 @@
 //! The lines of a trace up to its header.
 
-ghost use Rattle.std.specs.Prelude.{◌≡◌, [], ◌<◌, ◌≤◌, ◌^◌, Ok, None, IfErr};
+ghost use Rattle.std.specs.Prelude.{◌≡◌, [], ◌<◌, Ok, None, IfErr};
 ghost use Rattle.std.specs.Result.{result_ok};
 ghost use Rattle.g1_trace.specs.declared.dialect.Dialect.{Dialect};
 ghost use Rattle.g1_replay.specs.Reading.{Reads, more_may_come, opened_by, IsReadStop};
@@ -20,7 +20,6 @@ fn next_header<R: BufRead>(source: &mut Source, input: &mut R) -> Result<Option<
         (more_may_come result) }
     ensures stops { IfErr result IsReadStop }
     ensures more { result ≡ Ok None → source.old.reads < source.new.reads }
-    ensures limit { result ≡ Ok None → source.new.reads ≤ 2 ^ 40 }
 {
     let mut line = ArrayVec::new();
     if !next_line(&mut source.reads, input, &mut line)? {
@@ -31,10 +30,10 @@ fn next_header<R: BufRead>(source: &mut Source, input: &mut R) -> Result<Option<
     Ok(heap)
 }
 
-/// Reads the lines up to the header and with it, and returns the header's heap (docs/TRACES.md,
+/// Reads the lines up to the header and with it, and returns the header's heap (docs/traces.md,
 /// Commands).
 ///
-/// A fault is of the line that `source` then counts as the next one. Nothing behind the header's
+/// On a fault, `source.number` is the faulty line. Nothing behind the header's
 /// line is read, and no read follows a failed one. It takes no memory.
 pub fn read_heap<R: BufRead>(source: &mut Source, input: &mut R) -> Result<Layout, Stop>
     ensures read { (d : Dialect) → Reads d None source.old.number source.new.number

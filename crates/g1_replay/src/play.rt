@@ -2,10 +2,9 @@
 ghost use Rattle.std.specs.Prelude.{◌≡◌, ◌<◌, ◌≤◌, ◌∷◌, ℕ, [], true, IfOk, IfSome, IfErr, OnOk};
 ghost use Rattle.std.specs.Prelude.{vec_len};
 ghost use Rattle.g1_layout.specs.Shape.{slot_count};
-ghost use Rattle.g1_book.specs.History.{layout_in};
+ghost use Rattle.g1_history.specs.History.{layout_in};
 ghost use Rattle.g1_steps.specs.Rounds.{round_size};
-ghost use Rattle.g1_steps.specs.Steps.{Empties};
-ghost use Rattle.g1_log.specs.Ends.{capacity_of, taken_of};
+ghost use Rattle.g1_log.specs.Ends.{capacity_of};
 ghost use Rattle.g1_trace.specs.Grammar.{IsCommandCall, IsCommandOf};
 ghost use Rattle.g1_trace.specs.Text.{store_text, refine_text, work_text};
 ghost use Rattle.g1_replay.specs.Flush.{flush_text};
@@ -13,15 +12,15 @@ ghost use Rattle.g1_replay.specs.Laws.{played_none, played_then};
 ghost use Rattle.g1_replay.specs.Playing.{Does, IsAnswered, IsDone, IsBookFull, IsReady, HasPlayed};
 ghost use Rattle.g1_replay.specs.Playing.{MayStop};
 ghost use Rattle.g1_replay.specs.Reading.{more_may_come};
-ghost use Rattle.g1_replay.specs.Still.{is_pause, pauses, AreStill};
+ghost use Rattle.g1_replay.specs.Still.{is_pause, pauses, AreStill, FirstEmpties};
 
 use crate::calls::play_call;
 use crate::flush_output::put_flush_reply;
 use crate::machinery::Machinery;
 use crate::player::Player;
 use crate::stop::Stop;
-use g1_book::Refusal;
 use g1_core::{Call, RefineReply, StoreReply};
+use g1_history::Refusal;
 use g1_layout::{Layout, Slot};
 use g1_steps::{FlushReply, LentBook, refine as refine_next, stand_still, work as work_round};
 use g1_trace::{Command, Dialect, put_refine_reply, put_store_reply, put_work_reply};
@@ -57,8 +56,8 @@ impl Player for Machinery {
         ensures takes { OnOk result
             (IsReady self.new.book (vec_len self.new.mutators) self.new.line _layout _dialect) }
         ensures still { pauses command ≡ true → AreStill self.new.mutators.items
-            × Empties (taken_of self.old.taker) (capacity_of self.old.line)
-            (taken_of self.new.taker) }
+            × FirstEmpties self.old.takers.items (capacity_of self.old.line)
+            self.new.takers.items }
     {
         match command {
             Command::Store {
@@ -100,8 +99,8 @@ fn is_pause(call: &Call) -> bool
     matches!(call, Call::Drain(_) | Call::Redirect { .. })
 }
 
-// The mutators are stopped for a drain and a redirect: their logs and the queue of completed
-// buffers are emptied first.
+// The mutators are stopped for a drain and a redirect: their logs are emptied first, and the queue
+// of completed buffers by the taker of the first caller.
 fn one_call<T: Wait, W: Write>(
     rt: &T,
     machinery: &mut Machinery,
@@ -115,12 +114,12 @@ fn one_call<T: Wait, W: Write>(
     ensures mutators { vec_len machinery.new.mutators ≡ vec_len machinery.old.mutators }
     ensures line { machinery.new.line ≡ machinery.old.line }
     ensures still { is_pause call ≡ true → AreStill machinery.new.mutators.items
-        × Empties (taken_of machinery.old.taker) (capacity_of machinery.old.line)
-        (taken_of machinery.new.taker) }
+        × FirstEmpties machinery.old.takers.items (capacity_of machinery.old.line)
+        machinery.new.takers.items }
 {
     if is_pause(&call) {
         let mutators = machinery.mutators.as_mut_slice();
-        stand_still(rt, &machinery.line, &mut machinery.taker, mutators);
+        stand_still(rt, &machinery.line, &mut machinery.takers[0], mutators);
     }
     answer_call(machinery, call, output)
 }
@@ -134,7 +133,7 @@ fn answer_call<W: Write>(machinery: &mut Machinery, call: Call, output: &mut W) 
     ensures stops { IfErr result MayStop }
     ensures mutators { machinery.new.mutators ≡ machinery.old.mutators }
     ensures line { (machinery.new.line ≡ machinery.old.line)
-        × (machinery.new.taker ≡ machinery.old.taker) }
+        × (machinery.new.takers ≡ machinery.old.takers) }
 {
     play_call(&mut machinery.book, call, output)
 }
@@ -183,7 +182,8 @@ fn refine<T: Wait>(rt: &T, machinery: &mut Machinery) -> Result<RefineReply, Ref
     ensures line { machinery.new.line ≡ machinery.old.line }
 {
     let mut calls = LentBook::new(&mut machinery.book, 0);
-    let reply = refine_next(rt, &machinery.line, &mut machinery.taker, &mut calls)?;
+    let taker = &mut machinery.takers[0];
+    let reply = refine_next(rt, &machinery.line, taker, &mut calls)?;
     Ok(reply)
 }
 
@@ -198,7 +198,7 @@ fn work<T: Wait>(rt: &T, machinery: &mut Machinery) -> Result<RefineReply, Refus
 {
     let start = machinery.book.config().start();
     let mut calls = LentBook::new(&mut machinery.book, 0);
-    let taker = &mut machinery.taker;
+    let taker = &mut machinery.takers[0];
     let reply = work_round(rt, &machinery.line, taker, &mut calls, start)?;
     Ok(reply)
 }

@@ -1,16 +1,16 @@
 //! The lines of a trace behind its header, which are read and played.
-ghost use Rattle.std.specs.Prelude.{◌≡◌, ℕ, List, Option, [], ◌<◌, ◌≤◌, ◌^◌, ◌⊎◌, Ok, true};
-ghost use Rattle.std.specs.Prelude.{IfErr, OnOk};
+ghost use Rattle.std.specs.Prelude.{◌≡◌, ℕ, List, Option, [], ◌<◌, ◌≤◌, ◌*◌, ◌^◌, ◌⊎◌, Ok, true};
+ghost use Rattle.std.specs.Prelude.{IfErr, OnOk, take, length};
 ghost use Rattle.g1_replay.specs.Lines.{HasPart};
 ghost use Rattle.g1_replay.specs.Output.{end_met};
 ghost use Rattle.g1_replay.specs.Playing.{Follows};
 ghost use Rattle.g1_replay.specs.Reading.{IsReadStop};
 
-use crate::lines::{Part, READ_LIMIT};
+use crate::lines::Part;
 use crate::next::{Next, read_next};
 use crate::player::Player;
 use crate::shown::play_shown;
-use crate::source::Source;
+use crate::source::{READ_LIMIT, SHOWN_LIMIT, Source};
 use crate::stop::Stop;
 use g1_layout::Layout;
 use g1_trace::Dialect;
@@ -28,6 +28,14 @@ fn first_part(shown: &[u8]) -> Part
     }
 }
 
+// The front of what a reader shows: as many of its bytes as one read may take.
+fn front_of(shown: &[u8]) -> &[u8]
+    ensures front { (n : ℕ) → n ≤ length result.now → take n result.now ≡ take n shown.now }
+    ensures within { (length result.now ≤ length shown.now) × (length result.now ≤ 2 ^ 20) }
+{
+    shown.split_at(shown.len().min(SHOWN_LIMIT)).0
+}
+
 // The next line, of which the reader shows this part. Returns whether another may come: at the end
 // of the input it does not.
 fn play_line<T: Wait, P: Player, R: BufRead, W: Write>(
@@ -41,14 +49,12 @@ fn play_line<T: Wait, P: Player, R: BufRead, W: Write>(
     output: &mut W,
 ) -> Result<bool, Stop>
     requires part { HasPart (R.remaining input.old) (R.remaining input.old) part [] }
-    requires counted { source.old.number ≤ source.old.reads }
-    requires limit { source.old.reads ≤ 2 ^ 40 }
+    requires counted { source.old.number ≤ 2 ^ 20 * source.old.reads }
     requires takes { P.takes player.old layout.now dialect }
     ensures followed { Follows P.did P.full dialect layout.now source.old.number source.new.number
         player.old player.new (R.remaining input.old) (R.remaining input.new)
         (W.contents output.old) (W.contents output.new) result }
     ensures reads { source.old.reads ≤ source.new.reads }
-    ensures limit { source.new.reads ≤ 2 ^ 40 }
     ensures stops { IfErr result (λ stop. IsReadStop stop ⊎ P.stops stop) }
     ensures takes { OnOk result (P.takes player.new layout.now dialect) }
 {
@@ -78,7 +84,6 @@ fn play_some<T: Wait, P: Player, R: BufRead, W: Write>(
         player.old player.new (R.remaining input.old) (R.remaining input.new)
         (W.contents output.old) (W.contents output.new) result }
     ensures more { result ≡ Ok true → source.old.reads < source.new.reads }
-    ensures limit { result ≡ Ok true → source.new.reads ≤ 2 ^ 40 }
     ensures stops { IfErr result (λ stop. IsReadStop stop ⊎ P.stops stop) }
     ensures takes { OnOk result (P.takes player.new layout.now dialect) }
 {
@@ -91,13 +96,14 @@ fn play_some<T: Wait, P: Player, R: BufRead, W: Write>(
         Err(_) => return Err(Stop::ReadFailed),
     };
     let part = first_part(shown);
-    let (taken, played) = play_shown(rt, source, layout, dialect, shown, player, output);
+    let front = front_of(shown);
+    let number = &mut source.number;
+    let (taken, played) = play_shown(rt, number, layout, dialect, front, player, output);
     input.consume(taken);
     played?;
-    if taken > 0 || source.reads >= READ_LIMIT {
+    if taken > 0 {
         return Ok(true);
     }
-    source.reads += 1;
     play_line(rt, part, source, layout, dialect, input, player, output)
 }
 

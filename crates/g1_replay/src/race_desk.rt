@@ -12,8 +12,8 @@ ghost use Rattle.g1_replay.specs.Members.{is_racer, member_home, member_logged, 
 ghost use Rattle.g1_replay.specs.Members.{MemberDid};
 ghost use Rattle.g1_replay.specs.MembersDid.{member_did_none, member_did_then};
 
-use g1_book::Refusal;
 use g1_core::{CardList, Fill, RefineReply, StoreReply};
+use g1_history::Refusal;
 use g1_layout::{Card, Kind, NoMemory, Slot};
 use g1_log::{Buffer, Line, Sender, Taker};
 use g1_race::{Race, Racer, Sweeper};

@@ -1,5 +1,5 @@
 //! Reads a trace to its end, makes the stores of each mutator in a race, in a thread of its own,
-//! and writes what has come of it.
+//! and prints the result.
 ghost use Rattle.std.specs.Prelude.{◌≡◌, ℕ, List, ◌++◌, All, Result, IfSome};
 ghost use Rattle.g1_trace.specs.Grammar.{IsCommandOf};
 ghost use Rattle.g1_trace.specs.declared.mode.Mode.TheVariants.{Race};
@@ -24,7 +24,7 @@ use std::io::{BufRead, Write};
 use std::sync::Wait;
 use std::thread::Threads;
 
-// Races the scripts of the commands, and writes what has come of it.
+// Races the scripts of the commands, and prints the result.
 fn race_commands<T: Threads + Wait + Sync, W: Write>(
     rt: &T,
     alloc: Global,
@@ -71,7 +71,7 @@ fn play_race<T: Threads + Wait + Sync, R: BufRead, W: Write>(
 /// Replays a trace of stores by a race: reads all of it, and makes the stores of each mutator in a
 /// thread of its own with no lock around them and refinement threads beside them. Then, with the
 /// race closed and made a core, it writes how many stores were made and what a drain of each region
-/// returns (docs/TRACES.md, A race).
+/// returns (docs/traces.md, A race).
 ///
 /// It writes how many stores the trace has, then the lines of drains of the regions in order, and
 /// then the line of the end, if it has one. By the drains each slot refers to what some mutator

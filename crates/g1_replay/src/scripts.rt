@@ -3,7 +3,7 @@ ghost use Rattle.std.specs.Prelude.{◌≡◌, IfOk};
 ghost use Rattle.std.specs.List.{filter_map};
 ghost use Rattle.g1_replay.specs.Scripts.{asked_in, refusal_in, step_for, IsScriptOf};
 
-use g1_book::Refusal;
+use g1_history::Refusal;
 use g1_layout::NoMemory;
 use g1_options::Options;
 use g1_steps::{Outcome, Script, Step};

@@ -1,12 +1,11 @@
 //! The lines that a reader shows as a whole, read where they lie and played one after the other.
-ghost use Rattle.std.specs.Prelude.{◌≡◌, ◌<◌, ◌≤◌, ◌^◌, ◌⊎◌, take, length};
+ghost use Rattle.std.specs.Prelude.{◌≡◌, ◌<◌, ◌≤◌, ◌+◌, ◌^◌, ◌⊎◌, take, length};
 ghost use Rattle.std.specs.Prelude.{IfSome, IfErr, OnOk, IsNone};
 ghost use Rattle.g1_replay.specs.Playing.{FollowsFront};
 ghost use Rattle.g1_replay.specs.Reading.{IsReadStop, more_may_come};
 
-use crate::lines::{LINE_LIMIT, Part, READ_LIMIT, part_of};
+use crate::lines::{LINE_LIMIT, Part, part_of};
 use crate::player::Player;
-use crate::source::Source;
 use crate::stop::Stop;
 use g1_layout::Layout;
 use g1_trace::{Dialect, read_command, read_store};
@@ -15,10 +14,10 @@ use std::sync::Wait;
 
 /// Plays the lines at the front of what a reader shows, up to the first that is not there as a
 /// whole, or to what stops the replay. Returns how many bytes they take, with those of a line that
-/// stopped it.
+/// stopped it. `number` counts the lines.
 pub(crate) fn play_shown<T: Wait, P: Player, W: Write>(
     rt: &T,
-    source: &mut Source,
+    number: &mut u64,
     layout: &Layout,
     dialect: Dialect,
     shown: &[u8],
@@ -26,21 +25,19 @@ pub(crate) fn play_shown<T: Wait, P: Player, W: Write>(
     output: &mut W,
 ) -> (usize, Result<(), Stop>)
     requires takes { P.takes player.old layout.now dialect }
-    requires limit { source.old.reads ≤ 2 ^ 40 }
-    ensures followed { FollowsFront P.did P.full dialect layout.now source.old.number
-        source.new.number player.old player.new (take result.0 shown.now)
+    requires room { number.old + length shown.now + 1 < 2 ^ 64 }
+    ensures followed { FollowsFront P.did P.full dialect layout.now number.old number.new
+        player.old player.new (take result.0 shown.now)
         (W.contents output.old) (W.contents output.new) (more_may_come result.1) }
     ensures within { result.0 ≤ length shown.now }
-    ensures reads { source.old.reads ≤ source.new.reads }
-    ensures limit { source.new.reads ≤ 2 ^ 40 }
+    ensures counted { number.new ≤ number.old + result.0 }
     ensures stops { IfErr result.1 (λ stop. IsReadStop stop ⊎ P.stops stop) }
     ensures takes { OnOk result.1 (P.takes player.new layout.now dialect) }
 {
     let mut taken = 0;
-    'lines: while source.reads < READ_LIMIT {
-        source.reads += 1;
+    'lines: loop {
         let left = shown.split_at(taken).1;
-        let Some((count, played)) = play_first(rt, source, layout, dialect, left, player, output)
+        let Some((count, played)) = play_first(rt, number, layout, dialect, left, player, output)
         else {
             return (taken, Ok(()));
         };
@@ -49,7 +46,6 @@ pub(crate) fn play_shown<T: Wait, P: Player, W: Write>(
             return (taken, Err(stop));
         }
     }
-    (taken, Ok(()))
 }
 
 // Plays the line that these bytes begin with, if it is there as a whole. Returns how many bytes it
@@ -57,7 +53,7 @@ pub(crate) fn play_shown<T: Wait, P: Player, W: Write>(
 #[inline(always)]
 fn play_first<T: Wait, P: Player, W: Write>(
     rt: &T,
-    source: &mut Source,
+    number: &mut u64,
     layout: &Layout,
     dialect: Dialect,
     bytes: &[u8],
@@ -65,31 +61,30 @@ fn play_first<T: Wait, P: Player, W: Write>(
     output: &mut W,
 ) -> Option<(usize, Result<(), Stop>)>
     requires takes { P.takes player.old layout.now dialect }
-    requires counted { source.old.number ≤ source.old.reads }
-    requires limit { source.old.reads ≤ 2 ^ 40 }
+    requires room { number.old + 1 < 2 ^ 64 }
     ensures followed { IfSome result (λ r. FollowsFront P.did P.full dialect layout.now
-        source.old.number source.new.number player.old player.new (take r.0 bytes.now)
+        number.old number.new player.old player.new (take r.0 bytes.now)
         (W.contents output.old) (W.contents output.new) (more_may_come r.1)) }
-    ensures within { IfSome result (λ r. r.0 ≤ length bytes.now) }
+    ensures within { IfSome result (λ r. (0 < r.0) × (r.0 ≤ length bytes.now)) }
+    ensures counted { number.new ≤ number.old + 1 }
     ensures stops { IfSome result (λ r. IfErr r.1 (λ stop. IsReadStop stop ⊎ P.stops stop)) }
     ensures takes { IfSome result (λ r. OnOk r.1 (P.takes player.new layout.now dialect)) }
-    ensures none { IsNone result → (source.new ≡ source.old) × (player.new ≡ player.old)
+    ensures none { IsNone result → (number.new ≡ number.old) × (player.new ≡ player.old)
         × (W.contents output.new ≡ W.contents output.old) }
-    ensures reads { source.new.reads ≡ source.old.reads }
 {
     if let Some((store, count)) = read_store(*layout, dialect, bytes) {
-        source.number += 1;
+        *number += 1;
         let played = player.play(rt, *layout, dialect, store, output);
         return Some((count, played));
     }
-    play_other(rt, source, layout, dialect, bytes, player, output)
+    play_other(rt, number, layout, dialect, bytes, player, output)
 }
 
-// The same of a line that is no store, or one that is not spelled plainly.
+// Any line that `read_store` does not accept.
 #[inline(never)]
 fn play_other<T: Wait, P: Player, W: Write>(
     rt: &T,
-    source: &mut Source,
+    number: &mut u64,
     layout: &Layout,
     dialect: Dialect,
     bytes: &[u8],
@@ -97,17 +92,16 @@ fn play_other<T: Wait, P: Player, W: Write>(
     output: &mut W,
 ) -> Option<(usize, Result<(), Stop>)>
     requires takes { P.takes player.old layout.now dialect }
-    requires counted { source.old.number ≤ source.old.reads }
-    requires limit { source.old.reads ≤ 2 ^ 40 }
+    requires room { number.old + 1 < 2 ^ 64 }
     ensures followed { IfSome result (λ r. FollowsFront P.did P.full dialect layout.now
-        source.old.number source.new.number player.old player.new (take r.0 bytes.now)
+        number.old number.new player.old player.new (take r.0 bytes.now)
         (W.contents output.old) (W.contents output.new) (more_may_come r.1)) }
-    ensures within { IfSome result (λ r. r.0 ≤ length bytes.now) }
+    ensures within { IfSome result (λ r. (0 < r.0) × (r.0 ≤ length bytes.now)) }
+    ensures counted { number.new ≤ number.old + 1 }
     ensures stops { IfSome result (λ r. IfErr r.1 (λ stop. IsReadStop stop ⊎ P.stops stop)) }
     ensures takes { IfSome result (λ r. OnOk r.1 (P.takes player.new layout.now dialect)) }
-    ensures none { IsNone result → (source.new ≡ source.old) × (player.new ≡ player.old)
+    ensures none { IsNone result → (number.new ≡ number.old) × (player.new ≡ player.old)
         × (W.contents output.new ≡ W.contents output.old) }
-    ensures reads { source.new.reads ≡ source.old.reads }
 {
     let (Part::Whole, size, count) = part_of(bytes, LINE_LIMIT) else {
         return None;
@@ -116,7 +110,7 @@ fn play_other<T: Wait, P: Player, W: Write>(
         Ok(asked) => asked,
         Err(fault) => return Some((count, Err(Stop::Fault(fault)))),
     };
-    source.number += 1;
+    *number += 1;
     let Some(command) = asked else {
         return Some((count, Ok(())));
     };

@@ -1,14 +1,21 @@
 //! How far a replay has come in its input.
 
-ghost use Rattle.std.specs.Prelude.{◌≤◌, ◌+◌};
+ghost use Rattle.std.specs.Prelude.{◌≤◌, ◌+◌, ◌*◌, ◌^◌};
+
+/// How many reads of the input are made at most (docs/traces.md, Ends).
+pub const READ_LIMIT: u64 = 1 << 40;
+
+/// How many of the bytes that one read shows are taken at most, so that lines have numbers enough.
+pub const SHOWN_LIMIT: usize = 1 << 20;
 
 /// How many reads were made, and the number of the next line, from 1.
 #[derive(Drop)]
 pub struct Source {
-    /// How many reads were made.
+    /// How many reads were made. A line of bytes that were shown before takes none.
     pub reads: u64,
     /// The number of the next line.
     pub number: u64,
-    /// Each line took a read.
-    pub ghost counted: { number ≤ reads + 1 },
+    pub ghost limited: { reads ≤ 2 ^ 40 },
+    /// A line has a byte, and a read takes so many bytes at most.
+    pub ghost counted: { number ≤ 2 ^ 20 * reads + 1 },
 }

@@ -5,7 +5,7 @@ ghost use Rattle.g1_replay.specs.Status.{exit_status};
 use crate::end::End;
 
 impl End {
-    /// Returns the exit status of a program that ends so (docs/TRACES.md, Ends). No end has 1: a
+    /// Returns the exit status of a program that ends so (docs/traces.md, Ends). No end has 1: a
     /// command line that is refused has it.
     pub fn status(self) -> u8
         ensures { result ≡ exit_status self }

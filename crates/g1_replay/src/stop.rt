@@ -1,13 +1,13 @@
 //! Why a replay goes no further.
 ghost use Rattle.std.specs.Prelude.{◌≡◌};
 
-use g1_book::Refusal;
+use g1_history::Refusal;
 use g1_layout::NoMemory;
 use g1_steps::NotStarted;
 use g1_trace::{TraceFault, WriteFailed};
 use std::alloc::AllocError;
 
-/// Why a replay goes no further (docs/TRACES.md, Faults, Ends).
+/// Why a replay goes no further (docs/traces.md, Faults, Ends).
 #[derive(Clone, Copy)]
 pub enum Stop {
     /// A line has a fault.

@@ -1,7 +1,7 @@
 //! What can be wrong with a line of a trace.
 use thiserror::Error;
 
-/// What is wrong with a line of a trace (docs/TRACES.md, Faults). Nothing of such a line is done.
+/// What is wrong with a line of a trace (docs/traces.md, Faults). Nothing of such a line is done.
 #[derive(Clone, Copy, Debug, PartialEq, Eq, Error)]
 pub enum TraceFault {
     /// The line has more than 64 bytes.

@@ -36,7 +36,7 @@ regions, all of them numbers from 0:
   redirect A B  a pause, after which the references into region A refer into region B
 Empty lines, and lines that begin with '#', are passed over.";
 
-// Whether its traces have nothing but the calls of mutators, which are their scripts.
+// Whether a trace in this mode may only store and flush.
 fn is_script(mode: Mode) -> bool
     ensures { result ≡ is_script mode }
 {
@@ -142,10 +142,10 @@ fn named(layout: Layout, dialect: Dialect, name: &[u8], words: &[u8]) -> Result<
     Ok(Command::Call(call))
 }
 
-/// Returns the command of a line, or `None` if the line is empty or a remark (docs/TRACES.md,
+/// Returns the command of a line, or `None` if the line is empty or a remark (docs/traces.md,
 /// Commands).
 ///
-/// The faults are tested in the order of docs/TRACES.md, Faults: no such command, wrong words, then
+/// The faults are tested in the order of docs/traces.md, Faults: no such command, wrong words, then
 /// each word that is no number, then the leftmost number that is too large for its place, and last
 /// a region named twice. It makes one pass over the line, and takes no memory.
 #[tactic(auto, unfolding(crate::specs::Grammar::read_command))]

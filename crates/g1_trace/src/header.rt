@@ -31,10 +31,10 @@ fn opening(name: &[u8], words: &[u8]) -> Result<Layout, TraceFault>
     heap(regions, cards, slots)
 }
 
-/// Returns the heap of the header, or `None` if the line is empty or a remark (docs/TRACES.md,
+/// Returns the heap of the header, or `None` if the line is empty or a remark (docs/traces.md,
 /// Commands).
 ///
-/// The faults are tested in the order of docs/TRACES.md, Faults: no header, wrong words, not a
+/// The faults are tested in the order of docs/traces.md, Faults: no header, wrong words, not a
 /// number, and then a bad heap. It makes one pass over the line, and takes no memory.
 #[tactic(auto, unfolding(crate::specs::Grammar::read_header))]
 pub fn read_header(line: &[u8]) -> Result<Option<Layout>, TraceFault>

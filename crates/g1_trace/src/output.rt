@@ -1,7 +1,7 @@
 //! The loop over `write`, and the parts of a line.
 //!
 //! A write that fails, or that takes no byte, is a failed write. Nothing is tried again, and a
-//! beginning of the text stays written (docs/TRACES.md, Ends).
+//! beginning of the text stays written (docs/traces.md, Ends).
 ghost use Rattle.std.specs.Prelude.{◌≡◌, ℕ, List, [], ◌++◌, ◌+◌, ◌<◌, ◌≤◌, length, take, drop};
 ghost use Rattle.std.specs.Prelude.{MatchResult, decimal, IfOk, OnErr, if◌then◌else◌};
 ghost use Rattle.std.specs.Io.KnownBytes.{Appends};
@@ -10,9 +10,11 @@ ghost use Rattle.g1_trace.specs.Text.{with_number, ending};
 
 use itoa::{Buffer, write_digits};
 use std::io::Write;
+use thiserror::Error;
 
 /// A write failed, or took no byte.
-#[derive(Clone, Copy, Debug, PartialEq, Eq)]
+#[derive(Clone, Copy, Debug, PartialEq, Eq, Error)]
+#[error("write failed")]
 pub struct WriteFailed;
 
 /// Writes all bytes, in as many writes as it takes.

@@ -53,9 +53,9 @@ fn target_before(bytes: &[u8]) -> Option<(Option<u64>, &[u8])>
 /// Returns the store whose line the bytes begin with, and how many bytes the line has, with its
 /// line feed.
 ///
-/// Returns `None` if the line is no store, is not there as a whole, has a fault, or is not spelled
-/// plainly: one space between two words and none before or behind, numbers of at most 7 digits. It
-/// does so too if there are fewer than 30 bytes. It takes no memory.
+/// Returns `None` unless the bytes begin with a complete, valid store in plain form: one space
+/// between two words and none before or behind, numbers of at most 7 digits. It does so too if
+/// there are fewer than 30 bytes. It takes no memory.
 #[inline(always)]
 pub fn read_store(layout: Layout, dialect: Dialect, bytes: &[u8]) -> Option<(Command, usize)>
     ensures line { IfSome result (λ read. IsLineBefore layout dialect bytes.now read.0 read.1) }

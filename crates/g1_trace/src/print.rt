@@ -1,4 +1,4 @@
-//! The output lines (docs/TRACES.md, Commands): a printing function for each reply.
+//! The output lines (docs/traces.md, Commands): a printing function for each reply.
 //!
 //! Each writes its line straight to the output, and takes no memory. It returns `WriteFailed` if a
 //! write fails or takes no byte. A beginning of the line stays written.

@@ -8,7 +8,7 @@ ghost use Rattle.g1_trace.specs.Words.{is_remark_word};
 
 use crate::fault::TraceFault;
 
-/// How many digits a number has at most (docs/TRACES.md, Lines and words).
+/// How many digits a number has at most (docs/traces.md, Lines and words).
 const DIGIT_LIMIT: usize = 10;
 
 // How many spaces the bytes begin with.
@@ -41,7 +41,7 @@ fn word_len(bytes: &[u8]) -> usize
 }
 
 /// Returns the first word of a line, a run of bytes other than space, and what comes behind it
-/// (docs/TRACES.md, Lines and words).
+/// (docs/traces.md, Lines and words).
 ///
 /// Returns `None` if there is no word. It makes one pass over the word and the spaces before it.
 pub fn split_word(line: &[u8]) -> Option<(&[u8], &[u8])>
@@ -63,7 +63,7 @@ pub fn is_blank(line: &[u8]) -> bool
     split_word(line).is_none()
 }
 
-// The value of a word of 1 to 10 decimal digits; any other word is no number (docs/TRACES.md, Lines
+// The value of a word of 1 to 10 decimal digits; any other word is no number (docs/traces.md, Lines
 // and words).
 fn number(word: &[u8]) -> Result<u64, TraceFault>
     ensures { result ≡ read_number word.now }
@@ -203,7 +203,7 @@ pub fn is(word: &[u8], text: &[u8]) -> bool
 }
 
 /// Returns whether a line with this first word is a remark: the word begins with `#`
-/// (docs/TRACES.md, Lines and words).
+/// (docs/traces.md, Lines and words).
 pub fn is_remark(word: &[u8]) -> bool
     ensures { result ≡ is_remark_word word.now }
 {

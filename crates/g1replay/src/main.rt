@@ -1,4 +1,4 @@
-//! Replays a trace from standard input to standard output (docs/TRACES.md).
+//! Replays a trace from standard input to standard output (docs/traces.md).
 #![tactic(auto)]
 
 use g1_replay::{End, LineFault, Mode, Options, crew, race, read_options, run};

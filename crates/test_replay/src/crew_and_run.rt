@@ -1,7 +1,7 @@
 //! A crew and a race of many threads against one that makes the same stores in their order.
 use crate::played::{config, replay};
 use g1_replay::{End, Mode, Options};
-use std::alloc::Global;
+use std::alloc::{AllocError, Global};
 use std::fmt::Write;
 use std::process::Abort;
 use std::sync::Wait;
@@ -12,7 +12,7 @@ use std::thread::Threads;
 const STORES: u32 = 100_000;
 
 /// The trace: a store into each of the first `STORES` slots, by eight mutators in turn.
-fn stores(alloc: Global) -> Result<String, Fail> {
+fn stores(alloc: Global) -> Result<String, AllocError> {
     let mut trace = String::from_str(alloc, "heap 64 64 32\n")?;
     for slot in 0..STORES {
         let mutator = slot % 8;
@@ -23,7 +23,7 @@ fn stores(alloc: Global) -> Result<String, Fail> {
 }
 
 /// The drains of all regions behind it.
-fn with_drains(mut trace: String) -> Result<String, Fail> {
+fn with_drains(mut trace: String) -> Result<String, AllocError> {
     for region in 0..64 {
         writeln!(trace, "drain {region}")?;
     }
@@ -46,12 +46,13 @@ fn eight_mutators(rt: &impl Abort) -> Options {
 fn drains_as_one_by_one<R: Abort + Threads + Wait + Sync + AllocGlobal>(
     rt: &R,
     mode: Mode,
-) -> Result<(), Fail> {
+) -> Result<(), AllocError> {
     let alloc = rt.alloc();
     let options = eight_mutators(rt);
-    let trace = with_drains(stores(alloc)?)?;
-    let one_by_one = printed(rt, Mode::Run, &trace, &options)?;
-    let by_threads = printed(rt, mode, &stores(alloc)?, &options)?;
+    let trace = stores(alloc)?;
+    let by_threads = printed(rt, mode, &trace, &options);
+    let trace = with_drains(trace)?;
+    let one_by_one = printed(rt, Mode::Run, &trace, &options);
     let drains = by_threads
         .as_slice()
         .strip_prefix(b"stores 100000\n")
@@ -67,20 +68,20 @@ fn printed<R: Abort + Threads + Wait + Sync + AllocGlobal>(
     mode: Mode,
     trace: &str,
     options: &Options,
-) -> Result<Vec<u8>, Fail> {
+) -> Vec<u8> {
     let mut output: Vec<u8> = Vec::new(rt.alloc());
     let mut input = trace.as_bytes();
     let end = replay(rt, mode, &mut input, &mut output, options);
     assert_eq!(rt; end, End::Whole);
-    Ok(output)
+    output
 }
 
 #[test]
 fn crew_drains_as_one_by_one(rt: HostRuntime) -> Result<(), Fail> {
-    drains_as_one_by_one(&rt, Mode::Crew)
+    Ok(drains_as_one_by_one(&rt, Mode::Crew)?)
 }
 
 #[test]
 fn race_drains_as_one_by_one(rt: HostRuntime) -> Result<(), Fail> {
-    drains_as_one_by_one(&rt, Mode::Race)
+    Ok(drains_as_one_by_one(&rt, Mode::Race)?)
 }

@@ -1,7 +1,8 @@
 //! Inputs and outputs that fail or end early, and what is written then.
 use crate::streams::{Narrow, failing_after};
 use g1_replay::{End, Options, run};
-use std::io::BufReader;
+use g1_trace::put;
+use std::io::{self, BufReader};
 use std::process::Abort;
 use std::sync::Wait;
 use std::test::Fail;
@@ -35,49 +36,60 @@ fn byte_by_byte(rt: HostRuntime) -> Result<(), Fail> {
 #[test]
 fn reads_that_fail(rt: HostRuntime) -> Result<(), Fail> {
     for room in 0..=TRACE.len() {
-        let mut input = BufReader::new(rt.alloc(), failing_after(TRACE, room))?;
-        let mut output: Vec<u8> = Vec::new(rt.alloc());
-        let end = run(
-            &rt,
-            rt.alloc(),
-            &mut input,
-            &mut output,
-            &Options::default(),
-        );
-        assert_eq!(rt; end, End::ReadFailed);
         let wanted: &[u8] = match room {
             0..=22 => b"read failed\n",
             23..=30 => b"logged\nread failed\n",
             _ => b"logged\ndrained 0\nread failed\n",
         };
-        assert!(rt; output.as_slice() == wanted, "{room}");
-        // It would have gone on, and was not asked again.
-        assert_eq!(rt;
-            input.get_ref().bytes.len(),
-            TRACE.len().saturating_sub(room)
-        );
-        assert_eq!(rt; input.get_ref().reads, room.saturating_add(1));
+        prints_before_the_failure(&rt, room, wanted)?;
     }
+    Ok(())
+}
+
+fn prints_before_the_failure<R: Abort + Wait + AllocGlobal>(
+    rt: &R,
+    room: usize,
+    wanted: &[u8],
+) -> io::Result<()> {
+    let mut input = BufReader::new(rt.alloc(), failing_after(TRACE, room))?;
+    let mut output: Vec<u8> = Vec::new(rt.alloc());
+    let end = run(rt, rt.alloc(), &mut input, &mut output, &Options::default());
+    assert_eq!(rt; end, End::ReadFailed);
+    assert!(rt; output.as_slice() == wanted, "{room}");
+    // It would have gone on, and was not asked again.
+    assert_eq!(rt;
+        input.get_ref().bytes.len(),
+        TRACE.len().saturating_sub(room)
+    );
+    assert_eq!(rt; input.get_ref().reads, room.saturating_add(1));
     Ok(())
 }
 
 /// After each byte of the output: a write that fails, or takes no byte, is the last one.
 fn stops_at_each_byte<R: Abort + Wait + AllocGlobal>(rt: &R, trace: &[u8], whole: &[u8]) {
     for room in 0..whole.len() {
-        for fails in [true, false] {
-            let mut input = trace;
-            let mut output = Narrow {
-                bytes: Vec::new(rt.alloc()),
-                room,
-                fails,
-                refused: 0,
-            };
-            let end = run(rt, rt.alloc(), &mut input, &mut output, &Options::default());
-            assert_eq!(rt; end, End::WriteFailed);
-            assert!(rt; output.bytes.as_slice() == &whole[..room]);
-            assert_eq!(rt; output.refused, 1);
-        }
+        stops_at(rt, trace, whole, (room, true));
+        stops_at(rt, trace, whole, (room, false));
     }
+}
+
+fn stops_at<R: Abort + Wait + AllocGlobal>(
+    rt: &R,
+    trace: &[u8],
+    whole: &[u8],
+    (room, fails): (usize, bool),
+) {
+    let mut input = trace;
+    let mut output = Narrow {
+        bytes: Vec::new(rt.alloc()),
+        room,
+        fails,
+        refused: 0,
+    };
+    let end = run(rt, rt.alloc(), &mut input, &mut output, &Options::default());
+    assert_eq!(rt; end, End::WriteFailed);
+    assert!(rt; whole.starts_with(output.bytes.as_slice()));
+    assert_eq!(rt; (output.bytes.len(), output.refused), (room, 1));
 }
 
 /// In the lines of calls, in a list, and in the line of a fault.
@@ -87,6 +99,25 @@ fn writes_that_fail(rt: HostRuntime) {
     let cards = b"heap 64 64 64\nstore 0 64 4096\nstore 0 1280 4096\nstore 0 2560 4096\ndrain 1\n";
     stops_at_each_byte(&rt, cards, b"logged\nlogged\nlogged\ndrained 1 20 40\n");
     stops_at_each_byte(&rt, b"heap 4 2 4\nx\n", b"line 2: no such command\n");
+}
+
+/// The error of such a write says so.
+#[test]
+fn words_of_a_failed_write(rt: HostRuntime) -> Result<(), Fail> {
+    for fails in [true, false] {
+        let mut output = Narrow {
+            bytes: Vec::new(rt.alloc()),
+            room: 1,
+            fails,
+            refused: 0,
+        };
+        let Err(failed) = put(&mut output, b"yes\n") else {
+            panic!(rt; "it was written")
+        };
+        let shown = format!(in rt.alloc(); "{failed}")?;
+        assert_eq!(rt; shown.as_str(), "write failed");
+    }
+    Ok(())
 }
 
 /// What the trace prints, and how it ends, where only its first bytes are there.
@@ -104,20 +135,14 @@ fn cut(length: usize) -> (&'static [u8], End) {
 
 /// The trace cut after each of its bytes.
 #[test]
-fn every_beginning(rt: HostRuntime) -> Result<(), Fail> {
+fn every_beginning(rt: HostRuntime) {
     for length in 0..=TRACE.len() {
         let mut input = &TRACE[..length];
         let mut printed: Vec<u8> = Vec::new(rt.alloc());
-        let end = run(
-            &rt,
-            rt.alloc(),
-            &mut input,
-            &mut printed,
-            &Options::default(),
-        );
+        let options = Options::default();
+        let end = run(&rt, rt.alloc(), &mut input, &mut printed, &options);
         let (wanted, wanted_end) = cut(length);
         assert!(rt; printed.as_slice() == wanted, "{length}");
         assert_eq!(rt; end, wanted_end, "{length}");
     }
-    Ok(())
 }

@@ -2,32 +2,53 @@
 //! what a line prints, where it stands, shows what it was read as.
 use crate::played::{is_played, two_mutators};
 use g1_replay::{End, Mode, TraceFault};
+use std::alloc::AllocError;
 use std::process::Abort;
 use std::sync::Wait;
 use std::test::Fail;
 use std::thread::Threads;
 
-/// Each of the lines, between these others, and what the trace then prints.
-fn are_read<R: Abort + Threads + Wait + Sync + AllocGlobal>(
+/// Checks what a trace prints that is this and is taken whole.
+fn prints<R: Abort + Threads + Wait + Sync + AllocGlobal>(rt: &R, trace: &str, printed: &str) {
+    is_played(rt, Mode::Run, trace, &two_mutators(), (printed, End::Whole));
+}
+
+/// Checks what a trace prints that is this and is refused.
+fn is_refused<R: Abort + Threads + Wait + Sync + AllocGlobal>(rt: &R, trace: &str, printed: &str) {
+    is_played(
+        rt,
+        Mode::Run,
+        trace,
+        &two_mutators(),
+        (printed, End::Refused),
+    );
+}
+
+/// Checks each of the lines, between these others, by what the trace then prints.
+pub(crate) fn are_read<R: Abort + Threads + Wait + Sync + AllocGlobal>(
     rt: &R,
     (before, lines, behind, printed): Read<'_>,
-) -> Result<(), Fail> {
+) -> Result<(), AllocError> {
     for line in lines {
         let trace = format!(in rt.alloc(); "heap 4 2 4\n{before}{line}\n{behind}")?;
-        is_played(
-            rt,
-            Mode::Run,
-            trace.as_str(),
-            &two_mutators(),
-            printed,
-            End::Whole,
-        )?;
+        prints(rt, trace.as_str(), printed);
+    }
+    Ok(())
+}
+
+/// Checks the rows of a table.
+pub(crate) fn all_are_read<R: Abort + Threads + Wait + Sync + AllocGlobal>(
+    rt: &R,
+    rows: &[Read<'_>],
+) -> Result<(), AllocError> {
+    for row in rows {
+        are_read(rt, *row)?;
     }
     Ok(())
 }
 
 /// Lines before a command, forms of the command, lines behind it, and what the trace prints.
-type Read<'a> = (&'a str, &'a [&'a str], &'a str, &'a str);
+pub(crate) type Read<'a> = (&'a str, &'a [&'a str], &'a str, &'a str);
 
 static READ: [Read<'static>; 12] = [
     (
@@ -100,53 +121,57 @@ static READ: [Read<'static>; 12] = [
 
 #[test]
 fn each_command_is_read(rt: HostRuntime) -> Result<(), Fail> {
-    for row in READ {
-        are_read(&rt, row)?;
+    Ok(all_are_read(&rt, &READ)?)
+}
+
+/// Checks each of the lines before the header and behind it.
+fn are_passed_over<R: Abort + Threads + Wait + Sync + AllocGlobal>(
+    rt: &R,
+    lines: &[&str],
+) -> Result<(), AllocError> {
+    for line in lines {
+        let trace = format!(in rt.alloc(); "{line}\nheap 4 2 4\n{line}\nstatus\n")?;
+        prints(rt, trace.as_str(), "status pending 0 recorded 0\n");
     }
     Ok(())
 }
 
-/// Before the header and behind it.
 #[test]
 fn empty_lines_and_remarks(rt: HostRuntime) -> Result<(), Fail> {
     let lines = ["", "    ", "#", "# all", "   #store 0 99 x", "#\r"];
-    for line in lines {
-        let trace = format!(in rt.alloc(); "{line}\nheap 4 2 4\n{line}\nstatus\n")?;
-        is_played(
-            &rt,
-            Mode::Run,
-            trace.as_str(),
-            &two_mutators(),
-            "status pending 0 recorded 0\n",
-            End::Whole,
-        )?;
-    }
-    Ok(())
+    Ok(are_passed_over(&rt, &lines)?)
 }
 
-/// Each of the lines is refused for this.
-fn are_refused<R: Abort + Threads + Wait + Sync + AllocGlobal>(
+/// Checks that each of the lines is refused for this, with these lines behind it.
+pub(crate) fn are_refused<R: Abort + Threads + Wait + Sync + AllocGlobal>(
     rt: &R,
-    fault: &str,
-    lines: &[&str],
-) -> Result<(), Fail> {
+    (fault, lines): Faulty<'_>,
+    behind: &str,
+) -> Result<(), AllocError> {
     let printed = format!(in rt.alloc(); "line 2: {fault}\n")?;
     for line in lines {
-        let trace = format!(in rt.alloc(); "heap 4 2 4\n{line}\n")?;
-        is_played(
-            rt,
-            Mode::Run,
-            trace.as_str(),
-            &two_mutators(),
-            printed.as_str(),
-            End::Refused,
-        )?;
+        let trace = format!(in rt.alloc(); "heap 4 2 4\n{line}\n{behind}")?;
+        is_refused(rt, trace.as_str(), printed.as_str());
     }
     Ok(())
 }
 
-/// Faults, each with lines that are refused for it.
-static FAULTY: [(&str, &[&str]); 8] = [
+/// Checks the rows of a table.
+pub(crate) fn all_are_refused<R: Abort + Threads + Wait + Sync + AllocGlobal>(
+    rt: &R,
+    rows: &[Faulty<'_>],
+    behind: &str,
+) -> Result<(), AllocError> {
+    for row in rows {
+        are_refused(rt, *row, behind)?;
+    }
+    Ok(())
+}
+
+/// A fault, and lines that are refused for it.
+pub(crate) type Faulty<'a> = (&'a str, &'a [&'a str]);
+
+static FAULTY: [Faulty<'static>; 8] = [
     // Tab, carriage return and NUL belong to words, and no letter stands for another.
     (
         "no such command",
@@ -253,45 +278,47 @@ static FAULTY: [(&str, &[&str]); 8] = [
 
 #[test]
 fn each_faulty_line_has_its_fault(rt: HostRuntime) -> Result<(), Fail> {
-    for (fault, lines) in FAULTY {
-        are_refused(&rt, fault, lines)?;
-    }
-    Ok(())
+    Ok(all_are_refused(&rt, &FAULTY, "")?)
 }
 
-/// The heap has a last slot, card and region of these numbers, and none of the next ones.
+/// A header, and the last slot, card and region of its heap.
+type Header<'a> = (&'a str, [u32; 3]);
+
+/// Checks that the heap has these, and none of the next ones.
 fn is_heap<R: Abort + Threads + Wait + Sync + AllocGlobal>(
     rt: &R,
-    header: &str,
-    (slot, card, region): (u32, u32, u32),
-    (next_slot, next_card, next_region): (u32, u32, u32),
-) -> Result<(), Fail> {
+    (header, [slot, card, region]): Header<'_>,
+) -> Result<(), AllocError> {
     let last = format!(in rt.alloc();
         "{header}\ntarget {slot}\npending {card}\nmembers {region}\n"
     )?;
-    is_played(
-        rt,
-        Mode::Run,
-        last.as_str(),
-        &two_mutators(),
-        "null\nno\ncards\n",
-        End::Whole,
-    )?;
-    let rows = [
-        ("target", next_slot, "line 2: no such slot\n"),
-        ("pending", next_card, "line 2: no such card\n"),
-        ("members", next_region, "line 2: no such region\n"),
-    ];
-    for (command, number, printed) in rows {
-        let trace = format!(in rt.alloc(); "{header}\n{command} {number}\n")?;
-        is_played(
-            rt,
-            Mode::Run,
-            trace.as_str(),
-            &two_mutators(),
-            printed,
-            End::Refused,
-        )?;
+    prints(rt, last.as_str(), "null\nno\ncards\n");
+    ends_before(rt, header, "target", "slot", slot)?;
+    ends_before(rt, header, "pending", "card", card)?;
+    ends_before(rt, header, "members", "region", region)
+}
+
+/// Checks that the heap has none of these behind the last one.
+fn ends_before<R: Abort + Threads + Wait + Sync + AllocGlobal>(
+    rt: &R,
+    header: &str,
+    command: &str,
+    kind: &str,
+    last: u32,
+) -> Result<(), AllocError> {
+    let next = last.saturating_add(1);
+    let trace = format!(in rt.alloc(); "{header}\n{command} {next}\n")?;
+    let printed = format!(in rt.alloc(); "line 2: no such {kind}\n")?;
+    is_refused(rt, trace.as_str(), printed.as_str());
+    Ok(())
+}
+
+fn are_heaps<R: Abort + Threads + Wait + Sync + AllocGlobal>(
+    rt: &R,
+    rows: &[Header<'_>],
+) -> Result<(), AllocError> {
+    for row in rows {
+        is_heap(rt, *row)?;
     }
     Ok(())
 }
@@ -299,23 +326,24 @@ fn is_heap<R: Abort + Threads + Wait + Sync + AllocGlobal>(
 #[test]
 fn headers(rt: HostRuntime) -> Result<(), Fail> {
     let rows = [
-        ("heap 4 2 4", (31, 7, 3), (32, 8, 4)),
-        ("  heap  0004 2   0000000004 ", (31, 7, 3), (32, 8, 4)),
-        ("heap 1 1 1", (0, 0, 0), (1, 1, 1)),
-        (
-            "heap 256 64 64",
-            (1048575, 16383, 255),
-            (1048576, 16384, 256),
-        ),
-        (
-            "heap 256 256 16",
-            (1048575, 65535, 255),
-            (1048576, 65536, 256),
-        ),
+        ("heap 4 2 4", [31, 7, 3]),
+        ("  heap  0004 2   0000000004 ", [31, 7, 3]),
+        ("heap 1 1 1", [0, 0, 0]),
+        ("heap 256 64 64", [1048575, 16383, 255]),
+        ("heap 256 256 16", [1048575, 65535, 255]),
     ];
-    for (header, last, next) in rows {
-        is_heap(&rt, header, last, next)?;
-    }
+    Ok(are_heaps(&rt, &rows)?)
+}
+
+/// Checks that the header is refused for this.
+fn is_refused_header<R: Abort + Threads + Wait + Sync + AllocGlobal>(
+    rt: &R,
+    header: &str,
+    fault: &str,
+) -> Result<(), AllocError> {
+    let trace = format!(in rt.alloc(); "{header}\nstatus\n")?;
+    let printed = format!(in rt.alloc(); "line 1: {fault}\n")?;
+    is_refused(rt, trace.as_str(), printed.as_str());
     Ok(())
 }
 
@@ -344,16 +372,7 @@ fn refused_headers(rt: HostRuntime) -> Result<(), Fail> {
         ("heap 9999999999 9999999999 1", "bad heap"),
     ];
     for (header, fault) in rows {
-        let trace = format!(in rt.alloc(); "{header}\nstatus\n")?;
-        let printed = format!(in rt.alloc(); "line 1: {fault}\n")?;
-        is_played(
-            &rt,
-            Mode::Run,
-            trace.as_str(),
-            &two_mutators(),
-            printed.as_str(),
-            End::Refused,
-        )?;
+        is_refused_header(&rt, header, fault)?;
     }
     Ok(())
 }

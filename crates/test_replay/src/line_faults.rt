@@ -2,6 +2,7 @@
 use crate::help::is_refused;
 use crate::played::config;
 use g1_replay::{Mode, Options, read_options};
+use std::test::Fail;
 
 #[test]
 fn words_that_the_line_does_not_know(rt: HostRuntime) {
@@ -92,6 +93,22 @@ For more information, try '--help'.
     ] {
         is_refused(&rt, words, text);
     }
+}
+
+/// A program that shows a fault of its own accord shows the same text.
+#[test]
+fn text_of_a_fault(rt: HostRuntime) -> Result<(), Fail> {
+    let Err(fault) = read_options(rt.alloc(), &["g1replay", "run", "--log", "0"]) else {
+        panic!(rt; "0 was taken")
+    };
+    let shown = format!(in rt.alloc(); "{fault}")?;
+    let text = "\
+error: invalid value '0' for '--log <CARDS>': 0 is not in 1..=256
+
+For more information, try '--help'.
+";
+    assert_eq!(rt; shown.as_str(), text);
+    Ok(())
 }
 
 /// With ample memory this repeats other tests. Where one growth is refused (`rt try --test

@@ -2,6 +2,7 @@
 use crate::help::is_refused;
 use crate::played::config;
 use g1_replay::{Mode, Options, read_options};
+use std::alloc::AllocError;
 use std::process::Abort;
 use std::test::Fail;
 
@@ -141,13 +142,13 @@ struct Limits {
     above: &'static str,
 }
 
-/// The value is outside the limits, and the text says so.
+/// Checks that the value is outside the limits, and that the text says so.
 fn is_outside(
     rt: &(impl Abort + AllocGlobal),
     subcommand: &str,
     limits: &Limits,
     value: &str,
-) -> Result<(), Fail> {
+) -> Result<(), AllocError> {
     let Limits { name, unit, .. } = limits;
     let (least, most) = (limits.least.0, limits.most.0);
     let word = format!(in rt.alloc(); "{name}={value}")?;
@@ -176,7 +177,7 @@ fn have_limits(
     rt: &(impl Abort + AllocGlobal),
     (mode, subcommand): (Mode, &str),
     rows: &[Limits],
-) -> Result<(), Fail> {
+) -> Result<(), AllocError> {
     for limits in rows {
         is_taken(rt, (mode, subcommand), limits.name, limits.least);
         is_taken(rt, (mode, subcommand), limits.name, limits.most);
@@ -187,91 +188,100 @@ fn have_limits(
     Ok(())
 }
 
+static LIMITS: [Limits; 7] = [
+    Limits {
+        name: "--mutators",
+        unit: "COUNT",
+        below: "0",
+        least: ("1", 1),
+        most: ("8", 8),
+        above: "9",
+    },
+    Limits {
+        name: "--log",
+        unit: "CARDS",
+        below: "0",
+        least: ("1", 1),
+        most: ("256", 256),
+        above: "257",
+    },
+    Limits {
+        name: "--limit",
+        unit: "BUFFERS",
+        below: "0",
+        least: ("1", 1),
+        most: ("1024", 1024),
+        above: "1025",
+    },
+    Limits {
+        name: "--hot",
+        unit: "TIMES",
+        below: "-1",
+        least: ("0", 0),
+        most: ("255", 255),
+        above: "256",
+    },
+    Limits {
+        name: "--ring",
+        unit: "CARDS",
+        below: "0",
+        least: ("1", 1),
+        most: ("4096", 4096),
+        above: "4097",
+    },
+    Limits {
+        name: "--start",
+        unit: "BUFFERS",
+        below: "0",
+        least: ("1", 1),
+        most: ("1024", 1024),
+        above: "1025",
+    },
+    Limits {
+        name: "--history",
+        unit: "ENTRIES",
+        below: "0",
+        least: ("1", 1),
+        most: ("1000000", 1_000_000),
+        above: "1000001",
+    },
+];
+
 #[test]
 fn each_option_has_its_limits(rt: HostRuntime) -> Result<(), Fail> {
-    let rows = [
-        Limits {
-            name: "--mutators",
-            unit: "COUNT",
-            below: "0",
-            least: ("1", 1),
-            most: ("8", 8),
-            above: "9",
-        },
-        Limits {
-            name: "--log",
-            unit: "CARDS",
-            below: "0",
-            least: ("1", 1),
-            most: ("256", 256),
-            above: "257",
-        },
-        Limits {
-            name: "--limit",
-            unit: "BUFFERS",
-            below: "0",
-            least: ("1", 1),
-            most: ("1024", 1024),
-            above: "1025",
-        },
-        Limits {
-            name: "--hot",
-            unit: "TIMES",
-            below: "-1",
-            least: ("0", 0),
-            most: ("255", 255),
-            above: "256",
-        },
-        Limits {
-            name: "--ring",
-            unit: "CARDS",
-            below: "0",
-            least: ("1", 1),
-            most: ("4096", 4096),
-            above: "4097",
-        },
-        Limits {
-            name: "--start",
-            unit: "BUFFERS",
-            below: "0",
-            least: ("1", 1),
-            most: ("1024", 1024),
-            above: "1025",
-        },
-        Limits {
-            name: "--history",
-            unit: "ENTRIES",
-            below: "0",
-            least: ("1", 1),
-            most: ("1000000", 1_000_000),
-            above: "1000001",
-        },
-    ];
-    have_limits(&rt, (Mode::Run, "run"), rows.as_slice())?;
-    have_limits(&rt, (Mode::Crew, "crew"), rows.as_slice())?;
-    have_limits(&rt, (Mode::Race, "race"), rows.as_slice())
+    for subcommand in [
+        (Mode::Run, "run"),
+        (Mode::Crew, "crew"),
+        (Mode::Race, "race"),
+    ] {
+        have_limits(&rt, subcommand, &LIMITS)?;
+    }
+    Ok(())
 }
+
+static LIMITS_OF_THREADS: [Limits; 2] = [
+    Limits {
+        name: "--refiners",
+        unit: "COUNT",
+        below: "0",
+        least: ("1", 1),
+        most: ("4", 4),
+        above: "5",
+    },
+    Limits {
+        name: "--rounds",
+        unit: "COUNT",
+        below: "-1",
+        least: ("0", 0),
+        most: ("10000", 10_000),
+        above: "10001",
+    },
+];
 
 #[test]
 fn the_refiners_and_their_rounds_have_limits(rt: HostRuntime) -> Result<(), Fail> {
-    let rows = [
-        Limits {
-            name: "--refiners",
-            unit: "COUNT",
-            below: "0",
-            least: ("1", 1),
-            most: ("4", 4),
-            above: "5",
-        },
-        Limits {
-            name: "--rounds",
-            unit: "COUNT",
-            below: "-1",
-            least: ("0", 0),
-            most: ("10000", 10_000),
-            above: "10001",
-        },
-    ];
-    have_limits(&rt, (Mode::Crew, "crew"), rows.as_slice())?;
-    have_limits(&rt, (Mode::Race, "race"), rows.as_slice())
+    for subcommand in [(Mode::Crew, "crew"), (Mode::Race, "race")] {
+        have_limits(&rt, subcommand, &LIMITS_OF_THREADS)?;
+    }
+    Ok(())
 }

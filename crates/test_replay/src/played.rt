@@ -6,7 +6,6 @@ use g1_replay::{End, Mode, Options, crew, race, run};
 use std::io::{BufRead, Write};
 use std::process::Abort;
 use std::sync::Wait;
-use std::test::Fail;
 use std::thread::Threads;
 
 /// The subcommand's replay.
@@ -24,23 +23,20 @@ pub(crate) fn replay<T: Threads + Wait + Sync + AllocGlobal, R: BufRead, W: Writ
     }
 }
 
-/// The trace prints just this, and ends so.
+/// Checks that the trace prints just this, and ends so.
 pub(crate) fn is_played<R: Abort + Threads + Wait + Sync + AllocGlobal>(
     rt: &R,
     mode: Mode,
     trace: &str,
     options: &Options,
-    printed: &str,
-    wanted: End,
-) -> Result<(), Fail> {
-    let alloc = rt.alloc();
+    (printed, wanted): (&str, End),
+) {
     let mut input = trace.as_bytes();
-    let mut output: Vec<u8> = Vec::new(alloc);
+    let mut output: Vec<u8> = Vec::new(rt.alloc());
     let end = replay(rt, mode, &mut input, &mut output, options);
-    let text = String::from_utf8_lossy(alloc, output.as_slice())?;
-    assert_eq!(rt; text.as_str(), printed, "{trace}");
+    let text = str::from_utf8(output.as_slice()).expect(rt, "a text");
+    assert_eq!(rt; text, printed, "{trace}");
     assert_eq!(rt; end, wanted, "{trace}");
-    Ok(())
 }
 
 /// The settings of these numbers.

@@ -1,4 +1,4 @@
-//! The lines of a fault and of the other ends (docs/TRACES.md, Faults, Ends).
+//! The lines of a fault and of the other ends (docs/traces.md, Faults, Ends).
 ghost use Rattle.g1_trace.specs.Bytes.{Puts};
 ghost use Rattle.g1_trace.specs.Text.{fault_line, fault_text, no_memory_line, book_full_line};
 ghost use Rattle.g1_trace.specs.Text.{no_thread_line, read_failed_line};

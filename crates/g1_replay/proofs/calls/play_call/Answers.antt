@@ -13,10 +13,10 @@ returns-in_err-reply-clause-played g c =
 pub returns-in_err-put_call-clause-played : goal.returns-in_err-put_call-clause-played
 returns-in_err-put_call-clause-played g c =
     let p = err_from_is_err_and c.from_residual-in_err-put_call.result c.from_residual-in_err-put_call.ensures.1 in
-    let says = call_says _ _ c.args.call _ c.in_ok-reply.ensures.entered in
+    let says = call_says _ _ c.args.call _ c.in_ok-reply.ensures.made in
     rw (p.1, p.2) (does_front (λ s. s) _ _ (Call c.args.call) _ _ _ says c.in_err-put_call.ensures)
 
 pub returns-clause-played : goal.returns-clause-played
 returns-clause-played g c =
-    let says = call_says _ _ c.args.call _ c.in_ok-reply.ensures.entered in
+    let says = call_says _ _ c.args.call _ c.in_ok-reply.ensures.made in
     does_answer (λ s. s) _ _ (Call c.args.call) _ _ _ says c.in_ok-put_call.ensures

@@ -8,11 +8,9 @@ use Rattle.g1_replay.proofs.JobLemmas.{has_come}
 use Rattle.g1_replay.proofs.CrewScriptLemmas.{each_from, script_at_fits}
 use Rattle.g1_replay.proofs.crew_jobs.run_jobs.Goals as goal
 
-pub open-requires-clause-made : goal.open-requires-clause-made
-open-requires-clause-made g c = c.requires.made
-
-pub open-requires-clause-stored : goal.open-requires-clause-stored
-open-requires-clause-stored g c = c.requires.stored
+pub open-requires-clause-ledgers : goal.open-requires-clause-ledgers
+open-requires-clause-ledgers g c =
+    let stored = c.requires.stored in (c.requires.made, stored.0, stored.1, stored.2)
 
 pub open-requires-clause-terms : goal.open-requires-clause-terms
 open-requires-clause-terms g c = c.requires.terms
@@ -23,11 +21,11 @@ open-requires-clause-empty g c = c.requires.empty
 pub jobs_of-requires : goal.jobs_of-requires
 jobs_of-requires g c = each_from _ 0 _ (λ k d lt.
     let new = c.in-Ok.ensures.each k d (omega (arith, lt, c.in-Ok.ensures.callers, c.in-Ok.callers.ok.0)) in
-    (new.of, ap (λ tally. tally.number) new.counts ∙ sym (zero-add k)))
+    (new.of, ap (λ counts. counts.number) new.counts ∙ sym (zero-add k)))
 
 pub run_crew-requires-after_bounds : goal.run_crew-requires-after_bounds
 run_crew-requires-after_bounds g c lts lives k d lt =
-    script_at_fits (λ steps. steps.items) (slot_count g.M.Frame.terms.layout) c.args.options.now.rounds g.M.Frame.terms.mutators _ c.args.scripts.items _ (omega (arith, c.requires.count, c.args.scripts.ok.0)) c.requires.fits
+    script_at_fits (λ steps. steps.items) (slot_count g.M.Terms.terms.layout) c.args.options.now.rounds g.M.Terms.terms.mutators _ c.args.scripts.items _ (omega (arith, c.requires.count, c.args.scripts.ok.0)) c.requires.fits
     (c.in_ok-jobs.ensures.scripts k d lt)
 
 -- as many come back as there are callers, for whom there is room

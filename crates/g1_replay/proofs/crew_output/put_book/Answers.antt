@@ -9,5 +9,5 @@ returns-in_err-put_stores g c =
 
 pub returns : goal.returns
 returns g c =
-    let drained = rw c.layout-layout.ensures at c.put_drains-result.ensures.drained in
+    let drained = rw c.layout-layout.ensures.layout at c.put_drains-result.ensures.drained in
     book_written c.args.book.now c.put_drains-result.new.left _ (g.W.Write.contents c.put_stores.new.output) _ c.put_drains-result.result c.put_drains-result.ensures.stops c.entries-after.ensures.history (rw c.requires at c.in_ok-put_stores.ensures) drained

@@ -2,7 +2,7 @@ use Rattle.std.proofs.Common.{◌≡◌, All, true, ap, subst, sym}
 use Rattle.std.proofs.lemmas.Result.{err_from_is_err_and}
 use Rattle.g1_layout.specs.Shape.{Shape, slot_count}
 use Rattle.g1_steps.specs.Ask.{StepFits}
-use Rattle.g1_book.specs.History.{History, layout_in}
+use Rattle.g1_history.specs.History.{History, layout_in}
 use Rattle.g1_replay.proofs.RanLemmas.{not_started}
 use Rattle.g1_replay.specs.declared.stop.Stop.TheVariants.{NoMemory}
 use Rattle.g1_replay.proofs.crew_play.run_scripts.Goals as goal

@@ -15,4 +15,4 @@ returns-in_err-machinery g c =
 pub returns : goal.returns
 returns g c =
     played_told (λ s. s.book) _ c.args.options.now _ _ _ c.in_ok-layout.layout c.in_ok-machinery.machinery c.play_lines-result.new.player _ _ _ _ _ c.play_lines-result.result c.in_ok-machinery.ensures.book (c.in_ok-layout.ensures.read _)
-    c.play_lines-result.ensures.followed c.entries-history.ensures.history
+    c.play_lines-result.ensures.followed c.play_lines-result.ensures.stops c.entries-history.ensures.history

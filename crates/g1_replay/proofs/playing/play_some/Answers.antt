@@ -1,4 +1,4 @@
-use Rattle.std.proofs.Common.{[], subst, arith, rules}
+use Rattle.std.proofs.Common.{[], subst, sym, arith, rules}
 use Rattle.std.specs.Io.BufRead.{FillKeeps}
 use Rattle.std.specs.Io.KnownBytes.{Consumes}
 use Rattle.std.proofs.BufReadLemmas.{Consumes_shown}
@@ -22,20 +22,20 @@ pub returns-in_err-played-clause-followed : goal.returns-in_err-played-clause-fo
 returns-in_err-played-clause-followed g c =
     let rested = c.fill_buf.follows.lender-at-none in
     let filled = subst (FillKeeps _ (g.R.Read.remaining rested) (g.R.BufRead.consumable_len rested)) c.in-Ok.is c.fill_buf.follows.holds-at-none in
-    let moved = Consumes_shown _ _ _ _ c.in-Ok.shown.now c.play_shown-taken.result.0 c.play_shown-taken.ensures.within c.in-Ok.ensures.front c.in-Ok.ensures.end filled.0 filled.1 c.consume.ensures.bytes in
+    let moved = Consumes_shown _ _ _ _ c.in-Ok.shown.now c.play_shown-taken.result.0 (omega (arith, c.play_shown-taken.ensures.within, c.front_of-front.ensures.within.0)) c.in-Ok.ensures.front c.in-Ok.ensures.end filled.0 filled.1 c.consume.ensures.bytes in
     let p = err_from_is_err_and c.from_residual.result c.from_residual.ensures.1 in
-    rw (p.1, p.2) (rw c.in_err-played.was at (c.play_shown-taken.ensures.followed _ _ moved.0))
+    rw (p.1, p.2) (rw c.in_err-played.was at (c.play_shown-taken.ensures.followed _ _ (subst (Consumes _ _) (sym (c.front_of-front.ensures.front _ c.play_shown-taken.ensures.within)) moved.0)))
 
 pub returns-then-taken-gt0-clause-followed : goal.returns-then-taken-gt0-clause-followed
 returns-then-taken-gt0-clause-followed g c =
     let rested = c.fill_buf.follows.lender-at-none in
     let filled = subst (FillKeeps _ (g.R.Read.remaining rested) (g.R.BufRead.consumable_len rested)) c.in-Ok.is c.fill_buf.follows.holds-at-none in
-    let moved = Consumes_shown _ _ _ _ c.in-Ok.shown.now c.play_shown-taken.result.0 c.play_shown-taken.ensures.within c.in-Ok.ensures.front c.in-Ok.ensures.end filled.0 filled.1 c.consume.ensures.bytes in
-    rw c.in_ok-played.was at (c.play_shown-taken.ensures.followed _ _ moved.0)
+    let moved = Consumes_shown _ _ _ _ c.in-Ok.shown.now c.play_shown-taken.result.0 (omega (arith, c.play_shown-taken.ensures.within, c.front_of-front.ensures.within.0)) c.in-Ok.ensures.front c.in-Ok.ensures.end filled.0 filled.1 c.consume.ensures.bytes in
+    rw c.in_ok-played.was at (c.play_shown-taken.ensures.followed _ _ (subst (Consumes _ _) (sym (c.front_of-front.ensures.front _ c.play_shown-taken.ensures.within)) moved.0))
 
 pub returns-clause-followed : goal.returns-clause-followed
 returns-clause-followed g c =
     let rested = c.fill_buf.follows.lender-at-none in
     let filled = subst (FillKeeps _ (g.R.Read.remaining rested) (g.R.BufRead.consumable_len rested)) c.in-Ok.is c.fill_buf.follows.holds-at-none in
-    let moved = Consumes_shown _ _ _ _ c.in-Ok.shown.now c.play_shown-taken.result.0 c.play_shown-taken.ensures.within c.in-Ok.ensures.front c.in-Ok.ensures.end filled.0 filled.1 c.consume.ensures.bytes in
-    follows_then g.P.Player.did g.P.Player.full g.met.P.Player.then _ _ _ _ _ _ _ _ _ _ _ _ _ _ _ (rw c.in_ok-played.was at (c.play_shown-taken.ensures.followed _ _ moved.0)) c.play_line.ensures.followed
+    let moved = Consumes_shown _ _ _ _ c.in-Ok.shown.now c.play_shown-taken.result.0 (omega (arith, c.play_shown-taken.ensures.within, c.front_of-front.ensures.within.0)) c.in-Ok.ensures.front c.in-Ok.ensures.end filled.0 filled.1 c.consume.ensures.bytes in
+    follows_then g.P.Player.did g.P.Player.full g.met.P.Player.then _ _ _ _ _ _ _ _ _ _ _ _ _ _ _ (rw c.in_ok-played.was at (c.play_shown-taken.ensures.followed _ _ (subst (Consumes _ _) (sym (c.front_of-front.ensures.front _ c.play_shown-taken.ensures.within)) moved.0))) c.play_line.ensures.followed

@@ -2,7 +2,7 @@ use Rattle.std.proofs.Common.{None, Some, true, arith}
 use Rattle.g1_replay.specs.declared.stop.Stop.TheVariants.{Fault}
 use Rattle.g1_replay.proofs.PartLemmas.{line_shown}
 use Rattle.g1_replay.proofs.PlayingLemmas.{line_done, line_passed, line_unread}
-use Rattle.g1_replay.proofs.ReadingLemmas.{command_faulty, command_read}
+use Rattle.g1_replay.proofs.ReadingLemmas.{command_faulty, command_read, takes_some}
 use Rattle.g1_replay.proofs.shown.play_other.Goals as goal
 
 pub returns-in-Err-clause-followed : goal.returns-in-Err-clause-followed
@@ -20,3 +20,18 @@ returns-clause-followed g c = λ rd rd' moved.
     let line = line_shown rd rd' c.args.bytes.now _ _ (rw c.in-Whole-default-default.is-0 at c.part_of.ensures.goes_on) (omega arith) moved in
     line_done g.P.Player.did g.P.Player.full g.P.Player.stops g.met.P.Player.may_stop _ _ _ _ c.in-Some.command _ _ _ _ _ _ c.play-played.result c.play-played.ensures.stops
     (command_read _ _ _ _ _ _ (Some c.in-Some.command) line (rw c.in-Some.is at c.in-Ok.ensures.read)) c.play-played.ensures.played
+
+pub returns-in-Err-clause-within : goal.returns-in-Err-clause-within
+returns-in-Err-clause-within g c =
+    let whole = rw c.in-Whole-default-default.is-0 at c.part_of.ensures.goes_on in
+    (takes_some _ _ _ whole.2, c.part_of.ensures.shown)
+
+pub returns-in_default-asked-clause-within : goal.returns-in_default-asked-clause-within
+returns-in_default-asked-clause-within g c =
+    let whole = rw c.in-Whole-default-default.is-0 at c.part_of.ensures.goes_on in
+    (takes_some _ _ _ whole.2, c.part_of.ensures.shown)
+
+pub returns-clause-within : goal.returns-clause-within
+returns-clause-within g c =
+    let whole = rw c.in-Whole-default-default.is-0 at c.part_of.ensures.goes_on in
+    (takes_some _ _ _ whole.2, c.part_of.ensures.shown)

@@ -7,8 +7,7 @@ pub lines-init : goal.lines-init
 lines-init g c = record {
   followed = front_none g.P.Player.did g.P.Player.full _ _ _ _ c.args.shown.now _ (g.met.P.Player.none _);
   within = omega arith;
-  reads = omega arith;
-  limit = c.requires.limit;
+  counted = omega arith;
   takes = c.requires.takes;
 }
 
@@ -20,14 +19,12 @@ pub lines-preserved : goal.lines-preserved
 lines-preserved g c =
     let count = c.in-Some.ensures.within in
     let left = c.split_at.ensures.back_len in
-    let reads = c.in-Some.ensures.reads in
-    let below = c.lines-test.true in
-    let before = c.lines.invariant.reads in
+    let line = c.in-Some.ensures.counted in
+    let before = c.lines.invariant.counted in
     record {
       followed = front_then g.P.Player.did g.P.Player.full g.met.P.Player.then _ _ _ _ _ c.lines.taken c.in-Some.count _ _ _ c.args.shown.now _ _ _ _ (Ok true) c.split_at.ensures.back c.lines.invariant.followed
           (rw c.in_default-played.is at c.in-Some.ensures.followed);
       within = omega arith;
-      reads = omega arith;
-      limit = omega arith;
+      counted = omega arith;
       takes = rw c.in_default-played.is at c.in-Some.ensures.takes;
     }

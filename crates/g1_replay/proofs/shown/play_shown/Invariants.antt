@@ -1,4 +1,4 @@
-use Rattle.std.proofs.Common.{◌^◌, ◌-◌, ◌≤◌, take, length, true}
+use Rattle.std.proofs.Common.{◌+◌, ◌-◌, ◌≤◌, take, length, true}
 use Rattle.std.specs.Prelude.{Ok}
 use Rattle.g1_replay.specs.Playing.{FollowsFront}
 use Rattle.g1_replay.proofs.shown.play_shown.Given as goal
@@ -6,13 +6,12 @@ use Rattle.g1_replay.proofs.shown.play_shown.Given as goal
 -- what was done so far
 abbrev pub invariant-lines : goal.invariant-lines
 invariant-lines g l = record {
-  followed : FollowsFront g.P.Player.did g.P.Player.full l.dialect l.layout l.fn.source.number l.source.number l.fn.player l.player (take l.taken l.shown)
+  followed : FollowsFront g.P.Player.did g.P.Player.full l.dialect l.layout l.fn.number l.number l.fn.player l.player (take l.taken l.shown)
       (g.W.Write.contents l.fn.output) (g.W.Write.contents l.output) (Ok true);
   within : l.taken ≤ length l.shown;
-  reads : l.fn.source.reads ≤ l.source.reads;
-  limit : l.source.reads ≤ 2 ^ 40;
+  counted : l.number ≤ l.fn.number + l.taken;
   takes : g.P.Player.takes l.player l.layout l.dialect;
 }
 
 abbrev pub decreases-lines : goal.decreases-lines
-decreases-lines g l = 2 ^ 40 - l.source.reads
+decreases-lines g l = length l.shown - l.taken

@@ -1,7 +1,5 @@
-use Rattle.std.proofs.Common.{Some, ap, sym, ◌∙◌}
-use Rattle.std.proofs.lemmas.List.Elements.{All-pop}
-use Rattle.g1_log.specs.Ends.{IsNewTaker}
-use Rattle.g1_book.specs.History.{History}
+use Rattle.std.proofs.Common.{ap, sym, ◌∙◌, arith}
+use Rattle.g1_history.specs.History.{History}
 use Rattle.g1_replay.proofs.TakenLemmas.{are_new_logs, are_senders}
 use Rattle.g1_replay.proofs.machinery.Machinery.open.Goals as goal
 
@@ -13,5 +11,8 @@ returns-clause-line c = c.in_ok-line.ensures.capacity ∙ sym (ap (λ (h : Histo
 
 pub invariant_of-result : goal.invariant_of-result
 invariant_of-result c =
-    let last = All-pop (IsNewTaker c.in_ok-line.line) _ _ (Some c.take_last-taker.result) c.take_last-taker.ensures.items c.in_ok-line.ensures.takers.1 in
-    record { of = (are_senders _ _ 0 _ c.in_ok-line.ensures.mutators.1, last.1.of) }
+    let line = c.in_ok-line.ensures in
+    record {
+      of = (are_senders _ _ 0 _ line.mutators.1, λ k d lt. (line.takers.1 k d lt).of);
+      callers = (omega (arith, line.takers.0, c.args.options.now.mutators_in), line.takers.0 ∙ sym line.mutators.0);
+    }
