@@ -1,7 +1,8 @@
 /* Preloaded into a program, this library refuses one of its growths: of the calls of malloc and
  * realloc that ask for memory, the one whose number, from 1, is in REFUSED_GROWTH (none, if that is
  * not set). At the program's end it writes into the file REFUSED_GROWTH_REPORT how many growths were
- * asked for, and how many blocks were not given back. */
+ * asked for, and how many blocks were not given back. A program may ask it, by memory_calls, for the
+ * number of calls of malloc, realloc and free so far. */
 #define _GNU_SOURCE
 #include <dlfcn.h>
 #include <errno.h>
@@ -17,6 +18,7 @@ static void *(*real_realloc)(void *, size_t);
 static void (*real_free)(void *);
 
 static atomic_long asked;
+static atomic_long calls;
 static atomic_long held;
 static long refused;
 
@@ -49,7 +51,12 @@ void _exit(int status) {
         syscall(SYS_exit_group, status);
 }
 
+long memory_calls(void) {
+    return calls;
+}
+
 static int is_refused(void) {
+    atomic_fetch_add(&calls, 1);
     if (atomic_fetch_add(&asked, 1) + 1 != refused)
         return 0;
     errno = ENOMEM;
@@ -82,6 +89,7 @@ void *realloc(void *old, size_t size) {
 }
 
 void free(void *block) {
+    atomic_fetch_add(&calls, 1);
     if (!real_free)
         real_free = (void (*)(void *))dlsym(RTLD_NEXT, "free");
     if (block)

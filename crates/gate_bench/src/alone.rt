@@ -1,6 +1,6 @@
 //! The same stores by one thread, without a lock: the loop alone, at a core and at a book.
 ghost use Rattle.std.specs.Prelude.{◌≡◌, ◌<◌, ◌≤◌, IsNone};
-ghost use Rattle.g1_book.specs.History.{layout_in};
+ghost use Rattle.g1_history.specs.History.{layout_in};
 
 use crate::list::list_of;
 use crate::meter::{Meter, now};

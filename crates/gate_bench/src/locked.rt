@@ -1,17 +1,15 @@
 //! Stores at a book or a core under a lock, by callers that have each a thread and cards of their
 //! own.
-ghost use Rattle.std.specs.Prelude.{◌≡◌, ℕ, ◌<◌, ◌≤◌, [], None, length, slice_index_or};
+ghost use Rattle.std.specs.Prelude.{◌≡◌, ℕ, ◌<◌, ◌≤◌, length, slice_index_or};
 ghost use Rattle.g1_shared.specs.Callers.{Standing, IsCallerOf, IsNewCaller, caller_mark};
-ghost use Rattle.g1_shared.specs.Totals.{core_terms};
-ghost use Rattle.g1_book.specs.History.{terms_of};
+ghost use Rattle.g1_shared.specs.Counts.{AreNone, shared_terms};
 
 use crate::list::{List, lists_of};
 use crate::meter::{Meter, now};
 use crate::timed::{Barrier, Timed};
-use g1_book::Book;
+use g1_book::{Book, Caller, Keeps, Kept, Shared, Tallied, Terms};
 use g1_core::{Config, Core};
 use g1_layout::{Kind, Layout, NoMemory};
-use g1_shared::{Caller, Frame, Keeper, Shared, SharedCore};
 use std::alloc::Global;
 use std::marker::Brand;
 use std::rt::Clock;
@@ -36,18 +34,24 @@ pub fn lock<R: Threads + Wait + Sync + Clock>(
     );
     if timed.barrier == Barrier::Unrecorded {
         let core = Core::new(alloc, timed.layout, Config::default())?;
-        return share_core::<Brand, Brand, R>(rt, alloc, made, stored, core, &lists, timed, meter);
+        let book = Book::over(alloc, core, threads, u64::MAX);
+        return share::<Brand, Brand, Tallied, R>(rt, made, stored, book, &lists, timed, meter);
     }
     let book = Book::open(alloc, timed.layout, Config::default(), threads, 1_000_000)?;
-    share::<Brand, Brand, R>(rt, made, stored, book, &lists, timed, meter)
+    share::<Brand, Brand, Kept, R>(rt, made, stored, book, &lists, timed, meter)
 }
 
 // The callers of the book, in their threads.
-fn share<M: Frame + Send + Sync, S: Ledger + Send + Sync, R: Threads + Wait + Sync + Clock>(
+fn share<
+    M: Terms + Send + Sync,
+    S: Ledger + Send + Sync,
+    H: Keeps + Send,
+    R: Threads + Wait + Sync + Clock,
+>(
     rt: &R,
     made: Blank,
     stored: Blank,
-    book: Book,
+    book: Book<H>,
     lists: &Vec<List>,
     timed: Timed,
     meter: &Meter,
@@ -55,40 +59,13 @@ fn share<M: Frame + Send + Sync, S: Ledger + Send + Sync, R: Threads + Wait + Sy
     requires made { (made.name ≡ M.name) × (made.parts ≡ M.parts) × (made.parts ≡ timed.threads) }
     requires stored { (stored.name ≡ S.name) × (stored.parts ≡ S.parts)
         × (stored.parts ≡ timed.threads) }
-    requires terms { terms_of book ≡ M.terms }
+    requires terms { shared_terms book ≡ M.terms }
     requires layout { timed.layout ≡ M.terms.layout }
-    requires empty { book.entries ≡ [] }
+    requires empty { AreNone H.KEEPS book }
     requires threads { (M.terms.mutators ≡ timed.threads) × (timed.threads ≤ 4) }
 {
-    let Ok((shared, mut callers)) = Shared::<M, S>::open(made, stored, book, timed.threads) else {
-        return Err(NoMemory);
-    };
-    run_all(rt, &shared, callers.as_mut_slice(), lists, timed, meter);
-    Ok(())
-}
-
-// The callers of the core, in their threads.
-fn share_core<M: Frame + Send + Sync, S: Ledger + Send + Sync, R: Threads + Wait + Sync + Clock>(
-    rt: &R,
-    alloc: Global,
-    made: Blank,
-    stored: Blank,
-    core: Core,
-    lists: &Vec<List>,
-    timed: Timed,
-    meter: &Meter,
-) -> Result<(), NoMemory>
-    requires made { (made.name ≡ M.name) × (made.parts ≡ M.parts) × (made.parts ≡ timed.threads) }
-    requires stored { (stored.name ≡ S.name) × (stored.parts ≡ S.parts)
-        × (stored.parts ≡ timed.threads) }
-    requires terms { core_terms core timed.threads None ≡ M.terms }
-    requires layout { timed.layout ≡ M.terms.layout }
-    requires threads { (M.terms.mutators ≡ timed.threads) × (1 ≤ timed.threads)
-        × (timed.threads ≤ 4) }
-{
-    let threads = timed.threads;
-    let opened = SharedCore::<M, S>::open_core(alloc, made, stored, core, threads, None, threads);
-    let Ok((shared, mut callers)) = opened else {
+    let Ok((shared, mut callers)) = Shared::<M, S, H>::open(made, stored, book, timed.threads)
+    else {
         return Err(NoMemory);
     };
     run_all(rt, &shared, callers.as_mut_slice(), lists, timed, meter);
@@ -97,13 +74,13 @@ fn share_core<M: Frame + Send + Sync, S: Ledger + Send + Sync, R: Threads + Wait
 
 // The rounds of all callers, each in a thread of its own.
 fn run_all<
-    M: Frame + Send + Sync,
+    M: Terms + Send + Sync,
     S: Ledger + Send + Sync,
-    K: Keeper<M, S> + Send,
+    H: Keeps + Send,
     R: Threads + Wait + Sync + Clock,
 >(
     rt: &R,
-    shared: &Shared<M, S, K>,
+    shared: &Shared<M, S, H>,
     callers: &mut [Caller<M, S>],
     lists: &Vec<List>,
     timed: Timed,
@@ -124,9 +101,9 @@ fn run_all<
 }
 
 // The rounds of one caller.
-fn run<M: Frame, S: Ledger, K: Keeper<M, S>, R: Wait + Clock>(
+fn run<M: Terms, S: Ledger, H: Keeps, R: Wait + Clock>(
     rt: &R,
-    shared: &Shared<M, S, K>,
+    shared: &Shared<M, S, H>,
     caller: &mut Caller<M, S>,
     k: usize,
     lists: &Vec<List>,
@@ -148,9 +125,9 @@ fn run<M: Frame, S: Ledger, K: Keeper<M, S>, R: Wait + Clock>(
 }
 
 // Makes the stores of the list. `None` where one was refused.
-fn store<M: Frame, S: Ledger, K: Keeper<M, S>, R: Wait>(
+fn store<M: Terms, S: Ledger, H: Keeps, R: Wait>(
     rt: &R,
-    shared: &Shared<M, S, K>,
+    shared: &Shared<M, S, H>,
     caller: &mut Caller<M, S>,
     layout: Layout,
     list: &[(u32, u32)],

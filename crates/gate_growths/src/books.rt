@@ -1,15 +1,16 @@
 //! Books whose slots, cards and regions are named by number, each call of which is made again where
 //! it was refused.
 ghost use Rattle.std.specs.Prelude.{◌≡◌, [], IfOk};
-ghost use Rattle.g1_book.specs.History.{opened};
+ghost use Rattle.g1_history.specs.Asked.{IsAsked};
+ghost use Rattle.g1_history.specs.History.{opened};
 
 use crate::numbers::{
     Numbers, are_numbered, buffer, card, number_of, numbers_of, place_of, region, slot, small,
 };
 use crate::outcome::{Failure, check, refused, short};
 use g1_book::{Book, Entry, Reply};
-use g1_core::{ClearReply, Config, Settings};
-use g1_layout::NoMemory;
+use g1_core::{Call, ClearReply, Config, Settings};
+use g1_layout::{Layout, NoMemory};
 use g1_log::Log;
 
 /// The settings of the books: logs of `log` cards, and a line of `limit` buffers. No card is found
@@ -77,6 +78,34 @@ impl Ask<'_> {
             Ask::Redirect(..) => ("Book::redirect", "Shared::redirect"),
         }
     }
+}
+
+/// The call by its value, which is no store and no refinement.
+pub(crate) fn call_of(layout: &Layout, ask: Ask<'_>) -> Result<Call, Failure>
+    ensures { IfOk result (IsAsked layout.now) }
+{
+    Ok(match ask {
+        Ask::Store(..) | Ask::Refine(_) => return Err(Failure::Wrong),
+        Ask::Target(of) => Call::Target(slot(layout, of)?),
+        Ask::Pending(of) => Call::Pending(card(layout, of)?),
+        Ask::Members(of) => Call::Members(region(layout, of)?),
+        Ask::Status => Call::Status,
+        Ask::Drain(of) => Call::Drain(region(layout, of)?),
+        Ask::Clear(of) => Call::Clear(region(layout, of)?),
+        Ask::Redirect(from, to) => return redirect_of(layout, from, to),
+    })
+}
+
+// The redirect from one region to another, which are two.
+fn redirect_of(layout: &Layout, from: u32, to: u32) -> Result<Call, Failure>
+    ensures { IfOk result (IsAsked layout.now) }
+{
+    let from = region(layout, from)?;
+    let to = region(layout, to)?;
+    if from == to {
+        return Err(Failure::Wrong);
+    }
+    Ok(Call::Redirect { from, to })
 }
 
 /// What the call's entry says beside the cards that were refined.
@@ -188,28 +217,10 @@ impl Kept {
                 let lent = buffer(&layout, cards)?;
                 let _ = self.book.refine(0, Some(&lent))?;
             }
-            Ask::Target(number) => {
-                let _ = self.target(number)?;
+            _ => {
+                let call = call_of(&layout, ask)?;
+                let _ = self.book.ask(0, call)?;
             }
-            Ask::Pending(number) => {
-                let _ = self.is_pending(number)?;
-            }
-            Ask::Members(number) => {
-                let of = region(&layout, number)?;
-                let _ = self.book.members(0, of)?;
-            }
-            Ask::Status => {
-                let _ = self.book.status(0)?;
-            }
-            Ask::Drain(number) => {
-                let of = region(&layout, number)?;
-                let _ = self.book.drain(0, of)?;
-            }
-            Ask::Clear(number) => {
-                let of = region(&layout, number)?;
-                let _ = self.book.clear(0, of)?;
-            }
-            Ask::Redirect(from, to) => return self.redirect(from, to),
         }
         Ok(())
     }
@@ -222,17 +233,6 @@ impl Kept {
             return Err(Failure::Wrong);
         }
         let _ = self.book.store(0, &mut self.log, from, Some(to))?;
-        Ok(())
-    }
-
-    fn redirect(&mut self, from: u32, to: u32) -> Result<(), Failure> {
-        let layout = self.book.layout();
-        let from = region(&layout, from)?;
-        let to = region(&layout, to)?;
-        if from == to {
-            return Err(Failure::Wrong);
-        }
-        let _ = self.book.redirect(0, from, to)?;
         Ok(())
     }
 

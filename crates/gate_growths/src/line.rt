@@ -1,6 +1,8 @@
-//! The line of completed buffers: making one takes memory.
+//! The line of completed buffers: making one takes memory, alone or with its mutators.
 
+use crate::books::settings;
 use crate::outcome::{Failure, check, refused};
+use g1_book::open_line;
 use g1_layout::NoMemory;
 use g1_log::Line;
 use std::sync::Wait;
@@ -19,4 +21,20 @@ pub(crate) fn new_line<R: Wait + Eprint + AllocGlobal>(rt: &R) -> Result<(), Fai
     check(rt, line.len(rt) == 0, "a new line holds a buffer")?;
     let settled = line.settle(rt, senders, takers);
     check(rt, settled.sent() == 0, "a buffer was put into a new line")
+}
+
+/// The same of a line with two mutators, whose logs are empty.
+pub(crate) fn new_callers<R: Wait + Eprint + AllocGlobal>(rt: &R) -> Result<(), Failure> {
+    let config = settings(8, 4)?;
+    let (line, mutators, takers) = match open_line(rt.alloc(), config, 2, 3) {
+        Ok(made) => made,
+        Err(NoMemory) => {
+            refused(rt, "open_line");
+            open_line(rt.alloc(), config, 2, 3)?
+        }
+    };
+    check(rt, line.len(rt) == 0, "a new line holds a buffer")?;
+    let are_empty = mutators.iter().all(|mutator| mutator.log.is_empty());
+    check(rt, mutators.len() == 2 && are_empty, "new mutators")?;
+    check(rt, takers.len() == 3, "new takers")
 }

@@ -1,5 +1,5 @@
 //! Makes every call that takes memory, and looks at what it leaves where a growth is refused
-//! (docs/TESTING.md, Refused growths).
+//! (docs/internals/testing.md, Refused growths).
 //!
 //! A growth is one call of `malloc` or `realloc`. Run as it is, the program meets no refusal;
 //! `scripts/check-growths` runs it once for each of its growths, with that one refused. The call
@@ -12,7 +12,6 @@
 #![tactic(auto)]
 
 mod books;
-mod callers;
 mod cores;
 mod cycle;
 mod heap;
@@ -51,7 +50,7 @@ fn play<R: Wait + Print + Eprint + AllocGlobal>(rt: &R) -> Result<(), Failure> {
     sets::play(rt)?;
     machinery::play(rt)?;
     history::play(rt)?;
-    callers::play(rt)?;
+    told(rt, "callers at a line", line::new_callers(rt))?;
     shared::play(rt)?;
     told(
         rt,

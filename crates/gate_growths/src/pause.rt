@@ -30,17 +30,7 @@ fn stored<R: Eprint + AllocGlobal>(rt: &R) -> Result<Paused, Failure> {
 /// A drain lists the cards that hold into region 3.
 pub(crate) fn drained<R: Eprint + AllocGlobal>(rt: &R) -> Result<(), Failure> {
     let mut paused = stored(rt)?;
-    let from = region(&paused.layout(), 3)?;
-    let answer = match paused.drain(rt.alloc(), from) {
-        Ok(answer) => answer,
-        Err(NoMemory) => {
-            refused(rt, "Paused::drain");
-            are_as_stored(rt, &mut paused)?;
-            let from = region(&paused.layout(), 3)?;
-            paused.drain(rt.alloc(), from)?
-        }
-    };
-    let Drained::Cards { cards, refined } = answer else {
+    let Drained::Cards { cards, refined } = drain(rt, &mut paused)? else {
         return Err(Failure::Wrong);
     };
     let (cards, refined) = (cards.as_slice(), refined.as_slice());
@@ -48,27 +38,57 @@ pub(crate) fn drained<R: Eprint + AllocGlobal>(rt: &R) -> Result<(), Failure> {
     check(rt, is, "a drain at a pause")
 }
 
+// Drains region 3. A refused drain changes nothing, and is made again.
+fn drain<R: Eprint + AllocGlobal>(rt: &R, paused: &mut Paused) -> Result<Drained, Failure> {
+    if let Ok(answer) = drain_once(rt, paused)? {
+        return Ok(answer);
+    }
+    refused(rt, "Paused::drain");
+    are_as_stored(rt, paused)?;
+    Ok(drain_once(rt, paused)??)
+}
+
+fn drain_once<R: AllocGlobal>(
+    rt: &R,
+    paused: &mut Paused,
+) -> Result<Result<Drained, NoMemory>, Failure> {
+    let of = region(&paused.layout(), 3)?;
+    Ok(paused.drain(rt.alloc(), of))
+}
+
 /// The references into region 3 move to region 1, where slot 8 lies.
 pub(crate) fn redirected<R: Eprint + AllocGlobal>(rt: &R) -> Result<(), Failure> {
     let mut paused = stored(rt)?;
-    let layout = paused.layout();
-    let (from, to) = (region(&layout, 3)?, region(&layout, 1)?);
-    let answer = match paused.redirect(rt.alloc(), from, to) {
-        Ok(answer) => answer,
-        Err(NoMemory) => {
-            refused(rt, "Paused::redirect");
-            are_as_stored(rt, &mut paused)?;
-            let layout = paused.layout();
-            let (from, to) = (region(&layout, 3)?, region(&layout, 1)?);
-            paused.redirect(rt.alloc(), from, to)?
-        }
-    };
-    let Redirected::Moved { slots, refined } = answer else {
+    let Redirected::Moved { slots, refined } = redirect(rt, &mut paused)? else {
         return Err(Failure::Wrong);
     };
     let is = slots == 2 && are_numbered(refined.as_slice(), &[0, 1, 2]);
     check(rt, is, "a redirect at a pause")?;
-    refer(rt, &mut paused, &[(0, 8), (4, 16), (8, 8)])?;
+    are_moved(rt, &mut paused)
+}
+
+// Redirects region 3. A refused redirect changes nothing, and is made again.
+fn redirect<R: Eprint + AllocGlobal>(rt: &R, paused: &mut Paused) -> Result<Redirected, Failure> {
+    if let Ok(answer) = redirect_once(rt, paused)? {
+        return Ok(answer);
+    }
+    refused(rt, "Paused::redirect");
+    are_as_stored(rt, paused)?;
+    Ok(redirect_once(rt, paused)??)
+}
+
+fn redirect_once<R: AllocGlobal>(
+    rt: &R,
+    paused: &mut Paused,
+) -> Result<Result<Redirected, NoMemory>, Failure> {
+    let layout = paused.layout();
+    let (from, to) = (region(&layout, 3)?, region(&layout, 1)?);
+    Ok(paused.redirect(rt.alloc(), from, to))
+}
+
+// Whether the references into region 3 refer into region 1, and the cards outside it are recorded.
+fn are_moved(rt: &impl Eprint, paused: &mut Paused) -> Result<(), Failure> {
+    refer(rt, paused, &[(0, 8), (4, 16), (8, 8)])?;
     let layout = paused.layout();
     let is = paused.has(card(&layout, 0)?, region(&layout, 1)?) && paused.status().recorded == 2;
     check(rt, is, "the pairs after a redirect at a pause")

@@ -1,4 +1,4 @@
-//! What a caller does at a line: the same at a book that is lent, and at one that is shared.
+//! What the caller of a shared book does at its line.
 
 use Step::{Flush, Refine, Store, Work};
 use g1_core::Fill;

@@ -4,7 +4,7 @@
 //! those from `8 * r` on.
 ghost use Rattle.std.specs.Prelude.{◌≡◌, [], IfOk, IfErr};
 ghost use Rattle.g1_shared.specs.Callers.{IsCallerOf};
-ghost use Rattle.g1_book.specs.History.{terms_of};
+ghost use Rattle.g1_shared.specs.Counts.{shared_terms};
 
 mod caller;
 
@@ -12,10 +12,9 @@ use crate::books::{Answer, Ask, Kept, new_book, settings};
 use crate::outcome::{Failure, check, refused, told};
 use crate::plans::{FLUSH, FOUR_STORES, FOUR_TO_MOVE, HELP, OPEN, Plan, ROUND, TAKE};
 use caller::{Call, SharedCaller};
-use g1_book::Book;
+use g1_book::{Book, Caller, Shared, Terms};
 use g1_layout::NoMemory;
 use g1_log::Log;
-use g1_shared::{Caller, Frame, Shared};
 use std::marker::Brand;
 use std::sync::Wait;
 use std::sync::ledger::{Blank, Ledger};
@@ -155,7 +154,7 @@ fn shared_once<R: Wait + Eprint>(
 }
 
 // Shares the book with one caller, and ends the sharing.
-fn share<M: Frame, S: Ledger, R: Wait + Eprint>(
+fn share<M: Terms, S: Ledger, R: Wait + Eprint>(
     rt: &R,
     made: Blank,
     stored: Blank,
@@ -165,7 +164,7 @@ fn share<M: Frame, S: Ledger, R: Wait + Eprint>(
 ) -> Result<Result<Book, Book>, Failure>
     requires made { (made.name ≡ M.name) × (made.parts ≡ M.parts) × (made.parts ≡ 1) }
     requires stored { (stored.name ≡ S.name) × (stored.parts ≡ S.parts) × (stored.parts ≡ 1) }
-    requires terms { terms_of book ≡ M.terms }
+    requires terms { shared_terms book ≡ M.terms }
     requires book { (book.entries ≡ []) × (book.mutators ≡ 1) }
     ensures { IfOk result (λ ended. IfErr ended (λ back. back ≡ book)) }
 {
@@ -183,7 +182,7 @@ fn share<M: Frame, S: Ledger, R: Wait + Eprint>(
 }
 
 // The caller, once it has made the calls of the plan.
-fn by_plan<M: Frame, S: Ledger, R: Wait + Eprint>(
+fn by_plan<M: Terms, S: Ledger, R: Wait + Eprint>(
     rt: &R,
     shared: &Shared<M, S>,
     caller: Caller<M, S>,

@@ -1,6 +1,6 @@
 //! A core that is shared without a history: sharing it, and a question at its guard, take memory.
-ghost use Rattle.std.specs.Prelude.{◌≡◌, None, IfOk, IfErr};
-ghost use Rattle.g1_shared.specs.Totals.{core_terms};
+ghost use Rattle.std.specs.Prelude.{◌≡◌, false, IfOk, IfErr};
+ghost use Rattle.g1_shared.specs.Counts.{AreNone, shared_terms};
 
 use crate::cores::steps::Step::{Refine, Store};
 use crate::cores::steps::take;
@@ -8,10 +8,9 @@ use crate::cores::{is_left, new_core, state_of};
 use crate::numbers::{numbers_of, region};
 use crate::outcome::{Failure, check, refused};
 use crate::race::REFERENCES;
-use g1_book::Refusal;
+use g1_book::{Book, Caller, Refusal, SharedCore, Tallied, Terms};
 use g1_core::Core;
 use g1_layout::NoMemory;
-use g1_shared::{Caller, Frame, Keeper, SharedCore, Totals};
 use std::alloc::Global;
 use std::marker::Brand;
 use std::sync::Wait;
@@ -27,7 +26,7 @@ pub(crate) fn asked_and_ended<R: Wait + Eprint + AllocGlobal>(rt: &R) -> Result<
     let mut core = match shared_once(rt, rt.alloc(), core)? {
         Ok(core) => core,
         Err(mut core) => {
-            refused(rt, "Shared::open_core");
+            refused(rt, "SharedCore::open");
             is_left(rt, &mut core, &before, &[])?;
             match shared_once(rt, rt.alloc(), core)? {
                 Ok(core) => core,
@@ -47,49 +46,50 @@ fn shared_once<R: Wait + Eprint>(
     ensures { IfOk result (λ ended. IfErr ended (λ back. back ≡ core)) }
 {
     let (made, stored) = (Blank::new(1), Blank::new(1));
-    share::<Brand, Brand, R>(rt, alloc, made, stored, core)
+    let book = Book::over(alloc, core, 1, u64::MAX);
+    share::<Brand, Brand, R>(rt, made, stored, book)
 }
 
 // Shares the core with one caller, who asks once, and ends the sharing.
-fn share<M: Frame, S: Ledger, R: Wait + Eprint>(
+fn share<M: Terms, S: Ledger, R: Wait + Eprint>(
     rt: &R,
-    alloc: Global,
     made: Blank,
     stored: Blank,
-    core: Core,
+    book: Book<Tallied>,
 ) -> Result<Result<Core, Core>, Failure>
     requires made { (made.name ≡ M.name) × (made.parts ≡ M.parts) × (made.parts ≡ 1) }
     requires stored { (stored.name ≡ S.name) × (stored.parts ≡ S.parts) × (stored.parts ≡ 1) }
-    requires terms { core_terms core 1 None ≡ M.terms }
-    ensures { IfOk result (λ ended. IfErr ended (λ back. back ≡ core)) }
+    requires terms { shared_terms book ≡ M.terms }
+    requires empty { AreNone false book }
+    requires mutators { book.mutators ≡ 1 }
+    ensures { IfOk result (λ ended. IfErr ended (λ back. back ≡ book.machine)) }
 {
-    let opened = SharedCore::<M, S>::open_core(alloc, made, stored, core, 1, None, 1);
-    let (shared, mut callers) = match opened {
+    let (shared, mut callers) = match SharedCore::<M, S>::open(made, stored, book, 1) {
         Ok(opened) => opened,
-        Err((core, NoMemory)) => return Ok(Err(core)),
+        Err((book, NoMemory)) => return Ok(Err(book.into_core())),
     };
     let mut caller = callers.take_last();
     if has_members(rt, &shared, &mut caller)? == Err(Refusal::NoMemory) {
-        refused(rt, "CountedCore::members");
-        let is_uncounted = caller.made() == 0 && shared.lock(rt).totals().made == 0;
+        refused(rt, "Counted::members without a history");
+        let is_uncounted = caller.made() == 0 && shared.lock(rt).book().made() == 0;
         check(rt, is_uncounted, "a refused call was counted")?;
         has_members(rt, &shared, &mut caller)??;
     }
     callers.push_reserved(caller);
-    let (core, totals) = shared.finish(callers);
-    let one = Totals { made: 1, stored: 0 };
-    check(rt, totals == one, "the totals of a shared core")?;
-    Ok(Ok(core))
+    let book = shared.finish(callers);
+    let is_one = book.made() == 1 && book.stored() == 0;
+    check(rt, is_one, "the totals of a shared core")?;
+    Ok(Ok(book.into_core()))
 }
 
 // Asks the guard for the members of the region that cards 0 and 2 refer into.
-fn has_members<M: Frame, S: Ledger, R: Wait + Eprint>(
+fn has_members<M: Terms, S: Ledger, R: Wait + Eprint>(
     rt: &R,
     shared: &SharedCore<M, S>,
     caller: &mut Caller<M, S>,
 ) -> Result<Result<(), Refusal>, Failure> {
     let mut guard = shared.lock(rt);
-    let of = region(&guard.core().layout(), 3)?;
+    let of = region(&guard.book().layout(), 3)?;
     let cards = match guard.members(caller, of) {
         Ok(cards) => cards,
         Err(refusal) => return Ok(Err(refusal)),

@@ -3,15 +3,13 @@ ghost use Rattle.std.specs.Prelude.{◌≡◌};
 ghost use Rattle.std.proofs.Props.{props};
 ghost use Rattle.g1_shared.specs.Callers.{IsCallerOf};
 
-use crate::books::{Answer, Ask, entered};
-use crate::callers::is_helped;
-use crate::numbers::{card, region, slot};
-use crate::outcome::{Failure, check, refused};
+use crate::books::{Answer, Ask, call_of, entered};
+use crate::numbers::{numbers_of, slot};
+use crate::outcome::{Failure, check, refused, short};
 use crate::plans::{Plan, Step};
-use g1_book::Refusal;
-use g1_core::{Fill, StoreReply};
+use g1_book::{Caller, Refusal, Shared, Terms};
+use g1_core::{CardList, Fill, StoreReply};
 use g1_layout::Layout;
-use g1_shared::{Caller, Frame, Shared};
 use std::sync::Wait;
 use std::sync::ledger::Ledger;
 
@@ -20,13 +18,13 @@ pub(crate) type Call = (Ask<'static>, &'static [u32], Answer<'static>);
 
 /// A shared book, and its only caller, which is a mutator.
 #[derive(Drop)]
-pub(crate) struct SharedCaller<'a, M: Frame, S: Ledger> {
+pub(crate) struct SharedCaller<'a, M: Terms, S: Ledger> {
     pub(crate) shared: &'a Shared<M, S>,
     pub(crate) caller: Caller<M, S>,
     ghost of: { IsCallerOf shared.now caller } by { Prim.hlevel props },
 }
 
-impl<M: Frame, S: Ledger> SharedCaller<'_, M, S> {
+impl<M: Terms, S: Ledger> SharedCaller<'_, M, S> {
     /// Takes the steps of a plan, and makes the calls then.
     pub(crate) fn play<R: Wait + Eprint>(
         &mut self,
@@ -157,7 +155,7 @@ impl<M: Frame, S: Ledger> SharedCaller<'_, M, S> {
         let reply = match self.shared.work(rt, &mut self.caller) {
             Err(Refusal::NoMemory) => {
                 refused(rt, "Shared::work");
-                return self.has_made(rt, before, 0, 0);
+                return self.works_again(rt, before);
             }
             answer => answer?,
         };
@@ -169,10 +167,22 @@ impl<M: Frame, S: Ledger> SharedCaller<'_, M, S> {
         let most = refined.saturating_add(u64::from(reply.short));
         self.has_made(rt, before, refined, most)
     }
+
+    // A refused round has entered nothing, and given up one buffer at most: five of six are left,
+    // which begin another round of four calls or five.
+    fn works_again<R: Wait + Eprint>(&mut self, rt: &R, before: (u64, u64)) -> Result<(), Failure> {
+        self.has_made(rt, before, 0, 0)?;
+        let reply = self.shared.work(rt, &mut self.caller)?;
+        check(
+            rt,
+            reply.taken >= 4 && reply.left == 1,
+            "what a refused round gave up",
+        )
+    }
 }
 
 /// The calls that are one call under the lock.
-impl<M: Frame, S: Ledger> SharedCaller<'_, M, S> {
+impl<M: Terms, S: Ledger> SharedCaller<'_, M, S> {
     // Makes a call that refines these cards in this order. A refused one leaves the caller's
     // counts, and a short one is entered; either is made again, and takes up where it stopped.
     fn made<R: Wait + Eprint>(
@@ -219,44 +229,28 @@ impl<M: Frame, S: Ledger> SharedCaller<'_, M, S> {
 
     fn call<R: Wait>(&mut self, rt: &R, ask: Ask<'_>) -> Result<(), Failure> {
         let layout = self.layout(rt);
-        match ask {
-            Ask::Target(number) => {
-                let from = slot(&layout, number)?;
-                let _ = self.shared.target(rt, &mut self.caller, from)?;
-            }
-            Ask::Pending(number) => {
-                let card = card(&layout, number)?;
-                let _ = self.shared.is_pending(rt, &mut self.caller, card)?;
-            }
-            Ask::Members(number) => {
-                let of = region(&layout, number)?;
-                let _ = self.shared.members(rt, &mut self.caller, of)?;
-            }
-            Ask::Status => {
-                let _ = self.shared.status(rt, &mut self.caller)?;
-            }
-            Ask::Drain(number) => {
-                let of = region(&layout, number)?;
-                let _ = self.shared.drain(rt, &mut self.caller, of)?;
-            }
-            Ask::Clear(number) => {
-                let of = region(&layout, number)?;
-                let _ = self.shared.clear(rt, &mut self.caller, of)?;
-            }
-            Ask::Redirect(from, to) => return self.redirect(rt, from, to),
-            Ask::Store(..) | Ask::Refine(_) => return Err(Failure::Wrong),
-        }
+        let call = call_of(&layout, ask)?;
+        let _ = self.shared.ask(rt, &mut self.caller, call)?;
         Ok(())
     }
+}
 
-    fn redirect<R: Wait>(&mut self, rt: &R, from: u32, to: u32) -> Result<(), Failure> {
-        let layout = self.layout(rt);
-        let from = region(&layout, from)?;
-        let to = region(&layout, to)?;
-        if from == to {
-            return Err(Failure::Wrong);
-        }
-        let _ = self.shared.redirect(rt, &mut self.caller, from, to)?;
-        Ok(())
+// A help refines these cards, or where it is short the first of them.
+fn is_helped(
+    rt: &impl Eprint,
+    step: &str,
+    refined: &CardList,
+    is_short: bool,
+    cards: &[u32],
+) -> Result<(), Failure> {
+    let now = numbers_of(refined.as_slice())?;
+    if !is_short {
+        return check(rt, now.as_slice() == cards, "which cards a step refined");
     }
+    short(rt, step, now.len());
+    check(
+        rt,
+        now.len() < cards.len() && cards.starts_with(now.as_slice()),
+        "which cards a short step refined",
+    )
 }

@@ -1,11 +1,11 @@
-use Rattle.g1_book.specs.History.{terms_of}
+use Rattle.g1_shared.specs.Counts.{shared_terms}
 use Rattle.gate_growths.proofs.shared.shared_once.Given as goal
 
 abbrev pub ghosts-share-M-Ledger : goal.ghosts-share-M-Ledger
 ghosts-share-M-Ledger g a = record { name = a.made.name; parts = a.made.parts }
 
-abbrev pub ghosts-share-M-Frame : goal.ghosts-share-M-Frame
-ghosts-share-M-Frame g a = record { terms = terms_of a.book }
+abbrev pub ghosts-share-M-Terms : goal.ghosts-share-M-Terms
+ghosts-share-M-Terms g a = record { terms = shared_terms a.book }
 
 abbrev pub ghosts-share-S-Ledger : goal.ghosts-share-S-Ledger
 ghosts-share-S-Ledger g a = record { name = a.stored.name; parts = a.stored.parts }

@@ -1,0 +1,72 @@
+# For the scripts that source it, at the top of the repository: what a crate is made of, and what
+# the archives of prebuilt/ are made of.
+targets=(x86_64 aarch64)
+version=$(sed -n 's/^#define G1_VERSION "\(.*\)"$/\1/p' include/g1.h)
+
+# The libraries that crates.txt names for a crate: those of the repository (`ours`), or those of the
+# kit.
+stands_on() {
+  local library from
+  for library in $(sed -n "s/^$2\( [^:]*\)\{0,1\}: *//p" crates.txt); do
+    from=kit
+    [ ! -d "crates/$library" ] || from=ours
+    [ "$from" != "$1" ] || echo "$library"
+  done
+}
+
+# The crates of the repository below one, lowest first, as crates.txt lists them.
+below() {
+  tac crates.txt | awk -F ': *' -v above="$1" '
+    { sub(/ .*/, "", $1) }
+    $1 == above || $1 in wanted {
+      if ($1 != above) print $1
+      count = split($2, libraries, " ")
+      for (i = 1; i <= count; i++) wanted[libraries[i]]
+    }' | tac
+}
+
+# The folders that a crate is made of, with those of the crates below it. A static library is made
+# of the functions in C too.
+folders_of() {
+  local crate folder
+  for crate in $(below "$1") "$1"; do
+    for folder in crates/"$crate"/{src,specs,proofs}; do
+      [ ! -d "$folder" ] || echo "$folder"
+    done
+  done
+  ! grep -q "^$1 staticlib" crates.txt || echo c
+}
+
+# What the archives of prebuilt/ are made of, and they themselves, in lines `SUM  NAME`: each file, the
+# crates' lines of crates.txt, and by themselves the version and the toolchain's logic, which
+# docs/guarantees.md names.
+sums_of_prebuilt() {
+  local logic crates folders
+  logic=$(grep -om 1 'logic [0-9a-f]\{16\}' docs/guarantees.md)
+  crates=$(below g1_c | tr '\n' '|')g1_c
+  mapfile -t folders < <(folders_of g1_c)
+  printf '%s  %s\n' "$version" G1_VERSION "${logic#logic }" logic
+  grep -E "^($crates)[ :]" crates.txt | sha256sum | sed 's/-$/crates.txt/'
+  find "${folders[@]}" prebuilt -type f ! -name sums | LC_ALL=C sort | xargs sha256sum
+}
+
+# Why the archives of prebuilt/ are not of the sources here; nothing if they are.
+why_not_prebuilt() {
+  if [ -e prebuilt/sums ]; then
+    diff prebuilt/sums <(sums_of_prebuilt) | sed -n '/^[<>]/{s/.*  \(.*\)/\1 is not as in prebuilt\/sums/p;q}' || true
+  else
+    echo "there is no prebuilt/sums"
+  fi
+}
+
+# Builds the library for C for each target, side by side.
+build_libraries() {
+  local target job jobs=()
+  for target in "${targets[@]}"; do
+    RT_JOBS=$(((${RT_JOBS:-2} + 1) / 2)) scripts/built --target "$target" g1_c > /dev/null &
+    jobs+=($!)
+  done
+  for job in "${jobs[@]}"; do
+    wait "$job" || return 1
+  done
+}
