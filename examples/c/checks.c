@@ -108,6 +108,10 @@ static void closed_handles(void) {
         moved = refined_count = 7;
         answers(redirect(&handle, 0, 1), G1_NOT_OPEN, "redirect on a closed handle");
         check(moved == 0 && refined_count == 0, "the counts of a refused redirect");
+        answers(g1_copy(&handle, 0, 1, 1), G1_NOT_OPEN, "copy on a closed handle");
+        moved = word = 7;
+        answers(g1_verify(&handle, 0, 1, one, 1, &moved, &word), G1_NOT_OPEN, "verify on a closed handle");
+        check(moved == G1_NULL && word == G1_NULL, "what a refused check finds");
         answers(g1_close(&handle), G1_NOT_OPEN, "close of a closed handle");
         check(handle.core == NULL, "a closed handle stays closed");
         answers(g1_open(&handle, &small, 4, 8), G1_DONE, "open");
@@ -230,6 +234,29 @@ static void rooms(void) {
     check(tally.refined == 1 && refined[0] == 0 && tally.skipped == 1 && tally.hot == 0, "one card was dirty");
     answers(g1_drain(&handle, 1, cards, 8, &count, refined, 8, &refined_count), G1_DONE, "just enough room");
     check(count == 1 && cards[0] == 0 && refined_count == 0, "nothing was pending any more");
+    g1_close(&handle);
+}
+
+// Where several codes apply, the header's list of the call has them in order.
+static void first_codes(void) {
+    struct g1 handle = {0};
+    struct g1_tally tally;
+    struct g1_batch batch;
+    struct g1_reference stores[257] = {{32, 0}};
+    struct g1_counts none = {0, 0, 0};
+    uint32_t log[257] = {8}, detail;
+    answers(g1_open(&handle, &none, 4, 0), G1_BAD_LAYOUT, "bad counts, and no ring");
+    answers(g1_open(&handle, &small, 4, 8), G1_DONE, "open");
+    answers(g1_open(&handle, &none, 4, 0), G1_ALREADY_OPEN, "bad counts, no ring, and an open handle");
+    answers(g1_store_all(&handle, stores, 257, cards, 256, &batch), G1_NO_ROOM, "257 stores, and room for 256");
+    answers(g1_refine(&handle, log, 257, refined, 256, &tally), G1_NO_ROOM, "257 cards, and room for 256");
+    answers(g1_refine(&handle, log, 257, refined, 257, &tally), G1_TOO_MANY_CARDS, "257 cards, one of no heap");
+    store(&handle, 0, 8);
+    answers(g1_drain(&handle, 4, cards, 0, &count, refined, 0, &refined_count), G1_NO_REGION, "a drain without region and room");
+    answers(members(&handle, 4, 0), G1_NO_REGION, "members without region and room");
+    answers(g1_clear(&handle, 4, &detail), G1_NO_REGION, "a clear of no region, while a card is pending");
+    answers(redirect(&handle, 4, 4), G1_NO_REGION, "a redirect from no region to itself");
+    answers(g1_redirect(&handle, 1, 1, &moved, refined, 0, &refined_count), G1_SAME_REGION, "one to itself, without room");
     g1_close(&handle);
 }
 
@@ -439,6 +466,43 @@ static int clears_rightly(struct g1 *handle, uint32_t region) {
 }
 
 // A redirect beside the table, whose references are moved too. No slot enters the region after it, so that a clear is granted.
+// A copy of a range beside one of the table, with each card that it lets refer into a region.
+static int copies_rightly(struct g1 *handle) {
+    uint32_t from = below(ALL_SLOTS + 2), to = below(ALL_SLOTS + 2), length = below(2 * CARDS * SLOTS);
+    uint32_t end = (from > to ? from : to) + length;
+    if (g1_copy(handle, from, to, length) != (end > ALL_SLOTS ? G1_NO_SLOT : G1_DONE)) {
+        return 0;
+    }
+    if (end <= ALL_SLOTS) {
+        memmove(&table[to], &table[from], length * sizeof table[0]);
+        for (uint32_t slot = to; slot < to + length; slot++) {
+            uint32_t target = table[slot];
+            if (target != G1_NULL && region_of(target) != region_of(slot)) {
+                held[slot / SLOTS][region_of(target)] = 1;
+            }
+        }
+    }
+    return 1;
+}
+
+// The table is what the core has; and where a slot of it is changed, a check finds that slot.
+static int verifies_rightly(struct g1 *handle) {
+    uint32_t slot = below(ALL_SLOTS), other = below(ALL_SLOTS), differing = 7, missing = 7;
+    int rightly = g1_verify(handle, 0, ALL_SLOTS, table, ALL_SLOTS, &differing, &missing) == G1_DONE &&
+                  differing == G1_NULL && missing == G1_NULL;
+    uint32_t had = table[slot], later = slot + below(ALL_SLOTS - slot), kept = table[later];
+    table[later] = table[later] == other ? G1_NULL : other;
+    table[slot] = had == other ? G1_NULL : other;
+    rightly &= g1_verify(handle, 0, 0, table, ALL_SLOTS, &differing, &missing) == G1_DONE && differing == slot;
+    rightly &= g1_verify(handle, slot, 1, &table[slot], 1, &differing, &missing) == G1_DONE && differing == slot;
+    rightly &= g1_verify(handle, 0, ALL_SLOTS, table, slot, &differing, &missing) == G1_DONE && differing == G1_NULL;
+    rightly &= g1_verify(handle, 1, ALL_SLOTS, table, 1, &differing, &missing) == G1_NO_SLOT && differing == G1_NULL;
+    rightly &= g1_verify(handle, 1, 1, table, ALL_SLOTS, &differing, &missing) == G1_NO_SLOT && missing == G1_NULL;
+    table[later] = kept;
+    table[slot] = had;
+    return rightly;
+}
+
 static int redirects_rightly(struct g1 *handle, uint32_t from, uint32_t to) {
     uint32_t slots = 0;
     for (uint32_t slot = 0; slot < ALL_SLOTS; slot++) {
@@ -477,6 +541,7 @@ static void random_calls(long calls) {
             wrong += drain(&handle, region) != G1_DONE || !is_exact(region);
             answered += count;
             wrong += !has_same_members(&handle, region) || !clears_rightly(&handle, region);
+            wrong += !copies_rightly(&handle) || !verifies_rightly(&handle);
             length = 0;
             drains++;
         } else if (choice < 15 || length == G1_LOG) {
@@ -535,6 +600,7 @@ int main(int number, char **words) {
     stores();
     batches();
     rooms();
+    first_codes();
     ring();
     questions();
     member_rooms();

@@ -2,8 +2,9 @@
 //
 // Its nodes are in the library's words. A mutator puts a node in front of the list by
 // g1_race_compare_exchange, and takes the whole list by g1_race_swap. No node is used twice in a
-// race, so an exchange that finds the first node still there finds the list as it was. At a pause
-// each node was taken just once, or is in the list, and each drain is compared with a scan.
+// race, so an exchange that finds the first node still there finds the list as it was. A node has a
+// label too, in memory of the program's own. At a pause each node was taken just once, or is in the
+// list, and each drain is compared with a scan.
 #define _POSIX_C_SOURCE 200809L
 #include "g1_refiner.h"
 
@@ -26,6 +27,7 @@ static struct g1_heap heap;
 static struct g1_refiner refiner;
 static struct g1_racer racers[MUTATORS]; // a mutator has its own in a local until it ends
 static struct g1_sweeper sweepers[SWEEPERS];
+static uint32_t labels[ALL_SLOTS];   // of a node, not atomic: they are written before the exchange
 static atomic_uint taken[ALL_SLOTS]; // how often a node was taken in this race
 static atomic_ulong differences;     // exchanges that another mutator came before
 static unsigned wrong;
@@ -49,9 +51,12 @@ static uint32_t target_of(uint32_t slot) {
 
 // Puts a node in front of the list.
 static void push(struct g1_racer *racer, uint32_t node) {
+    static _Thread_local uint32_t label;
     uint32_t first = target_of(HEAD), found, kind, code;
     uint64_t old;
     done(g1_race_store_data(racer, node, G1_DATA + node, &old));
+    labels[node] = ++label;
+    G1_TSAN_RELEASE(&labels[node]);
     do {
         done(g1_refiner_store(&refiner, racer, node + 1, first, &kind));
         code = g1_race_compare_exchange(racer, HEAD, first, node, &found, &kind);
@@ -68,7 +73,8 @@ static void push(struct g1_racer *racer, uint32_t node) {
 static unsigned take(uint32_t node) {
     unsigned faults = 0;
     for (; node != G1_NULL; node = target_of(node + 1)) {
-        faults += word_of(node) != G1_DATA + node || taken[node]++ != 0;
+        G1_TSAN_ACQUIRE(&labels[node]);
+        faults += word_of(node) != G1_DATA + node || labels[node] == 0 || taken[node]++ != 0;
     }
     return faults;
 }

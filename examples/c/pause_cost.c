@@ -1,4 +1,4 @@
-// A pause of a heap whose stores race, to be timed. `pause_cost pause REGIONS REFERRING STATE ROUNDS`
+// A pause of a concurrent heap, to be timed. `pause_cost pause REGIONS REFERRING STATE ROUNDS`
 // prints the microseconds of its calls, the least of the rounds: the pause, the drain of a region,
 // the drain of another one with nothing dirty, a redirect, a clear and a resume. The heap is REGIONS
 // 256 16. REFERRING of 100 slots refer into the next region. STATE is `refined` (nothing is dirty

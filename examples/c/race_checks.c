@@ -1,4 +1,4 @@
-// Each call of heaps whose stores race, beside tables of the program's own: `race_checks [CALLS]`.
+// Each call of concurrent heaps, beside tables of the program's own: `race_checks [CALLS]`.
 //
 // The calls have random arguments: numbers that a heap does not have, closed handles, handles of
 // another heap, too many or too few of them, one twice, and arrays without room. A refused call has
@@ -326,9 +326,9 @@ static uint64_t of_store(const struct heap *heap, uint32_t number, uint32_t slot
 }
 
 // Makes a racer's store, and returns its kind.
-static uint32_t put_by(struct heap *heap, uint32_t number, uint32_t slot, uint32_t target) {
+static uint32_t put_by(struct heap *heap, uint32_t number, uint32_t slot, uint64_t word) {
     struct log *log = &heap->logs[number];
-    uint32_t kind = put(heap, slot, word_of(target));
+    uint32_t kind = put(heap, slot, word);
     if (kind == G1_STORED_LOGGED) {
         log->cards[log->count++] = slot / SLOTS;
     }
@@ -340,7 +340,8 @@ static void race_store(struct heap *heap) {
     uint64_t refusals = of_store(heap, number, slot, target);
     uint32_t code = g1_race_store(&heap->racing[number], slot, target, &kind);
     int is_made = answers(code, refusals, "store");
-    check(kind == (is_made ? put_by(heap, number, slot, target) : 0), "the kind of a store");
+    uint32_t wanted = is_made ? put_by(heap, number, slot, word_of(target)) : 0;
+    check(kind == wanted, "the kind of a store");
 }
 
 static void race_swap(struct heap *heap) {
@@ -349,7 +350,8 @@ static void race_swap(struct heap *heap) {
     uint32_t code = g1_race_swap(&heap->racing[number], slot, target, &old, &kind);
     int is_made = answers(code, refusals, "swap");
     check(old == (is_made ? target_of(heap->words[slot]) : G1_NULL), "what a swap overwrites");
-    check(kind == (is_made ? put_by(heap, number, slot, target) : 0), "the kind of a swap");
+    uint32_t wanted = is_made ? put_by(heap, number, slot, word_of(target)) : 0;
+    check(kind == wanted, "the kind of a swap");
 }
 
 // Expects what the slot has, or something else.
@@ -364,7 +366,8 @@ static void race_compare_exchange(struct heap *heap) {
                                              &kind);
     int is_made = answers(code, refusals | bit(G1_DIFFERS, differs), "exchange");
     check(found == (refusals == 0 ? had : G1_NULL), "what an exchange finds");
-    check(kind == (is_made ? put_by(heap, number, slot, target) : 0), "the kind of an exchange");
+    uint32_t wanted = is_made ? put_by(heap, number, slot, word_of(target)) : 0;
+    check(kind == wanted, "the kind of an exchange");
 }
 
 // Fills an array with stores, and returns how many of them come before the first that names no slot
@@ -387,7 +390,7 @@ static void race_store_all(struct heap *heap) {
     size_t stored = 7;
     uint32_t code = g1_race_store_all(&heap->racing[number], stores, length, &stored);
     while (refusals == 0 && made < good && heap->logs[number].count < G1_LOG) {
-        put_by(heap, number, stores[made].slot, stores[made].target);
+        put_by(heap, number, stores[made].slot, word_of(stores[made].target));
         made++;
     }
     int is_cut = refusals == 0 && made < length, is_full = heap->logs[number].count == G1_LOG;
@@ -408,6 +411,43 @@ static void race_store_data(struct heap *heap) {
     } else {
         check(old == 0, "the word of a refused store of data");
     }
+}
+
+static uint64_t some_word(void) {
+    uint64_t slot = below(ALL_SLOTS + 2); // (one more than a word may have)
+    return below(3) == 0 ? G1_DATA - (below(8) == 0) + below(4) : slot;
+}
+
+static int is_word(uint64_t word) {
+    return word <= ALL_SLOTS || word >= G1_DATA;
+}
+
+// Why a racer's store of a word may be refused.
+static uint64_t of_word(const struct heap *heap, uint32_t number, uint32_t slot, uint64_t word) {
+    return of_store(heap, number, slot, G1_NULL) | bit(G1_BAD_WORD, !is_word(word));
+}
+
+static void race_swap_word(struct heap *heap) {
+    uint32_t number = below(EACH), slot = some_slot(), kind = 7;
+    uint64_t word = some_word(), old = 7, refusals = of_word(heap, number, slot, word);
+    uint32_t code = g1_race_swap_word(&heap->racing[number], slot, word, &old, &kind);
+    int is_made = answers(code, refusals, "swap of words");
+    check(old == (is_made ? heap->words[slot] : 0), "the word that a swap overwrites");
+    check(kind == (is_made ? put_by(heap, number, slot, word) : 0), "the kind of a swap of words");
+}
+
+// Expects the word that the slot has, or another one.
+static void race_compare_exchange_word(struct heap *heap) {
+    uint32_t number = below(EACH), slot = some_slot(), kind = 7;
+    uint64_t word = some_word(), found = 7, had = is_slot(slot) ? heap->words[slot] : 0;
+    uint64_t expected = below(3) == 0 ? some_word() : had;
+    uint64_t refusals = of_word(heap, number, slot, word) | bit(G1_BAD_WORD, !is_word(expected));
+    int differs = refusals == 0 && had != expected;
+    uint32_t code = g1_race_compare_exchange_word(&heap->racing[number], slot, expected, word,
+                                                  &found, &kind);
+    int is_made = answers(code, refusals | bit(G1_DIFFERS, differs), "exchange of words");
+    check(found == (refusals == 0 ? had : 0), "the word that an exchange finds");
+    check(kind == (is_made ? put_by(heap, number, slot, word) : 0), "the kind of that exchange");
 }
 
 static void take_log(struct heap *heap) {
@@ -465,9 +505,16 @@ static void list(struct heap *heap, int drains) {
     uint32_t size = refusals == 0 ? sum(heap->recorded[region], ALL_CARDS) : 0;
     if (answers(code, refusals | bit(G1_NO_ROOM, size > room), drains ? "drain" : "members")) {
         lists(cards, count, heap->recorded[region]);
-    } else {
-        check(count == size && memcmp(cards, before, sizeof cards) == 0, "a list without room");
+        return;
     }
+    // An array that is too small has the first cards of the set.
+    size_t written = 0;
+    for (uint32_t card = 0; size > room && card < ALL_CARDS && written < room; card++) {
+        if (heap->recorded[region][card] != 0) {
+            before[written++] = card;
+        }
+    }
+    check(count == size && memcmp(cards, before, sizeof cards) == 0, "a list without room");
 }
 
 static void collector_stores(struct heap *heap) {
@@ -572,6 +619,24 @@ static void forget(struct heap *heap) {
     }
 }
 
+// Checks a range against memory that has some references otherwise.
+static void verify(struct heap *heap) {
+    uint32_t references[ALL_SLOTS], differing = 7, missing = 7, least = G1_NULL;
+    uint32_t first = below(ALL_SLOTS + 2), count = below(ALL_SLOTS), length = below(ALL_SLOTS);
+    uint32_t end = first + (count < length ? length : count);
+    uint64_t refusals = at_pause(heap) | bit(G1_NO_SLOT, heap->is_open && end > ALL_SLOTS);
+    for (uint32_t i = length; i-- > 0;) {
+        uint32_t had = refusals == 0 ? target_of(heap->words[first + i]) : G1_NULL;
+        references[i] = below(16) == 0 ? some_target() : had;
+        least = refusals == 0 && references[i] != had ? first + i : least;
+    }
+    uint32_t code = g1_heap_verify(&heap->handle, first, count, references, length, &differing,
+                                   &missing);
+    answers(code, refusals, "a check of the heap");
+    check(differing == least, "the first slot that memory has otherwise");
+    check(missing == G1_NULL, "each reference across regions is on a card that a drain finds");
+}
+
 static void refine_at_pause(struct heap *heap) {
     if (answers(g1_heap_refine(&heap->handle), at_pause(heap), "refinement at a pause")) {
         refine_all(heap);
@@ -579,7 +644,7 @@ static void refine_at_pause(struct heap *heap) {
 }
 
 static void random_call(struct heap *heap) {
-    switch (below(28)) {
+    switch (below(32)) {
     case 0: open_heap(heap); break;
     case 1: close_heap(heap); break;
     case 2: resume(heap); break;
@@ -601,6 +666,9 @@ static void random_call(struct heap *heap) {
     case 18: race_swap(heap); break;
     case 19: race_compare_exchange(heap); break;
     case 20: race_store_all(heap); break;
+    case 21: race_swap_word(heap); break;
+    case 22: race_compare_exchange_word(heap); break;
+    case 23: verify(heap); break;
     default: race_store(heap); break;
     }
     compare(heap);
@@ -609,6 +677,7 @@ static void random_call(struct heap *heap) {
 // With a full log each store is refused, and several stores end before the first of them.
 static void store_with_full_log(struct g1_racer *racer) {
     static const struct g1_reference stores[] = {{0, G1_NULL}, {1, 9}};
+    static const struct g1_reference no_slot[] = {{ALL_SLOTS, 9}};
     uint32_t kind = 7, found = 7;
     size_t stored = 7;
     answers(g1_race_store(racer, 0, 9, &kind), bit(G1_LOG_FULL, 1), "a store with a full log");
@@ -617,9 +686,13 @@ static void store_with_full_log(struct g1_racer *racer) {
     code = g1_race_compare_exchange(racer, 0, 9, 9, &found, &kind);
     answers(code, bit(G1_LOG_FULL, 1), "an exchange with a full log");
     check(kind == G1_STORED_NULL && found == G1_NULL, "what is found with a full log");
+    answers(g1_race_store(racer, ALL_SLOTS, 9, &kind), bit(G1_LOG_FULL, 1), "into no slot too");
+    code = g1_race_compare_exchange(racer, ALL_SLOTS, 9, 9, &found, &kind);
+    answers(code, bit(G1_LOG_FULL, 1), "an exchange in no slot too");
     answers(g1_race_store_all(racer, stores, 2, &stored), bit(G1_FULL, 1), "several stores then");
     check(stored == 0, "none of them is made");
     answers(g1_race_store_all(racer, stores, 0, &stored), 0, "no stores with a full log");
+    answers(g1_race_store_all(racer, no_slot, 1, &stored), bit(G1_FULL, 1), "one into no slot then");
 }
 
 // Fills all but one place of a log. The first of several stores takes that, and the second is not
@@ -667,6 +740,84 @@ static void full_log(void) {
     answers(g1_heap_close(&heap), 0, "close");
 }
 
+// Where several codes apply, the header's list of the call has them in order.
+static void first_codes(void) {
+    struct g1_heap heap = {0};
+    struct g1_counts none = {0, 0, 0};
+    struct g1_racer racers[2] = {{0}}, closed = {0};
+    struct g1_sweeper sweeper = {0};
+    uint32_t cards[1], word;
+    uint64_t old;
+    answers(g1_race_take_log(&closed, cards, 1, &word), bit(G1_NO_ROOM, 1), "room, and no racer");
+    answers(g1_heap_open(&heap, &none, 0, 1), bit(G1_BAD_MEMBERS, 1), "no racer and no region");
+    answers(g1_heap_open(&heap, &small, 1, 1), 0, "open");
+    answers(g1_heap_open(&heap, &none, 0, 1), bit(G1_ALREADY_OPEN, 1), "in an open handle");
+    answers(g1_heap_store_data(&heap, ALL_SLOTS, 0), bit(G1_NO_SLOT, 1), "neither slot nor data");
+    answers(g1_heap_store(&heap, 0, 8, &word), 0, "a store");
+    answers(g1_heap_clear(&heap, REGIONS, &word), bit(G1_NO_REGION, 1), "a clear of no region");
+    uint32_t code = g1_heap_redirect(&heap, REGIONS, REGIONS, &word);
+    answers(code, bit(G1_NO_REGION, 1), "a redirect from no region to itself");
+    code = g1_heap_pause(&heap, racers, 2, &sweeper, 1);
+    answers(code, bit(G1_NOT_RACING, 1), "a pause at a pause, with a handle too many");
+    answers(g1_heap_resume(&heap, racers, 1, &sweeper, 1), 0, "resume");
+    answers(g1_heap_resume(&heap, racers, 2, &sweeper, 1), bit(G1_NOT_PAUSED, 1), "and again");
+    answers(g1_race_store_data(&racers[0], ALL_SLOTS, 0, &old), bit(G1_NO_SLOT, 1), "in a race");
+    answers(g1_heap_clear(&heap, REGIONS, &word), bit(G1_NOT_PAUSED, 1), "no clear in a race");
+    code = g1_heap_pause(&heap, racers, 2, &sweeper, 1);
+    answers(code, bit(G1_BAD_MEMBERS, 1), "a handle too many, which is closed");
+    answers(g1_heap_pause(&heap, racers, 1, &sweeper, 1), 0, "pause");
+    answers(g1_heap_close(&heap), 0, "close");
+}
+
+// A copy of no slots is done if both ranges begin at most just behind the last slot.
+static void empty_copies(void) {
+    struct g1_heap heap = {0};
+    answers(g1_heap_open(&heap, &small, 1, 1), 0, "open");
+    answers(g1_heap_copy(&heap, ALL_SLOTS, 0, 0), 0, "no slots from behind the last one");
+    answers(g1_heap_copy(&heap, 0, ALL_SLOTS, 0), 0, "no slots to there");
+    uint32_t code = g1_heap_copy(&heap, ALL_SLOTS + 1, 0, 0);
+    answers(code, bit(G1_NO_SLOT, 1), "no slots from farther behind");
+    answers(g1_heap_copy(&heap, 0, ALL_SLOTS + 1, 0), bit(G1_NO_SLOT, 1), "no slots to there");
+    answers(g1_heap_close(&heap), 0, "close");
+}
+
+// The least slot that refers into another region from a card that no drain would find, once the
+// program itself has written to the words.
+static uint32_t missing_in(struct g1_heap *heap, uint32_t first) {
+    uint32_t none[1] = {0}, differing = 7, missing = 7, count = ALL_SLOTS - first;
+    answers(g1_heap_verify(heap, first, count, none, 0, &differing, &missing), 0, "a check");
+    check(differing == G1_NULL, "no memory is compared");
+    return missing;
+}
+
+static void words_that_the_program_writes(void) {
+    struct g1_heap heap = {0};
+    const uint64_t *words;
+    uint64_t *own;
+    uint32_t kind;
+    answers(g1_heap_open(&heap, &small, 1, 1), 0, "open");
+    answers(g1_heap_words(&heap, &words), 0, "words");
+    memcpy(&own, &words, sizeof own);
+    own[12] = word_of(13);
+    own[31] = own[30] = G1_DATA;
+    check(missing_in(&heap, 0) == G1_NULL, "a reference within a region, and data");
+    own[31] = own[9] = word_of(0);
+    check(missing_in(&heap, 0) == 9, "a reference that was never stored");
+    check(missing_in(&heap, 9) == 9, "it is the first of the range");
+    check(missing_in(&heap, 10) == 31, "another one behind it");
+    answers(g1_heap_store(&heap, 10, 16, &kind), 0, "a store on the same card");
+    check(missing_in(&heap, 0) == 31, "the card is dirty");
+    own[9] = 0;
+    answers(g1_heap_refine(&heap), 0, "refinement");
+    own[9] = word_of(17);
+    check(missing_in(&heap, 0) == 31, "the card is recorded for that region");
+    own[9] = word_of(0);
+    check(missing_in(&heap, 0) == 9, "and for no other one");
+    own[9] = own[31] = 0;
+    check(missing_in(&heap, 0) == G1_NULL, "each slot is null or stored");
+    answers(g1_heap_close(&heap), 0, "close");
+}
+
 static void all_codes(void) {
     static const uint32_t codes[] = {
         G1_DONE, G1_DIFFERS, G1_STOPPED, G1_FULL, G1_NOT_OPEN, G1_ALREADY_OPEN, G1_BAD_LAYOUT,
@@ -695,6 +846,9 @@ static void end(struct heap *heap) {
 int main(int number, char **words) {
     long calls = number > 1 ? atol(words[1]) : 200000;
     full_log();
+    first_codes();
+    empty_copies();
+    words_that_the_program_writes();
     for (long i = 0; i < calls; i++) {
         random_call(&heaps[below(HEAPS)]);
     }

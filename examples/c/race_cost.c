@@ -1,9 +1,9 @@
 // Loads and stores of several threads, to be timed: `race_cost BARRIER TARGET THREADS ROUNDS` prints nanoseconds a store, on the heap 256 64 8.
 // TARGET is `null`, `same-region`, `dirty` or `logged`. BARRIER is one through the library:
-//   - `race`: a store of a heap whose stores race;
+//   - `race`: a store of a concurrent heap;
 //   - `slot-lock`: a lock of the slot's, and under it a store to memory of the program's own and the store in a race that tells it;
 //   - `lock`: the store of a heap for one call at a time, under one mutex;
-//   - `load`: an acquire load of the slot's word in a heap whose stores race.
+//   - `load`: an acquire load of the slot's word in a concurrent heap.
 // Or it is one to compare with, of the program's own words alone:
 //   - `plain-load` and `plain`: an acquire load, and a release store;
 //   - `marked`: a release store, and a store of the card's mark, which is a byte;

@@ -1,9 +1,12 @@
-// The life of a heap with two racers and a sweeper: three races with pauses, and its close, on a
-// heap of 4 regions of 2 cards of 4 slots. If memory is refused to a call that takes some, that is
-// said on standard error, has to leave the handles as they were, and the call is made again; so
-// what is printed is the same whatever is refused. Pauses and resumes take none.
-// scripts/check-growths refuses each growth in turn.
+// The life of a heap with two racers and a sweeper, on a heap of 4 regions of 2 cards of 4 slots:
+// three races whose sets are printed, 100 more, and its close. If memory is refused to the open, that
+// is said on standard error, has to leave the handles as they were, and the call is made again; so
+// what is printed is the same whatever is refused. No call between the open and the close takes
+// memory or frees any. scripts/check-growths refuses each growth in turn, and counts these calls.
+#define _GNU_SOURCE
 #include "g1.h"
+
+#include <dlfcn.h>
 
 #include <stdio.h>
 #include <string.h>
@@ -28,21 +31,25 @@ static void expect(int holds, const char *what) {
     }
 }
 
-// Makes a call that takes memory, and once more if memory was refused.
-static void twice(uint32_t (*call)(void), const char *name) {
+// Opens the heap, and once more if memory was refused.
+static void open_heap(void) {
+    struct g1_counts counts = {4, 2, 4};
     struct handles before = all;
-    uint32_t word = call();
+    uint32_t word = g1_heap_open(&all.heap, &counts, RACERS, 1);
     if (word == G1_NO_MEMORY) {
-        fprintf(stderr, "%s: no memory\n", name);
-        expect(memcmp(&before, &all, sizeof before) == 0, name);
-        word = call();
+        fprintf(stderr, "open: no memory\n");
+        expect(memcmp(&before, &all, sizeof before) == 0, "a refused open");
+        word = g1_heap_open(&all.heap, &counts, RACERS, 1);
     }
-    expect(word == G1_DONE, name);
+    expect(word == G1_DONE, "open");
 }
 
-static uint32_t open_heap(void) {
-    struct g1_counts counts = {4, 2, 4};
-    return g1_heap_open(&all.heap, &counts, RACERS, 1);
+// How many calls of malloc, realloc and free there were, if the library that counts them is loaded.
+static long memory_calls(void) {
+    void *symbol = dlsym(RTLD_DEFAULT, "memory_calls");
+    long (*count_calls)(void);
+    memcpy(&count_calls, &symbol, sizeof symbol);
+    return symbol ? count_calls() : -1;
 }
 
 static uint32_t drain(void) {
@@ -76,7 +83,7 @@ static void refine(uint32_t card) {
 // Prints the remembered set of each region.
 static void list(uint32_t (*call)(void), const char *name) {
     for (region = 0; region < 4; region++) {
-        twice(call, name);
+        expect(call() == G1_DONE, name);
         printf("%s %u", name, (unsigned)region);
         for (uint32_t i = 0; i < count; i++) {
             printf(" %u", (unsigned)cards[i]);
@@ -85,11 +92,58 @@ static void list(uint32_t (*call)(void), const char *name) {
     }
 }
 
+// Lists a region's set card by card, and once more by an array that is one card short.
+static void walk(void) {
+    uint32_t card = 0, found = 0;
+    expect(drain() == G1_DONE, "drain");
+    for (uint32_t from = 0; card != G1_NULL; from = card + 1) {
+        expect(g1_heap_next_member(&all.heap, region, from, &card) == G1_DONE, "next member");
+        expect(card == (found < count ? cards[found] : G1_NULL), "a member");
+        found += card != G1_NULL;
+    }
+    if (count > 0) {
+        uint32_t some[CARDS], all_of_them = count;
+        memcpy(some, cards, sizeof some);
+        uint32_t word = g1_heap_drain(&all.heap, region, some, count - 1, &count);
+        expect(word == G1_NO_ROOM && count == all_of_them, "a drain without room");
+        expect(memcmp(some, cards, count * sizeof *some) == 0, "its first cards");
+        expect(members() == G1_DONE && count == all_of_them, "members after it");
+    }
+}
+
+// A race and a pause. Region 3 is moved to region 2 and freed.
+static void cycle(void) {
+    uint32_t log[G1_LOG], moved, detail;
+    resume();
+    stores(0, 0, 8, G1_STORED_LOGGED);
+    stores(0, 4, 24, G1_STORED_LOGGED);
+    stores(1, 16, 9, G1_STORED_LOGGED);
+    stores(1, 25, 1, G1_STORED_LOGGED);
+    uint32_t word = g1_race_take_log(&all.racers[0], log, G1_LOG, &count);
+    expect(word == G1_DONE && count == 2, "log");
+    refine(0);
+    pause_heap();
+    for (region = 0; region < 4; region++) {
+        walk();
+    }
+    expect(g1_heap_copy(&all.heap, 24, 16, 8) == G1_DONE, "copy");
+    expect(g1_heap_redirect(&all.heap, 3, 2, &moved) == G1_DONE && moved == 1, "redirect");
+    expect(g1_heap_wipe(&all.heap, 3) == G1_DONE, "wipe");
+    expect(g1_heap_forget(&all.heap, 3) == G1_DONE, "forget");
+    expect(g1_heap_clear(&all.heap, 3, &detail) == G1_DONE, "clear");
+    for (uint32_t freed = 0; freed < 4; freed++) {
+        expect(g1_heap_wipe(&all.heap, freed) == G1_DONE, "wipe");
+        expect(g1_heap_forget(&all.heap, freed) == G1_DONE, "forget");
+    }
+    expect(g1_heap_refine(&all.heap) == G1_DONE, "refine");
+}
+
 int main(void) {
     uint32_t log[G1_LOG], moved, detail;
     setvbuf(stdout, NULL, _IONBF, 0);
     setvbuf(stderr, NULL, _IONBF, 0);
-    twice(open_heap, "open");
+    open_heap();
+    long before = memory_calls();
     resume();
     stores(0, 0, 8, G1_STORED_LOGGED);
     stores(1, 16, 9, G1_STORED_LOGGED);
@@ -113,8 +167,17 @@ int main(void) {
     expect(g1_heap_refine(&all.heap) == G1_DONE, "refine");
     expect(g1_heap_clear(&all.heap, 1, &detail) == G1_DONE, "clear");
     list(drain, "drain");
-    resume();
-    pause_heap();
+    for (uint32_t freed = 0; freed < 4; freed++) {
+        expect(g1_heap_wipe(&all.heap, freed) == G1_DONE, "wipe");
+        expect(g1_heap_forget(&all.heap, freed) == G1_DONE, "forget");
+    }
+    for (int i = 0; i < 100; i++) {
+        cycle();
+    }
+    long after = memory_calls();
+    if (before >= 0) {
+        printf("%ld calls of memory between open and close\n", after - before);
+    }
     expect(g1_heap_close(&all.heap) == G1_DONE, "close");
     return wrong;
 }

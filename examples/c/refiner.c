@@ -203,7 +203,7 @@ int main(int number, char **words) {
     }
     unsigned members = run(pauses);
     end_mutators(mutators);
-    g1_refiner_close(&refiner);
+    wrong += g1_refiner_close(&refiner) != 0;
     wrong += g1_heap_close(&heap) != G1_DONE;
     printf("%u pauses, %lu logs queued, %lu dropped, %lu cards refined beside the mutators: %u "
            "cards returned, %u wrong\n",

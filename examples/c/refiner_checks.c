@@ -105,6 +105,11 @@ static void rounds(void) {
         pause_refiner(way, G1_DONE);
         check(sweepers[1].sweeper != NULL, "a pause gives each sweeper back");
         check(refiner.refined + refiner.dropped == handed_on, "each log is refined or dropped");
+        struct g1_refiner_counts counts;
+        g1_refiner_read(&refiner, &counts);
+        check(counts.queued == refiner.queued && counts.refined == refiner.refined, "the counts");
+        check(counts.dropped == refiner.dropped && counts.length == 0, "and an empty queue");
+        check(counts.longest >= 1 && counts.longest <= LOGS, "the longest queue fits its array");
         queued = refiner.queued - queued;
         refined = refiner.refined - refined;
         check(refined == queued || way == G1_DROP_QUEUED, "the queued logs are refined");
@@ -131,6 +136,7 @@ static void sleeping(void) {
     struct timespec tenth = {0, 100000000};
     uint32_t slot = ALL_CARDS - 2, waits = 0;
     g1_refiner_resume(&refiner, sweepers);
+    check(g1_refiner_close(&refiner) == EBUSY, "no close before a pause");
     clock_t began = clock();
     nanosleep(&tenth, NULL);
     check(clock() - began < CLOCKS_PER_SEC / 100, "idle threads take no time of a processor");
@@ -181,11 +187,11 @@ int main(void) {
     rounds();
     full_log();
     sleeping();
-    g1_refiner_close(&refiner);
+    check(g1_refiner_close(&refiner) == 0, "close");
     drains();
     check(g1_refiner_open(&refiner, logs, LOGS, 1) == 0, "open again");
     refusals();
-    g1_refiner_close(&refiner);
+    check(g1_refiner_close(&refiner) == 0, "close again");
     printf("%u passed, %u failed\n", passed, failed);
     return failed != 0;
 }

@@ -10,8 +10,8 @@ using Cards = std::array<std::uint32_t, 8>;
 constexpr g1_counts counts{4, 2, 4};
 
 int main() {
-    garbage_first::Core heap;
-    g1_code code = heap.open(counts, 4, 1024);
+    garbage_first::Core core;
+    g1_code code = core.open(counts, 4, 1024);
     if (code != G1_DONE) {
         std::cerr << g1_code_text(code) << '\n';
         return 1;
@@ -21,9 +21,9 @@ int main() {
     Cards logged, cards, refined;
     g1_batch batch;
     std::uint32_t count, refined_count;
-    code = heap.store_all(stores, logged, batch);
+    code = core.store_all(stores, logged, batch);
     if (code == G1_DONE) {
-        code = heap.drain(1, cards, count, refined, refined_count);
+        code = core.drain(1, cards, count, refined, refined_count);
     }
     if (code != G1_DONE) {
         std::cerr << g1_code_text(code) << '\n';

@@ -1,4 +1,4 @@
-// A race in C++: what its owning handles do when they are moved, refused and closed.
+// A concurrent heap in C++: what its owning handles do when they are moved, refused and closed.
 #include <g1.hpp>
 #include <g1_refiner.h>
 
@@ -10,8 +10,11 @@
 #include <type_traits>
 #include <vector>
 
+#include <sys/wait.h>
+#include <unistd.h>
+
+using garbage_first::ConcurrentHeap;
 using garbage_first::Core;
-using garbage_first::Heap;
 using garbage_first::Racer;
 using garbage_first::Sweeper;
 
@@ -20,7 +23,7 @@ constexpr bool is_moved_alone = std::is_nothrow_move_constructible_v<Owner> &&
                                 std::is_nothrow_move_assignable_v<Owner> &&
                                 !std::is_copy_constructible_v<Owner> &&
                                 !std::is_copy_assignable_v<Owner>;
-static_assert(is_moved_alone<Core> && is_moved_alone<Heap>);
+static_assert(is_moved_alone<Core> && is_moved_alone<ConcurrentHeap>);
 static_assert(is_moved_alone<Racer> && is_moved_alone<Sweeper>);
 static_assert(!std::is_assignable_v<Racer &, Sweeper>);
 
@@ -66,6 +69,10 @@ static void cores() {
     g1_tally tally;
     g1_totals totals;
     check(heap.store_all(no_stores, none, batch) == G1_DONE && batch.stored == 0, "no stores");
+    check(heap.store_all(nullptr, 0, nullptr, 0, batch) == G1_DONE, "none by pointer and length");
+    const g1_reference same_store{0, 64};
+    check(heap.store_all(&same_store, 1, one.data(), 1, batch) == G1_DONE && batch.stored == 1,
+          "a store by pointer and length");
     check(heap.refine(logged, none, tally) == G1_NO_ROOM, "an empty array");
     check(heap.refine(logged, one, tally) == G1_DONE && one[0] == 0, "a refinement");
     check(heap.members(1, one, count) == G1_DONE && count == 1, "the members of a set");
@@ -115,7 +122,7 @@ static void refine(std::vector<Racer> &racers, std::vector<Sweeper> &sweepers) {
     check(g1_refiner_hand_on(&refiner, racers[1].get()) == G1_DONE, "a log of one card");
     check(g1_refiner_pause(&refiner, G1_REFINE_QUEUED, row.data()) == G1_DONE, "a pause");
     check(refiner.refined == 1, "its card is refined");
-    g1_refiner_close(&refiner);
+    check(g1_refiner_close(&refiner) == 0, "a close");
 }
 
 // A racer's stores that depend on what a slot had, or are several.
@@ -129,10 +136,16 @@ static void exchange(Racer &racer) {
     check(kind == G1_STORED_SAME_REGION, "its kind");
     const std::array<g1_reference, 3> stores{{{1, G1_NULL}, {0, 64}, {all_cards, 0}}};
     check(racer.store_all(stores, stored) == G1_STOPPED && stored == 2, "two stores of three");
+    check(racer.store_all(stores.data(), 2, stored) == G1_DONE && stored == 2, "by length");
+    std::uint64_t word = 7;
+    check(racer.swap_word(1, G1_DATA, word, kind) == G1_DONE && word == 0, "a swap of words");
+    check(racer.compare_exchange_word(1, 0, 1, word, kind) == G1_DIFFERS, "data is not null");
+    check(racer.compare_exchange_word(1, word, 0, word, kind) == G1_DONE, "data is expected");
+    check(word == G1_DATA && kind == G1_STORED_NULL, "its word and its kind");
 }
 
 // A pause, with each call of the collector's.
-static void collect(Heap &heap) {
+static void collect(ConcurrentHeap &heap) {
     Cards cards{};
     std::vector<std::uint32_t> one(1);
     std::uint32_t count = 0, moved = 0, detail = 0;
@@ -151,6 +164,7 @@ static void collect(Heap &heap) {
     }
     const std::array<g1_reference, 2> stores{{{1, G1_NULL}, {all_cards, 0}}};
     check(heap.store_all(stores, stored) == G1_STOPPED && stored == 1, "one store of two");
+    check(heap.store_all(stores.data(), 1, stored) == G1_DONE && stored == 1, "by length");
     check(heap.store_data(2, G1_DATA - 1) == G1_BAD_WORD, "no data");
     check(heap.store_data(2, G1_DATA) == G1_DONE, "data");
     check(heap.copy(2, 1, 1) == G1_DONE && heap.copy(2, all_cards, 1) == G1_NO_SLOT, "a copy");
@@ -160,12 +174,14 @@ static void collect(Heap &heap) {
     check(heap.clear(1, detail) == G1_DONE, "a clear");
     check(heap.wipe(0) == G1_DONE && heap.forget(0) == G1_DONE, "a region that is freed");
     check(heap.store(0, 64, kind) == G1_DONE && kind == G1_STORED_LOGGED, "a store");
+    check(heap.verify(0, all_cards, one, detail, moved) == G1_DONE, "a check");
+    check(detail == 0 && moved == G1_NULL, "slot 0 refers to no slot 1");
 }
 
 static void races() {
     std::vector<Racer> racers(2), many(G1_RACERS + 1), none;
     std::vector<Sweeper> sweepers(2), crowd(G1_SWEEPERS + 1);
-    Heap heap;
+    ConcurrentHeap heap;
     check(heap.resume(racers, sweepers) == G1_NOT_OPEN, "a closed heap");
     check(heap.open(counts, 0, 2) == G1_BAD_MEMBERS, "no racer");
     check(heap.open(counts, 2, 2) == G1_DONE, "open");
@@ -186,12 +202,49 @@ static void races() {
     check(racers[1].store_data(0, G1_DATA, old) == G1_DONE && old == 65, "data over a reference");
     const std::uint64_t *words = nullptr;
     check(heap.words(words) == G1_DONE && words[0] == G1_DATA, "the word of a slot");
-    Heap moved(std::move(heap));
+    ConcurrentHeap moved(std::move(heap));
     check(heap.pause(racers, sweepers) == G1_NOT_OPEN, "a heap that was moved away");
     check(moved.pause(racers, sweepers) == G1_DONE, "its pause");
 }
 
+// Whether a process that does so ends by std::terminate.
+template <typename Work> static bool terminates(Work work) {
+    constexpr int status = 77;
+    pid_t process = fork();
+    if (process == 0) {
+        std::set_terminate([] { _exit(status); });
+        work();
+        _exit(0);
+    }
+    int ended = 0;
+    return waitpid(process, &ended, 0) == process && WIFEXITED(ended) &&
+           WEXITSTATUS(ended) == status;
+}
+
+// An open member is not lost where another one is moved into its place, nor a heap whose members
+// race. A closed one is free for that.
+static void assignments() {
+    std::vector<Racer> racers(2);
+    std::vector<Sweeper> sweepers(2);
+    ConcurrentHeap heap, other;
+    check(heap.open(counts, 2, 2) == G1_DONE && other.open(counts, 1, 1) == G1_DONE, "open");
+    check(heap.resume(racers, sweepers) == G1_DONE, "resume");
+    check(terminates([&] { racers[0] = std::move(racers[1]); }), "a racer over an open one");
+    check(terminates([&] { sweepers[0] = Sweeper(); }), "a closed sweeper over an open one");
+    check(terminates([&] { heap = std::move(other); }), "a heap over one whose members race");
+    Racer &same = racers[0];
+    racers[0] = std::move(same);
+    check(racers[0].is_open() && racers[1].is_open() && other.is_open(), "all are open");
+    Racer local(std::move(racers[0]));
+    check(local.is_open() && !racers[0].is_open(), "a racer that was moved away");
+    racers[0] = std::move(local);
+    check(heap.pause(racers, sweepers) == G1_DONE, "a pause with each of them");
+    heap = std::move(other);
+    check(heap.is_open() && !other.is_open(), "a heap over one at a pause");
+}
+
 int main() {
+    assignments();
     cores();
     races();
     std::cout << passed << " passed, " << failed << " failed\n";

@@ -1,5 +1,5 @@
 //! Stores a reference into region 1, and asks at a pause which cards have to be scanned.
-use ninkoda::{Counts, Drained, Heap, Kind, Refusal, LOG};
+use ninkoda::{Core, Counts, Drained, Kind, Refusal, LOG};
 
 fn main() -> Result<(), Refusal> {
     // a card is hot from 4 refinements on, and the ring holds 1,024 hot cards
@@ -8,21 +8,21 @@ fn main() -> Result<(), Refusal> {
         cards: 2,
         slots: 4,
     };
-    let mut heap = Heap::open(counts, 4, 1024)?;
+    let mut core = Core::open(counts, 4, 1024)?;
 
     // a thread's dirty card queue
     let mut queue = Vec::with_capacity(LOG);
-    let (slot, place) = (heap.slot(0).expect("a slot"), heap.slot(8));
-    if let Kind::Logged(card) = heap.store(slot, place)? {
+    let (slot, place) = (core.slot(0)?, core.slot(8)?);
+    if let Kind::Logged(card) = core.store(slot, Some(place))? {
         queue.push(card);
     }
     if queue.len() == LOG {
-        heap.refine(&queue)?;
+        core.refine(&queue)?;
         queue.clear();
     }
 
-    let region = heap.region(1).expect("a region");
-    match heap.drain(region)? {
+    let region = core.region(1)?;
+    match core.drain(region)? {
         Drained::Cards { members, .. } => {
             for card in members {
                 println!("scan card {}", card.number());

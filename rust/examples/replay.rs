@@ -4,7 +4,7 @@
 //! `--history`: the library keeps none. The mutators' dirty card queues and the queue of completed
 //! buffers are this program's, as they are a runtime's. At a fault of the trace, which g1replay
 //! prints, the program ends with status 1.
-use ninkoda::{Card, Cleared, Counts, Drained, Heap, Kind, Redirected, Region};
+use ninkoda::{Card, Cleared, Core, Counts, Drained, Kind, Redirected, Region};
 use std::collections::VecDeque;
 use std::error::Error;
 use std::fmt::Write as _;
@@ -71,7 +71,7 @@ impl Sums {
 }
 
 struct Replay {
-    heap: Heap,
+    core: Core,
     options: Options,
     queues: Vec<Vec<Card>>,
     line: VecDeque<Vec<Card>>,
@@ -83,10 +83,10 @@ fn number(word: &str) -> Result<u32> {
 
 impl Replay {
     fn new(options: Options, counts: Counts) -> Result<Replay> {
-        let heap = Heap::open(counts, options.hot, options.ring)?;
+        let core = Core::open(counts, options.hot, options.ring)?;
         let queues = vec![Vec::new(); options.mutators];
         Ok(Replay {
-            heap,
+            core,
             options,
             queues,
             line: VecDeque::new(),
@@ -94,9 +94,7 @@ impl Replay {
     }
 
     fn region(&self, word: &str) -> Result<Region> {
-        self.heap
-            .region(number(word)?)
-            .ok_or_else(|| "no such region".into())
+        Ok(self.core.region(number(word)?)?)
     }
 
     fn queue(&mut self, word: &str) -> Result<&mut Vec<Card>> {
@@ -117,7 +115,7 @@ impl Replay {
     }
 
     fn refine(&mut self, buffer: &[Card], sums: &mut Sums) -> Result<()> {
-        let reply = self.heap.refine(buffer)?;
+        let reply = self.core.refine(buffer)?;
         sums.buffers += 1;
         sums.refined += reply.cards.len();
         sums.hot += reply.hot;
@@ -127,12 +125,12 @@ impl Replay {
     }
 
     fn store(&mut self, mutator: &str, slot: &str, target: &str) -> Result<String> {
-        let slot = self.heap.slot(number(slot)?).ok_or("no such slot")?;
+        let slot = self.core.slot(number(slot)?)?;
         let target = match target {
             "null" => None,
-            word => Some(self.heap.slot(number(word)?).ok_or("no such slot")?),
+            word => Some(self.core.slot(number(word)?)?),
         };
-        let kind = self.heap.store(slot, target)?;
+        let kind = self.core.store(slot, target)?;
         let log = self.options.log;
         let queue = self.queue(mutator)?;
         match kind {
@@ -213,7 +211,7 @@ impl Replay {
     fn drain(&mut self, region: &str) -> Result<String> {
         let region = self.region(region)?;
         self.give_up_logs();
-        Ok(match self.heap.drain(region)? {
+        Ok(match self.core.drain(region)? {
             Drained::Cards { members, .. } => listed("drained", &members),
             Drained::Short { .. } => "drained short".into(),
         })
@@ -222,7 +220,7 @@ impl Replay {
     fn redirect(&mut self, from: &str, to: &str) -> Result<String> {
         let (from, to) = (self.region(from)?, self.region(to)?);
         self.give_up_logs();
-        Ok(match self.heap.redirect(from, to)? {
+        Ok(match self.core.redirect(from, to)? {
             Redirected::Slots { moved, .. } => format!("redirected {moved}"),
             Redirected::Short { .. } => "redirected short".into(),
         })
@@ -230,7 +228,7 @@ impl Replay {
 
     fn clear(&mut self, region: &str) -> Result<String> {
         let region = self.region(region)?;
-        Ok(match self.heap.clear(region)? {
+        Ok(match self.core.clear(region)? {
             Cleared::Cleared => "cleared".into(),
             Cleared::Pending(count) => format!("refused: {count} pending"),
             Cleared::StillReferenced(slot) => {
@@ -240,14 +238,14 @@ impl Replay {
     }
 
     fn target(&mut self, slot: &str) -> Result<String> {
-        let slot = self.heap.slot(number(slot)?).ok_or("no such slot")?;
-        let target = self.heap.target(slot)?;
+        let slot = self.core.slot(number(slot)?)?;
+        let target = self.core.target(slot)?;
         Ok(target.map_or("null".into(), |place| format!("slot {}", place.number())))
     }
 
     fn is_pending(&mut self, card: &str) -> Result<String> {
-        let card = self.heap.card(number(card)?).ok_or("no such card")?;
-        Ok(if self.heap.is_pending(card)? {
+        let card = self.core.card(number(card)?)?;
+        Ok(if self.core.is_pending(card)? {
             "yes"
         } else {
             "no"
@@ -256,7 +254,7 @@ impl Replay {
     }
 
     fn status(&mut self) -> Result<String> {
-        let totals = self.heap.status()?;
+        let totals = self.core.status()?;
         Ok(format!(
             "status pending {} recorded {}",
             totals.pending, totals.recorded
@@ -265,7 +263,7 @@ impl Replay {
 
     fn members(&mut self, region: &str) -> Result<String> {
         let region = self.region(region)?;
-        Ok(listed("cards", &self.heap.members(region)?))
+        Ok(listed("cards", &self.core.members(region)?))
     }
 
     fn answer(&mut self, words: &[&str]) -> Result<String> {

@@ -4,15 +4,14 @@
 //! words. The heap is a ring of regions: new objects fill one after the other, and a pause
 //! evacuates the oldest. References into these are roots, or on drained cards: a scan of all fields
 //! checks that, and a full trace the evacuation.
-use ninkoda::race::{Paused, Racer, Sweeper, Word};
-use ninkoda::{Card, Cleared, Counts, Refusal, Slot};
+use ninkoda::concurrent::{Paused, Queued, Racer, Racing, Refiner, Word};
+use ninkoda::{Cleared, Counts, Refusal, Slot};
 use std::error::Error;
-use std::sync::atomic::{AtomicU32, AtomicUsize, Ordering::SeqCst};
+use std::sync::atomic::{AtomicU32, Ordering::SeqCst};
 use std::sync::mpsc::{channel, Receiver, Sender};
-use std::sync::{Mutex, PoisonError};
 use std::thread::{scope, Scope};
 
-type Result<T, E = Box<dyn Error>> = std::result::Result<T, E>;
+type Result<T, E = Box<dyn Error + Send + Sync>> = std::result::Result<T, E>;
 
 const COUNTS: Counts = Counts {
     regions: 64,
@@ -22,7 +21,9 @@ const COUNTS: Counts = Counts {
 const REGION: u32 = COUNTS.cards * COUNTS.slots;
 const SLOTS: u32 = COUNTS.regions * REGION;
 const MUTATORS: usize = 8;
-const REFINERS: usize = 2;
+const SWEEPERS: usize = 2;
+/// Logs that may wait for a refinement thread.
+const LOGS: usize = 16;
 /// Fields of an object.
 const FIELDS: u32 = 2;
 /// The height of a mutator's tree.
@@ -48,27 +49,18 @@ struct Runtime {
     taken: AtomicU32,
     /// Regions of these that pauses freed.
     freed: AtomicU32,
-    queue: Mutex<Receiver<Work>>,
-    /// Cards that were refined in races.
-    refined: AtomicUsize,
-}
-
-/// What a refinement thread takes from the queue.
-enum Work {
-    Refine(Vec<Card>),
-    Pause,
+    refiner: Refiner,
 }
 
 impl Runtime {
-    fn new(queue: Receiver<Work>) -> Runtime {
-        Runtime {
+    fn new() -> Result<Runtime> {
+        Ok(Runtime {
             headers: (0..SLOTS / FIELDS).map(|_| AtomicU32::new(0)).collect(),
             roots: Default::default(),
             taken: AtomicU32::new(0),
             freed: AtomicU32::new(0),
-            queue: Mutex::new(queue),
-            refined: AtomicUsize::new(0),
-        }
+            refiner: Refiner::open(LOGS, SWEEPERS)?,
+        })
     }
 
     fn header(&self, object: u32) -> &AtomicU32 {
@@ -101,19 +93,6 @@ impl Runtime {
             1 << age
         }
     }
-
-    /// Refines the logs that come, until a pause.
-    fn refine(&self, sweeper: &mut Sweeper) -> Result<(), Refusal> {
-        let next = || {
-            let queue = self.queue.lock().unwrap_or_else(PoisonError::into_inner);
-            queue.recv()
-        };
-        while let Ok(Work::Refine(log)) = next() {
-            self.refined.fetch_add(log.len(), SeqCst);
-            log.into_iter().try_for_each(|card| sweeper.refine(card))?;
-        }
-        Ok(())
-    }
 }
 
 /// The read barrier: what a field refers to, which another mutator may store to at once.
@@ -139,7 +118,6 @@ impl Numbers {
 
 struct Mutator<'a> {
     runtime: &'a Runtime,
-    logs: Sender<Work>,
     number: usize,
     numbers: Numbers,
     /// Where it allocates.
@@ -147,22 +125,11 @@ struct Mutator<'a> {
 }
 
 impl Mutator<'_> {
-    fn hand_on(&self, racer: &mut Racer) -> Result<(), Refusal> {
-        // (with no receiver the program is at its end)
-        let _ = self.logs.send(Work::Refine(racer.take_log()?));
-        Ok(())
-    }
-
     /// The write barrier, which is the store.
     fn store(&self, racer: &mut Racer, slot: u32, target: u32) -> Result<(), Refusal> {
-        let slot = racer.slot(slot).expect("a slot of the heap");
-        let target = racer.slot(target);
-        let mut stored = racer.store(slot, target);
-        if stored == Err(Refusal::LogFull) {
-            self.hand_on(racer)?;
-            stored = racer.store(slot, target);
-        }
-        stored.map(drop)
+        let slot = racer.slot(slot)?;
+        let target = (target != NULL).then(|| racer.slot(target)).transpose()?;
+        self.runtime.refiner.store(racer, slot, target).map(drop)
     }
 
     fn grow(&mut self, racer: &mut Racer, height: u32) -> Result<u32, Refusal> {
@@ -211,7 +178,7 @@ impl Mutator<'_> {
             self.change(racer)?;
             changes += 1;
             if changes % 64 == 0 {
-                self.hand_on(racer)?; // between two pauses a log seldom fills
+                self.runtime.refiner.hand_on(racer)?; // between two pauses a log seldom fills
             }
         }
         Ok(())
@@ -232,7 +199,7 @@ struct Pause<'a> {
 
 impl Pause<'_> {
     fn drain(&mut self, number: u32) -> Result<()> {
-        let region = self.heap.region(number).ok_or("no such region")?;
+        let region = self.heap.region(number)?;
         for card in self.heap.drain(region)? {
             self.drained[card.number() as usize] |= self.runtime.bit_of(number * REGION);
         }
@@ -249,8 +216,8 @@ impl Pause<'_> {
     }
 
     fn set(&mut self, slot: u32, target: u32) -> Result<(), Refusal> {
-        let target = self.heap.slot(target);
-        self.heap.store(self.slot(slot), target).map(drop)
+        let (slot, target) = (self.slot(slot), self.slot(target));
+        self.heap.store(slot, Some(target)).map(drop)
     }
 
     /// The address of an object's copy. The object is copied when it is first met.
@@ -324,7 +291,7 @@ impl Pause<'_> {
         self.live = after.met.len();
         wrong += usize::from(after.sum != before.sum);
         let heap = &mut self.heap;
-        let set: Vec<_> = runtime.set().filter_map(|n| heap.region(n)).collect();
+        let set: Vec<_> = runtime.set().filter_map(|n| heap.region(n).ok()).collect();
         for region in &set {
             heap.wipe(*region)?; // what a freed slot holds bars clears
             heap.forget(*region)?;
@@ -413,85 +380,73 @@ impl<'scope, Member: Send + 'scope> Worker<Member> {
     }
 }
 
-/// All threads, with the sender of their queue.
-struct Threads {
-    mutators: Vec<Worker<Racer>>,
-    refiners: Vec<Worker<Sweeper>>,
-    queue: Sender<Work>,
+/// Gives each mutator a tree, by its racer, and starts the threads.
+fn start<'scope>(
+    scope: &'scope Scope<'scope, '_>,
+    runtime: &'scope Runtime,
+    racers: &mut [Racer],
+) -> Result<Vec<Worker<Racer>>> {
+    let mut mutators = Vec::new();
+    for (number, racer) in racers.iter_mut().enumerate() {
+        let mut mutator = Mutator {
+            runtime,
+            number,
+            numbers: Numbers(88_172_645_463_325_252 + number as u64 * 1_000_003),
+            top: 0,
+        };
+        runtime.roots[number].store(mutator.grow(racer, HEIGHT)?, SeqCst);
+        mutators.push(Worker::start(scope, move |racer| mutator.race(racer)));
+    }
+    Ok(mutators)
 }
 
-impl Threads {
-    /// Gives each mutator a tree, with its racer, and starts the threads.
-    fn start<'scope>(
-        scope: &'scope Scope<'scope, '_>,
-        runtime: &'scope Runtime,
-        racers: &mut [Racer],
-        queue: Sender<Work>,
-    ) -> Result<Threads> {
-        let mut mutators = Vec::new();
-        for (number, racer) in racers.iter_mut().enumerate() {
-            let mut mutator = Mutator {
-                runtime,
-                logs: queue.clone(),
-                number,
-                numbers: Numbers(88_172_645_463_325_252 + number as u64 * 1_000_003),
-                top: 0,
-            };
-            runtime.roots[number].store(mutator.grow(racer, HEIGHT)?, SeqCst);
-            mutators.push(Worker::start(scope, move |racer| mutator.race(racer)));
-        }
-        let refiner = |_| Worker::start(scope, |sweeper| runtime.refine(sweeper));
-        Ok(Threads {
-            mutators,
-            refiners: (0..REFINERS).map(refiner).collect(),
-            queue,
-        })
+/// Lets the members race until all mutators have stopped for a pause.
+fn race(
+    runtime: &Runtime,
+    heap: Racing,
+    mutators: &[Worker<Racer>],
+    mut racers: Vec<Racer>,
+) -> Result<Paused> {
+    for (mutator, racer) in mutators.iter().zip(racers.drain(..)) {
+        mutator.give.send(racer)?;
     }
+    for mutator in mutators {
+        racers.push(mutator.back.recv()?);
+    }
+    let sweepers = runtime.refiner.pause(Queued::Refine);
+    Ok(heap.pause(racers, sweepers)?)
+}
 
-    /// Lets the members race until all mutators have stopped for a pause, and takes them back.
-    fn run(&self, racers: &mut Vec<Racer>, sweepers: &mut Vec<Sweeper>) -> Result<()> {
-        for (refiner, sweeper) in self.refiners.iter().zip(sweepers.drain(..)) {
-            refiner.give.send(sweeper)?;
-        }
-        for (mutator, racer) in self.mutators.iter().zip(racers.drain(..)) {
-            mutator.give.send(racer)?;
-        }
-        for mutator in &self.mutators {
-            racers.push(mutator.back.recv()?);
-        }
-        // The queue has all that the mutators handed on, and behind it a word for each thread.
-        for _ in &self.refiners {
-            self.queue.send(Work::Pause)?;
-        }
-        for refiner in &self.refiners {
-            sweepers.push(refiner.back.recv()?);
-        }
-        Ok(())
-    }
+/// Ends a pause.
+fn resume(runtime: &Runtime, heap: Paused) -> Result<(Racing, Vec<Racer>)> {
+    let (heap, racers, sweepers) = heap.resume();
+    runtime.refiner.resume(sweepers)?;
+    Ok((heap, racers))
 }
 
 /// Makes pauses until something is wrong. Returns how much was, and how many objects are live.
-fn run(runtime: &Runtime, logs: Sender<Work>, pauses: u32) -> Result<(usize, usize)> {
-    let (mut heap, mut racers, mut sweepers) = Paused::open(COUNTS, MUTATORS, REFINERS)?.resume();
+fn run(runtime: &Runtime, pauses: u32) -> Result<(usize, usize)> {
+    let heap = Paused::open(COUNTS, MUTATORS, SWEEPERS)?;
+    let (mut heap, mut racers) = resume(runtime, heap)?;
     scope(|scope| {
-        let threads = Threads::start(scope, runtime, &mut racers, logs)?;
+        let mutators = start(scope, runtime, &mut racers)?;
         let (mut wrong, mut live) = (0, 0);
         for _ in 0..pauses {
-            threads.run(&mut racers, &mut sweepers)?;
             let mut pause = Pause {
                 runtime,
-                heap: heap.pause(racers, sweepers)?,
+                heap: race(runtime, heap, &mutators, racers)?,
                 drained: vec![0; (SLOTS / COUNTS.slots) as usize],
                 survivors: 0,
                 live: 0,
             };
             wrong = pause.collect()?;
             live = pause.live;
-            (heap, racers, sweepers) = pause.heap.resume();
+            (heap, racers) = resume(runtime, pause.heap)?;
             if wrong > 0 {
                 break;
             }
         }
+        let sweepers = runtime.refiner.pause(Queued::Drop);
         heap.pause(racers, sweepers)?;
         Ok((wrong, live))
     })
@@ -500,10 +455,9 @@ fn run(runtime: &Runtime, logs: Sender<Work>, pauses: u32) -> Result<(usize, usi
 fn main() -> Result<()> {
     let mut words = std::env::args().skip(1).map(|word| word.parse());
     let pauses = words.next().unwrap_or(Ok(100))?;
-    let (logs, queue) = channel();
-    let runtime = Runtime::new(queue);
-    let (wrong, live) = run(&runtime, logs, pauses)?;
-    let refined = runtime.refined.load(SeqCst);
+    let runtime = Runtime::new()?;
+    let (wrong, live) = run(&runtime, pauses)?;
+    let refined = runtime.refiner.handled().refined;
     let freed = runtime.freed.load(SeqCst);
     println!(
         "{} pauses, {refined} cards refined in races, {live} objects live at the end, \

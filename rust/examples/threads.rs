@@ -1,10 +1,10 @@
-//! Mutator threads and a refinement thread over one heap, under a lock: `threads [STORES]`.
+//! Mutator threads and a refinement thread over one core, under a lock: `threads [STORES]`.
 //!
 //! Each mutator keeps its dirty card queue in an array of its own and hands full ones over as
 //! completed buffers, which the lock protects; where there is no room it refines its own. A thread
 //! that ends hands in what it has. At the end the drain of each region is compared with a scan of
 //! all slots.
-use ninkoda::{Card, Counts, Drained, Heap, Kind, Refusal, LOG};
+use ninkoda::{Card, Core, Counts, Drained, Kind, Refusal, LOG};
 use std::collections::VecDeque;
 use std::process::ExitCode;
 use std::sync::{Mutex, MutexGuard};
@@ -22,7 +22,7 @@ const BUFFERS: usize = 16;
 
 /// What the lock protects.
 struct Shared {
-    heap: Heap,
+    core: Core,
     /// What each slot refers to.
     table: Vec<Option<u32>>,
     /// Whether a card ever referred into a region from outside.
@@ -47,9 +47,9 @@ impl Shared {
         if let Some(target) = target {
             self.held[(slot / COUNTS.slots) as usize][region_of(target) as usize] = true;
         }
-        let place = self.heap.slot(slot).expect("a slot of the heap");
-        let target = target.map(|target| self.heap.slot(target).expect("a slot of the heap"));
-        self.heap.store(place, target)
+        let place = self.core.slot(slot)?;
+        let target = target.map(|target| self.core.slot(target)).transpose()?;
+        self.core.store(place, target)
     }
 
     /// Hands a full queue over, or refines it where there is no room.
@@ -58,7 +58,7 @@ impl Shared {
             self.buffers
                 .push_back(std::mem::replace(queue, Vec::with_capacity(LOG)));
         } else {
-            self.heap.refine(queue)?;
+            self.core.refine(queue)?;
             self.by_mutators += 1;
             queue.clear();
         }
@@ -108,14 +108,14 @@ fn mutate(shared: &Mutex<Shared>, number: u64, stores: u32) -> Result<(), Refusa
             shared.complete(&mut queue)?;
         }
     }
-    locked(shared).heap.refine(&queue).map(drop)
+    locked(shared).core.refine(&queue).map(drop)
 }
 
 fn refine_buffers(shared: &Mutex<Shared>) -> Result<(), Refusal> {
     loop {
         let mut shared = locked(shared);
         if let Some(buffer) = shared.buffers.pop_front() {
-            shared.heap.refine(&buffer)?;
+            shared.core.refine(&buffer)?;
             shared.by_refinement += 1;
         } else if shared.is_over {
             return Ok(());
@@ -140,8 +140,8 @@ fn run(shared: &Mutex<Shared>, stores: u32) -> usize {
 fn drain_all(shared: &mut Shared) -> (usize, u32) {
     let (mut answered, mut wrong) = (0, 0);
     for number in 0..COUNTS.regions {
-        let region = shared.heap.region(number).expect("a region of the heap");
-        match shared.heap.drain(region) {
+        let region = shared.core.region(number).expect("a region of the heap");
+        match shared.core.drain(region) {
             Ok(Drained::Cards { members, .. }) if shared.is_exact(number, &members) => {
                 answered += members.len()
             }
@@ -155,7 +155,7 @@ fn main() -> Result<ExitCode, Refusal> {
     let word = std::env::args().nth(1);
     let stores = word.and_then(|word| word.parse().ok()).unwrap_or(100_000);
     let shared = Mutex::new(Shared {
-        heap: Heap::open(COUNTS, 4, 64)?,
+        core: Core::open(COUNTS, 4, 64)?,
         table: vec![None; ALL_SLOTS as usize],
         held: vec![[false; COUNTS.regions as usize]; ALL_CARDS as usize],
         buffers: VecDeque::new(),

@@ -1,8 +1,8 @@
 //! error[E0308]
-use ninkoda::{Counts, Heap};
+use ninkoda::{Core, Counts};
 
 fn main() {
-    let mut heap = Heap::open(
+    let mut core = Core::open(
         Counts {
             regions: 4,
             cards: 2,
@@ -12,6 +12,6 @@ fn main() {
         8,
     )
     .unwrap();
-    let card = heap.card(0).unwrap();
-    let _ = heap.target(card);
+    let card = core.card(0).unwrap();
+    let _ = core.target(card);
 }

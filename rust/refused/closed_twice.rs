@@ -1,8 +1,8 @@
 //! error[E0382]
-use ninkoda::{Counts, Heap};
+use ninkoda::{Core, Counts};
 
 fn main() {
-    let heap = Heap::open(
+    let core = Core::open(
         Counts {
             regions: 4,
             cards: 2,
@@ -12,6 +12,6 @@ fn main() {
         8,
     )
     .unwrap();
-    drop(heap);
-    drop(heap);
+    drop(core);
+    drop(core);
 }

@@ -1,8 +1,8 @@
 //! error[E0599]
-use ninkoda::{Counts, Heap};
+use ninkoda::{Core, Counts};
 
 fn main() {
-    let heap = Heap::open(
+    let core = Core::open(
         Counts {
             regions: 4,
             cards: 2,
@@ -12,5 +12,5 @@ fn main() {
         8,
     )
     .unwrap();
-    let _copy = heap.clone();
+    let _copy = core.clone();
 }

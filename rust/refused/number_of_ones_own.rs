@@ -1,8 +1,8 @@
 //! error[E0451]
-use ninkoda::{Counts, Heap, Slot};
+use ninkoda::{Core, Counts, Slot};
 
 fn main() {
-    let mut heap = Heap::open(
+    let mut core = Core::open(
         Counts {
             regions: 4,
             cards: 2,
@@ -12,6 +12,6 @@ fn main() {
         8,
     )
     .unwrap();
-    let slot = heap.slot(0).unwrap();
-    let _ = heap.store(Slot { number: 32, ..slot }, None);
+    let slot = core.slot(0).unwrap();
+    let _ = core.store(Slot { number: 32, ..slot }, None);
 }

@@ -1,5 +1,5 @@
 //! error[E0382]
-use ninkoda::race::Paused;
+use ninkoda::concurrent::Paused;
 use ninkoda::Counts;
 
 fn main() {

@@ -1,8 +1,8 @@
 //! error[E0382]
-use ninkoda::{Counts, Heap};
+use ninkoda::{Core, Counts};
 
 fn main() {
-    let mut heap = Heap::open(
+    let mut core = Core::open(
         Counts {
             regions: 4,
             cards: 2,
@@ -12,7 +12,7 @@ fn main() {
         8,
     )
     .unwrap();
-    let slot = heap.slot(0).unwrap();
-    drop(heap);
-    let _ = heap.store(slot, None);
+    let slot = core.slot(0).unwrap();
+    drop(core);
+    let _ = core.store(slot, None);
 }

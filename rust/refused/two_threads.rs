@@ -1,8 +1,8 @@
 //! error[E0499]
-use ninkoda::{Counts, Heap};
+use ninkoda::{Core, Counts};
 
 fn main() {
-    let mut heap = Heap::open(
+    let mut core = Core::open(
         Counts {
             regions: 4,
             cards: 2,
@@ -12,9 +12,9 @@ fn main() {
         8,
     )
     .unwrap();
-    let slot = heap.slot(0).unwrap();
+    let slot = core.slot(0).unwrap();
     std::thread::scope(|scope| {
-        scope.spawn(|| heap.store(slot, None));
-        scope.spawn(|| heap.store(slot, None));
+        scope.spawn(|| core.store(slot, None));
+        scope.spawn(|| core.store(slot, None));
     });
 }

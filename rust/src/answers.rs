@@ -13,8 +13,12 @@ pub enum Refusal {
     BadLayout,
     /// The hot limit or the size of the ring is outside its limits.
     BadSettings,
-    /// A range of slots ends behind the last one.
+    /// The heap has no such slot, or a range of slots ends behind its last one.
     NoSlot,
+    /// The heap has no such card.
+    NoCard,
+    /// The heap has no such region.
+    NoRegion,
     /// More than [`LOG`](crate::LOG) cards at once.
     TooManyCards,
     /// References were to be moved from a region to itself.
@@ -25,7 +29,7 @@ pub enum Refusal {
     BadMembers,
     /// A racer or a sweeper of the heap that was to be paused was not handed in.
     MembersOut,
-    /// A word of data is less than [`DATA`](crate::race::DATA).
+    /// A word of data is less than [`DATA`](crate::concurrent::DATA).
     BadWord,
     /// A slot of the region that was to be forgotten refers out of it.
     StillReferenced,
@@ -42,6 +46,8 @@ impl Refusal {
             library::BAD_LAYOUT => Refusal::BadLayout,
             library::BAD_SETTINGS => Refusal::BadSettings,
             library::NO_SLOT => Refusal::NoSlot,
+            library::NO_CARD => Refusal::NoCard,
+            library::NO_REGION => Refusal::NoRegion,
             library::TOO_MANY_CARDS => Refusal::TooManyCards,
             library::SAME_REGION => Refusal::SameRegion,
             library::LOG_FULL => Refusal::LogFull,
@@ -60,6 +66,8 @@ impl fmt::Display for Refusal {
             Refusal::BadLayout => "counts outside the limits of a heap",
             Refusal::BadSettings => "a setting outside its limits",
             Refusal::NoSlot => "no such slot",
+            Refusal::NoCard => "no such card",
+            Refusal::NoRegion => "no such region",
             Refusal::TooManyCards => "more cards than a queue has",
             Refusal::SameRegion => "the same region twice",
             Refusal::LogFull => "the log is full",
@@ -74,6 +82,14 @@ impl fmt::Display for Refusal {
 }
 
 impl Error for Refusal {}
+
+/// The end of a call that returns nothing else than whether it is done.
+pub(crate) fn done(word: u32) -> Result<(), Refusal> {
+    match word {
+        library::DONE => Ok(()),
+        word => Err(Refusal::of(word)),
+    }
+}
 
 /// A refused call that was to take a value: the value comes back as it was.
 #[derive(Debug)]
@@ -119,7 +135,7 @@ pub enum Kind {
     /// The slot's card was pending already.
     Dirty,
     /// The card was clean, and is pending now. It belongs into the dirty card queue of the thread
-    /// that stored; a [`Racer`](crate::race::Racer) has put it into its log.
+    /// that stored; a [`Racer`](crate::concurrent::Racer) has put it into its log.
     Logged(Card),
 }
 
@@ -138,12 +154,12 @@ impl Kind {
 
 /// What an exchange did that expected something of a slot.
 #[derive(Clone, Copy, Debug, PartialEq, Eq)]
-pub enum Exchanged {
+pub enum Exchanged<T = Option<Slot>> {
     /// The slot had what was expected, and the store was made.
     Stored(Kind),
-    /// Nothing was stored: this is what the slot refers to. It is `None` for null, and also for
-    /// data, which is not the null that may have been expected.
-    Differs(Option<Slot>),
+    /// Nothing was stored: this is what the slot has. Where that is a reference it is `None` for
+    /// null, and also for data, which is not the null that may have been expected.
+    Differs(T),
 }
 
 /// What a refinement did.

@@ -1,50 +1,54 @@
 //! Garbage-First's remembered-set log machinery, from the write barrier to the drain at an
 //! evacuation pause: a safe wrapper of the verified library Ninkoda.
 //!
-//! What `g1.h` asks of its caller and nothing there can test holds here by types. A [`Heap`] is
-//! open from [`Heap::open`] until it is dropped, is never copied, and takes each call by
+//! There are two kinds of heap. A [`Core`] is for one call at a time. A concurrent heap, whose
+//! mutators store with no lock beside refinement threads, is in [`concurrent`].
+//!
+//! What `g1.h` asks of its caller and nothing there can test holds here by types. A [`Core`] is
+//! open from [`Core::open`] until it is dropped, is never copied, and takes each call by
 //! `&mut self`, so that one call at a time uses it. It may go to another thread, and in a `Mutex`
 //! it serves several. A [`Slot`], [`Card`] or [`Region`] is one that its heap has, and knows which
 //! heap that is, so that no other heap takes it. What is left is what a program may meet when it
 //! runs, a [`Refusal`].
 //!
 //! ```
-//! use ninkoda::{Counts, Drained, Heap, Kind, Refusal};
+//! use ninkoda::{Core, Counts, Drained, Kind, Refusal};
 //!
 //! fn main() -> Result<(), Refusal> {
 //!     let counts = Counts { regions: 4, cards: 2, slots: 4 };
-//!     let mut heap = Heap::open(counts, 4, 1024)?;
-//!     let (slot, place) = (heap.slot(0).expect("a slot"), heap.slot(8));
-//!     if let Kind::Logged(card) = heap.store(slot, place)? {
-//!         heap.refine(&[card])?;
+//!     let mut core = Core::open(counts, 4, 1024)?;
+//!     let (slot, place) = (core.slot(0)?, core.slot(8)?);
+//!     if let Kind::Logged(card) = core.store(slot, Some(place))? {
+//!         core.refine(&[card])?;
 //!     }
-//!     let region = heap.region(1).expect("a region");
-//!     if let Drained::Cards { members, .. } = heap.drain(region)? {
+//!     let region = core.region(1)?;
+//!     if let Drained::Cards { members, .. } = core.drain(region)? {
 //!         println!("scan {members:?}");
 //!     }
 //!     Ok(())
 //! }
 //! ```
 //!
-//! Mutators that store with no lock are in [`race`].
-//!
 //! A build links the library that `scripts/install` installed: `NINKODA_LIBDIR` names its folder,
 //! or `pkg-config` finds it by `g1.pc`. By default that is the static library, and with
 //! `NINKODA_LINK=shared` the shared one. In the repository, where none is installed, it is the
-//! archive that `scripts/built g1_c` builds.
+//! archive of `prebuilt/`, or the one that `scripts/built g1_c` builds. Where there is none of
+//! these, `cargo check` and `cargo doc` work, and a program is not linked.
 mod answers;
+pub mod concurrent;
 mod library;
 mod numbers;
-pub mod race;
 
 pub use answers::{
     Cleared, Drained, Exchanged, Kind, Redirected, Refined, Refusal, Refused, Totals,
 };
 pub use numbers::{Card, Counts, Region, Slot};
 
+use answers::done;
 use library::{
-    g1_clear, g1_close, g1_drain, g1_is_pending, g1_members, g1_open, g1_redirect, g1_refine,
-    g1_status, g1_store, g1_store_all, g1_target, Batch, Handle, Tally, DONE, NULL, SHORT,
+    g1_clear, g1_close, g1_copy, g1_drain, g1_is_pending, g1_members, g1_open, g1_redirect,
+    g1_refine, g1_status, g1_store, g1_store_all, g1_target, g1_verify, Batch, Handle, Tally, DONE,
+    NULL, SHORT,
 };
 use numbers::{numbers_of, Home, Numbers};
 use std::ptr::null_mut;
@@ -52,36 +56,36 @@ use std::ptr::null_mut;
 /// How many cards a refinement takes at most: the size of a dirty card queue.
 pub const LOG: usize = 256;
 
-/// The machinery of one heap.
-pub struct Heap {
+/// A core: a heap for one call at a time.
+pub struct Core {
     handle: Handle,
     numbers: Numbers,
 }
 
-impl Drop for Heap {
+impl Drop for Core {
     fn drop(&mut self) {
         // SAFETY: the handle is closed, or one that the library wrote.
         unsafe { g1_close(&mut self.handle) };
     }
 }
 
-numbers_of!(Heap, numbers);
+numbers_of!(Core, numbers);
 
 // SAFETY of each call below: the handle is open, `&mut self` has no other call use it, and an array
 // is one of the wrapper's, of the length that is passed.
-impl Heap {
-    /// A new heap: each slot is null. From `hot` refinements on (0 to 255) a card is hot; `ring` (1
+impl Core {
+    /// A new core: each slot is null. From `hot` refinements on (0 to 255) a card is hot; `ring` (1
     /// to 4,096) is how many cards the hot ring holds.
     ///
     /// Refused with [`Refusal::BadLayout`], [`Refusal::BadSettings`] or [`Refusal::NoMemory`].
-    pub fn open(counts: Counts, hot: u32, ring: u32) -> Result<Heap, Refusal> {
+    pub fn open(counts: Counts, hot: u32, ring: u32) -> Result<Core, Refusal> {
         let core = null_mut();
         let mut handle = Handle { core };
         match unsafe { g1_open(&mut handle, &counts, hot, ring) } {
             DONE => {
-                let home = Home::new();
+                let home = Home::new(counts);
                 let numbers = Numbers { counts, home };
-                Ok(Heap { handle, numbers })
+                Ok(Core { handle, numbers })
             }
             word => Err(Refusal::of(word)),
         }
@@ -93,7 +97,7 @@ impl Heap {
     pub fn store(&mut self, slot: Slot, target: Option<Slot>) -> Result<Kind, Refusal> {
         let ((word, target), mut kind) = (self.numbers.words_of(slot, target)?, 0);
         match unsafe { g1_store(&mut self.handle, word, target, &mut kind) } {
-            DONE => Kind::of(kind, self.numbers.card_of(slot)),
+            DONE => Kind::of(kind, slot.card()),
             word => Err(Refusal::of(word)),
         }
     }
@@ -146,7 +150,8 @@ impl Heap {
     }
 
     /// Refines all that is pending, and returns the remembered set of a region: every card outside
-    /// it that refers into it, and perhaps some that no longer do, ascending.
+    /// it that refers into it, ascending. Some may be stale: they did since the set was last
+    /// cleared, and no longer do.
     ///
     /// Refused with [`Refusal::OtherHeap`] or [`Refusal::NoMemory`].
     pub fn drain(&mut self, region: Region) -> Result<Drained, Refusal> {
@@ -184,7 +189,7 @@ impl Heap {
         self.numbers.has(slot.home)?;
         let mut target = NULL;
         match unsafe { g1_target(&mut self.handle, slot.number, &mut target) } {
-            DONE => Ok(self.slot(target)),
+            DONE => Ok(self.numbers.reference(target)),
             word => Err(Refusal::of(word)),
         }
     }
@@ -236,9 +241,12 @@ impl Heap {
         Cleared::of(word, detail, self.numbers.home)
     }
 
-    /// Refines all that is pending, moves each reference from outside one region into it to the
-    /// same offset of another, and empties the set of the first. Slots inside the first stay as
-    /// they are.
+    /// Refines all that is pending, moves each reference from outside the region `from` into it to
+    /// the same offset of `to`, and empties the set of `from`. The card of each slot that changed
+    /// outside `to` is recorded for `to`.
+    ///
+    /// It copies no slot: store what the copies in `to` refer to first, and redirect then. Slots
+    /// inside `from` stay as they are, and so may keep a clear of another region refused.
     ///
     /// Refused with [`Refusal::OtherHeap`], [`Refusal::SameRegion`] or [`Refusal::NoMemory`].
     pub fn redirect(&mut self, from: Region, to: Region) -> Result<Redirected, Refusal> {
@@ -263,5 +271,51 @@ impl Heap {
             SHORT => Ok(Redirected::Short { refined }),
             word => Err(Refusal::of(word)),
         }
+    }
+
+    /// Copies what `count` slots refer to, from the slot `from` on to the slots from `to` on, as if
+    /// all were read before any is written. A card becomes pending as by [`Core::store`], and none
+    /// is returned for a queue: the next drain finds it. Time in `count`, no memory.
+    ///
+    /// Refused with [`Refusal::OtherHeap`], or [`Refusal::NoSlot`] if either range ends behind the
+    /// last slot.
+    pub fn copy(&mut self, from: Slot, to: Slot, count: u32) -> Result<(), Refusal> {
+        self.numbers.has(from.home)?;
+        self.numbers.has(to.home)?;
+        done(unsafe { g1_copy(&mut self.handle, from.number, to.number, count) })
+    }
+
+    /// The least slot that refers to something else than a runtime's memory does, for a debug build:
+    /// one whose store was not reported, most often. `memory` is what that has in as many slots from
+    /// `first` on. Time in the slots, no memory.
+    ///
+    /// Refused with [`Refusal::OtherHeap`], or [`Refusal::NoSlot`] if the range ends behind the last
+    /// slot.
+    pub fn first_differing(
+        &mut self,
+        first: Slot,
+        memory: &[Option<Slot>],
+    ) -> Result<Option<Slot>, Refusal> {
+        let handle = &mut self.handle;
+        let check = |first, memory: &[u32], differing: &mut u32| {
+            let (given, length, mut missing) = (memory.as_ptr(), memory.len(), NULL);
+            unsafe { g1_verify(handle, first, 0, given, length, differing, &mut missing) }
+        };
+        self.numbers.first_differing(first, memory, check)
+    }
+
+    /// The least of `count` slots from `first` on that refers into another region while its card is
+    /// neither pending nor recorded for that region, for a debug build: no drain would return it.
+    /// There is none if only the library has written to the core's memory. Time in the slots, no memory.
+    ///
+    /// Refused with [`Refusal::OtherHeap`], or [`Refusal::NoSlot`] if the range ends behind the last
+    /// slot.
+    pub fn first_missing(&mut self, first: Slot, count: u32) -> Result<Option<Slot>, Refusal> {
+        self.numbers.has(first.home)?;
+        let (mut differing, mut missing) = (NULL, NULL);
+        let (handle, memory) = (&mut self.handle, [0; 0]);
+        let (first, given) = (first.number, memory.as_ptr());
+        done(unsafe { g1_verify(handle, first, count, given, 0, &mut differing, &mut missing) })?;
+        Ok(self.numbers.reference(missing))
     }
 }

@@ -52,6 +52,13 @@ unsafe impl Send for HeapHandle {}
 unsafe impl Send for RacerHandle {}
 unsafe impl Send for SweeperHandle {}
 
+// SAFETY: calls alone write a handle or what it has, and the wrapper makes each of them by `&mut`.
+// So whoever shares a handle can do no more than read its pointer.
+unsafe impl Sync for Handle {}
+unsafe impl Sync for HeapHandle {}
+unsafe impl Sync for RacerHandle {}
+unsafe impl Sync for SweeperHandle {}
+
 extern "C" {
     pub fn g1_open(handle: *mut Handle, counts: *const Counts, hot: u32, ring: u32) -> u32;
     pub fn g1_close(handle: *mut Handle) -> u32;
@@ -102,6 +109,16 @@ extern "C" {
         refined_length: usize,
         refined_count: *mut u32,
     ) -> u32;
+    pub fn g1_copy(handle: *mut Handle, from: u32, to: u32, count: u32) -> u32;
+    pub fn g1_verify(
+        handle: *mut Handle,
+        first: u32,
+        count: u32,
+        references: *const u32,
+        references_length: usize,
+        differing: *mut u32,
+        missing: *mut u32,
+    ) -> u32;
     pub fn g1_heap_open(
         heap: *mut HeapHandle,
         counts: *const Counts,
@@ -124,8 +141,6 @@ extern "C" {
     ) -> u32;
     pub fn g1_heap_close(heap: *mut HeapHandle) -> u32;
     pub fn g1_heap_words(heap: *mut HeapHandle, words: *mut *const u64) -> u32;
-    pub fn g1_heap_target(heap: *mut HeapHandle, slot: u32, target: *mut u32) -> u32;
-    pub fn g1_heap_word(heap: *mut HeapHandle, slot: u32, word: *mut u64) -> u32;
     pub fn g1_heap_is_pending(heap: *mut HeapHandle, card: u32, pending: *mut u32) -> u32;
     pub fn g1_heap_status(heap: *mut HeapHandle, totals: *mut Totals) -> u32;
     pub fn g1_heap_members(
@@ -134,6 +149,12 @@ extern "C" {
         cards: *mut u32,
         cards_length: usize,
         count: *mut u32,
+    ) -> u32;
+    pub fn g1_heap_next_member(
+        heap: *mut HeapHandle,
+        region: u32,
+        from: u32,
+        card: *mut u32,
     ) -> u32;
     pub fn g1_heap_refine(heap: *mut HeapHandle) -> u32;
     pub fn g1_heap_drain(
@@ -156,6 +177,15 @@ extern "C" {
     pub fn g1_heap_redirect(heap: *mut HeapHandle, from: u32, to: u32, moved: *mut u32) -> u32;
     pub fn g1_heap_wipe(heap: *mut HeapHandle, region: u32) -> u32;
     pub fn g1_heap_forget(heap: *mut HeapHandle, region: u32) -> u32;
+    pub fn g1_heap_verify(
+        heap: *mut HeapHandle,
+        first: u32,
+        count: u32,
+        references: *const u32,
+        references_length: usize,
+        differing: *mut u32,
+        missing: *mut u32,
+    ) -> u32;
     pub fn g1_race_store(racer: *mut RacerHandle, slot: u32, target: u32, kind: *mut u32) -> u32;
     pub fn g1_race_swap(
         racer: *mut RacerHandle,
@@ -179,6 +209,21 @@ extern "C" {
         stored: *mut usize,
     ) -> u32;
     pub fn g1_race_store_data(racer: *mut RacerHandle, slot: u32, word: u64, old: *mut u64) -> u32;
+    pub fn g1_race_swap_word(
+        racer: *mut RacerHandle,
+        slot: u32,
+        word: u64,
+        old: *mut u64,
+        kind: *mut u32,
+    ) -> u32;
+    pub fn g1_race_compare_exchange_word(
+        racer: *mut RacerHandle,
+        slot: u32,
+        expected: u64,
+        word: u64,
+        found: *mut u64,
+        kind: *mut u32,
+    ) -> u32;
     pub fn g1_race_take_log(
         racer: *mut RacerHandle,
         cards: *mut u32,
@@ -203,6 +248,8 @@ pub const NO_MEMORY: u32 = 10;
 pub const BAD_LAYOUT: u32 = 11;
 pub const BAD_SETTINGS: u32 = 12;
 pub const NO_SLOT: u32 = 13;
+pub const NO_CARD: u32 = 14;
+pub const NO_REGION: u32 = 15;
 pub const TOO_MANY_CARDS: u32 = 17;
 pub const SAME_REGION: u32 = 18;
 pub const STILL_PENDING: u32 = 19;

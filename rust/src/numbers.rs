@@ -1,4 +1,5 @@
 //! Numbers of one heap.
+use crate::answers::done;
 use crate::library::{Reference, NULL};
 use crate::{Refusal, LOG};
 use std::sync::atomic::{AtomicU64, Ordering};
@@ -15,15 +16,25 @@ pub struct Counts {
     pub slots: u32,
 }
 
-/// Which heap a number belongs to.
+/// Which heap a number belongs to, and how that is laid out.
 #[derive(Clone, Copy, Debug, PartialEq, Eq, PartialOrd, Ord, Hash)]
-pub struct Home(u64);
+pub struct Home {
+    heap: u64,
+    /// Cards of a region.
+    cards: u32,
+    /// Slots of a card.
+    slots: u32,
+}
 
 impl Home {
     /// That of a heap which no number belongs to yet.
-    pub fn new() -> Home {
+    pub fn new(counts: Counts) -> Home {
         static HEAPS: AtomicU64 = AtomicU64::new(0);
-        Home(HEAPS.fetch_add(1, Ordering::Relaxed))
+        Home {
+            heap: HEAPS.fetch_add(1, Ordering::Relaxed),
+            cards: counts.cards,
+            slots: counts.slots,
+        }
     }
 }
 
@@ -58,27 +69,72 @@ number!(
     Region
 );
 
+impl Slot {
+    /// The card that it lies on.
+    pub fn card(self) -> Card {
+        let Slot { number, home } = self;
+        let number = number / home.slots;
+        Card { number, home }
+    }
+
+    /// The region that it lies in.
+    pub fn region(self) -> Region {
+        self.card().region()
+    }
+}
+
+impl Card {
+    /// The region that it lies in.
+    pub fn region(self) -> Region {
+        let Card { number, home } = self;
+        let number = number / home.cards;
+        Region { number, home }
+    }
+
+    /// Its slots, in order.
+    pub fn slots(self) -> impl DoubleEndedIterator<Item = Slot> + ExactSizeIterator + Clone {
+        let Card { number, home } = self;
+        let first = number * home.slots;
+        (first..first + home.slots).map(move |number| Slot { number, home })
+    }
+}
+
+impl Region {
+    /// Its cards, in order.
+    pub fn cards(self) -> impl DoubleEndedIterator<Item = Card> + ExactSizeIterator + Clone {
+        let Region { number, home } = self;
+        let first = number * home.cards;
+        (first..first + home.cards).map(move |number| Card { number, home })
+    }
+}
+
 /// The numbers of the heap that a type is over, and its `Debug`.
 macro_rules! numbers_of {
     ($name:ident, $($field:ident).+) => {
         impl $name {
             /// The counts of its heap.
-            pub fn counts(&self) -> Counts {
+            pub fn counts(&self) -> $crate::Counts {
                 self.$($field).+.counts
             }
 
-            /// The slot of this number, if the heap has it.
-            pub fn slot(&self, number: u32) -> Option<Slot> {
+            /// The slot of this number.
+            ///
+            /// Refused with [`Refusal::NoSlot`](crate::Refusal::NoSlot) if the heap has none.
+            pub fn slot(&self, number: u32) -> Result<$crate::Slot, $crate::Refusal> {
                 self.$($field).+.slot(number)
             }
 
-            /// The card of this number, if the heap has it.
-            pub fn card(&self, number: u32) -> Option<Card> {
+            /// The card of this number.
+            ///
+            /// Refused with [`Refusal::NoCard`](crate::Refusal::NoCard) if the heap has none.
+            pub fn card(&self, number: u32) -> Result<$crate::Card, $crate::Refusal> {
                 self.$($field).+.card(number)
             }
 
-            /// The region of this number, if the heap has it.
-            pub fn region(&self, number: u32) -> Option<Region> {
+            /// The region of this number.
+            ///
+            /// Refused with [`Refusal::NoRegion`](crate::Refusal::NoRegion) if the heap has none.
+            pub fn region(&self, number: u32) -> Result<$crate::Region, $crate::Refusal> {
                 self.$($field).+.region(number)
             }
         }
@@ -105,27 +161,27 @@ impl Numbers {
         self.counts.regions * self.counts.cards
     }
 
-    pub fn slot(&self, number: u32) -> Option<Slot> {
-        let home = self.home;
-        (number < self.all_cards() * self.counts.slots).then_some(Slot { number, home })
+    pub fn slot(&self, number: u32) -> Result<Slot, Refusal> {
+        let (home, all) = (self.home, self.all_cards() * self.counts.slots);
+        let slot = (number < all).then_some(Slot { number, home });
+        slot.ok_or(Refusal::NoSlot)
     }
 
-    pub fn card(&self, number: u32) -> Option<Card> {
-        let home = self.home;
-        (number < self.all_cards()).then_some(Card { number, home })
+    pub fn card(&self, number: u32) -> Result<Card, Refusal> {
+        let (home, all) = (self.home, self.all_cards());
+        let card = (number < all).then_some(Card { number, home });
+        card.ok_or(Refusal::NoCard)
     }
 
-    pub fn region(&self, number: u32) -> Option<Region> {
-        let home = self.home;
-        (number < self.counts.regions).then_some(Region { number, home })
+    pub fn region(&self, number: u32) -> Result<Region, Refusal> {
+        let (home, all) = (self.home, self.counts.regions);
+        let region = (number < all).then_some(Region { number, home });
+        region.ok_or(Refusal::NoRegion)
     }
 
-    /// The card of a slot of this heap.
-    pub fn card_of(&self, slot: Slot) -> Card {
-        Card {
-            number: slot.number / self.counts.slots,
-            home: self.home,
-        }
+    /// What the library's word for a reference means. Its word for null is no slot's number.
+    pub fn reference(&self, word: u32) -> Option<Slot> {
+        self.slot(word).ok()
     }
 
     /// The cards that a call wrote to the front of an array.
@@ -152,6 +208,38 @@ impl Numbers {
         }
         let Reference { slot, target } = Reference::of(slot, target);
         Ok((slot, target))
+    }
+
+    /// The least slot that a check finds to differ from what memory has, whose references the check
+    /// is given by blocks that lie on the stack.
+    ///
+    /// Refused with [`Refusal::OtherHeap`] if any slot is another heap's, or with
+    /// [`Refusal::NoSlot`] if the range ends behind the last slot.
+    pub fn first_differing(
+        &self,
+        first: Slot,
+        memory: &[Option<Slot>],
+        mut check: impl FnMut(u32, &[u32], &mut u32) -> u32,
+    ) -> Result<Option<Slot>, Refusal> {
+        for slot in memory.iter().flatten().chain([&first]) {
+            self.has(slot.home)?;
+        }
+        let (mut number, all) = (first.number, self.all_cards() * self.counts.slots);
+        if memory.len() > (all - number) as usize {
+            return Err(Refusal::NoSlot);
+        }
+        for block in memory.chunks(LOG) {
+            let (mut words, mut differing) = ([NULL; LOG], NULL);
+            for (word, slot) in words.iter_mut().zip(block) {
+                *word = slot.map_or(NULL, |slot| slot.number);
+            }
+            done(check(number, &words[..block.len()], &mut differing))?;
+            if let Some(slot) = self.reference(differing) {
+                return Ok(Some(slot));
+            }
+            number += block.len() as u32;
+        }
+        Ok(None)
     }
 
     /// These stores as the library takes them, by blocks that lie on the stack.

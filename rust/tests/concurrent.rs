@@ -1,6 +1,8 @@
-//! A heap whose stores race: its members handed out, taken in, missing, and of another heap.
-use ninkoda::race::{Paused, Racer, Racing, Sweeper, Word, DATA, RACERS, SWEEPERS};
+//! A concurrent heap: its members handed out, taken in, missing, and of another heap.
+use ninkoda::concurrent::{Paused, Racer, Racing, Sweeper, Word, DATA, RACERS, SWEEPERS};
 use ninkoda::{Cleared, Counts, Exchanged, Kind, Refusal, Slot, LOG};
+use std::error::Error;
+use std::sync::mpsc::channel;
 use std::thread;
 
 const COUNTS: Counts = Counts {
@@ -46,6 +48,43 @@ fn has_as_many_members_as_it_was_opened_with() {
 }
 
 #[test]
+fn a_walk_meets_the_members_of_a_region() {
+    let mut heap = heap();
+    for number in [1023, 700, 5] {
+        let (from, to) = (slot(&heap, number), slot(&heap, 300));
+        heap.store(from, Some(to)).expect("a store");
+    }
+    let region = heap.region(1).expect("a region");
+    assert_eq!(heap.members_iter(region).expect("a walk").count(), 0);
+    heap.refine().expect("a refinement");
+    let walked: Vec<_> = heap.members_iter(region).expect("a walk").collect();
+    let cards = [5, 700, 1023].map(|card| heap.card(card).expect("a card"));
+    assert_eq!(walked, cards);
+    assert_eq!(heap.members(region).expect("a list"), cards);
+    let other = self::heap().region(1).expect("a region");
+    assert_eq!(heap.members_iter(other).err(), Some(Refusal::OtherHeap));
+}
+
+#[test]
+fn several_threads_read_a_pause() {
+    let mut heap = heap();
+    let places: Vec<_> = (0..1024).map(|number| slot(&heap, number)).collect();
+    for place in &places {
+        heap.store(*place, Some(places[1023])).expect("a store");
+    }
+    let (heap, last) = (&heap, Some(places[1023]));
+    thread::scope(|scope| {
+        for part in places.chunks(256) {
+            scope.spawn(move || {
+                for place in part {
+                    assert_eq!(heap.target(*place), Ok(last));
+                }
+            });
+        }
+    });
+}
+
+#[test]
 fn is_not_paused_while_a_member_is_out() {
     let (heap, mut racers, sweepers) = race();
     let racer = racers.pop().expect("a racer");
@@ -77,14 +116,54 @@ fn takes_no_member_and_no_number_of_another_heap() {
     let (one, mut racers, sweepers) = refused.value;
     std::mem::swap(&mut racers[1], &mut others[0]);
     assert!(one.pause(racers, sweepers).is_ok());
-    let mut other = other.pause(others, other_sweepers).expect("all are in");
+    let other = other.pause(others, other_sweepers).expect("all are in");
     assert_eq!(other.target(near), Err(Refusal::OtherHeap));
+}
+
+/// Gives a member to a thread, and pauses without it.
+fn pause_without_a_racer() -> Result<Paused, Box<dyn Error + Send + Sync>> {
+    let (heap, mut racers, sweepers) = Paused::open(COUNTS, 2, 1)?.resume();
+    let (give, _members) = channel();
+    give.send(racers.pop().ok_or("a racer")?)?;
+    Ok(heap.pause(racers, sweepers)?)
+}
+
+#[test]
+fn has_errors_that_go_into_a_box() {
+    let error = pause_without_a_racer().expect_err("a racer is out");
+    assert_eq!(error.to_string(), Refusal::MembersOut.to_string());
+    let (give, members) = channel();
+    drop(members);
+    let (_heap, mut racers, _sweepers) = race();
+    let lost = give.send(racers.pop().expect("a racer"));
+    let lost: Box<dyn Error + Send + Sync> = lost.expect_err("no one has it").into();
+    assert!(lost.to_string().contains("closed"));
+}
+
+#[test]
+fn is_read_by_several_threads_at_once() {
+    let (heap, mut racers, sweepers) = race();
+    let (near, far) = (
+        heap.slot(0).expect("a slot"),
+        heap.slot(512).expect("a slot"),
+    );
+    let racer = &mut racers[0];
+    assert!(racer.store(near, Some(far)).is_ok());
+    let racer = &*racer;
+    thread::scope(|scope| {
+        let reads: Vec<_> = (0..4).map(|_| scope.spawn(|| racer.word(near))).collect();
+        for read in reads {
+            let word = read.join().expect("it does not panic");
+            assert_eq!(word, Ok(Word::Reference(far)));
+        }
+    });
+    assert!(heap.pause(racers, sweepers).is_ok());
 }
 
 #[test]
 fn says_when_a_log_is_full() {
     let (heap, mut racers, sweepers) = race();
-    let (racer, far) = (&mut racers[0], heap.slot(512));
+    let (racer, far) = (&mut racers[0], heap.slot(512).ok());
     let near = |number| heap.slot(number).expect("a slot");
     for number in 0..LOG as u32 {
         let card = heap.card(number).expect("a card");
@@ -103,7 +182,7 @@ fn says_when_a_log_is_full() {
 #[test]
 fn makes_more_stores_than_a_block() {
     let (heap, mut racers, sweepers) = race();
-    let (racer, far) = (&mut racers[0], heap.slot(512));
+    let (racer, far) = (&mut racers[0], heap.slot(512).ok());
     let near = |number| heap.slot(number).expect("a slot");
     let nulls = (0..200).map(|number| (near(number), None));
     let stores: Vec<_> = nulls.chain((0..300).map(|n| (near(n), far))).collect();
@@ -129,7 +208,7 @@ fn swaps_and_compares() {
     let (heap, mut racers, sweepers) = race();
     let racer = &mut racers[0];
     let near = heap.slot(0).expect("a slot");
-    let (some, other) = (heap.slot(512), heap.slot(513));
+    let (some, other) = (heap.slot(512).ok(), heap.slot(513).ok());
     let logged = Kind::Logged(heap.card(0).expect("a card"));
     assert_eq!(racer.swap(near, some), Ok((logged, None)));
     let differs = Ok(Exchanged::Differs(some));
@@ -148,6 +227,56 @@ fn swaps_and_compares() {
         other.map(Word::Reference).ok_or(Refusal::NoSlot)
     );
     assert!(heap.pause(racers, sweepers).is_ok());
+}
+
+#[test]
+fn swaps_and_compares_words() {
+    let (heap, mut racers, sweepers) = race();
+    let racer = &mut racers[0];
+    let near = heap.slot(0).expect("a slot");
+    let far = Word::Reference(heap.slot(512).expect("a slot"));
+    let logged = Kind::Logged(heap.card(0).expect("a card"));
+    let (one, two) = (Word::Data(DATA + 1), Word::Data(DATA + 2));
+    assert_eq!(racer.swap_word(near, one), Ok((Kind::Null, Word::Null)));
+    let differs = Ok(Exchanged::Differs(one));
+    assert_eq!(racer.compare_exchange_word(near, Word::Null, far), differs);
+    let stored = Ok(Exchanged::Stored(Kind::Null));
+    assert_eq!(racer.compare_exchange_word(near, one, two), stored);
+    assert_eq!(racer.swap_word(near, far), Ok((logged, two)));
+    assert_eq!(racer.compare_exchange_word(near, far, Word::Null), stored);
+    let low = Word::Data(DATA - 1);
+    assert_eq!(racer.swap_word(near, low), Err(Refusal::BadWord));
+    let refused = racer.compare_exchange_word(near, low, one);
+    assert_eq!(refused, Err(Refusal::BadWord));
+    let (other, _, _) = race();
+    let foreign = Word::Reference(other.slot(0).expect("a slot"));
+    assert_eq!(racer.swap_word(near, foreign), Err(Refusal::OtherHeap));
+    assert_eq!(racer.word(near), Ok(Word::Null));
+    assert!(heap.pause(racers, sweepers).is_ok());
+}
+
+#[test]
+fn finds_what_memory_has_otherwise() {
+    let mut heap = heap();
+    let (first, near, far) = (slot(&heap, 0), slot(&heap, 300), slot(&heap, 700));
+    assert!(heap.store(near, Some(far)).is_ok());
+    assert_eq!(heap.store_data(first, DATA), Ok(()));
+    let mut memory = vec![None; 1024];
+    assert_eq!(heap.first_differing(first, &memory), Ok(Some(near)));
+    memory[300] = Some(far);
+    assert_eq!(heap.first_differing(first, &memory), Ok(None));
+    assert_eq!(heap.first_differing(far, &memory), Err(Refusal::NoSlot));
+    memory[1023] = Some(near);
+    let last = slot(&heap, 1023);
+    assert_eq!(heap.first_differing(first, &memory), Ok(Some(last)));
+    assert_eq!(heap.first_differing(last, &memory[..1]), Ok(None));
+    memory[512] = Some(slot(&Paused::open(COUNTS, 1, 1).expect("a heap"), 0));
+    assert_eq!(
+        heap.first_differing(first, &memory),
+        Err(Refusal::OtherHeap)
+    );
+    assert_eq!(heap.first_missing(first, 1024), Ok(None));
+    assert_eq!(heap.first_missing(near, 1024), Err(Refusal::NoSlot));
 }
 
 #[test]
@@ -212,7 +341,7 @@ fn stores_and_moves_references_at_a_pause() {
     assert_eq!(heap.status().map(|totals| totals.recorded), Ok(1));
     assert_eq!(heap.redirect(from, from), Err(Refusal::SameRegion));
     assert_eq!(heap.redirect(from, to), Ok(1));
-    assert_eq!(heap.target(near), Ok(heap.slot(768)));
+    assert_eq!(heap.target(near), Ok(heap.slot(768).ok()));
     assert_eq!(heap.members(to), Ok(vec![card]));
     assert_eq!(heap.store_all(&[(near, None), (far, None)]), Ok(()));
     assert_eq!(heap.clear(to), Ok(Cleared::Cleared));
