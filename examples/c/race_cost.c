@@ -7,6 +7,7 @@
 // Or it is one to compare with, of the program's own words alone:
 //   - `plain-load` and `plain`: an acquire load, and a release store;
 //   - `marked`: a release store, and a store of the card's mark, which is a byte;
+//   - `hotspot`: a release store, and then what HotSpot's G1 (JDK 17) does: its filters, a fence, the card's mark, and an entry of the thread's queue;
 //   - `exchange` and `exchanges`: the one or two atomic exchanges that a store in a race makes.
 // See the script measure-race beside.
 //
@@ -30,7 +31,9 @@ enum {
     ALL_SLOTS = ALL_CARDS * SLOTS,
     REGION_SLOTS = CARDS * SLOTS,
     THREADS = 4,
-    STORES = ALL_CARDS / THREADS
+    STORES = ALL_CARDS / THREADS,
+    DIRTY = 1,
+    YOUNG = 2
 };
 
 // A thread, with the handles of a race that it keeps in locals while it runs.
@@ -38,6 +41,7 @@ struct seat {
     struct g1_racer racer;
     struct g1_sweeper sweeper;
     uint32_t slots[STORES], targets[STORES];
+    uint32_t queue[G1_LOG], queue_room;
     long nanoseconds;
     unsigned wrong;
 };
@@ -85,6 +89,29 @@ __attribute__((noinline)) static unsigned marked(struct seat *seat, uint32_t exp
     for (size_t i = 0; i < STORES; i++) {
         atomic_store_explicit(&words[seat->slots[i]], seat->targets[i], memory_order_release);
         atomic_store_explicit(&byte_marks[seat->slots[i] / SLOTS], 1, memory_order_release);
+    }
+    return expected > G1_STORED_LOGGED;
+}
+
+// A card's byte is 0 while it is clean. A full queue is emptied here, where HotSpot hands it on.
+static inline void hotspot_one(struct seat *seat, uint32_t slot, uint32_t target) {
+    _Atomic uint8_t *mark = &byte_marks[slot / SLOTS];
+    atomic_store_explicit(&words[slot], target, memory_order_release);
+    if (slot / REGION_SLOTS == target / REGION_SLOTS || target == G1_NULL || atomic_load_explicit(mark, memory_order_relaxed) == YOUNG) {
+        return;
+    }
+    atomic_thread_fence(memory_order_seq_cst);
+    if (atomic_load_explicit(mark, memory_order_relaxed) == DIRTY) {
+        return;
+    }
+    atomic_store_explicit(mark, DIRTY, memory_order_relaxed);
+    seat->queue_room = seat->queue_room == 0 ? G1_LOG : seat->queue_room;
+    seat->queue[--seat->queue_room] = slot / SLOTS;
+}
+
+__attribute__((noinline)) static unsigned hotspot(struct seat *seat, uint32_t expected) {
+    for (size_t i = 0; i < STORES; i++) {
+        hotspot_one(seat, seat->slots[i], seat->targets[i]);
     }
     return expected > G1_STORED_LOGGED;
 }
@@ -169,6 +196,7 @@ static unsigned clean(struct seat *seat) {
     }
     for (size_t i = 0; i < STORES; i++) {
         wrong += g1_race_refine(&seat->sweeper, seat->slots[i] / SLOTS) != G1_DONE;
+        byte_marks[seat->slots[i] / SLOTS] = 0;
     }
     return wrong;
 }
@@ -213,7 +241,8 @@ static round_of *barrier_of(const char *word) {
         const char *name;
         round_of *round;
     } barriers[] = {{"race", race},         {"slot-lock", under_slot_lock}, {"lock", under_lock}, {"load", load},          {"plain-load", plain_load},
-                    {"plain", plain},       {"marked", marked},             {"exchange", exchange}, {"exchanges", exchanges}};
+                    {"plain", plain},       {"marked", marked},             {"hotspot", hotspot},
+                    {"exchange", exchange}, {"exchanges", exchanges}};
     for (size_t i = 0; i < sizeof barriers / sizeof barriers[0]; i++) {
         if (strcmp(word, barriers[i].name) == 0) {
             return barriers[i].round;
