@@ -80,3 +80,4 @@ pub use holds::Holds;
 pub use paused::Paused;
 pub use race::{Race, Racer, Sweeper};
 pub use reading::{Reader, Reading};
+pub use sweeper::Swept;

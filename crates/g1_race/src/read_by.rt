@@ -32,6 +32,7 @@ impl<R: Holds> Paused<R> {
         requires empty { vec_len readers.old ≡ 0 }
         requires room { count ≤ vec_capacity readers.old }
         ensures pause { result.pause ≡ self }
+        ensures table { result.table_id ≡ self.table_id }
         ensures count { (result.readers ≡ count) × (vec_len readers.new ≡ count) }
         ensures readers { All (IsReaderOf result) readers.new.items }
         ensures room { vec_capacity readers.old ≤ vec_capacity readers.new }
