@@ -19,8 +19,10 @@
 //!   [`race_exchange`] has the stores that tell what a slot referred to or depend on it,
 //!   [`race_batch`] several stores by one call, and [`race_data`] a store of data,
 //!   and [`race_words`] the stores of any word that return or compare the one before.
+//!   [`sweep_counts`] tells what a sweeper has done.
 //! - [`heap_queries`], [`heap_drains`], [`heap_stores`], [`heap_copy`], [`heap_evacuation`] and
-//!   [`heap_words`] are the collector's calls on such a heap, at a pause.
+//!   [`heap_words`] are the collector's calls on such a heap, at a pause. [`heap_read`] lets
+//!   several threads read it there, by the calls of [`reader_queries`].
 //!
 //! A call returns a word below 8 if it was made, and else the word of a
 //! [`Refusal`](g1_handles::code::Refusal).
@@ -39,6 +41,7 @@ pub mod heap_drains;
 pub mod heap_evacuation;
 pub mod heap_life;
 pub mod heap_queries;
+pub mod heap_read;
 pub mod heap_stores;
 pub mod heap_verify;
 pub mod heap_words;
@@ -52,7 +55,9 @@ pub mod race_log;
 pub mod race_refine;
 pub mod race_store;
 pub mod race_words;
+pub mod reader_queries;
 pub mod redirection;
 pub mod refinement;
 pub mod store;
+pub mod sweep_counts;
 pub mod verify;

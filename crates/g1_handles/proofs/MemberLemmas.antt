@@ -1,30 +1,35 @@
 -- A member and its part.
-use Rattle.std.proofs.Common.{◌≡◌, List, [], ◌∷◌, Some, None, map, refl, ap, ◌∙◌, sym, subst}
+use Rattle.std.proofs.Common.{◌≡◌, ◌<◌, List, [], ◌∷◌, Some, None, All, map, refl, ap, ◌∙◌, sym, subst}
 use Rattle.std.proofs.Props.{props}
-use Rattle.std.specs.Prelude.{Option, Result, Ok, Err, OnErr, IsSome, IsSomeAnd}
+use Rattle.std.proofs.lemmas.List.{length-map}
+use Rattle.std.proofs.Math.ListN.{get_or-map}
+use Rattle.std.proofs.lemmas.List.Elements.{All-map}
+use Rattle.std.specs.Prelude.{Option, Result, Ok, Err, OnErr, IfErr, IsErrAnd, IsSome, IsSomeAnd}
 use Rattle.std.specs.Option.{ForSome}
 use Rattle.std.specs.Arc.{arc_value}
 use mathlib.Core.HLevel.{is_prop→PathP}
 use Rattle.g1_race.specs.declared.race.Race.{Race}
 use Rattle.g1_race.specs.Members.{race_id}
+use Rattle.g1_handles.specs.declared.code.Refusal.{Refusal}
 use Rattle.g1_handles.specs.declared.member.Part.{Ghosts}
 use Rattle.g1_handles.specs.declared.member.Member.{Member}
 use Rattle.g1_handles.specs.Racing.{IsOf, part_in}
 
--- a member is its share, its number and its part, with padding
-pub same_member : {P : Type 0} {g : Ghosts P} (m n : Member P g) → m.race ≡ n.race → m.number ≡ n.number → m.part ≡ n.part → m.apart ≡ n.apart → m ≡ n
-same_member {P} {g} m n race number part apart = λ i. record {
+-- a member is its share, its number, its counts and its part, with padding
+pub same_member : {P : Type 0} {g : Ghosts P} (m n : Member P g) → m.race ≡ n.race → m.number ≡ n.number → m.counts ≡ n.counts → m.part ≡ n.part → m.apart ≡ n.apart → m ≡ n
+same_member {P} {g} m n race number counts part apart = λ i. record {
   race = race i;
   number = number i;
   part = part i;
+  counts = counts i;
   apart = apart i;
   same = is_prop→PathP (λ j. ForSome (part j) (λ p. g.of p ≡ race_id (arc_value (race j)))) (λ j. hlevel props) m.same n.same i;
 }
 
 -- a handle whose member has the part that it had holds what it held
 pub handed_back : {P : Type 0} {g : Ghosts P} {old new : Option (Member P g)} {m n k : Member P g} → new ≡ Some n → old ≡ Some m → k ≡ m
-    → n.race ≡ k.race → n.number ≡ k.number → n.part ≡ k.part → n.apart ≡ k.apart → new ≡ old
-handed_back {n = n} {k = k} new old lent race number part apart = new ∙ (ap (λ m. Some m) (same_member n k race number part apart ∙ lent) ∙ sym old)
+    → n.race ≡ k.race → n.number ≡ k.number → n.counts ≡ k.counts → n.part ≡ k.part → n.apart ≡ k.apart → new ≡ old
+handed_back {n = n} {k = k} new old lent race number counts part apart = new ∙ (ap (λ m. Some m) (same_member n k race number counts part apart ∙ lent) ∙ sym old)
 
 -- a member without its part is no member
 pub no_part : {P : Type 0} {g : Ghosts P} {v : Option (Member P g)} {m k : Member P g} → v ≡ Some m → k ≡ m → k.part ≡ None → part_in v ≡ None
@@ -58,3 +63,16 @@ seen_alike find f g same (m ∷ ms) (part ∷ parts) e =
     let here : f part ≡ g (find m) = sym (same part) ∙ ap g first in
     let there = seen_alike find f g same ms parts later in
     cc
+
+-- what is so of each of a list is so of what a function finds in each of another, if it finds that list
+pub found : {A T : Type 0} (f : A → Option T) (P : T → Type 0) (xs : List A) (ys : List T) → map f xs ≡ map (λ y. Some y) ys → All P ys
+    → All (λ x. IsSomeAnd (f x) P) xs
+found {A} {T} f P xs ys e all k d below =
+    let has : All (λ o. IsSomeAnd o P) (map f xs) = subst (All (λ o. IsSomeAnd o P)) (sym e) (All-map (λ o. IsSomeAnd o P) (λ (y : T). Some y) ys all) in
+    subst (λ o. IsSomeAnd o P) (get_or-map f xs k d) (has k (f d) (subst (λ n. k < n) (sym (length-map xs f)) below))
+
+-- what is so of a look's refusal is so of the one that is passed on
+pub passed : {A B : Type 0} (Q P : Refusal → Type 0) (looked : Result A Refusal) (answer : Result B Refusal) (e : Refusal) → looked ≡ Err e → IfErr looked Q
+    → IsErrAnd answer (λ x. x ≡ e) → (Q e → P e) → IfErr answer P
+passed Q P looked (Ok b) e is why same so = tt
+passed Q P looked (Err x) e is why same so = subst P (sym same) (so (subst (λ r. IfErr r Q) is why))

@@ -41,6 +41,18 @@ all_found {H} {V} {T} value f (h ∷ hs) (y ∷ ys) e all =
     let later : map f (map value hs) ≡ map (λ (y : T). Some y) ys = all_found value f hs ys (omega (arith, e)) (λ k d z below. all (suc k) d z (omega (arith, below))) in
     cc
 
+-- what is seen of the handles is what is seen of the boxes, in their order
+pub all_alike : {H V B C : Type 0} (value : H → V) (f : V → C) (g : B → C) (hs : List H) (bs : List B) → length hs ≡ length bs
+    → ((k : ℕ) (d : H) (b : B) → k < length hs → f (value (slice_index_or hs k d)) ≡ g (slice_index_or bs k b))
+    → map f (map value hs) ≡ map g bs
+all_alike value f g [] [] e all = refl
+all_alike value f g [] (b ∷ bs) e all = absurd (omega (arith, e))
+all_alike value f g (h ∷ hs) [] e all = absurd (omega (arith, e))
+all_alike value f g (h ∷ hs) (b ∷ bs) e all =
+    let here : f (value h) ≡ g b = all 0 h b (omega arith) in
+    let later : map f (map value hs) ≡ map g bs = all_alike value f g hs bs (omega (arith, e)) (λ k d z below. all (suc k) d z (omega (arith, below))) in
+    cc
+
 -- the handles' members are of the race that the boxes waited for
 pub all_of : {P H : Type 0} {g : Ghosts P} (value : H → Option (Member P g)) (race : Race) (hs : List H) (bs : List (Box (Member P g) Global)) → length hs ≡ length bs
     → ((k : ℕ) (d : H) (m : Box (Member P g) Global) → k < length hs → WaitedAs (slice_index_or bs k m).value (value (slice_index_or hs k d)))

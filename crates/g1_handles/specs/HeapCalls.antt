@@ -14,7 +14,10 @@ abbrev pub IsCalled : {A : Type 0} → (Halt → Result A Refusal → Halt → T
 IsCalled Q None r new = (new ≡ None) × (r ≡ Err refusal.NotOpen)
 IsCalled Q (Some (heap.Racing b)) r new =
     (new ≡ Some (heap.Racing b)) × (r ≡ Err refusal.NotPaused)
+IsCalled Q (Some (heap.Read b)) r new =
+    (new ≡ Some (heap.Read b)) × (r ≡ Err refusal.NotPaused)
 IsCalled Q (Some (heap.Paused a)) r None = ⊥
+IsCalled Q (Some (heap.Paused a)) r (Some (heap.Read d)) = ⊥
 IsCalled Q (Some (heap.Paused a)) r (Some (heap.Racing d)) = ⊥
 IsCalled Q (Some (heap.Paused a)) r (Some (heap.Paused b)) =
     IsSameBut a b × Q a.pause r b.pause

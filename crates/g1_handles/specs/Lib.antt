@@ -14,3 +14,4 @@ pub mod HeapCalls
 pub mod Sets
 pub mod Verifying
 pub mod Copies
+pub mod Readers

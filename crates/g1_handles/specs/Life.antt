@@ -22,24 +22,36 @@ use Rattle.g1_handles.specs.declared.code.Refusal.TheVariants as refusal
 use Rattle.g1_handles.specs.declared.member.Part.{Ghosts}
 use Rattle.g1_handles.specs.declared.member.Member.{Member}
 use Rattle.g1_handles.specs.declared.racing_heap.AtPause.{AtPause}
+use Rattle.g1_handles.specs.declared.racing_heap.BeingRead.{BeingRead}
 use Rattle.g1_handles.specs.declared.racing_heap.UnderWay.{UnderWay}
 use Rattle.g1_handles.specs.declared.racing_heap.RacingHeap.{RacingHeap}
 use Rattle.g1_handles.specs.declared.racing_heap.RacingHeap.TheVariants as heap
+use Rattle.g1_handles.specs.declared.sweep_counts.SweepCounts.{SweepCounts}
 use Rattle.g1_handles.specs.Own.{RacerMember, SweeperMember}
 use Rattle.g1_handles.specs.Racing.{AreClosed, OfRacer, OfSweeper, racer_race_of, sweeper_race_of}
-use Rattle.g1_handles.specs.Racing.{known_to, part_in, IsAmong, IsOf, IsEndOf}
+use Rattle.g1_handles.specs.Racing.{racer_knows, sweeper_knows, part_in, IsAmong, IsOf, IsEndOf}
+use Rattle.g1_handles.specs.Racing.{counts_of, no_counts}
 use Rattle.g1_handles.specs.Refusals.{SaysNoMember}
 
--- the handle has a heap at a pause, and it is so of the pause
+-- the handle has a heap at a pause that no reader reads, and it is so of the pause
 abbrev pub OfPaused : Option RacingHeap → (Halt → Type 0) → Type 0
 OfPaused None P = ⊥
 OfPaused (Some (heap.Paused a)) P = P a.pause
+OfPaused (Some (heap.Read r)) P = ⊥
 OfPaused (Some (heap.Racing b)) P = ⊥
+
+-- the handle has a heap that readers read, and it is so of it
+abbrev pub OfRead : Option RacingHeap → (BeingRead → Type 0) → Type 0
+OfRead None P = ⊥
+OfRead (Some (heap.Paused a)) P = ⊥
+OfRead (Some (heap.Read r)) P = P r
+OfRead (Some (heap.Racing b)) P = ⊥
 
 -- the handle has a heap whose members are out, and it is so of it
 abbrev pub OfRacing : Option RacingHeap → (UnderWay → Type 0) → Type 0
 OfRacing None P = ⊥
 OfRacing (Some (heap.Paused a)) P = ⊥
+OfRacing (Some (heap.Read r)) P = ⊥
 OfRacing (Some (heap.Racing b)) P = P b
 
 -- nothing but the pause has changed
@@ -47,13 +59,16 @@ pub record IsSameBut (old new : AtPause) : Type 0 where
   pub race : new.race ≡ old.race
   pub racers : new.racers ≡ old.racers
   pub sweepers : new.sweepers ≡ old.sweepers
+  pub readers : new.readers ≡ old.readers
 
 -- the handle has a heap at a pause, as before, nothing but the pause has changed, and it is so of
 -- the pause before and after
 abbrev pub IsSameHeap : Option RacingHeap → Option RacingHeap → (Halt → Halt → Type 0) → Type 0
 IsSameHeap None new Q = ⊥
+IsSameHeap (Some (heap.Read r)) new Q = ⊥
 IsSameHeap (Some (heap.Racing b)) new Q = ⊥
 IsSameHeap (Some (heap.Paused a)) None Q = ⊥
+IsSameHeap (Some (heap.Paused a)) (Some (heap.Read r)) Q = ⊥
 IsSameHeap (Some (heap.Paused a)) (Some (heap.Racing d)) Q = ⊥
 IsSameHeap (Some (heap.Paused a)) (Some (heap.Paused b)) Q = IsSameBut a b × Q a.pause b.pause
 
@@ -62,12 +77,20 @@ abbrev pub SaysNoHeap : Option RacingHeap → Refusal → Type 0
 SaysNoHeap h r = (r ≡ refusal.NotOpen) × (h ≡ None)
 
 -- the heap's members are out
-abbrev pub SaysNotPaused : Option RacingHeap → Refusal → Type 0
-SaysNotPaused h r = (r ≡ refusal.NotPaused) × OfRacing h (λ b. Unit {0})
+abbrev pub IsRacing : Option RacingHeap → Type 0
+IsRacing h = OfRacing h (λ b. Unit {0})
 
--- the heap is at a pause
+-- readers read the heap
+abbrev pub IsRead : Option RacingHeap → Type 0
+IsRead h = OfRead h (λ r. Unit {0})
+
+-- the heap's members are out, or readers read it
+abbrev pub SaysNotPaused : Option RacingHeap → Refusal → Type 0
+SaysNotPaused h r = (r ≡ refusal.NotPaused) × (IsRacing h ⊎ IsRead h)
+
+-- the heap is at a pause, and readers may read it
 abbrev pub SaysNotRacing : Option RacingHeap → Refusal → Type 0
-SaysNotRacing h r = (r ≡ refusal.NotRacing) × OfPaused h (λ p. Unit {0})
+SaysNotRacing h r = (r ≡ refusal.NotRacing) × (OfPaused h (λ p. Unit {0}) ⊎ IsRead h)
 
 -- a heap may have this many racers and sweepers
 pub record AreHeapCounts (racers sweepers : ℕ) : Type 0 where
@@ -104,12 +127,14 @@ IsEndRefused h r = SaysNoHeap h r ⊎ SaysNotPaused h r
 abbrev pub heap_race : Option RacingHeap → Option Race
 heap_race None = None
 heap_race (Some (heap.Paused a)) = Some (arc_value a.race)
+heap_race (Some (heap.Read r)) = Some (arc_value r.race)
 heap_race (Some (heap.Racing b)) = Some (arc_value b.race)
 
 -- the handle is open, and it is so of the heap's race
 abbrev pub OfHeap : Option RacingHeap → (Race → Type 0) → Type 0
 OfHeap None P = ⊥
 OfHeap (Some (heap.Paused a)) P = P (arc_value a.race)
+OfHeap (Some (heap.Read r)) P = P (arc_value r.race)
 OfHeap (Some (heap.Racing b)) P = P (arc_value b.race)
 
 -- the heap was opened for this many racers and sweepers
@@ -117,8 +142,26 @@ abbrev pub IsFor : Option RacingHeap → ℕ → ℕ → Type 0
 IsFor None racers sweepers = ⊥
 IsFor (Some (heap.Paused a)) racers sweepers =
     (racers ≡ length a.pause.logs) × (sweepers ≡ a.pause.sweepers)
+IsFor (Some (heap.Read r)) racers sweepers =
+    (racers ≡ length r.reading.pause.logs) × (sweepers ≡ r.reading.pause.sweepers)
 IsFor (Some (heap.Racing b)) racers sweepers =
     (racers ≡ b.racers.count) × (sweepers ≡ b.sweepers.count)
+
+-- what the members of these boxes have counted
+abbrev pub boxed_counts : {P : Type 0} {g : Ghosts P} → Vec (Box (Member P g) Global) Global
+    → List SweepCounts
+boxed_counts boxes = map (λ m. m.value.counts) boxes.items
+
+-- what the sweepers of a heap at a pause have counted, in the order of their handles
+abbrev pub heap_counts : Option RacingHeap → List SweepCounts
+heap_counts None = []
+heap_counts (Some (heap.Paused a)) = boxed_counts a.sweepers
+heap_counts (Some (heap.Read r)) = boxed_counts r.sweepers
+heap_counts (Some (heap.Racing b)) = []
+
+-- the sweepers of the heap at a pause have counted nothing
+abbrev pub HasCountedNothing : Option RacingHeap → Type 0
+HasCountedNothing h = All (λ c. c ≡ no_counts) (heap_counts h)
 
 -- the log of a racer, if there is one
 abbrev pub log_of : Option Racer → List ℕ
@@ -148,7 +191,7 @@ pub record GoesOn (p : Halt) (race : Race) (racers : List (Option RacerMember))
   pub sweeping : All (IsNewSweeping race (start_at p)) sweepers
   pub logs : map log_in racers ≡ p.logs
 
--- as many racers or sweepers of the race, and as many boxes of members that wait for them
+-- as many racers, sweepers or readers of the race, and as many boxes of members that wait for them
 pub record AreFor {P : Type 0} {g : Ghosts P} (race : Race) (count : ℕ)
     (boxes : Vec (Box (Member P g) Global) Global) (parts : Vec P Global) : Type 0 where
   pub box_count : vec_len boxes ≡ count
@@ -171,10 +214,13 @@ pub record LetsGo (a : AtPause) (b : UnderWay) : Type 0 where
   pub logs : map racer_log b.racers.parts.items ≡ a.pause.logs
   pub began : began (race_layout (arc_value b.race)) (beginning (start_at a.pause))
       ≡ halted a.pause
+  pub waited : b.sweepers.boxes ≡ a.sweepers
 
 abbrev pub IsLetGo : RacingHeap → RacingHeap → Type 0
 IsLetGo (heap.Paused a) (heap.Racing b) = LetsGo a b
 IsLetGo (heap.Paused a) (heap.Paused c) = ⊥
+IsLetGo (heap.Paused a) (heap.Read r) = ⊥
+IsLetGo (heap.Read r) new = ⊥
 IsLetGo (heap.Racing b) new = ⊥
 
 -- a resume of the heap of the first handle, with the members' handles
@@ -210,7 +256,7 @@ pub record IsPauseOf (race : Race) (racers sweepers : List View) (logs : List (L
 abbrev pub IsPausedWith : Race → List (Option RacerMember) → List (Option SweeperMember) → Halt
     → Type 0
 IsPausedWith race racers sweepers p =
-    IsPauseOf race (map known_to racers) (map known_to sweepers) (map log_in racers) p
+    IsPauseOf race (map racer_knows racers) (map sweeper_knows sweepers) (map log_in racers) p
 
 -- the members of these handles are in, and the pause is still to begin
 pub record ComesIn (old new : UnderWay) (rs : List (Option RacerMember))
@@ -222,9 +268,10 @@ pub record ComesIn (old new : UnderWay) (rs : List (Option RacerMember))
       new.racers.parts
   pub sweepers : AreFor (arc_value new.race) new.sweepers.count new.sweepers.boxes
       new.sweepers.parts
-  pub racer_views : map racer_view new.racers.parts.items ≡ map known_to rs
-  pub sweeper_views : map sweeper_view new.sweepers.parts.items ≡ map known_to ss
+  pub racer_views : map racer_view new.racers.parts.items ≡ map racer_knows rs
+  pub sweeper_views : map sweeper_view new.sweepers.parts.items ≡ map sweeper_knows ss
   pub logs : map racer_log new.racers.parts.items ≡ map log_in rs
+  pub counts : boxed_counts new.sweepers.boxes ≡ map counts_of ss
 
 -- a pause of the heap of the first handle; that the members are of its race, each given once, is
 -- found out by counts, of which no proof knows

@@ -9,12 +9,15 @@ use Rattle.std_alloc.specs.Box.Ownership.{box_owns}
 use Rattle.g1_core.specs.contracts.machinery.Core as core
 use Rattle.g1_race.specs.declared.race.Racer.{Racer}
 use Rattle.g1_race.specs.declared.race.Sweeper.{Sweeper}
+use Rattle.g1_race.specs.Reading.{Known}
 use Rattle.g1_race.specs.contracts.race.Racer as racer
 use Rattle.g1_race.specs.contracts.race.Sweeper as sweeper
+use Rattle.g1_race.specs.contracts.reading.Reader as reader
 use Rattle.g1_handles.specs.declared.member.Member.{Member}
 use Rattle.g1_handles.specs.contracts.member.Member as member
 use Rattle.g1_handles.specs.contracts.member.RacerPart.TheImpl.{ghosts as racers}
 use Rattle.g1_handles.specs.contracts.member.SweeperPart.TheImpl.{ghosts as sweepers}
+use Rattle.g1_handles.specs.contracts.member.ReaderPart.TheImpl.{ghosts as readers}
 use Rattle.g1_handles.specs.contracts.racing_heap.RacingHeap as racing_heap
 
 -- the value at the pointer, and the right to free its block
@@ -27,14 +30,17 @@ holds R a null_ptr v = feq (Option R.Denot) v None
 holds R a (block_ptr b o) v =
     fex R.Denot (λ x. fsep (feq (Option R.Denot) v (Some x)) (owns_boxed R a (block_ptr b o) x))
 
--- a racer, and a sweeper, as a member of a race
+-- a racer, a sweeper, and a reader, as a member of a race
 abbrev pub RacerMember : Type 0
 RacerMember = Member Racer racers
 
 abbrev pub SweeperMember : Type 0
 SweeperMember = Member Sweeper sweepers
 
--- what each kind of handle holds: a core, a heap whose stores race, a racer, or a sweeper
+abbrev pub ReaderMember : Type 0
+ReaderMember = Member Known readers
+
+-- what each kind of handle holds: a core, a heap whose stores race, a racer, a sweeper, or a reader
 abbrev pub core_row : RattleType
 core_row = core.the_row
 
@@ -46,3 +52,6 @@ racer_row = member.the_row racer.the_row racers
 
 abbrev pub sweeper_row : RattleType
 sweeper_row = member.the_row sweeper.the_row sweepers
+
+abbrev pub reader_row : RattleType
+reader_row = member.the_row reader.the_row readers

@@ -1,7 +1,7 @@
 -- What the calls on the members of a race do.
 use Rattle.std.specs.Prelude.{◌↔◌, Contains, ◌≡◌, ℕ, List, [], ◌∷◌, ◌++◌, map}
 use Rattle.std.specs.Prelude.{All, Option, Some, None, IsSome, IsSomeAnd, IfSome, false}
-use Rattle.std.specs.Prelude.{if◌then◌else◌}
+use Rattle.std.specs.Prelude.{if◌then◌else◌, Bool, length, ◌+◌, ◌%◌, ◌^◌}
 use Rattle.std.specs.Arc.{arc_value}
 use Rattle.g1_layout.specs.declared.kind.Kind.{Kind}
 use Rattle.g1_race.specs.declared.race.Race.{Race}
@@ -18,24 +18,27 @@ use Rattle.g1_race.specs.Members.{sweeper_start, sweeper_view, IsKind, is_logged
 use Rattle.g1_handles.specs.declared.member.Part.{Ghosts}
 use Rattle.g1_handles.specs.declared.member.Member.{Member}
 use Rattle.g1_handles.specs.declared.racer_handle.RacerHandle.{RacerHandle}
+use Rattle.g1_handles.specs.declared.sweep_counts.SweepCounts.{SweepCounts}
 use Rattle.g1_handles.specs.declared.sweeper_handle.SweeperHandle.{SweeperHandle}
-use Rattle.g1_handles.specs.Own.{RacerMember, SweeperMember}
+use Rattle.g1_handles.specs.declared.reader_handle.ReaderHandle.{ReaderHandle}
+use Rattle.g1_handles.specs.Own.{RacerMember, SweeperMember, ReaderMember}
 
 -- a racer with its race
 pub record Racing : Type 0 where
   pub race : Race
   pub racer : Racer
 
--- a sweeper with its race
+-- a sweeper with its race, and what it has counted
 pub record Sweeping : Type 0 where
   pub race : Race
   pub sweeper : Sweeper
+  pub counts : SweepCounts
 
 abbrev pub racing : Race → Racer → Racing
 racing race racer = record { race = race; racer = racer }
 
 abbrev sweeping : SweeperMember → Sweeper → Sweeping
-sweeping m sweeper = record { race = arc_value m.race; sweeper = sweeper }
+sweeping m sweeper = record { race = arc_value m.race; sweeper = sweeper; counts = m.counts }
 
 -- the handle has a racer, and it is so of it
 abbrev pub OfRacer : Option RacerMember → (Racing → Type 0) → Type 0
@@ -89,11 +92,33 @@ pub record TakesLog (a : Racing) (log : List ℕ) (b : Racing) : Type 0 where
   pub cards : log ≡ a.racer.log.items
   pub empty : b.racer.log.items ≡ []
 
--- a sweeper before and after it refined a card
+-- the counts of a sweeper that has done nothing
+abbrev pub no_counts : SweepCounts
+no_counts = record { refined = 0; cleaned = 0; references = 0 }
+
+-- the counts after one more card, which was dirty or not, with this many references to record
+abbrev pub counted : SweepCounts → Bool → ℕ → SweepCounts
+counted counts was_dirty references =
+    record {
+      refined = (counts.refined + 1) % 2 ^ 64;
+      cleaned = (counts.cleaned + (if was_dirty then 1 else 0)) % 2 ^ 64;
+      references = (counts.references + references) % 2 ^ 64;
+    }
+
+-- a sweeper before and after it refined a card: its counts go up by whether it made the card clean
+-- and by how many references into other regions it read
 pub record Sweeps (a : Sweeping) (card : ℕ) (b : Sweeping) : Type 0 where
   pub race : sweeper_race_of b ≡ sweeper_race_of a
   pub begin : sweeper_start b.sweeper ≡ sweeper_start a.sweeper
   pub swept : (sweeper_view b.sweeper).swept ≡ card ∷ (sweeper_view a.sweeper).swept
+  pub was_dirty : Bool
+  pub references : ℕ
+  pub cleaned : (sweeper_view b.sweeper).cleanings
+      ≡ (if was_dirty then card ∷ (sweeper_view a.sweeper).cleanings
+      else (sweeper_view a.sweeper).cleanings)
+  pub read : length (sweeper_view b.sweeper).pairs
+      ≡ length (sweeper_view a.sweeper).pairs + references
+  pub counts : b.counts ≡ counted a.counts was_dirty references
 
 -- what the handles hold
 abbrev pub held_racers : List RacerHandle → List (Option RacerMember)
@@ -102,20 +127,28 @@ held_racers hs = map (λ h. h.value) hs
 abbrev pub held_sweepers : List SweeperHandle → List (Option SweeperMember)
 held_sweepers hs = map (λ h. h.value) hs
 
+abbrev pub held_readers : List ReaderHandle → List (Option ReaderMember)
+held_readers hs = map (λ h. h.value) hs
+
 -- what this racer or sweeper knows
-abbrev pub part_view : {P : Type 0} → Ghosts P → Option P → View
-part_view g None = nothing
-part_view g (Some part) = g.view part
+abbrev pub part_view : {P : Type 0} → (P → View) → Option P → View
+part_view view None = nothing
+part_view view (Some part) = view part
 
 -- the handles are closed
 abbrev pub AreClosed : {A : Type 0} → List (Option A) → Type 0
 AreClosed values = All (λ v. v ≡ None) values
 
 module _ {P : Type 0} {g : Ghosts P} where
-  -- the racer or the sweeper behind a handle, if there is one
+  -- the racer, the sweeper or the reader behind a handle, if there is one
   abbrev pub part_in : Option (Member P g) → Option P
   part_in None = None
   part_in (Some m) = m.part
+
+  -- what the member behind a handle has counted
+  abbrev pub counts_of : Option (Member P g) → SweepCounts
+  counts_of None = no_counts
+  counts_of (Some m) = m.counts
 
   -- the handle has a member with its part, whose race has this many members
   abbrev pub IsAmong : ℕ → Option (Member P g) → Type 0
@@ -126,9 +159,12 @@ module _ {P : Type 0} {g : Ghosts P} where
   abbrev pub IsOf : Race → Option (Member P g) → Type 0
   IsOf race m = IsSomeAnd m (λ x. arc_value x.race ≡ race)
 
-  -- what the racer or the sweeper behind a handle knows
-  abbrev pub known_to : Option (Member P g) → View
-  known_to m = part_view g (part_in m)
+-- what the racer or the sweeper behind a handle knows
+abbrev pub racer_knows : Option RacerMember → View
+racer_knows m = part_view racer_view (part_in m)
+
+abbrev pub sweeper_knows : Option SweeperMember → View
+sweeper_knows m = part_view sweeper_view (part_in m)
 
 -- what is left of a race that ended with racers and sweepers who know this
 pub record IsEndOf (race : Race) (racers sweepers : List View) (e : Ended) : Type 0 where

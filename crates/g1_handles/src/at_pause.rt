@@ -18,7 +18,8 @@ use std::sync::Arc;
 pub type PausedHeap = Paused<Arc<Race, Global>>;
 
 /// Makes a call on the heap of a handle, which is at a pause, and puts the heap back. `words` has
-/// the call. Returns `NotOpen` or `NotPaused` if there is no such heap: nothing has changed.
+/// the call. Returns `NotOpen`, or `NotPaused` if the heap's members are out or readers read it:
+/// nothing has changed.
 pub fn at_pause<A, F: FnOnce(&mut PausedHeap) -> Result<A, Refusal>>(
     handle: HeapHandle,
     words: (Global, F),

@@ -4,14 +4,16 @@ ghost use Rattle.std.specs.Prelude.{ℕ, ◌<◌, slice_index_or, vec_len};
 ghost use Rattle.std.specs.Arc.{arc_value};
 ghost use Rattle.g1_handles.specs.Codes.{layout_of};
 ghost use Rattle.g1_handles.specs.Life.{IsNewHeap, IsOpeningRefused, AreHeapCounts, OfPaused};
-ghost use Rattle.g1_handles.specs.Life.{IsEndRefused};
+ghost use Rattle.g1_handles.specs.Life.{IsEndRefused, HasCountedNothing};
+ghost use Rattle.g1_handles.specs.Racing.{no_counts};
 
 use crate::any_handle::{closed, into_box, is_closed, opened};
 use crate::calls::Counts;
 use crate::code::Refusal;
 use crate::heap_handle::HeapHandle;
 use crate::member::{Member, Part};
-use crate::racing_heap::{AtPause, RacingHeap};
+use crate::racing_heap::{AtPause, RacingHeap, Readers, Room};
+use crate::sweep_counts::SweepCounts;
 use core::mem::replace_with;
 use g1_layout::{Layout, NoMemory};
 use g1_race::{Paused, Race};
@@ -32,6 +34,7 @@ pub fn open_heap(
 ) -> Result<(), Refusal>
     ensures opened { OnOk result
         (OfPaused handle.new.value (IsNewHeap (layout_of counts.now) racers sweepers)) }
+    ensures counts { OnOk result (HasCountedNothing handle.new.value) }
     ensures closed { OnOk result (handle.old.value ≡ None) }
     ensures why { IfErr result (λ refusal.
         IsOpeningRefused handle.old.value (layout_of counts.now) racers sweepers refusal) }
@@ -68,22 +71,42 @@ fn new_heap(
     sweepers: u32,
 ) -> Result<Box<RacingHeap>, NoMemory>
     requires { AreHeapCounts racers sweepers }
-    ensures { IfOk result (λ heap. OfPaused (Some heap.value) (IsNewHeap layout racers sweepers)) }
+    ensures opened { IfOk result (λ heap.
+        OfPaused (Some heap.value) (IsNewHeap layout racers sweepers)) }
+    ensures counts { IfOk result (λ heap. HasCountedNothing (Some heap.value)) }
 {
     let paused = Paused::open(alloc, layout, racers, sweepers)?;
     let (pause, race) = paused.shared(alloc)?;
     let racers = waiting(alloc, &race, racers as usize)?;
     let sweepers = waiting(alloc, &race, sweepers as usize)?;
+    let readers = idle_readers(alloc, &race, pause.reader_limit())?;
     let at = AtPause {
         race,
         pause,
         racers,
         sweepers,
+        readers,
     };
     Ok(Box::new(alloc, RacingHeap::Paused(at))?)
 }
 
-/// As many members that wait, each in its box. The number of each is its place.
+/// As many readers that read nothing, with room for all of them.
+fn idle_readers(alloc: Global, race: &Arc<Race, Global>, count: usize) -> Result<Readers, NoMemory>
+    ensures count { IfOk result (λ readers. vec_len readers.idle ≡ count) }
+    ensures race { IfOk result (λ readers.
+        All (λ m. arc_value m.value.race ≡ arc_value race.now) readers.idle.items) }
+{
+    let idle = waiting(alloc, race, count)?;
+    let out = Room {
+        count: 0,
+        parts: Vec::with_capacity(alloc, count)?,
+        boxes: Vec::with_capacity(alloc, count)?,
+    };
+    Ok(Readers { idle, out })
+}
+
+/// As many members that wait, each in its box, and have counted nothing. The number of each is its
+/// place.
 fn waiting<P: Part>(
     alloc: Global,
     race: &Arc<Race, Global>,
@@ -92,6 +115,8 @@ fn waiting<P: Part>(
     ensures count { IfOk result (λ members. vec_len members ≡ count) }
     ensures race { IfOk result (λ members.
         All (λ m. arc_value m.value.race ≡ arc_value race.now) members.items) }
+    ensures counts { IfOk result (λ members.
+        All (λ m. m.value.counts ≡ no_counts) members.items) }
     ensures numbers { IfOk result (λ members. (i : ℕ) (m : _) → i < vec_len members →
         (slice_index_or members.items i m).value.number ≡ i) }
 {
@@ -102,6 +127,7 @@ fn waiting<P: Part>(
             race,
             number,
             part: None,
+            counts: SweepCounts::none(),
             apart: [0; 8],
         };
         members.push(Box::new(alloc, member)?)?;
@@ -111,7 +137,8 @@ fn waiting<P: Part>(
 
 /// Closes a heap at a pause, and frees all that it has.
 ///
-/// Returns `NotOpen`, or `NotPaused` if its members are out: the handle has not changed.
+/// Returns `NotOpen`, or `NotPaused` if its members are out or readers read it: the handle has not
+/// changed.
 pub fn close_heap(alloc: Global, handle: &mut HeapHandle) -> Result<(), Refusal>
     ensures closed { OnOk result (handle.new.value ≡ None) }
     ensures paused { OnOk result (OfPaused handle.old.value (λ p. Unit {0})) }

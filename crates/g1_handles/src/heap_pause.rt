@@ -6,8 +6,9 @@ ghost use Rattle.g1_race.specs.declared.race.Race.{Race};
 ghost use Rattle.g1_race.specs.Members.{racer_view, sweeper_view, racer_log};
 ghost use Rattle.g1_handles.specs.Life.{OfPaused, OfRacing, IsFor, IsPauseOf, IsPausedWith};
 ghost use Rattle.g1_handles.specs.Life.{IsPauseRefused, AreOfHeap, AreLikeOf, AreFor, ComesIn};
-ghost use Rattle.g1_handles.specs.Life.{heap_race};
+ghost use Rattle.g1_handles.specs.Life.{heap_race, heap_counts, boxed_counts};
 ghost use Rattle.g1_handles.specs.Racing.{held_racers, held_sweepers, part_in, AreClosed, IsOf};
+ghost use Rattle.g1_handles.specs.Racing.{counts_of};
 
 use crate::any_handle::{AnyHandle, closed, into_box, opened};
 use crate::code::Refusal;
@@ -24,7 +25,7 @@ use std::alloc::Global;
 use std::sync::Arc;
 
 /// Brings the heap of a handle to a pause. All its racers and sweepers must be handed in, and their
-/// handles are closed. Takes no memory.
+/// handles are closed. What each sweeper has counted stays with the heap. Takes no memory.
 ///
 /// Returns `NotOpen`, also for a member's handle, `NotRacing`, `BadMembers` if there are not as
 /// many handles as the heap was opened for, or `OtherRace` for a member of another heap or one that
@@ -42,6 +43,8 @@ pub fn pause_heap(
     ensures paused { OnOk result (OfRacing handle.old.value (λ b. OfPaused handle.new.value
         (IsPausedWith (arc_value b.race) (held_racers racers.old) (held_sweepers sweepers.old)))) }
     ensures same { OnOk result (heap_race handle.new.value ≡ heap_race handle.old.value) }
+    ensures counts { OnOk result (heap_counts handle.new.value
+        ≡ map counts_of (held_sweepers sweepers.old)) }
     ensures members { OnOk result (IsFor handle.old.value (length racers.old) (length sweepers.old)
         × IsFor handle.new.value (length racers.old) (length sweepers.old)) }
     ensures like { OnOk result (AreLikeOf handle.old.value (held_racers racers.old)
@@ -75,6 +78,8 @@ fn pause_of(
     ensures paused { OnOk result (OfRacing (Some heap.old) (λ b. OfPaused (Some heap.new)
         (IsPausedWith (arc_value b.race) (held_racers racers.old) (held_sweepers sweepers.old)))) }
     ensures same { OnOk result (heap_race (Some heap.new) ≡ heap_race (Some heap.old)) }
+    ensures counts { OnOk result (heap_counts (Some heap.new)
+        ≡ map counts_of (held_sweepers sweepers.old)) }
     ensures members { OnOk result (IsFor (Some heap.old) (length racers.old) (length sweepers.old)
         × IsFor (Some heap.new) (length racers.old) (length sweepers.old)) }
     ensures like { OnOk result (AreLikeOf (Some heap.old) (held_racers racers.old)
@@ -129,6 +134,7 @@ fn take_in(
         race: _,
         racers: racing,
         sweepers: sweeping,
+        readers: _,
     } = under_way;
     gather(alloc, racers, &mut racing.parts, &mut racing.boxes);
     gather(alloc, sweepers, &mut sweeping.parts, &mut sweeping.boxes);
@@ -145,10 +151,12 @@ fn come_in(heap: RacingHeap, share: Arc<Race, Global>) -> (RacingHeap, ())
     ensures members { OfRacing (Some heap) (λ b.
         IsFor (Some result.0) b.racers.count b.sweepers.count) }
     ensures race { heap_race (Some result.0) ≡ heap_race (Some heap) }
+    ensures counts { OfRacing (Some heap) (λ b.
+        heap_counts (Some result.0) ≡ boxed_counts b.sweepers.boxes) }
 {
     match heap {
         RacingHeap::Racing(under_way) => (RacingHeap::Paused(halt(under_way, share)), ()),
-        RacingHeap::Paused(_) => unreachable!(),
+        RacingHeap::Paused(_) | RacingHeap::Read(_) => unreachable!(),
     }
 }
 
@@ -165,11 +173,13 @@ fn halt(under_way: UnderWay, share: Arc<Race, Global>) -> AtPause
     ensures members { (under_way.racers.count ≡ length result.pause.logs)
         × (under_way.sweepers.count ≡ result.pause.sweepers) }
     ensures race { result.race ≡ under_way.race }
+    ensures boxes { result.sweepers ≡ under_way.sweepers.boxes }
 {
     let UnderWay {
         race,
         racers,
         sweepers,
+        readers,
     } = under_way;
     let pause = Paused::of(share, racers.parts, sweepers.parts);
     AtPause {
@@ -177,12 +187,13 @@ fn halt(under_way: UnderWay, share: Arc<Race, Global>) -> AtPause
         pause,
         racers: racers.boxes,
         sweepers: sweepers.boxes,
+        readers,
     }
 }
 
 /// Takes the parts of these handles' members, and lets their boxes wait. The handles are closed
 /// then.
-fn gather<P: Part, H: AnyHandle<Value = Member<P>>>(
+pub(crate) fn gather<P: Part, H: AnyHandle<Value = Member<P>>>(
     alloc: Global,
     handles: &mut [H],
     parts: &mut Vec<P>,
@@ -197,6 +208,7 @@ fn gather<P: Part, H: AnyHandle<Value = Member<P>>>(
     ensures members { (race : Race) → All (IsOf race) (map H.value handles.old) →
         AreFor race (length handles.old) boxes.new parts.new }
     ensures parts { map Some parts.new.items ≡ map part_in (map H.value handles.old) }
+    ensures counts { boxed_counts boxes.new ≡ map counts_of (map H.value handles.old) }
 {
     parts.clear();
     boxes.clear();

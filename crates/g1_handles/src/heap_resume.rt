@@ -5,7 +5,9 @@ ghost use Rattle.std.specs.Arc.{arc_value};
 ghost use Rattle.g1_race.specs.declared.race.Race.{Race};
 ghost use Rattle.g1_handles.specs.Life.{OfPaused, OfRacing, GoesOn, LetsGo, IsLetGo, IsFor};
 ghost use Rattle.g1_handles.specs.Life.{IsGoingRefused, AreFor, heap_race};
+ghost use Rattle.g1_handles.specs.Life.{heap_counts, boxed_counts};
 ghost use Rattle.g1_handles.specs.Racing.{held_racers, held_sweepers, part_in, AreClosed, IsOf};
+ghost use Rattle.g1_handles.specs.Racing.{counts_of};
 
 use crate::any_handle::{AnyHandle, are_closed, closed, into_box, opened};
 use crate::code::Refusal;
@@ -19,7 +21,8 @@ use std::alloc::Global;
 
 /// Lets the heap of a handle go on, and puts its racers and its sweepers into handles that are
 /// closed. The race begins with the table that the pause left, and each racer has its log, which is
-/// empty if all was refined. Takes no memory.
+/// empty if all was refined. Each sweeper has what the one at its place had counted. Takes no
+/// memory.
 ///
 /// Returns `NotOpen`, `NotPaused`, `BadMembers` if there are not as many handles as the heap was
 /// opened for, or `AlreadyOpen` for a member's handle: nothing has changed.
@@ -33,6 +36,8 @@ pub fn resume_heap(
         OfRacing handle.new.value (λ b.
         GoesOn p (arc_value b.race) (held_racers racers.new) (held_sweepers sweepers.new)))) }
     ensures same { OnOk result (heap_race handle.new.value ≡ heap_race handle.old.value) }
+    ensures counts { OnOk result (map counts_of (held_sweepers sweepers.new)
+        ≡ heap_counts handle.old.value) }
     ensures members { OnOk result (IsFor handle.old.value (length racers.old) (length sweepers.old)
         × IsFor handle.new.value (length racers.old) (length sweepers.old)) }
     ensures closed { OnOk result (AreClosed (held_racers racers.old)
@@ -62,6 +67,8 @@ fn resume_of(
         OfRacing (Some heap.new) (λ b.
         GoesOn p (arc_value b.race) (held_racers racers.new) (held_sweepers sweepers.new)))) }
     ensures same { OnOk result (heap_race (Some heap.new) ≡ heap_race (Some heap.old)) }
+    ensures counts { OnOk result (map counts_of (held_sweepers sweepers.new)
+        ≡ heap_counts (Some heap.old)) }
     ensures members { OnOk result (IsFor (Some heap.old) (length racers.old) (length sweepers.old)
         × IsFor (Some heap.new) (length racers.old) (length sweepers.old)) }
     ensures closed { OnOk result (AreClosed (held_racers racers.old)
@@ -100,7 +107,7 @@ fn let_go(heap: RacingHeap, _nothing: ()) -> (RacingHeap, ())
 {
     match heap {
         RacingHeap::Paused(at) => (RacingHeap::Racing(begin(at)), ()),
-        RacingHeap::Racing(_) => unreachable!(),
+        RacingHeap::Read(_) | RacingHeap::Racing(_) => unreachable!(),
     }
 }
 
@@ -112,6 +119,7 @@ fn begin(at: AtPause) -> UnderWay
         pause,
         racers,
         sweepers,
+        readers,
     } = at;
     let (_share, racer_parts, sweeper_parts) = pause.resume();
     UnderWay {
@@ -126,6 +134,7 @@ fn begin(at: AtPause) -> UnderWay
             parts: sweeper_parts,
             boxes: sweepers,
         },
+        readers,
     }
 }
 
@@ -142,6 +151,8 @@ fn hand_out(under_way: &mut UnderWay, racers: &mut [RacerHandle], sweepers: &mut
         ≡ map Some under_way.old.racers.parts.items }
     ensures sweepers { map part_in (held_sweepers sweepers.new)
         ≡ map Some under_way.old.sweepers.parts.items }
+    ensures counts { map counts_of (held_sweepers sweepers.new)
+        ≡ boxed_counts under_way.old.sweepers.boxes }
     ensures race { All (IsOf (arc_value under_way.old.race)) (held_racers racers.new)
         × All (IsOf (arc_value under_way.old.race)) (held_sweepers sweepers.new) }
 {
@@ -149,19 +160,21 @@ fn hand_out(under_way: &mut UnderWay, racers: &mut [RacerHandle], sweepers: &mut
         race: _,
         racers: racing,
         sweepers: sweeping,
+        readers: _,
     } = under_way;
     hand_out_to(racers, &mut racing.boxes, &mut racing.parts);
     hand_out_to(sweepers, &mut sweeping.boxes, &mut sweeping.parts);
 }
 
 /// Gives each handle the part of its place, in the box of that place.
-fn hand_out_to<P: Part, H: AnyHandle<Value = Member<P>>>(
+pub(crate) fn hand_out_to<P: Part, H: AnyHandle<Value = Member<P>>>(
     handles: &mut [H],
     boxes: &mut Vec<Box<Member<P>>>,
     parts: &mut Vec<P>,
 )
     requires { (race : Race) × AreFor race (length handles.old) boxes.old parts.old }
     ensures parts { map part_in (map H.value handles.new) ≡ map Some parts.old.items }
+    ensures counts { map counts_of (map H.value handles.new) ≡ boxed_counts boxes.old }
     ensures race { (race : Race) → All (λ m. arc_value m.value.race ≡ race) boxes.old.items →
         All (IsOf race) (map H.value handles.new) }
     ensures capacity { (vec_capacity boxes.new ≡ vec_capacity boxes.old)

@@ -34,6 +34,7 @@ fn words_of(heap: &RacingHeap) -> *const u64
 {
     match heap {
         RacingHeap::Paused(at) => at.race.words(),
+        RacingHeap::Read(being_read) => being_read.race.words(),
         RacingHeap::Racing(under_way) => under_way.race.words(),
     }
 }

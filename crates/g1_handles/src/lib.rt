@@ -10,18 +10,22 @@
 //! - [`clearing`] and [`redirection`] may follow an evacuation.
 //! - [`copy`] copies a range of slots. [`queries`] and [`members`] read what is known, [`verify`]
 //!   checks it for a debug build, and [`code`] has the codes that calls return.
-//! - [`racing_heap`] is a heap whose stores race, at a pause or with its members out, and
-//!   [`heap_handle`] its handle. [`heap_open`] begins and ends it, [`heap_resume`] hands its
+//! - [`racing_heap`] is a heap whose stores race, at a pause, read there or with its members out,
+//!   and [`heap_handle`] its handle. [`heap_open`] begins and ends it, [`heap_resume`] hands its
 //!   members out, and [`heap_pause`] takes them in. Before anything changes, a pause checks that
 //!   it was given all members of the heap (`look`, `one_race`).
 //! - [`member`] is a racer or a sweeper with its race, and [`racer_handle`] and [`sweeper_handle`]
 //!   are their handles. [`race_store`], [`race_log`] and [`race_refine`] are the path of a card
-//!   while members are out. [`race_exchange`] has the stores that return what a slot referred to or
-//!   depend on it, [`race_batch`] several stores by one call, [`race_data`] a store of data, and
-//!   [`race_words`] the stores of any word that return or compare the one before.
+//!   while members are out, and [`sweep_counts`] tells what a sweeper has done. [`race_exchange`]
+//!   has the stores that return what a slot referred to or depend on it, [`race_batch`] several
+//!   stores by one call, [`race_data`] a store of data, and [`race_words`] the stores of any word
+//!   that return or compare the one before.
 //! - [`heap_queries`], [`heap_sets`], [`heap_drains`], [`heap_stores`], [`heap_copy`],
 //!   [`heap_evacuation`] and [`heap_words`] are the collector's calls at a pause, on an
 //!   [`at_pause::PausedHeap`].
+//! - [`heap_read`] lends a heap at a pause to readers, one for each thread that reads it, and
+//!   [`heap_read_end`] takes them in. [`reader_handle`] has their handles, and [`reader_queries`]
+//!   what they answer.
 //!
 //! A function `.._in` takes what is behind one handle, and gives the handle back with a result. A
 //! call over several handles is one function. The crate `g1_c` exports each, in the file of the
@@ -47,6 +51,8 @@ pub mod heap_handle;
 pub mod heap_open;
 pub mod heap_pause;
 pub mod heap_queries;
+pub mod heap_read;
+pub mod heap_read_end;
 pub mod heap_resume;
 pub mod heap_sets;
 pub mod heap_stores;
@@ -70,9 +76,12 @@ pub mod race_words;
 pub mod racer_handle;
 pub mod racing_heap;
 mod raw_box;
+pub mod reader_handle;
+pub mod reader_queries;
 pub mod redirection;
 pub mod refinement;
 pub mod sent;
 pub mod store;
+pub mod sweep_counts;
 pub mod sweeper_handle;
 pub mod verify;

@@ -1,50 +1,52 @@
-//! A member of a race: a racer or a sweeper, with its share of the race.
+//! A member of a race: a racer, a sweeper or a reader, with its share of the race.
 ghost use Rattle.std.specs.Prelude.{◌≡◌, Some, None};
 ghost use Rattle.std.specs.Option.{ForSome};
 ghost use Rattle.std.specs.Arc.{arc_value};
 ghost use Rattle.g1_race.specs.Members.{race_id};
 
-use g1_race::{Race, Racer, Sweeper};
+use crate::sweep_counts::SweepCounts;
+use g1_race::{Race, Racer, Reader, Sweeper};
 use std::alloc::Global;
 use std::sync::Arc;
 
-/// A racer, which stores, or a sweeper, which refines.
+/// A racer, which stores, a sweeper, which refines, or a reader, which reads a pause.
 pub trait Part: Drop {
     ghost use Rattle.atomic_table.specs.Seated.{TableId};
     ghost use Rattle.g1_race_words.specs.declared.view.Shape.{Shape};
-    ghost use Rattle.g1_race_words.specs.declared.view.View.{View};
 
     /// Its race.
     ghost of: { Self → TableId × Shape };
-
-    /// What it knows.
-    ghost view: { Self → View };
 }
 
 impl Part for Racer {
-    ghost use Rattle.g1_race.specs.Members.{racer_race, racer_view};
+    ghost use Rattle.g1_race.specs.Members.{racer_race};
 
     ghost of = { racer_race };
-
-    ghost view = { racer_view };
 }
 
 impl Part for Sweeper {
-    ghost use Rattle.g1_race.specs.Members.{sweeper_race, sweeper_view};
+    ghost use Rattle.g1_race.specs.Members.{sweeper_race};
 
     ghost of = { sweeper_race };
+}
 
-    ghost view = { sweeper_view };
+impl Part for Reader {
+    ghost use Rattle.g1_race.specs.Reading.{reader_race};
+
+    ghost of = { reader_race };
 }
 
 /// A member of a race.
 #[derive(Drop)]
 pub struct Member<P: Part> {
     pub(crate) race: Arc<Race, Global>,
-    // Its number among the racers or the sweepers of its race.
+    // Its number among the racers, the sweepers or the readers of its race.
     pub(crate) number: usize,
-    // None while its heap is at a pause: the member waits then, in no handle.
+    // None while it waits, in no handle: a racer and a sweeper at a pause, a reader but while it
+    // reads.
     pub(crate) part: Option<P>,
+    // What a sweeper has done. Other members count nothing.
+    pub(crate) counts: SweepCounts,
     // Padding of a cache line: boxes of racers lie side by side, and a store writes the end of its
     // racer.
     pub(crate) apart: [u64; 8],
@@ -55,6 +57,7 @@ impl<P: Part> Member<P> {
     /// Takes its part, and leaves it waiting.
     pub(crate) fn park(&mut self) -> Option<P>
         ensures part { result ≡ self.old.part }
+        ensures counts { self.new.counts ≡ self.old.counts }
         ensures race { arc_value self.new.race ≡ arc_value self.old.race }
     {
         self.part.take()
@@ -64,6 +67,7 @@ impl<P: Part> Member<P> {
     pub(crate) fn seat(&mut self, part: P)
         requires { P.of part ≡ race_id (arc_value self.old.race) }
         ensures part { self.new.part ≡ Some part }
+        ensures counts { self.new.counts ≡ self.old.counts }
         ensures race { arc_value self.new.race ≡ arc_value self.old.race }
     {
         self.part = Some(part);

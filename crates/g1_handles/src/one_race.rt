@@ -18,8 +18,7 @@ use g1_race::Race;
 use std::alloc::Global;
 use std::sync::Arc;
 
-/// Returns a share of this race, if these members are all those that it has, each given once, and
-/// it has no owner but the given one and its members.
+/// Returns a share of this race, if these members are all those that it has, each given once.
 pub(crate) fn share_of_race(
     alloc: Global,
     race: &Arc<Race, Global>,
@@ -38,14 +37,14 @@ pub(crate) fn share_of_race(
 }
 
 /// Whether each of these members is of the race of a share, and none is given twice.
-fn are_of<P: Part, H: AnyHandle<Value = Member<P>>>(
+pub(crate) fn are_of<P: Part, H: AnyHandle<Value = Member<P>>>(
     alloc: Global,
     share: &Arc<Race, Global>,
     handles: &mut [H],
 ) -> bool
     ensures { map H.value handles.new ≡ map H.value handles.old }
 {
-    let mut given = [false; 64];
+    let mut given = [false; 128];
     for i in 0..handles.len() {
         let Some(number) = number_in(alloc, share, &mut handles[i]) else {
             return false;
@@ -58,8 +57,8 @@ fn are_of<P: Part, H: AnyHandle<Value = Member<P>>>(
     true
 }
 
-/// Returns the number of a handle's member among the racers or the sweepers, if it is of the race
-/// of a share.
+/// Returns the number of a handle's member among those of its kind, if it is of the race of a
+/// share.
 fn number_in<P: Part, H: AnyHandle<Value = Member<P>>>(
     alloc: Global,
     share: &Arc<Race, Global>,
@@ -73,11 +72,14 @@ fn number_in<P: Part, H: AnyHandle<Value = Member<P>>>(
     number
 }
 
-/// Whether a member's race is that of a share, and has no owners but the share and its members.
+/// Whether a member's race is that of a share.
 fn is_same(race: &Arc<Race, Global>, share: &Arc<Race, Global>) -> bool {
-    let owners = Arc::strong_count(race);
+    let owners = Arc::strong_count(share);
+    if Arc::strong_count(race) != owners {
+        return false;
+    }
     let Ok(_one_more) = Arc::try_clone(share) else {
         return false;
     };
-    owners - 1 == race.members() && Arc::strong_count(race) - 1 == owners
+    Arc::strong_count(race) - 1 == owners
 }

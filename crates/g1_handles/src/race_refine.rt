@@ -11,8 +11,8 @@ use crate::code::{DONE, Refusal};
 use crate::sweeper_handle::SweeperHandle;
 use std::alloc::Global;
 
-/// Refines a card by the sweeper of a handle, which stays open. Returns 0, or the word of
-/// `NotOpen` or `NoCard`: nothing has changed.
+/// Refines a card by the sweeper of a handle, which stays open and counts what it did. Returns 0,
+/// or the word of `NotOpen` or `NoCard`: nothing has changed.
 pub fn refine_in(member: SweeperHandle, words: (Global, u32)) -> (SweeperHandle, u32)
     ensures refined { result.1 ≡ 0
         → OfSweeper member.value (λ a. OfSweeper result.0.value (λ b. Sweeps a words.1 b)) }
@@ -31,8 +31,7 @@ pub fn refine_in(member: SweeperHandle, words: (Global, u32)) -> (SweeperHandle,
     let Some(card) = inside.race.layout().card(words.1) else {
         return (opened(member), Refusal::NoCard.word());
     };
-    let Ok(()) = sweeper.refine(&inside.race, card) else {
-        unreachable!()
-    };
+    let swept = sweeper.sweep(&inside.race, card);
+    inside.counts = inside.counts.and(swept);
     (opened(member), DONE)
 }

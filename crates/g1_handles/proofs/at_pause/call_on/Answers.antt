@@ -1,5 +1,6 @@
 -- The call keeps what the boxes and the share are tied to.
 use Rattle.std.proofs.Common.{refl, sym, ap, ◌∙◌}
+use Rattle.g1_race_words.specs.declared.view.Shape.{Shape}
 use Rattle.g1_handles.specs.AtPause.{IsKept}
 use Rattle.g1_handles.proofs.at_pause.call_on.Goals as goal
 
@@ -13,6 +14,8 @@ invariant_of-at g c =
       laid = at.laid ∙ sym kept.layout;
       racer_boxes = at.racer_boxes ∙ sym kept.racers;
       sweeper_boxes = at.sweeper_boxes ∙ sym kept.sweepers;
+      reader_boxes = at.reader_boxes ∙ sym (ap (λ (s : Shape). s.members) kept.shape);
       racers_wait = at.racers_wait;
       sweepers_wait = at.sweepers_wait;
+      readers_wait = at.readers_wait;
     }

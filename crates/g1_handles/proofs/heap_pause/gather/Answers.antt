@@ -7,7 +7,7 @@ use Rattle.std.proofs.lemmas.List.{length-set, get_or-set_other}
 use Rattle.std.proofs.lemmas.List.Elements.{All-push, All-map, AllWithin-more_set, All-from_all_within, AllWithin-upto}
 use Rattle.g1_race.specs.Members.{race_id}
 use Rattle.g1_handles.specs.declared.member.Member.{Member}
-use Rattle.g1_handles.specs.Racing.{part_in, IsOf}
+use Rattle.g1_handles.specs.Racing.{counts_of, part_in, IsOf}
 use Rattle.g1_handles.proofs.MemberLemmas.{part_is_of, none_is_some}
 use Rattle.g1_handles.proofs.Rows.{at_handle, view_next}
 use Rattle.g1_handles.proofs.heap_pause.gather.Goals as goal
@@ -42,6 +42,8 @@ loop-i-preserved g c =
           let Q : Box (Member g.row.P.Denot g.P.Part) Global → Type 0 = λ m. arc_value m.value.race ≡ race in
           let of : arc_value member.race ≡ race = subst (IsOf race) had (at_handle value (IsOf race) old n h below all) in
           subst (All Q) (sym c.push_reserved-in-loop-i.ensures.items) (All-push Q _ _ (i.waiting race all) (c.park.ensures.race ∙ of));
+      counted = view_next value (λ (m : Box (Member g.row.P.Denot g.P.Part) Global). m.value.counts) counts_of _ _ _ old n h below c.push_reserved-in-loop-i.ensures.items i.counted
+          (c.park.ensures.counts ∙ sym (ap counts_of had));
       given = view_next value (λ (p : g.row.P.Denot). Some p) part_in _ _ _ old n h below c.push_reserved.ensures.items i.given (sym (ap part_in had ∙ part));
     }
 

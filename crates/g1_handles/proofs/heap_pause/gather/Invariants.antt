@@ -5,7 +5,8 @@ use Rattle.std.specs.List.{AllWithin}
 use Rattle.std.specs.Arc.{arc_value}
 use Rattle.g1_race.specs.declared.race.Race.{Race}
 use Rattle.g1_race.specs.Members.{race_id}
-use Rattle.g1_handles.specs.Racing.{part_in, IsOf}
+use Rattle.g1_handles.specs.Life.{boxed_counts}
+use Rattle.g1_handles.specs.Racing.{counts_of, part_in, IsOf}
 use Rattle.g1_handles.proofs.heap_pause.gather.Given as goal
 
 abbrev pub invariant-loop-i : goal.invariant-loop-i
@@ -19,5 +20,6 @@ invariant-loop-i g l = record {
   rest : (k : ℕ) (d : g.row.H.Denot) → l.i ≤ k → slice_index_or l.handles k d ≡ slice_index_or l.fn.handles k d;
   of : (race : Race) → All (IsOf race) (map g.H.AnyHandle.value l.fn.handles) → All (λ part. g.P.Part.of part ≡ race_id race) l.parts.items;
   waiting : (race : Race) → All (IsOf race) (map g.H.AnyHandle.value l.fn.handles) → All (λ m. arc_value m.value.race ≡ race) l.boxes.items;
+  counted : boxed_counts l.boxes ≡ map counts_of (map g.H.AnyHandle.value (take l.i l.fn.handles));
   given : map (λ part. Some part) l.parts.items ≡ map part_in (map g.H.AnyHandle.value (take l.i l.fn.handles));
 }

@@ -1,6 +1,6 @@
 -- A look at the members finds a handle with none, or a member of another race.
-use Rattle.std.proofs.Common.{◌≡◌, ◌⊎◌, inl, inr, List, sym, subst}
-use Rattle.std.specs.Prelude.{Result, Ok, Err, IfErr, IsErrAnd, Option, Some, Any}
+use Rattle.std.proofs.Common.{◌≡◌, ◌⊎◌, inl, inr, List}
+use Rattle.std.specs.Prelude.{Option, Some, Any}
 use Rattle.g1_handles.specs.declared.code.Refusal.{Refusal}
 use Rattle.g1_handles.specs.declared.code.Refusal.TheVariants as refusal
 use Rattle.g1_handles.specs.declared.racing_heap.RacingHeap.{RacingHeap}
@@ -8,13 +8,8 @@ use Rattle.g1_handles.specs.Own.{RacerMember, SweeperMember}
 use Rattle.g1_handles.specs.Refusals.{SaysNoMember}
 use Rattle.g1_handles.specs.Life.{IsPauseRefused}
 use Rattle.g1_handles.specs.Racing.{held_racers, held_sweepers}
+use Rattle.g1_handles.proofs.MemberLemmas.{passed}
 use Rattle.g1_handles.proofs.heap_pause.pause_of.Goals as goal
-
--- what is so of a look's refusal is so of the one that is passed on
-passed : {A B : Type 0} (Q P : Refusal → Type 0) (looked : Result A Refusal) (answer : Result B Refusal) (e : Refusal) → looked ≡ Err e → IfErr looked Q
-    → IsErrAnd answer (λ x. x ≡ e) → (Q e → P e) → IfErr answer P
-passed Q P looked (Ok b) e is why same so = tt
-passed Q P looked (Err x) e is why same so = subst P (sym same) (so (subst (λ r. IfErr r Q) is why))
 
 of_racers : (h : Option RacingHeap) (rs : List (Option RacerMember)) (ss : List (Option SweeperMember)) (r : Refusal)
     → (r ≡ refusal.OtherRace) ⊎ Any (λ m. SaysNoMember m r) rs → IsPauseRefused h rs ss r

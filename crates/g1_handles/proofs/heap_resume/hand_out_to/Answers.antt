@@ -5,8 +5,8 @@ use Rattle.std.specs.Arc.{arc_value}
 use Rattle.std.proofs.lemmas.List.{length-set}
 use Rattle.g1_race.specs.Members.{race_id}
 use Rattle.g1_handles.specs.declared.member.Member.{Member}
-use Rattle.g1_handles.specs.Racing.{part_in, IsOf}
-use Rattle.g1_handles.proofs.Seating.{WaitedAs, popped, still, placed, all_found, all_of}
+use Rattle.g1_handles.specs.Racing.{counts_of, part_in, IsOf}
+use Rattle.g1_handles.proofs.Seating.{WaitedAs, popped, still, placed, all_alike, all_found, all_of}
 use Rattle.g1_handles.proofs.heap_resume.hand_out_to.Goals as goal
 
 pub seat-requires : goal.seat-requires
@@ -56,6 +56,9 @@ loop-left-preserved g c =
       waited = λ k d b from below. placed (λ (y : g.row.H.Denot) j. WaitedAs (slice_index_or boxes j b).value (value y)) hs n k h d some here from (subst (λ l. k < l) (length-set hs (n - 1) h) below)
           (λ race is. subst (IsOf race) (sym holds) (seated.race ∙ (ap (λ (x : Member g.row.P.Denot g.P.Part). arc_value x.race) c.deref_mut.ensures.value ∙ (ap (λ (y : Box (Member g.row.P.Denot g.P.Part) Global). arc_value y.value.race) (popped boxes c.loop-left.boxes.items n _ m b some i.boxes i.box_rest (c.in-Some.ensures.value b (omega (arith, i.boxes)))) ∙ is))))
           (λ after still_below. i.waited k d b after still_below);
+      counted = λ k d b from below. placed (λ (y : g.row.H.Denot) j. counts_of (value y) ≡ (slice_index_or boxes j b).value.counts) hs n k h d some here from (subst (λ l. k < l) (length-set hs (n - 1) h) below)
+          (ap counts_of holds ∙ (seated.counts ∙ (ap (λ (x : Member g.row.P.Denot g.P.Part). x.counts) c.deref_mut.ensures.value ∙ ap (λ (y : Box (Member g.row.P.Denot g.P.Part) Global). y.value.counts) (popped boxes c.loop-left.boxes.items n _ m b some i.boxes i.box_rest (c.in-Some.ensures.value b (omega (arith, i.boxes)))))))
+          (λ after still_below. i.counted k d b after still_below);
     }
 
 pub returns-clause-parts : goal.returns-clause-parts
@@ -64,6 +67,13 @@ returns-clause-parts g c =
     let for = c.requires.1 in
     all_found g.H.AnyHandle.value part_in c.loop-left.handles c.args.parts.now.items (omega (arith, i.sized, for.part_count, c.args.parts.now.ok.0))
     (λ k d p below. i.given k d p (omega (arith, c.loop-left-test.false)) below)
+
+pub returns-clause-counts : goal.returns-clause-counts
+returns-clause-counts g c =
+    let i = c.loop-left.invariant in
+    let for = c.requires.1 in
+    all_alike g.H.AnyHandle.value counts_of (λ (m : Box (Member g.row.P.Denot g.P.Part) Global). m.value.counts) c.loop-left.handles c.args.boxes.now.items (omega (arith, i.sized, for.box_count, c.args.boxes.now.ok.0))
+    (λ k d m below. i.counted k d m (omega (arith, c.loop-left-test.false)) below)
 
 pub returns-clause-race : goal.returns-clause-race
 returns-clause-race g c race waiting =

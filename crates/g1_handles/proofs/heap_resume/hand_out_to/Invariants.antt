@@ -3,7 +3,7 @@ use Rattle.std.proofs.Common.{◌≡◌, ◌<◌, ◌≤◌, ℕ, Some, Box, len
 use Rattle.std.specs.Prelude.{vec_capacity}
 use Rattle.std.specs.Global.{Global}
 use Rattle.g1_handles.specs.declared.member.Member.{Member}
-use Rattle.g1_handles.specs.Racing.{part_in}
+use Rattle.g1_handles.specs.Racing.{counts_of, part_in}
 use Rattle.g1_handles.proofs.Seating.{WaitedAs}
 use Rattle.g1_handles.proofs.heap_resume.hand_out_to.Given as goal
 
@@ -21,6 +21,8 @@ invariant-loop-left g l = record {
       → part_in (g.H.AnyHandle.value (slice_index_or l.handles k d)) ≡ Some (slice_index_or l.fn.parts.items k part);
   waited : (k : ℕ) (d : g.row.H.Denot) (m : Box (Member g.row.P.Denot g.P.Part) Global) → l.left ≤ k → k < length l.handles
       → WaitedAs (slice_index_or l.fn.boxes.items k m).value (g.H.AnyHandle.value (slice_index_or l.handles k d));
+  counted : (k : ℕ) (d : g.row.H.Denot) (m : Box (Member g.row.P.Denot g.P.Part) Global) → l.left ≤ k → k < length l.handles
+      → counts_of (g.H.AnyHandle.value (slice_index_or l.handles k d)) ≡ (slice_index_or l.fn.boxes.items k m).value.counts;
 }
 
 abbrev pub decreases-loop-left : goal.decreases-loop-left

@@ -1,10 +1,7 @@
 -- The race goes on as the pause left it, with the members that are handed out.
-use Rattle.std.proofs.Common.{◌≡◌, ◌<◌, List, Some, None, All, map, sym, ◌∙◌, subst, refl}
+use Rattle.std.proofs.Common.{◌≡◌, List, Some, None, All, map, sym, ap, ◌∙◌, subst, refl}
 use Rattle.std.specs.Prelude.{Option, IsSomeAnd}
 use Rattle.std.specs.Arc.{arc_value}
-use Rattle.std.proofs.lemmas.List.{length-map}
-use Rattle.std.proofs.Math.ListN.{get_or-map}
-use Rattle.std.proofs.lemmas.List.Elements.{All-map}
 use Rattle.g1_race_words.specs.Begin.{Start}
 use Rattle.g1_race.specs.declared.race.Race.{Race}
 use Rattle.g1_race.specs.Members.{racer_log, IsNewRacer, IsNewSweeper}
@@ -14,17 +11,10 @@ use Rattle.g1_handles.specs.declared.racing_heap.UnderWay.{UnderWay}
 use Rattle.g1_handles.specs.declared.racing_heap.RacingHeap.{RacingHeap}
 use Rattle.g1_handles.specs.declared.racing_heap.RacingHeap.TheVariants as heap
 use Rattle.g1_handles.specs.Own.{RacerMember, SweeperMember}
-use Rattle.g1_handles.specs.Life.{OfPaused, GoesOn, LetsGo, IsLetGo, IsNewRacing, IsNewSweeping, log_of}
+use Rattle.g1_handles.specs.Life.{OfPaused, GoesOn, LetsGo, IsLetGo, IsNewRacing, IsNewSweeping, boxed_counts, heap_counts, log_of}
 use Rattle.g1_handles.specs.Racing.{held_racers, held_sweepers, part_in, IsOf}
-use Rattle.g1_handles.proofs.MemberLemmas.{seen_alike}
+use Rattle.g1_handles.proofs.MemberLemmas.{found, seen_alike}
 use Rattle.g1_handles.proofs.heap_resume.resume_of.Goals as goal
-
--- what is so of each of a list is so of what a function finds in each of another, if it finds that list
-found : {A T : Type 0} (f : A → Option T) (P : T → Type 0) (xs : List A) (ys : List T) → map f xs ≡ map (λ y. Some y) ys → All P ys
-    → All (λ x. IsSomeAnd (f x) P) xs
-found {A} {T} f P xs ys e all k d below =
-    let has : All (λ o. IsSomeAnd o P) (map f xs) = subst (All (λ o. IsSomeAnd o P)) (sym e) (All-map (λ o. IsSomeAnd o P) (λ (y : T). Some y) ys all) in
-    subst (λ o. IsSomeAnd o P) (get_or-map f xs k d) (has k (f d) (subst (λ n. k < n) (sym (length-map xs f)) below))
 
 also : {A : Type 0} (P : A → Type 0) (Q : Type 0) (o : Option A) → IsSomeAnd o P → Q → IsSomeAnd o (λ x. Q × P x)
 also P Q None is q = is
@@ -59,6 +49,13 @@ let_go old new a b go was is = subst (λ (h : RacingHeap). IsLetGo h (heap.Racin
 on_pause : (h : RacingHeap) (a : AtPause) (race : Race) (rs : List (Option RacerMember)) (ss : List (Option SweeperMember)) → h ≡ heap.Paused a → GoesOn a.pause race rs ss
     → OfPaused (Some h) (λ p. GoesOn p race rs ss)
 on_pause h a race rs ss e on = subst (λ (h : RacingHeap). OfPaused (Some h) (λ p. GoesOn p race rs ss)) (sym e) on
+
+pub returns-clause-counts : goal.returns-clause-counts
+returns-clause-counts c =
+    let a = c.in-Paused.at in
+    let b = c.in-Racing.under_way in
+    let go = let_go _ _ a b c.replace_with.ensures c.in-Paused.is c.in-Racing.is in
+    c.hand_out.ensures.counts ∙ (ap boxed_counts go.waited ∙ sym (ap (λ (h : RacingHeap). heap_counts (Some h)) c.in-Paused.is))
 
 pub returns-clause-resumed : goal.returns-clause-resumed
 returns-clause-resumed c =

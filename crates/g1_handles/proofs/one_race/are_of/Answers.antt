@@ -8,8 +8,8 @@ pub returns-in_default : goal.returns-in_default
 returns-in_default g c =
     map-set_same g.H.AnyHandle.value c.loop-i.handles c.loop-i.i _ c.index-handles-i.result c.number_in.ensures ∙ c.loop-i.invariant.same
 
-pub returns-then-number-ge64 : goal.returns-then-number-ge64
-returns-then-number-ge64 g c =
+pub returns-then-number-ge128 : goal.returns-then-number-ge128
+returns-then-number-ge128 g c =
     map-set_same g.H.AnyHandle.value c.loop-i.handles c.loop-i.i _ c.index-handles-i.result c.number_in.ensures ∙ c.loop-i.invariant.same
 
 pub loop-i-preserved : goal.loop-i-preserved

@@ -15,4 +15,4 @@ returns-in_default-part-clause-why c =
     (refusal.NotOpen, c.word-in_default-part.ensures.number, (refl, no_part c.in-Some.ensures c.deref_mut.ensures.value c.in_default-part.is))
 
 pub returns-in_default-part-clause-refused : goal.returns-in_default-part-clause-refused
-returns-in_default-part-clause-refused c = handed_back c.opened.ensures c.in-Some.ensures c.deref_mut.ensures.value refl refl refl refl
+returns-in_default-part-clause-refused c = handed_back c.opened.ensures c.in-Some.ensures c.deref_mut.ensures.value refl refl refl refl refl

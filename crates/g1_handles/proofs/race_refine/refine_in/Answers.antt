@@ -20,7 +20,7 @@ returns-in_default-part-clause-why c few =
     (refusal.NotOpen, c.word-in_default-part.ensures.number, inl (refl, no_part c.in-Some.ensures c.deref_mut-inside.ensures.value c.in_default-part.is))
 
 pub returns-in_default-part-clause-refused : goal.returns-in_default-part-clause-refused
-returns-in_default-part-clause-refused c few = handed_back c.opened.ensures c.in-Some.ensures c.deref_mut-inside.ensures.value refl refl refl refl
+returns-in_default-part-clause-refused c few = handed_back c.opened.ensures c.in-Some.ensures c.deref_mut-inside.ensures.value refl refl refl refl refl
 
 pub returns-in_default-card-clause-why : goal.returns-in_default-card-clause-why
 returns-in_default-card-clause-why c few =
@@ -37,4 +37,4 @@ returns-in_default-card-clause-why c few =
 
 pub returns-in_default-card-clause-refused : goal.returns-in_default-card-clause-refused
 returns-in_default-card-clause-refused c few =
-    handed_back c.opened-in_default-card.ensures c.in-Some.ensures c.deref_mut-inside.ensures.value refl refl (sym c.in-Some-part.is) refl
+    handed_back c.opened-in_default-card.ensures c.in-Some.ensures c.deref_mut-inside.ensures.value refl refl refl (sym c.in-Some-part.is) refl

@@ -5,8 +5,8 @@ use Rattle.g1_handles.proofs.MemberLemmas.{on_err, handed_back}
 use Rattle.g1_handles.proofs.race_words.swap_word_in.Goals as goal
 
 pub returns-in_default-part-clause-refused : goal.returns-in_default-part-clause-refused
-returns-in_default-part-clause-refused c = handed_back c.opened.ensures c.in-Some.ensures c.deref_mut-inside.ensures.value refl refl refl refl
+returns-in_default-part-clause-refused c = handed_back c.opened.ensures c.in-Some.ensures c.deref_mut-inside.ensures.value refl refl refl refl refl
 
 pub returns-clause-refused : goal.returns-clause-refused
 returns-clause-refused c =
-    on_err c.swap_word_by-answer.result (λ e. handed_back c.opened-2.ensures c.in-Some.ensures c.deref_mut-inside.ensures.value refl refl (ap (λ (r : Racer). Some r) e ∙ sym c.in-Some-part.is) refl) c.swap_word_by-answer.ensures.refused
+    on_err c.swap_word_by-answer.result (λ e. handed_back c.opened-2.ensures c.in-Some.ensures c.deref_mut-inside.ensures.value refl refl refl (ap (λ (r : Racer). Some r) e ∙ sym c.in-Some-part.is) refl) c.swap_word_by-answer.ensures.refused

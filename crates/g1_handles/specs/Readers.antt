@@ -1,0 +1,142 @@
+-- Several threads that read one pause, each by a reader.
+use Rattle.std.specs.Prelude.{◌≡◌, ◌⊎◌, ◌<◌, ◌≤◌, ℕ, Bool, List, length, All, Any}
+use Rattle.std.specs.Prelude.{Option, Some, None, IsSomeAnd, IsTrue, ◌↔◌}
+use Rattle.std.specs.Arc.{arc_value}
+use Rattle.std.specs.FinSet as set
+use mathlib.Core.Option.{some}
+use lib.ListN.{get_elem?}
+use Rattle.g1_layout.specs.Shape.{slot_count, card_count}
+use Rattle.g1_core.specs.Table.{Table, target_of, IsRecorded}
+use Rattle.g1_race_words.specs.Rule.{IsWord}
+use Rattle.g1_race.specs.declared.race.Race.{Race}
+use Rattle.g1_race.specs.Members.{race_layout, race_shape}
+use Rattle.g1_race.specs.Over.{Halt, halted, start_at}
+use Rattle.g1_race.specs.Reading.{Known, known, table_read, IsReaderOf, IsNextMember}
+use Rattle.g1_handles.specs.declared.code.Refusal.{Refusal}
+use Rattle.g1_handles.specs.declared.code.Refusal.TheVariants as refusal
+use Rattle.g1_handles.specs.declared.racing_heap.AtPause.{AtPause}
+use Rattle.g1_handles.specs.declared.racing_heap.BeingRead.{BeingRead}
+use Rattle.g1_handles.specs.declared.racing_heap.RacingHeap.{RacingHeap}
+use Rattle.g1_handles.specs.declared.racing_heap.RacingHeap.TheVariants as heap
+use Rattle.g1_handles.specs.Own.{ReaderMember}
+use Rattle.g1_handles.specs.Life.{OfPaused, OfRead, IsRacing, SaysNoHeap, SaysNotPaused, AreFor}
+use Rattle.g1_handles.specs.Racing.{AreClosed, IsAmong}
+use Rattle.g1_handles.specs.Refusals.{SaysNoMember}
+
+-- a reader with its race
+pub record ReaderAt : Type 0 where
+  pub race : Race
+  pub reader : Known
+
+abbrev pub reader_at : Race → Known → ReaderAt
+reader_at race reader = record { race = race; reader = reader }
+
+-- the handle has a reader, and it is so of it
+abbrev pub OfReader : Option ReaderMember → (ReaderAt → Type 0) → Type 0
+OfReader None P = ⊥
+OfReader (Some m) P = IsSomeAnd m.part (λ r. P (reader_at (arc_value m.race) r))
+
+-- the table that a reader reads
+abbrev pub table_of_reader : ReaderAt → Table
+table_of_reader a = table_read a.race a.reader
+
+-- a reader of this race at this pause, which reads the table of the pause
+pub record IsReaderAt (race : Race) (p : Halt) (a : ReaderAt) : Type 0 where
+  pub of : a.race ≡ race
+  pub knows : a.reader ≡ known p.table_id (start_at p)
+  pub table : table_of_reader a ≡ halted p
+
+-- the handles are of readers of this race at this pause
+abbrev pub AreReadersAt : Race → Halt → List (Option ReaderMember) → Type 0
+AreReadersAt race p readers = All (λ m. OfReader m (IsReaderAt race p)) readers
+
+-- a heap at a pause, and the same while readers read it
+pub record IsLent (a : AtPause) (b : BeingRead) : Type 0 where
+  pub race : b.race ≡ a.race
+  pub pause : b.reading.pause ≡ a.pause
+  pub racers : b.racers ≡ a.racers
+  pub sweepers : b.sweepers ≡ a.sweepers
+
+-- the one handle has a heap at a pause, and the other the same heap, which readers read
+abbrev pub IsLentHeap : Option RacingHeap → Option RacingHeap → Type 0
+IsLentHeap None read = ⊥
+IsLentHeap (Some (heap.Paused a)) read = OfRead read (λ b. IsLent a b)
+IsLentHeap (Some (heap.Read b)) read = ⊥
+IsLentHeap (Some (heap.Racing b)) read = ⊥
+
+-- the heap is read by this many readers, which are not in their handles
+pub record AreOut (count : ℕ) (b : BeingRead) : Type 0 where
+  pub counted : b.readers.out.count ≡ count
+  pub boxes : AreFor (arc_value b.race) count b.readers.out.boxes b.readers.out.parts
+  pub readers : All (IsReaderOf b.reading) b.readers.out.parts.items
+
+-- this many readers read the heap
+abbrev pub IsReadBy : Option RacingHeap → ℕ → Type 0
+IsReadBy h count = OfRead h (λ b. count ≡ b.readers.out.count)
+
+-- the handles are of readers that read the heap
+abbrev pub AreReadersOf : Option RacingHeap → List (Option ReaderMember) → Type 0
+AreReadersOf h readers = OfRead h (λ b. AreReadersAt (arc_value b.race) b.reading.pause readers)
+
+-- these readers are of races with as many members as that of the heap
+abbrev pub AreReadersLike : Option RacingHeap → List (Option ReaderMember) → Type 0
+AreReadersLike h readers =
+    OfRead h (λ b. All (IsAmong (race_shape (arc_value b.race)).members) readers)
+
+-- the heap of the first handle is to be read by readers in these handles
+abbrev pub IsReadRefused : Option RacingHeap → List (Option ReaderMember) → Refusal → Type 0
+IsReadRefused h readers r =
+    SaysNoHeap h r ⊎ SaysNotPaused h r
+    ⊎ ((r ≡ refusal.BadMembers) × OfPaused h (λ p. p.shape.members < length readers))
+    ⊎ ((r ≡ refusal.AlreadyOpen) × (AreClosed readers → ⊥))
+
+-- the readers of these handles are to end their reading of the heap; that they are of its race,
+-- each given once, is found out by counts, of which no proof knows
+abbrev pub IsReadEndRefused : Option RacingHeap → List (Option ReaderMember) → Refusal → Type 0
+IsReadEndRefused h readers r =
+    SaysNoHeap h r
+    ⊎ ((r ≡ refusal.NotPaused) × IsRacing h)
+    ⊎ ((r ≡ refusal.BadMembers) × (IsReadBy h (length readers) → ⊥))
+    ⊎ Any (λ m. SaysNoMember m r) readers
+    ⊎ (r ≡ refusal.OtherRace)
+
+-- the slot refers to the target
+abbrev pub ReadsTarget : ReaderAt → ℕ → Option ℕ → Type 0
+ReadsTarget a slot target = target ≡ target_of (table_of_reader a) slot
+
+-- the slot has this word
+abbrev pub ReadsWord : ReaderAt → ℕ → ℕ → Type 0
+ReadsWord a slot word =
+    (get_elem? a.reader.start.words slot ≡ some word) × IsWord a.reader.start.shape word
+
+-- the answer is whether the card is pending
+abbrev pub ReadsPending : ReaderAt → ℕ → Bool → Type 0
+ReadsPending a card answer = answer ≡ set.contains (table_of_reader a).pending card
+
+-- the answer is whether the card is recorded for the region
+abbrev pub ReadsPair : ReaderAt → ℕ → ℕ → Bool → Type 0
+ReadsPair a card region answer = IsTrue answer ↔ IsRecorded (table_of_reader a) card region
+
+-- this is the least card from the one on that is recorded for the region, if there is one
+abbrev pub ReadsNext : ReaderAt → ℕ → ℕ → Option ℕ → Type 0
+ReadsNext a region from next = IsNextMember (table_of_reader a) region from next
+
+-- a call by the reader of a handle, which is refused of the reader for this
+abbrev pub IsReaderRefused : Option ReaderMember → (ReaderAt → Refusal → Type 0) → Refusal → Type 0
+IsReaderRefused m Why r = SaysNoMember m r ⊎ OfReader m (λ a. Why a r)
+
+-- the heap has no slot of this number
+abbrev pub LacksSlot : ℕ → ReaderAt → Refusal → Type 0
+LacksSlot slot a r = (r ≡ refusal.NoSlot) × (slot_count (race_layout a.race) ≤ slot)
+
+-- the heap has no card of this number
+abbrev pub LacksCard : ℕ → ReaderAt → Refusal → Type 0
+LacksCard card a r = (r ≡ refusal.NoCard) × (card_count (race_layout a.race) ≤ card)
+
+-- the heap has no region of this number
+abbrev pub LacksRegion : ℕ → ReaderAt → Refusal → Type 0
+LacksRegion region a r = (r ≡ refusal.NoRegion) × ((race_layout a.race).regions ≤ region)
+
+-- the heap lacks the card or the region
+abbrev pub LacksPair : ℕ → ℕ → ReaderAt → Refusal → Type 0
+LacksPair card region a r = LacksCard card a r ⊎ LacksRegion region a r
