@@ -168,11 +168,12 @@ enum g1_code {
     G1_STILL_REFERENCED = 20, /* a clear, while a slot outside the region refers into it; or
                                  g1_heap_forget, while one inside refers out of it */
     G1_LOG_FULL = 22,         /* the racer's log has G1_LOG cards: take it, and store again */
-    G1_BAD_MEMBERS = 23,      /* not as many racers or sweepers as the heap has, or as a heap may
-                                 have */
-    G1_OTHER_RACE = 24,       /* the handles are not those of all members of one heap, each given
-                                 once */
-    G1_NOT_PAUSED = 25,       /* the members of the heap race, so it is at no pause */
+    G1_BAD_MEMBERS = 23,      /* not as many racers, sweepers or readers as the heap has, or as a
+                                 heap may have */
+    G1_OTHER_RACE = 24,       /* the handles are not those of all members, or all readers, of one
+                                 heap, each given once */
+    G1_NOT_PAUSED = 25,       /* the members of the heap race, so it is at no pause, or readers read
+                                 it */
     G1_NOT_RACING = 26,       /* the heap is at a pause already */
     G1_BAD_WORD = 27          /* a word of data is less than G1_DATA, or a word is none that a slot
                                  may have */
@@ -205,7 +206,7 @@ static inline const char *g1_code_text(uint32_t code) {
     case G1_LOG_FULL: return "the racer's log is full";
     case G1_BAD_MEMBERS: return "the heap has, or may have, another number of members";
     case G1_OTHER_RACE: return "the handles are not those of all members of one heap";
-    case G1_NOT_PAUSED: return "the members of the heap race";
+    case G1_NOT_PAUSED: return "the members of the heap race, or readers read it";
     case G1_NOT_RACING: return "the heap is at a pause already";
     case G1_BAD_WORD: return "the word is no data, or no slot may have it";
     default: return "no code of the library";
@@ -474,9 +475,11 @@ uint32_t g1_verify(struct g1 *handle, uint32_t first, uint32_t count, const uint
  *     g1_heap_pause     closes these handles: the collector has the heap
  *     g1_heap_close     at a pause: frees it
  *
- * The collector's calls (g1_heap_drain, g1_heap_clear, ..) are on the heap's handle, at a pause. A
- * pause and a resume copy nothing. All memory that a heap ever takes is taken by its open: no call
- * between that and its close takes any or frees any, so none can be refused for it.
+ * The collector's calls (g1_heap_drain, g1_heap_clear, ..) are on the heap's handle, at a pause.
+ * Several threads read one pause at once by readers, between two more calls at it, g1_heap_read and
+ * g1_heap_read_end. A pause and a resume copy nothing. All memory that a heap ever takes is taken
+ * by its open: no call between that and its close takes any or frees any, so none can be refused
+ * for it.
  *
  * The path of a card that a racer logs:
  *   - If g1_race_store stores a reference into another region, it marks the slot's card dirty. If
@@ -506,9 +509,9 @@ uint32_t g1_verify(struct g1 *handle, uint32_t first, uint32_t count, const uint
  *     the call, or makes each by the loop below. If two of them race, the library may keep a
  *     different value than memory does, and then a drain can miss what memory holds. Stores to
  *     different slots need no order.
- *   - You never make two calls of g1_heap_pause at once that are given members of one heap. (A
- *     pause that is given members of several heaps is refused: it counts the owners of what they
- *     share, and the other would disturb the count.)
+ *   - You never make two calls of g1_heap_pause or g1_heap_read_end at once that are given members
+ *     or readers of one heap. (One that is given those of several heaps is refused: it counts the
+ *     owners of what they share, and the other would disturb the count.)
  *
  * The loop, for a runtime that keeps its references in atomic words of its own and has no lock for
  * the stores to one slot:
@@ -557,6 +560,11 @@ struct g1_sweeper {
     void *sweeper;
 };
 
+/* A handle of a reader, by which a thread reads a pause. It is closed if the pointer is null. */
+struct g1_reader {
+    void *reader;
+};
+
 /* The most racers and the most sweepers that a heap has. It has at least one of each. */
 #define G1_RACERS 64
 #define G1_SWEEPERS 64
@@ -569,7 +577,7 @@ struct g1_sweeper {
  * is recorded. It has this many racers and sweepers, whose handles the caller gets by
  * g1_heap_resume. The heap takes 8 bytes a slot, 8 bytes a card, a bit for each pair of a card and
  * a region and a bit for each card, and all of this twice while it opens. It also takes about a
- * kilobyte for the log of each racer.
+ * kilobyte for the log of each racer, and about a hundred bytes for each reader that it may have.
  *
  * Returns:
  *   - G1_DONE.
@@ -618,7 +626,7 @@ uint32_t g1_heap_pause(struct g1_heap *heap, struct g1_racer *racers, size_t rac
  *
  * Returns:
  *   - G1_DONE.
- *   - G1_NOT_OPEN, or G1_NOT_PAUSED while its members race: nothing has changed.
+ *   - G1_NOT_OPEN, or G1_NOT_PAUSED while its members race or readers read it: nothing has changed.
  */
 uint32_t g1_heap_close(struct g1_heap *heap);
 
@@ -752,6 +760,19 @@ uint32_t g1_race_take_log(struct g1_racer *racer, uint32_t *cards, size_t cards_
  *   - G1_NOT_OPEN or G1_NO_CARD: nothing has changed.
  */
 uint32_t g1_race_refine(struct g1_sweeper *sweeper, uint32_t card);
+
+/*
+ * Tells what a sweeper has done since its heap was opened: how many cards it refined, how many of
+ * them were dirty (cleaned), and how many references into another region it read on them, each of
+ * which is recorded then, if it was not before. A pause keeps the counts, and a resume hands them
+ * to the handle at the same place of the row. After 2^64 - 1 a count goes on at 0. They lie beside
+ * the sweeper, so no other thread writes near them. The call changes nothing, and takes constant
+ * time and no memory.
+ *
+ * Returns G1_DONE, or G1_NOT_OPEN: the three are 0.
+ */
+uint32_t g1_sweeper_counts(struct g1_sweeper *sweeper, uint64_t *refined, uint64_t *cleaned,
+                           uint64_t *references);
 
 /*
  * Sets `words` to the words of the slots, in order, for a runtime whose fields they are. They may
@@ -966,6 +987,81 @@ uint32_t g1_heap_forget(struct g1_heap *heap, uint32_t region);
 uint32_t g1_heap_verify(struct g1_heap *heap, uint32_t first, uint32_t count,
                         const uint32_t *references, size_t references_length,
                         uint32_t *differing, uint32_t *missing);
+
+/*
+ * The calls below let several threads read one pause at once, where one call at a time uses the
+ * heap's handle: for a parallel scan, say, each thread walks some regions' sets by a reader of its
+ * own. A reader answers what the heap does at its pause, and nothing changes while the heap is
+ * read: each call on its handle but g1_heap_read_end and g1_heap_words is refused, most of them
+ * with G1_NOT_PAUSED.
+ */
+
+/*
+ * Begins a reading of a heap at a pause. It opens as many closed handles of readers as the array
+ * has, at most as many as the heap has racers and sweepers together. Each reader belongs to one
+ * thread at a time, and any number of them read at once. The call takes time in the number of the
+ * heap's members, and no memory.
+ *
+ * Returns:
+ *   - G1_DONE: each reader's handle is open.
+ *   - G1_NOT_OPEN for the heap's handle, G1_NOT_PAUSED (also while the heap is read already),
+ *     G1_BAD_MEMBERS (more readers than the heap has members) or G1_ALREADY_OPEN for a reader's
+ *     handle: nothing has changed.
+ */
+uint32_t g1_heap_read(struct g1_heap *heap, struct g1_reader *readers, size_t readers_length);
+
+/*
+ * Ends the reading. All readers of the heap are handed in, in any order. Before the call you see to
+ * it that no thread is inside a call of a reader. The heap is then at its pause as it was before
+ * g1_heap_read. The call takes time in the number of the heap's members, and no memory. It is never
+ * refused to a caller that passes each reader once.
+ *
+ * Returns:
+ *   - G1_DONE: the readers' handles are closed.
+ *   - G1_NOT_OPEN for the heap's handle, G1_NOT_PAUSED (the heap's members race) or G1_BAD_MEMBERS
+ *     (the heap is not read, or by another number of readers): nothing has changed.
+ *   - G1_NOT_OPEN for a reader's handle, or G1_OTHER_RACE (a reader of another heap, or one that is
+ *     given twice): nothing has changed. Where both apply, either may be returned.
+ */
+uint32_t g1_heap_read_end(struct g1_heap *heap, struct g1_reader *readers, size_t readers_length);
+
+/*
+ * Sets `target` to what a slot refers to, as g1_heap_target does.
+ *
+ * Returns G1_DONE, or G1_NOT_OPEN or G1_NO_SLOT: `target` is G1_NULL.
+ */
+uint32_t g1_reader_target(struct g1_reader *reader, uint32_t slot, uint32_t *target);
+
+/*
+ * Sets `word` to the word of a slot, as g1_heap_word does.
+ *
+ * Returns G1_DONE, or G1_NOT_OPEN or G1_NO_SLOT: `word` is 0.
+ */
+uint32_t g1_reader_word(struct g1_reader *reader, uint32_t slot, uint64_t *word);
+
+/*
+ * Sets `pending` to 1 if a card is dirty, and to 0 if it is not, as g1_heap_is_pending does.
+ *
+ * Returns G1_DONE, or G1_NOT_OPEN or G1_NO_CARD: `pending` is 0.
+ */
+uint32_t g1_reader_is_pending(struct g1_reader *reader, uint32_t card, uint32_t *pending);
+
+/*
+ * Sets `has` to 1 if a card is recorded for a region, and to 0 if it is not. It takes constant time
+ * and no memory.
+ *
+ * Returns G1_DONE, or G1_NOT_OPEN, G1_NO_CARD or G1_NO_REGION: `has` is 0.
+ */
+uint32_t g1_reader_has(struct g1_reader *reader, uint32_t card, uint32_t region, uint32_t *has);
+
+/*
+ * Sets `card` to the least card from the number `from` on that is recorded for a region, or to
+ * G1_NULL if there is none, as g1_heap_next_member does.
+ *
+ * Returns G1_DONE, or G1_NOT_OPEN or G1_NO_REGION: `card` is G1_NULL.
+ */
+uint32_t g1_reader_next_member(struct g1_reader *reader, uint32_t region, uint32_t from,
+                               uint32_t *card);
 
 #ifdef __cplusplus
 }

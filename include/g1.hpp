@@ -71,6 +71,7 @@ inline bool is_open(const g1 &handle) noexcept { return handle.core != nullptr; 
 inline bool is_open(const g1_heap &handle) noexcept { return handle.heap != nullptr; }
 inline bool is_open(const g1_racer &handle) noexcept { return handle.racer != nullptr; }
 inline bool is_open(const g1_sweeper &handle) noexcept { return handle.sweeper != nullptr; }
+inline bool is_open(const g1_reader &handle) noexcept { return handle.reader != nullptr; }
 
 } // namespace internal
 
@@ -312,10 +313,46 @@ public:
     g1_code refine(std::uint32_t card) noexcept {
         return internal::code(g1_race_refine(get(), card));
     }
+
+    // g1_sweeper_counts
+    g1_code counts(std::uint64_t &refined, std::uint64_t &cleaned,
+                   std::uint64_t &references) noexcept {
+        return internal::code(g1_sweeper_counts(get(), &refined, &cleaned, &references));
+    }
 };
 
-// The handles of a container of racers or of sweepers in an array, as g1.h (and g1_refiner.h) takes
-// them. They are in the array from its beginning on, and at its end they are their owners' again.
+// A reader, by which a thread reads a pause. The thread moves it into a local, and back before the
+// reading ends. If an open one is destroyed, the reading can't end any more.
+class Reader : public Member<g1_reader> {
+public:
+    // g1_reader_target
+    g1_code target(std::uint32_t slot, std::uint32_t &target) noexcept {
+        return internal::code(g1_reader_target(get(), slot, &target));
+    }
+
+    // g1_reader_word
+    g1_code word(std::uint32_t slot, std::uint64_t &word) noexcept {
+        return internal::code(g1_reader_word(get(), slot, &word));
+    }
+
+    // g1_reader_is_pending
+    g1_code is_pending(std::uint32_t card, bool &pending) noexcept {
+        return internal::code(g1_reader_is_pending(get(), card, internal::Out(pending)));
+    }
+
+    // g1_reader_has
+    g1_code has(std::uint32_t card, std::uint32_t region, bool &has) noexcept {
+        return internal::code(g1_reader_has(get(), card, region, internal::Out(has)));
+    }
+
+    // g1_reader_next_member
+    g1_code next_member(std::uint32_t region, std::uint32_t from, std::uint32_t &card) noexcept {
+        return internal::code(g1_reader_next_member(get(), region, from, &card));
+    }
+};
+
+// The handles of a container of racers, sweepers or readers in an array, as g1.h (and g1_refiner.h)
+// takes them. They are in the array from its beginning on, and at its end their owners' again.
 // If the container has more members than `most`, none of its handles is in the array.
 template <typename Members, typename Handle, std::size_t most> class Row {
 public:
@@ -351,6 +388,7 @@ private:
 
 template <typename Racers> using RacerRow = Row<Racers, g1_racer, G1_RACERS>;
 template <typename Sweepers> using SweeperRow = Row<Sweepers, g1_sweeper, G1_SWEEPERS>;
+template <typename Readers> using ReaderRow = Row<Readers, g1_reader, G1_RACERS + G1_SWEEPERS>;
 
 namespace internal {
 
@@ -390,6 +428,24 @@ public:
         return internal::with_members(racers, sweepers, [this](auto... members) noexcept {
             return g1_heap_pause(get(), members...);
         });
+    }
+
+    // g1_heap_read
+    template <typename Readers> [[nodiscard]] g1_code read(Readers &readers) noexcept {
+        ReaderRow<Readers> reading(readers);
+        if (!reading.fits()) {
+            return G1_BAD_MEMBERS;
+        }
+        return internal::code(g1_heap_read(get(), reading.data(), reading.size()));
+    }
+
+    // g1_heap_read_end
+    template <typename Readers> [[nodiscard]] g1_code read_end(Readers &readers) noexcept {
+        ReaderRow<Readers> reading(readers);
+        if (!reading.fits()) {
+            return G1_BAD_MEMBERS;
+        }
+        return internal::code(g1_heap_read_end(get(), reading.data(), reading.size()));
     }
 
     // g1_heap_words

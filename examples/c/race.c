@@ -31,7 +31,7 @@ struct log {
 // A thread, with the number of its racer or sweeper.
 struct seat {
     size_t number;
-    uint64_t state;
+    uint64_t state, refined;
     unsigned wrong;
 };
 
@@ -103,8 +103,12 @@ static void *refine_logs(void *place) {
         pthread_mutex_unlock(&lock);
         for (uint32_t i = 0; found && i < log.count; i++) {
             seat->wrong += g1_race_refine(&sweeper, log.cards[i]) != G1_DONE;
+            seat->refined++;
         }
     }
+    uint64_t refined, cleaned, references;
+    seat->wrong += g1_sweeper_counts(&sweeper, &refined, &cleaned, &references) != G1_DONE;
+    seat->wrong += refined != seat->refined || cleaned > refined;
     sweepers[seat->number] = sweeper;
     return NULL;
 }

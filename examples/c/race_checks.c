@@ -17,6 +17,10 @@ struct log {
     uint32_t count, cards[G1_LOG];
 };
 
+struct swept {
+    uint64_t refined, cleaned, references;
+};
+
 // A heap, and what it has to have.
 struct heap {
     struct g1_heap handle;
@@ -26,7 +30,8 @@ struct heap {
     uint32_t racers, sweepers;
     uint64_t words[ALL_SLOTS];
     unsigned char dirty[ALL_CARDS], recorded[REGIONS][ALL_CARDS];
-    struct log logs[EACH]; // the racers', in the order of their handles
+    struct log logs[EACH];     // the racers', in the order of their handles
+    struct swept swept[EACH]; // the sweepers', in the order of theirs
 };
 
 static const struct g1_counts small = {REGIONS, CARDS, SLOTS};
@@ -105,13 +110,17 @@ static uint64_t word_of(uint32_t target) {
     return target == G1_NULL ? 0 : (uint64_t)target + 1;
 }
 
-static void refine(struct heap *heap, uint32_t card) {
+// Refines a card, and returns how many references it records.
+static uint32_t refine(struct heap *heap, uint32_t card) {
+    uint32_t references = 0;
     heap->dirty[card] = 0;
     for (uint32_t slot = card * SLOTS; slot < (card + 1) * SLOTS; slot++) {
         if (entered_by(heap, slot) != REGIONS) {
             heap->recorded[entered_by(heap, slot)][card] = 1;
+            references++;
         }
     }
+    return references;
 }
 
 static void refine_all(struct heap *heap) {
@@ -301,13 +310,16 @@ static void pause_heap(struct heap *heap) {
         return;
     }
     struct log logs[EACH];
+    struct swept swept[EACH];
     for (size_t i = 0; i < heap->racers; i++) {
         check(given.racers[i].racer == NULL, "a pause closes the racers' handles");
         logs[i] = heap->logs[given.from[0][i] % EACH];
     }
     for (size_t i = 0; i < heap->sweepers; i++) {
         check(given.sweepers[i].sweeper == NULL, "a pause closes the sweepers' handles");
+        swept[i] = heap->swept[given.from[1][i] % EACH];
     }
+    memcpy(heap->swept, swept, heap->sweepers * sizeof swept[0]);
     memcpy(heap->logs, logs, heap->racers * sizeof logs[0]);
     heap->is_racing = 0;
     memset(heap->racing, 0, sizeof heap->racing);
@@ -471,8 +483,21 @@ static void race_refine(struct heap *heap) {
     uint64_t refusals = bit(G1_NOT_OPEN, heap->sweeping[number].sweeper == NULL) |
                         bit(G1_NO_CARD, card >= ALL_CARDS);
     if (answers(g1_race_refine(&heap->sweeping[number], card), refusals, "refinement")) {
-        refine(heap, card);
+        heap->swept[number].refined++;
+        heap->swept[number].cleaned += heap->dirty[card];
+        heap->swept[number].references += refine(heap, card);
     }
+}
+
+static void sweeper_counts(struct heap *heap) {
+    uint32_t number = below(EACH);
+    struct swept told = {7, 7, 7}, none = {0};
+    uint64_t refusals = bit(G1_NOT_OPEN, heap->sweeping[number].sweeper == NULL);
+    uint32_t code = g1_sweeper_counts(&heap->sweeping[number], &told.refined, &told.cleaned,
+                                      &told.references);
+    int is_told = answers(code, refusals, "counts");
+    const struct swept *swept = is_told ? &heap->swept[number] : &none;
+    check(memcmp(&told, swept, sizeof told) == 0, "what a sweeper has done");
 }
 
 static void ask(struct heap *heap) {
@@ -669,6 +694,7 @@ static void random_call(struct heap *heap) {
     case 21: race_swap_word(heap); break;
     case 22: race_compare_exchange_word(heap); break;
     case 23: verify(heap); break;
+    case 24: sweeper_counts(heap); break;
     default: race_store(heap); break;
     }
     compare(heap);

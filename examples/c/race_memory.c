@@ -111,6 +111,17 @@ static void walk(void) {
     }
 }
 
+// Reads the pause by as many readers as the heap has members.
+static void read_pause(void) {
+    struct g1_reader readers[RACERS + 1] = {{NULL}};
+    uint32_t target;
+    expect(g1_heap_read(&all.heap, readers, RACERS + 1) == G1_DONE, "read");
+    for (int i = 0; i < RACERS + 1; i++) {
+        expect(g1_reader_target(&readers[i], 25, &target) == G1_DONE && target == 1, "target");
+    }
+    expect(g1_heap_read_end(&all.heap, readers, RACERS + 1) == G1_DONE, "the end of a reading");
+}
+
 // A race and a pause. Region 3 is moved to region 2 and freed.
 static void cycle(void) {
     uint32_t log[G1_LOG], moved, detail;
@@ -123,6 +134,7 @@ static void cycle(void) {
     expect(word == G1_DONE && count == 2, "log");
     refine(0);
     pause_heap();
+    read_pause();
     for (region = 0; region < 4; region++) {
         walk();
     }

@@ -105,6 +105,9 @@ static void run(std::vector<Racer> &racers, std::vector<Sweeper> &sweepers) {
         for (std::uint32_t i = 0; i < count / 2; i++) {
             check(sweeper.refine(cards[i]) == G1_DONE, "a refinement");
         }
+        std::uint64_t refined = 0, cleaned = 0, references = 0;
+        check(sweeper.counts(refined, cleaned, references) == G1_DONE, "what a sweeper has done");
+        check(refined == count / 2 && cleaned == refined && references == refined, "its counts");
         sweepers[1] = std::move(sweeper);
     }).join();
 }

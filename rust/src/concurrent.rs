@@ -6,7 +6,8 @@
 //! thread owns its member, so it may keep it for as long as it likes, pass it to another thread, or
 //! return it when it ends. [`Racing::pause`] takes all members back and gives the paused heap.
 //! Neither copies anything or takes memory, and a number of the heap stays good through all of
-//! them. A [`Refiner`] has refinement threads with their queue.
+//! them. Several threads read one pause at once by [`Paused::read`]. A [`Refiner`] has refinement
+//! threads with their queue.
 //!
 //! A runtime may have its fields in the heap's words, and read them by [`Racer::word`]. If it keeps
 //! its references in memory of its own, it orders the stores to one slot, around both its own store
@@ -37,12 +38,17 @@
 //! ```
 mod members;
 mod paused;
+mod readers;
 mod refiner;
 
+pub use members::SweepCounts;
 pub use paused::Members;
+pub use readers::{Reader, Readers};
 pub use refiner::{Handled, Queued, Refiner};
 
-use crate::library::{g1_heap_close, g1_heap_pause, HeapHandle, RacerHandle, SweeperHandle, DONE};
+use crate::library::{
+    g1_heap_close, g1_heap_pause, HeapHandle, RacerHandle, ReaderHandle, SweeperHandle, DONE,
+};
 use crate::numbers::{numbers_of, Numbers};
 use crate::{Refusal, Refused, Slot};
 use std::ptr::null_mut;
@@ -110,6 +116,8 @@ struct Life {
     words: Words,
     racers: usize,
     sweepers: usize,
+    // The readers of a pause, with room for all that it may have, so that a reading takes no memory.
+    readers: Vec<Seat<ReaderHandle>>,
 }
 
 impl Drop for Life {

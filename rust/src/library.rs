@@ -42,6 +42,12 @@ pub struct SweeperHandle {
 }
 
 #[repr(C)]
+#[derive(Clone, Copy)]
+pub struct ReaderHandle {
+    pub reader: *mut c_void,
+}
+
+#[repr(C)]
 pub struct HeapHandle {
     pub heap: *mut c_void,
 }
@@ -51,6 +57,7 @@ unsafe impl Send for Handle {}
 unsafe impl Send for HeapHandle {}
 unsafe impl Send for RacerHandle {}
 unsafe impl Send for SweeperHandle {}
+unsafe impl Send for ReaderHandle {}
 
 // SAFETY: calls alone write a handle or what it has, and the wrapper makes each of them by `&mut`.
 // So whoever shares a handle can do no more than read its pointer.
@@ -58,6 +65,7 @@ unsafe impl Sync for Handle {}
 unsafe impl Sync for HeapHandle {}
 unsafe impl Sync for RacerHandle {}
 unsafe impl Sync for SweeperHandle {}
+unsafe impl Sync for ReaderHandle {}
 
 extern "C" {
     pub fn g1_open(handle: *mut Handle, counts: *const Counts, hot: u32, ring: u32) -> u32;
@@ -231,6 +239,32 @@ extern "C" {
         count: *mut u32,
     ) -> u32;
     pub fn g1_race_refine(sweeper: *mut SweeperHandle, card: u32) -> u32;
+    pub fn g1_sweeper_counts(
+        sweeper: *mut SweeperHandle,
+        refined: *mut u64,
+        cleaned: *mut u64,
+        references: *mut u64,
+    ) -> u32;
+    pub fn g1_heap_read(
+        heap: *mut HeapHandle,
+        readers: *mut ReaderHandle,
+        readers_length: usize,
+    ) -> u32;
+    pub fn g1_heap_read_end(
+        heap: *mut HeapHandle,
+        readers: *mut ReaderHandle,
+        readers_length: usize,
+    ) -> u32;
+    pub fn g1_reader_target(reader: *mut ReaderHandle, slot: u32, target: *mut u32) -> u32;
+    pub fn g1_reader_word(reader: *mut ReaderHandle, slot: u32, word: *mut u64) -> u32;
+    pub fn g1_reader_is_pending(reader: *mut ReaderHandle, card: u32, pending: *mut u32) -> u32;
+    pub fn g1_reader_has(reader: *mut ReaderHandle, card: u32, region: u32, has: *mut u32) -> u32;
+    pub fn g1_reader_next_member(
+        reader: *mut ReaderHandle,
+        region: u32,
+        from: u32,
+        card: *mut u32,
+    ) -> u32;
 }
 
 pub const NULL: u32 = 4_294_967_295;

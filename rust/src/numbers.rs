@@ -110,8 +110,8 @@ impl Region {
 
 /// The numbers of the heap that a type is over, and its `Debug`.
 macro_rules! numbers_of {
-    ($name:ident, $($field:ident).+) => {
-        impl $name {
+    ($name:ident $(<$lifetime:lifetime>)?, $($field:ident).+) => {
+        impl $name $(<$lifetime>)? {
             /// The counts of its heap.
             pub fn counts(&self) -> $crate::Counts {
                 self.$($field).+.counts
@@ -139,7 +139,7 @@ macro_rules! numbers_of {
             }
         }
 
-        impl std::fmt::Debug for $name {
+        impl std::fmt::Debug for $name $(<$lifetime>)? {
             fn fmt(&self, f: &mut std::fmt::Formatter<'_>) -> std::fmt::Result {
                 let mut shown = f.debug_struct(stringify!($name));
                 shown.field("counts", &self.counts()).finish_non_exhaustive()

@@ -1,5 +1,7 @@
 //! A concurrent heap: its members handed out, taken in, missing, and of another heap.
-use ninkoda::concurrent::{Paused, Racer, Racing, Sweeper, Word, DATA, RACERS, SWEEPERS};
+use ninkoda::concurrent::{
+    Paused, Racer, Racing, SweepCounts, Sweeper, Word, DATA, RACERS, SWEEPERS,
+};
 use ninkoda::{Cleared, Counts, Exchanged, Kind, Refusal, Slot, LOG};
 use std::error::Error;
 use std::sync::mpsc::channel;
@@ -82,6 +84,61 @@ fn several_threads_read_a_pause() {
             });
         }
     });
+}
+
+#[test]
+fn is_read_by_readers_at_once_and_goes_on() {
+    let mut heap = heap();
+    let (from, to) = (slot(&heap, 700), slot(&heap, 300));
+    heap.store(from, Some(to)).expect("a store");
+    heap.refine().expect("a refinement");
+    heap.store_data(slot(&heap, 5), DATA + 5).expect("data");
+    let (region, other) = (to.region(), Paused::open(COUNTS, 1, 1).expect("a heap"));
+    assert_eq!(heap.read(4).err(), Some(Refusal::BadMembers));
+    for count in [3, 0, 1] {
+        let mut readers = heap.read(count).expect("a reading");
+        assert_eq!(readers.each().count(), count);
+        thread::scope(|threads| {
+            for mut reader in readers.each() {
+                let foreign = slot(&other, 5);
+                threads.spawn(move || {
+                    assert_eq!(reader.target(from), Ok(Some(to)));
+                    let data = reader.slot(5).expect("a slot");
+                    assert_eq!(reader.word(data), Ok(Word::Data(DATA + 5)));
+                    assert_eq!(reader.target(foreign), Err(Refusal::OtherHeap));
+                    assert_eq!(reader.is_pending(from.card()), Ok(false));
+                    assert_eq!(reader.has(from.card(), region), Ok(true));
+                    assert_eq!(reader.has(to.card(), region), Ok(false));
+                    let recorded: Vec<_> = reader.members(region).expect("a set").collect();
+                    assert_eq!(recorded, [from.card()]);
+                });
+            }
+        });
+    }
+    assert_eq!(heap.target(from), Ok(Some(to)));
+    let (heap, racers, sweepers) = heap.resume();
+    assert!(heap.pause(racers, sweepers).is_ok());
+}
+
+#[test]
+fn counts_what_a_sweeper_does_over_pauses() {
+    let (heap, mut racers, mut sweepers) = race();
+    let slot = heap.slot(0).expect("a slot");
+    let place = heap.slot(512).expect("a slot");
+    assert_eq!(sweepers[0].sweep_counts(), Ok(SweepCounts::default()));
+    for _ in 0..2 {
+        racers[0].store(slot, Some(place)).expect("a store");
+        sweepers[0].refine(slot.card()).expect("a refinement");
+    }
+    sweepers[0].refine(slot.card()).expect("of a clean card");
+    let counts = SweepCounts {
+        refined: 3,
+        cleaned: 2,
+        references: 3,
+    };
+    let heap = heap.pause(racers, sweepers).expect("all are in");
+    let (_heap, _racers, mut sweepers) = heap.resume();
+    assert_eq!(sweepers[0].sweep_counts(), Ok(counts));
 }
 
 #[test]

@@ -4,7 +4,7 @@ use crate::answers::done;
 use crate::library::{
     g1_race_compare_exchange, g1_race_compare_exchange_word, g1_race_refine, g1_race_store,
     g1_race_store_all, g1_race_store_data, g1_race_swap, g1_race_swap_word, g1_race_take_log,
-    DIFFERS, DONE, FULL, NULL,
+    g1_sweeper_counts, DIFFERS, DONE, FULL, NULL,
 };
 use crate::numbers::Home;
 use crate::{Card, Exchanged, Kind, Refusal, Slot, LOG};
@@ -166,6 +166,18 @@ impl Racer {
     }
 }
 
+/// What a sweeper has done since its heap was opened, whatever pauses came between. After
+/// [`u64::MAX`] a count goes on at 0.
+#[derive(Clone, Copy, Debug, Default, PartialEq, Eq)]
+pub struct SweepCounts {
+    /// Cards that it refined.
+    pub refined: u64,
+    /// Those of them that were dirty.
+    pub cleaned: u64,
+    /// References into another region that it read on them, each of which is recorded.
+    pub references: u64,
+}
+
 impl Sweeper {
     /// Which heap it is of.
     pub(super) fn home(&self) -> Home {
@@ -179,5 +191,21 @@ impl Sweeper {
         self.seat.numbers.has(card.home)?;
         // SAFETY: the handle is open, and this call alone uses it.
         done(unsafe { g1_race_refine(&mut self.seat.handle, card.number) })
+    }
+
+    /// What it has done since its heap was opened. A resume hands out the sweepers with their
+    /// counts in the order in which the pause took them. Constant time, no memory.
+    pub fn sweep_counts(&mut self) -> Result<SweepCounts, Refusal> {
+        let (mut counts, handle) = (SweepCounts::default(), &mut self.seat.handle);
+        // SAFETY: the handle is open, and this call alone uses it.
+        done(unsafe {
+            g1_sweeper_counts(
+                handle,
+                &mut counts.refined,
+                &mut counts.cleaned,
+                &mut counts.references,
+            )
+        })?;
+        Ok(counts)
     }
 }

@@ -37,6 +37,7 @@ impl Paused {
                 words: Words(start.cast()),
                 racers,
                 sweepers,
+                readers: Vec::with_capacity(racers + sweepers),
             },
             racers: Vec::with_capacity(racers),
             sweepers: Vec::with_capacity(sweepers),
