@@ -750,6 +750,19 @@ uint32_t g1_race_take_log(struct g1_racer *racer, uint32_t *cards, size_t cards_
                           uint32_t *count);
 
 /*
+ * Tells how many stores a racer has made since its heap was opened, by kind: of null or of data, of
+ * a place in the slot's own region, on a dirty card, and logged. A swap counts as the store that it
+ * is, a compare-and-swap that found something else as none, and each store of a batch by itself. A
+ * pause keeps the counts, and a resume hands them to the handle at the same place of the row. After
+ * 2^64 - 1 a count goes on at 0. They lie beside the racer, so no other thread writes near them.
+ * The call changes nothing, and takes constant time and no memory.
+ *
+ * Returns G1_DONE, or G1_NOT_OPEN: the four are 0.
+ */
+uint32_t g1_racer_counts(struct g1_racer *racer, uint64_t *null, uint64_t *same_region,
+                         uint64_t *already_dirty, uint64_t *logged);
+
+/*
  * A sweeper refines a card, concurrently with whatever the other members do. It makes the card
  * clean, and then reads its slots and records which regions they refer into, whether the card was
  * dirty or not. A store of a reference into another region that comes too late to be read makes the

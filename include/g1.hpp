@@ -303,6 +303,13 @@ public:
         return internal::code(
             g1_race_take_log(get(), internal::elements(cards), std::size(cards), &count));
     }
+
+    // g1_racer_counts
+    g1_code counts(std::uint64_t &null, std::uint64_t &same_region, std::uint64_t &already_dirty,
+                   std::uint64_t &logged) noexcept {
+        return internal::code(
+            g1_racer_counts(get(), &null, &same_region, &already_dirty, &logged));
+    }
 };
 
 // A sweeper, by which a refinement thread refines. The thread moves it into a local, and back

@@ -32,6 +32,7 @@ struct heap {
     unsigned char dirty[ALL_CARDS], recorded[REGIONS][ALL_CARDS];
     struct log logs[EACH];     // the racers', in the order of their handles
     struct swept swept[EACH]; // the sweepers', in the order of theirs
+    uint64_t stored[EACH][4]; // the racers', by kind of store, in the order of theirs
 };
 
 static const struct g1_counts small = {REGIONS, CARDS, SLOTS};
@@ -311,9 +312,11 @@ static void pause_heap(struct heap *heap) {
     }
     struct log logs[EACH];
     struct swept swept[EACH];
+    uint64_t stored[EACH][4];
     for (size_t i = 0; i < heap->racers; i++) {
         check(given.racers[i].racer == NULL, "a pause closes the racers' handles");
         logs[i] = heap->logs[given.from[0][i] % EACH];
+        memcpy(stored[i], heap->stored[given.from[0][i] % EACH], sizeof stored[i]);
     }
     for (size_t i = 0; i < heap->sweepers; i++) {
         check(given.sweepers[i].sweeper == NULL, "a pause closes the sweepers' handles");
@@ -321,6 +324,7 @@ static void pause_heap(struct heap *heap) {
     }
     memcpy(heap->swept, swept, heap->sweepers * sizeof swept[0]);
     memcpy(heap->logs, logs, heap->racers * sizeof logs[0]);
+    memcpy(heap->stored, stored, heap->racers * sizeof stored[0]);
     heap->is_racing = 0;
     memset(heap->racing, 0, sizeof heap->racing);
     memset(heap->sweeping, 0, sizeof heap->sweeping);
@@ -341,6 +345,7 @@ static uint64_t of_store(const struct heap *heap, uint32_t number, uint32_t slot
 static uint32_t put_by(struct heap *heap, uint32_t number, uint32_t slot, uint64_t word) {
     struct log *log = &heap->logs[number];
     uint32_t kind = put(heap, slot, word);
+    heap->stored[number][kind]++;
     if (kind == G1_STORED_LOGGED) {
         log->cards[log->count++] = slot / SLOTS;
     }
@@ -419,7 +424,7 @@ static void race_store_data(struct heap *heap) {
     uint32_t code = g1_race_store_data(&heap->racing[number], slot, word, &old);
     if (answers(code, refusals, "store of data")) {
         check(old == heap->words[slot], "the word that a store of data overwrites");
-        put(heap, slot, word);
+        put_by(heap, number, slot, word);
     } else {
         check(old == 0, "the word of a refused store of data");
     }
@@ -487,6 +492,18 @@ static void race_refine(struct heap *heap) {
         heap->swept[number].cleaned += heap->dirty[card];
         heap->swept[number].references += refine(heap, card);
     }
+}
+
+static void racer_counts(struct heap *heap) {
+    uint32_t number = below(EACH);
+    uint64_t told[4] = {7, 7, 7, 7}, none[4] = {0};
+    uint64_t refusals = bit(G1_NOT_OPEN, heap->racing[number].racer == NULL);
+    uint32_t code = g1_racer_counts(&heap->racing[number], &told[G1_STORED_NULL],
+                                    &told[G1_STORED_SAME_REGION], &told[G1_STORED_DIRTY],
+                                    &told[G1_STORED_LOGGED]);
+    int is_told = answers(code, refusals, "counts of stores");
+    check(memcmp(told, is_told ? heap->stored[number] : none, sizeof told) == 0,
+          "how many stores a racer has made, by kind");
 }
 
 static void sweeper_counts(struct heap *heap) {
@@ -695,6 +712,7 @@ static void random_call(struct heap *heap) {
     case 22: race_compare_exchange_word(heap); break;
     case 23: verify(heap); break;
     case 24: sweeper_counts(heap); break;
+    case 25: racer_counts(heap); break;
     default: race_store(heap); break;
     }
     compare(heap);

@@ -41,7 +41,7 @@ mod paused;
 mod readers;
 mod refiner;
 
-pub use members::SweepCounts;
+pub use members::{StoreCounts, SweepCounts};
 pub use paused::Members;
 pub use readers::{Reader, Readers};
 pub use refiner::{Handled, Queued, Refiner};

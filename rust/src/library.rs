@@ -238,6 +238,13 @@ extern "C" {
         cards_length: usize,
         count: *mut u32,
     ) -> u32;
+    pub fn g1_racer_counts(
+        racer: *mut RacerHandle,
+        null: *mut u64,
+        same_region: *mut u64,
+        already_dirty: *mut u64,
+        logged: *mut u64,
+    ) -> u32;
     pub fn g1_race_refine(sweeper: *mut SweeperHandle, card: u32) -> u32;
     pub fn g1_sweeper_counts(
         sweeper: *mut SweeperHandle,

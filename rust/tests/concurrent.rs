@@ -1,6 +1,6 @@
 //! A concurrent heap: its members handed out, taken in, missing, and of another heap.
 use ninkoda::concurrent::{
-    Paused, Racer, Racing, SweepCounts, Sweeper, Word, DATA, RACERS, SWEEPERS,
+    Paused, Racer, Racing, StoreCounts, SweepCounts, Sweeper, Word, DATA, RACERS, SWEEPERS,
 };
 use ninkoda::{Cleared, Counts, Exchanged, Kind, Refusal, Slot, LOG};
 use std::error::Error;
@@ -121,13 +121,18 @@ fn is_read_by_readers_at_once_and_goes_on() {
 }
 
 #[test]
-fn counts_what_a_sweeper_does_over_pauses() {
+fn counts_what_members_do_over_pauses() {
     let (heap, mut racers, mut sweepers) = race();
     let slot = heap.slot(0).expect("a slot");
     let place = heap.slot(512).expect("a slot");
     assert_eq!(sweepers[0].sweep_counts(), Ok(SweepCounts::default()));
+    assert_eq!(racers[0].store_counts(), Ok(StoreCounts::default()));
+    racers[0].store(slot, None).expect("a store");
+    racers[0].store(slot, Some(slot)).expect("a store");
     for _ in 0..2 {
-        racers[0].store(slot, Some(place)).expect("a store");
+        for _ in 0..3 {
+            racers[0].store(slot, Some(place)).expect("a store");
+        }
         sweepers[0].refine(slot.card()).expect("a refinement");
     }
     sweepers[0].refine(slot.card()).expect("of a clean card");
@@ -136,9 +141,16 @@ fn counts_what_a_sweeper_does_over_pauses() {
         cleaned: 2,
         references: 3,
     };
+    let stores = StoreCounts {
+        null: 1,
+        same_region: 1,
+        already_dirty: 4,
+        logged: 2,
+    };
     let heap = heap.pause(racers, sweepers).expect("all are in");
-    let (_heap, _racers, mut sweepers) = heap.resume();
+    let (_heap, mut racers, mut sweepers) = heap.resume();
     assert_eq!(sweepers[0].sweep_counts(), Ok(counts));
+    assert_eq!(racers[0].store_counts(), Ok(stores));
 }
 
 #[test]

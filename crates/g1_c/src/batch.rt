@@ -2,10 +2,12 @@
 ghost use Rattle.std.specs.Prelude.{◌≡◌, ◌⊎◌, ◌<◌, ◌≤◌, length, take, IfSome};
 ghost use Rattle.g1_handles.specs.Arrays.{IsWritten};
 ghost use Rattle.g1_handles.specs.Codes.{Between, IsRefusal};
-ghost use Rattle.g1_handles.specs.Batch.{Made, made_all, IsFaultAt};
-ghost use Rattle.g1_handles.specs.Refusals.{AreStoresRefused};
+ghost use Rattle.g1_handles.specs.Batch.{made_all, IsFaultAt};
+ghost use Rattle.g1_handles.specs.Refusals.{AreStoresRefused, IsCallRefused};
 
 use core::mem::replace_with;
+use g1_core::Core;
+use g1_handles::any_handle::visit;
 use g1_handles::batch::{Store, store_all_in};
 use g1_handles::code::{DONE, STOPPED};
 use g1_handles::handle::Handle;
@@ -40,7 +42,8 @@ pub extern "C" fn g1_store_all(
     ensures done { result ≤ 3 → (result ≡ 0) ⊎ (result ≡ 3) }
     ensures why { 3 < result →
         IsRefusal result
-        (AreStoresRefused handle.old.value (length stores.now) (length cards.old)) }
+        (IsCallRefused handle.old.value (λ old.
+        AreStoresRefused (length stores.now) (length cards.old))) }
     ensures refused { 3 < result → handle.new.value ≡ handle.old.value }
     ensures none { 3 < result → (batch.new.stored ≡ 0) × (batch.new.logged ≡ 0) }
     ensures written { IsWritten cards.old batch.new.logged cards.new }
@@ -49,7 +52,12 @@ pub extern "C" fn g1_store_all(
         stored: 0,
         logged: 0,
     };
-    match replace_with(handle, (alloc, stores, cards.len()), store_all_in) {
+    let room = cards.len();
+    match replace_with(
+        handle,
+        (alloc, |core: &mut Core| store_all_in(core, stores, room)),
+        visit,
+    ) {
         Err(refusal) => refusal.word(),
         Ok(stored) => {
             *batch = Batch {

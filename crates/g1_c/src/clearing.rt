@@ -1,11 +1,13 @@
 //! The clear.
 ghost use Rattle.std.specs.Prelude.{◌≡◌, ◌≢◌, ◌<◌};
 ghost use Rattle.g1_handles.specs.Codes.{Between, IsRefusal};
-ghost use Rattle.g1_handles.specs.Refusals.{IsClearRefused};
+ghost use Rattle.g1_handles.specs.Refusals.{IsCallRefused};
+ghost use Rattle.g1_handles.specs.Lacks.{LacksRegion};
 ghost use Rattle.g1_handles.specs.Replies.{ClearsTo, AreOnlyRead};
 
 use core::mem::replace_with;
-use g1_core::ClearReply;
+use g1_core::{ClearReply, Core};
+use g1_handles::any_handle::visit;
 use g1_handles::clearing::clear_in;
 use g1_handles::handle::Handle;
 use std::alloc::Global;
@@ -25,10 +27,15 @@ pub extern "C" fn g1_clear(alloc: Global, handle: &mut Handle, region: u32, deta
         ClearsTo old region (ClearReply.StillReferenced detail.new) new) }
     ensures none { result ≢ 19 → result ≢ 20 → detail.new ≡ 0 }
     ensures why { 0 < result → result ≢ 19 → result ≢ 20 →
-        IsRefusal result (IsClearRefused handle.old.value region) }
+        IsRefusal result (IsCallRefused handle.old.value (λ old.
+        LacksRegion old.state.table.layout region)) }
     ensures refused { 0 < result → AreOnlyRead handle.old.value handle.new.value }
 {
-    match replace_with(handle, (alloc, region), clear_in) {
+    match replace_with(
+        handle,
+        (alloc, |core: &mut Core| clear_in(core, region)),
+        visit,
+    ) {
         Err(refusal) => {
             *detail = 0;
             refusal.word()

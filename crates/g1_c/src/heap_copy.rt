@@ -1,10 +1,11 @@
 //! A range of slots of a heap at a pause is copied to another one.
 ghost use Rattle.std.specs.Prelude.{◌≡◌, ◌⊎◌, ◌+◌, ◌<◌, ◌≤◌};
 ghost use Rattle.g1_layout.specs.Shape.{slot_count};
-ghost use Rattle.g1_handles.specs.AtPause.{Copies, LacksSlots};
+ghost use Rattle.g1_handles.specs.AtPause.{Copies};
 ghost use Rattle.g1_handles.specs.Codes.{IsRefusal};
 ghost use Rattle.g1_handles.specs.HeapCalls.{IsHeapRefused};
 ghost use Rattle.g1_handles.specs.Life.{IsSameHeap, OfPaused};
+ghost use Rattle.g1_handles.specs.Lacks.{LacksSlots};
 
 use core::mem::replace_with;
 use g1_handles::at_pause::{PausedHeap, at_pause};
@@ -27,7 +28,7 @@ pub extern "C" fn g1_heap_copy(
     ensures answered { OfPaused heap.old.value (λ old. (from + count ≤ slot_count old.layout)
         × (to + count ≤ slot_count old.layout)) → result ≡ 0 }
     ensures why { 0 < result → IsRefusal result (IsHeapRefused heap.old.value (λ old r.
-        LacksSlots old from count r ⊎ LacksSlots old to count r)) }
+        LacksSlots old.layout from count r ⊎ LacksSlots old.layout to count r)) }
     ensures refused { 0 < result → heap.new.value ≡ heap.old.value }
 {
     match replace_with(

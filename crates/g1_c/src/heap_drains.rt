@@ -1,11 +1,12 @@
 //! Refinement and drains of a heap at a pause.
 ghost use Rattle.std.specs.Prelude.{◌≡◌, ◌≢◌, ◌<◌, take};
-ghost use Rattle.g1_handles.specs.AtPause.{DrainsAtPause, Refines, LacksRegion};
+ghost use Rattle.g1_handles.specs.AtPause.{DrainsAtPause, Refines};
 ghost use Rattle.g1_handles.specs.Arrays.{IsWritten};
 ghost use Rattle.g1_handles.specs.Codes.{IsRefusal};
 ghost use Rattle.g1_handles.specs.HeapCalls.{IsHeapRefused};
 ghost use Rattle.g1_handles.specs.Life.{IsSameHeap};
 ghost use Rattle.g1_handles.specs.Sets.{HasFirst};
+ghost use Rattle.g1_handles.specs.Lacks.{LacksRegion};
 
 use core::mem::replace_with;
 use g1_handles::at_pause::{PausedHeap, at_pause};
@@ -29,7 +30,7 @@ pub extern "C" fn g1_heap_drain(
     ensures room { result ≡ 16 → IsSameHeap heap.old.value heap.new.value (λ old new.
         HasFirst (DrainsAtPause old region new) cards.new count.new) }
     ensures why { 0 < result → result ≢ 16 → IsRefusal result
-        (IsHeapRefused heap.old.value (λ old. LacksRegion old region)) }
+        (IsHeapRefused heap.old.value (λ old. LacksRegion old.layout region)) }
     ensures none { result ≢ 0 → result ≢ 16 → count.new ≡ 0 }
     ensures written { result ≡ 0 → IsWritten cards.old count.new cards.new }
     ensures unwritten { 0 < result → result ≢ 16 → cards.new ≡ cards.old }

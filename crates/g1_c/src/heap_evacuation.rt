@@ -2,10 +2,10 @@
 //! emptied, and a region is freed.
 ghost use Rattle.std.specs.Prelude.{◌≡◌, ◌≢◌, ◌⊎◌, ◌<◌};
 ghost use Rattle.g1_handles.specs.AtPause.{ClearsAt, Redirects, Wipes, Forgets, RefersOut};
-ghost use Rattle.g1_handles.specs.AtPause.{LacksRegion};
 ghost use Rattle.g1_handles.specs.Codes.{IsRefusal};
 ghost use Rattle.g1_handles.specs.HeapCalls.{IsHeapRefused};
 ghost use Rattle.g1_handles.specs.Life.{IsSameHeap, OfPaused};
+ghost use Rattle.g1_handles.specs.Lacks.{LacksRegion};
 
 use core::mem::replace_with;
 use g1_core::ClearReply;
@@ -31,7 +31,7 @@ pub extern "C" fn g1_heap_clear(
         ClearsAt old region (ClearReply.StillReferenced detail.new) new) }
     ensures none { result ≢ 19 → result ≢ 20 → detail.new ≡ 0 }
     ensures why { 0 < result → result ≢ 19 → result ≢ 20 → IsRefusal result
-        (IsHeapRefused heap.old.value (λ old. LacksRegion old region)) }
+        (IsHeapRefused heap.old.value (λ old. LacksRegion old.layout region)) }
     ensures refused { 0 < result → heap.new.value ≡ heap.old.value }
 {
     match replace_with(
@@ -63,7 +63,7 @@ pub extern "C" fn g1_heap_redirect(
         Redirects old from to moved.new new) }
     ensures none { 0 < result → moved.new ≡ 0 }
     ensures why { 0 < result → IsRefusal result (IsHeapRefused heap.old.value (λ old r.
-        LacksRegion old from r ⊎ LacksRegion old to r
+        LacksRegion old.layout from r ⊎ LacksRegion old.layout to r
         ⊎ ((r ≡ Refusal.SameRegion) × (from ≡ to)))) }
     ensures refused { 0 < result → heap.new.value ≡ heap.old.value }
 {
@@ -90,7 +90,7 @@ pub extern "C" fn g1_heap_wipe(alloc: Global, heap: &mut HeapHandle, region: u32
         Wipes old region new) }
     ensures answered { OfPaused heap.old.value (λ old. region < old.layout.regions) → result ≡ 0 }
     ensures why { 0 < result → IsRefusal result
-        (IsHeapRefused heap.old.value (λ old. LacksRegion old region)) }
+        (IsHeapRefused heap.old.value (λ old. LacksRegion old.layout region)) }
     ensures refused { 0 < result → heap.new.value ≡ heap.old.value }
 {
     match replace_with(
@@ -109,7 +109,7 @@ pub extern "C" fn g1_heap_forget(alloc: Global, heap: &mut HeapHandle, region: u
     ensures forgotten { result ≡ 0 → IsSameHeap heap.old.value heap.new.value (λ old new.
         Forgets old region new) }
     ensures why { 0 < result → IsRefusal result (IsHeapRefused heap.old.value (λ old r.
-        LacksRegion old region r
+        LacksRegion old.layout region r
         ⊎ ((r ≡ Refusal.StillReferenced) × RefersOut old region))) }
     ensures refused { 0 < result → heap.new.value ≡ heap.old.value }
 {

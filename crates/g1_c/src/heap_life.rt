@@ -1,13 +1,13 @@
 //! The life of a heap whose stores race: it begins at a pause, goes on, pauses again, and ends at a
 //! pause.
-ghost use Rattle.std.specs.Prelude.{◌≡◌, ◌<◌, None, length, map};
+ghost use Rattle.std.specs.Prelude.{◌≡◌, ◌<◌, None, length};
 ghost use Rattle.std.specs.Arc.{arc_value};
 ghost use Rattle.g1_handles.specs.Codes.{layout_of, IsRefusal};
 ghost use Rattle.g1_handles.specs.Life.{OfPaused, OfRacing, IsFor, IsNewHeap, IsOpeningRefused};
 ghost use Rattle.g1_handles.specs.Life.{IsGoingRefused, IsPausedWith, IsPauseRefused, IsEndRefused};
 ghost use Rattle.g1_handles.specs.Life.{AreLikeOf, AreOfHeap, GoesOn, heap_race};
-ghost use Rattle.g1_handles.specs.Life.{heap_counts, HasCountedNothing};
-ghost use Rattle.g1_handles.specs.Racing.{held_racers, held_sweepers, counts_of, AreClosed};
+ghost use Rattle.g1_handles.specs.Life.{heap_counts, held_counts, HasCountedNothing};
+ghost use Rattle.g1_handles.specs.Racing.{held_racers, held_sweepers, AreClosed};
 
 use g1_handles::calls::Counts;
 use g1_handles::code::DONE;
@@ -54,7 +54,7 @@ pub extern "C" fn g1_heap_resume(
         OfRacing heap.new.value (λ b.
         GoesOn p (arc_value b.race) (held_racers racers.new) (held_sweepers sweepers.new))) }
     ensures same { result ≡ 0 → heap_race heap.new.value ≡ heap_race heap.old.value }
-    ensures counts { result ≡ 0 → map counts_of (held_sweepers sweepers.new)
+    ensures counts { result ≡ 0 → held_counts (held_racers racers.new) (held_sweepers sweepers.new)
         ≡ heap_counts heap.old.value }
     ensures members { result ≡ 0 → IsFor heap.old.value (length racers.old) (length sweepers.old)
         × IsFor heap.new.value (length racers.old) (length sweepers.old) }
@@ -92,7 +92,7 @@ pub extern "C" fn g1_heap_pause(
         (IsPausedWith (arc_value b.race) (held_racers racers.old) (held_sweepers sweepers.old))) }
     ensures same { result ≡ 0 → heap_race heap.new.value ≡ heap_race heap.old.value }
     ensures counts { result ≡ 0 → heap_counts heap.new.value
-        ≡ map counts_of (held_sweepers sweepers.old) }
+        ≡ held_counts (held_racers racers.old) (held_sweepers sweepers.old) }
     ensures members { result ≡ 0 → IsFor heap.old.value (length racers.old) (length sweepers.old)
         × IsFor heap.new.value (length racers.old) (length sweepers.old) }
     ensures like { result ≡ 0 →

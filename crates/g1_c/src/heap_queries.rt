@@ -4,12 +4,12 @@ ghost use Rattle.std.specs.Prelude.{◌≡◌, ◌≢◌, ◌<◌, ◌≤◌, �
 ghost use Rattle.g1_race.specs.Over.{halted};
 ghost use Rattle.g1_race.specs.Reading.{IsNextMember};
 ghost use Rattle.g1_handles.specs.AtPause.{SlotRefers, TellsPending, TellsStatus, TellsMembers};
-ghost use Rattle.g1_handles.specs.AtPause.{LacksSlot, LacksCard, LacksRegion};
 ghost use Rattle.g1_handles.specs.Arrays.{IsWritten};
 ghost use Rattle.g1_handles.specs.Codes.{IsRefusal, reference_of};
 ghost use Rattle.g1_handles.specs.HeapCalls.{IsHeapRefused};
 ghost use Rattle.g1_handles.specs.Life.{IsSameHeap};
 ghost use Rattle.g1_handles.specs.Sets.{HasFirst};
+ghost use Rattle.g1_handles.specs.Lacks.{LacksCard, LacksRegion, LacksSlot};
 
 use crate::queries::Totals;
 use core::mem::replace_with;
@@ -32,7 +32,7 @@ pub extern "C" fn g1_heap_target(
         SlotRefers old slot (reference_of target.new)) }
     ensures null { 0 < result → target.new ≡ 4294967295 }
     ensures why { 0 < result → IsRefusal result
-        (IsHeapRefused heap.old.value (λ old. LacksSlot old slot)) }
+        (IsHeapRefused heap.old.value (λ old. LacksSlot old.layout slot)) }
     ensures same { heap.new.value ≡ heap.old.value }
 {
     match replace_with(
@@ -64,7 +64,7 @@ pub extern "C" fn g1_heap_is_pending(
     ensures word { pending.new ≤ 1 }
     ensures none { 0 < result → pending.new ≡ 0 }
     ensures why { 0 < result → IsRefusal result
-        (IsHeapRefused heap.old.value (λ old. LacksCard old card)) }
+        (IsHeapRefused heap.old.value (λ old. LacksCard old.layout card)) }
     ensures same { heap.new.value ≡ heap.old.value }
 {
     match replace_with(
@@ -131,7 +131,7 @@ pub extern "C" fn g1_heap_members(
     ensures room { result ≡ 16 → IsSameHeap heap.old.value heap.new.value (λ old new.
         HasFirst (TellsMembers old region) cards.new count.new) }
     ensures why { 0 < result → result ≢ 16 → IsRefusal result
-        (IsHeapRefused heap.old.value (λ old. LacksRegion old region)) }
+        (IsHeapRefused heap.old.value (λ old. LacksRegion old.layout region)) }
     ensures none { result ≢ 0 → result ≢ 16 → count.new ≡ 0 }
     ensures written { result ≡ 0 → IsWritten cards.old count.new cards.new }
     ensures unwritten { 0 < result → result ≢ 16 → cards.new ≡ cards.old }
@@ -164,7 +164,7 @@ pub extern "C" fn g1_heap_next_member(
         IsNextMember (halted old) region from (reference_of card.new)) }
     ensures null { 0 < result → card.new ≡ 4294967295 }
     ensures why { 0 < result → IsRefusal result
-        (IsHeapRefused heap.old.value (λ old. LacksRegion old region)) }
+        (IsHeapRefused heap.old.value (λ old. LacksRegion old.layout region)) }
     ensures same { heap.new.value ≡ heap.old.value }
 {
     match replace_with(

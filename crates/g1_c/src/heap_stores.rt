@@ -5,7 +5,7 @@ ghost use Rattle.g1_handles.specs.Batch.{IsFaultAt};
 ghost use Rattle.g1_handles.specs.Codes.{IsRefusal, OfKind, reference_of};
 ghost use Rattle.g1_handles.specs.HeapCalls.{IsHeapRefused};
 ghost use Rattle.g1_handles.specs.Life.{IsSameHeap, OfPaused};
-ghost use Rattle.g1_handles.specs.Refusals.{SaysNoPlace};
+ghost use Rattle.g1_handles.specs.Lacks.{LacksPlace};
 
 use core::mem::replace_with;
 use g1_handles::at_pause::{PausedHeap, at_pause};
@@ -28,7 +28,7 @@ pub extern "C" fn g1_heap_store(
         OfKind kind.new (λ k. StoresAt old slot (reference_of target) k new)) }
     ensures none { 0 < result → kind.new ≡ 0 }
     ensures why { 0 < result → IsRefusal result (IsHeapRefused heap.old.value (λ old.
-        SaysNoPlace old.layout slot target)) }
+        LacksPlace old.layout slot target)) }
     ensures refused { 0 < result → heap.new.value ≡ heap.old.value }
 {
     match replace_with(

@@ -4,7 +4,8 @@ ghost use Rattle.g1_layout.specs.Shape.{slot_count};
 ghost use Rattle.g1_handles.specs.Codes.{IsRefusal};
 ghost use Rattle.g1_handles.specs.HeapCalls.{IsHeapRefused};
 ghost use Rattle.g1_handles.specs.Life.{IsSameHeap, OfPaused};
-ghost use Rattle.g1_handles.specs.Verifying.{FindsAt, SaysNoRange};
+ghost use Rattle.g1_handles.specs.Verifying.{FindsAt};
+ghost use Rattle.g1_handles.specs.Lacks.{LacksRanges};
 
 use core::mem::replace_with;
 use g1_handles::at_pause::{PausedHeap, at_pause};
@@ -30,7 +31,7 @@ pub extern "C" fn g1_heap_verify(
         × (first + length references.now ≤ slot_count old.layout)) → result ≡ 0 }
     ensures none { 0 < result → (differing.new ≡ 4294967295) × (missing.new ≡ 4294967295) }
     ensures why { 0 < result → IsRefusal result (IsHeapRefused heap.old.value (λ old.
-        SaysNoRange old.layout first count (length references.now))) }
+        LacksRanges old.layout first count first (length references.now))) }
     ensures same { heap.new.value ≡ heap.old.value }
 {
     match replace_with(

@@ -1,11 +1,12 @@
 //! The words of a heap: where they lie, and, at a pause, what a slot's is and a store of data.
 ghost use Rattle.std.specs.Prelude.{◌≡◌, ◌⊎◌, ◌<◌, ◌^◌};
 ghost use Rattle.g1_race.specs.Members.{race_words};
-ghost use Rattle.g1_handles.specs.AtPause.{HasWord, StoresDataAt, LacksSlot};
+ghost use Rattle.g1_handles.specs.AtPause.{HasWord, StoresDataAt};
 ghost use Rattle.g1_handles.specs.Codes.{IsRefusal};
 ghost use Rattle.g1_handles.specs.HeapCalls.{IsHeapRefused};
 ghost use Rattle.g1_handles.specs.Life.{IsSameHeap, OfHeap, SaysNoHeap};
 ghost use denote.RawPtr.{null_ptr};
+ghost use Rattle.g1_handles.specs.Lacks.{LacksSlot};
 
 use core::mem::replace_with;
 use g1_handles::at_pause::{PausedHeap, at_pause};
@@ -47,7 +48,7 @@ pub extern "C" fn g1_heap_word(
         HasWord old slot word.new) }
     ensures none { 0 < result → word.new ≡ 0 }
     ensures why { 0 < result → IsRefusal result
-        (IsHeapRefused heap.old.value (λ old. LacksSlot old slot)) }
+        (IsHeapRefused heap.old.value (λ old. LacksSlot old.layout slot)) }
     ensures same { heap.new.value ≡ heap.old.value }
 {
     match replace_with(
@@ -77,7 +78,7 @@ pub extern "C" fn g1_heap_store_data(
     ensures stored { result ≡ 0 → IsSameHeap heap.old.value heap.new.value (λ old new.
         StoresDataAt old slot word new) }
     ensures why { 0 < result → IsRefusal result (IsHeapRefused heap.old.value (λ old r.
-        LacksSlot old slot r ⊎ ((r ≡ Refusal.BadWord) × (word < 2 ^ 32)))) }
+        LacksSlot old.layout slot r ⊎ ((r ≡ Refusal.BadWord) × (word < 2 ^ 32)))) }
     ensures refused { 0 < result → heap.new.value ≡ heap.old.value }
 {
     match replace_with(

@@ -19,7 +19,7 @@
 //!   [`race_exchange`] has the stores that tell what a slot referred to or depend on it,
 //!   [`race_batch`] several stores by one call, and [`race_data`] a store of data,
 //!   and [`race_words`] the stores of any word that return or compare the one before.
-//!   [`sweep_counts`] tells what a sweeper has done.
+//!   [`member_counts`] tells what a racer and a sweeper have done.
 //! - [`heap_queries`], [`heap_drains`], [`heap_stores`], [`heap_copy`], [`heap_evacuation`] and
 //!   [`heap_words`] are the collector's calls on such a heap, at a pause. [`heap_read`] lets
 //!   several threads read it there, by the calls of [`reader_queries`].
@@ -45,6 +45,7 @@ pub mod heap_read;
 pub mod heap_stores;
 pub mod heap_verify;
 pub mod heap_words;
+pub mod member_counts;
 pub mod members;
 pub mod pause;
 pub mod queries;
@@ -59,5 +60,4 @@ pub mod reader_queries;
 pub mod redirection;
 pub mod refinement;
 pub mod store;
-pub mod sweep_counts;
 pub mod verify;

@@ -3,9 +3,11 @@ ghost use Rattle.std.specs.Prelude.{◌≡◌, ◌≢◌, ◌<◌, length, take}
 ghost use Rattle.g1_handles.specs.Arrays.{IsWritten};
 ghost use Rattle.g1_handles.specs.Codes.{OfOpen, IsRefusal};
 ghost use Rattle.g1_handles.specs.Queries.{HasMembers, Overflows};
-ghost use Rattle.g1_handles.specs.Refusals.{AreMembersRefused};
+ghost use Rattle.g1_handles.specs.Refusals.{AreMembersRefused, IsCallRefused};
 
 use core::mem::replace_with;
+use g1_core::Core;
+use g1_handles::any_handle::visit;
 use g1_handles::code::{DONE, Refusal};
 use g1_handles::handle::Handle;
 use g1_handles::list::put;
@@ -26,14 +28,20 @@ pub extern "C" fn g1_members(
     ensures room { result ≡ 16 → OfOpen handle.old.value (λ machine.
         Overflows (HasMembers machine region) (length cards.old) count.new) }
     ensures why { 0 < result → result ≢ 16 →
-        IsRefusal result (AreMembersRefused handle.old.value region) }
+        IsRefusal result (IsCallRefused handle.old.value (λ old.
+        AreMembersRefused old.state.table.layout region)) }
     ensures none { result ≢ 0 → result ≢ 16 → count.new ≡ 0 }
     ensures written { result ≡ 0 → IsWritten cards.old count.new cards.new }
     ensures unwritten { 0 < result → cards.new ≡ cards.old }
     ensures same { handle.new.value ≡ handle.old.value }
 {
     *count = 0;
-    match replace_with(handle, (alloc, region, cards.len()), members_in) {
+    let room = cards.len();
+    match replace_with(
+        handle,
+        (alloc, |core: &mut Core| members_in(core, region, room)),
+        visit,
+    ) {
         Err(refusal) => refusal.word(),
         Ok(Listed::NoRoom(needed)) => {
             *count = needed;

@@ -2,11 +2,12 @@
 ghost use Rattle.std.specs.Prelude.{◌≡◌, ◌<◌, length, take};
 ghost use Rattle.g1_handles.specs.Arrays.{IsWritten};
 ghost use Rattle.g1_handles.specs.Codes.{Between, IsRefusal};
-ghost use Rattle.g1_handles.specs.Refusals.{IsDrainRefused};
+ghost use Rattle.g1_handles.specs.Refusals.{IsCallRefused, IsDrainRefused};
 ghost use Rattle.g1_handles.specs.Replies.{DrainsTo};
 
 use core::mem::replace_with;
-use g1_core::Drained;
+use g1_core::{Core, Drained};
+use g1_handles::any_handle::visit;
 use g1_handles::code::{DONE, SHORT};
 use g1_handles::handle::Handle;
 use g1_handles::list::put;
@@ -32,7 +33,8 @@ pub extern "C" fn g1_drain(
     ensures none { 0 < result → count.new ≡ 0 }
     ensures why { 1 < result →
         IsRefusal result
-        (IsDrainRefused handle.old.value region (length cards.old) (length refined.old)) }
+        (IsCallRefused handle.old.value (λ old. IsDrainRefused old.state.table.layout region
+        (length cards.old) (length refined.old))) }
     ensures empty { 1 < result → refined_count.new ≡ 0 }
     ensures refused { 1 < result → handle.new.value ≡ handle.old.value }
     ensures cards { IsWritten cards.old count.new cards.new }
@@ -40,10 +42,15 @@ pub extern "C" fn g1_drain(
 {
     *count = 0;
     *refined_count = 0;
+    let room = cards.len();
+    let refined_room = refined.len();
     match replace_with(
         handle,
-        (alloc, region, cards.len(), refined.len()),
-        drain_in,
+        (
+            alloc,
+            |core: &mut Core| drain_in(core, region, room, refined_room),
+        ),
+        visit,
     ) {
         Err(refusal) => refusal.word(),
         Ok(Drained::Short { refined: list }) => {

@@ -3,9 +3,12 @@ ghost use Rattle.std.specs.Prelude.{◌≡◌, ◌<◌, ◌≤◌, ◌==◌, IfS
 ghost use Rattle.g1_layout.specs.Shape.{slot_count, card_count};
 ghost use Rattle.g1_handles.specs.Codes.{Between, IsRefusal, OfOpen, reference_of};
 ghost use Rattle.g1_handles.specs.Queries.{RefersTo, IsToldPending, HasStatus};
-ghost use Rattle.g1_handles.specs.Refusals.{IsPendingRefused, IsTargetRefused, SaysNotOpen};
+ghost use Rattle.g1_handles.specs.Refusals.{IsCallRefused, SaysNotOpen};
+ghost use Rattle.g1_handles.specs.Lacks.{LacksCard, LacksSlot};
 
 use core::mem::replace_with;
+use g1_core::Core;
+use g1_handles::any_handle::visit;
 use g1_handles::code::{DONE, NULL};
 use g1_handles::handle::Handle;
 use g1_handles::queries::{is_pending_in, status_in, target_in};
@@ -29,11 +32,16 @@ pub extern "C" fn g1_target(alloc: Global, handle: &mut Handle, slot: u32, targe
     ensures null { 0 < result → target.new ≡ 4294967295 }
     ensures answered { IfSome handle.old.value (λ old. slot < slot_count old.state.table.layout
         → result ≡ 0) }
-    ensures why { 0 < result → IsRefusal result (IsTargetRefused handle.old.value slot) }
+    ensures why { 0 < result → IsRefusal result (IsCallRefused handle.old.value (λ old.
+        LacksSlot old.state.table.layout slot)) }
     ensures refused { 0 < result → handle.new.value ≡ handle.old.value }
 {
     *target = NULL;
-    match replace_with(handle, (alloc, slot), target_in) {
+    match replace_with(
+        handle,
+        (alloc, |core: &mut Core| target_in(core, slot)),
+        visit,
+    ) {
         Err(refusal) => refusal.word(),
         Ok(word) => {
             *target = word;
@@ -56,10 +64,15 @@ pub extern "C" fn g1_is_pending(
     ensures none { 0 < result → pending.new ≡ 0 }
     ensures answered { IfSome handle.old.value (λ machine.
         card < card_count machine.state.table.layout → result ≡ 0) }
-    ensures why { 0 < result → IsRefusal result (IsPendingRefused handle.old.value card) }
+    ensures why { 0 < result → IsRefusal result (IsCallRefused handle.old.value (λ old.
+        LacksCard old.state.table.layout card)) }
     ensures same { handle.new.value ≡ handle.old.value }
 {
-    match replace_with(handle, (alloc, card), is_pending_in) {
+    match replace_with(
+        handle,
+        (alloc, |core: &mut Core| is_pending_in(core, card)),
+        visit,
+    ) {
         Err(refusal) => {
             *pending = 0;
             refusal.word()
@@ -86,7 +99,11 @@ pub extern "C" fn g1_status(alloc: Global, handle: &mut Handle, totals: &mut Tot
         pending: 0,
         recorded: 0,
     };
-    match replace_with(handle, alloc, status_in) {
+    match replace_with(
+        handle,
+        (alloc, |core: &mut Core| Ok(status_in(core))),
+        visit,
+    ) {
         Err(refusal) => refusal.word(),
         Ok(status) => {
             *totals = Totals {

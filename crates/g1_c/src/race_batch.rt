@@ -9,10 +9,13 @@ ghost use Rattle.g1_handles.specs.Racing.{OfRacer, IfRacer, racer_race_of};
 ghost use Rattle.g1_handles.specs.Refusals.{SaysNoMember};
 
 use core::mem::replace_with;
+use g1_handles::any_handle::visit;
 use g1_handles::batch::Store;
 use g1_handles::code::{DONE, FULL, STOPPED};
-use g1_handles::race_batch::{BatchEnd, store_all_in};
+use g1_handles::member::Member;
+use g1_handles::race_batch::{BatchEnd, store_all_by};
 use g1_handles::racer_handle::RacerHandle;
+use g1_race::Racer;
 use std::alloc::Global;
 
 /// As in `g1.h`.
@@ -36,7 +39,14 @@ pub extern "C" fn g1_race_store_all(
     ensures why { 4 < result → IsRefusal result (SaysNoMember racer.old.value) }
     ensures refused { 4 < result → racer.new.value ≡ racer.old.value }
 {
-    match replace_with(racer, (alloc, stores), store_all_in) {
+    match replace_with(
+        racer,
+        (
+            alloc,
+            |racer: &mut Member<Racer>| store_all_by(racer, stores),
+        ),
+        visit,
+    ) {
         Err(refusal) => {
             *stored = 0;
             refusal.word()

@@ -7,9 +7,12 @@ ghost use Rattle.g1_handles.specs.Racing.{OfRacer, IfRacer, StoresData, racer_ra
 ghost use Rattle.g1_handles.specs.Refusals.{IsRaceDataRefused};
 
 use core::mem::replace_with;
+use g1_handles::any_handle::visit;
 use g1_handles::code::DONE;
-use g1_handles::race_data::store_data_in;
+use g1_handles::member::Member;
+use g1_handles::race_data::store_data_by;
 use g1_handles::racer_handle::RacerHandle;
+use g1_race::Racer;
 use std::alloc::Global;
 
 /// As in `g1.h`.
@@ -29,7 +32,14 @@ pub extern "C" fn g1_race_store_data(
     ensures why { 0 < result → IsRefusal result (IsRaceDataRefused racer.old.value slot word) }
     ensures refused { 0 < result → racer.new.value ≡ racer.old.value }
 {
-    match replace_with(racer, (alloc, slot, word), store_data_in) {
+    match replace_with(
+        racer,
+        (
+            alloc,
+            |racer: &mut Member<Racer>| store_data_by(racer, slot, word),
+        ),
+        visit,
+    ) {
         Err(refusal) => {
             *old = 0;
             refusal.word()

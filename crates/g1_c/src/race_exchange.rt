@@ -8,9 +8,12 @@ ghost use Rattle.g1_handles.specs.Racing.{OfRacer, IfRacer, racer_race_of};
 ghost use Rattle.g1_handles.specs.Refusals.{IsRaceStoreRefused, IsRaceExchangeRefused};
 
 use core::mem::replace_with;
+use g1_handles::any_handle::visit;
 use g1_handles::code::{DIFFERS, DONE, NULL, kind_word};
-use g1_handles::race_exchange::{Exchange, compare_exchange_in, swap_in};
+use g1_handles::member::Member;
+use g1_handles::race_exchange::{Exchange, compare_exchange_by, swap_by};
 use g1_handles::racer_handle::RacerHandle;
+use g1_race::Racer;
 use std::alloc::Global;
 
 /// As in `g1.h`.
@@ -33,7 +36,14 @@ pub extern "C" fn g1_race_swap(
         IsRefusal result (IsRaceStoreRefused racer.old.value slot target) }
     ensures refused { 0 < result → racer.new.value ≡ racer.old.value }
 {
-    match replace_with(racer, (alloc, slot, target), swap_in) {
+    match replace_with(
+        racer,
+        (
+            alloc,
+            |racer: &mut Member<Racer>| swap_by(racer, slot, target),
+        ),
+        visit,
+    ) {
         Err(refusal) => {
             *old = NULL;
             *kind = 0;
@@ -76,7 +86,14 @@ pub extern "C" fn g1_race_compare_exchange(
     ensures refused { 2 < result → racer.new.value ≡ racer.old.value }
 {
     *kind = 0;
-    match replace_with(racer, (alloc, slot, expected, target), compare_exchange_in) {
+    match replace_with(
+        racer,
+        (
+            alloc,
+            |racer: &mut Member<Racer>| compare_exchange_by(racer, slot, expected, target),
+        ),
+        visit,
+    ) {
         Err(refusal) => {
             *found = NULL;
             refusal.word()

@@ -5,10 +5,8 @@ ghost use Rattle.g1_handles.specs.Arrays.{IsWritten};
 ghost use Rattle.g1_handles.specs.Codes.{IsRefusal};
 ghost use Rattle.g1_handles.specs.Refusals.{SaysNoMember};
 
-use core::mem::replace_with;
 use g1_handles::code::{DONE, Refusal};
-use g1_handles::list::put;
-use g1_handles::race_log::{LOG, take_in};
+use g1_handles::race_log::take_log;
 use g1_handles::racer_handle::RacerHandle;
 use std::alloc::Global;
 
@@ -29,14 +27,13 @@ pub extern "C" fn g1_race_take_log(
     ensures refused { 0 < result → racer.new.value ≡ racer.old.value }
     ensures written { IsWritten cards.old count.new cards.new }
 {
-    *count = 0;
-    if cards.len() < LOG {
-        return Refusal::NoRoom.word();
-    }
-    match replace_with(racer, alloc, take_in) {
-        Err(word) => word,
-        Ok(log) => {
-            *count = put(log.as_slice(), cards);
+    match take_log(alloc, racer, cards) {
+        Err(refusal) => {
+            *count = 0;
+            refusal.word()
+        }
+        Ok(taken) => {
+            *count = taken;
             DONE
         }
     }

@@ -7,8 +7,12 @@ ghost use Rattle.g1_handles.specs.Codes.{IsRefusal};
 ghost use Rattle.g1_handles.specs.Refusals.{IsSweepRefused};
 
 use core::mem::replace_with;
-use g1_handles::race_refine::refine_in;
+use g1_handles::any_handle::visit;
+use g1_handles::code::DONE;
+use g1_handles::member::Member;
+use g1_handles::race_refine::refine_by;
 use g1_handles::sweeper_handle::SweeperHandle;
+use g1_race::Sweeper;
 use std::alloc::Global;
 
 /// As in `g1.h`.
@@ -21,5 +25,15 @@ pub extern "C" fn g1_race_refine(alloc: Global, sweeper: &mut SweeperHandle, car
     ensures why { 0 < result → IsRefusal result (IsSweepRefused sweeper.old.value card) }
     ensures refused { 0 < result → sweeper.new.value ≡ sweeper.old.value }
 {
-    replace_with(sweeper, (alloc, card), refine_in)
+    match replace_with(
+        sweeper,
+        (
+            alloc,
+            |sweeper: &mut Member<Sweeper>| refine_by(sweeper, card),
+        ),
+        visit,
+    ) {
+        Err(refusal) => refusal.word(),
+        Ok(()) => DONE,
+    }
 }

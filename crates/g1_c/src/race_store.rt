@@ -7,9 +7,12 @@ ghost use Rattle.g1_handles.specs.Racing.{OfRacer, IfRacer, Stores, racer_race_o
 ghost use Rattle.g1_handles.specs.Refusals.{IsRaceStoreRefused};
 
 use core::mem::replace_with;
+use g1_handles::any_handle::visit;
 use g1_handles::code::{DONE, kind_word};
-use g1_handles::race_store::store_in;
+use g1_handles::member::Member;
+use g1_handles::race_store::store_by;
 use g1_handles::racer_handle::RacerHandle;
+use g1_race::Racer;
 use std::alloc::Global;
 
 /// As in `g1.h`.
@@ -31,7 +34,14 @@ pub extern "C" fn g1_race_store(
         IsRefusal result (IsRaceStoreRefused racer.old.value slot target) }
     ensures refused { 0 < result → racer.new.value ≡ racer.old.value }
 {
-    match replace_with(racer, (alloc, slot, target), store_in) {
+    match replace_with(
+        racer,
+        (
+            alloc,
+            |racer: &mut Member<Racer>| store_by(racer, slot, target),
+        ),
+        visit,
+    ) {
         Err(refusal) => {
             *kind = 0;
             refusal.word()

@@ -3,12 +3,15 @@ ghost use Rattle.std.specs.Prelude.{◌≡◌, ◌⊎◌, ◌<◌, ◌≤◌};
 ghost use Rattle.g1_handles.specs.Codes.{IsRefusal, OfKind};
 ghost use Rattle.g1_handles.specs.RaceWords.{SwapsWord, FindsOtherWord, CanStoreWord, MayHave};
 ghost use Rattle.g1_handles.specs.RaceWords.{IsSwapWordRefused, IsExchangeWordRefused};
-ghost use Rattle.g1_handles.specs.Racing.{OfRacer, IfRacer};
+ghost use Rattle.g1_handles.specs.Racing.{OfRacer, IfRacer, racer_race_of};
 
 use core::mem::replace_with;
+use g1_handles::any_handle::visit;
 use g1_handles::code::{DIFFERS, DONE, kind_word};
-use g1_handles::race_words::{compare_exchange_word_in, swap_word_in};
+use g1_handles::member::Member;
+use g1_handles::race_words::{compare_exchange_word_by, swap_word_by};
 use g1_handles::racer_handle::RacerHandle;
+use g1_race::Racer;
 use std::alloc::Global;
 
 /// As in `g1.h`.
@@ -23,12 +26,19 @@ pub extern "C" fn g1_race_swap_word(
 ) -> u32
     ensures swapped { result ≡ 0 → OfRacer racer.old.value (λ a.
         OfRacer racer.new.value (λ b. OfKind kind.new (λ k. SwapsWord a slot word old.new k b))) }
-    ensures taken { IfRacer racer.old.value (λ a. CanStoreWord a slot word → result ≡ 0) }
+    ensures taken { IfRacer racer.old.value (λ a. CanStoreWord (racer_race_of a) a.racer slot word → result ≡ 0) }
     ensures none { 0 < result → (old.new ≡ 0) × (kind.new ≡ 0) }
     ensures why { 0 < result → IsRefusal result (IsSwapWordRefused racer.old.value slot word) }
     ensures refused { 0 < result → racer.new.value ≡ racer.old.value }
 {
-    match replace_with(racer, (alloc, slot, word), swap_word_in) {
+    match replace_with(
+        racer,
+        (
+            alloc,
+            |racer: &mut Member<Racer>| swap_word_by(racer, slot, word),
+        ),
+        visit,
+    ) {
         Err(refusal) => {
             *old = 0;
             *kind = 0;
@@ -60,8 +70,8 @@ pub extern "C" fn g1_race_compare_exchange_word(
     ensures differs { result ≡ 2 → OfRacer racer.old.value (λ a.
         OfRacer racer.new.value (λ b. FindsOtherWord a slot expected found.new b)) }
     ensures done { result ≤ 2 → (result ≡ 0) ⊎ (result ≡ 2) }
-    ensures taken { IfRacer racer.old.value (λ a. CanStoreWord a slot word
-        → MayHave a expected → result ≤ 2) }
+    ensures taken { IfRacer racer.old.value (λ a. CanStoreWord (racer_race_of a) a.racer slot word
+        → MayHave (racer_race_of a) expected → result ≤ 2) }
     ensures none { 0 < result → kind.new ≡ 0 }
     ensures null { 2 < result → found.new ≡ 0 }
     ensures why { 2 < result →
@@ -71,8 +81,11 @@ pub extern "C" fn g1_race_compare_exchange_word(
     *kind = 0;
     match replace_with(
         racer,
-        (alloc, slot, expected, word),
-        compare_exchange_word_in,
+        (
+            alloc,
+            |racer: &mut Member<Racer>| compare_exchange_word_by(racer, slot, expected, word),
+        ),
+        visit,
     ) {
         Err(refusal) => {
             *found = 0;

@@ -2,14 +2,17 @@
 //! recorded for a region.
 ghost use Rattle.std.specs.Prelude.{◌≡◌, ◌<◌, ◌≤◌, ◌==◌};
 ghost use Rattle.g1_handles.specs.Codes.{IsRefusal, reference_of};
-ghost use Rattle.g1_handles.specs.Readers.{OfReader, ReadsTarget, ReadsWord, ReadsPending};
-ghost use Rattle.g1_handles.specs.Readers.{ReadsPair, ReadsNext, IsReaderRefused, LacksSlot};
-ghost use Rattle.g1_handles.specs.Readers.{LacksCard, LacksRegion, LacksPair};
+ghost use Rattle.g1_handles.specs.Readers.{OfReader, reader_layout, ReadsTarget, ReadsWord};
+ghost use Rattle.g1_handles.specs.Readers.{ReadsPair, ReadsPending, ReadsNext, IsReaderRefused};
+ghost use Rattle.g1_handles.specs.Lacks.{LacksCard, LacksPair, LacksRegion, LacksSlot};
 
 use core::mem::replace_with;
+use g1_handles::any_handle::visit;
 use g1_handles::code::{DONE, NULL};
+use g1_handles::member::Member;
 use g1_handles::reader_handle::ReaderHandle;
-use g1_handles::reader_queries::{has_in, is_pending_in, next_member_in, target_in, word_in};
+use g1_handles::reader_queries::{has_by, is_pending_by, next_member_by, target_by, word_by};
+use g1_race::Reader;
 use std::alloc::Global;
 
 /// As in `g1.h`.
@@ -24,10 +27,14 @@ pub extern "C" fn g1_reader_target(
         OfReader reader.old.value (λ a. ReadsTarget a slot (reference_of target.new)) }
     ensures null { 0 < result → target.new ≡ 4294967295 }
     ensures why { 0 < result →
-        IsRefusal result (IsReaderRefused reader.old.value (LacksSlot slot)) }
+        IsRefusal result (IsReaderRefused reader.old.value (λ a. LacksSlot (reader_layout a) slot)) }
     ensures same { reader.new.value ≡ reader.old.value }
 {
-    match replace_with(reader, (alloc, slot), target_in) {
+    match replace_with(
+        reader,
+        (alloc, |reader: &mut Member<Reader>| target_by(reader, slot)),
+        visit,
+    ) {
         Err(refusal) => {
             *target = NULL;
             refusal.word()
@@ -50,10 +57,14 @@ pub extern "C" fn g1_reader_word(
     ensures word { result ≡ 0 → OfReader reader.old.value (λ a. ReadsWord a slot word.new) }
     ensures none { 0 < result → word.new ≡ 0 }
     ensures why { 0 < result →
-        IsRefusal result (IsReaderRefused reader.old.value (LacksSlot slot)) }
+        IsRefusal result (IsReaderRefused reader.old.value (λ a. LacksSlot (reader_layout a) slot)) }
     ensures same { reader.new.value ≡ reader.old.value }
 {
-    match replace_with(reader, (alloc, slot), word_in) {
+    match replace_with(
+        reader,
+        (alloc, |reader: &mut Member<Reader>| word_by(reader, slot)),
+        visit,
+    ) {
         Err(refusal) => {
             *word = 0;
             refusal.word()
@@ -78,10 +89,17 @@ pub extern "C" fn g1_reader_is_pending(
     ensures word { pending.new ≤ 1 }
     ensures none { 0 < result → pending.new ≡ 0 }
     ensures why { 0 < result →
-        IsRefusal result (IsReaderRefused reader.old.value (LacksCard card)) }
+        IsRefusal result (IsReaderRefused reader.old.value (λ a. LacksCard (reader_layout a) card)) }
     ensures same { reader.new.value ≡ reader.old.value }
 {
-    match replace_with(reader, (alloc, card), is_pending_in) {
+    match replace_with(
+        reader,
+        (
+            alloc,
+            |reader: &mut Member<Reader>| is_pending_by(reader, card),
+        ),
+        visit,
+    ) {
         Err(refusal) => {
             *pending = 0;
             refusal.word()
@@ -107,10 +125,17 @@ pub extern "C" fn g1_reader_has(
     ensures word { has.new ≤ 1 }
     ensures none { 0 < result → has.new ≡ 0 }
     ensures why { 0 < result →
-        IsRefusal result (IsReaderRefused reader.old.value (LacksPair card region)) }
+        IsRefusal result (IsReaderRefused reader.old.value (λ a. LacksPair (reader_layout a) card region)) }
     ensures same { reader.new.value ≡ reader.old.value }
 {
-    match replace_with(reader, (alloc, card, region), has_in) {
+    match replace_with(
+        reader,
+        (
+            alloc,
+            |reader: &mut Member<Reader>| has_by(reader, card, region),
+        ),
+        visit,
+    ) {
         Err(refusal) => {
             *has = 0;
             refusal.word()
@@ -135,10 +160,17 @@ pub extern "C" fn g1_reader_next_member(
         OfReader reader.old.value (λ a. ReadsNext a region from (reference_of card.new)) }
     ensures null { 0 < result → card.new ≡ 4294967295 }
     ensures why { 0 < result →
-        IsRefusal result (IsReaderRefused reader.old.value (LacksRegion region)) }
+        IsRefusal result (IsReaderRefused reader.old.value (λ a. LacksRegion (reader_layout a) region)) }
     ensures same { reader.new.value ≡ reader.old.value }
 {
-    match replace_with(reader, (alloc, region, from), next_member_in) {
+    match replace_with(
+        reader,
+        (
+            alloc,
+            |reader: &mut Member<Reader>| next_member_by(reader, region, from),
+        ),
+        visit,
+    ) {
         Err(refusal) => {
             *card = NULL;
             refusal.word()

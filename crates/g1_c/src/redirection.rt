@@ -2,11 +2,12 @@
 ghost use Rattle.std.specs.Prelude.{◌≡◌, ◌<◌, length, take};
 ghost use Rattle.g1_handles.specs.Arrays.{IsWritten};
 ghost use Rattle.g1_handles.specs.Codes.{Between, IsRefusal};
-ghost use Rattle.g1_handles.specs.Refusals.{IsRedirectRefused};
+ghost use Rattle.g1_handles.specs.Refusals.{IsCallRefused, IsRedirectRefused};
 ghost use Rattle.g1_handles.specs.Replies.{RedirectsTo};
 
 use core::mem::replace_with;
-use g1_core::Redirected;
+use g1_core::{Core, Redirected};
+use g1_handles::any_handle::visit;
 use g1_handles::code::{DONE, SHORT};
 use g1_handles::handle::Handle;
 use g1_handles::list::put;
@@ -31,14 +32,20 @@ pub extern "C" fn g1_redirect(
         RedirectsTo old from to (Redirected.Short (take refined_count.new refined.new)) new) }
     ensures none { 0 < result → moved.new ≡ 0 }
     ensures why { 1 < result →
-        IsRefusal result (IsRedirectRefused handle.old.value from to (length refined.old)) }
+        IsRefusal result (IsCallRefused handle.old.value (λ old.
+        IsRedirectRefused old.state.table.layout from to (length refined.old))) }
     ensures empty { 1 < result → refined_count.new ≡ 0 }
     ensures refused { 1 < result → handle.new.value ≡ handle.old.value }
     ensures written { IsWritten refined.old refined_count.new refined.new }
 {
     *moved = 0;
     *refined_count = 0;
-    match replace_with(handle, (alloc, from, to, refined.len()), redirect_in) {
+    let room = refined.len();
+    match replace_with(
+        handle,
+        (alloc, |core: &mut Core| redirect_in(core, from, to, room)),
+        visit,
+    ) {
         Err(refusal) => refusal.word(),
         Ok(Redirected::Short { refined: list }) => {
             *refined_count = put(list.as_slice(), refined);

@@ -2,10 +2,12 @@
 ghost use Rattle.std.specs.Prelude.{◌≡◌, ◌<◌, ◌≤◌, length, take};
 ghost use Rattle.g1_handles.specs.Arrays.{IsWritten};
 ghost use Rattle.g1_handles.specs.Codes.{Between, IsRefusal};
-ghost use Rattle.g1_handles.specs.Refusals.{IsRefinementRefused};
+ghost use Rattle.g1_handles.specs.Refusals.{IsCallRefused, IsRefinementRefused};
 ghost use Rattle.g1_handles.specs.Replies.{RefinesTo, reply_of};
 
 use core::mem::replace_with;
+use g1_core::Core;
+use g1_handles::any_handle::visit;
 use g1_handles::handle::Handle;
 use g1_handles::list::put;
 use g1_handles::refinement::{refine_in, word_of};
@@ -36,7 +38,8 @@ pub extern "C" fn g1_refine(
         RefinesTo old cards.now (reply_of result (take tally.new.refined refined.new) tally.new.hot
         tally.new.skipped) new) }
     ensures why { 1 < result →
-        IsRefusal result (IsRefinementRefused handle.old.value cards.now (length refined.old)) }
+        IsRefusal result (IsCallRefused handle.old.value (λ old.
+        IsRefinementRefused old.state.table.layout cards.now (length refined.old))) }
     ensures refused { 1 < result → handle.new.value ≡ handle.old.value }
     ensures none { 1 < result → (tally.new.refined ≡ 0) × (tally.new.hot ≡ 0)
         × (tally.new.skipped ≡ 0) }
@@ -47,7 +50,12 @@ pub extern "C" fn g1_refine(
         hot: 0,
         skipped: 0,
     };
-    match replace_with(handle, (alloc, cards, refined.len()), refine_in) {
+    let room = refined.len();
+    match replace_with(
+        handle,
+        (alloc, |core: &mut Core| refine_in(core, cards, room)),
+        visit,
+    ) {
         Err(refusal) => refusal.word(),
         Ok(reply) => {
             *tally = Tally {

@@ -4,9 +4,12 @@ ghost use Rattle.g1_core.specs.Run.{kind_of};
 ghost use Rattle.g1_handles.specs.Codes.{kind_word, reference_of, IsRefusal, IsStoreOf, Between};
 ghost use Rattle.g1_core.specs.Barrier.{stored_machine};
 ghost use Rattle.g1_handles.specs.Codes.{OfOpen};
-ghost use Rattle.g1_handles.specs.Refusals.{IsStoreRefused};
+ghost use Rattle.g1_handles.specs.Lacks.{LacksPlace};
+ghost use Rattle.g1_handles.specs.Refusals.{IsCallRefused};
 
 use core::mem::replace_with;
+use g1_core::Core;
+use g1_handles::any_handle::visit;
 use g1_handles::code::{DONE, kind_word};
 use g1_handles::handle::Handle;
 use g1_handles::store::store_in;
@@ -28,10 +31,15 @@ pub extern "C" fn g1_store(
     ensures taken { IfSome handle.old.value (λ old. IsStoreOf old.state.table.layout slot target
         → result ≡ 0) }
     ensures none { 0 < result → kind.new ≡ 0 }
-    ensures why { 0 < result → IsRefusal result (IsStoreRefused handle.old.value slot target) }
+    ensures why { 0 < result → IsRefusal result (IsCallRefused handle.old.value
+        (λ old. LacksPlace old.state.table.layout slot target)) }
     ensures refused { 0 < result → handle.new.value ≡ handle.old.value }
 {
-    match replace_with(handle, (alloc, slot, target), store_in) {
+    match replace_with(
+        handle,
+        (alloc, |core: &mut Core| store_in(core, slot, target)),
+        visit,
+    ) {
         Err(refusal) => {
             *kind = 0;
             refusal.word()

@@ -3,9 +3,13 @@ ghost use Rattle.std.specs.Prelude.{◌≡◌, ◌+◌, ◌<◌, ◌≤◌, IfSo
 ghost use Rattle.g1_layout.specs.Shape.{slot_count};
 ghost use Rattle.g1_core.specs.Machine.{IsOnlyRead};
 ghost use Rattle.g1_handles.specs.Codes.{IsRefusal, Between};
-ghost use Rattle.g1_handles.specs.Verifying.{Finds, IsVerifyRefused};
+ghost use Rattle.g1_handles.specs.Verifying.{Finds};
+ghost use Rattle.g1_handles.specs.Lacks.{LacksRanges};
+ghost use Rattle.g1_handles.specs.Refusals.{IsCallRefused};
 
 use core::mem::replace_with;
+use g1_core::Core;
+use g1_handles::any_handle::visit;
 use g1_handles::code::{DONE, NULL};
 use g1_handles::handle::Handle;
 use g1_handles::verify::verify_in;
@@ -30,10 +34,18 @@ pub extern "C" fn g1_verify(
         → first + length references.now ≤ slot_count old.state.table.layout → result ≡ 0) }
     ensures none { 0 < result → (differing.new ≡ 4294967295) × (missing.new ≡ 4294967295) }
     ensures why { 0 < result → IsRefusal result
-        (IsVerifyRefused handle.old.value first count (length references.now)) }
+        (IsCallRefused handle.old.value (λ old.
+        LacksRanges old.state.table.layout first count first (length references.now))) }
     ensures refused { 0 < result → handle.new.value ≡ handle.old.value }
 {
-    match replace_with(handle, (alloc, first, count, references), verify_in) {
+    match replace_with(
+        handle,
+        (
+            alloc,
+            |core: &mut Core| verify_in(core, first, count, references),
+        ),
+        visit,
+    ) {
         Err(refusal) => {
             *differing = NULL;
             *missing = NULL;

@@ -47,7 +47,7 @@ stores_logged a b (s ∷ ss) (c, k, h, rest) =
 
 -- why there is no next store
 pub stores_end : (a b : Racing) (ss : List Store) (i : ℕ) (d : Store) (r : Refusal) (end : BatchEnd) → i < length ss → StoresAll a (take i ss) b
-    → SaysNoStore b (slice_index_or ss i d).slot (slice_index_or ss i d).target r → (r ≡ refusal.LogFull → end ≡ Full) → (r ≢ refusal.LogFull → end ≡ Stopped) → IsEnd end a ss i b
+    → SaysNoStore (racer_race_of b) b.racer (slice_index_or ss i d).slot (slice_index_or ss i d).target r → (r ≡ refusal.LogFull → end ≡ Full) → (r ≢ refusal.LogFull → end ≡ Stopped) → IsEnd end a ss i b
 stores_end a b ss i d r end below first (inl (e, full)) at_full else =
     subst (λ (x : BatchEnd). IsEnd x a ss i b) (sym (at_full e)) (below, full)
 stores_end a b ss i d r end below first (inr (e, lacks)) at_full else =

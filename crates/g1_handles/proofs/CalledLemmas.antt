@@ -12,6 +12,7 @@ use Rattle.g1_handles.specs.declared.racing_heap.RacingHeap.{RacingHeap}
 use Rattle.g1_handles.specs.declared.racing_heap.RacingHeap.TheVariants as heap
 use Rattle.g1_handles.specs.Life.{IsSameBut, IsSameHeap}
 use Rattle.g1_handles.specs.HeapCalls.{IsCalled, IsHeapRefused}
+use Rattle.g1_handles.proofs.VisitLemmas.{is_ok, err_of}
 
 -- a heap at a pause is its share, its pause and its boxes
 same_at : (a b : AtPause) → IsSameBut a b → b.pause ≡ a.pause → b ≡ a
@@ -30,14 +31,6 @@ same_at a b same e = λ i. record {
   sweepers_wait = is_prop→PathP (λ j. All (λ m. arc_value m.value.race ≡ arc_value (same.race j)) (same.sweepers j).items) (λ j. hlevel props) b.sweepers_wait a.sweepers_wait i;
   readers_wait = is_prop→PathP (λ j. All (λ m. arc_value m.value.race ≡ arc_value (same.race j)) (same.readers j).idle.items) (λ j. hlevel props) b.readers_wait a.readers_wait i;
 }
-
-abbrev is_ok : {A : Type 0} → Result A Refusal → Type 0
-is_ok (Ok a) = Unit {0}
-is_ok (Err e) = ⊥
-
-abbrev err_of : {A : Type 0} → Refusal → Result A Refusal → Refusal
-err_of d (Ok a) = d
-err_of d (Err e) = e
 
 module _ {A : Type 0} (Q : Halt → Result A Refusal → Halt → Type 0) where
   -- a call that answers was made at a pause

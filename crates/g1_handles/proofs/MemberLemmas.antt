@@ -40,6 +40,10 @@ pub on_err : {A E P Q : Type 0} (r : Result A E) → (P → Q) → OnErr r P →
 on_err (Ok a) f h = h
 on_err (Err e) f h = f h
 
+pub if_err : {A E P : Type 0} (r : Result A E) → P → OnErr r P
+if_err (Ok a) p = tt
+if_err (Err e) p = p
+
 pub of_some : {A : Type 0} (P : A → Type 0) (o : Option A) (x : A) → o ≡ Some x → P x → IsSomeAnd o P
 of_some {A} P o x e is = subst (λ (q : Option A). IsSomeAnd q P) (sym e) is
 

@@ -1,11 +1,11 @@
 -- What the collector's calls on a heap at a pause do, and why they are refused.
-use Rattle.std.specs.Prelude.{◌≡◌, ◌≢◌, ◌+◌, ◌<◌, ◌≤◌, ℕ, Bool, List, length, fold, Option, None}
+use Rattle.std.specs.Prelude.{◌≡◌, ◌≢◌, ℕ, Bool, List, length, fold, Option, None}
 use Rattle.std.specs.FinSet as set
 use mathlib.Core.Option.{some}
 use lib.ListN.{get_elem?}
 use Rattle.g1_layout.specs.declared.kind.Kind.{Kind}
 use Rattle.g1_layout.specs.declared.kind.Kind.TheVariants as kinds
-use Rattle.g1_layout.specs.Shape.{slot_count, card_count, region_of}
+use Rattle.g1_layout.specs.Shape.{region_of}
 use Rattle.g1_core.specs.Table.{Table, Crosses, target_of, AreMembers}
 use Rattle.g1_core.specs.Run.{IsStep, drained, kind_of, stored}
 use Rattle.g1_core.specs.Copying.{copied}
@@ -24,25 +24,8 @@ use Rattle.g1_race.specs.Evacuating.{IsExactAtPause, copied_word}
 use Rattle.g1_race.specs.Moving.{word_after}
 use Rattle.g1_race.specs.Telling.{marked_cards}
 use Rattle.g1_handles.specs.declared.batch.Store.{Store}
-use Rattle.g1_handles.specs.declared.code.Refusal.{Refusal}
 use Rattle.g1_handles.specs.declared.code.Refusal.TheVariants as refusal
 use Rattle.g1_handles.specs.Codes.{reference_of}
-
--- the heap has no slot of this number
-abbrev pub LacksSlot : Halt → ℕ → Refusal → Type 0
-LacksSlot heap slot r = (r ≡ refusal.NoSlot) × (slot_count heap.layout ≤ slot)
-
--- the heap has no card of this number
-abbrev pub LacksCard : Halt → ℕ → Refusal → Type 0
-LacksCard heap card r = (r ≡ refusal.NoCard) × (card_count heap.layout ≤ card)
-
--- the heap has no region of this number
-abbrev pub LacksRegion : Halt → ℕ → Refusal → Type 0
-LacksRegion heap region r = (r ≡ refusal.NoRegion) × (heap.layout.regions ≤ region)
-
--- the heap has not as many slots from the first one on
-abbrev pub LacksSlots : Halt → ℕ → ℕ → Refusal → Type 0
-LacksSlots heap first count r = (r ≡ refusal.NoSlot) × (slot_count heap.layout < first + count)
 
 -- whose words these are, how they are laid out, and how many members there are is as it was
 pub record IsKept (old new : Halt) : Type 0 where

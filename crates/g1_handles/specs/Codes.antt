@@ -6,7 +6,6 @@ use Rattle.g1_layout.specs.declared.kind.Kind.TheVariants.{Null, SameRegion, Alr
 use Rattle.g1_core.specs.declared.reply.ClearReply.{ClearReply}
 use Rattle.g1_core.specs.declared.reply.ClearReply.TheVariants.{Cleared, Pending, StillReferenced}
 use Rattle.g1_core.specs.declared.config.Settings.{Settings}
-use Rattle.g1_core.specs.Machine.{Machine}
 use Rattle.g1_handles.specs.declared.calls.Counts.{Counts}
 use Rattle.g1_handles.specs.declared.code.Refusal.{Refusal}
 use Rattle.g1_handles.specs.declared.code.Refusal.TheVariants as refusal
@@ -66,16 +65,16 @@ cleared_of word number =
 abbrev pub IsClearWord : ℕ → ℕ → Type 0
 IsClearWord word number = ((word ≡ 0) × (number ≡ 0)) ⊎ (word ≡ 19) ⊎ (word ≡ 20)
 
--- what holds from one machine to the next, of a handle that is open before and after
-abbrev pub Between : Option Machine → Option Machine → (Machine → Machine → Type 0) → Type 0
+-- what holds from one value to the next, of a handle that is open before and after
+abbrev pub Between : {V : Type 0} → Option V → Option V → (V → V → Type 0) → Type 0
 Between None new Q = ⊥
 Between (Some old) None Q = ⊥
 Between (Some old) (Some new) Q = Q old new
 
--- what holds of the machine of a handle that is open
-abbrev pub OfOpen : Option Machine → (Machine → Type 0) → Type 0
+-- what holds of what an open handle holds
+abbrev pub OfOpen : {V : Type 0} → Option V → (V → Type 0) → Type 0
 OfOpen None Q = ⊥
-OfOpen (Some machine) Q = Q machine
+OfOpen (Some v) Q = Q v
 
 -- the layout that these counts ask for
 abbrev pub layout_of : Counts → Shape

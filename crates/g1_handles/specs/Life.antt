@@ -26,11 +26,12 @@ use Rattle.g1_handles.specs.declared.racing_heap.BeingRead.{BeingRead}
 use Rattle.g1_handles.specs.declared.racing_heap.UnderWay.{UnderWay}
 use Rattle.g1_handles.specs.declared.racing_heap.RacingHeap.{RacingHeap}
 use Rattle.g1_handles.specs.declared.racing_heap.RacingHeap.TheVariants as heap
-use Rattle.g1_handles.specs.declared.sweep_counts.SweepCounts.{SweepCounts}
+use Rattle.g1_handles.specs.declared.member_counts.MemberCounts.{MemberCounts}
 use Rattle.g1_handles.specs.Own.{RacerMember, SweeperMember}
 use Rattle.g1_handles.specs.Racing.{AreClosed, OfRacer, OfSweeper, racer_race_of, sweeper_race_of}
 use Rattle.g1_handles.specs.Racing.{racer_knows, sweeper_knows, part_in, IsAmong, IsOf, IsEndOf}
-use Rattle.g1_handles.specs.Racing.{counts_of, no_counts}
+use Rattle.g1_handles.specs.Counting.{no_counts}
+use Rattle.g1_handles.specs.Racing.{counts_of}
 use Rattle.g1_handles.specs.Refusals.{SaysNoMember}
 
 -- the handle has a heap at a pause that no reader reads, and it is so of the pause
@@ -149,19 +150,29 @@ IsFor (Some (heap.Racing b)) racers sweepers =
 
 -- what the members of these boxes have counted
 abbrev pub boxed_counts : {P : Type 0} {g : Ghosts P} → Vec (Box (Member P g) Global) Global
-    → List SweepCounts
+    → List MemberCounts
 boxed_counts boxes = map (λ m. m.value.counts) boxes.items
 
--- what the sweepers of a heap at a pause have counted, in the order of their handles
-abbrev pub heap_counts : Option RacingHeap → List SweepCounts
-heap_counts None = []
-heap_counts (Some (heap.Paused a)) = boxed_counts a.sweepers
-heap_counts (Some (heap.Read r)) = boxed_counts r.sweepers
-heap_counts (Some (heap.Racing b)) = []
+-- what the racers and the sweepers of a heap at a pause have counted, in the order of their handles
+abbrev pub heap_counts : Option RacingHeap → List MemberCounts × List MemberCounts
+heap_counts None = ([], [])
+heap_counts (Some (heap.Paused a)) = (boxed_counts a.racers, boxed_counts a.sweepers)
+heap_counts (Some (heap.Read r)) = (boxed_counts r.racers, boxed_counts r.sweepers)
+heap_counts (Some (heap.Racing b)) = ([], [])
 
--- the sweepers of the heap at a pause have counted nothing
+-- what the members whose boxes are in the rooms of a heap have counted
+abbrev pub waiting_counts : UnderWay → List MemberCounts × List MemberCounts
+waiting_counts b = (boxed_counts b.racers.boxes, boxed_counts b.sweepers.boxes)
+
+-- the racers and the sweepers of the heap at a pause have counted nothing
 abbrev pub HasCountedNothing : Option RacingHeap → Type 0
-HasCountedNothing h = All (λ c. c ≡ no_counts) (heap_counts h)
+HasCountedNothing h =
+    All (λ c. c ≡ no_counts) (heap_counts h).0 × All (λ c. c ≡ no_counts) (heap_counts h).1
+
+-- what the racers and the sweepers of these handles have counted
+abbrev pub held_counts : List (Option RacerMember) → List (Option SweeperMember)
+    → List MemberCounts × List MemberCounts
+held_counts racers sweepers = (map counts_of racers, map counts_of sweepers)
 
 -- the log of a racer, if there is one
 abbrev pub log_of : Option Racer → List ℕ
@@ -214,7 +225,8 @@ pub record LetsGo (a : AtPause) (b : UnderWay) : Type 0 where
   pub logs : map racer_log b.racers.parts.items ≡ a.pause.logs
   pub began : began (race_layout (arc_value b.race)) (beginning (start_at a.pause))
       ≡ halted a.pause
-  pub waited : b.sweepers.boxes ≡ a.sweepers
+  pub racers_waited : b.racers.boxes ≡ a.racers
+  pub sweepers_waited : b.sweepers.boxes ≡ a.sweepers
 
 abbrev pub IsLetGo : RacingHeap → RacingHeap → Type 0
 IsLetGo (heap.Paused a) (heap.Racing b) = LetsGo a b
@@ -271,7 +283,7 @@ pub record ComesIn (old new : UnderWay) (rs : List (Option RacerMember))
   pub racer_views : map racer_view new.racers.parts.items ≡ map racer_knows rs
   pub sweeper_views : map sweeper_view new.sweepers.parts.items ≡ map sweeper_knows ss
   pub logs : map racer_log new.racers.parts.items ≡ map log_in rs
-  pub counts : boxed_counts new.sweepers.boxes ≡ map counts_of ss
+  pub counts : waiting_counts new ≡ held_counts rs ss
 
 -- a pause of the heap of the first handle; that the members are of its race, each given once, is
 -- found out by counts, of which no proof knows

@@ -9,6 +9,7 @@ use Rattle.g1_race.specs.Members.{HasOverwritten, HasStored, HasDiffered, HasNot
 use Rattle.g1_race.specs.Members.{is_logged, race_layout, race_shape, racer_view}
 use Rattle.g1_race.specs.Race.{word_of}
 use Rattle.g1_handles.specs.declared.batch.Store.{Store}
+use Rattle.g1_handles.specs.Counting.{with_store}
 use Rattle.g1_handles.specs.Racing.{Racing}
 use Rattle.g1_handles.specs.declared.race_batch.BatchEnd.{BatchEnd}
 use Rattle.g1_handles.specs.declared.race_batch.BatchEnd.TheVariants.{Whole, Stopped, Full}
@@ -29,6 +30,7 @@ pub record Swaps (a : Racing) (p : ℕ) (t old : Option ℕ) (k : Kind) (b : Rac
   pub log : b.racer.log.items ≡ (if is_logged k
       then a.racer.log.items ++ slot_card (race_shape (racer_race_of a)) p ∷ []
       else a.racer.log.items)
+  pub counts : b.counts ≡ with_store a.counts k
 
 -- a racer before and after such a store, which overwrote what was expected
 pub record Exchanges (a : Racing) (p : ℕ) (expected t : Option ℕ) (k : Kind) (b : Racing)
@@ -36,6 +38,7 @@ pub record Exchanges (a : Racing) (p : ℕ) (expected t : Option ℕ) (k : Kind)
   pub race : racer_race_of b ≡ racer_race_of a
   pub stored : HasStored (race_shape (racer_race_of a)) p t (word_of expected) k a.racer b.racer
   pub had : IsFound (racer_view a.racer) p (word_of expected)
+  pub counts : b.counts ≡ with_store a.counts k
 
 -- a racer before and after it stored nothing to slot p, which had something else than was expected
 -- and referred to what was found
@@ -43,6 +46,7 @@ pub record FindsOther (a : Racing) (p : ℕ) (expected found : Option ℕ) (b : 
   pub race : racer_race_of b ≡ racer_race_of a
   pub same : HasNotStored a.racer b.racer
   pub differed : HasDiffered (racer_view a.racer) p expected found
+  pub counts : b.counts ≡ a.counts
 
 -- what a compare-and-swap came to
 abbrev pub IsExchange : Racing → ℕ → Option ℕ → Option ℕ → Exchange → Racing → Type 0

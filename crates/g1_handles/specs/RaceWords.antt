@@ -4,57 +4,64 @@ use Rattle.arrayvec.specs.ArrayVec.{array_vec_len}
 use Rattle.g1_layout.specs.Shape.{slot_count}
 use Rattle.g1_layout.specs.declared.kind.Kind.{Kind}
 use Rattle.g1_race_words.specs.Rule.{IsWord}
+use Rattle.g1_race.specs.declared.race.Race.{Race}
+use Rattle.g1_race.specs.declared.race.Racer.{Racer}
 use Rattle.g1_race.specs.Members.{HasNotStored, race_layout, race_shape, racer_view}
 use Rattle.g1_race.specs.Exchanging.{HasStoredWord, HasOtherWord}
 use Rattle.g1_handles.specs.declared.code.Refusal.{Refusal}
 use Rattle.g1_handles.specs.declared.code.Refusal.TheVariants as refusal
 use Rattle.g1_handles.specs.Own.{RacerMember}
+use Rattle.g1_handles.specs.Counting.{with_store}
 use Rattle.g1_handles.specs.Racing.{Racing, racer_race_of}
 use Rattle.g1_handles.specs.Refusals.{IsRacerRefused}
 
--- a slot of the racer's heap may have the word: null, a reference or data
-abbrev pub MayHave : Racing → ℕ → Type 0
-MayHave a word = IsWord (race_shape (racer_race_of a)) word
+-- a slot of the heap may have the word: null, a reference or data
+abbrev pub MayHave : Race → ℕ → Type 0
+MayHave race word = IsWord (race_shape race) word
 
 -- a racer before and after a store of the word to slot p, which overwrote the old one
 pub record SwapsWord (a : Racing) (p word old : ℕ) (k : Kind) (b : Racing) : Type 0 where
   pub race : racer_race_of b ≡ racer_race_of a
   pub stored : HasStoredWord (race_shape (racer_race_of a)) p word old k a.racer b.racer
-  pub fits : MayHave a old
+  pub fits : MayHave (racer_race_of a) old
+  pub counts : b.counts ≡ with_store a.counts k
 
 -- a racer before and after it stored nothing to slot p, which had another word than was expected
 pub record FindsOtherWord (a : Racing) (p expected found : ℕ) (b : Racing) : Type 0 where
   pub race : racer_race_of b ≡ racer_race_of a
   pub same : HasNotStored a.racer b.racer
   pub differed : HasOtherWord (race_shape (racer_race_of a)) (racer_view a.racer) p expected found
+  pub counts : b.counts ≡ a.counts
 
 -- what a compare-and-swap of words came to
 abbrev pub IsWordExchange : Racing → ℕ → ℕ → ℕ → Result Kind ℕ → Racing → Type 0
 IsWordExchange a p expected word (Ok k) b = SwapsWord a p word expected k b
 IsWordExchange a p expected word (Err found) b = FindsOtherWord a p expected found b
 
--- no slot of the racer's heap may have the word
-abbrev pub SaysBadWord : Racing → ℕ → Refusal → Type 0
-SaysBadWord a word r = (r ≡ refusal.BadWord) × (MayHave a word → ⊥)
+-- no slot of the heap may have the word
+abbrev pub SaysBadWord : Race → ℕ → Refusal → Type 0
+SaysBadWord race word r = (r ≡ refusal.BadWord) × (MayHave race word → ⊥)
 
 -- the racer's log is full, or the heap lacks the slot, or no slot may have the word
-abbrev pub SaysNoWordStore : Racing → ℕ → ℕ → Refusal → Type 0
-SaysNoWordStore a slot word r =
-    ((r ≡ refusal.LogFull) × (256 ≤ array_vec_len a.racer.log))
-    ⊎ ((r ≡ refusal.NoSlot) × (slot_count (race_layout (racer_race_of a)) ≤ slot))
-    ⊎ SaysBadWord a word r
+abbrev pub SaysNoWordStore : Race → Racer → ℕ → ℕ → Refusal → Type 0
+SaysNoWordStore race racer slot word r =
+    ((r ≡ refusal.LogFull) × (256 ≤ array_vec_len racer.log))
+    ⊎ ((r ≡ refusal.NoSlot) × (slot_count (race_layout race) ≤ slot))
+    ⊎ SaysBadWord race word r
 
 -- the racer can store the word to the slot
-pub record CanStoreWord (a : Racing) (slot word : ℕ) : Type 0 where
-  pub room : array_vec_len a.racer.log < 256
-  pub place : slot < slot_count (race_layout (racer_race_of a))
-  pub fits : MayHave a word
+pub record CanStoreWord (race : Race) (racer : Racer) (slot word : ℕ) : Type 0 where
+  pub room : array_vec_len racer.log < 256
+  pub place : slot < slot_count (race_layout race)
+  pub fits : MayHave race word
 
 -- a store of the word into the slot by the racer of a handle
 abbrev pub IsSwapWordRefused : Option RacerMember → ℕ → ℕ → Refusal → Type 0
-IsSwapWordRefused m slot word = IsRacerRefused m (λ a. SaysNoWordStore a slot word)
+IsSwapWordRefused m slot word =
+    IsRacerRefused m (λ a. SaysNoWordStore (racer_race_of a) a.racer slot word)
 
 -- the same where the word that is expected is a word of the heap too
 abbrev pub IsExchangeWordRefused : Option RacerMember → ℕ → ℕ → ℕ → Refusal → Type 0
 IsExchangeWordRefused m slot expected word =
-    IsRacerRefused m (λ a r. SaysNoWordStore a slot word r ⊎ SaysBadWord a expected r)
+    IsRacerRefused m (λ a r. SaysNoWordStore (racer_race_of a) a.racer slot word r
+    ⊎ SaysBadWord (racer_race_of a) expected r)

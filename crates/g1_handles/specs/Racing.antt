@@ -1,9 +1,10 @@
 -- What the calls on the members of a race do.
 use Rattle.std.specs.Prelude.{◌↔◌, Contains, ◌≡◌, ℕ, List, [], ◌∷◌, ◌++◌, map}
 use Rattle.std.specs.Prelude.{All, Option, Some, None, IsSome, IsSomeAnd, IfSome, false}
-use Rattle.std.specs.Prelude.{if◌then◌else◌, Bool, length, ◌+◌, ◌%◌, ◌^◌}
+use Rattle.std.specs.Prelude.{if◌then◌else◌, Bool, length, ◌+◌}
 use Rattle.std.specs.Arc.{arc_value}
 use Rattle.g1_layout.specs.declared.kind.Kind.{Kind}
+use Rattle.g1_layout.specs.declared.kind.Kind.TheVariants.{Null}
 use Rattle.g1_race.specs.declared.race.Race.{Race}
 use Rattle.g1_race.specs.declared.race.Racer.{Racer}
 use Rattle.g1_race.specs.declared.race.Sweeper.{Sweeper}
@@ -18,15 +19,19 @@ use Rattle.g1_race.specs.Members.{sweeper_start, sweeper_view, IsKind, is_logged
 use Rattle.g1_handles.specs.declared.member.Part.{Ghosts}
 use Rattle.g1_handles.specs.declared.member.Member.{Member}
 use Rattle.g1_handles.specs.declared.racer_handle.RacerHandle.{RacerHandle}
-use Rattle.g1_handles.specs.declared.sweep_counts.SweepCounts.{SweepCounts}
+use Rattle.g1_handles.specs.declared.member_counts.MemberCounts.{MemberCounts}
+use Rattle.g1_handles.specs.declared.member_counts.StoreCounts.{StoreCounts}
+use Rattle.g1_handles.specs.declared.member_counts.SweepCounts.{SweepCounts}
 use Rattle.g1_handles.specs.declared.sweeper_handle.SweeperHandle.{SweeperHandle}
 use Rattle.g1_handles.specs.declared.reader_handle.ReaderHandle.{ReaderHandle}
 use Rattle.g1_handles.specs.Own.{RacerMember, SweeperMember, ReaderMember}
+use Rattle.g1_handles.specs.Counting.{no_counts, with_store, with_card}
 
--- a racer with its race
+-- a racer with its race, and what it has counted
 pub record Racing : Type 0 where
   pub race : Race
   pub racer : Racer
+  pub counts : StoreCounts
 
 -- a sweeper with its race, and what it has counted
 pub record Sweeping : Type 0 where
@@ -34,31 +39,42 @@ pub record Sweeping : Type 0 where
   pub sweeper : Sweeper
   pub counts : SweepCounts
 
-abbrev pub racing : Race → Racer → Racing
-racing race racer = record { race = race; racer = racer }
+abbrev pub racing : Race → Racer → StoreCounts → Racing
+racing race racer counts = record { race = race; racer = racer; counts = counts }
 
-abbrev sweeping : SweeperMember → Sweeper → Sweeping
-sweeping m sweeper = record { race = arc_value m.race; sweeper = sweeper; counts = m.counts }
+abbrev pub racing_in : RacerMember → Racer → Racing
+racing_in m racer = racing (arc_value m.race) racer m.counts.stores
+
+abbrev pub sweeping_in : SweeperMember → Sweeper → Sweeping
+sweeping_in m sweeper =
+    record { race = arc_value m.race; sweeper = sweeper; counts = m.counts.sweeps }
+
+module _ {P : Type 0} {g : Ghosts P} {T : Type 0} (seen : Member P g → P → T) where
+  -- the handle has a racer, a sweeper or a reader, and what is seen of it is so
+  abbrev pub OfPart : Option (Member P g) → (T → Type 0) → Type 0
+  OfPart None Q = ⊥
+  OfPart (Some m) Q = IsSomeAnd m.part (λ p. Q (seen m p))
+
+  -- if the handle has one, it is so of it
+  abbrev pub IfPart : Option (Member P g) → (T → Type 0) → Type 0
+  IfPart None Q = Unit {0}
+  IfPart (Some m) Q = IfSome m.part (λ p. Q (seen m p))
 
 -- the handle has a racer, and it is so of it
 abbrev pub OfRacer : Option RacerMember → (Racing → Type 0) → Type 0
-OfRacer None P = ⊥
-OfRacer (Some m) P = IsSomeAnd m.part (λ r. P (racing (arc_value m.race) r))
-
--- the handle has a sweeper, and it is so of it
-abbrev pub OfSweeper : Option SweeperMember → (Sweeping → Type 0) → Type 0
-OfSweeper None P = ⊥
-OfSweeper (Some m) P = IsSomeAnd m.part (λ w. P (sweeping m w))
+OfRacer m Q = OfPart racing_in m Q
 
 -- if the handle has a racer, it is so of it
 abbrev pub IfRacer : Option RacerMember → (Racing → Type 0) → Type 0
-IfRacer None P = Unit {0}
-IfRacer (Some m) P = IfSome m.part (λ r. P (racing (arc_value m.race) r))
+IfRacer m Q = IfPart racing_in m Q
+
+-- the handle has a sweeper, and it is so of it
+abbrev pub OfSweeper : Option SweeperMember → (Sweeping → Type 0) → Type 0
+OfSweeper m Q = OfPart sweeping_in m Q
 
 -- if the handle has a sweeper, it is so of it
 abbrev pub IfSweeper : Option SweeperMember → (Sweeping → Type 0) → Type 0
-IfSweeper None P = Unit {0}
-IfSweeper (Some m) P = IfSome m.part (λ w. P (sweeping m w))
+IfSweeper m Q = IfPart sweeping_in m Q
 
 abbrev pub racer_race_of : Racing → Race
 racer_race_of a = a.race
@@ -75,6 +91,7 @@ pub record Stores (a : Racing) (p : ℕ) (t : Option ℕ) (k : Kind) (b : Racing
   pub log : b.racer.log.items ≡ (if is_logged k
       then a.racer.log.items ++ slot_card (race_shape (racer_race_of a)) p ∷ []
       else a.racer.log.items)
+  pub counts : b.counts ≡ with_store a.counts k
 
 -- a racer before and after it stored this word of data to slot p, which had the old word
 pub record StoresData (a : Racing) (p word old : ℕ) (b : Racing) : Type 0 where
@@ -84,6 +101,7 @@ pub record StoresData (a : Racing) (p word old : ℕ) (b : Racing) : Type 0 wher
   pub log : b.racer.log.items ≡ a.racer.log.items
   pub found : IsFound (racer_view a.racer) p old
   pub fits : IsWord (race_shape (racer_race_of a)) old
+  pub counts : b.counts ≡ with_store a.counts Null
 
 -- a racer before and after its log was taken
 pub record TakesLog (a : Racing) (log : List ℕ) (b : Racing) : Type 0 where
@@ -91,19 +109,7 @@ pub record TakesLog (a : Racing) (log : List ℕ) (b : Racing) : Type 0 where
   pub view : racer_view b.racer ≡ racer_view a.racer
   pub cards : log ≡ a.racer.log.items
   pub empty : b.racer.log.items ≡ []
-
--- the counts of a sweeper that has done nothing
-abbrev pub no_counts : SweepCounts
-no_counts = record { refined = 0; cleaned = 0; references = 0 }
-
--- the counts after one more card, which was dirty or not, with this many references to record
-abbrev pub counted : SweepCounts → Bool → ℕ → SweepCounts
-counted counts was_dirty references =
-    record {
-      refined = (counts.refined + 1) % 2 ^ 64;
-      cleaned = (counts.cleaned + (if was_dirty then 1 else 0)) % 2 ^ 64;
-      references = (counts.references + references) % 2 ^ 64;
-    }
+  pub counts : b.counts ≡ a.counts
 
 -- a sweeper before and after it refined a card: its counts go up by whether it made the card clean
 -- and by how many references into other regions it read
@@ -118,7 +124,7 @@ pub record Sweeps (a : Sweeping) (card : ℕ) (b : Sweeping) : Type 0 where
       else (sweeper_view a.sweeper).cleanings)
   pub read : length (sweeper_view b.sweeper).pairs
       ≡ length (sweeper_view a.sweeper).pairs + references
-  pub counts : b.counts ≡ counted a.counts was_dirty references
+  pub counts : b.counts ≡ with_card a.counts was_dirty references
 
 -- what the handles hold
 abbrev pub held_racers : List RacerHandle → List (Option RacerMember)
@@ -146,7 +152,7 @@ module _ {P : Type 0} {g : Ghosts P} where
   part_in (Some m) = m.part
 
   -- what the member behind a handle has counted
-  abbrev pub counts_of : Option (Member P g) → SweepCounts
+  abbrev pub counts_of : Option (Member P g) → MemberCounts
   counts_of None = no_counts
   counts_of (Some m) = m.counts
 

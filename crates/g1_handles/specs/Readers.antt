@@ -1,11 +1,11 @@
 -- Several threads that read one pause, each by a reader.
-use Rattle.std.specs.Prelude.{◌≡◌, ◌⊎◌, ◌<◌, ◌≤◌, ℕ, Bool, List, length, All, Any}
-use Rattle.std.specs.Prelude.{Option, Some, None, IsSomeAnd, IsTrue, ◌↔◌}
+use Rattle.std.specs.Prelude.{◌≡◌, ◌⊎◌, ◌<◌, ℕ, Bool, List, length, All, Any}
+use Rattle.std.specs.Prelude.{Option, Some, None, IsTrue, ◌↔◌}
 use Rattle.std.specs.Arc.{arc_value}
 use Rattle.std.specs.FinSet as set
 use mathlib.Core.Option.{some}
 use lib.ListN.{get_elem?}
-use Rattle.g1_layout.specs.Shape.{slot_count, card_count}
+use Rattle.g1_layout.specs.Shape.{Shape}
 use Rattle.g1_core.specs.Table.{Table, target_of, IsRecorded}
 use Rattle.g1_race_words.specs.Rule.{IsWord}
 use Rattle.g1_race.specs.declared.race.Race.{Race}
@@ -20,8 +20,8 @@ use Rattle.g1_handles.specs.declared.racing_heap.RacingHeap.{RacingHeap}
 use Rattle.g1_handles.specs.declared.racing_heap.RacingHeap.TheVariants as heap
 use Rattle.g1_handles.specs.Own.{ReaderMember}
 use Rattle.g1_handles.specs.Life.{OfPaused, OfRead, IsRacing, SaysNoHeap, SaysNotPaused, AreFor}
-use Rattle.g1_handles.specs.Racing.{AreClosed, IsAmong}
-use Rattle.g1_handles.specs.Refusals.{SaysNoMember}
+use Rattle.g1_handles.specs.Racing.{OfPart, AreClosed, IsAmong}
+use Rattle.g1_handles.specs.Refusals.{SaysNoMember, IsPartRefused}
 
 -- a reader with its race
 pub record ReaderAt : Type 0 where
@@ -31,10 +31,16 @@ pub record ReaderAt : Type 0 where
 abbrev pub reader_at : Race → Known → ReaderAt
 reader_at race reader = record { race = race; reader = reader }
 
+abbrev pub reading_in : ReaderMember → Known → ReaderAt
+reading_in m reader = reader_at (arc_value m.race) reader
+
 -- the handle has a reader, and it is so of it
 abbrev pub OfReader : Option ReaderMember → (ReaderAt → Type 0) → Type 0
-OfReader None P = ⊥
-OfReader (Some m) P = IsSomeAnd m.part (λ r. P (reader_at (arc_value m.race) r))
+OfReader m Q = OfPart reading_in m Q
+
+-- how the heap that a reader reads is laid out
+abbrev pub reader_layout : ReaderAt → Shape
+reader_layout a = race_layout a.race
 
 -- the table that a reader reads
 abbrev pub table_of_reader : ReaderAt → Table
@@ -123,20 +129,4 @@ ReadsNext a region from next = IsNextMember (table_of_reader a) region from next
 
 -- a call by the reader of a handle, which is refused of the reader for this
 abbrev pub IsReaderRefused : Option ReaderMember → (ReaderAt → Refusal → Type 0) → Refusal → Type 0
-IsReaderRefused m Why r = SaysNoMember m r ⊎ OfReader m (λ a. Why a r)
-
--- the heap has no slot of this number
-abbrev pub LacksSlot : ℕ → ReaderAt → Refusal → Type 0
-LacksSlot slot a r = (r ≡ refusal.NoSlot) × (slot_count (race_layout a.race) ≤ slot)
-
--- the heap has no card of this number
-abbrev pub LacksCard : ℕ → ReaderAt → Refusal → Type 0
-LacksCard card a r = (r ≡ refusal.NoCard) × (card_count (race_layout a.race) ≤ card)
-
--- the heap has no region of this number
-abbrev pub LacksRegion : ℕ → ReaderAt → Refusal → Type 0
-LacksRegion region a r = (r ≡ refusal.NoRegion) × ((race_layout a.race).regions ≤ region)
-
--- the heap lacks the card or the region
-abbrev pub LacksPair : ℕ → ℕ → ReaderAt → Refusal → Type 0
-LacksPair card region a r = LacksCard card a r ⊎ LacksRegion region a r
+IsReaderRefused m Why r = IsPartRefused reading_in m Why r

@@ -5,12 +5,13 @@ use Rattle.std.specs.List.Sorted.{IsStrictlyIncreasing}
 use Rattle.g1_core.specs.Table.{Table, IsRecorded}
 use Rattle.g1_race.specs.Over.{Halt}
 use Rattle.g1_handles.specs.Arrays.{IsWritten}
-use Rattle.g1_handles.specs.AtPause.{DrainsAtPause, LacksRegion, TellsMembers}
+use Rattle.g1_handles.specs.AtPause.{DrainsAtPause, TellsMembers}
 use Rattle.g1_handles.specs.declared.code.Refusal.{Refusal}
 use Rattle.g1_handles.specs.declared.heap_sets.Told.{Told}
 use Rattle.g1_handles.specs.declared.heap_sets.Told.TheVariants.{All as All-of, First}
 use Rattle.g1_handles.specs.declared.heap_sets.Which.{Which}
 use Rattle.g1_handles.specs.declared.heap_sets.Which.TheVariants.{Recorded, Refined}
+use Rattle.g1_handles.specs.Lacks.{LacksRegion}
 
 -- the array has the first of so many cards that are so, and there are more
 pub record HasFirst (AreSo : List ℕ → Type 0) (array : List ℕ) (count : ℕ) : Type 0 where
@@ -40,6 +41,6 @@ IsSet Refined old region new cards = DrainsAtPause old region new cards
 pub record IsSetCall (which : Which) (region : ℕ) (before after : List ℕ) (old : Halt)
     (r : Result Told Refusal) (new : Halt) : Type 0 where
   pub told : IfOk r (λ told. Tells (IsSet which old region new) before told after)
-  pub why : IfErr r (LacksRegion old region)
+  pub why : IfErr r (LacksRegion old.layout region)
   pub refused : OnErr r (new ≡ old)
   pub same : which ≡ Recorded → new ≡ old

@@ -1,7 +1,10 @@
 //! What the handles have in common.
 ghost use Rattle.std.specs.Prelude.{◌≡◌, Some, None, MatchOption, IsTrue, map};
+ghost use Rattle.std.specs.Fn.{FnOnceReturnsAtMut};
 ghost use Rattle.g1_handles.specs.Racing.{AreClosed};
+ghost use Rattle.g1_handles.specs.Visits.{IsVisit};
 
+use crate::code::Refusal;
 use crate::nullable_box::NullableBox;
 use crate::raw_box::RawBox;
 use core::mem::replace;
@@ -27,6 +30,25 @@ pub trait AnyHandle: Drop + Sized {
     /// The words of a handle.
     fn into_nullable(self) -> NullableBox<Self::Value>
         ensures { result.value ≡ value self };
+}
+
+/// Makes a call on what a handle holds, and gives the handle back. `words` has the call. Returns
+/// `NotOpen` if the handle is closed: nothing has changed.
+#[inline(always)]
+pub fn visit<H: AnyHandle, A, F: FnOnce(&mut H::Value) -> Result<A, Refusal>>(
+    handle: H,
+    words: (Global, F),
+) -> (H, Result<A, Refusal>)
+    requires { F.IsAlwaysCallable words.1 }
+    ensures { IsVisit (FnOnceReturnsAtMut F.FnOnce words.1)
+        (H.value handle) result.1 (H.value result.0) }
+{
+    let (alloc, call) = words;
+    let Some(mut inside) = into_box(handle) else {
+        return (closed(alloc), Err(Refusal::NotOpen));
+    };
+    let answer = call(&mut inside);
+    (opened(inside), answer)
 }
 
 /// Returns an open handle, which takes over a value.

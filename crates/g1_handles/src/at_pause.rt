@@ -1,5 +1,5 @@
 //! A call on a heap at a pause.
-ghost use Rattle.std.specs.Prelude.{◌≡◌, Some, Result};
+ghost use Rattle.std.specs.Prelude.{Some, Result};
 ghost use Rattle.std.specs.Fn.{FnOnceReturnsAtMut};
 ghost use Rattle.g1_race.specs.Over.{Halt};
 ghost use Rattle.g1_handles.specs.declared.code.Refusal.{Refusal};

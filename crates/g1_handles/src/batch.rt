@@ -1,18 +1,15 @@
 //! Several stores by one call.
-ghost use Rattle.std.specs.Prelude.{◌≡◌, ◌<◌, ◌≤◌, true, false, length, take, IfOk, OnErr, IfErr};
-ghost use Rattle.std.specs.Prelude.{IfSome, IfNone, MatchOption};
-ghost use Rattle.g1_handles.specs.Codes.{Between, IsStoreOf};
+ghost use Rattle.std.specs.Prelude.{◌≡◌, ◌≤◌, true, false, length, take, IfOk, OnErr, IfErr};
+ghost use Rattle.std.specs.Prelude.{IfNone, MatchOption};
+ghost use Rattle.g1_handles.specs.Codes.{IsStoreOf};
 ghost use Rattle.g1_handles.specs.Refusals.{AreStoresRefused};
-ghost use Rattle.g1_handles.specs.Batch.{Made, made, made_all, cards_of, IsFaultAt};
+ghost use Rattle.g1_handles.specs.Batch.{made, made_all, cards_of, IsFaultAt};
 
-use crate::any_handle::{closed, into_box, opened};
 use crate::code::Refusal;
-use crate::handle::Handle;
 use crate::store::reference;
 use arrayvec::ArrayVec;
 use g1_core::Core;
 use g1_layout::Card;
-use std::alloc::Global;
 
 /// One store: a slot and its target.
 #[repr(C)]
@@ -35,44 +32,33 @@ pub struct Stored {
     pub is_whole: bool,
 }
 
-/// Makes stores in order at the core of a handle, up to the first that names a slot or a target
-/// that the heap does not have. `words` has the stores, and the length of the caller's array for
-/// their cards.
+/// Makes stores in a core in order, up to the first that names a slot or a target that the heap does
+/// not have. `room` is the length of the caller's array for their cards.
 ///
-/// Returns `NotOpen`, `NoRoom` if the array is shorter than the list of stores, or `TooManyCards`
-/// for more than 256 stores: nothing has changed. Takes no memory.
-pub fn store_all_in(
-    handle: Handle,
-    words: (Global, &[Store], usize),
-) -> (Handle, Result<Stored, Refusal>)
-    ensures made { IfOk result.1 (λ answer.
-        Between handle.value result.0.value (λ old new. record {
-          machine = new;
-          cards = answer.cards.items;
-        } ≡ made_all old (take answer.count words.entry.1.now))) }
-    ensures whole { IfOk result.1 (λ answer. answer.is_whole ≡ true
-        → answer.count ≡ length words.entry.1.now) }
-    ensures stopped { IfOk result.1 (λ answer. answer.is_whole ≡ false
-        → IfSome handle.value (λ old.
-        IsFaultAt old.state.table.layout words.entry.1.now answer.count)) }
-    ensures few { IfOk result.1 (λ answer. (length answer.cards.items ≤ answer.count)
-        × (answer.count ≤ 256) × (answer.count ≤ length words.entry.1.now)) }
-    ensures room { IfOk result.1 (λ answer. length answer.cards.items ≤ words.entry.2) }
-    ensures why { IfErr result.1 (λ refusal.
-        AreStoresRefused handle.value (length words.entry.1.now) words.entry.2 refusal) }
-    ensures refused { OnErr result.1 (result.0.value ≡ handle.value) }
+/// Returns `NoRoom` if the array is shorter than the list of stores, or `TooManyCards` for more than
+/// 256 stores: nothing has changed. Takes no memory.
+pub fn store_all_in(core: &mut Core, stores: &[Store], room: usize) -> Result<Stored, Refusal>
+    ensures made { IfOk result (λ answer. record {
+      machine = core.new;
+      cards = answer.cards.items;
+    } ≡ made_all core.old (take answer.count stores.now)) }
+    ensures whole { IfOk result (λ answer. answer.is_whole ≡ true
+        → answer.count ≡ length stores.now) }
+    ensures stopped { IfOk result (λ answer. answer.is_whole ≡ false
+        → IsFaultAt core.old.state.table.layout stores.now answer.count) }
+    ensures few { IfOk result (λ answer. (length answer.cards.items ≤ answer.count)
+        × (answer.count ≤ 256) × (answer.count ≤ length stores.now)) }
+    ensures room { IfOk result (λ answer. length answer.cards.items ≤ room) }
+    ensures why { IfErr result (AreStoresRefused (length stores.now) room) }
+    ensures refused { OnErr result (core.new ≡ core.old) }
 {
-    let Some(mut core) = into_box(handle) else {
-        return (closed(words.0), Err(Refusal::NotOpen));
-    };
-    if words.2 < words.1.len() {
-        return (opened(core), Err(Refusal::NoRoom));
+    if room < stores.len() {
+        return Err(Refusal::NoRoom);
     }
-    if 256 < words.1.len() {
-        return (opened(core), Err(Refusal::TooManyCards));
+    if 256 < stores.len() {
+        return Err(Refusal::TooManyCards);
     }
-    let stored = store_each(&mut core, words.1);
-    (opened(core), Ok(stored))
+    Ok(store_each(core, stores))
 }
 
 fn store_each(core: &mut Core, stores: &[Store]) -> Stored

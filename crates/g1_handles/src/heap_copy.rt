@@ -1,6 +1,7 @@
 //! A range of slots is copied to another one at a pause.
-ghost use Rattle.std.specs.Prelude.{◌≡◌, ◌⊎◌, OnOk, IfErr, OnErr};
-ghost use Rattle.g1_handles.specs.AtPause.{IsKept, Copies, LacksSlots};
+ghost use Rattle.std.specs.Prelude.{◌≡◌, OnOk, IfErr, OnErr};
+ghost use Rattle.g1_handles.specs.AtPause.{IsKept, Copies};
+ghost use Rattle.g1_handles.specs.Lacks.{LacksRanges};
 
 use crate::at_pause::PausedHeap;
 use crate::code::Refusal;
@@ -11,8 +12,7 @@ use crate::copy::has_slots;
 #[tactic(auto, using(crate::proofs::Kept::kept_same, crate::proofs::Kept::kept_race))]
 pub fn copy_at(heap: &mut PausedHeap, from: u32, to: u32, count: u32) -> Result<(), Refusal>
     ensures copied { OnOk result (Copies heap.old from to count heap.new) }
-    ensures why { IfErr result (λ refusal. LacksSlots heap.old from count refusal
-        ⊎ LacksSlots heap.old to count refusal) }
+    ensures why { IfErr result (LacksRanges heap.old.layout from count to count) }
     ensures refused { OnErr result (heap.new ≡ heap.old) }
     ensures kept { IsKept heap.old heap.new }
 {

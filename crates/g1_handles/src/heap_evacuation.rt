@@ -5,8 +5,8 @@ ghost use Rattle.g1_layout.specs.Shape.{region_of};
 ghost use Rattle.g1_core.specs.Table.{Crosses};
 ghost use Rattle.g1_race.specs.Over.{halted};
 ghost use Rattle.g1_handles.specs.AtPause.{IsKept, ClearsAt, Redirects, Wipes, Forgets, RefersOut};
-ghost use Rattle.g1_handles.specs.AtPause.{LacksRegion};
 ghost use Rattle.g1_handles.specs.Codes.{cleared_of, IsClearWord};
+ghost use Rattle.g1_handles.specs.Lacks.{LacksRegion};
 
 use crate::at_pause::PausedHeap;
 use crate::clearing::words_of;
@@ -23,7 +23,7 @@ pub fn clear_at(heap: &mut PausedHeap, region: u32) -> Result<(u32, u32), Refusa
         ClearsAt heap.old region (cleared_of answer.0 answer.1) heap.new) }
     ensures words { IfOk result (λ answer. IsClearWord answer.0 answer.1) }
     ensures left { IfOk result (λ answer. 0 < answer.0 → heap.new ≡ heap.old) }
-    ensures why { IfErr result (LacksRegion heap.old region) }
+    ensures why { IfErr result (LacksRegion heap.old.layout region) }
     ensures refused { OnErr result (heap.new ≡ heap.old) }
     ensures kept { IsKept heap.old heap.new }
 {
@@ -38,8 +38,8 @@ pub fn clear_at(heap: &mut PausedHeap, region: u32) -> Result<(u32, u32), Refusa
 #[tactic(auto, using(crate::proofs::Kept::kept_same, crate::proofs::Kept::kept_refined))]
 pub fn redirect_at(heap: &mut PausedHeap, from: u32, to: u32) -> Result<u32, Refusal>
     ensures redirected { IfOk result (λ slots. Redirects heap.old from to slots heap.new) }
-    ensures why { IfErr result (λ refusal. LacksRegion heap.old from refusal
-        ⊎ LacksRegion heap.old to refusal ⊎ ((refusal ≡ Refusal.SameRegion) × (from ≡ to))) }
+    ensures why { IfErr result (λ refusal. LacksRegion heap.old.layout from refusal
+        ⊎ LacksRegion heap.old.layout to refusal ⊎ ((refusal ≡ Refusal.SameRegion) × (from ≡ to))) }
     ensures refused { OnErr result (heap.new ≡ heap.old) }
     ensures kept { IsKept heap.old heap.new }
 {
@@ -61,7 +61,7 @@ pub fn redirect_at(heap: &mut PausedHeap, from: u32, to: u32) -> Result<u32, Ref
 #[tactic(auto, using(crate::proofs::Kept::kept_same, crate::proofs::Kept::kept_race))]
 pub fn wipe_at(heap: &mut PausedHeap, region: u32) -> Result<(), Refusal>
     ensures wiped { OnOk result (Wipes heap.old region heap.new) }
-    ensures why { IfErr result (LacksRegion heap.old region) }
+    ensures why { IfErr result (LacksRegion heap.old.layout region) }
     ensures refused { OnErr result (heap.new ≡ heap.old) }
     ensures kept { IsKept heap.old heap.new }
 {
@@ -77,7 +77,7 @@ pub fn wipe_at(heap: &mut PausedHeap, region: u32) -> Result<(), Refusal>
 #[tactic(auto, using(crate::proofs::Kept::kept_same, crate::proofs::Kept::kept_race))]
 pub fn forget_at(heap: &mut PausedHeap, region: u32) -> Result<(), Refusal>
     ensures forgotten { OnOk result (Forgets heap.old region heap.new) }
-    ensures why { IfErr result (λ refusal. LacksRegion heap.old region refusal
+    ensures why { IfErr result (λ refusal. LacksRegion heap.old.layout region refusal
         ⊎ ((refusal ≡ Refusal.StillReferenced) × RefersOut heap.old region)) }
     ensures refused { OnErr result (heap.new ≡ heap.old) }
     ensures kept { IsKept heap.old heap.new }

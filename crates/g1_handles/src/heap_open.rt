@@ -5,15 +5,15 @@ ghost use Rattle.std.specs.Arc.{arc_value};
 ghost use Rattle.g1_handles.specs.Codes.{layout_of};
 ghost use Rattle.g1_handles.specs.Life.{IsNewHeap, IsOpeningRefused, AreHeapCounts, OfPaused};
 ghost use Rattle.g1_handles.specs.Life.{IsEndRefused, HasCountedNothing};
-ghost use Rattle.g1_handles.specs.Racing.{no_counts};
+ghost use Rattle.g1_handles.specs.Counting.{no_counts};
 
 use crate::any_handle::{closed, into_box, is_closed, opened};
 use crate::calls::Counts;
 use crate::code::Refusal;
 use crate::heap_handle::HeapHandle;
 use crate::member::{Member, Part};
+use crate::member_counts::MemberCounts;
 use crate::racing_heap::{AtPause, RacingHeap, Readers, Room};
-use crate::sweep_counts::SweepCounts;
 use core::mem::replace_with;
 use g1_layout::{Layout, NoMemory};
 use g1_race::{Paused, Race};
@@ -127,7 +127,7 @@ fn waiting<P: Part>(
             race,
             number,
             part: None,
-            counts: SweepCounts::none(),
+            counts: MemberCounts::none(),
             apart: [0; 8],
         };
         members.push(Box::new(alloc, member)?)?;

@@ -1,12 +1,13 @@
 //! How a heap whose stores race comes to a pause.
-ghost use Rattle.std.specs.Prelude.{◌≡◌, ◌≤◌, Some, None, All, IfErr, OnOk, OnErr};
+ghost use Rattle.std.specs.Prelude.{◌≡◌, ◌≤◌, Some, All, IfErr, OnOk, OnErr};
 ghost use Rattle.std.specs.Prelude.{IsSome, length, map, vec_capacity};
 ghost use Rattle.std.specs.Arc.{arc_value};
 ghost use Rattle.g1_race.specs.declared.race.Race.{Race};
 ghost use Rattle.g1_race.specs.Members.{racer_view, sweeper_view, racer_log};
 ghost use Rattle.g1_handles.specs.Life.{OfPaused, OfRacing, IsFor, IsPauseOf, IsPausedWith};
 ghost use Rattle.g1_handles.specs.Life.{IsPauseRefused, AreOfHeap, AreLikeOf, AreFor, ComesIn};
-ghost use Rattle.g1_handles.specs.Life.{heap_race, heap_counts, boxed_counts};
+ghost use Rattle.g1_handles.specs.Life.{heap_race, heap_counts, held_counts, boxed_counts};
+ghost use Rattle.g1_handles.specs.Life.{waiting_counts};
 ghost use Rattle.g1_handles.specs.Racing.{held_racers, held_sweepers, part_in, AreClosed, IsOf};
 ghost use Rattle.g1_handles.specs.Racing.{counts_of};
 
@@ -25,7 +26,7 @@ use std::alloc::Global;
 use std::sync::Arc;
 
 /// Brings the heap of a handle to a pause. All its racers and sweepers must be handed in, and their
-/// handles are closed. What each sweeper has counted stays with the heap. Takes no memory.
+/// handles are closed. What each member has counted stays with the heap. Takes no memory.
 ///
 /// Returns `NotOpen`, also for a member's handle, `NotRacing`, `BadMembers` if there are not as
 /// many handles as the heap was opened for, or `OtherRace` for a member of another heap or one that
@@ -44,7 +45,7 @@ pub fn pause_heap(
         (IsPausedWith (arc_value b.race) (held_racers racers.old) (held_sweepers sweepers.old)))) }
     ensures same { OnOk result (heap_race handle.new.value ≡ heap_race handle.old.value) }
     ensures counts { OnOk result (heap_counts handle.new.value
-        ≡ map counts_of (held_sweepers sweepers.old)) }
+        ≡ held_counts (held_racers racers.old) (held_sweepers sweepers.old)) }
     ensures members { OnOk result (IsFor handle.old.value (length racers.old) (length sweepers.old)
         × IsFor handle.new.value (length racers.old) (length sweepers.old)) }
     ensures like { OnOk result (AreLikeOf handle.old.value (held_racers racers.old)
@@ -79,7 +80,7 @@ fn pause_of(
         (IsPausedWith (arc_value b.race) (held_racers racers.old) (held_sweepers sweepers.old)))) }
     ensures same { OnOk result (heap_race (Some heap.new) ≡ heap_race (Some heap.old)) }
     ensures counts { OnOk result (heap_counts (Some heap.new)
-        ≡ map counts_of (held_sweepers sweepers.old)) }
+        ≡ held_counts (held_racers racers.old) (held_sweepers sweepers.old)) }
     ensures members { OnOk result (IsFor (Some heap.old) (length racers.old) (length sweepers.old)
         × IsFor (Some heap.new) (length racers.old) (length sweepers.old)) }
     ensures like { OnOk result (AreLikeOf (Some heap.old) (held_racers racers.old)
@@ -152,7 +153,7 @@ fn come_in(heap: RacingHeap, share: Arc<Race, Global>) -> (RacingHeap, ())
         IsFor (Some result.0) b.racers.count b.sweepers.count) }
     ensures race { heap_race (Some result.0) ≡ heap_race (Some heap) }
     ensures counts { OfRacing (Some heap) (λ b.
-        heap_counts (Some result.0) ≡ boxed_counts b.sweepers.boxes) }
+        heap_counts (Some result.0) ≡ waiting_counts b) }
 {
     match heap {
         RacingHeap::Racing(under_way) => (RacingHeap::Paused(halt(under_way, share)), ()),
@@ -173,7 +174,8 @@ fn halt(under_way: UnderWay, share: Arc<Race, Global>) -> AtPause
     ensures members { (under_way.racers.count ≡ length result.pause.logs)
         × (under_way.sweepers.count ≡ result.pause.sweepers) }
     ensures race { result.race ≡ under_way.race }
-    ensures boxes { result.sweepers ≡ under_way.sweepers.boxes }
+    ensures boxes { (result.racers ≡ under_way.racers.boxes)
+        × (result.sweepers ≡ under_way.sweepers.boxes) }
 {
     let UnderWay {
         race,

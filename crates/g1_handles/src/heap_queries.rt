@@ -1,12 +1,11 @@
 //! Queries at a pause: what a slot refers to, whether a card is pending, how much is pending and
 //! recorded, and what is recorded for a region, card by card.
-ghost use Rattle.std.specs.Prelude.{◌≡◌, ◌<◌, ◌≤◌, IfOk, IfErr};
-ghost use Rattle.g1_layout.specs.Shape.{slot_count};
+ghost use Rattle.std.specs.Prelude.{◌≡◌, IfOk, IfErr};
 ghost use Rattle.g1_handles.specs.Codes.{reference_of};
 ghost use Rattle.g1_handles.specs.AtPause.{IsKept, SlotRefers, TellsPending, TellsStatus};
-ghost use Rattle.g1_handles.specs.AtPause.{LacksSlot, LacksCard, LacksRegion};
 ghost use Rattle.g1_race.specs.Over.{halted};
 ghost use Rattle.g1_race.specs.Reading.{IsNextMember};
+ghost use Rattle.g1_handles.specs.Lacks.{LacksCard, LacksRegion, LacksSlot};
 
 use crate::at_pause::PausedHeap;
 use crate::code::{NULL, Refusal};
@@ -17,7 +16,7 @@ use g1_core::Status;
 #[tactic(auto, using(crate::proofs::Kept::kept_same))]
 pub fn target_at(heap: &mut PausedHeap, slot: u32) -> Result<u32, Refusal>
     ensures target { IfOk result (λ word. SlotRefers heap.old slot (reference_of word)) }
-    ensures why { IfErr result (LacksSlot heap.old slot) }
+    ensures why { IfErr result (LacksSlot heap.old.layout slot) }
     ensures same { heap.new ≡ heap.old }
     ensures kept { IsKept heap.old heap.new }
 {
@@ -32,7 +31,7 @@ pub fn target_at(heap: &mut PausedHeap, slot: u32) -> Result<u32, Refusal>
 #[tactic(auto, using(crate::proofs::Kept::kept_same))]
 pub fn is_pending_at(heap: &mut PausedHeap, card: u32) -> Result<bool, Refusal>
     ensures pending { IfOk result (TellsPending heap.old card) }
-    ensures why { IfErr result (LacksCard heap.old card) }
+    ensures why { IfErr result (LacksCard heap.old.layout card) }
     ensures same { heap.new ≡ heap.old }
     ensures kept { IsKept heap.old heap.new }
 {
@@ -58,7 +57,7 @@ pub fn status_at(heap: &mut PausedHeap) -> Status
 pub fn next_member_at(heap: &mut PausedHeap, region: u32, from: u32) -> Result<u32, Refusal>
     ensures next { IfOk result (λ word.
         IsNextMember (halted heap.old) region from (reference_of word)) }
-    ensures why { IfErr result (LacksRegion heap.old region) }
+    ensures why { IfErr result (LacksRegion heap.old.layout region) }
     ensures same { heap.new ≡ heap.old }
     ensures kept { IsKept heap.old heap.new }
 {

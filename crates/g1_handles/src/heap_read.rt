@@ -3,7 +3,6 @@ ghost use Rattle.std.specs.Prelude.{◌≡◌, ◌+◌, ◌≤◌, Some, All, If
 ghost use Rattle.std.specs.Prelude.{vec_len, vec_capacity};
 ghost use Rattle.std.specs.Arc.{arc_value};
 ghost use Rattle.g1_race.specs.declared.race.Race.{Race};
-ghost use Rattle.g1_race.specs.Reading.{IsReaderOf};
 ghost use Rattle.g1_handles.specs.Life.{OfHeap, OfPaused, OfRead, AreFor};
 ghost use Rattle.g1_handles.specs.Racing.{held_readers, part_in, AreClosed, IsOf};
 ghost use Rattle.g1_handles.specs.Readers.{AreReadersAt, IsLentHeap, IsReadBy, IsReadRefused};

@@ -2,7 +2,7 @@
 ghost use Rattle.std.specs.Prelude.{◌≡◌, Some, IfErr, OnOk, OnErr, IsSome, All, length};
 ghost use Rattle.std.specs.Arc.{arc_value};
 ghost use Rattle.g1_handles.specs.Life.{OfRead};
-ghost use Rattle.g1_handles.specs.Racing.{held_readers, part_in, AreClosed, IsOf};
+ghost use Rattle.g1_handles.specs.Racing.{held_readers, part_in, AreClosed};
 ghost use Rattle.g1_handles.specs.Readers.{AreReadersAt, AreReadersOf, AreReadersLike, IsLentHeap};
 ghost use Rattle.g1_handles.specs.Readers.{IsReadBy, IsReadEndRefused, IsLent, AreOut};
 

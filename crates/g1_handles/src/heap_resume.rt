@@ -5,7 +5,7 @@ ghost use Rattle.std.specs.Arc.{arc_value};
 ghost use Rattle.g1_race.specs.declared.race.Race.{Race};
 ghost use Rattle.g1_handles.specs.Life.{OfPaused, OfRacing, GoesOn, LetsGo, IsLetGo, IsFor};
 ghost use Rattle.g1_handles.specs.Life.{IsGoingRefused, AreFor, heap_race};
-ghost use Rattle.g1_handles.specs.Life.{heap_counts, boxed_counts};
+ghost use Rattle.g1_handles.specs.Life.{heap_counts, held_counts, boxed_counts, waiting_counts};
 ghost use Rattle.g1_handles.specs.Racing.{held_racers, held_sweepers, part_in, AreClosed, IsOf};
 ghost use Rattle.g1_handles.specs.Racing.{counts_of};
 
@@ -21,7 +21,7 @@ use std::alloc::Global;
 
 /// Lets the heap of a handle go on, and puts its racers and its sweepers into handles that are
 /// closed. The race begins with the table that the pause left, and each racer has its log, which is
-/// empty if all was refined. Each sweeper has what the one at its place had counted. Takes no
+/// empty if all was refined. Each member has what the one at its place had counted. Takes no
 /// memory.
 ///
 /// Returns `NotOpen`, `NotPaused`, `BadMembers` if there are not as many handles as the heap was
@@ -36,7 +36,7 @@ pub fn resume_heap(
         OfRacing handle.new.value (λ b.
         GoesOn p (arc_value b.race) (held_racers racers.new) (held_sweepers sweepers.new)))) }
     ensures same { OnOk result (heap_race handle.new.value ≡ heap_race handle.old.value) }
-    ensures counts { OnOk result (map counts_of (held_sweepers sweepers.new)
+    ensures counts { OnOk result (held_counts (held_racers racers.new) (held_sweepers sweepers.new)
         ≡ heap_counts handle.old.value) }
     ensures members { OnOk result (IsFor handle.old.value (length racers.old) (length sweepers.old)
         × IsFor handle.new.value (length racers.old) (length sweepers.old)) }
@@ -67,7 +67,7 @@ fn resume_of(
         OfRacing (Some heap.new) (λ b.
         GoesOn p (arc_value b.race) (held_racers racers.new) (held_sweepers sweepers.new)))) }
     ensures same { OnOk result (heap_race (Some heap.new) ≡ heap_race (Some heap.old)) }
-    ensures counts { OnOk result (map counts_of (held_sweepers sweepers.new)
+    ensures counts { OnOk result (held_counts (held_racers racers.new) (held_sweepers sweepers.new)
         ≡ heap_counts (Some heap.old)) }
     ensures members { OnOk result (IsFor (Some heap.old) (length racers.old) (length sweepers.old)
         × IsFor (Some heap.new) (length racers.old) (length sweepers.old)) }
@@ -151,8 +151,8 @@ fn hand_out(under_way: &mut UnderWay, racers: &mut [RacerHandle], sweepers: &mut
         ≡ map Some under_way.old.racers.parts.items }
     ensures sweepers { map part_in (held_sweepers sweepers.new)
         ≡ map Some under_way.old.sweepers.parts.items }
-    ensures counts { map counts_of (held_sweepers sweepers.new)
-        ≡ boxed_counts under_way.old.sweepers.boxes }
+    ensures counts { held_counts (held_racers racers.new) (held_sweepers sweepers.new)
+        ≡ waiting_counts under_way.old }
     ensures race { All (IsOf (arc_value under_way.old.race)) (held_racers racers.new)
         × All (IsOf (arc_value under_way.old.race)) (held_sweepers sweepers.new) }
 {

@@ -1,12 +1,13 @@
 //! The remembered set of a region at a pause, in an array of the caller's.
-ghost use Rattle.std.specs.Prelude.{◌≡◌, ◌+◌, ◌<◌, ◌≤◌, ◌++◌, ℕ, List, Some, Result, IfOk, IfErr};
+ghost use Rattle.std.specs.Prelude.{◌≡◌, ◌+◌, ◌<◌, ◌≤◌, ◌++◌, ℕ, List, Some, IfOk, IfErr};
 ghost use Rattle.std.specs.Prelude.{OnErr, length};
 ghost use Rattle.g1_layout.specs.Shape.{card_count};
 ghost use Rattle.g1_core.specs.Table.{AreMembers};
 ghost use Rattle.g1_race.specs.Over.{halted};
-ghost use Rattle.g1_handles.specs.AtPause.{IsKept, DrainsAtPause, TellsMembers, LacksRegion};
+ghost use Rattle.g1_handles.specs.AtPause.{IsKept, DrainsAtPause, TellsMembers};
 ghost use Rattle.g1_handles.specs.HeapCalls.{IsCalled};
 ghost use Rattle.g1_handles.specs.Sets.{Tells, AreMembersBelow, IsSetCall};
+ghost use Rattle.g1_handles.specs.Lacks.{LacksRegion};
 
 use crate::any_handle::{closed, into_box, opened};
 use crate::at_pause::PausedHeap;
@@ -95,7 +96,7 @@ fn set_at(
 fn drain_at(heap: &mut PausedHeap, region: u32, cards: &mut [u32]) -> Result<Told, Refusal>
     ensures told { IfOk result (λ told.
         Tells (DrainsAtPause heap.old region heap.new) cards.old told cards.new) }
-    ensures why { IfErr result (LacksRegion heap.old region) }
+    ensures why { IfErr result (LacksRegion heap.old.layout region) }
     ensures refused { OnErr result ((heap.new ≡ heap.old) × (cards.new ≡ cards.old)) }
     ensures kept { IsKept heap.old heap.new }
 {
@@ -110,7 +111,7 @@ fn drain_at(heap: &mut PausedHeap, region: u32, cards: &mut [u32]) -> Result<Tol
 fn members_at(heap: &mut PausedHeap, region: u32, cards: &mut [u32]) -> Result<Told, Refusal>
     ensures told { IfOk result (λ told.
         Tells (TellsMembers heap.old region) cards.old told cards.new) }
-    ensures why { IfErr result (LacksRegion heap.old region) }
+    ensures why { IfErr result (LacksRegion heap.old.layout region) }
     ensures unwritten { OnErr result (cards.new ≡ cards.old) }
     ensures same { heap.new ≡ heap.old }
 {

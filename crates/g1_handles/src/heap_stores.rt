@@ -1,10 +1,9 @@
 //! The collector's own stores at a pause.
-ghost use Rattle.std.specs.Prelude.{◌≡◌, ◌<◌, ◌≤◌, ◌⊎◌, length, take, IfOk, IfErr, OnErr, IfNone};
-ghost use Rattle.std.specs.Prelude.{MatchOption};
+ghost use Rattle.std.specs.Prelude.{◌≡◌, ◌⊎◌, length, take, IfOk, IfErr, OnErr};
 ghost use Rattle.g1_handles.specs.AtPause.{IsKept, StoresAt, StoresAllAt};
 ghost use Rattle.g1_handles.specs.Batch.{IsFaultAt};
-ghost use Rattle.g1_handles.specs.Codes.{IsStoreOf, reference_of};
-ghost use Rattle.g1_handles.specs.Refusals.{SaysNoPlace};
+ghost use Rattle.g1_handles.specs.Codes.{reference_of};
+ghost use Rattle.g1_handles.specs.Lacks.{LacksPlace};
 
 use crate::at_pause::PausedHeap;
 use crate::batch::Store;
@@ -18,7 +17,7 @@ use g1_layout::Kind;
 pub fn store_at(heap: &mut PausedHeap, slot: u32, target: u32) -> Result<Kind, Refusal>
     ensures stored { IfOk result (λ kind.
         StoresAt heap.old slot (reference_of target) kind heap.new) }
-    ensures why { IfErr result (SaysNoPlace heap.old.layout slot target) }
+    ensures why { IfErr result (LacksPlace heap.old.layout slot target) }
     ensures refused { OnErr result (heap.new ≡ heap.old) }
     ensures kept { IsKept heap.old heap.new }
 {

@@ -2,7 +2,8 @@
 ghost use Rattle.std.specs.Prelude.{◌≡◌, ◌+◌, ◌≤◌, length, IfOk, IfErr, IsOk};
 ghost use Rattle.g1_layout.specs.Shape.{slot_count};
 ghost use Rattle.g1_handles.specs.AtPause.{IsKept};
-ghost use Rattle.g1_handles.specs.Verifying.{FindsAt, SaysNoRange};
+ghost use Rattle.g1_handles.specs.Verifying.{FindsAt};
+ghost use Rattle.g1_handles.specs.Lacks.{LacksRanges};
 
 use crate::at_pause::PausedHeap;
 use crate::code::Refusal;
@@ -24,7 +25,8 @@ pub fn verify_at(
         FindsAt heap.old first count memory.now f.differing f.missing) }
     ensures answered { first + count ≤ slot_count heap.old.layout
         → first + length memory.now ≤ slot_count heap.old.layout → IsOk result }
-    ensures why { IfErr result (SaysNoRange heap.old.layout first count (length memory.now)) }
+    ensures why { IfErr result (LacksRanges heap.old.layout first count first
+        (length memory.now)) }
     ensures same { heap.new ≡ heap.old }
     ensures kept { IsKept heap.old heap.new }
 {

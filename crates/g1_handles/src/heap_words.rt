@@ -1,9 +1,10 @@
 //! The words of a heap: where they lie, and, at a pause, what a slot's is and a store of data,
 //! which refers to nothing.
-ghost use Rattle.std.specs.Prelude.{◌≡◌, ◌⊎◌, ◌<◌, ◌≤◌, ◌^◌, Some, IfOk, OnOk, IfErr, OnErr};
+ghost use Rattle.std.specs.Prelude.{◌≡◌, ◌⊎◌, ◌<◌, ◌^◌, Some, IfOk, OnOk, IfErr, OnErr};
 ghost use Rattle.g1_race.specs.Members.{race_words};
-ghost use Rattle.g1_handles.specs.AtPause.{IsKept, HasWord, StoresDataAt, LacksSlot};
+ghost use Rattle.g1_handles.specs.AtPause.{IsKept, HasWord, StoresDataAt};
 ghost use Rattle.g1_handles.specs.Life.{OfHeap, SaysNoHeap};
+ghost use Rattle.g1_handles.specs.Lacks.{LacksSlot};
 
 use crate::any_handle::{closed, into_box, opened};
 use crate::at_pause::PausedHeap;
@@ -44,7 +45,7 @@ fn words_of(heap: &RacingHeap) -> *const u64
 #[tactic(auto, using(crate::proofs::Kept::kept_same))]
 pub fn word_at(heap: &mut PausedHeap, slot: u32) -> Result<u64, Refusal>
     ensures word { IfOk result (HasWord heap.old slot) }
-    ensures why { IfErr result (LacksSlot heap.old slot) }
+    ensures why { IfErr result (LacksSlot heap.old.layout slot) }
     ensures same { heap.new ≡ heap.old }
     ensures kept { IsKept heap.old heap.new }
 {
@@ -59,7 +60,7 @@ pub fn word_at(heap: &mut PausedHeap, slot: u32) -> Result<u64, Refusal>
 #[tactic(auto, using(crate::proofs::Kept::kept_same, crate::proofs::Kept::kept_race))]
 pub fn store_data_at(heap: &mut PausedHeap, slot: u32, word: u64) -> Result<(), Refusal>
     ensures stored { OnOk result (StoresDataAt heap.old slot word heap.new) }
-    ensures why { IfErr result (λ refusal. LacksSlot heap.old slot refusal
+    ensures why { IfErr result (λ refusal. LacksSlot heap.old.layout slot refusal
         ⊎ ((refusal ≡ Refusal.BadWord) × (word < 2 ^ 32))) }
     ensures refused { OnErr result (heap.new ≡ heap.old) }
     ensures kept { IsKept heap.old heap.new }

@@ -16,7 +16,7 @@
 //!   it was given all members of the heap (`look`, `one_race`).
 //! - [`member`] is a racer or a sweeper with its race, and [`racer_handle`] and [`sweeper_handle`]
 //!   are their handles. [`race_store`], [`race_log`] and [`race_refine`] are the path of a card
-//!   while members are out, and [`sweep_counts`] tells what a sweeper has done. [`race_exchange`]
+//!   while members are out, and [`member_counts`] tells what a member has done. [`race_exchange`]
 //!   has the stores that return what a slot referred to or depend on it, [`race_batch`] several
 //!   stores by one call, [`race_data`] a store of data, and [`race_words`] the stores of any word
 //!   that return or compare the one before.
@@ -27,9 +27,10 @@
 //!   [`heap_read_end`] takes them in. [`reader_handle`] has their handles, and [`reader_queries`]
 //!   what they answer.
 //!
-//! A function `.._in` takes what is behind one handle, and gives the handle back with a result. A
-//! call over several handles is one function. The crate `g1_c` exports each, in the file of the
-//! same name, and writes the results where C asks for them.
+//! A function `.._in` is a call on a core, `.._at` one on a heap at a pause, and `.._by` one of a
+//! racer, a sweeper or a reader; [`any_handle::visit`] makes it on what a handle holds, and gives
+//! the handle back. A call over several handles is one function. The crate `g1_c` exports each, in
+//! the file of the same name, and writes the results where C asks for them.
 //!
 //! Before anything changes, a call checks each word and each array's length, and is refused if one
 //! of them is wrong or if a handle is closed. (The stores of a batch are checked one by one, each
@@ -61,6 +62,7 @@ pub mod heap_words;
 pub mod list;
 mod look;
 pub mod member;
+pub mod member_counts;
 pub mod members;
 mod nullable_box;
 mod one_race;
@@ -82,6 +84,5 @@ pub mod redirection;
 pub mod refinement;
 pub mod sent;
 pub mod store;
-pub mod sweep_counts;
 pub mod sweeper_handle;
 pub mod verify;

@@ -1,10 +1,10 @@
 //! A member of a race: a racer, a sweeper or a reader, with its share of the race.
-ghost use Rattle.std.specs.Prelude.{◌≡◌, Some, None};
+ghost use Rattle.std.specs.Prelude.{◌≡◌, Some};
 ghost use Rattle.std.specs.Option.{ForSome};
 ghost use Rattle.std.specs.Arc.{arc_value};
 ghost use Rattle.g1_race.specs.Members.{race_id};
 
-use crate::sweep_counts::SweepCounts;
+use crate::member_counts::MemberCounts;
 use g1_race::{Race, Racer, Reader, Sweeper};
 use std::alloc::Global;
 use std::sync::Arc;
@@ -45,8 +45,7 @@ pub struct Member<P: Part> {
     // None while it waits, in no handle: a racer and a sweeper at a pause, a reader but while it
     // reads.
     pub(crate) part: Option<P>,
-    // What a sweeper has done. Other members count nothing.
-    pub(crate) counts: SweepCounts,
+    pub(crate) counts: MemberCounts,
     // Padding of a cache line: boxes of racers lie side by side, and a store writes the end of its
     // racer.
     pub(crate) apart: [u64; 8],

@@ -1,14 +1,10 @@
 //! The remembered set of a region, as it is recorded.
-ghost use Rattle.std.specs.Prelude.{◌≡◌, ◌<◌, ◌≤◌, length, Some, IfOk, IfErr};
-ghost use Rattle.g1_handles.specs.Codes.{OfOpen};
+ghost use Rattle.std.specs.Prelude.{◌≤◌, length, IfOk, IfErr};
 ghost use Rattle.g1_handles.specs.Queries.{IsListed, IsListOf};
 ghost use Rattle.g1_handles.specs.Refusals.{AreMembersRefused};
 
-use crate::any_handle::{closed, into_box, opened};
 use crate::code::Refusal;
-use crate::handle::Handle;
 use g1_core::{CardList, Core};
-use std::alloc::Global;
 
 /// What C gets of the list of members.
 #[derive(Drop)]
@@ -19,28 +15,12 @@ pub enum Listed {
     NoRoom(u32),
 }
 
-/// Returns the remembered set of a region as it is recorded, from the core of a handle, or how many
-/// cards it has if the caller's array is shorter. `words` has the region and the length of that
-/// array.
-///
-/// Returns `NotOpen`, `NoRegion` or `NoMemory` if the call was refused. The core stays as it is in
-/// each case.
-pub fn members_in(handle: Handle, words: (Global, u32, usize)) -> (Handle, Result<Listed, Refusal>)
-    ensures listed { IfOk result.1 (λ answer.
-        OfOpen handle.value (λ machine. IsListed machine words.1 words.2 answer)) }
-    ensures why { IfErr result.1 (λ refusal. AreMembersRefused handle.value words.1 refusal) }
-    ensures same { result.0.value ≡ handle.value }
-{
-    let Some(core) = into_box(handle) else {
-        return (closed(words.0), Err(Refusal::NotOpen));
-    };
-    let answer = members_one(&core, words.1, words.2);
-    (opened(core), answer)
-}
-
-fn members_one(core: &Core, region: u32, room: usize) -> Result<Listed, Refusal>
+/// Returns the remembered set of a region as it is recorded in a core, or how many cards it has if
+/// the caller's array, whose length is `room`, is shorter. Returns `NoRegion` or `NoMemory` if the
+/// call was refused.
+pub fn members_in(core: &Core, region: u32, room: usize) -> Result<Listed, Refusal>
     ensures listed { IfOk result (λ answer. IsListed core.now region room answer) }
-    ensures why { IfErr result (λ refusal. AreMembersRefused (Some core.now) region refusal) }
+    ensures why { IfErr result (AreMembersRefused core.now.state.table.layout region) }
 {
     let layout = core.layout();
     let Some(region) = layout.region(region) else {

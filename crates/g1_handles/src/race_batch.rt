@@ -1,17 +1,16 @@
 //! Several stores in a race by one call.
-ghost use Rattle.std.specs.Prelude.{◌≡◌, ◌≢◌, IfOk, IfErr, IsOkAnd, OnErr};
+ghost use Rattle.std.specs.Prelude.{◌≡◌, ◌≢◌, Some, IfOk, IfErr, IsOkAnd, OnErr};
 ghost use Rattle.g1_race.specs.Members.{race_id, racer_race};
 ghost use Rattle.g1_handles.specs.Racing.{OfRacer, IfRacer, racing};
 ghost use Rattle.g1_handles.specs.RaceStores.{StoresFirst, CanStoreAll};
 ghost use Rattle.g1_handles.specs.Refusals.{SaysNoMember};
 
-use crate::any_handle::{closed, into_box, opened};
 use crate::batch::Store;
 use crate::code::Refusal;
-use crate::race_store::store_by;
-use crate::racer_handle::RacerHandle;
+use crate::member::Member;
+use crate::member_counts::StoreCounts;
+use crate::race_store::store_next;
 use g1_race::{Race, Racer};
-use std::alloc::Global;
 
 /// Why no more of several stores were made.
 #[derive(Clone, Copy)]
@@ -33,41 +32,38 @@ pub struct RaceBatch {
     pub end: BatchEnd,
 }
 
-/// Makes stores in order by the racer of a handle, which stays open, up to the first that it cannot
-/// make. Returns `NotOpen` if the call was refused: nothing has changed.
-pub fn store_all_in(
-    member: RacerHandle,
-    words: (Global, &[Store]),
-) -> (RacerHandle, Result<RaceBatch, Refusal>)
-    ensures stored { IfOk result.1 (λ answer. OfRacer member.value (λ a.
-        OfRacer result.0.value (λ b. StoresFirst a words.entry.1.now answer b))) }
-    ensures taken { IfRacer member.value (λ a. CanStoreAll a words.entry.1.now
-        → IsOkAnd result.1 (λ answer. answer.end ≡ BatchEnd.Whole)) }
-    ensures why { IfErr result.1 (SaysNoMember member.value) }
-    ensures refused { OnErr result.1 (result.0.value ≡ member.value) }
+/// Makes stores in order by a racer, up to the first that it cannot make. Returns `NotOpen` if the
+/// call was refused: nothing has changed.
+pub fn store_all_by(member: &mut Member<Racer>, stores: &[Store]) -> Result<RaceBatch, Refusal>
+    ensures stored { IfOk result (λ answer. OfRacer (Some member.old) (λ a.
+        OfRacer (Some member.new) (λ b. StoresFirst a stores.now answer b))) }
+    ensures taken { IfRacer (Some member.old) (λ a. CanStoreAll a stores.now
+        → IsOkAnd result (λ answer. answer.end ≡ BatchEnd.Whole)) }
+    ensures why { IfErr result (SaysNoMember (Some member.old)) }
+    ensures refused { OnErr result (member.new ≡ member.old) }
 {
-    let Some(mut member) = into_box(member) else {
-        return (closed(words.0), Err(Refusal::NotOpen));
+    let Some(racer) = &mut member.part else {
+        return Err(Refusal::NotOpen);
     };
-    let inside = &mut *member;
-    let Some(racer) = &mut inside.part else {
-        return (opened(member), Err(Refusal::NotOpen));
-    };
-    let answer = store_all_by(&inside.race, racer, words.1);
-    (opened(member), Ok(answer))
+    Ok(store_each(&member.race, racer, &mut member.counts.stores, stores))
 }
 
-fn store_all_by(race: &Race, racer: &mut Racer, stores: &[Store]) -> RaceBatch
+fn store_each(
+    race: &Race,
+    racer: &mut Racer,
+    counts: &mut StoreCounts,
+    stores: &[Store],
+) -> RaceBatch
     requires same { racer_race racer.old ≡ race_id race.now }
     ensures same { racer_race racer.new ≡ racer_race racer.old }
-    ensures stored { StoresFirst (racing race.now racer.old) stores.now result
-        (racing race.now racer.new) }
-    ensures taken { CanStoreAll (racing race.now racer.old) stores.now
+    ensures stored { StoresFirst (racing race.now racer.old counts.old) stores.now result
+        (racing race.now racer.new counts.new) }
+    ensures taken { CanStoreAll (racing race.now racer.old counts.old) stores.now
         → result.end ≡ BatchEnd.Whole }
 {
     for i in 0..stores.len() {
         let store = stores[i];
-        match store_by(race, racer, store.slot, store.target) {
+        match store_next(race, racer, counts, store.slot, store.target) {
             Ok(_) => {}
             Err(refusal) => {
                 return RaceBatch {

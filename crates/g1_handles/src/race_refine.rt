@@ -1,37 +1,32 @@
 //! Concurrent refinement in a race.
-ghost use Rattle.std.specs.Prelude.{◌≡◌, ◌<◌};
+ghost use Rattle.std.specs.Prelude.{◌≡◌, ◌<◌, Some, IsOk, OnOk, IfErr, OnErr};
 ghost use Rattle.g1_layout.specs.Shape.{card_count};
 ghost use Rattle.g1_race.specs.Members.{race_layout};
 ghost use Rattle.g1_handles.specs.Racing.{OfSweeper, IfSweeper, Sweeps, sweeper_race_of};
-ghost use Rattle.g1_handles.specs.Codes.{IsRefusal};
 ghost use Rattle.g1_handles.specs.Refusals.{IsSweepRefused};
 
-use crate::any_handle::{closed, into_box, opened};
-use crate::code::{DONE, Refusal};
-use crate::sweeper_handle::SweeperHandle;
-use std::alloc::Global;
+use crate::code::Refusal;
+use crate::member::Member;
+use g1_race::Sweeper;
 
-/// Refines a card by the sweeper of a handle, which stays open and counts what it did. Returns 0,
-/// or the word of `NotOpen` or `NoCard`: nothing has changed.
-pub fn refine_in(member: SweeperHandle, words: (Global, u32)) -> (SweeperHandle, u32)
-    ensures refined { result.1 ≡ 0
-        → OfSweeper member.value (λ a. OfSweeper result.0.value (λ b. Sweeps a words.1 b)) }
-    ensures taken { IfSweeper member.value (λ a.
-        words.1 < card_count (race_layout (sweeper_race_of a)) → result.1 ≡ 0) }
-    ensures why { 0 < result.1 → IsRefusal result.1 (IsSweepRefused member.value words.1) }
-    ensures refused { 0 < result.1 → result.0.value ≡ member.value }
+/// Refines a card by a sweeper, which counts what it did. Returns `NotOpen` or `NoCard` if the call
+/// was refused: nothing has changed.
+#[inline(always)]
+pub fn refine_by(member: &mut Member<Sweeper>, card: u32) -> Result<(), Refusal>
+    ensures refined { OnOk result (OfSweeper (Some member.old) (λ a.
+        OfSweeper (Some member.new) (λ b. Sweeps a card b))) }
+    ensures taken { IfSweeper (Some member.old) (λ a.
+        card < card_count (race_layout (sweeper_race_of a)) → IsOk result) }
+    ensures why { IfErr result (IsSweepRefused (Some member.old) card) }
+    ensures refused { OnErr result (member.new ≡ member.old) }
 {
-    let Some(mut member) = into_box(member) else {
-        return (closed(words.0), Refusal::NotOpen.word());
+    let Some(sweeper) = &mut member.part else {
+        return Err(Refusal::NotOpen);
     };
-    let inside = &mut *member;
-    let Some(sweeper) = &mut inside.part else {
-        return (opened(member), Refusal::NotOpen.word());
+    let Some(card) = member.race.layout().card(card) else {
+        return Err(Refusal::NoCard);
     };
-    let Some(card) = inside.race.layout().card(words.1) else {
-        return (opened(member), Refusal::NoCard.word());
-    };
-    let swept = sweeper.sweep(&inside.race, card);
-    inside.counts = inside.counts.and(swept);
-    (opened(member), DONE)
+    let swept = sweeper.sweep(&member.race, card);
+    member.counts.sweeps = member.counts.sweeps.and(swept);
+    Ok(())
 }

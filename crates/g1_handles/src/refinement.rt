@@ -1,19 +1,15 @@
 //! Refinement.
-ghost use Rattle.std.specs.Prelude.{◌≡◌, ◌<◌, ◌≤◌, length, false, true, if◌then◌else◌, All, Some};
+ghost use Rattle.std.specs.Prelude.{◌≡◌, ◌<◌, ◌≤◌, length, if◌then◌else◌, All};
 ghost use Rattle.std.specs.Prelude.{IfSome, IfNone, IfOk, IfErr, OnErr};
 ghost use Rattle.g1_layout.specs.Shape.{card_count};
-ghost use Rattle.g1_handles.specs.Codes.{Between};
 ghost use Rattle.g1_handles.specs.Refusals.{IsRefinementRefused};
 ghost use Rattle.g1_handles.specs.Replies.{RefinesTo, reply_of};
 
-use crate::any_handle::{closed, into_box, opened};
 use crate::code::{DONE, Refusal, SHORT};
-use crate::handle::Handle;
 use arrayvec::ArrayVec;
 use g1_core::{Core, RefineReply};
 use g1_layout::{Card, Layout};
 use g1_log::Buffer;
-use std::alloc::Global;
 
 /// The word of a reply: 0, or 1 if it is short.
 pub fn word_of(reply: &RefineReply) -> u32
@@ -25,41 +21,19 @@ pub fn word_of(reply: &RefineReply) -> u32
     if reply.short { SHORT } else { DONE }
 }
 
-/// Refines some cards at the core of a handle ([`Core::refine`]). `words` has the cards and the
-/// length of the caller's array for those that were refined.
+/// Refines some cards ([`Core::refine`]). `room` is the length of the caller's array for those that
+/// were refined.
 ///
-/// Returns `NotOpen`, `NoRoom` if the array is shorter than the list of cards, `TooManyCards` for
-/// more than 256 cards, `NoCard`, or `NoMemory`: nothing has changed.
-pub fn refine_in(
-    handle: Handle,
-    words: (Global, &[u32], usize),
-) -> (Handle, Result<RefineReply, Refusal>)
-    ensures refined { IfOk result.1 (λ reply.
-        Between handle.value result.0.value
-        (λ old new. RefinesTo old words.entry.1.now reply new)) }
-    ensures taken { IfOk result.1 (λ reply. (reply.taken ≡ (if reply.short then 0 else 1))
-        × (reply.left ≡ 0)) }
-    ensures few { IfOk result.1 (λ reply. (length reply.refined ≤ words.entry.2)
-        × (length reply.refined ≤ 256)) }
-    ensures why { IfErr result.1 (λ refusal.
-        IsRefinementRefused handle.value words.entry.1.now words.entry.2 refusal) }
-    ensures refused { OnErr result.1 (result.0.value ≡ handle.value) }
-{
-    let Some(mut core) = into_box(handle) else {
-        return (closed(words.0), Err(Refusal::NotOpen));
-    };
-    let answer = refine_one(&mut core, words.1, words.2);
-    (opened(core), answer)
-}
-
-fn refine_one(core: &mut Core, cards: &[u32], room: usize) -> Result<RefineReply, Refusal>
+/// Returns `NoRoom` if the array is shorter than the list of cards, `TooManyCards` for more than 256
+/// cards, `NoCard`, or `NoMemory`: nothing has changed.
+pub fn refine_in(core: &mut Core, cards: &[u32], room: usize) -> Result<RefineReply, Refusal>
     ensures refined { IfOk result (λ reply. RefinesTo core.old cards.now reply core.new) }
     ensures taken { IfOk result (λ reply. (reply.taken ≡ (if reply.short then 0 else 1))
         × (reply.left ≡ 0)) }
     ensures few { IfOk result (λ reply.
         (length reply.refined ≤ room) × (length reply.refined ≤ 256)) }
-    ensures why { IfErr result (λ refusal.
-        IsRefinementRefused (Some core.old) cards.now room refusal) }
+    ensures why { IfErr result
+        (IsRefinementRefused core.old.state.table.layout cards.now room) }
     ensures refused { OnErr result (core.new ≡ core.old) }
 {
     if room < cards.len() {

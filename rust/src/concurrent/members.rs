@@ -4,7 +4,7 @@ use crate::answers::done;
 use crate::library::{
     g1_race_compare_exchange, g1_race_compare_exchange_word, g1_race_refine, g1_race_store,
     g1_race_store_all, g1_race_store_data, g1_race_swap, g1_race_swap_word, g1_race_take_log,
-    g1_sweeper_counts, DIFFERS, DONE, FULL, NULL,
+    g1_racer_counts, g1_sweeper_counts, DIFFERS, DONE, FULL, NULL,
 };
 use crate::numbers::Home;
 use crate::{Card, Exchanged, Kind, Refusal, Slot, LOG};
@@ -152,6 +152,23 @@ impl Racer {
         Ok(self.seat.numbers.cards_of(&cards, count))
     }
 
+    /// How many stores it has made since its heap was opened, by kind. A resume hands out the racers
+    /// with their counts in the order in which the pause took them. Constant time, no memory.
+    pub fn store_counts(&mut self) -> Result<StoreCounts, Refusal> {
+        let (mut counts, handle) = (StoreCounts::default(), &mut self.seat.handle);
+        // SAFETY: the handle is open, and this call alone uses it.
+        done(unsafe {
+            g1_racer_counts(
+                handle,
+                &mut counts.null,
+                &mut counts.same_region,
+                &mut counts.already_dirty,
+                &mut counts.logged,
+            )
+        })?;
+        Ok(counts)
+    }
+
     /// Which heap it is of.
     pub(super) fn home(&self) -> Home {
         self.seat.numbers.home
@@ -164,6 +181,20 @@ impl Racer {
         done(unsafe { g1_race_take_log(&mut self.seat.handle, room, LOG, &mut count) })?;
         Ok(count)
     }
+}
+
+/// How many stores a racer has made since its heap was opened, by kind, whatever pauses came
+/// between. After [`u64::MAX`] a count goes on at 0.
+#[derive(Clone, Copy, Debug, Default, PartialEq, Eq)]
+pub struct StoreCounts {
+    /// Stores of null or of data.
+    pub null: u64,
+    /// Stores of a place in the slot's own region.
+    pub same_region: u64,
+    /// Stores on a card that was dirty.
+    pub already_dirty: u64,
+    /// Stores that made their card dirty, and logged it.
+    pub logged: u64,
 }
 
 /// What a sweeper has done since its heap was opened, whatever pauses came between. After

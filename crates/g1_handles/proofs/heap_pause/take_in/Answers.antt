@@ -22,5 +22,5 @@ returns-clause-came c =
       racer_views = seen_alike part_in racer_view (part_view racer_view) (λ r. refl) rs _ came.parts;
       sweeper_views = seen_alike part_in sweeper_view (part_view sweeper_view) (λ w. refl) ss _ too.parts;
       logs = seen_alike part_in racer_log log_of (λ r. refl) rs _ came.parts;
-      counts = too.counts;
+      counts = λ i. (came.counts i, too.counts i);
     }

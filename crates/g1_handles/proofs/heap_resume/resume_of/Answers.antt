@@ -55,7 +55,7 @@ returns-clause-counts c =
     let a = c.in-Paused.at in
     let b = c.in-Racing.under_way in
     let go = let_go _ _ a b c.replace_with.ensures c.in-Paused.is c.in-Racing.is in
-    c.hand_out.ensures.counts ∙ (ap boxed_counts go.waited ∙ sym (ap (λ (h : RacingHeap). heap_counts (Some h)) c.in-Paused.is))
+    c.hand_out.ensures.counts ∙ ((λ i. (boxed_counts (go.racers_waited i), boxed_counts (go.sweepers_waited i))) ∙ sym (ap (λ (h : RacingHeap). heap_counts (Some h)) c.in-Paused.is))
 
 pub returns-clause-resumed : goal.returns-clause-resumed
 returns-clause-resumed c =

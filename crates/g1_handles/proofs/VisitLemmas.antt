@@ -1,0 +1,92 @@
+-- What a call on what a handle holds says once its result is known.
+use Rattle.std.proofs.Common.{◌≡◌, ◌∙◌, ap, sym, subst, inl, inr, refl}
+use Rattle.std.specs.Prelude.{Option, Some, None, Result, Ok, Err, IfSome}
+use Rattle.g1_handles.specs.declared.code.Refusal.{Refusal}
+use Rattle.g1_handles.specs.declared.member.Part.{Ghosts}
+use Rattle.g1_handles.specs.declared.member.Member.{Member}
+use Rattle.g1_handles.specs.Codes.{Between, OfOpen}
+use Rattle.g1_handles.specs.Racing.{OfPart, IfPart}
+use Rattle.g1_handles.specs.Refusals.{IsCallRefused, IsPartRefused}
+use Rattle.g1_handles.specs.Visits.{IsVisit}
+
+abbrev pub is_ok : {A : Type 0} → Result A Refusal → Type 0
+is_ok (Ok a) = Unit {0}
+is_ok (Err e) = ⊥
+
+abbrev pub err_of : {A : Type 0} → Refusal → Result A Refusal → Refusal
+err_of d (Ok a) = d
+err_of d (Err e) = e
+
+module _ {V A : Type 0} (Q : V → Result A Refusal → V → Type 0) where
+  -- a call on what is lent from an open handle, and put back
+  pub visited : {old new : Option V} {p q lent : V} {r : Result A Refusal} → old ≡ Some p → lent ≡ p → new ≡ Some q → Q lent r q → IsVisit Q old r new
+  visited {old} {new} {p} {q} {lent} {r} is of later met =
+      subst (λ v. IsVisit Q v r new) (sym (is ∙ ap (λ x. Some x) (sym of))) (subst (λ v. IsVisit Q (Some lent) r v) (sym later) met)
+
+  -- a call that answers was made on an open handle
+  pub visit_ok : (P : V → V → Type 0) (old new : Option V) (answer : A)
+      → ((p q : V) → Q p (Ok answer) q → P p q) → IsVisit Q old (Ok answer) new → Between old new P
+  visit_ok P None new answer so is = absurd (subst is_ok is.1 tt)
+  visit_ok P (Some p) None answer so is = is
+  visit_ok P (Some p) (Some q) answer so is = so p q is
+
+  pub visit_of : (P : V → Type 0) (old new : Option V) (answer : A)
+      → ((p q : V) → Q p (Ok answer) q → P p) → IsVisit Q old (Ok answer) new → OfOpen old P
+  visit_of P None new answer so is = absurd (subst is_ok is.1 tt)
+  visit_of P (Some p) None answer so is = absurd is
+  visit_of P (Some p) (Some q) answer so is = so p q is
+
+  -- what follows from each call that answers is so
+  pub visit_so : (P : Type 0) (old new : Option V) (answer : A)
+      → ((p q : V) → Q p (Ok answer) q → P) → IsVisit Q old (Ok answer) new → P
+  visit_so P None new answer so is = absurd (subst is_ok is.1 tt)
+  visit_so P (Some p) None answer so is = absurd is
+  visit_so P (Some p) (Some q) answer so is = so p q is
+
+  -- a call that is refused has a reason
+  pub visit_why : (Why : V → Refusal → Type 0) (old new : Option V) (r : Refusal)
+      → ((p q : V) → Q p (Err r) q → Why p r) → IsVisit Q old (Err r) new → IsCallRefused old Why r
+  visit_why Why None new r so is = inl (ap (err_of r) is.1, refl)
+  visit_why Why (Some p) None r so is = absurd is
+  visit_why Why (Some p) (Some q) r so is = inr (so p q is)
+
+  -- and what follows from each call is so of an open handle
+  pub visit_if : (P : V → Type 0) (old new : Option V) (r : Result A Refusal)
+      → ((p q : V) → Q p r q → P p) → IsVisit Q old r new → IfSome old P
+  visit_if P None new r so is = tt
+  visit_if P (Some p) None r so is = absurd is
+  visit_if P (Some p) (Some q) r so is = so p q is
+
+  -- nothing has changed where the call keeps what it is made on
+  pub visit_same : (old new : Option V) (r : Result A Refusal)
+      → ((p q : V) → Q p r q → q ≡ p) → IsVisit Q old r new → new ≡ old
+  visit_same None new r so is = is.0
+  visit_same (Some p) None r so is = absurd is
+  visit_same (Some p) (Some q) r so is = ap (λ x. Some x) (so p q is)
+
+module _ {P : Type 0} {g : Ghosts P} {T A : Type 0} (seen : Member P g → P → T) (Q : Member P g → Result A Refusal → Member P g → Type 0) where
+  -- the same of the racer, the sweeper or the reader of a handle
+  pub part_ok : (R : T → T → Type 0) (old new : Option (Member P g)) (answer : A)
+      → ((m n : Member P g) → Q m (Ok answer) n → OfPart seen (Some m) (λ a. OfPart seen (Some n) (λ b. R a b)))
+      → IsVisit Q old (Ok answer) new → OfPart seen old (λ a. OfPart seen new (λ b. R a b))
+  part_ok R None new answer so is = absurd (subst is_ok is.1 tt)
+  part_ok R (Some m) None answer so is = absurd is
+  part_ok R (Some m) (Some n) answer so is = so m n is
+
+  pub part_of : (R : T → Type 0) (old new : Option (Member P g)) (answer : A)
+      → ((m n : Member P g) → Q m (Ok answer) n → OfPart seen (Some m) R) → IsVisit Q old (Ok answer) new → OfPart seen old R
+  part_of R None new answer so is = absurd (subst is_ok is.1 tt)
+  part_of R (Some m) None answer so is = absurd is
+  part_of R (Some m) (Some n) answer so is = so m n is
+
+  pub part_why : (Why : T → Refusal → Type 0) (old new : Option (Member P g)) (r : Refusal)
+      → ((m n : Member P g) → Q m (Err r) n → IsPartRefused seen (Some m) Why r) → IsVisit Q old (Err r) new → IsPartRefused seen old Why r
+  part_why Why None new r so is = inl (ap (err_of r) is.1, refl)
+  part_why Why (Some m) None r so is = absurd is
+  part_why Why (Some m) (Some n) r so is = so m n is
+
+  pub part_if : (R : T → Type 0) (old new : Option (Member P g)) (r : Result A Refusal)
+      → ((m n : Member P g) → Q m r n → IfPart seen (Some m) R) → IsVisit Q old r new → IfPart seen old R
+  part_if R None new r so is = tt
+  part_if R (Some m) None r so is = absurd is
+  part_if R (Some m) (Some n) r so is = so m n is
