@@ -1,5 +1,6 @@
 //! What a racer and a sweeper have done.
 ghost use Rattle.std.specs.Prelude.{◌≡◌, ◌<◌};
+ghost use Rattle.g1_handles.specs.Counting.{stored_of};
 ghost use Rattle.g1_handles.specs.Racing.{OfRacer, OfSweeper};
 ghost use Rattle.g1_handles.specs.Codes.{IsRefusal};
 ghost use Rattle.g1_handles.specs.Refusals.{SaysNoMember};
@@ -11,6 +12,7 @@ use g1_handles::member::Member;
 use g1_handles::member_counts::{store_counts_of, sweep_counts_of};
 use g1_handles::racer_handle::RacerHandle;
 use g1_handles::sweeper_handle::SweeperHandle;
+use g1_layout::Kind;
 use g1_race::{Racer, Sweeper};
 use std::alloc::Global;
 
@@ -24,9 +26,11 @@ pub extern "C" fn g1_racer_counts(
     already_dirty: &mut u64,
     logged: &mut u64,
 ) -> u32
-    ensures counts { result ≡ 0 → OfRacer racer.old.value (λ a. (null.new ≡ a.counts.null)
-        × (same_region.new ≡ a.counts.same_region)
-        × (already_dirty.new ≡ a.counts.already_dirty) × (logged.new ≡ a.counts.logged)) }
+    ensures counts { result ≡ 0 → OfRacer racer.old.value (λ a.
+        (null.new ≡ stored_of a.counts Kind.Null)
+        × (same_region.new ≡ stored_of a.counts Kind.SameRegion)
+        × (already_dirty.new ≡ stored_of a.counts Kind.AlreadyDirty)
+        × (logged.new ≡ stored_of a.counts Kind.Logged)) }
     ensures none { 0 < result → (null.new ≡ 0) × (same_region.new ≡ 0) × (already_dirty.new ≡ 0)
         × (logged.new ≡ 0) }
     ensures why { 0 < result → IsRefusal result (SaysNoMember racer.old.value) }
@@ -45,10 +49,10 @@ pub extern "C" fn g1_racer_counts(
             refusal.word()
         }
         Ok(counts) => {
-            *null = counts.null;
-            *same_region = counts.same_region;
-            *already_dirty = counts.already_dirty;
-            *logged = counts.logged;
+            *null = counts.by_kind[1];
+            *same_region = counts.by_kind[0];
+            *already_dirty = counts.by_kind[2];
+            *logged = counts.by_kind[3];
             DONE
         }
     }

@@ -1,7 +1,8 @@
 -- What a racer and a sweeper count.
-use Rattle.std.specs.Prelude.{ℕ, Bool, if◌then◌else◌, ◌+◌, ◌%◌, ◌^◌}
+use Rattle.std.specs.Prelude.{ℕ, Bool, [], ◌∷◌, if◌then◌else◌, ◌+◌, ◌%◌, ◌^◌}
+use Rattle.std.specs.Prelude.{slice_index_or, slice_set}
 use Rattle.g1_layout.specs.declared.kind.Kind.{Kind}
-use Rattle.g1_layout.specs.declared.kind.Kind.TheVariants.{Null, SameRegion, AlreadyDirty, Logged}
+use Rattle.g1_layout.specs.declared.kind.Kind.TheVariants.{SameRegion, Null, AlreadyDirty, Logged}
 use Rattle.g1_handles.specs.declared.member_counts.MemberCounts.{MemberCounts}
 use Rattle.g1_handles.specs.declared.member_counts.StoreCounts.{StoreCounts}
 use Rattle.g1_handles.specs.declared.member_counts.SweepCounts.{SweepCounts}
@@ -9,7 +10,7 @@ use Rattle.g1_handles.specs.declared.member_counts.SweepCounts.{SweepCounts}
 -- the counts of a member that has done nothing
 abbrev pub no_counts : MemberCounts
 no_counts = record {
-  stores = record { null = 0; same_region = 0; already_dirty = 0; logged = 0 };
+  stores = record { by_kind = 0 ∷ 0 ∷ 0 ∷ 0 ∷ [] };
   sweeps = record { refined = 0; cleaned = 0; references = 0 };
 }
 
@@ -17,32 +18,20 @@ no_counts = record {
 abbrev pub one_more : ℕ → ℕ
 one_more n = (n + 1) % 2 ^ 64
 
+-- the place of a kind among the counts
+abbrev pub place_of : Kind → ℕ
+place_of SameRegion = 0
+place_of Null = 1
+place_of AlreadyDirty = 2
+place_of Logged = 3
+
+-- how many stores of this kind are counted
+abbrev pub stored_of : StoreCounts → Kind → ℕ
+stored_of c k = slice_index_or c.by_kind (place_of k) 0
+
 -- the counts after one more store, of this kind
 abbrev pub with_store : StoreCounts → Kind → StoreCounts
-with_store c Null = record {
-  null = one_more c.null;
-  same_region = c.same_region;
-  already_dirty = c.already_dirty;
-  logged = c.logged;
-}
-with_store c SameRegion = record {
-  null = c.null;
-  same_region = one_more c.same_region;
-  already_dirty = c.already_dirty;
-  logged = c.logged;
-}
-with_store c AlreadyDirty = record {
-  null = c.null;
-  same_region = c.same_region;
-  already_dirty = one_more c.already_dirty;
-  logged = c.logged;
-}
-with_store c Logged = record {
-  null = c.null;
-  same_region = c.same_region;
-  already_dirty = c.already_dirty;
-  logged = one_more c.logged;
-}
+with_store c k = record { by_kind = slice_set c.by_kind (place_of k) (one_more (stored_of c k)) }
 
 -- the counts after one more card, which was dirty or not, with this many references to record
 abbrev pub with_card : SweepCounts → Bool → ℕ → SweepCounts

@@ -1,6 +1,6 @@
 //! What the racers and the sweepers of a heap have done, in numbers.
 ghost use Rattle.std.specs.Prelude.{◌≡◌, IfOk, IfErr};
-ghost use Rattle.g1_handles.specs.Counting.{no_counts, with_store, with_card};
+ghost use Rattle.g1_handles.specs.Counting.{no_counts, place_of, with_store, with_card};
 ghost use Rattle.g1_handles.specs.Racing.{OfRacer, OfSweeper};
 ghost use Rattle.g1_handles.specs.Refusals.{SaysNoMember};
 
@@ -13,31 +13,28 @@ use g1_race::{Racer, Sweeper, Swept};
 /// between. A count that would be 2^64 begins at 0 again.
 #[derive(Clone, Copy, Debug)]
 pub struct StoreCounts {
-    /// How many stores were of null or of data.
-    pub null: u64,
-    /// How many were of a place in the slot's own region.
-    pub same_region: u64,
-    /// How many found their card dirty.
-    pub already_dirty: u64,
-    /// How many made their card dirty, and logged it.
-    pub logged: u64,
+    /// How many stores were of each kind, in the order of [`Kind`]: of a place in the slot's own
+    /// region, of null or of data, on a dirty card, and logged.
+    pub by_kind: [u64; 4],
 }
 
 impl StoreCounts {
-    /// The counts after one more store.
+    /// Counts one more store.
     #[inline(always)]
-    pub(crate) fn and(self, kind: Kind) -> StoreCounts
-        ensures { result ≡ with_store self kind }
+    pub(crate) fn add(&mut self, kind: Kind)
+        ensures { self.new ≡ with_store self.old kind }
     {
-        let mut counts = self;
-        match kind {
-            Kind::Null => counts.null = self.null.wrapping_add(1),
-            Kind::SameRegion => counts.same_region = self.same_region.wrapping_add(1),
-            Kind::AlreadyDirty => counts.already_dirty = self.already_dirty.wrapping_add(1),
-            Kind::Logged => counts.logged = self.logged.wrapping_add(1),
-        }
-        counts
+        let place = place_of(kind);
+        self.by_kind[place] = self.by_kind[place].wrapping_add(1);
     }
+}
+
+/// The place of a kind among the counts. (By a match, a store would take a jump more.)
+#[inline(always)]
+fn place_of(kind: Kind) -> usize
+    ensures { result ≡ place_of kind }
+{
+    kind as usize
 }
 
 /// What a sweeper has done since its heap was opened, whatever pauses came between. A count that
@@ -82,12 +79,7 @@ impl MemberCounts {
         ensures { result ≡ no_counts }
     {
         MemberCounts {
-            stores: StoreCounts {
-                null: 0,
-                same_region: 0,
-                already_dirty: 0,
-                logged: 0,
-            },
+            stores: StoreCounts { by_kind: [0; 4] },
             sweeps: SweepCounts {
                 refined: 0,
                 cleaned: 0,

@@ -34,6 +34,6 @@ pub fn store_data_by(member: &mut Member<Racer>, slot: u32, word: u64) -> Result
         return Err(Refusal::BadWord);
     }
     let old = racer.store_data(&member.race, slot, word);
-    member.counts.stores = member.counts.stores.and(Kind::Null);
+    member.counts.stores.add(Kind::Null);
     Ok(old)
 }

@@ -51,9 +51,10 @@ pub fn swap_by(member: &mut Member<Racer>, slot: u32, target: u32) -> Result<Swa
         return Err(Refusal::NotOpen);
     };
     let (slot, target) = may_store(&member.race, racer, slot, target)?;
+    let layout = member.race.layout();
     let (kind, old) = racer.swap(&member.race, slot, target);
-    member.counts.stores = member.counts.stores.and(kind);
-    let old = word_of(member.race.layout(), old);
+    member.counts.stores.add(kind);
+    let old = word_of(layout, old);
     Ok(Swapped { kind, old })
 }
 
@@ -85,7 +86,7 @@ pub fn compare_exchange_by(
     };
     match racer.compare_exchange(&member.race, slot, expected, target) {
         Ok(kind) => {
-            member.counts.stores = member.counts.stores.and(kind);
+            member.counts.stores.add(kind);
             Ok(Exchange::Stored(kind))
         }
         Err(found) => Ok(Exchange::Differs(word_of(layout, found))),

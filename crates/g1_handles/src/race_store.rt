@@ -51,7 +51,7 @@ pub(crate) fn store_next(
 {
     let (slot, target) = may_store(race, racer, slot, target)?;
     let kind = racer.store(race, slot, target);
-    *counts = counts.and(kind);
+    counts.add(kind);
     Ok(kind)
 }
 

@@ -31,7 +31,7 @@ pub fn swap_word_by(
     };
     let slot = may_store_word(&member.race, racer, slot, word)?;
     let (kind, old) = racer.swap_word(&member.race, slot, word);
-    member.counts.stores = member.counts.stores.and(kind);
+    member.counts.stores.add(kind);
     Ok((kind, old))
 }
 
@@ -62,11 +62,13 @@ pub fn compare_exchange_word_by(
     if !member.race.is_word(expected) {
         return Err(Refusal::BadWord);
     }
-    let exchange = racer.compare_exchange_word(&member.race, slot, expected, word);
-    if let Ok(kind) = exchange {
-        member.counts.stores = member.counts.stores.and(kind);
+    match racer.compare_exchange_word(&member.race, slot, expected, word) {
+        Ok(kind) => {
+            member.counts.stores.add(kind);
+            Ok(Ok(kind))
+        }
+        Err(found) => Ok(Err(found)),
     }
-    Ok(exchange)
 }
 
 /// Returns the slot of a store of this word that a racer can make, or `LogFull`, `NoSlot` or
