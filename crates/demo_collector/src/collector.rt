@@ -54,6 +54,11 @@ impl Collector {
         Ok(())
     }
 
+    /// Makes a step of a refinement thread.
+    pub fn refine(&mut self) -> Result<()> {
+        self.heap.refine_oldest()
+    }
+
     fn root(&self, at: usize) -> Option<u32> {
         match self.roots.get(at) {
             Some(root) => *root,

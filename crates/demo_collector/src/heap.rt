@@ -1,16 +1,18 @@
-//! The remembered sets of the heap with the log of its mutator, by plain numbers.
+//! The remembered sets of the heap, with the log of its mutator and the buffers that it completed,
+//! by plain numbers.
 
 use crate::totals::{Totals, raise};
 use anyhow::{Context, Result, bail};
 use g1_core::{CardList, ClearReply, Config, Core, Drained, Redirected};
 use g1_layout::{Layout, NoMemory};
-use g1_log::Log;
+use g1_log::{Buffer, Done, Log};
 use std::alloc::Global;
 
 #[derive(Drop)]
 pub struct Heap {
     core: Core,
     log: Log,
+    done: Done,
     pub totals: Totals,
 }
 
@@ -20,6 +22,7 @@ impl Heap {
         Ok(Heap {
             core: Core::new(alloc, layout, config)?,
             log: config.new_log(),
+            done: Done::new(alloc, config.limit()),
             totals: Totals::new(),
         })
     }
@@ -28,18 +31,42 @@ impl Heap {
         self.core.layout()
     }
 
-    /// Makes a store of the mutator, which refines its log if that is full.
+    /// Makes a store of the mutator, which passes its log on if that is full.
     pub fn store(&mut self, slot: u32, target: Option<u32>) -> Result<()> {
         let layout = self.core.layout();
         let into = layout.slot(slot).context("no such slot")?;
         let place = target.and_then(|number| layout.slot(number));
         let (reply, full) = self.core.store(&mut self.log, into, place);
         self.totals.count_store(reply.kind);
-        if let Some(buffer) = full {
-            let reply = self.core.refine(Some(&buffer))?;
-            raise(&mut self.totals.refined, reply.refined.len() as u64);
+        match full {
+            None => Ok(()),
+            Some(buffer) => self.hand_over(buffer),
+        }
+    }
+
+    // Lets a completed buffer wait, or has the mutator refine it if as many wait as may.
+    fn hand_over(&mut self, buffer: Buffer) -> Result<()> {
+        if let Err((buffer, _)) = self.done.add(buffer) {
+            let refined = self.refine(&buffer)?;
+            raise(&mut self.totals.helped, refined);
         }
         Ok(())
+    }
+
+    /// Refines the oldest buffer that waits, if there is one.
+    pub fn refine_oldest(&mut self) -> Result<()> {
+        if let Some(buffer) = self.done.take_oldest() {
+            let refined = self.refine(&buffer)?;
+            raise(&mut self.totals.refined, refined);
+        }
+        Ok(())
+    }
+
+    // Refines a buffer, and returns how many of its cards were read. If memory runs out, each card
+    // that had no turn is pending by its mark. So the buffer may be given up.
+    fn refine(&mut self, buffer: &Buffer) -> Result<u64, NoMemory> {
+        let reply = self.core.refine(Some(buffer))?;
+        Ok(reply.refined.len() as u64)
     }
 
     /// Returns what a slot refers to.
@@ -49,7 +76,7 @@ impl Heap {
     }
 
     /// Drains a region at a pause, and returns the cards to scan for references into it. The log is
-    /// dropped: what it has is pending.
+    /// dropped, and buffers may wait on: the card table says what is pending.
     pub fn drain(&mut self, region: u32) -> Result<CardList> {
         let _ = self.log.take();
         let region = self.core.layout().region(region).context("no such region")?;

@@ -10,8 +10,10 @@ pub struct Totals {
     pub same_region: u64,
     pub dirty: u64,
     pub logged: u64,
-    /// The cards that were refined because a log was full.
+    /// The cards that were refined from buffers that waited.
     pub refined: u64,
+    /// Those that the mutator refined, since as many buffers waited as may.
+    pub helped: u64,
     pub objects: u64,
     pub pauses: u64,
     /// The cards that the drains listed.
@@ -38,6 +40,7 @@ impl Totals {
             dirty: 0,
             logged: 0,
             refined: 0,
+            helped: 0,
             objects: 0,
             pauses: 0,
             scanned: 0,
@@ -78,7 +81,10 @@ impl Totals {
         println!(rt; "stores, same region: {}", self.same_region)?;
         println!(rt; "stores, dirty already: {}", self.dirty)?;
         println!(rt; "stores, logged: {}", self.logged)?;
-        println!(rt; "cards refined from full logs: {}", self.refined)?;
+        println!(rt;
+            "cards refined from waiting buffers: {}, by the mutator: {}",
+            self.refined, self.helped
+        )?;
         println!(rt; "objects: {}", self.objects)?;
         println!(rt; "pauses: {}", self.pauses)?;
         println!(rt;

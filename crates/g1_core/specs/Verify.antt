@@ -4,7 +4,7 @@ use Rattle.std.specs.Prelude.{◌≢◌, ◌+◌, ◌-◌, ◌<◌, ◌≤◌, �
 use Rattle.g1_layout.specs.Shape.{card_of, region_of}
 use Rattle.g1_core.specs.Table.{Table, Crosses, IsPending, IsRecorded, target_of}
 
--- The least slot of so many from one on of which it is so, or that it is so of none.
+-- The least of `count` slots from the first one on of which it is so, or that it is so of none.
 abbrev pub IsFirst : (ℕ → Type 0) → ℕ → ℕ → Option ℕ → Type 0
 IsFirst Q first count None = (slot : ℕ) → first ≤ slot → slot < first + count → Q slot → ⊥
 IsFirst Q first count (Some found) = (first ≤ found) × (found < first + count) × Q found

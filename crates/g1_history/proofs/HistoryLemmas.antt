@@ -26,10 +26,14 @@ store_counts : (b : Bool) (stored made : ℕ) → stored ≤ made → stored + c
 store_counts true stored made h = omega (arith, h)
 store_counts false stored made h = omega (arith, h)
 
+-- what was entered, after room was made for it
+entered_as : (keeps : Bool) (p q r : Past) (e f : Entry) → q ≡ p → r ≡ past_with keeps q f → f ≡ e → r ≡ past_with keeps p e
+entered_as keeps p q r e f same is called = is ∙ (λ i. past_with keeps (same i) (called i))
+
 -- one call more is kept
-pub call_kept : (keeps : Bool) (m n : Machine) (mutators : ℕ) (p q : Past) (e : Entry) → IsKept keeps (history_of m mutators p) → made_of keeps p.entries p.totals < p.limit
+kept_with : (keeps : Bool) (m n : Machine) (mutators : ℕ) (p q : Past) (e : Entry) → IsKept keeps (history_of m mutators p) → made_of keeps p.entries p.totals < p.limit
     → q ≡ past_with keeps p e → IsStep m.state.table e n.state.table → IsKept keeps (history_of n mutators q)
-call_kept true m n mutators p q e h room is step =
+kept_with true m n mutators p q e h room is step =
     let run = permitted_step m.state.table.layout p.entries e m.state.table n.state.table h.last h.run step in
     let same : m.state.table.layout ≡ n.state.table.layout = sym run.2 in
     let more : length (p.entries ++ e ∷ []) ≤ p.limit = omega (arith, length-append p.entries (e ∷ []), room) in
@@ -42,7 +46,7 @@ call_kept true m n mutators p q e h room is step =
       mutators_low = h.mutators_low;
       mutators_high = h.mutators_high;
     })
-call_kept false m n mutators p q e h room is step =
+kept_with false m n mutators p q e h room is step =
     let same : n.state.table.layout ≡ m.state.table.layout = ap (λ (t : Table). t.layout) step.after ∙ run_layout m.state.table (e ∷ []) in
     subst (λ (x : Past). IsTallied (history_of n mutators x)) (sym is) (record {
       shape = subst IsShape (sym same) h.shape;
@@ -53,11 +57,16 @@ call_kept false m n mutators p q e h room is step =
       mutators_high = h.mutators_high;
     })
 
+pub call_kept : (keeps : Bool) (m n : Machine) (mutators : ℕ) (p q r : Past) (e f : Entry) → IsKept keeps (history_of m mutators p) → made_of keeps p.entries p.totals < p.limit
+    → IsStep m.state.table e n.state.table → q ≡ p → r ≡ past_with keeps q f → f ≡ e → IsKept keeps (history_of n mutators r)
+call_kept keeps m n mutators p q r e f h room step same is called = kept_with keeps m n mutators p r e h room (entered_as keeps p q r e f same is called) step
+
 -- and it was made
-pub call_made : (keeps : Bool) (old : History) (m n : Machine) (mutators : ℕ) (p q : Past) (e : Entry) (did : Machine → Machine → Type 0) → history_of m mutators p ≡ old
-    → q ≡ past_with keeps p e → IsStep m.state.table e n.state.table → IsLater m n → did m n → Made keeps old e did (history_of n mutators q)
-call_made keeps old m n mutators p q e did was is step later does =
-    subst (λ h. Made keeps h e did (history_of n mutators q)) was (record {
+pub call_made : (keeps : Bool) (old : History) (m n : Machine) (mutators : ℕ) (p q r : Past) (e f : Entry) (did : Machine → Machine → Type 0) → history_of m mutators p ≡ old
+    → IsStep m.state.table e n.state.table → q ≡ p → r ≡ past_with keeps q f → f ≡ e → IsLater m n → did m n → Made keeps old e did (history_of n mutators r)
+call_made keeps old m n mutators p q r e f did was step same entered called later does =
+    let is : r ≡ past_with keeps p e = entered_as keeps p q r e f same entered called in
+    subst (λ h. Made keeps h e did (history_of n mutators r)) was (record {
       entered = record {
         entries = ap (λ (x : Past). x.entries) is;
         totals = ap (λ (x : Past). x.totals) is;
@@ -67,10 +76,6 @@ call_made keeps old m n mutators p q e did was is step later does =
       };
       did = does;
     })
-
--- what was entered, after room was made for it
-pub entered_as : (keeps : Bool) (p q r : Past) (e f : Entry) → q ≡ p → r ≡ past_with keeps q f → f ≡ e → r ≡ past_with keeps p e
-entered_as keeps p q r e f same is called = is ∙ (λ i. past_with keeps (same i) (called i))
 
 -- a list is the same only where entries are kept
 pub copied_as : (keeps : Bool) (p : Past) (caller : ℕ) (call : Call) (reply reply' : Reply) (xs ys : List ℕ) → (keeps ≡ true → reply ≡ reply') → (keeps ≡ true → xs ≡ ys)

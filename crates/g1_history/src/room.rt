@@ -10,7 +10,7 @@ use g1_core::{Call, CardList, Core, Reply};
 use g1_layout::{Card, NoMemory};
 use std::alloc::Global;
 
-/// Room for a list of so many cards.
+/// Room for a list of this many cards.
 #[inline(always)]
 pub(crate) fn list_room<H: Keeps>(alloc: Global, cards: usize) -> Result<Vec<Card>, NoMemory>
     ensures empty { IfOk result (λ room. vec_len room ≡ 0) }

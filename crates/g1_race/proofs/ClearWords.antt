@@ -1,9 +1,9 @@
 -- What a clear at a pause reads and does.
-use Rattle.std.proofs.Common.{◌≡◌, ◌≢◌, ℕ, ◌+◌, ◌-◌, ◌*◌, ◌/◌, ◌%◌, ◌<◌, ◌≤◌, not, eqb, ◌&&◌, Bool, true, false, List, length, set, get_or, length-set, div-add-mod', mod-lt, div-lt_iff_lt-mul, eq-eqb, ne_eqb, Some, refl, sym, ap, ◌∙◌, subst, inl, inr, ⊎_elim, arith}
-use mathlib.Core.Option.{some, some-injective}
+use Rattle.std.proofs.Common.{◌≡◌, ◌≢◌, ℕ, ◌+◌, ◌-◌, ◌*◌, ◌/◌, ◌<◌, ◌≤◌, not, eqb, List, length, set, get_or, length-set, eq-eqb, Some, refl, sym, ap, ◌∙◌, subst, inl, inr, ⊎_elim, arith}
+use mathlib.Core.Option.{some}
 use native.Mathlib.Decide.{ℕ_discrete}
 use lib.ListN.{get_elem?}
-use Rattle.std.proofs.lemmas.Bool.{cases_eq, cases_lt, not-true}
+use Rattle.std.proofs.lemmas.Bool.{cases_eq, eqb-true, not-false}
 use Rattle.std.proofs.lemmas.List.{take-set-le, get_or-set_same, get_or-set_other}
 use Rattle.std.proofs.lemmas.Nat.{div-mul-add}
 use Rattle.std.specs.Int.{bit_at}
@@ -13,52 +13,23 @@ use Rattle.g1_layout.specs.Shape as layout
 use Rattle.g1_layout.specs.Shape.{slot_count}
 use Rattle.g1_core.specs.Table.{Enters}
 use Rattle.g1_core.specs.Run.{IsFirstInto}
-use Rattle.g1_core.proofs.SetLemmas.{pair_exact, same_pairs}
 use Rattle.g1_race_words.specs.declared.view.Shape.{Shape}
-use Rattle.g1_race_words.specs.Rule.{IsBegun, IsMarked, IsWholeShape, HasBit, bit_word, bit_place, slot_card, crosses, flag, front, mark_word, word_count, pairs_up_to, region_at, started}
+use Rattle.g1_race_words.specs.Rule.{IsBegun, IsMarked, IsWholeShape, HasBit, bit_word, bit_place, slot_card, flag, front, mark_word, word_count, region_at, started}
 use Rattle.g1_race.specs.Race.{shape_of}
-use Rattle.g1_race.specs.Over.{ended, refs_of, table_of}
+use Rattle.g1_race.specs.Over.{ended, table_of}
 use Rattle.g1_core.specs.declared.entry.Call.TheVariants.{Clear}
 use Rattle.g1_core.specs.declared.entry.Reply.TheVariants as reply
 use Rattle.g1_core.specs.declared.reply.ClearReply.TheVariants.{Cleared}
 use Rattle.g1_core.specs.Run.{settled}
-use Rattle.g1_race.specs.Clearing.{Into, IsLeastInto, IsLeastOfCard, IsEmptied}
+use Rattle.g1_race.specs.Clearing.{Into, IsLeastInto, IsEmptied}
 use Rattle.g1_race_words.proofs.AtBeginning.{no_bit}
 use Rattle.g1_race_words.proofs.Places.{at_take, at_untake, reads_as}
 use Rattle.g1_race_words.proofs.Crossing.{crosses_reference}
 use Rattle.g1_race_words.proofs.PairBits.{card_below, card_in_row, crossing_pair, in_row}
 use Rattle.g1_race_words.proofs.Flags.{flag_card, word_in_row}
 use Rattle.g1_race.proofs.StoreCalls.{other_region}
-use Rattle.g1_race.proofs.Ends.{crosses_apart, recorded_set, set_recorded, word_back, word_refers}
-
--- a slot of a region's member
-
-pub into_bit : (k : Shape) (words : List ℕ) (region p : ℕ) → IsBegun (started k words) → ((c : ℕ) → c < k.cards → get_elem? words (mark_word k c) ≡ some 1 → ⊥) → Into k words region p → HasBit k words (slot_card k p, region)
-into_bit k words region p h clean i = ⊎_elim
-    (λ (b : HasBit k words (slot_card k p, region_at k i.0)). subst (λ (r : ℕ). HasBit k words (slot_card k p, r)) i.4 b)
-    (λ (m : IsMarked k words p). absurd (clean (slot_card k p) (card_below k p h.shaped i.1) m))
-    (h.covered p i.0 i.1 i.2 i.3)
-
-later : (k : Shape) (p q : ℕ) → 0 < k.size → slot_card k p < slot_card k q → p < q
-later k p q pos lt =
-    let a : p < slot_card k q * k.size = (div-lt_iff_lt-mul pos).0 lt in
-    let b : slot_card k q * k.size + q % k.size ≡ q = div-add-mod' q k.size in
-    let x : ℕ = slot_card k q * k.size in let r : ℕ = q % k.size in let a' : p < x = a in let b' : x + r ≡ q = b in let goal : p < q = omega arith in goal
-
--- none on the cards below, and the least on this one
-pub least_found : (k : Shape) (words : List ℕ) (card region slot : ℕ) → 0 < k.size → ((p : ℕ) → slot_card k p < card → Into k words region p → ⊥) → IsLeastOfCard k words card region (Some slot) → IsLeastInto k words region (Some slot)
-least_found k words card region slot pos below h = (h.1, λ q i. pick q i (ℕ_discrete (slot_card k q) card))
-  where
-    pick : (q : ℕ) → Into k words region q → Dec (slot_card k q ≡ card) → slot ≤ q
-    pick q i (yes e) = h.2 q e i
-    pick q i (no ne) = elim (cases_lt (slot_card k q) card) [
-      | inl lt ↦ absurd (below q lt i)
-      | inr le ↦ let a : slot < q = later k slot q pos (let e : slot_card k slot ≡ card = h.0 in omega (arith, e, le, ne)) in omega (arith, a)
-    ]
-
--- a slot by its card
-pub by_card : (k : Shape) (q card : ℕ) → slot_card k q ≡ card → card * k.size + q % k.size ≡ q
-by_card k q card e = ap (λ (c : ℕ). c * k.size + q % k.size) (sym e) ∙ div-add-mod' q k.size
+use Rattle.g1_race.proofs.Ends.{crosses_apart, word_back, word_refers}
+use Rattle.g1_race.proofs.ForgottenTable.{retained_is}
 
 -- a word of the region's row
 
@@ -145,10 +116,6 @@ into_back k old new region p same i = (i.0, i.1, (at_untake old (k.slots + k.car
 
 -- as a table
 
-both_true : (a b : Bool) → (a && b) ≡ true → (a ≡ true) × (b ≡ true)
-both_true true b e = (refl, e)
-both_true false b e = absurd (cc (e))
-
 module _ (k : Shape) (l : layout.Shape) (laid : k ≡ shape_of l k.members) where
   pub enters_word : (words : List ℕ) (slot region : ℕ) → Enters (table_of (ended l k words)) slot region → Into k words region slot
   enters_word words slot region h =
@@ -182,50 +149,9 @@ module _ (k : Shape) (l : layout.Shape) (laid : k ≡ shape_of l k.members) wher
   first_into words slot region h = record { enters = word_enters words slot region h.0; least = λ other e. h.1 other (enters_word words other region e) }
 
   pub cleared_is : (old new : List ℕ) (region : ℕ) → IsBegun (started k old) → IsBegun (started k new) → IsEmptied k old new region k.row → table_of (ended l k new) ≡ settled (Clear region) (reply.Clear Cleared) (table_of (ended l k old))
-  cleared_is old new region b h g = λ i. record {
-    layout = l;
-    refs = refs_of (record { layout = l; words = g.front i; pairs = pairs_up_to k new k.cards });
-    pending = (table_of (record { layout = l; words = g.front i; pairs = pairs_up_to k new k.cards })).pending;
-    recorded = recorded i;
-  }
-    where
-      keep : ℕ × ℕ → Bool
-      keep x = not (eqb x.1 region)
-
-      retained : (x : ℕ × ℕ) → fin.contains (fin.retain (table_of (ended l k old)).recorded keep) x ≡ (fin.contains (table_of (ended l k old)).recorded x && keep x)
-      retained x = fin.contains-retain (table_of (ended l k old)).recorded keep x (λ y e. ap keep (sym (pair_exact x y e)))
-
-      recorded : (table_of (ended l k new)).recorded ≡ fin.retain (table_of (ended l k old)).recorded keep
-      recorded = same_pairs _ _
-          (λ x c. let s = recorded_set k l new laid h x c in
-          let was : fin.contains (table_of (ended l k old)).recorded x ≡ true = set_recorded k l old laid b x s.0 (g.only x s.0.0 s.1) in
-          let out : keep x ≡ true = ap not (ne_eqb x.1 region (λ e. g.clear x s.0.0 e (in_row k x h.shaped s.0) s.1)) in
-          retained x ∙ (λ i. was i && out i))
-          (λ x c. let t = both_true _ _ (sym (retained x) ∙ c) in
-          let s = recorded_set k l old laid b x t.0 in
-          set_recorded k l new laid h x s.0 (g.kept x s.0.0 (λ e. absurd (let f = not-true (eqb x.1 region) t.1 in let y = eq-eqb x.1 region e in cc (f, y))) s.1))
-
--- slot by slot of a card
-
-pub least_on : (k : Shape) (words : List ℕ) (card region i q : ℕ) → ((j : ℕ) → j < i → Into k words region (card * k.size + j) → ⊥) → slot_card k q ≡ card → Into k words region q → card * k.size + i ≤ q
-least_on k words card region i q none e x = elim (cases_lt (q % k.size) i) [
-  | inl lt ↦ absurd (none (q % k.size) lt (subst (Into k words region) (sym (by_card k q card e)) x))
-  | inr le ↦ let b : card * k.size + q % k.size ≡ q = by_card k q card e in let y : ℕ = card * k.size in let r : ℕ = q % k.size in let b' : y + r ≡ q = b in let le' : i ≤ r = le in let goal : y + i ≤ q = omega arith in goal
-]
-
-pub none_next : (k : Shape) (words : List ℕ) (card region i r : ℕ) → get_elem? words (card * k.size + i) ≡ some r → ((crosses k (card * k.size + i) r ≡ true) × (region_at k r ≡ region) → ⊥) → ((j : ℕ) → j < i → Into k words region (card * k.size + j) → ⊥) → (j : ℕ) → j < i + 1 → Into k words region (card * k.size + j) → ⊥
-none_next k words card region i r at never none j lt x = pick (ℕ_discrete j i)
-  where
-    pick : Dec (j ≡ i) → ⊥
-    pick (yes e) =
-        let y : Into k words region (card * k.size + i) = subst (λ (m : ℕ). Into k words region (card * k.size + m)) e x in
-        let same : y.0 ≡ r = some-injective y.0 r (sym y.2 ∙ at) in
-        never (subst (λ (n : ℕ). crosses k (card * k.size + i) n ≡ true) same y.3, subst (λ (n : ℕ). region_at k n ≡ region) same y.4)
-    pick (no ne) = none j (omega (arith, lt, ne)) x
-
-pub none_on : (k : Shape) (words : List ℕ) (card region i p : ℕ) → 0 < k.size → k.size ≤ i → ((j : ℕ) → j < i → Into k words region (card * k.size + j) → ⊥) → slot_card k p ≡ card → Into k words region p → ⊥
-none_on k words card region i p pos le none e x = none (p % k.size) (let m : p % k.size < k.size = mod-lt p pos in omega (arith, m, le)) (subst (Into k words region) (sym (by_card k p card e)) x)
-
--- card by card
-pub none_below_next : (k : Shape) (words : List ℕ) (card region : ℕ) → ((p : ℕ) → slot_card k p < card → Into k words region p → ⊥) → ((p : ℕ) → slot_card k p ≡ card → Into k words region p → ⊥) → (p : ℕ) → slot_card k p < card + 1 → Into k words region p → ⊥
-none_below_next k words card region below here p lt x = elim (cases_lt (slot_card k p) card) [ inl a ↦ below p a x | inr b ↦ here p (let e : slot_card k p ≡ card = omega (arith, b, lt) in e) x ]
+  cleared_is old new region b h g = retained_is k l laid old new (λ x. not (eqb x.1 region)) b h (record {
+    front = g.front;
+    kept = λ x pair stays. g.kept x pair.0 (λ e. stays (ap not (eq-eqb x.1 region e)));
+    only = λ x pair. g.only x pair.0;
+    clear = λ x pair gone. g.clear x pair.0 (eqb-true x.1 region (not-false _ gone)) (in_row k x h.shaped pair);
+  })

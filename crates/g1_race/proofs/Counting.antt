@@ -54,7 +54,7 @@ module _ (k : Shape) (words : List ℕ) where
   at_most zero = omega arith
   at_most (suc n) = let a = few (is_member k words n) k.cards in let x : ℕ = n * k.cards in let b : pair_count k words n ≤ x = at_most n in let e : suc n * k.cards ≡ x + k.cards = omega arith in omega (arith, a, b, e)
 
-  -- so many can be counted
+  -- their number fits a word
   pub fits : (n : ℕ) → IsWholeShape k → n ≤ k.regions → pair_count k words n < 2 ^ 64
   fits n shaped le =
       let x : ℕ = k.regions * k.span in

@@ -12,6 +12,7 @@ pub mod Gathering
 pub mod Fresh
 pub mod Parts
 pub mod Placing
+pub mod CopiedTable
 pub mod Telling
 pub mod NextCards
 pub mod FlagWords
@@ -20,12 +21,17 @@ pub mod Numbers
 pub mod Words
 pub mod Draining
 pub mod PauseTable
+pub mod Fronts
 pub mod PauseStores
 pub mod FlagStores
 pub mod ClearWords
+pub mod LeastInto
 pub mod Forgetting
+pub mod ForgottenTable
 pub mod PauseRun
 pub mod Moving
+pub mod MovedCards
+pub mod MovedTargets
 pub mod MovedTable
 pub mod Counting
 pub mod Blocks

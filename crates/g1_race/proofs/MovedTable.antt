@@ -1,97 +1,38 @@
 -- A redirect at a pause as a step of the plain table.
-use Rattle.std.proofs.Common.{◌^◌, ◌≡◌, ◌≢◌, ℕ, zero, suc, ◌+◌, ◌-◌, ◌*◌, ◌/◌, ◌%◌, ◌<◌, ◌≤◌, cond, eqb, map, take, Bool, true, false, List, length, get_or, Option, Some, None, refl, sym, ap, ◌∙◌, subst, inl, inr, ⊎_elim, arith, eq-eqb, ne_eqb}
+use Rattle.std.proofs.Common.{◌≡◌, ◌≢◌, ℕ, zero, suc, ◌+◌, ◌-◌, ◌/◌, ◌<◌, ◌≤◌, cond, eqb, map, take, Bool, true, false, List, length, get_or, Option, Some, None, refl, sym, ap, ◌∙◌, subst, inl, inr, ⊎_elim, arith, ne_eqb}
 use Rattle.std.specs.Prelude.{not, ◌&&◌, ◌||◌, count_by}
 use mathlib.Core.Option.{some}
 use lib.ListN.{get_elem?}
 use Rattle.std.specs.List.{enumerate_from, filter_map, range_with_len}
 use Rattle.std.specs.FinSet as set
-use Rattle.std.proofs.lemmas.Bool.{and_from, and_parts, cases_Bool, cases_lt, eqb-false, eqb-true, not-true, or_cases, or_left, or_right, true≢false}
+use Rattle.std.proofs.lemmas.Bool.{and_from, and_parts, cases_Bool, eqb-false, not-true, or_cases, or_left, or_right}
 use Rattle.std.proofs.lemmas.List.{get_or_default, get_or-map, length-map, length-take}
 use Rattle.std.proofs.lemmas.List.FromFn.{fill_by_all, get_or-enumerate_from, length-enumerate_from}
 use Rattle.std.proofs.lemmas.List.Sums.{count_by_more_no, count_by_more_yes}
 use Rattle.g1_layout.specs.Shape as layout
-use Rattle.g1_layout.specs.Shape.{slot_count, region_of, same_offset}
+use Rattle.g1_layout.specs.Shape.{slot_count, region_of}
 use Rattle.g1_layout.specs.Sets.{pair_cmp}
 use Rattle.g1_core.specs.Table.{Table, enters, moved_target, moved_pair, moved, moved_count}
 use Rattle.g1_core.specs.declared.entry.Call.TheVariants.{Redirect}
 use Rattle.g1_core.specs.declared.entry.Reply.TheVariants as reply
 use Rattle.g1_core.specs.Run.{IsStep}
 use Rattle.g1_race.specs.Evacuating.{AreAllRefined}
-use Rattle.g1_core.proofs.SetLemmas.{pair_total, pair_exact, listed, unlisted, Kept, from_kept, to_kept, same_bools}
+use Rattle.g1_core.proofs.SetLemmas.{pair_total, pair_exact, listed, unlisted, Kept, from_kept, to_kept}
 use Rattle.g1_core.proofs.TableLemmas.{slot_of}
 use Rattle.g1_race_words.specs.declared.view.Shape.{Shape}
-use Rattle.g1_race_words.specs.Rule.{IsReference, IsBegun, IsPair, HasBit, slot_card, crosses, front, mark_word, as_number, region_at, started, word_count}
+use Rattle.g1_race_words.specs.Rule.{IsBegun, IsPair, HasBit, slot_card, front, mark_word, as_number, started, word_count}
 use Rattle.g1_race.specs.Race.{shape_of}
 use Rattle.g1_race.specs.Over.{ended, refs_of, table_of, target_of_word}
-use Rattle.g1_race.specs.Moving.{AreMovedAway, Acquires, into_count, is_into, moved_word, word_after}
-use Rattle.g1_race.proofs.Ends.{target_data, crosses_apart, recorded_set, refs_here, set_recorded, target_some}
-use Rattle.g1_race_words.proofs.Crossing.{crosses_reference}
+use Rattle.g1_race.specs.Moving.{AreMovedAway, Acquires, into_count, is_into, word_after}
+use Rattle.g1_race.proofs.Ends.{recorded_set, refs_here, set_recorded}
 use Rattle.g1_race_words.proofs.PairBits.{card_below, in_row}
 use Rattle.g1_race.proofs.PauseTable.{pending_word, slots_are, table_is, word_pending}
 use Rattle.g1_race_words.proofs.Places.{at_take, at_untake, reads_as, take_all}
-use Rattle.g1_race_words.proofs.Plain.{false_is, read_at, true_is}
+use Rattle.g1_race_words.proofs.Plain.{read_at}
 use Rattle.g1_race.proofs.Moving.{moved_low}
-use Rattle.g1_race.proofs.StoreCalls.{other_region}
+use Rattle.g1_race.proofs.MovedTargets.{enters_to, enters_from, enters_is, after_target, span_is}
 
 module _ (k : Shape) (l : layout.Shape) (laid : k ≡ shape_of l k.members) where
-  span_is : k.span ≡ l.cards * l.slots
-  span_is = ap (λ (s : Shape). s.span) laid
-
-  -- a slot refers into a region by its word just where it does by its target
-
-  enters_to : (region p n : ℕ) → is_into k region p n ≡ true → enters l region (p, target_of_word n) ≡ true
-  enters_to region p n h =
-      let b = and_parts (crosses k p n) (eqb (region_at k n) region) h in
-      let into : region_at k n ≡ region = eqb-true (region_at k n) region b.1 in
-      subst (λ (o : Option ℕ). enters l region (p, o) ≡ true) (sym (target_some n (crosses_reference k p n b.0)))
-      (and_from (not (eqb (region_of l p) region)) (eqb (region_of l (n - 1)) region)
-      (ap not (ne_eqb (region_of l p) region (λ e. crosses_apart k p n b.0 (ap (λ (s : ℕ). p / s) span_is ∙ (e ∙ sym into)))))
-      (eq-eqb (region_of l (n - 1)) region (ap (λ (s : ℕ). (n - 1) / s) (sym span_is) ∙ into)))
-
-  enters_low : (region p n : ℕ) → enters l region (p, target_of_word n) ≡ true → n < 2 ^ 32
-  enters_low region p n h = elim (cases_lt n (2 ^ 32)) [
-    | inl low ↦ low
-    | inr high ↦ absurd (true≢false (sym h ∙ ap (λ (o : Option ℕ). enters l region (p, o)) (target_data n high)))
-  ]
-
-  enters_from : (region p n : ℕ) → enters l region (p, target_of_word n) ≡ true → is_into k region p n ≡ true
-  enters_from region p zero h = absurd (true≢false (sym h))
-  enters_from region p (suc m) h =
-      let n : ℕ = suc m in
-      let is : IsReference (suc m) = ((λ z. absurd (omega (arith, z))), enters_low region p (suc m) h) in
-      let b = and_parts (not (eqb (region_of l p) region)) (eqb (region_of l (suc m - 1)) region) (subst (λ (o : Option ℕ). enters l region (p, o) ≡ true) (target_some (suc m) is) h) in
-      let into : region_of l (suc m - 1) ≡ region = eqb-true (region_of l (suc m - 1)) region b.1 in
-      let away : region_of l p ≢ region = eqb-false (region_of l p) region (not-true (eqb (region_of l p) region) b.0) in
-      let there : region_at k (suc m) ≡ region = ap (λ (s : ℕ). (suc m - 1) / s) span_is ∙ into in
-      and_from (crosses k p (suc m)) (eqb (region_at k (suc m)) region)
-      (other_region k p (suc m - 1) (suc m) (let f : suc m ≡ suc m - 1 + 1 = omega arith in f) is.1 (λ e. away (ap (λ (s : ℕ). p / s) (sym span_is) ∙ (e ∙ there))))
-      (eq-eqb (region_at k (suc m)) region there)
-
-  enters_is : (region p n : ℕ) → is_into k region p n ≡ enters l region (p, target_of_word n)
-  enters_is region p n = same_bools (is_into k region p n) (enters l region (p, target_of_word n)) (enters_to region p n) (enters_from region p n)
-
-  stays_put : (from to p : ℕ) (o : Option ℕ) → enters l from (p, o) ≡ false → moved_target l from to (p, o) ≡ o
-  stays_put from to p None e = refl
-  stays_put from to p (Some place) e = ap (λ (b : Bool). cond b (Some (same_offset l place to)) (Some place)) e
-
-  after_target : (from to p n : ℕ) → moved_word k to n < 2 ^ 32 → target_of_word (word_after k from to p n) ≡ moved_target l from to (p, target_of_word n)
-  after_target from to p n small = elim (cases_Bool (is_into k from p n)) [
-    | inl is ↦
-        let some_n = crosses_reference k p n (and_parts (crosses k p n) (eqb (region_at k n) from) is).0 in
-        let target : target_of_word n ≡ Some (n - 1) = target_some n some_n in
-        let off : ℕ = (n - 1) % k.span in
-        let base : ℕ = to * k.span in
-        let less : base + off + 1 - 1 ≡ base + off = omega arith in
-        ap target_of_word (true_is (is_into k from p n) (moved_word k to n) n is)
-        ∙ (target_some (moved_word k to n) ((λ z. absurd (let z' : base + off + 1 ≡ 0 = z in omega arith)), small)
-        ∙ (ap Some (less ∙ ap (λ (s : ℕ). to * s + (n - 1) % s) span_is)
-        ∙ (sym (ap (λ (b : Bool). cond b (Some (same_offset l (n - 1) to)) (Some (n - 1))) (subst (λ (o : Option ℕ). enters l from (p, o) ≡ true) target (enters_to from p n is)))
-        ∙ ap (λ (o : Option ℕ). moved_target l from to (p, o)) (sym target))))
-    | inr is ↦ ap target_of_word (false_is (is_into k from p n) (moved_word k to n) n is) ∙ sym (stays_put from to p (target_of_word n) (sym (enters_is from p n) ∙ is))
-  ]
-
-  -- slots by place
-
   here : (words : List ℕ) (p : ℕ) → IsBegun (started k words) → p < k.slots → get_elem? words p ≡ some (get_or words p 0)
   here words p h lt = read_at words p (let s : length words ≡ word_count k = h.sized in omega (arith, s, lt))
 
@@ -130,7 +71,7 @@ module _ (k : Shape) (l : layout.Shape) (laid : k ≡ shape_of l k.members) wher
     new_refs : refs_of (ended l k new) ≡ map each (range_with_len 0 (slot_count l))
     new_refs = fill_by_all each (refs_of (ended l k new)) (slot_count l) None (refs_len new h) (λ p lt.
         let low : p < k.slots = omega (arith, lt, slots_are k l laid) in
-        ref_is new p (word_after k from to p (get_or old p 0)) low (word_now p low) ∙ (after_target from to p (get_or old p 0) (moved_low k to (get_or old p 0) b.shaped within) ∙ ap (λ (o : Option ℕ). moved_target l from to (p, o)) (sym (ref_old p low))))
+        ref_is new p (word_after k from to p (get_or old p 0)) low (word_now p low) ∙ (after_target k l laid from to p (get_or old p 0) (moved_low k to (get_or old p 0) b.shaped within) ∙ ap (λ (o : Option ℕ). moved_target l from to (p, o)) (sym (ref_old p low))))
 
     listed_at : (p : ℕ) → p < slot_count l → get_or (enumerate_from 0 refs) p (0, None) ≡ (p, get_or refs p None)
     listed_at p lt = let first : 0 + p ≡ p = omega arith in get_or-enumerate_from 0 refs p (0, None) (omega (arith, lt, refs_len old b)) ∙ ap (λ (q : ℕ). (q, get_or refs p None)) first
@@ -157,8 +98,8 @@ module _ (k : Shape) (l : layout.Shape) (laid : k ≡ shape_of l k.members) wher
     gained x (p, n, lt, at, is, ne, e) =
         let low : p < slot_count l = omega (arith, lt, slots_are k l laid) in
         let ref : get_or refs p None ≡ target_of_word n = ref_is old p n lt at in
-        let enter : enters l from (p, get_or refs p None) ≡ true = subst (λ (o : Option ℕ). enters l from (p, o) ≡ true) (sym ref) (enters_to from p n is) in
-        let outside : eqb (region_of l p) to ≡ false = ne_eqb (region_of l p) to (λ f. ne (ap (λ (s : ℕ). p / s) span_is ∙ f)) in
+        let enter : enters l from (p, get_or refs p None) ≡ true = subst (λ (o : Option ℕ). enters l from (p, o) ≡ true) (sym ref) (enters_to k l laid from p n is) in
+        let outside : eqb (region_of l p) to ≡ false = ne_eqb (region_of l p) to (λ f. ne (ap (λ (s : ℕ). p / s) (span_is k l laid) ∙ f)) in
         let makes : moved_pair l from to (p, get_or refs p None) ≡ Some (layout.card_of l p, to) = ap (λ (c : Bool). cond {A = Option (ℕ × ℕ)} c (Some (layout.card_of l p, to)) None) (and_from (enters l from (p, get_or refs p None)) (not (eqb (region_of l p) to)) enter (ap not outside)) in
         let at_list : get_or (enumerate_from 0 refs) p (p, get_or refs p None) ≡ (p, get_or refs p None) = (let first : 0 + p ≡ p = omega arith in get_or-enumerate_from 0 refs p (p, get_or refs p None) (omega (arith, low, refs_len old b)) ∙ (λ i. (first i, reads_again p low i))) in
         subst (λ (y : ℕ × ℕ). set.contains (set.from_list {R = pair_cmp} (filter_map (moved_pair l from to) (enumerate_from 0 refs))) y ≡ true) (ap (λ (c : ℕ). (c, to)) (sym (card_is p)) ∙ e)
@@ -178,8 +119,8 @@ module _ (k : Shape) (l : layout.Shape) (laid : k ≡ shape_of l k.members) wher
         let is : moved_pair l from to (p, get_or refs p None) ≡ Some x = ap (moved_pair l from to) (slot_of refs p slot below at) ∙ makes in
         let q = pair_parts p x (enters l from (p, get_or refs p None) && not (eqb (region_of l p) to)) is in
         let c = and_parts (enters l from (p, get_or refs p None)) (not (eqb (region_of l p) to)) q.0 in
-        let into : is_into k from p (get_or old p 0) ≡ true = enters_from from p (get_or old p 0) (subst (λ (o : Option ℕ). enters l from (p, o) ≡ true) (ref_old p lt) c.0) in
-        let ne : p / k.span ≢ to = λ e. eqb-false (region_of l p) to (not-true (eqb (region_of l p) to) c.1) (ap (λ (s : ℕ). p / s) (sym span_is) ∙ e) in
+        let into : is_into k from p (get_or old p 0) ≡ true = enters_from k l laid from p (get_or old p 0) (subst (λ (o : Option ℕ). enters l from (p, o) ≡ true) (ref_old p lt) c.0) in
+        let ne : p / k.span ≢ to = λ e. eqb-false (region_of l p) to (not-true (eqb (region_of l p) to) c.1) (ap (λ (s : ℕ). p / s) (sym (span_is k l laid)) ∙ e) in
         let bit : HasBit k mid (slot_card k p, to) = away.moved.has p (get_or old p 0) (omega arith) (omega (arith, lt)) lt (here old p b lt) into ne in
         let same : (slot_card k p, to) ≡ x = ap (λ (d : ℕ). (d, to)) (card_is p) ∙ q.1 in
         (subst (HasBit k mid) same bit, subst (IsPair k) same (card_below k p b.shaped lt, within))
@@ -208,7 +149,7 @@ module _ (k : Shape) (l : layout.Shape) (laid : k ≡ shape_of l k.members) wher
         let low : i < slot_count l = omega arith in
         let lt : i < k.slots = omega (arith, low, slots_are k l laid) in
         let inside : i < length (enumerate_from 0 refs) = omega (arith, low, length-enumerate_from 0 refs, refs_len old b) in
-        let is : is_into k from i (get_or old i 0) ≡ enters l from (get_or (enumerate_from 0 refs) i (0, None)) = enters_is from i (get_or old i 0) ∙ (ap (λ (o : Option ℕ). enters l from (i, o)) (sym (ref_old i lt)) ∙ ap (enters l from) (sym (listed_at i low))) in
+        let is : is_into k from i (get_or old i 0) ≡ enters l from (get_or (enumerate_from 0 refs) i (0, None)) = enters_is k l laid from i (get_or old i 0) ∙ (ap (λ (o : Option ℕ). enters l from (i, o)) (sym (ref_old i lt)) ∙ ap (enters l from) (sym (listed_at i low))) in
         let first : 0 + i ≡ i = omega arith in
         let last : into_count k old from 0 (suc i) ≡ into_count k old from 0 i + as_number (is_into k from i (get_or old i 0)) = (λ j. into_count k old from 0 i + as_number (is_into k from (first j) (get_or old (first j) 0))) in
         let more : suc i ≡ i + 1 = omega arith in

@@ -1,8 +1,6 @@
 -- What a pause's words say as a table.
-use Rattle.std.proofs.Common.{◌≡◌, ◌≢◌, ℕ, zero, suc, ◌+◌, ◌<◌, ◌≤◌, eqb, List, [], ◌∷◌, map, take, drop, get_or, Bool, true, false, Result, Ok, Err, Contains, refl, sym, ap, ◌∙◌, subst, inl, inr, ⊎_elim, arith, ne_eqb}
-use Rattle.std.specs.Prelude.{IfOk}
-use mathlib.Core.Option.{some, some-ne-none, some-injective}
-use native.Mathlib.Decide.{ℕ_discrete}
+use Rattle.std.proofs.Common.{◌≡◌, ◌≢◌, ℕ, ◌+◌, ◌<◌, ◌≤◌, eqb, List, map, drop, true, Contains, refl, sym, ap, ◌∙◌, subst, inl, inr, ⊎_elim, arith}
+use mathlib.Core.Option.{some}
 use lib.ListN.{get_elem?}
 use Rattle.g1_layout.specs.Shape as layout
 use Rattle.g1_layout.specs.Shape.{slot_count, region_of, region_of_card}
@@ -37,42 +35,7 @@ use Rattle.g1_race_words.proofs.AtBeginning.{never_both}
 use Rattle.g1_race_words.proofs.Places.{at_take, at_untake, at_unmap}
 use Rattle.g1_race.proofs.Ends.{begun_covered, marked_pending, marks_here, recorded_set, set_recorded, region_of_quotient}
 use Rattle.g1_race.proofs.Draining.{began_holds}
-
-pub ok_map : {A E : Type 0} {P Q : A → Type 0} (x : Result A E) → ((a : A) → P a → Q a) → IfOk x P → IfOk x Q
-ok_map (Ok a) f p = f a p
-ok_map (Err e) f p = tt
-
--- lists of which the first n items are the same
-take_same : {A : Type 0} (n : ℕ) (xs ys : List A) → ((p : ℕ) → p < n → get_elem? xs p ≡ get_elem? ys p) → take n xs ≡ take n ys
-take_same zero xs ys h = refl
-take_same (suc n) [] [] h = refl
-take_same (suc n) [] (y ∷ ys) h = absurd (some-ne-none y (sym (h 0 (omega arith))))
-take_same (suc n) (x ∷ xs) [] h = absurd (some-ne-none x (h 0 (omega arith)))
-take_same (suc n) (x ∷ xs) (y ∷ ys) h = λ i. some-injective x y (h 0 (omega arith)) i ∷ take_same n xs ys (λ p lt. h (suc p) (omega arith)) i
-
-take_less : {A : Type 0} (n m : ℕ) (xs : List A) → n ≤ m → take n (take m xs) ≡ take n xs
-take_less zero m xs le = refl
-take_less (suc n) zero xs le = absurd (omega arith)
-take_less (suc n) (suc m) [] le = refl
-take_less (suc n) (suc m) (x ∷ xs) le = ap (λ l. x ∷ l) (take_less n m xs (omega arith))
-
-undrop : {A : Type 0} (l : List A) (n i j : ℕ) (a : A) → j ≡ n + i → get_elem? (drop n l) i ≡ some a → get_elem? l j ≡ some a
-undrop l zero i j a is e = subst (λ (k : ℕ). get_elem? l k ≡ some a) (let f : i ≡ j = omega arith in f) e
-undrop [] (suc n) i j a is e = absurd (some-ne-none a (sym e))
-undrop (x ∷ xs) (suc n) i zero a is e = absurd (omega arith)
-undrop (x ∷ xs) (suc n) i (suc j) a is e = undrop xs n i j a (omega arith) e
-
-flag_at : (l : List Bool) (i : ℕ) → get_or l i false ≡ true → get_elem? l i ≡ some true
-flag_at [] i e = absurd (cc (e))
-flag_at (x ∷ xs) zero e = ap (λ (b : Bool). some b) e
-flag_at (x ∷ xs) (suc i) e = flag_at xs i e
-
-one_of : (n : ℕ) → eqb n 1 ≡ true → n ≡ 1
-one_of n e = pick (ℕ_discrete n 1)
-  where
-    pick : Dec (n ≡ 1) → n ≡ 1
-    pick (yes f) = f
-    pick (no ne) = absurd (let g = ne_eqb n 1 ne in cc (e, g))
+use Rattle.g1_race.proofs.Fronts.{take_same, take_less, undrop, flag_at, one_of}
 
 -- where nothing is pending each card that holds is recorded
 covered_held : (t : Table) (c r : ℕ) → ((card : ℕ) → IsPending t card → ⊥) → IsCovered t → Holds t c r → IsRecorded t c r

@@ -65,7 +65,8 @@ impl<R: Holds> Paused<R> {
     }
 
     /// Refines every dirty card, in ascending order, and empties the racers' logs. The members of
-    /// each region are exact then, so one call serves a whole collection set. Takes no memory.
+    /// each region are exact then: call it once, then `members` for each region of the collection
+    /// set. Takes no memory.
     pub fn refine_all(&mut self)
         ensures race { IsRefinedRace self.old self.new }
         ensures words { SlotsBecome same_word self.old self.new }

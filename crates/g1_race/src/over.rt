@@ -13,20 +13,8 @@ use crate::race::{Race, Racer, Sweeper};
 
 impl Race {
     /// Ends the race. All its racers and sweepers must be handed in. The words and the recorded
-    /// pairs stay, and the following holds of them:
-    ///
-    /// - Each slot has the last target that some racer stored into it. If no racer stored into it,
-    ///   it refers to what it referred to when the race began.
-    /// - A dirty card was claimed by a racer or was dirty at the beginning. A clean card of which
-    ///   either is true was cleaned by a sweeper.
-    /// - Take the number of a card's claims, plus 1 if it was dirty at the beginning. That is the
-    ///   number of its cleanings, plus 1 if it is dirty now.
-    /// - A pair that a sweeper recorded is of a reference that was stored, or was there at the
-    ///   beginning. Its card lies outside its region.
-    /// - A slot that refers into another region has its card dirty or its pair recorded.
-    ///
-    /// It is a pause ([`Race::pause`]) and then [`Paused::close`]. Takes no memory. Logs that were
-    /// not taken are dropped; the marks stay.
+    /// pairs stay, and of them holds what [`Race::pause`] says. It is such a pause and then
+    /// [`Paused::close`]. Takes no memory. Logs that were not taken are dropped; the marks stay.
     pub fn close(self, racers: Vec<Racer>, sweepers: Vec<Sweeper>) -> Closed
         requires racers { (vec_len racers + vec_len sweepers ≡ (race_shape self).members)
             × All (λ r. racer_race r ≡ race_id self) racers.items }

@@ -1,5 +1,5 @@
--- Each kind of step is allowed, as a call on the table asks for it.
-use Rattle.std.proofs.Common.{inl, inr, ◌≡◌, ℕ, ◌-◌, ◌*◌, ◌%◌, ◌^◌, ◌<◌, ◌==◌, bit_or, cond, List, [], ◌∷◌, set, get_or, Bool, true, false, Some, None, refl, sym, ap, ◌∙◌, subst, arith}
+-- Each kind of step of a race is allowed, as a call on the table asks for it.
+use Rattle.std.proofs.Common.{inl, inr, ◌≡◌, ℕ, ◌-◌, ◌*◌, ◌%◌, ◌^◌, ◌<◌, ◌==◌, bit_or, cond, List, [], ◌∷◌, set, get_or, Bool, true, false, Some, None, refl, sym, ap, subst, arith}
 use mathlib.Core.Option.{some}
 use lib.ListN.{get_elem?}
 use prog.Atomic.{either}
@@ -7,34 +7,26 @@ use Rattle.atomic_table.specs.Table.{State, Me, keeps, Allows, Splits, Joins, En
 use Rattle.g1_race_words.specs.declared.view.Shape.{Shape}
 use Rattle.g1_race_words.specs.declared.view.View.{View}
 use Rattle.g1_race_words.specs.Begin.{Start}
-use Rattle.g1_race_words.specs.Rule.{IsWord, StoreHistory, Raced, beginning, mark_word, bit_word, bit_place, In, IsWholeShape, IsPair, AtRest, IsBlank, IsBegun, Going, started}
-use Rattle.g1_race_words.specs.Steps.{iced, thawed, put, blank, wrote, exchanged, looked, owed_card, dirtied, cleaned, read, sought, recorded, lighter, new_racer, new_sweeper, both, nothing}
+use Rattle.g1_race_words.specs.Rule.{IsWord, StoreHistory, Raced, beginning, mark_word, bit_word, bit_place, In, IsWholeShape, IsPair, AtRest, IsBlank, Going}
+use Rattle.g1_race_words.specs.Steps.{blank, wrote, exchanged, looked, owed_card, dirtied, cleaned, read, sought, recorded, lighter, new_racer, new_sweeper, both, nothing}
 use Rattle.g1_race_words.proofs.PairBits.{with_pair}
 use Rattle.g1_race_words.proofs.Plain.{set_read, set_there, read_at}
 use Rattle.g1_race_words.proofs.Tallies.{number_given, number_dropped}
-use Rattle.g1_race_words.specs.Seats.{Freezes, IsFound, Sits}
+use Rattle.g1_race_words.specs.Seats.{IsFound, Sits}
 use Rattle.g1_race_words.proofs.Writing.{raced_wrote}
-use Rattle.g1_race_words.proofs.Marking.{raced_looked, raced_dirtied, raced_cleaned}
+use Rattle.g1_race_words.proofs.Marking.{raced_looked, raced_dirtied}
+use Rattle.g1_race_words.proofs.Cleaning.{raced_cleaned}
 use Rattle.g1_race_words.proofs.Reading.{raced_read}
 use Rattle.g1_race_words.proofs.Recording.{raced_sought, raced_recorded}
 use Rattle.g1_race_words.proofs.Splitting.{raced_split, raced_join, raced_enter}
-use Rattle.g1_race_words.proofs.Going.{begun, going_step, going_split, going_join, going_enter, going_anew, begun_here, known_words, raced_mine, shape_mine, mine}
+use Rattle.g1_race_words.proofs.Going.{begun, going_step, going_split, going_join, going_enter}
+use Rattle.g1_race_words.proofs.GoingAnew.{mine}
 
 pub card_back : (k : Shape) (v : View) (c : ℕ) → v.shape ≡ k → mark_word k c - v.shape.slots ≡ c
 card_back k v c e = let f : v.shape.slots ≡ k.slots = ap (λ (s : Shape). s.slots) e in omega arith
 
--- a seat at a pause: all the weight, nothing owed, and all the words known
-pub record Knows (k : Shape) (v : View) : Type 0 where
-  pub all : v.weight ≡ k.members
-  pub pos : 0 < k.members
-  pub spare : v.spare ≡ k.members
-  pub blank : IsBlank v
-  pub shape : v.shape ≡ k
-  pub frozen : v.frozen ≡ true
-  pub begun : IsBegun (started k v.began_words)
-
 module _ {S : Type 0} where
-  abbrev Rule : Shape → State S View → Type 0
+  abbrev pub Rule : Shape → State S View → Type 0
   Rule k s = Going k s.words s.views
 
   -- what a step finds at a slot
@@ -154,49 +146,3 @@ module _ {S : Type 0} where
   enters_blank k slots i b s h len fits = (blank b 0 [], going_enter k s.words s.views h (blank b 0 []) refl refl (raced_enter (begun k s.words s.views h) s.words s.views (blank b 0 []) ((refl, refl, refl, refl), refl, refl, refl, refl, refl) refl refl h.raced), refl)
 
   -- at a pause
-
-  pub allows_thaw : (k : Shape) (slots id p : ℕ) (me : Me S View) → Knows k me.0 → Allows (Rule k) slots id me p (λ n. n) (λ n after. after ≡ (thawed me.0, me.1))
-  allows_thaw k slots id p me c s h len at fits =
-      let words = known_words k s.words s.views id me.0 c.all c.pos h at c.frozen in (
-        thawed me.0,
-        keeps,
-        tt,
-        subst (λ (ws : List ℕ). Going k ws (set s.views id (thawed me.0))) (sym (set_read s.words p ∙ words))
-            (going_anew k s.words s.views id me.0 c.all c.pos h at me.0.began_words (thawed me.0) c.begun c.blank c.all c.spare (ap (λ (x : Shape). started x me.0.began_words) c.shape)),
-        refl,
-      )
-
-  pub allows_set : (k : Shape) (slots id p n : ℕ) (me : Me S View) → Knows k me.0 → IsBegun (started k (set me.0.began_words p n)) → Allows (Rule k) slots id me p (λ _. n) (λ _ after. after ≡ (put me.0 p n, me.1))
-  allows_set k slots id p n me c b s h len at fits =
-      let words = known_words k s.words s.views id me.0 c.all c.pos h at c.frozen in (
-        put me.0 p n,
-        keeps,
-        tt,
-        subst (λ (ws : List ℕ). Going k (set ws p n) (set s.views id (put me.0 p n))) (sym words)
-            (going_anew k s.words s.views id me.0 c.all c.pos h at (set me.0.began_words p n) (put me.0 p n) b c.blank c.all c.spare (ap (λ (x : Shape). started x (set me.0.began_words p n)) c.shape)),
-        refl,
-      )
-
--- the words are learned
-pub allows_freeze : (k : Shape) (slots id p : ℕ) (me : Me (Unit {0}) View) → IsWholeShape k → me.0.weight ≡ k.members → 0 < k.members → AtRest me.0
-    → Allows (Rule k) slots id me p (λ n. n) (λ n after. Freezes me after)
-allows_freeze k slots id p me shaped all pos rest s h len at fits =
-    let shape = shape_mine k s.words s.views id me.0 all pos h at in
-    let here = begun_here k s.words s.views id me.0 all pos h at shaped rest in
-    let w = iced (started me.0.shape s.words) me.0.weight in (
-      w,
-      keeps,
-      tt,
-      subst (λ (ws : List ℕ). Going k ws (set s.views id w)) (sym (set_read s.words p))
-          (going_anew k s.words s.views id me.0 all pos h at s.words w here ((refl, refl, refl, refl), refl, refl, refl, refl, refl) all all (ap (λ (x : Shape). started x s.words) shape)),
-      record {
-        words = s.words;
-        views = s.views;
-        id = id;
-        view = refl;
-        begun = subst (λ (x : Shape). IsBegun (started x s.words)) (sym shape) here;
-        raced = raced_mine k s.words s.views id me.0 all pos h at;
-        mine = at;
-        still = known_words k s.words s.views id me.0 all pos h at;
-      },
-    )

@@ -12,7 +12,8 @@ use Rattle.g1_race_words.specs.Seats.{Freezes, HoldsBit, IsChair, IsFound, IsMar
 use Rattle.g1_race_words.proofs.PairBits.{word_below}
 use Rattle.g1_race_words.proofs.Flags.{flag_below}
 use Rattle.g1_race_words.proofs.Flagging.{allows_raise, allows_spot}
-use Rattle.g1_race_words.proofs.Allowed.{Knows, allows_clean, allows_dirty, allows_exchange, allows_freeze, allows_look, allows_read, allows_record, allows_seek, allows_set, allows_thaw, allows_write, joins_member, splits_racer, splits_sweeper}
+use Rattle.g1_race_words.proofs.Allowed.{allows_clean, allows_dirty, allows_exchange, allows_look, allows_read, allows_record, allows_seek, allows_write, joins_member, splits_racer, splits_sweeper}
+use Rattle.g1_race_words.proofs.AllowedAtPause.{Knows, allows_freeze, allows_set, allows_thaw}
 
 -- what is so of the models is so of what is inside
 pub inside : (P : Words → Seat (Unit {0}) View → Type 0) (t w : Words) (s q : Seat (Unit {0}) View) → t ≡ w → s ≡ q → P w q → P t s

@@ -14,12 +14,15 @@ pub mod Recording
 pub mod Raising
 pub mod Writing
 pub mod Marking
+pub mod Cleaning
 pub mod Reading
 pub mod Splitting
 pub mod Listing
 pub mod AtBeginning
 pub mod Going
+pub mod GoingAnew
 pub mod Allowed
+pub mod AllowedAtPause
 pub mod Flagging
 pub mod Calls
 pub mod Readers

@@ -1,5 +1,5 @@
-//! Reads a trace to its end, makes the calls of each mutator in a thread of its own, and writes
-//! what has come of it.
+//! Reads a trace to its end, makes the calls of each mutator in a thread of its own, and prints the
+//! result.
 ghost use Rattle.std.specs.Prelude.{◌≡◌, ℕ, List, ◌++◌, true, vec_len, All, Result, IfSome};
 ghost use Rattle.g1_layout.specs.Shape.{slot_count};
 ghost use Rattle.g1_steps.specs.Ask.{StepFits};

@@ -16,6 +16,6 @@ pub struct Source {
     /// The number of the next line.
     pub number: u64,
     pub ghost limited: { reads ≤ 2 ^ 40 },
-    /// A line has a byte, and a read takes so many bytes at most.
+    /// A line has a byte, and a read takes at most 2^20 bytes.
     pub ghost counted: { number ≤ 2 ^ 20 * reads + 1 },
 }

@@ -12,7 +12,7 @@ use Rattle.std.proofs.lemmas.Map.Steps.{length-le_from_distinct_below}
 use Rattle.g1_layout.specs.Shape.{Shape, IsShape, IsWithinProfile, card_count}
 use Rattle.g1_layout.proofs.ShapeLemmas.{card_count_limit}
 use Rattle.g1_sets.specs.Pairs.{list_at, with_card, AreLists}
-use Rattle.g1_sets.proofs.ListLemmas.{in_list, with_card-new, IsDistinct-with_card, All-with_card}
+use Rattle.g1_sets.proofs.CardLemmas.{in_list, with_card-new, IsDistinct-with_card, All-with_card}
 
 -- a list is no longer than there are cards
 pub few_listed : (l : Shape) (lists : List (List ℕ)) → AreLists l lists → (region : ℕ) → length (list_at lists region) ≤ card_count l

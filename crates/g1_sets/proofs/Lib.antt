@@ -1,7 +1,9 @@
 pub mod AscendingLemmas
 pub mod BitLemmas
+pub mod LowestBit
 pub mod BoundLemmas
 pub mod ListLemmas
+pub mod CardLemmas
 pub mod PairLemmas
 pub mod RoomLemmas
 pub mod RowLemmas

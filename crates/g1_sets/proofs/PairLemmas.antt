@@ -15,7 +15,8 @@ use Rattle.g1_layout.specs.Shape.{Shape}
 use Rattle.g1_layout.specs.Sets.{pair_cmp, PairSet}
 use Rattle.g1_sets.specs.Pairs.{list_at, of_card, of_region, without, with_cards, pairs_from, pairs_of, Joins, AreCardsOf, AreLists, AreTied}
 use Rattle.g1_sets.specs.Ascending.{AreInOrder}
-use Rattle.g1_sets.proofs.ListLemmas.{in_list, to_list, Contains-with_cards, Contains-with_cards_old, Contains-with_cards_cases, joins_cases, joins_old, joins_new, list_at-set_same, list_at-set_other}
+use Rattle.g1_sets.proofs.ListLemmas.{joins_cases, joins_old, joins_new, list_at-set_same, list_at-set_other}
+use Rattle.g1_sets.proofs.CardLemmas.{in_list, to_list, Contains-with_cards, Contains-with_cards_old, Contains-with_cards_cases}
 
 pub pair_total : IsTotalOrder pair_cmp
 pair_total = then_total (on_total (λ (p : ℕ × ℕ). p.0) nat_cmp_total) (on_total (λ (p : ℕ × ℕ). p.1) nat_cmp_total)

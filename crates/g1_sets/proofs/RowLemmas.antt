@@ -9,7 +9,8 @@ use Rattle.g1_layout.specs.declared.region_set.RegionSet.{RegionSet}
 use Rattle.g1_layout.specs.Regions.{HasRegion, Gains, Loses}
 use Rattle.g1_sets.specs.Pairs.{list_at, with_card, with_cards, Joins}
 use Rattle.g1_sets.specs.Rows.{row_at, IsRowOf, AreSets, RowsGain, RowsLose}
-use Rattle.g1_sets.proofs.ListLemmas.{list_at-set_same, list_at-set_other, Contains-with_card, joins_cases, joins_old, joins_lists, replaced_lists, emptied_lists, none_listed, empty_lists, IsDistinct-with_cards, All-with_cards}
+use Rattle.g1_sets.proofs.ListLemmas.{list_at-set_same, list_at-set_other, joins_cases, joins_old, joins_lists, replaced_lists, emptied_lists, none_listed, empty_lists}
+use Rattle.g1_sets.proofs.CardLemmas.{Contains-with_card, IsDistinct-with_cards, All-with_cards}
 use Rattle.g1_sets.proofs.PairLemmas.{in_none, many_cases, many_old, many_new}
 
 row_at-set_same : (rows : List RegionSet) (n : ℕ) (row : RegionSet) (card : ℕ) → n < length rows → card ≡ n → row_at (slice_set rows n row) card ≡ row

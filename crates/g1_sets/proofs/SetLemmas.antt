@@ -8,7 +8,8 @@ use Rattle.indexmap.specs.IndexSet.{IndexSet, keys, spare}
 use Rattle.g1_sets.specs.Pairs.{list_at, with_card, Joins}
 use Rattle.g1_layout.specs.declared.region_set.RegionSet.{RegionSet}
 use Rattle.g1_sets.specs.Members.{lists_of, rooms_of, HaveRoom}
-use Rattle.g1_sets.proofs.ListLemmas.{joins_more, with_card-there, to_list, list_at-set_same, list_at-set_other}
+use Rattle.g1_sets.proofs.ListLemmas.{joins_more, list_at-set_same, list_at-set_other}
+use Rattle.g1_sets.proofs.CardLemmas.{with_card-there, to_list}
 use Rattle.g1_sets.proofs.RoomLemmas.{room_more, room_grown}
 
 -- the regions up to the next one

@@ -43,8 +43,8 @@ kept_terms t = record {
   limit = t.limit;
 }
 
--- A permitted run of so many calls, of which so many are stores, leads from the one table to the
--- other.
+-- A permitted run with this many calls, and this many stores among them, leads from the one table
+-- to the other.
 pub record LeadsTo (old : Table) (calls stores : ℕ) (new : Table) : Type 0 where
   pub entries : List Entry
   pub run : IsPermitted old entries
@@ -53,7 +53,7 @@ pub record LeadsTo (old : Table) (calls stores : ℕ) (new : Table) : Type 0 whe
   pub stored : count_by is_store entries ≡ stores
 
 -- What a counted book keeps: the totals of its ledgers are those of the book, on these terms, and
--- so many calls led to its table.
+-- as many calls led to its table.
 abbrev pub AreCounted : Bool → SharedTerms → ℕ → ℕ → History → Type 0
 AreCounted keeps terms made stored h =
     (made ≡ made_of keeps h.entries h.totals) × (stored ≡ stored_of keeps h.entries h.totals)

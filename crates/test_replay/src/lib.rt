@@ -16,6 +16,8 @@ mod failing_ends;
 #[cfg(test)]
 mod grammar;
 #[cfg(test)]
+mod headers;
+#[cfg(test)]
 mod help;
 #[cfg(test)]
 mod line_faults;

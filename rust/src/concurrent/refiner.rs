@@ -85,8 +85,8 @@ struct Log {
 }
 
 impl Refiner {
-    /// A refiner that is paused, whose queue has room for so many logs (1 or more), with a thread
-    /// for each of so many sweepers (1 to [`SWEEPERS`]).
+    /// A refiner that is paused, whose queue has room for this many logs (1 or more), with a thread
+    /// for each of this many sweepers (1 to [`SWEEPERS`]).
     ///
     /// Refused with an error of the kind `InvalidInput` for a number outside its limits, or the one
     /// by which a thread was refused.

@@ -83,8 +83,8 @@ impl<M: Terms, S: Ledger, H: Keeps> Shared<M, S, H> {
     /// history under a lock).
     ///
     /// The book has as many entries as its callers have made, and as many stores among them as they
-    /// have stored; and a permitted run of so many calls and stores leads from the machine that was
-    /// shared to the one that comes back. What is left in logs and queue is given up: each card
+    /// have stored; and a permitted run with as many calls and stores leads from the machine that
+    /// was shared to the one that comes back. What is left in logs and queue is given up: each card
     /// there is pending by its mark, unless it was refined meanwhile. No memory is taken.
     pub fn finish(self, callers: Vec<Caller<M, S>>) -> Book<H>
         requires some { 0 < vec_len callers }

@@ -8,7 +8,9 @@ use Rattle.g1_race_words.specs.declared.view.Shape.{Shape}
 use Rattle.g1_race.specs.Race.{word_of}
 use Rattle.g1_race.specs.Resumed.{ArePlaced, IsSame}
 use Rattle.g1_race_words.specs.Seats.{IsPaused}
-use Rattle.g1_race.proofs.Placing.{placed_none, placed_next, placed_past, placed_less, begun_written, covered_on, word_bound}
+use Rattle.g1_race.proofs.AtPause.{begun_placed}
+use Rattle.g1_race.proofs.Placing.{placed_none, placed_next, placed_past, placed_less, covered_on}
+use Rattle.g1_race.proofs.CopiedTable.{word_bound}
 use Rattle.g1_race.proofs.begin.place_slots.Goals.{then-word-ne0, else-word-ne0}
 use Rattle.g1_race.proofs.begin.place_slots.Goals as goal
 
@@ -28,7 +30,7 @@ put-requires-clause-begun c =
     let word = c.word_of-word.ensures ∙ ap word_of (c.target.ensures.did.answer ∙ ((λ j. let q : State = i.same.state j in target_of q.table c.in-Some.slot) ∙ ap (λ (p : ℕ). target_of s.table p) c.in-Some.ensures.1)) in
     let slots : k.slots ≡ slot_count s.table.layout = ap (λ (x : Shape). x.slots) race.laid ∙ ap slot_count c.requires.layout in
     let bound : word_of (target_of s.table n) ≤ slot_count s.table.layout = word_bound s n sound (omega (arith, lt, slots)) in
-    begun_written k c.loop-number.seat.me.0.began_words n c.word_of-word.result lt (inl (omega (arith, word, bound, slots)))
+    begun_placed k c.loop-number.seat.me.0.began_words n c.word_of-word.result lt (inl (omega (arith, word, bound, slots)))
     (covered_on k s.table c.args.seat.now.me.0.began_words c.loop-number.seat.me.0.began_words n race.shaped i.slots c.requires.covered n c.word_of-word.result lt word) i.seat.begun
 
 pub loop-number-preserved : goal.loop-number-preserved

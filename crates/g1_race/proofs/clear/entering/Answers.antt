@@ -4,7 +4,7 @@ use Rattle.g1_race_words.specs.Rule.{slot_card}
 use Rattle.g1_race.specs.Clearing.{IsLeastOfCard}
 use Rattle.g1_race.specs.Telling.{IsNext, is_member}
 use Rattle.g1_race_words.proofs.PairBits.{card_below}
-use Rattle.g1_race.proofs.ClearWords.{into_bit, least_found}
+use Rattle.g1_race.proofs.LeastInto.{into_bit, least_found}
 use Rattle.g1_race.proofs.clear.entering.Goals as goal
 
 pub returns-in-Some-entering_on-clause-least : goal.returns-in-Some-entering_on-clause-least

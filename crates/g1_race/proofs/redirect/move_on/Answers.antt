@@ -10,7 +10,8 @@ use Rattle.g1_race.specs.Moving.{AreMoved, into_count, is_into}
 use Rattle.g1_race.proofs.AtPause.{paused_same}
 use Rattle.g1_race_words.proofs.Places.{reads_as}
 use Rattle.g1_race.proofs.SweepCalls.{slot_below}
-use Rattle.g1_race.proofs.Moving.{count_one, is_into_of, moved_none, moved_then}
+use Rattle.g1_race.proofs.Moving.{moved_none, moved_then}
+use Rattle.g1_race.proofs.MovedCards.{count_one, is_into_of}
 use Rattle.g1_race.proofs.redirect.move_on.Goals.{then-enters, else-enters}
 use Rattle.g1_race.proofs.redirect.move_on.Goals as goal
 

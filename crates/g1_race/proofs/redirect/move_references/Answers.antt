@@ -2,7 +2,7 @@ use Rattle.std.proofs.Common.{◌≡◌, ℕ, ◌+◌, ◌*◌, ◌≤◌, List,
 use Rattle.g1_race.specs.Clearing.{Into}
 use Rattle.g1_race.specs.Moving.{AreMoved, into_count}
 use Rattle.g1_race.proofs.AtPause.{paused_same}
-use Rattle.g1_race.proofs.Moving.{in_order, none_into, on_card, on_count, passed, passed_count}
+use Rattle.g1_race.proofs.MovedCards.{in_order, none_into, on_card, on_count, passed, passed_count}
 use Rattle.g1_race.proofs.redirect.move_references.Goals as goal
 
 pub loop-card-preserved : goal.loop-card-preserved

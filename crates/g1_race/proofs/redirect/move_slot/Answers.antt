@@ -2,7 +2,8 @@ use Rattle.std.proofs.Common.{◌≡◌, ℕ, List, [], ◌∷◌, refl, sym, su
 use Rattle.g1_race_words.specs.Rule.{slot_card, region_at}
 use Rattle.g1_race.specs.Moving.{AreMoved, moved_word}
 use Rattle.g1_race.proofs.PauseWords.{notes_same}
-use Rattle.g1_race.proofs.Moving.{begun_moved, is_into_of, moved_crosses, moved_fits, moved_one, moved_region}
+use Rattle.g1_race.proofs.Moving.{begun_moved, moved_crosses, moved_fits, moved_one, moved_region}
+use Rattle.g1_race.proofs.MovedCards.{is_into_of}
 use Rattle.g1_race.proofs.redirect.move_slot.Goals as goal
 
 pub put-requires-clause-begun : goal.put-requires-clause-begun

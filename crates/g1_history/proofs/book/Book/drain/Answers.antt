@@ -1,8 +1,7 @@
 use Rattle.std.proofs.Common.{ap, arith, ◌∙◌}
 use Rattle.g1_layout.specs.Shape.{card_count}
 use Rattle.g1_core.proofs.LengthLemmas.{refined_few}
-use Rattle.g1_core.specs.Calls.{drain_entry}
-use Rattle.g1_history.proofs.HistoryLemmas.{call_kept, call_made, entered_as, drain_answers, drain_few}
+use Rattle.g1_history.proofs.HistoryLemmas.{call_kept, call_made, drain_answers, drain_few}
 use Rattle.g1_history.proofs.book.Book.drain.Goals as goal
 
 pub enter_drain-requires-clause-cards : goal.enter_drain-requires-clause-cards
@@ -13,14 +12,10 @@ pub enter_drain-requires-clause-refined : goal.enter_drain-requires-clause-refin
 enter_drain-requires-clause-refined g c kept = omega (arith, refined_few _ _ (c.in_ok-answer.ensures.step c.args.caller).allowed.refines, c.in_ok-refined_room.ensures.room kept)
 
 pub invariant_of-self-2 : goal.invariant_of-self-2
-invariant_of-self-2 g c =
-    let e = drain_entry c.args.caller c.args.region c.in_ok-answer.answer in
-    call_kept _ _ _ _ _ _ e c.self.invariant c.in_ok-make_room.ensures.room (entered_as _ _ _ _ e _ c.make_room.ensures.same c.enter_drain.ensures cc) (c.in_ok-answer.ensures.step c.args.caller)
+invariant_of-self-2 g c = call_kept _ _ _ _ _ _ _ _ _ c.self.invariant c.in_ok-make_room.ensures.room (c.in_ok-answer.ensures.step c.args.caller) c.make_room.ensures.same c.enter_drain.ensures cc
 
 pub returns-clause-made : goal.returns-clause-made
-returns-clause-made g c =
-    let e = drain_entry c.args.caller c.args.region c.in_ok-answer.answer in
-    call_made _ _ _ _ _ _ _ e _ c.self.view_is (entered_as _ _ _ _ e _ c.make_room.ensures.same c.enter_drain.ensures cc) (c.in_ok-answer.ensures.step c.args.caller) c.in_ok-answer.ensures.later c.in_ok-answer.ensures.did
+returns-clause-made g c = call_made _ _ _ _ _ _ _ _ _ _ _ c.self.view_is (c.in_ok-answer.ensures.step c.args.caller) c.make_room.ensures.same c.enter_drain.ensures (cc) c.in_ok-answer.ensures.later c.in_ok-answer.ensures.did
 
 pub returns-clause-exact : goal.returns-clause-exact
 returns-clause-exact g c = drain_answers _ _ _ c.args.caller c.args.region c.in_ok-answer.answer c.self.view_is c.self.invariant (c.in_ok-answer.ensures.step c.args.caller).allowed

@@ -1,13 +1,8 @@
-use Rattle.g1_core.specs.Calls.{pending_entry}
-use Rattle.g1_history.proofs.HistoryLemmas.{call_kept, call_made, entered_as, same_later}
+use Rattle.g1_history.proofs.HistoryLemmas.{call_kept, call_made, same_later}
 use Rattle.g1_history.proofs.book.Book.is_pending.Goals as goal
 
 pub invariant_of-self-2 : goal.invariant_of-self-2
-invariant_of-self-2 g c =
-    let e = pending_entry c.args.caller c.args.card c.is_pending-answer.result in
-    call_kept _ _ _ _ _ _ e c.self.invariant c.in_ok-make_room.ensures.room (entered_as _ _ _ _ e _ c.make_room.ensures.same c.enter.ensures cc) (c.is_pending-answer.ensures.step c.args.caller)
+invariant_of-self-2 g c = call_kept _ _ _ _ _ _ _ _ _ c.self.invariant c.in_ok-make_room.ensures.room (c.is_pending-answer.ensures.step c.args.caller) c.make_room.ensures.same c.enter.ensures cc
 
 pub returns-clause-made : goal.returns-clause-made
-returns-clause-made g c =
-    let e = pending_entry c.args.caller c.args.card c.is_pending-answer.result in
-    call_made _ _ _ _ _ _ _ e _ c.self.view_is (entered_as _ _ _ _ e _ c.make_room.ensures.same c.enter.ensures cc) (c.is_pending-answer.ensures.step c.args.caller) (same_later _ c.layout-layout.ensures.sound) c.is_pending-answer.ensures.did
+returns-clause-made g c = call_made _ _ _ _ _ _ _ _ _ _ _ c.self.view_is (c.is_pending-answer.ensures.step c.args.caller) c.make_room.ensures.same c.enter.ensures (cc) (same_later _ c.layout-layout.ensures.sound) c.is_pending-answer.ensures.did

@@ -1,18 +1,13 @@
 use Rattle.std.proofs.Common.{ℕ, length, ap, arith}
 use Rattle.g1_core.proofs.LengthLemmas.{refined_few}
-use Rattle.g1_core.specs.Calls.{redirect_entry}
-use Rattle.g1_history.proofs.HistoryLemmas.{call_kept, call_made, entered_as}
+use Rattle.g1_history.proofs.HistoryLemmas.{call_kept, call_made}
 use Rattle.g1_history.proofs.book.Book.redirect.Goals as goal
 
 pub enter_refined-requires-clause-room : goal.enter_refined-requires-clause-room
 enter_refined-requires-clause-room g c kept = omega (arith, ap (length {A = ℕ}) c.redirected_cards-refined.ensures, refined_few _ _ (c.in_ok-answer.ensures.step c.args.caller).allowed.refines, c.in_ok-room.ensures.room kept)
 
 pub invariant_of-self-2 : goal.invariant_of-self-2
-invariant_of-self-2 g c =
-    let e = redirect_entry c.args.caller c.args.from c.args.to c.in_ok-answer.answer in
-    call_kept _ _ _ _ _ _ e c.self.invariant c.in_ok-make_room.ensures.room (entered_as _ _ _ _ e _ c.make_room.ensures.same c.enter_refined.ensures cc) (c.in_ok-answer.ensures.step c.args.caller)
+invariant_of-self-2 g c = call_kept _ _ _ _ _ _ _ _ _ c.self.invariant c.in_ok-make_room.ensures.room (c.in_ok-answer.ensures.step c.args.caller) c.make_room.ensures.same c.enter_refined.ensures cc
 
 pub returns-clause-made : goal.returns-clause-made
-returns-clause-made g c =
-    let e = redirect_entry c.args.caller c.args.from c.args.to c.in_ok-answer.answer in
-    call_made _ _ _ _ _ _ _ e _ c.self.view_is (entered_as _ _ _ _ e _ c.make_room.ensures.same c.enter_refined.ensures cc) (c.in_ok-answer.ensures.step c.args.caller) c.in_ok-answer.ensures.later c.in_ok-answer.ensures.did
+returns-clause-made g c = call_made _ _ _ _ _ _ _ _ _ _ _ c.self.view_is (c.in_ok-answer.ensures.step c.args.caller) c.make_room.ensures.same c.enter_refined.ensures (cc) c.in_ok-answer.ensures.later c.in_ok-answer.ensures.did

@@ -1,18 +1,13 @@
-use Rattle.g1_core.specs.Calls.{refine_entry}
 use Rattle.std.proofs.Common.{arith}
 use Rattle.g1_history.proofs.RoomLemmas.{refinement_few}
-use Rattle.g1_history.proofs.HistoryLemmas.{call_kept, call_made, entered_as}
+use Rattle.g1_history.proofs.HistoryLemmas.{call_kept, call_made}
 use Rattle.g1_history.proofs.book.Book.refine.Goals as goal
 
 pub enter_refined-requires-clause-room : goal.enter_refined-requires-clause-room
 enter_refined-requires-clause-room g c kept = omega (arith, refinement_few _ _ _ _ c.in_ok-reply.ensures.did.refined, c.cards_in.ensures.cards, c.in_ok-room.ensures.room kept)
 
 pub invariant_of-self-2 : goal.invariant_of-self-2
-invariant_of-self-2 g c =
-    let e = refine_entry c.args.caller c.in_ok-reply.reply in
-    call_kept _ _ _ _ _ _ e c.self.invariant c.in_ok-make_room.ensures.room (entered_as _ _ _ _ e _ c.make_room.ensures.same c.enter_refined.ensures cc) (c.in_ok-reply.ensures.step c.args.caller)
+invariant_of-self-2 g c = call_kept _ _ _ _ _ _ _ _ _ c.self.invariant c.in_ok-make_room.ensures.room (c.in_ok-reply.ensures.step c.args.caller) c.make_room.ensures.same c.enter_refined.ensures cc
 
 pub returns-clause-made : goal.returns-clause-made
-returns-clause-made g c =
-    let e = refine_entry c.args.caller c.in_ok-reply.reply in
-    call_made _ _ _ _ _ _ _ e _ c.self.view_is (entered_as _ _ _ _ e _ c.make_room.ensures.same c.enter_refined.ensures cc) (c.in_ok-reply.ensures.step c.args.caller) c.in_ok-reply.ensures.later c.in_ok-reply.ensures.did
+returns-clause-made g c = call_made _ _ _ _ _ _ _ _ _ _ _ c.self.view_is (c.in_ok-reply.ensures.step c.args.caller) c.make_room.ensures.same c.enter_refined.ensures (cc) c.in_ok-reply.ensures.later c.in_ok-reply.ensures.did

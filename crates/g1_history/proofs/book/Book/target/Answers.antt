@@ -1,13 +1,8 @@
-use Rattle.g1_core.specs.Calls.{target_entry}
-use Rattle.g1_history.proofs.HistoryLemmas.{call_kept, call_made, entered_as}
+use Rattle.g1_history.proofs.HistoryLemmas.{call_kept, call_made}
 use Rattle.g1_history.proofs.book.Book.target.Goals as goal
 
 pub invariant_of-self-2 : goal.invariant_of-self-2
-invariant_of-self-2 g c =
-    let e = target_entry c.args.caller c.args.slot c.target-target.result in
-    call_kept _ _ _ _ _ _ e c.self.invariant c.in_ok-make_room.ensures.room (entered_as _ _ _ _ e _ c.make_room.ensures.same c.enter.ensures cc) (c.target-target.ensures.step c.args.caller)
+invariant_of-self-2 g c = call_kept _ _ _ _ _ _ _ _ _ c.self.invariant c.in_ok-make_room.ensures.room (c.target-target.ensures.step c.args.caller) c.make_room.ensures.same c.enter.ensures cc
 
 pub returns-clause-made : goal.returns-clause-made
-returns-clause-made g c =
-    let e = target_entry c.args.caller c.args.slot c.target-target.result in
-    call_made _ _ _ _ _ _ _ e _ c.self.view_is (entered_as _ _ _ _ e _ c.make_room.ensures.same c.enter.ensures cc) (c.target-target.ensures.step c.args.caller) c.target-target.ensures.later c.target-target.ensures.did
+returns-clause-made g c = call_made _ _ _ _ _ _ _ _ _ _ _ c.self.view_is (c.target-target.ensures.step c.args.caller) c.make_room.ensures.same c.enter.ensures (cc) c.target-target.ensures.later c.target-target.ensures.did

@@ -5,7 +5,8 @@ use Rattle.g1_race_words.specs.Begin.{Start}
 use Rattle.g1_race.specs.Over.{Halt, start_at}
 use Rattle.g1_race_words.specs.Rule.{null_of, word_count}
 use Rattle.g1_race_words.proofs.AtBeginning.{zeros}
-use Rattle.g1_race.proofs.Placing.{clean_marks, listed_cross, null_slots, slots_covered, table_copied}
+use Rattle.g1_race.proofs.Placing.{listed_cross}
+use Rattle.g1_race.proofs.CopiedTable.{clean_marks, null_slots, slots_covered, table_copied}
 use Rattle.g1_race.proofs.begin.Paused.place.Goals as goal
 
 null_words : (h i : Halt) → h ≡ i → start_at i ≡ null_of i.shape → h.words ≡ zeros (word_count h.shape)

@@ -7,7 +7,7 @@ use Rattle.g1_race.specs.Clearing.{AreUnset}
 use Rattle.g1_race.specs.Evacuating.{WordsBecome, forgotten, same_word}
 use Rattle.g1_race.specs.Over.{Halt, halted}
 use Rattle.g1_race.proofs.NextCards.{cards_fit}
-use Rattle.g1_race.proofs.Forgetting.{cards_each, cards_within, closed_words, forgotten_is, some_cards}
+use Rattle.g1_race.proofs.ForgottenTable.{cards_each, cards_within, closed_words, forgotten_is, some_cards}
 use Rattle.g1_race.proofs.SlotWords.{front_words}
 use Rattle.g1_race.proofs.Held.{held_table, lent_begun, lent_view}
 use Rattle.g1_race.proofs.paused.Paused.forget.Goals as goal

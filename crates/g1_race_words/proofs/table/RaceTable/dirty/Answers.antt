@@ -6,9 +6,5 @@ use Rattle.g1_race_words.proofs.table.RaceTable.dirty.Goals as goal
 
 pub swap-requires : goal.swap-requires
 swap-requires c =
-    let t = c.self.inside.table.shared in
-    let i = c.self.invariant in
-    let r = c.requires in
-    let m = c.args.mark in
-    let asked = inside (λ w s. (s.table_id ≡ w.table_id) × Sits w.shape s.me.0 × OwesMark w.shape s.me.0 m × (s.me.0.flagged ≡ owed_card s.me.0.owed)) _ _ _ _ c.self.view_is c.seat.view_is (r.table, r.racer, r.mark, r.flag) in
-    dirty_owed t.table_id t.key i.0 i.2 c.seat.inside.seat asked.0 m asked.1 asked.2 asked.3
+    let asked = inside (λ w s. (s.table_id ≡ w.table_id) × Sits w.shape s.me.0 × OwesMark w.shape s.me.0 c.args.mark × (s.me.0.flagged ≡ owed_card s.me.0.owed)) _ _ _ _ c.self.view_is c.seat.view_is (c.requires.table, c.requires.racer, c.requires.mark, c.requires.flag) in
+    dirty_owed _ _ c.self.invariant.0 c.self.invariant.2 c.seat.inside.seat asked.0 c.args.mark asked.1 asked.2 asked.3

@@ -5,8 +5,5 @@ use Rattle.g1_race_words.proofs.table.RaceTable.freeze.Goals as goal
 
 pub load-requires : goal.load-requires
 load-requires c =
-    let t = c.self.inside.table.shared in
-    let i = c.self.invariant in
-    let r = c.requires in
-    let asked = inside (λ w s. (s.table_id ≡ w.table_id) × (s.me.0.weight ≡ w.shape.members) × AtRest s.me.0) _ _ _ _ c.self.view_is c.seat.view_is (r.table, r.all, r.rest) in
-    freeze_owed t.table_id t.key i.0 i.2 c.seat.inside.seat asked.0 i.3 asked.1 asked.2
+    let asked = inside (λ w s. (s.table_id ≡ w.table_id) × (s.me.0.weight ≡ w.shape.members) × AtRest s.me.0) _ _ _ _ c.self.view_is c.seat.view_is (c.requires.table, c.requires.all, c.requires.rest) in
+    freeze_owed _ _ c.self.invariant.0 c.self.invariant.2 c.seat.inside.seat asked.0 c.self.invariant.3 asked.1 asked.2

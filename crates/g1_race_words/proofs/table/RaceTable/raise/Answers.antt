@@ -6,10 +6,5 @@ use Rattle.g1_race_words.proofs.table.RaceTable.raise.Goals as goal
 
 pub fetch_or-requires : goal.fetch_or-requires
 fetch_or-requires c =
-    let t = c.self.inside.table.shared in
-    let i = c.self.invariant in
-    let r = c.requires in
-    let n = c.args.word in
-    let b = c.args.place in
-    let asked = inside (λ w s. (s.table_id ≡ w.table_id) × Sits w.shape s.me.0 × ((d : ℕ) × OwesFlag w.shape s.me.0 d n × (b ≡ bit_place w.shape (flag w.shape d)))) _ _ _ _ c.self.view_is c.seat.view_is (r.table, r.racer, r.flag) in
-    raise_owed t.table_id t.key i.0 i.2 c.seat.inside.seat asked.0 n b asked.1 asked.2.0 asked.2.1 asked.2.2
+    let asked = inside (λ w s. (s.table_id ≡ w.table_id) × Sits w.shape s.me.0 × ((d : ℕ) × OwesFlag w.shape s.me.0 d c.args.word × (c.args.place ≡ bit_place w.shape (flag w.shape d)))) _ _ _ _ c.self.view_is c.seat.view_is (c.requires.table, c.requires.racer, c.requires.flag) in
+    raise_owed _ _ c.self.invariant.0 c.self.invariant.2 c.seat.inside.seat asked.0 c.args.word c.args.place asked.1 asked.2.0 asked.2.1 asked.2.2

@@ -7,9 +7,5 @@ use Rattle.g1_race_words.proofs.table.RaceTable.see.Goals as goal
 
 pub load-requires : goal.load-requires
 load-requires c =
-    let t = c.self.inside.table.shared in
-    let i = c.self.invariant in
-    let r = c.requires in
-    let p = c.args.word in
-    let asked = inside (λ w s. IsReading w.table_id w.shape s × (p < word_count w.shape)) _ _ _ _ c.self.view_is c.seat.view_is (r.seat, r.word) in
-    see_owed t.table_id t.key i.0 c.seat.inside.seat asked.0.table p asked.0 asked.1
+    let asked = inside (λ w s. IsReading w.table_id w.shape s × (c.args.word < word_count w.shape)) _ _ _ _ c.self.view_is c.seat.view_is (c.requires.seat, c.requires.word) in
+    see_owed _ _ c.self.invariant.0 c.seat.inside.seat asked.0.table c.args.word asked.0 asked.1

@@ -6,6 +6,4 @@ use Rattle.g1_race_words.proofs.table.RaceTable.spent.Goals as goal
 
 pub load_new_seat-seat-requires : goal.load_new_seat-seat-requires
 load_new_seat-seat-requires c =
-    let t = c.self.inside.table.shared in
-    let i = c.self.invariant in
-    (omega (arith, i.0, i.2.5), enters_blank t.key t.table_id.slots 0 (start_of nothing))
+    (omega (arith, c.self.invariant.0, c.self.invariant.2.5), enters_blank c.self.inside.table.shared.key c.self.inside.table.shared.table_id.slots 0 (start_of nothing))

@@ -5,8 +5,5 @@ use Rattle.g1_race_words.proofs.table.RaceTable.split_racer.Goals as goal
 
 pub split_seat-requires : goal.split_seat-requires
 split_seat-requires c =
-    let t = c.self.inside.table.shared in
-    let i = c.self.invariant in
-    let r = c.requires in
-    let asked = inside (λ w s. (s.table_id ≡ w.table_id) × IsChair s.me.0) _ _ _ _ c.self.view_is c.chair.view_is (r.table, r.chair) in
-    split_racer_owed t.table_id t.key i.0 i.2 c.chair.inside.seat asked.0 asked.1
+    let asked = inside (λ w s. (s.table_id ≡ w.table_id) × IsChair s.me.0) _ _ _ _ c.self.view_is c.chair.view_is (c.requires.table, c.requires.chair) in
+    split_racer_owed _ _ c.self.invariant.0 c.self.invariant.2 c.chair.inside.seat asked.0 asked.1

@@ -6,10 +6,5 @@ use Rattle.g1_race_words.proofs.table.RaceTable.write.Goals as goal
 
 pub swap-requires : goal.swap-requires
 swap-requires c =
-    let t = c.self.inside.table.shared in
-    let i = c.self.invariant in
-    let r = c.requires in
-    let p = c.args.slot in
-    let n = c.args.word in
-    let asked = inside (λ w s. (s.table_id ≡ w.table_id) × (Sits w.shape s.me.0 × ((h : StoreHistory) × (s.me.0.histories ≡ h ∷ []))) × (s.me.0.owed ≡ None) × (p < w.shape.slots) × IsWord w.shape n) _ _ _ _ c.self.view_is c.seat.view_is (r.table, r.racer, r.free, r.slot, r.word) in
-    write_owed t.table_id t.key i.0 i.2 c.seat.inside.seat asked.0 p n asked.1 asked.2 asked.3 asked.4
+    let asked = inside (λ w s. (s.table_id ≡ w.table_id) × (Sits w.shape s.me.0 × ((h : StoreHistory) × (s.me.0.histories ≡ h ∷ []))) × (s.me.0.owed ≡ None) × (c.args.slot < w.shape.slots) × IsWord w.shape c.args.word) _ _ _ _ c.self.view_is c.seat.view_is (c.requires.table, c.requires.racer, c.requires.free, c.requires.slot, c.requires.word) in
+    write_owed _ _ c.self.invariant.0 c.self.invariant.2 c.seat.inside.seat asked.0 c.args.slot c.args.word asked.1 asked.2 asked.3 asked.4
