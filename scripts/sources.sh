@@ -59,14 +59,10 @@ why_not_prebuilt() {
   fi
 }
 
-# Builds the library for C for each target, side by side.
+# Builds the library for C for each target, one after the other: what the first proves, the next takes.
 build_libraries() {
-  local target job jobs=()
+  local target
   for target in "${targets[@]}"; do
-    RT_JOBS=$(((${RT_JOBS:-2} + 1) / 2)) scripts/built --target "$target" g1_c > /dev/null &
-    jobs+=($!)
-  done
-  for job in "${jobs[@]}"; do
-    wait "$job" || return 1
+    scripts/built --target "$target" g1_c > /dev/null || return 1
   done
 }

@@ -5,7 +5,6 @@
 ghost use Rattle.std.specs.Prelude.{◌≡◌, ◌≤◌, ◌<◌, [], IfOk};
 ghost use Rattle.g1_layout.specs.Shape.{slot_count, card_count};
 ghost use Rattle.g1_log.specs.Ends.{IsSenderOf, IsTakerOf};
-ghost use Rattle.g1_history.specs.Asked.{IsAsked};
 ghost use Rattle.g1_history.specs.History.{layout_in};
 
 use calls::{drain, number_of};
@@ -269,20 +268,6 @@ pub(crate) fn assert_rounds(rt: &impl Abort, book: &Book, cards: &[u32]) {
         let want = (0, Call::Refine, Want::Refined(1, 0, 0), refined.as_slice());
         assert!(rt; is_entry(entry, &want), "{entry:?}");
     }
-}
-
-/// Makes the call by its value, and checks its reply.
-pub(crate) fn assert_asked(
-    rt: &impl Abort,
-    book: &mut Book,
-    call: Call,
-    want: &Want<'_>,
-) -> Result<(), Refusal>
-    requires { IsAsked (layout_in book.old) call }
-{
-    let reply = book.ask(ASKER, call)?;
-    assert!(rt; is_wanted(&reply, want), "{reply:?}");
-    Ok(())
 }
 
 /// Drains the region, and checks the set that it answers.

@@ -15,8 +15,6 @@ mod cycles;
 #[cfg(test)]
 mod data;
 #[cfg(test)]
-mod in_place;
-#[cfg(test)]
 mod in_threads;
 #[cfg(test)]
 mod pause_calls;

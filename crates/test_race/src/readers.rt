@@ -3,8 +3,7 @@ ghost use Rattle.std.specs.Prelude.{◌≡◌, All, vec_len};
 ghost use Rattle.g1_race.specs.Members.{race_id};
 ghost use Rattle.g1_race.specs.Reading.{IsReaderOf, reader_race};
 
-use crate::in_place::race_on;
-use crate::in_threads::Plan;
+use crate::in_threads::{Plan, run_race};
 use g1_core::Drained;
 use g1_layout::{Card, Layout, NoMemory, Region, Slot};
 use g1_race::{Paused, Race, Reader, Reading};
@@ -147,6 +146,12 @@ fn all_scan<R: Threads + Abort + Sync>(
         4,
         &|k, reader| scan(rt, race, reader, told, (k % 4) as u32),
     );
+}
+
+// Races on up to the next pause.
+fn race_on<R: Threads + Sync>(rt: &R, paused: Paused, plan: Plan) -> Paused {
+    let (race, racers, sweepers) = paused.resume();
+    run_race(rt, race, racers, sweepers, plan)
 }
 
 #[test]

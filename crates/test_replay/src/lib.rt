@@ -1,6 +1,6 @@
 //! Tests of `g1_replay` through its public calls, which no file of a trace can show: readers and
-//! writers that fail, tables of lines, and the texts of the command line. The worked traces are
-//! files, and the crate `gate_examples` replays them.
+//! writers that fail, and the options and texts of the command line. The worked traces are files,
+//! and the crate `gate_examples` replays them; `scripts/check-lines` has tables of lines.
 //!
 //! A crate of its own for the gate: a proof of the tests does not prove the libraries again.
 #![tactic(auto)]
@@ -14,10 +14,6 @@ mod crews_and_races;
 #[cfg(test)]
 mod failing_ends;
 #[cfg(test)]
-mod grammar;
-#[cfg(test)]
-mod headers;
-#[cfg(test)]
 mod help;
 #[cfg(test)]
 mod line_faults;
@@ -27,7 +23,5 @@ mod options;
 mod played;
 #[cfg(test)]
 mod reading;
-#[cfg(test)]
-mod spellings;
 #[cfg(test)]
 mod streams;

@@ -1,7 +1,7 @@
 //! The texts of what is refused, and what a refused growth leaves.
 use crate::help::is_refused;
 use crate::played::config;
-use g1_replay::{Mode, Options, read_options};
+use g1_replay::{Mode, Options, TraceFault, read_options};
 use std::test::Fail;
 
 #[test]
@@ -108,6 +108,30 @@ error: invalid value '0' for '--log <CARDS>': 0 is not in 1..=256
 For more information, try '--help'.
 ";
     assert_eq!(rt; shown.as_str(), text);
+    Ok(())
+}
+
+/// A program that shows a fault of its own accord uses the same words.
+#[test]
+fn words_of_faults(rt: HostRuntime) -> Result<(), Fail> {
+    let rows = [
+        (TraceFault::TooLong, "too long"),
+        (TraceFault::Cut, "cut"),
+        (TraceFault::NoHeader, "heap expected"),
+        (TraceFault::NoCommand, "no such command"),
+        (TraceFault::Words, "wrong words"),
+        (TraceFault::NotNumber, "not a number"),
+        (TraceFault::BadHeap, "bad heap"),
+        (TraceFault::NoMutator, "no such mutator"),
+        (TraceFault::NoSlot, "no such slot"),
+        (TraceFault::NoCard, "no such card"),
+        (TraceFault::NoRegion, "no such region"),
+        (TraceFault::Twice, "same region twice"),
+    ];
+    for (fault, words) in rows {
+        let shown = format!(in rt.alloc(); "{fault}")?;
+        assert_eq!(rt; shown.as_str(), words);
+    }
     Ok(())
 }
 

@@ -1,10 +1,12 @@
-//! How far a replay reads: long lines, and what it leaves behind the line that ends it.
-use crate::played::without_rounds;
+//! How far a replay reads: long lines, lines that the reader's buffer cuts, and what it leaves
+//! behind the line that ends it.
+use crate::played::{two_mutators, without_rounds};
 use crate::streams::failing_after;
 use g1_replay::{End, Options, run};
 use std::alloc::Global;
 use std::io;
 use std::io::{BufReader, Read};
+use std::process::Abort;
 use std::sync::Wait;
 use std::test::Fail;
 
@@ -49,6 +51,35 @@ fn long_lines(rt: HostRuntime) -> Result<(), Fail> {
         let (printed, end) = play_line(&rt, byte, count, rest)?;
         assert!(rt; printed.as_slice() == want, "{count}");
         assert_eq!(rt; end, wanted, "{count}");
+    }
+    Ok(())
+}
+
+/// Checks what the trace prints through a reader's buffer of so many bytes.
+fn prints<R: Abort + Wait + AllocGlobal>(
+    rt: &R,
+    trace: &str,
+    capacity: usize,
+    printed: &str,
+) -> io::Result<()> {
+    let mut input = BufReader::with_capacity(rt.alloc(), capacity, trace.as_bytes())?;
+    let mut output: Vec<u8> = Vec::new(rt.alloc());
+    let end = run(rt, rt.alloc(), &mut input, &mut output, &two_mutators());
+    assert!(rt; output.as_slice() == printed.as_bytes(), "{capacity}");
+    assert_eq!(rt; end, End::Whole, "{capacity}");
+    Ok(())
+}
+
+/// The reader's buffer ends at each byte of a line in turn.
+#[test]
+fn lines_across_two_reads(rt: HostRuntime) -> Result<(), Fail> {
+    let trace =
+        "heap 4 2 4\nstore 0 0 8\nstore  1 4 16\nstore 1 4 null\nstore 0 9 10\nstore 1 31 00\n\
+                 target 0\ntarget 31\nflush 1\nflush 0\n";
+    let wanted =
+        "logged\nlogged\nnull\nsame region\nlogged\nslot 8\nslot 0\nflushed 2\nflushed 1\n";
+    for capacity in 1..160 {
+        prints(&rt, trace, capacity, wanted)?;
     }
     Ok(())
 }

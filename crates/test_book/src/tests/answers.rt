@@ -1,50 +1,8 @@
 //! Each call once, with memory enough: what it answers and what it enters.
 use super::calls::{clear, is_pending, members, redirect, refine, status, target};
 use super::*;
-use crate::tests::replies::{assert_moved, assert_round, whole};
+use crate::tests::replies::assert_moved;
 use std::test::Fail;
-
-/// Two stores by two mutators fill logs of one card, and two refiners refine a buffer and none.
-#[test]
-fn stores_and_refinements_are_entered(rt: HostRuntime) -> Result<(), Fail> {
-    let mut book = book(&rt, rt.alloc(), 1, 4, 10)?;
-    Ok(store_and_refine(&rt, &mut book)?)
-}
-
-fn store_and_refine(rt: &impl Abort, book: &mut Book) -> Result<(), Refusal> {
-    let buffer = two_stored(rt, book)?;
-    assert_round(rt, &refine(book, 5, buffer.as_ref())?, whole(1, &[0], 0));
-    assert_round(rt, &refine(book, 6, None)?, whole(0, &[], 0));
-    assert_stores_and_refinements(rt, book);
-    Ok(())
-}
-
-/// Stores a reference that fills its log, and null. Answers the buffer of the first.
-fn two_stored(rt: &impl Abort, book: &mut Book) -> Result<Option<Buffer>, Refusal> {
-    let mut log = Log::new(1);
-    let (reply, buffer) = store(rt, book, 0, &mut log, 0, Some(8))?;
-    assert_eq!(rt; (reply.kind, reply.fill), (Kind::Logged, Fill::Full));
-    assert!(rt; buffer.is_some());
-    let (second, none) = store(rt, book, 1, &mut log, 1, None)?;
-    assert_eq!(rt; (second.kind, second.fill), (Kind::Null, Fill::No));
-    assert!(rt; none.is_none());
-    Ok(buffer)
-}
-
-fn assert_stores_and_refinements(rt: &impl Abort, book: &Book) {
-    let wanted = [
-        store_entry(rt, book, (0, 0, 8), Fill::Full),
-        (
-            1,
-            store_call(rt, book, 1, None),
-            Want::Stored(Kind::Null, Fill::No),
-            [].as_slice(),
-        ),
-        (5, Call::Refine, Want::Refined(1, 0, 0), [0].as_slice()),
-        (6, Call::Refine, Want::Refined(0, 0, 0), [].as_slice()),
-    ];
-    assert_entries(rt, book, &wanted);
-}
 
 /// The questions, while card 1 is pending and card 0 is recorded for region 1.
 #[test]
@@ -94,42 +52,6 @@ fn assert_questions(rt: &impl Abort, book: &Book) {
         (4, Call::Status, Want::Status(1, 1), [].as_slice()),
     ];
     assert_last(rt, book, 3, &wanted);
-}
-
-/// Each call that a book makes by its value, while card 1 is pending and card 0 is recorded for
-/// region 1.
-#[test]
-fn calls_by_their_values_are_answered(rt: HostRuntime) -> Result<(), Fail> {
-    let mut book = book(&rt, rt.alloc(), 1, 4, 10)?;
-    Ok(ask_by_value(&rt, &mut book)?)
-}
-
-fn ask_by_value(rt: &impl Abort, book: &mut Book) -> Result<(), Refusal> {
-    one_recorded_one_pending(rt, book)?;
-    ask_questions(rt, book)?;
-    ask_changes(rt, book)?;
-    assert_eq!(rt; book.entries().len(), 10);
-    Ok(())
-}
-
-fn ask_questions(rt: &impl Abort, book: &mut Book) -> Result<(), Refusal> {
-    let call = Call::Target(slot(rt, book, 0));
-    assert_asked(rt, book, call, &Want::Target(Some(8)))?;
-    let call = Call::Pending(card(rt, book, 1));
-    assert_asked(rt, book, call, &Want::Pending(true))?;
-    let call = Call::Members(region(rt, book, 1));
-    assert_asked(rt, book, call, &Want::Cards(&[0]))?;
-    assert_asked(rt, book, Call::Status, &Want::Status(1, 1))
-}
-
-fn ask_changes(rt: &impl Abort, book: &mut Book) -> Result<(), Refusal> {
-    let call = Call::Clear(region(rt, book, 2));
-    assert_asked(rt, book, call, &Want::Clear(ClearReply::Pending(1)))?;
-    let call = Call::Drain(region(rt, book, 2));
-    assert_asked(rt, book, call, &Want::Cards(&[1]))?;
-    let (from, to) = (region(rt, book, 1), region(rt, book, 2));
-    assert!(rt; from.number() != to.number());
-    assert_asked(rt, book, Call::Redirect { from, to }, &Want::Moved(1))
 }
 
 /// A drain refines what is pending and answers the set. A clear is refused while a card is pending,

@@ -1,11 +1,11 @@
 //! The callers of a lent book: each of their steps once, and a pause of two mutators. What steps
 //! answer is in the worked traces (crates/gate_examples/data).
-ghost use Rattle.std.specs.Prelude.{◌≡◌, All};
+ghost use Rattle.std.specs.Prelude.{All};
 ghost use Rattle.g1_log.specs.Ends.{IsSenderOf, IsTakerOf};
 
 use super::*;
 use crate::tests::replies::{assert_flushed, assert_round, whole};
-use g1_book::{Ends, LentBook, stand_still};
+use g1_book::{Ends, LentBook};
 use g1_core::Fill::{Full, No};
 use g1_log::Sender;
 use std::sync::Wait;
@@ -21,7 +21,6 @@ fn ends_of<'a>(
 ) -> Ends<'a>
     requires senders { All (IsSenderOf line.now) senders.old.items }
     requires takers { All (IsTakerOf line.now) takers.old.items }
-    ensures line { result.line.now ≡ line.now }
     ensures senders { All (IsSenderOf line.now) senders.new.items }
     ensures takers { All (IsTakerOf line.now) takers.new.items }
 {
@@ -38,9 +37,7 @@ fn store_by<R: Abort + Wait>(
     number: u32,
     from: u32,
     fill: Fill,
-) -> Result<(), Refusal>
-    ensures { ends.new.line ≡ ends.old.line }
-{
+) -> Result<(), Refusal> {
     assert!(rt; number < book.mutators());
     let from = slot(rt, book, from);
     let to = slot(rt, book, 24);
@@ -107,10 +104,7 @@ fn store_six<R: Abort + Wait>(
     book: &mut Book,
     first: &mut Ends<'_>,
     second: &mut Ends<'_>,
-) -> Result<(), Refusal>
-    ensures first { first.new.line ≡ first.old.line }
-    ensures second { second.new.line ≡ second.old.line }
-{
+) -> Result<(), Refusal> {
     store_by(rt, book, first, 0, 0, No)?;
     store_by(rt, book, second, 1, 4, No)?;
     store_by(rt, book, first, 0, 8, Full)?;
@@ -143,25 +137,6 @@ fn pause_each<R: Abort + Wait>(
     assert_paused(rt, book, first.line())
 }
 
-/// Stores by both callers, who then stand still together.
-fn stop_both<R: Abort + Wait>(
-    rt: &R,
-    book: &mut Book,
-    line: &Line,
-    callers: (Ends<'_>, Ends<'_>),
-) -> Result<(), Refusal>
-    requires { (callers.0.line.now ≡ line.now) × (callers.1.line.now ≡ line.now) }
-{
-    let (mut first, mut second) = callers;
-    store_six(rt, book, &mut first, &mut second)?;
-    let (first, mut taker) = first.into_parts();
-    let (second, _) = second.into_parts();
-    let mut all = [first, second];
-    stand_still(rt, line, &mut taker, &mut all);
-    assert!(rt; all.iter().all(|mutator| mutator.log.is_empty()));
-    assert_paused(rt, book, line)
-}
-
 fn two_pauses<R: Abort + Wait>(rt: &R, alloc: Global, book: &mut Book) -> Result<(), Refusal> {
     let (line, mut senders, mut takers) = Line::new(alloc, 4, 2, 2)?;
     let mut first = ends_of(rt, &line, &mut senders, &mut takers);
@@ -169,23 +144,9 @@ fn two_pauses<R: Abort + Wait>(rt: &R, alloc: Global, book: &mut Book) -> Result
     pause_each(rt, book, &mut first, &mut second)
 }
 
-fn one_standstill<R: Abort + Wait>(rt: &R, alloc: Global, book: &mut Book) -> Result<(), Refusal> {
-    let (line, mut senders, mut takers) = Line::new(alloc, 4, 2, 2)?;
-    let first = ends_of(rt, &line, &mut senders, &mut takers);
-    let second = ends_of(rt, &line, &mut senders, &mut takers);
-    stop_both(rt, book, &line, (first, second))
-}
-
 /// A pause by each caller empties its log, and that of the first the line.
 #[test]
 fn a_pause_of_each_caller_empties_logs_and_line(rt: HostRuntime) -> Result<(), Fail> {
     let mut book = book(&rt, rt.alloc(), 2, 4, 20)?;
     Ok(two_pauses(&rt, rt.alloc(), &mut book)?)
-}
-
-/// Mutators that stand still together are emptied by one taker.
-#[test]
-fn a_standstill_empties_logs_and_line(rt: HostRuntime) -> Result<(), Fail> {
-    let mut book = book(&rt, rt.alloc(), 2, 4, 20)?;
-    Ok(one_standstill(&rt, rt.alloc(), &mut book)?)
 }

@@ -50,27 +50,6 @@ fn flush_two<D: Desk>(rt: &impl Abort, desk: &mut D, layout: Layout) -> Result<(
     flush_one(rt, desk, from, to)
 }
 
-fn one_flush<R: Abort + Wait>(rt: &R, alloc: Global, book: &mut Book) -> Result<(), Refusal>
-    requires { book.old.mutators ≡ 1 }
-{
-    let config = book.config();
-    let (from, to) = (slot(rt, book, 0), slot(rt, book, 8));
-    let (line, mutator, taker) = ends(rt, alloc, config)?;
-    let own = Ends::new(&line, mutator, taker);
-    let mut desk = desk_at(rt, own, book, config.start());
-    flush_one(rt, &mut desk, from, to)?;
-    assert_round(rt, &desk.work()?, whole(0, &[], 1));
-    Ok(())
-}
-
-/// A store whose log is flushed leaves one completed buffer in the line, where a round begins at
-/// five.
-#[test]
-fn a_desk_stores_flushes_and_begins_no_round(rt: HostRuntime) -> Result<(), Fail> {
-    let mut book = plain_book(&rt, rt.alloc(), 256, 10)?;
-    Ok(one_flush(&rt, rt.alloc(), &mut book)?)
-}
-
 fn two_flushes<R: Abort + Wait>(rt: &R, alloc: Global, book: &mut Book) -> Result<(), Refusal>
     requires { book.old.mutators ≡ 1 }
 {
