@@ -40,6 +40,7 @@ least_found k words card region slot pos below h = (h.1, λ q i. pick q i (ℕ_d
 -- a slot by its card
 pub by_card : (k : Shape) (q card : ℕ) → slot_card k q ≡ card → card * k.size + q % k.size ≡ q
 by_card k q card e = ap (λ (c : ℕ). c * k.size + q % k.size) (sym e) ∙ div-add-mod' q k.size
+
 -- slot by slot of a card
 
 pub least_on : (k : Shape) (words : List ℕ) (card region i q : ℕ) → ((j : ℕ) → j < i → Into k words region (card * k.size + j) → ⊥) → slot_card k q ≡ card → Into k words region q → card * k.size + i ≤ q

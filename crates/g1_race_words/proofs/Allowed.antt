@@ -144,5 +144,4 @@ module _ {S : Type 0} where
 
   pub enters_blank : (k : Shape) (slots i : ℕ) (b : Start) → Enters (Rule k) slots i (λ n w. ◌≡◌ {A = Me S View} (w, []) (blank b 0 [], []))
   enters_blank k slots i b s h len fits = (blank b 0 [], going_enter k s.words s.views h (blank b 0 []) refl refl (raced_enter (begun k s.words s.views h) s.words s.views (blank b 0 []) ((refl, refl, refl, refl), refl, refl, refl, refl, refl) refl refl h.raced), refl)
-
   -- at a pause

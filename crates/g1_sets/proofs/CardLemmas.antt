@@ -56,6 +56,7 @@ module _ (cards : List ℕ) (card : ℕ) where
 -- a second insert changes nothing
 pub with_card-again : (cards : List ℕ) (card : ℕ) → with_card (with_card cards card) card ≡ with_card cards card
 with_card-again cards card = with_card-there (with_card cards card) card (to_list (with_card cards card) card (Contains-with_card cards card))
+
 -- some cards are inserted in turn
 pub Contains-with_cards_old : (cards more : List ℕ) (c : ℕ) → Contains cards c → Contains (with_cards cards more) c
 Contains-with_cards_old cards [] c h = h
