@@ -26,7 +26,8 @@ pub extern "C" fn g1_race_swap_word(
 ) -> u32
     ensures swapped { result ≡ 0 → OfRacer racer.old.value (λ a.
         OfRacer racer.new.value (λ b. OfKind kind.new (λ k. SwapsWord a slot word old.new k b))) }
-    ensures taken { IfRacer racer.old.value (λ a. CanStoreWord (racer_race_of a) a.racer slot word → result ≡ 0) }
+    ensures taken { IfRacer racer.old.value (λ a.
+        CanStoreWord (racer_race_of a) a.racer slot word → result ≡ 0) }
     ensures none { 0 < result → (old.new ≡ 0) × (kind.new ≡ 0) }
     ensures why { 0 < result → IsRefusal result (IsSwapWordRefused racer.old.value slot word) }
     ensures refused { 0 < result → racer.new.value ≡ racer.old.value }

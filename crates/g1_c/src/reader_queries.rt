@@ -27,7 +27,8 @@ pub extern "C" fn g1_reader_target(
         OfReader reader.old.value (λ a. ReadsTarget a slot (reference_of target.new)) }
     ensures null { 0 < result → target.new ≡ 4294967295 }
     ensures why { 0 < result →
-        IsRefusal result (IsReaderRefused reader.old.value (λ a. LacksSlot (reader_layout a) slot)) }
+        IsRefusal result (IsReaderRefused reader.old.value
+        (λ a. LacksSlot (reader_layout a) slot)) }
     ensures same { reader.new.value ≡ reader.old.value }
 {
     match replace_with(
@@ -57,7 +58,8 @@ pub extern "C" fn g1_reader_word(
     ensures word { result ≡ 0 → OfReader reader.old.value (λ a. ReadsWord a slot word.new) }
     ensures none { 0 < result → word.new ≡ 0 }
     ensures why { 0 < result →
-        IsRefusal result (IsReaderRefused reader.old.value (λ a. LacksSlot (reader_layout a) slot)) }
+        IsRefusal result (IsReaderRefused reader.old.value
+        (λ a. LacksSlot (reader_layout a) slot)) }
     ensures same { reader.new.value ≡ reader.old.value }
 {
     match replace_with(
@@ -89,7 +91,8 @@ pub extern "C" fn g1_reader_is_pending(
     ensures word { pending.new ≤ 1 }
     ensures none { 0 < result → pending.new ≡ 0 }
     ensures why { 0 < result →
-        IsRefusal result (IsReaderRefused reader.old.value (λ a. LacksCard (reader_layout a) card)) }
+        IsRefusal result (IsReaderRefused reader.old.value
+        (λ a. LacksCard (reader_layout a) card)) }
     ensures same { reader.new.value ≡ reader.old.value }
 {
     match replace_with(
@@ -125,7 +128,8 @@ pub extern "C" fn g1_reader_has(
     ensures word { has.new ≤ 1 }
     ensures none { 0 < result → has.new ≡ 0 }
     ensures why { 0 < result →
-        IsRefusal result (IsReaderRefused reader.old.value (λ a. LacksPair (reader_layout a) card region)) }
+        IsRefusal result (IsReaderRefused reader.old.value
+        (λ a. LacksPair (reader_layout a) card region)) }
     ensures same { reader.new.value ≡ reader.old.value }
 {
     match replace_with(
@@ -160,7 +164,8 @@ pub extern "C" fn g1_reader_next_member(
         OfReader reader.old.value (λ a. ReadsNext a region from (reference_of card.new)) }
     ensures null { 0 < result → card.new ≡ 4294967295 }
     ensures why { 0 < result →
-        IsRefusal result (IsReaderRefused reader.old.value (λ a. LacksRegion (reader_layout a) region)) }
+        IsRefusal result (IsReaderRefused reader.old.value
+        (λ a. LacksRegion (reader_layout a) region)) }
     ensures same { reader.new.value ≡ reader.old.value }
 {
     match replace_with(

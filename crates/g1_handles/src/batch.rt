@@ -32,11 +32,11 @@ pub struct Stored {
     pub is_whole: bool,
 }
 
-/// Makes stores in a core in order, up to the first that names a slot or a target that the heap does
-/// not have. `room` is the length of the caller's array for their cards.
+/// Makes stores in a core in order, up to the first that names a slot or a target that the heap
+/// does not have. `room` is the length of the caller's array for their cards.
 ///
-/// Returns `NoRoom` if the array is shorter than the list of stores, or `TooManyCards` for more than
-/// 256 stores: nothing has changed. Takes no memory.
+/// Returns `NoRoom` if the array is shorter than the list of stores, or `TooManyCards` for more
+/// than 256 stores: nothing has changed. Takes no memory.
 pub fn store_all_in(core: &mut Core, stores: &[Store], room: usize) -> Result<Stored, Refusal>
     ensures made { IfOk result (λ answer. record {
       machine = core.new;

@@ -1,5 +1,6 @@
 //! The log of a racer.
-ghost use Rattle.std.specs.Prelude.{◌≡◌, ◌⊎◌, ◌<◌, ◌≤◌, Some, IfOk, IfErr, IsOk, OnErr, length, take};
+ghost use Rattle.std.specs.Prelude.{◌≡◌, ◌⊎◌, ◌<◌, ◌≤◌, Some, IfOk, IfErr, IsOk, OnErr};
+ghost use Rattle.std.specs.Prelude.{length, take};
 ghost use Rattle.g1_handles.specs.Arrays.{IsWritten};
 ghost use Rattle.g1_handles.specs.Racing.{OfRacer, IfRacer, TakesLog};
 ghost use Rattle.g1_handles.specs.Refusals.{SaysNoMember};

@@ -1,8 +1,8 @@
 //! What a reader answers, as the heap does at its pause.
 ghost use Rattle.std.specs.Prelude.{◌≡◌, Some, IfOk, IfErr};
 ghost use Rattle.g1_handles.specs.Codes.{reference_of};
-ghost use Rattle.g1_handles.specs.Readers.{OfReader, reader_layout, ReadsTarget, ReadsWord, ReadsPending};
-ghost use Rattle.g1_handles.specs.Readers.{ReadsPair, ReadsNext, IsReaderRefused};
+ghost use Rattle.g1_handles.specs.Readers.{OfReader, reader_layout, ReadsTarget, ReadsWord};
+ghost use Rattle.g1_handles.specs.Readers.{ReadsPending, ReadsPair, ReadsNext, IsReaderRefused};
 ghost use Rattle.g1_handles.specs.Lacks.{LacksCard, LacksPair, LacksRegion, LacksSlot};
 
 use crate::code::{NULL, Refusal};
@@ -10,8 +10,8 @@ use crate::member::Member;
 use crate::queries::word_of;
 use g1_race::Reader;
 
-/// Returns the word of what a slot refers to, by a reader, or `NotOpen` or `NoSlot`. The reader stays
-/// as it is.
+/// Returns the word of what a slot refers to, by a reader, or `NotOpen` or `NoSlot`. The reader
+/// stays as it is.
 pub fn target_by(member: &mut Member<Reader>, slot: u32) -> Result<u32, Refusal>
     ensures target { IfOk result (λ word.
         OfReader (Some member.old) (λ a. ReadsTarget a slot (reference_of word))) }

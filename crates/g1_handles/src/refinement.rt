@@ -24,8 +24,8 @@ pub fn word_of(reply: &RefineReply) -> u32
 /// Refines some cards ([`Core::refine`]). `room` is the length of the caller's array for those that
 /// were refined.
 ///
-/// Returns `NoRoom` if the array is shorter than the list of cards, `TooManyCards` for more than 256
-/// cards, `NoCard`, or `NoMemory`: nothing has changed.
+/// Returns `NoRoom` if the array is shorter than the list of cards, `TooManyCards` for more than
+/// 256 cards, `NoCard`, or `NoMemory`: nothing has changed.
 pub fn refine_in(core: &mut Core, cards: &[u32], room: usize) -> Result<RefineReply, Refusal>
     ensures refined { IfOk result (λ reply. RefinesTo core.old cards.now reply core.new) }
     ensures taken { IfOk result (λ reply. (reply.taken ≡ (if reply.short then 0 else 1))

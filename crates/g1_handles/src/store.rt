@@ -10,8 +10,8 @@ use crate::code::{NULL, Refusal};
 use g1_core::Core;
 use g1_layout::{Kind, Layout, Slot};
 
-/// Stores a target into a slot of a core. Returns the kind of the store, or `NoSlot` for the slot or
-/// the target: nothing has changed.
+/// Stores a target into a slot of a core. Returns the kind of the store, or `NoSlot` for the slot
+/// or the target: nothing has changed.
 #[inline(always)]
 pub fn store_in(core: &mut Core, slot: u32, target: u32) -> Result<Kind, Refusal>
     ensures kind { IfOk result (λ kind.
