@@ -64,7 +64,8 @@
  *
  * A call that lists cards writes the list to the front of the array, and its count is the length of
  * the list, which is never more than the array has room for. The elements behind it stay as they
- * were. (G1_NO_ROOM alone may count more: the cards that there are, none of which is written.)
+ * were. (G1_NO_ROOM alone may count more: all cards that there are. Of these g1_heap_members and
+ * g1_heap_drain write the first, and other calls none.)
  *
  * Numbers are not tied to a heap: a call accepts a slot of another heap if its own heap has a slot
  * of that number.
