@@ -98,6 +98,9 @@ static void run(std::vector<Racer> &racers, std::vector<Sweeper> &sweepers) {
         }
         check(racer.store(0, 1, kind) == G1_LOG_FULL, "a full log");
         check(racer.take_log(cards, count) == G1_DONE && count == G1_LOG, "its cards");
+        std::uint64_t null = 7, same_region = 7, already_dirty = 7, newly_dirty = 7;
+        check(racer.counts(null, same_region, already_dirty, newly_dirty) == G1_DONE, "counts");
+        check(newly_dirty == all_cards && null + same_region + already_dirty == 0, "its stores");
         racers[0] = std::move(racer);
     }).join();
     check(logged == all_cards, "each store is logged");
