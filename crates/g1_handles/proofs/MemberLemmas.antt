@@ -13,7 +13,7 @@ use Rattle.g1_race.specs.Members.{race_id}
 use Rattle.g1_handles.specs.declared.code.Refusal.{Refusal}
 use Rattle.g1_handles.specs.declared.member.Part.{Ghosts}
 use Rattle.g1_handles.specs.declared.member.Member.{Member}
-use Rattle.g1_handles.specs.Racing.{IsOf, part_in}
+use Rattle.g1_handles.specs.Racing.{IsOf}
 
 -- a member is its share, its number, its counts and its part, with padding
 pub same_member : {P : Type 0} {g : Ghosts P} (m n : Member P g) → m.race ≡ n.race → m.number ≡ n.number → m.counts ≡ n.counts → m.part ≡ n.part → m.apart ≡ n.apart → m ≡ n
@@ -26,26 +26,15 @@ same_member {P} {g} m n race number counts part apart = λ i. record {
   same = is_prop→PathP (λ j. ForSome (part j) (λ p. g.of p ≡ race_id (arc_value (race j)))) (λ j. hlevel props) m.same n.same i;
 }
 
--- a handle whose member has the part that it had holds what it held
-pub handed_back : {P : Type 0} {g : Ghosts P} {old new : Option (Member P g)} {m n k : Member P g} → new ≡ Some n → old ≡ Some m → k ≡ m
-    → n.race ≡ k.race → n.number ≡ k.number → n.counts ≡ k.counts → n.part ≡ k.part → n.apart ≡ k.apart → new ≡ old
-handed_back {n = n} {k = k} new old lent race number counts part apart = new ∙ (ap (λ m. Some m) (same_member n k race number counts part apart ∙ lent) ∙ sym old)
-
--- a member without its part is no member
-pub no_part : {P : Type 0} {g : Ghosts P} {v : Option (Member P g)} {m k : Member P g} → v ≡ Some m → k ≡ m → k.part ≡ None → part_in v ≡ None
-no_part v lent none = ap part_in v ∙ (ap (λ m. m.part) (sym lent) ∙ none)
-
 -- a call that is refused leaves what it was made on
 pub on_err : {A E P Q : Type 0} (r : Result A E) → (P → Q) → OnErr r P → OnErr r Q
 on_err (Ok a) f h = h
 on_err (Err e) f h = f h
 
+-- what is so is so where a call is refused
 pub if_err : {A E P : Type 0} (r : Result A E) → P → OnErr r P
 if_err (Ok a) p = tt
 if_err (Err e) p = p
-
-pub of_some : {A : Type 0} (P : A → Type 0) (o : Option A) (x : A) → o ≡ Some x → P x → IsSomeAnd o P
-of_some {A} P o x e is = subst (λ (q : Option A). IsSomeAnd q P) (sym e) is
 
 -- the part of a member is of its race
 pub part_is_of : {P : Type 0} {g : Ghosts P} (m : Member P g) (part : P) (race : Race) → m.part ≡ Some part → IsOf race (Some m) → g.of part ≡ race_id race

@@ -1,8 +1,7 @@
 -- One store more, or why there is none.
 use Rattle.std.proofs.Common.{subst, sym, ◌∙◌}
-use Rattle.g1_race.specs.declared.race.Racer.{Racer}
 use Rattle.g1_handles.specs.Racing.{Racing, racing}
-use Rattle.g1_handles.specs.RaceStores.{StoresAll, StoresFirst, IsEnd}
+use Rattle.g1_handles.specs.RaceStores.{StoresFirst, IsEnd}
 use Rattle.g1_handles.proofs.BatchLemmas.{stores_next, stores_end, stores_whole}
 use Rattle.g1_handles.proofs.race_batch.store_each.Goals as goal
 
