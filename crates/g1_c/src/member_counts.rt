@@ -49,10 +49,7 @@ pub extern "C" fn g1_racer_counts(
             refusal.word()
         }
         Ok(counts) => {
-            *null = counts.by_kind[1];
-            *same_region = counts.by_kind[0];
-            *already_dirty = counts.by_kind[2];
-            *logged = counts.by_kind[3];
+            [*null, *same_region, *already_dirty, *logged] = counts.by_kind;
             DONE
         }
     }

@@ -2,7 +2,7 @@
 use Rattle.std.specs.Prelude.{ℕ, Bool, [], ◌∷◌, if◌then◌else◌, ◌+◌, ◌%◌, ◌^◌}
 use Rattle.std.specs.Prelude.{slice_index_or, slice_set}
 use Rattle.g1_layout.specs.declared.kind.Kind.{Kind}
-use Rattle.g1_layout.specs.declared.kind.Kind.TheVariants.{SameRegion, Null, AlreadyDirty, Logged}
+use Rattle.g1_handles.specs.Codes.{kind_word}
 use Rattle.g1_handles.specs.declared.member_counts.MemberCounts.{MemberCounts}
 use Rattle.g1_handles.specs.declared.member_counts.StoreCounts.{StoreCounts}
 use Rattle.g1_handles.specs.declared.member_counts.SweepCounts.{SweepCounts}
@@ -18,20 +18,13 @@ no_counts = record {
 abbrev pub one_more : ℕ → ℕ
 one_more n = (n + 1) % 2 ^ 64
 
--- the place of a kind among the counts
-abbrev pub place_of : Kind → ℕ
-place_of SameRegion = 0
-place_of Null = 1
-place_of AlreadyDirty = 2
-place_of Logged = 3
-
 -- how many stores of this kind are counted
 abbrev pub stored_of : StoreCounts → Kind → ℕ
-stored_of c k = slice_index_or c.by_kind (place_of k) 0
+stored_of c k = slice_index_or c.by_kind (kind_word k) 0
 
 -- the counts after one more store, of this kind
 abbrev pub with_store : StoreCounts → Kind → StoreCounts
-with_store c k = record { by_kind = slice_set c.by_kind (place_of k) (one_more (stored_of c k)) }
+with_store c k = record { by_kind = slice_set c.by_kind (kind_word k) (one_more (stored_of c k)) }
 
 -- the counts after one more card, which was dirty or not, with this many references to record
 abbrev pub with_card : SweepCounts → Bool → ℕ → SweepCounts

@@ -1,10 +1,10 @@
 //! What the racers and the sweepers of a heap have done, in numbers.
 ghost use Rattle.std.specs.Prelude.{◌≡◌, IfOk, IfErr};
-ghost use Rattle.g1_handles.specs.Counting.{no_counts, place_of, with_store, with_card};
+ghost use Rattle.g1_handles.specs.Counting.{no_counts, with_store, with_card};
 ghost use Rattle.g1_handles.specs.Racing.{OfRacer, OfSweeper};
 ghost use Rattle.g1_handles.specs.Refusals.{SaysNoMember};
 
-use crate::code::Refusal;
+use crate::code::{Refusal, kind_word};
 use crate::member::Member;
 use g1_layout::Kind;
 use g1_race::{Racer, Sweeper, Swept};
@@ -13,8 +13,8 @@ use g1_race::{Racer, Sweeper, Swept};
 /// between. A count that would be 2^64 begins at 0 again.
 #[derive(Clone, Copy, Debug)]
 pub struct StoreCounts {
-    /// How many stores were of each kind, in the order of [`Kind`]: of a place in the slot's own
-    /// region, of null or of data, on a dirty card, and logged.
+    /// How many stores were of each kind, in the order of [`kind_word`]: of null or of data, of a
+    /// place in the slot's own region, on a dirty card, and logged.
     pub by_kind: [u64; 4],
 }
 
@@ -24,17 +24,10 @@ impl StoreCounts {
     pub(crate) fn add(&mut self, kind: Kind)
         ensures { self.new ≡ with_store self.old kind }
     {
-        let place = place_of(kind);
+        // (By a match, a store would take a jump more.)
+        let place = kind_word(kind) as usize;
         self.by_kind[place] = self.by_kind[place].wrapping_add(1);
     }
-}
-
-/// The place of a kind among the counts. (By a match, a store would take a jump more.)
-#[inline(always)]
-fn place_of(kind: Kind) -> usize
-    ensures { result ≡ place_of kind }
-{
-    kind as usize
 }
 
 /// What a sweeper has done since its heap was opened, whatever pauses came between. A count that

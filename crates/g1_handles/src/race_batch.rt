@@ -62,8 +62,7 @@ fn store_each(
         → result.end ≡ BatchEnd.Whole }
 {
     for i in 0..stores.len() {
-        let store = stores[i];
-        match store_next(race, racer, counts, store.slot, store.target) {
+        match store_next(race, racer, counts, stores[i].slot, stores[i].target) {
             Ok(_) => {}
             Err(refusal) => {
                 return RaceBatch {
