@@ -12,7 +12,7 @@ use Rattle.g1_race.specs.declared.race.Sweeper.{Sweeper}
 use Rattle.g1_race.specs.Reading.{Known}
 use Rattle.g1_race.specs.contracts.race.Racer as racer
 use Rattle.g1_race.specs.contracts.race.Sweeper as sweeper
-use Rattle.g1_race.specs.contracts.reading.Reader as reader
+use Rattle.g1_race.specs.contracts.paused.reading.Reader as reader
 use Rattle.g1_handles.specs.declared.member.Member.{Member}
 use Rattle.g1_handles.specs.contracts.member.Member as member
 use Rattle.g1_handles.specs.contracts.member.RacerPart.TheImpl.{ghosts as racers}

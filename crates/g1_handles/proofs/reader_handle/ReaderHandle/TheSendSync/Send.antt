@@ -4,7 +4,7 @@ use denote.Struct.Owning.{shape, fields, to}
 use denote.Param.Send.{IsSend, AllSend, owning_send, struct_send, sendable}
 use Rattle.std_alloc.proofs.SendSync.{quiet}
 use Rattle.std.proofs.alloc.Global.TheSendSync as global
-use Rattle.g1_race.proofs.reading.Reader.TheSendSync.{the_send as part}
+use Rattle.g1_race.proofs.paused.reading.Reader.TheSendSync.{the_send as part}
 use Rattle.g1_handles.proofs.member.Member.TheSendSync as member
 use Rattle.g1_handles.specs.contracts.member.ReaderPart.TheImpl.{ghosts}
 use Rattle.g1_handles.proofs.Sending.{keyless}
