@@ -18,7 +18,7 @@ use Rattle.g1_handles.specs.contracts.member.Member as member
 use Rattle.g1_handles.specs.contracts.member.RacerPart.TheImpl.{ghosts as racers}
 use Rattle.g1_handles.specs.contracts.member.SweeperPart.TheImpl.{ghosts as sweepers}
 use Rattle.g1_handles.specs.contracts.member.ReaderPart.TheImpl.{ghosts as readers}
-use Rattle.g1_handles.specs.contracts.racing_heap.RacingHeap as racing_heap
+use Rattle.g1_handles.specs.contracts.heap.racing_heap.RacingHeap as racing_heap
 
 -- the value at the pointer, and the right to free its block
 abbrev pub owns_boxed : (R : RattleType) → Global → Ptr → R.Denot → Fml
