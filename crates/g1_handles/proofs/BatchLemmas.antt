@@ -10,9 +10,9 @@ use Rattle.g1_race.specs.declared.race.Race.{Race}
 use Rattle.g1_race.specs.Members.{race_layout}
 use Rattle.g1_handles.specs.declared.code.Refusal.{Refusal}
 use Rattle.g1_handles.specs.declared.code.Refusal.TheVariants as refusal
-use Rattle.g1_handles.specs.declared.race_batch.BatchEnd.{BatchEnd}
-use Rattle.g1_handles.specs.declared.race_batch.BatchEnd.TheVariants.{Whole, Stopped, Full}
-use Rattle.g1_handles.specs.declared.batch.Store.{Store}
+use Rattle.g1_handles.specs.declared.member.batch.BatchEnd.{BatchEnd}
+use Rattle.g1_handles.specs.declared.member.batch.BatchEnd.TheVariants.{Whole, Stopped, Full}
+use Rattle.g1_handles.specs.declared.one_core.batch.Store.{Store}
 use Rattle.g1_handles.specs.Racing.{Racing}
 use Rattle.g1_handles.specs.Codes.{IsStoreOf, reference_of}
 use Rattle.g1_handles.specs.Racing.{Stores, racer_race_of}

@@ -7,9 +7,9 @@ use mathlib.Core.HLevel.{is_prop→PathP}
 use Rattle.g1_race.specs.Members.{race_id, race_layout}
 use Rattle.g1_race.specs.Over.{Halt}
 use Rattle.g1_handles.specs.declared.code.Refusal.{Refusal}
-use Rattle.g1_handles.specs.declared.racing_heap.AtPause.{AtPause}
-use Rattle.g1_handles.specs.declared.racing_heap.RacingHeap.{RacingHeap}
-use Rattle.g1_handles.specs.declared.racing_heap.RacingHeap.TheVariants as heap
+use Rattle.g1_handles.specs.declared.heap.racing_heap.AtPause.{AtPause}
+use Rattle.g1_handles.specs.declared.heap.racing_heap.RacingHeap.{RacingHeap}
+use Rattle.g1_handles.specs.declared.heap.racing_heap.RacingHeap.TheVariants as heap
 use Rattle.g1_handles.specs.Life.{IsSameBut, IsSameHeap}
 use Rattle.g1_handles.specs.HeapCalls.{IsCalled, IsHeapRefused}
 use Rattle.g1_handles.proofs.VisitLemmas.{is_ok, err_of}

@@ -1,7 +1,7 @@
 -- What is so of a list is so of what C is told of it.
 use Rattle.std.proofs.Common.{ℕ, List, sym, subst}
-use Rattle.g1_handles.specs.declared.members.Listed.{Listed}
-use Rattle.g1_handles.specs.declared.members.Listed.TheVariants.{Members, NoRoom}
+use Rattle.g1_handles.specs.declared.one_core.members.Listed.{Listed}
+use Rattle.g1_handles.specs.declared.one_core.members.Listed.TheVariants.{Members, NoRoom}
 use Rattle.g1_handles.specs.Queries.{Lists, IsListOf}
 
 pub lists_so : (AreSo : List ℕ → Type 0) (cards : List ℕ) (room : ℕ) (told : Listed) → AreSo cards → IsListOf cards room told → Lists AreSo room told

@@ -6,8 +6,8 @@ use Rattle.g1_core.specs.Table.{Table, IsRecorded, AreMembers}
 use Rattle.g1_race.specs.Reading.{IsNextMember}
 use Rattle.g1_race.proofs.Gathering.{Gathered, gathered_none, gathered_in, gathered_out}
 use Rattle.g1_handles.specs.Sets.{AreMembersBelow, Tells}
-use Rattle.g1_handles.specs.declared.heap_sets.Told.{Told}
-use Rattle.g1_handles.specs.declared.heap_sets.Told.TheVariants.{All, First}
+use Rattle.g1_handles.specs.declared.heap.sets.Told.{Told}
+use Rattle.g1_handles.specs.declared.heap.sets.Told.TheVariants.{All, First}
 
 gathered_of : (t : Table) (region from : ℕ) (xs : List ℕ) → AreMembersBelow t region from xs → Gathered (λ c. IsRecorded t c region) from xs
 gathered_of t region from xs h = record { ascending = h.ascending; below = h.below; only = h.recorded; every = h.all }

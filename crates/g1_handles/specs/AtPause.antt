@@ -23,7 +23,7 @@ use Rattle.g1_race.specs.Evacuating.{wiped_word, wiped, forgotten, plain_reply, 
 use Rattle.g1_race.specs.Evacuating.{IsExactAtPause, copied_word}
 use Rattle.g1_race.specs.Moving.{word_after}
 use Rattle.g1_race.specs.Telling.{marked_cards}
-use Rattle.g1_handles.specs.declared.batch.Store.{Store}
+use Rattle.g1_handles.specs.declared.one_core.batch.Store.{Store}
 use Rattle.g1_handles.specs.Codes.{reference_of}
 
 -- whose words these are, how they are laid out, and how many members there are is as it was

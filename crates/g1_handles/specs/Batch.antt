@@ -7,7 +7,7 @@ use Rattle.g1_layout.specs.declared.kind.Kind.TheVariants.{Null, SameRegion, Alr
 use Rattle.g1_layout.specs.Shape.{card_of}
 use Rattle.g1_core.specs.Machine.{Machine}
 use Rattle.g1_core.specs.Run.{kind_of}
-use Rattle.g1_handles.specs.declared.batch.Store.{Store}
+use Rattle.g1_handles.specs.declared.one_core.batch.Store.{Store}
 use Rattle.g1_core.specs.Barrier.{stored_machine}
 use Rattle.g1_handles.specs.Codes.{reference_of, IsStoreOf}
 

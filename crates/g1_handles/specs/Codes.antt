@@ -6,7 +6,7 @@ use Rattle.g1_layout.specs.declared.kind.Kind.TheVariants.{Null, SameRegion, Alr
 use Rattle.g1_core.specs.declared.reply.ClearReply.{ClearReply}
 use Rattle.g1_core.specs.declared.reply.ClearReply.TheVariants.{Cleared, Pending, StillReferenced}
 use Rattle.g1_core.specs.declared.config.Settings.{Settings}
-use Rattle.g1_handles.specs.declared.calls.Counts.{Counts}
+use Rattle.g1_handles.specs.declared.one_core.open.Counts.{Counts}
 use Rattle.g1_handles.specs.declared.code.Refusal.{Refusal}
 use Rattle.g1_handles.specs.declared.code.Refusal.TheVariants as refusal
 

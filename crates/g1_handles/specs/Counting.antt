@@ -3,9 +3,9 @@ use Rattle.std.specs.Prelude.{ℕ, Bool, [], ◌∷◌, if◌then◌else◌, ◌
 use Rattle.std.specs.Prelude.{slice_index_or, slice_set}
 use Rattle.g1_layout.specs.declared.kind.Kind.{Kind}
 use Rattle.g1_handles.specs.Codes.{kind_word}
-use Rattle.g1_handles.specs.declared.member_counts.MemberCounts.{MemberCounts}
-use Rattle.g1_handles.specs.declared.member_counts.StoreCounts.{StoreCounts}
-use Rattle.g1_handles.specs.declared.member_counts.SweepCounts.{SweepCounts}
+use Rattle.g1_handles.specs.declared.member.counts.MemberCounts.{MemberCounts}
+use Rattle.g1_handles.specs.declared.member.counts.StoreCounts.{StoreCounts}
+use Rattle.g1_handles.specs.declared.member.counts.SweepCounts.{SweepCounts}
 
 -- the counts of a member that has done nothing
 abbrev pub no_counts : MemberCounts

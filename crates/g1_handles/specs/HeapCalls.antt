@@ -3,8 +3,8 @@ use Rattle.std.specs.Prelude.{◌≡◌, ◌⊎◌, Option, Some, None, Result, 
 use Rattle.g1_race.specs.Over.{Halt}
 use Rattle.g1_handles.specs.declared.code.Refusal.{Refusal}
 use Rattle.g1_handles.specs.declared.code.Refusal.TheVariants as refusal
-use Rattle.g1_handles.specs.declared.racing_heap.RacingHeap.{RacingHeap}
-use Rattle.g1_handles.specs.declared.racing_heap.RacingHeap.TheVariants as heap
+use Rattle.g1_handles.specs.declared.heap.racing_heap.RacingHeap.{RacingHeap}
+use Rattle.g1_handles.specs.declared.heap.racing_heap.RacingHeap.TheVariants as heap
 use Rattle.g1_handles.specs.Life.{OfPaused, IsSameBut, SaysNoHeap, SaysNotPaused}
 
 -- a call, which leads from one pause to another with this result, was made on what a handle has,

@@ -21,12 +21,12 @@ use Rattle.g1_handles.specs.declared.code.Refusal.{Refusal}
 use Rattle.g1_handles.specs.declared.code.Refusal.TheVariants as refusal
 use Rattle.g1_handles.specs.declared.member.Part.{Ghosts}
 use Rattle.g1_handles.specs.declared.member.Member.{Member}
-use Rattle.g1_handles.specs.declared.racing_heap.AtPause.{AtPause}
-use Rattle.g1_handles.specs.declared.racing_heap.BeingRead.{BeingRead}
-use Rattle.g1_handles.specs.declared.racing_heap.UnderWay.{UnderWay}
-use Rattle.g1_handles.specs.declared.racing_heap.RacingHeap.{RacingHeap}
-use Rattle.g1_handles.specs.declared.racing_heap.RacingHeap.TheVariants as heap
-use Rattle.g1_handles.specs.declared.member_counts.MemberCounts.{MemberCounts}
+use Rattle.g1_handles.specs.declared.heap.racing_heap.AtPause.{AtPause}
+use Rattle.g1_handles.specs.declared.heap.racing_heap.BeingRead.{BeingRead}
+use Rattle.g1_handles.specs.declared.heap.racing_heap.UnderWay.{UnderWay}
+use Rattle.g1_handles.specs.declared.heap.racing_heap.RacingHeap.{RacingHeap}
+use Rattle.g1_handles.specs.declared.heap.racing_heap.RacingHeap.TheVariants as heap
+use Rattle.g1_handles.specs.declared.member.counts.MemberCounts.{MemberCounts}
 use Rattle.g1_handles.specs.Own.{RacerMember, SweeperMember}
 use Rattle.g1_handles.specs.Racing.{AreClosed, OfRacer, OfSweeper, racer_race_of, sweeper_race_of}
 use Rattle.g1_handles.specs.Racing.{racer_knows, sweeper_knows, part_in, IsAmong, IsOf, IsEndOf}

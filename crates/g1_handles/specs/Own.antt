@@ -12,13 +12,13 @@ use Rattle.g1_race.specs.declared.race.Sweeper.{Sweeper}
 use Rattle.g1_race.specs.Reading.{Known}
 use Rattle.g1_race.specs.contracts.race.Racer as racer
 use Rattle.g1_race.specs.contracts.race.Sweeper as sweeper
-use Rattle.g1_race.specs.contracts.reading.Reader as reader
+use Rattle.g1_race.specs.contracts.paused.reading.Reader as reader
 use Rattle.g1_handles.specs.declared.member.Member.{Member}
 use Rattle.g1_handles.specs.contracts.member.Member as member
 use Rattle.g1_handles.specs.contracts.member.RacerPart.TheImpl.{ghosts as racers}
 use Rattle.g1_handles.specs.contracts.member.SweeperPart.TheImpl.{ghosts as sweepers}
 use Rattle.g1_handles.specs.contracts.member.ReaderPart.TheImpl.{ghosts as readers}
-use Rattle.g1_handles.specs.contracts.racing_heap.RacingHeap as racing_heap
+use Rattle.g1_handles.specs.contracts.heap.racing_heap.RacingHeap as racing_heap
 
 -- the value at the pointer, and the right to free its block
 abbrev pub owns_boxed : (R : RattleType) → Global → Ptr → R.Denot → Fml

@@ -7,8 +7,8 @@ use Rattle.g1_core.specs.Run.{IsStep}
 use Rattle.g1_core.specs.Calls.{target_entry, pending_entry, members_entry, status_entry}
 use Rattle.g1_core.specs.declared.reply.Status.{Status}
 use Rattle.g1_handles.specs.Replies.{FitIn}
-use Rattle.g1_handles.specs.declared.members.Listed.{Listed}
-use Rattle.g1_handles.specs.declared.members.Listed.TheVariants.{Members, NoRoom}
+use Rattle.g1_handles.specs.declared.one_core.members.Listed.{Listed}
+use Rattle.g1_handles.specs.declared.one_core.members.Listed.TheVariants.{Members, NoRoom}
 
 -- The slot refers to the target. One slot was read, and nothing else has changed.
 pub record RefersTo (old : Machine) (slot : ℕ) (target : Option ℕ) (new : Machine) : Type 0 where

@@ -8,14 +8,14 @@ use Rattle.g1_race_words.specs.Rule.{slot_card}
 use Rattle.g1_race.specs.Members.{HasOverwritten, HasStored, HasDiffered, HasNotStored, IsKind}
 use Rattle.g1_race.specs.Members.{is_logged, race_layout, race_shape, racer_view}
 use Rattle.g1_race.specs.Race.{word_of}
-use Rattle.g1_handles.specs.declared.batch.Store.{Store}
+use Rattle.g1_handles.specs.declared.one_core.batch.Store.{Store}
 use Rattle.g1_handles.specs.Counting.{with_store}
 use Rattle.g1_handles.specs.Racing.{Racing}
-use Rattle.g1_handles.specs.declared.race_batch.BatchEnd.{BatchEnd}
-use Rattle.g1_handles.specs.declared.race_batch.BatchEnd.TheVariants.{Whole, Stopped, Full}
-use Rattle.g1_handles.specs.declared.race_batch.RaceBatch.{RaceBatch}
-use Rattle.g1_handles.specs.declared.race_exchange.Exchange.{Exchange}
-use Rattle.g1_handles.specs.declared.race_exchange.Exchange.TheVariants as exchange
+use Rattle.g1_handles.specs.declared.member.batch.BatchEnd.{BatchEnd}
+use Rattle.g1_handles.specs.declared.member.batch.BatchEnd.TheVariants.{Whole, Stopped, Full}
+use Rattle.g1_handles.specs.declared.member.batch.RaceBatch.{RaceBatch}
+use Rattle.g1_handles.specs.declared.member.exchange.Exchange.{Exchange}
+use Rattle.g1_handles.specs.declared.member.exchange.Exchange.TheVariants as exchange
 use Rattle.g1_handles.specs.Batch.{IsFaultAt}
 use Rattle.g1_handles.specs.Codes.{IsStoreOf, reference_of}
 use Rattle.g1_handles.specs.Racing.{Stores, racer_race_of}

@@ -18,12 +18,12 @@ use Rattle.g1_race.specs.Members.{race_layout, race_begun, race_shape, racer_vie
 use Rattle.g1_race.specs.Members.{sweeper_start, sweeper_view, IsKind, is_logged}
 use Rattle.g1_handles.specs.declared.member.Part.{Ghosts}
 use Rattle.g1_handles.specs.declared.member.Member.{Member}
-use Rattle.g1_handles.specs.declared.racer_handle.RacerHandle.{RacerHandle}
-use Rattle.g1_handles.specs.declared.member_counts.MemberCounts.{MemberCounts}
-use Rattle.g1_handles.specs.declared.member_counts.StoreCounts.{StoreCounts}
-use Rattle.g1_handles.specs.declared.member_counts.SweepCounts.{SweepCounts}
-use Rattle.g1_handles.specs.declared.sweeper_handle.SweeperHandle.{SweeperHandle}
-use Rattle.g1_handles.specs.declared.reader_handle.ReaderHandle.{ReaderHandle}
+use Rattle.g1_handles.specs.declared.member.racer_handle.RacerHandle.{RacerHandle}
+use Rattle.g1_handles.specs.declared.member.counts.MemberCounts.{MemberCounts}
+use Rattle.g1_handles.specs.declared.member.counts.StoreCounts.{StoreCounts}
+use Rattle.g1_handles.specs.declared.member.counts.SweepCounts.{SweepCounts}
+use Rattle.g1_handles.specs.declared.member.sweeper_handle.SweeperHandle.{SweeperHandle}
+use Rattle.g1_handles.specs.declared.member.reader_handle.ReaderHandle.{ReaderHandle}
 use Rattle.g1_handles.specs.Own.{RacerMember, SweeperMember, ReaderMember}
 use Rattle.g1_handles.specs.Counting.{no_counts, with_store, with_card}
 

@@ -14,10 +14,10 @@ use Rattle.g1_race.specs.Over.{Halt, halted, start_at}
 use Rattle.g1_race.specs.Reading.{Known, known, table_read, IsReaderOf, IsNextMember}
 use Rattle.g1_handles.specs.declared.code.Refusal.{Refusal}
 use Rattle.g1_handles.specs.declared.code.Refusal.TheVariants as refusal
-use Rattle.g1_handles.specs.declared.racing_heap.AtPause.{AtPause}
-use Rattle.g1_handles.specs.declared.racing_heap.BeingRead.{BeingRead}
-use Rattle.g1_handles.specs.declared.racing_heap.RacingHeap.{RacingHeap}
-use Rattle.g1_handles.specs.declared.racing_heap.RacingHeap.TheVariants as heap
+use Rattle.g1_handles.specs.declared.heap.racing_heap.AtPause.{AtPause}
+use Rattle.g1_handles.specs.declared.heap.racing_heap.BeingRead.{BeingRead}
+use Rattle.g1_handles.specs.declared.heap.racing_heap.RacingHeap.{RacingHeap}
+use Rattle.g1_handles.specs.declared.heap.racing_heap.RacingHeap.TheVariants as heap
 use Rattle.g1_handles.specs.Own.{ReaderMember}
 use Rattle.g1_handles.specs.Life.{OfPaused, OfRead, IsRacing, SaysNoHeap, SaysNotPaused, AreFor}
 use Rattle.g1_handles.specs.Racing.{OfPart, AreClosed, IsAmong}

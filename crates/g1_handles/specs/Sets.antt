@@ -7,10 +7,10 @@ use Rattle.g1_race.specs.Over.{Halt}
 use Rattle.g1_handles.specs.Arrays.{IsWritten}
 use Rattle.g1_handles.specs.AtPause.{DrainsAtPause, TellsMembers}
 use Rattle.g1_handles.specs.declared.code.Refusal.{Refusal}
-use Rattle.g1_handles.specs.declared.heap_sets.Told.{Told}
-use Rattle.g1_handles.specs.declared.heap_sets.Told.TheVariants.{All as All-of, First}
-use Rattle.g1_handles.specs.declared.heap_sets.Which.{Which}
-use Rattle.g1_handles.specs.declared.heap_sets.Which.TheVariants.{Recorded, Refined}
+use Rattle.g1_handles.specs.declared.heap.sets.Told.{Told}
+use Rattle.g1_handles.specs.declared.heap.sets.Told.TheVariants.{All as All-of, First}
+use Rattle.g1_handles.specs.declared.heap.sets.Which.{Which}
+use Rattle.g1_handles.specs.declared.heap.sets.Which.TheVariants.{Recorded, Refined}
 use Rattle.g1_handles.specs.Lacks.{LacksRegion}
 
 -- the array has the first of so many cards that are so, and there are more

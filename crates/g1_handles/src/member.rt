@@ -1,10 +1,32 @@
 //! A member of a race: a racer, a sweeper or a reader, with its share of the race.
+//!
+//! - [`racer_handle`], [`sweeper_handle`] and [`reader_handle`] have their handles.
+//! - [`store`], [`log`] and [`refine`] are the path of a card while members are out, and [`counts`]
+//!   tells what a member has done.
+//! - [`exchange`] has the stores that return what a slot referred to or depend on it, [`batch`]
+//!   several stores by one call, [`data`] a store of data, and [`words`] the stores of any word
+//!   that return or compare the one before.
+//! - [`reader_queries`] has what a reader answers.
+
+pub mod batch;
+pub mod counts;
+pub mod data;
+pub mod exchange;
+pub mod log;
+pub mod racer_handle;
+pub mod reader_handle;
+pub mod reader_queries;
+pub mod refine;
+pub mod store;
+pub mod sweeper_handle;
+pub mod words;
+
 ghost use Rattle.std.specs.Prelude.{◌≡◌, Some};
 ghost use Rattle.std.specs.Option.{ForSome};
 ghost use Rattle.std.specs.Arc.{arc_value};
 ghost use Rattle.g1_race.specs.Members.{race_id};
 
-use crate::member_counts::MemberCounts;
+use crate::member::counts::MemberCounts;
 use g1_race::{Race, Racer, Reader, Sweeper};
 use std::alloc::Global;
 use std::sync::Arc;

@@ -1,10 +1,10 @@
 //! Each handle may go to another thread.
 
-use crate::handle::Handle;
-use crate::heap_handle::HeapHandle;
-use crate::racer_handle::RacerHandle;
-use crate::reader_handle::ReaderHandle;
-use crate::sweeper_handle::SweeperHandle;
+use crate::heap::handle::HeapHandle;
+use crate::member::racer_handle::RacerHandle;
+use crate::member::reader_handle::ReaderHandle;
+use crate::member::sweeper_handle::SweeperHandle;
+use crate::one_core::handle::Handle;
 
 fn sent<T: Send>(_value: &T) {}
 

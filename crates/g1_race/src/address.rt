@@ -2,8 +2,8 @@
 ghost use Rattle.std.specs.Prelude.{◌≡◌};
 ghost use Rattle.g1_race.specs.Members.{race_words};
 
-use crate::holds::Holds;
 use crate::paused::Paused;
+use crate::paused::holds::Holds;
 use crate::race::Race;
 
 impl Race {

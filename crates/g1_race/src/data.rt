@@ -15,11 +15,11 @@ ghost use Rattle.g1_race.specs.Over.{halted};
 ghost use Rattle.g1_race.specs.Race as racing;
 ghost use Rattle.g1_race.specs.Reading.{reader_race};
 
-use crate::holds::Holds;
 use crate::paused::Paused;
+use crate::paused::access::{put, see};
+use crate::paused::holds::Holds;
+use crate::paused::reading::Reader;
 use crate::race::{Race, Racer};
-use crate::reading::Reader;
-use crate::stopped::{put, see};
 use g1_layout::Slot;
 
 impl Racer {

@@ -1,5 +1,13 @@
 //! A race that is over: what its slots refer to, which of its cards are dirty, and which pairs were
 //! recorded.
+//!
+//! - `close` ends a race, and `into_core` makes a core of it.
+//! - `pairs` has the recorded pairs.
+
+mod close;
+mod into_core;
+mod pairs;
+
 ghost use Rattle.std.specs.Prelude.{◌≡◌, ◌+◌, ◌<◌, ◌↔◌, IsTrue, IfSome};
 ghost use Rattle.g1_core.specs.Table.{target_of, IsPending, IsRecorded};
 ghost use mathlib.Core.Option.{some};
@@ -7,7 +15,7 @@ ghost use lib.ListN.{get_elem?};
 ghost use Rattle.g1_layout.specs.Shape.{slot_count, card_count};
 ghost use Rattle.g1_race.specs.Over.{refs_of, marks_of, table_of};
 
-use crate::pairs::has_bit;
+use crate::ended::pairs::has_bit;
 use crate::word::refers_to;
 use g1_layout::{Card, Layout, Region, Slot};
 use g1_race_words::Shape;

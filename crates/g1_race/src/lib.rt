@@ -40,44 +40,19 @@
 #![tactic(auto)]
 
 mod address;
-mod begin;
 mod bits;
-mod clear;
-mod copy;
 mod data;
-mod drain;
 mod ended;
-mod exchange;
-mod forget;
 mod geometry;
-mod holds;
-mod into_core;
 pub mod laws;
-mod listed;
-mod next;
-mod open;
-mod over;
-mod pairs;
-mod pause;
 mod paused;
 mod race;
-mod racer;
-mod read_by;
-mod reader;
-mod reading;
-mod redirect;
-mod resume;
-mod shared;
-mod stopped;
-mod sweeper;
-mod verify;
-mod wipe;
 mod word;
 
 pub use ended::Closed;
 pub use g1_race_words::{Shape, View};
-pub use holds::Holds;
 pub use paused::Paused;
+pub use paused::holds::Holds;
+pub use paused::reading::{Reader, Reading};
+pub use race::refinement::Swept;
 pub use race::{Race, Racer, Sweeper};
-pub use reading::{Reader, Reading};
-pub use sweeper::Swept;

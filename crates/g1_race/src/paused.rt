@@ -1,7 +1,37 @@
 //! A race at a pause: its whole table is known, and stays in place.
+//!
+//! - `open` begins a heap of nulls, and `begin` one with a core's table. `resume` returns the race
+//!   and its members. `holds` says what a pause holds its race by, and `shared` lets threads keep
+//!   their shares of the race over the pause.
+//! - `access` has what a pause reads and stores. `listed` has the recorded pairs and the dirty
+//!   cards, which `next` finds, and `verify` checks them for a debug build.
+//! - `drain` refines and drains. `redirect`, `clear`, `wipe`, `forget` and `copy` may follow an
+//!   evacuation.
+//! - `reading` is a race at a pause that several threads read. `read_by` makes their readers, and
+//!   `reader` has what each of them reads.
+
+pub(crate) mod access;
+mod begin;
+mod clear;
+mod copy;
+mod drain;
+mod forget;
+pub(crate) mod holds;
+mod listed;
+mod next;
+mod open;
+mod read_by;
+mod reader;
+pub(crate) mod reading;
+mod redirect;
+mod resume;
+mod shared;
+mod verify;
+mod wipe;
+
 ghost use Rattle.std.specs.Prelude.{◌≡◌, ◌+◌, ◌<◌};
 
-use crate::holds::Holds;
+use crate::paused::holds::Holds;
 use crate::race::{Race, Racer, Sweeper};
 use g1_race_words::Place;
 use std::marker::Model;

@@ -2,6 +2,16 @@
 //!
 //! A racer or a sweeper has a seat at the table of words: a token of no bytes at run time, which
 //! carries what its thread knows, in the proofs alone ([`View`](crate::View)).
+//!
+//! - `barrier` has the stores of a racer, and `exchange` those that return what the slot had.
+//! - `refinement` is that of a sweeper.
+//! - `pause` takes the members back, and the race comes to a pause.
+
+mod barrier;
+mod exchange;
+mod pause;
+pub(crate) mod refinement;
+
 ghost use Rattle.std.specs.Prelude.{◌≡◌, ◌+◌, ◌<◌, []};
 ghost use Rattle.g1_race_words.specs.Rule.{IsWholeShape};
 ghost use Rattle.g1_race.specs.Race.{shape_of, IsRacing, IsSweeping};

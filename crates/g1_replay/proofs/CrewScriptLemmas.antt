@@ -15,7 +15,7 @@ use Rattle.g1_trace.specs.declared.command.Command.{Command}
 use Rattle.g1_trace.specs.declared.command.Command.TheVariants.{Store, Flush}
 use Rattle.g1_trace.specs.Grammar.{IsCommandOf}
 use Rattle.g1_trace.specs.declared.dialect.Dialect.{Dialect}
-use Rattle.g1_replay.specs.declared.crew_listing.Scripts.{Scripts}
+use Rattle.g1_replay.specs.declared.crews.listing.Scripts.{Scripts}
 use Rattle.g1_replay.specs.RaceJobs.{AllFrom}
 use Rattle.g1_replay.specs.Reading.{Reads}
 use Rattle.g1_replay.specs.Scripts.{AreKept, AreScriptsOf, IsScriptAt, asked_in, step_for}

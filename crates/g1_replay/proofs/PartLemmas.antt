@@ -11,9 +11,9 @@ use Rattle.std.specs.Io.KnownBytes.{Consumes}
 use Rattle.g1_trace.specs.declared.fault.TraceFault.TheVariants as fault
 use Rattle.g1_trace.specs.Words.{IsPart}
 use Rattle.g1_trace.proofs.PlainLemmas.{part_joined}
-use Rattle.g1_replay.specs.declared.lines.Byte.TheVariants.{Some as OneByte}
-use Rattle.g1_replay.specs.declared.lines.Part.{Part}
-use Rattle.g1_replay.specs.declared.lines.Part.TheVariants.{Whole, TooLong, More, Nothing, Failed}
+use Rattle.g1_replay.specs.declared.lines.line.Byte.TheVariants.{Some as OneByte}
+use Rattle.g1_replay.specs.declared.lines.line.Part.{Part}
+use Rattle.g1_replay.specs.declared.lines.line.Part.TheVariants.{Whole, TooLong, More, Nothing, Failed}
 use Rattle.g1_replay.specs.declared.stop.Stop.TheVariants.{Fault}
 use Rattle.g1_replay.specs.Lines.{EndsAtFeed, GoesIntoLine, HasPart, IsSettled, Reads, ReadsPart, ReadsLine}
 

@@ -10,8 +10,8 @@ use Rattle.g1_log.specs.Ends.{sender_rights, taker_rights, IsSenderOf, IsTakerOf
 use Rattle.g1_race.specs.declared.race.Race.{Race}
 use Rattle.g1_race_words.specs.Rule.{null_of}
 use Rattle.g1_race.specs.Members.{race_id, racer_race, racer_start, sweeper_race, sweeper_start}
-use Rattle.g1_replay.specs.declared.race_desk.Member.{Member}
-use Rattle.g1_replay.specs.declared.race_desk.Member.TheVariants.{Racing, Sweeping}
+use Rattle.g1_replay.specs.declared.races.desk.Member.{Member}
+use Rattle.g1_replay.specs.declared.races.desk.Member.TheVariants.{Racing, Sweeping}
 use Rattle.g1_replay.specs.Members.{IsMemberOf, member_rights}
 use Rattle.g1_replay.specs.RaceJobs.{AllFrom, racer_in, sender_in, sweeper_in, taker_in}
 

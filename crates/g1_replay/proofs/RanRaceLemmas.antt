@@ -24,8 +24,8 @@ use Rattle.g1_steps.specs.Ask.{Ask, ScriptFits, StepFits, asks_in, asks_of}
 use Rattle.g1_steps.specs.Ran.{Ran}
 use Rattle.g1_trace.specs.declared.command.Command.{Command}
 use Rattle.g1_trace.specs.Grammar.{IsCommandOf}
-use Rattle.g1_replay.specs.declared.race_desk.Member.{Member}
-use Rattle.g1_replay.specs.declared.race_desk.Member.TheVariants.{Racing, Sweeping}
+use Rattle.g1_replay.specs.declared.races.desk.Member.{Member}
+use Rattle.g1_replay.specs.declared.races.desk.Member.TheVariants.{Racing, Sweeping}
 use Rattle.g1_replay.specs.Members.{IsMemberOf, MemberDid, histories_after, is_racer, member_rights}
 use Rattle.g1_replay.specs.RaceJobs.{AllFrom, IsRaceJob, IsRaceScript, racer_in}
 use Rattle.g1_replay.specs.Scripts.{first_refusal, refusal_in}

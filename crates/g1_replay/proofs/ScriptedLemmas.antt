@@ -11,7 +11,7 @@ use Rattle.g1_trace.specs.Text.{fault_line}
 use Rattle.g1_trace.proofs.PutLemmas.{puts_then}
 use Rattle.g1_replay.specs.declared.end.End.{End}
 use Rattle.g1_replay.specs.declared.end.End.TheVariants.{Refused}
-use Rattle.g1_replay.specs.declared.listing.Listing.{Listing}
+use Rattle.g1_replay.specs.declared.races.listing.Listing.{Listing}
 use Rattle.g1_replay.specs.declared.stop.Stop.{Stop}
 use Rattle.g1_replay.specs.declared.stop.Stop.TheVariants.{Fault, NoMemory, ReadFailed}
 use Rattle.g1_replay.specs.Output.{IsEndWritten, ending_line}

@@ -4,12 +4,12 @@ use Rattle.std.specs.Prelude.{Bool, true, false, Result, Ok, Err, Option, Some, 
 use Rattle.std.specs.Io.KnownBytes.{Consumes, IsAtEnd}
 use Rattle.g1_trace.specs.Words.{IsPart}
 use Rattle.g1_trace.specs.declared.fault.TraceFault.TheVariants.{TooLong, Cut}
-use Rattle.g1_replay.specs.declared.lines.Byte.{Byte}
-use Rattle.g1_replay.specs.declared.lines.Byte.TheVariants.{Some as OneByte, End as NoByte}
-use Rattle.g1_replay.specs.declared.lines.Byte.TheVariants.{Failed as FailedByte}
-use Rattle.g1_replay.specs.declared.lines.Part.{Part}
-use Rattle.g1_replay.specs.declared.lines.Part.TheVariants.{Whole, TooLong as LongPart, More}
-use Rattle.g1_replay.specs.declared.lines.Part.TheVariants.{Nothing, Failed}
+use Rattle.g1_replay.specs.declared.lines.line.Byte.{Byte}
+use Rattle.g1_replay.specs.declared.lines.line.Byte.TheVariants.{Some as OneByte, End as NoByte}
+use Rattle.g1_replay.specs.declared.lines.line.Byte.TheVariants.{Failed as FailedByte}
+use Rattle.g1_replay.specs.declared.lines.line.Part.{Part}
+use Rattle.g1_replay.specs.declared.lines.line.Part.TheVariants.{Whole, TooLong as LongPart, More}
+use Rattle.g1_replay.specs.declared.lines.line.Part.TheVariants.{Nothing, Failed}
 use Rattle.g1_replay.specs.declared.stop.Stop.{Stop}
 use Rattle.g1_replay.specs.declared.stop.Stop.TheVariants.{Fault, ReadFailed}
 

@@ -13,8 +13,8 @@ use Rattle.g1_race.specs.Race.{word_of}
 use Rattle.g1_race.specs.Members.{race_id, race_shape, racer_race, racer_start, racer_view}
 use Rattle.g1_race.specs.Members.{sweeper_race, sweeper_start}
 use Rattle.g1_steps.specs.Ask.{Ask, AskStore, AskFlush, AskWork}
-use Rattle.g1_replay.specs.declared.race_desk.Member.{Member}
-use Rattle.g1_replay.specs.declared.race_desk.Member.TheVariants.{Racing, Sweeping}
+use Rattle.g1_replay.specs.declared.races.desk.Member.{Member}
+use Rattle.g1_replay.specs.declared.races.desk.Member.TheVariants.{Racing, Sweeping}
 
 -- the race that a member is of
 abbrev pub member_race : Member → TableId × Shape

@@ -5,7 +5,7 @@ use Rattle.g1_race_words.specs.Rule.{StoreHistory}
 use Rattle.g1_race_words.specs.Steps.{gains_store}
 use Rattle.g1_race.specs.Race.{word_of}
 use Rattle.g1_steps.specs.Ask.{Ask, AskStore, AskFlush, AskWork}
-use Rattle.g1_replay.specs.declared.race_desk.Member.{Member}
+use Rattle.g1_replay.specs.declared.races.desk.Member.{Member}
 use Rattle.g1_replay.specs.Members.{MemberDid, histories_after, member_histories}
 
 after_both : (xs ys : List Ask) (hs : List StoreHistory)

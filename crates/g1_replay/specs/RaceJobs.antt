@@ -16,8 +16,8 @@ use Rattle.g1_steps.specs.declared.crew.desk.Script.{Script}
 use Rattle.g1_steps.specs.declared.crew.desk.Script.TheVariants.{Mutate, Refine}
 use Rattle.g1_steps.specs.declared.crew.desk.Step.TheVariants as step
 use Rattle.g1_trace.specs.declared.command.Command.{Command}
-use Rattle.g1_replay.specs.declared.race_desk.Member.{Member}
-use Rattle.g1_replay.specs.declared.race_desk.Member.TheVariants.{Racing, Sweeping}
+use Rattle.g1_replay.specs.declared.races.desk.Member.{Member}
+use Rattle.g1_replay.specs.declared.races.desk.Member.TheVariants.{Racing, Sweeping}
 use Rattle.g1_replay.specs.Members.{IsMemberOf, is_racer, member_logged}
 use Rattle.g1_replay.specs.Race.{AreLeftBy, StoresInto}
 use Rattle.g1_replay.specs.Scripts.{step_for}

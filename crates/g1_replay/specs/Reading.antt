@@ -8,8 +8,8 @@ use Rattle.g1_trace.specs.declared.dialect.Dialect.{Dialect}
 use Rattle.g1_trace.specs.Grammar.{IsCommandOf}
 use Rattle.g1_trace.specs.Trace.{read_on, before, faulty}
 use Rattle.g1_trace.specs.Words.{IsPart}
-use Rattle.g1_replay.specs.declared.next.Next.{Next}
-use Rattle.g1_replay.specs.declared.next.Next.TheVariants.{End, Blank, Do}
+use Rattle.g1_replay.specs.declared.lines.next.Next.{Next}
+use Rattle.g1_replay.specs.declared.lines.next.Next.TheVariants.{End, Blank, Do}
 use Rattle.g1_replay.specs.declared.stop.Stop.{Stop}
 use Rattle.g1_replay.specs.declared.stop.Stop.TheVariants.{Fault, ReadFailed}
 

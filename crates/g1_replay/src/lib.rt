@@ -7,36 +7,19 @@
 #![tactic(auto)]
 
 mod calls;
-mod crew_jobs;
-mod crew_listing;
-mod crew_output;
-mod crew_play;
+mod crews;
 mod drains;
 mod end;
-mod engine;
-mod flush_output;
 mod lines;
-mod listing;
-mod machinery;
-mod next;
-mod opening;
-mod play;
-mod player;
-mod playing;
-mod race_desk;
-mod race_jobs;
-mod race_members;
-mod race_output;
-mod race_play;
+mod races;
+mod runs;
 mod scripts;
-mod shown;
-mod source;
 mod status;
 mod stop;
 
-pub use crew_play::crew;
+pub use crews::play::crew;
 pub use end::End;
-pub use engine::run;
 pub use g1_options::{LineFault, Options, read_options};
 pub use g1_trace::{Mode, TraceFault};
-pub use race_play::race;
+pub use races::play::race;
+pub use runs::engine::run;

@@ -1,0 +1,12 @@
+-- The reply is what the words and the array tell.
+use Rattle.std.proofs.Common.{rules, subst, ◌∙◌}
+use Rattle.g1_core.specs.declared.reply.RefineReply.{RefineReply}
+use Rattle.g1_handles.specs.Codes.{Between}
+use Rattle.g1_handles.specs.Replies.{RefinesTo}
+use Rattle.g1_c.proofs.one_core.refinement.g1_refine.Goals as goal
+
+pub returns-in-Ok-clause-refined : goal.returns-in-Ok-clause-refined
+returns-in-Ok-clause-refined c few =
+    let made : Between c.args.handle.now.value c.replace_with.new.dest.value (λ old new. RefinesTo old c.args.cards.now c.in-Ok.reply new) = search rules in
+    subst (λ (reply : RefineReply). Between c.args.handle.now.value c.replace_with.new.dest.value (λ old new. RefinesTo old c.args.cards.now reply new))
+    (c.word_of.ensures.reply ∙ search rules) made

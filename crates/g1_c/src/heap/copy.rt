@@ -1,0 +1,45 @@
+//! A range of slots of a heap at a pause is copied to another one.
+ghost use Rattle.std.specs.Prelude.{◌≡◌, ◌⊎◌, ◌+◌, ◌<◌, ◌≤◌};
+ghost use Rattle.g1_layout.specs.Shape.{slot_count};
+ghost use Rattle.g1_handles.specs.AtPause.{Copies};
+ghost use Rattle.g1_handles.specs.Codes.{IsRefusal};
+ghost use Rattle.g1_handles.specs.HeapCalls.{IsHeapRefused};
+ghost use Rattle.g1_handles.specs.Life.{IsSameHeap, OfPaused};
+ghost use Rattle.g1_handles.specs.Lacks.{LacksSlots};
+
+use core::mem::replace_with;
+use g1_handles::code::DONE;
+use g1_handles::heap::at_pause::{PausedHeap, at_pause};
+use g1_handles::heap::copy::copy_at;
+use g1_handles::heap::handle::HeapHandle;
+use std::alloc::Global;
+
+/// As in `g1.h`.
+#[unsafe(no_mangle)]
+pub extern "C" fn g1_heap_copy(
+    alloc: Global,
+    heap: &mut HeapHandle,
+    from: u32,
+    to: u32,
+    count: u32,
+) -> u32
+    ensures copied { result ≡ 0 → IsSameHeap heap.old.value heap.new.value (λ old new.
+        Copies old from to count new) }
+    ensures answered { OfPaused heap.old.value (λ old. (from + count ≤ slot_count old.layout)
+        × (to + count ≤ slot_count old.layout)) → result ≡ 0 }
+    ensures why { 0 < result → IsRefusal result (IsHeapRefused heap.old.value (λ old r.
+        LacksSlots old.layout from count r ⊎ LacksSlots old.layout to count r)) }
+    ensures refused { 0 < result → heap.new.value ≡ heap.old.value }
+{
+    match replace_with(
+        heap,
+        (
+            alloc,
+            |heap: &mut PausedHeap| copy_at(heap, from, to, count),
+        ),
+        at_pause,
+    ) {
+        Err(refusal) => refusal.word(),
+        Ok(()) => DONE,
+    }
+}

@@ -1,0 +1,69 @@
+//! Refinement and drains of a heap at a pause.
+ghost use Rattle.std.specs.Prelude.{◌≡◌, ◌≢◌, ◌<◌, take};
+ghost use Rattle.g1_handles.specs.AtPause.{DrainsAtPause, Refines};
+ghost use Rattle.g1_handles.specs.Arrays.{IsWritten};
+ghost use Rattle.g1_handles.specs.Codes.{IsRefusal};
+ghost use Rattle.g1_handles.specs.HeapCalls.{IsHeapRefused};
+ghost use Rattle.g1_handles.specs.Life.{IsSameHeap};
+ghost use Rattle.g1_handles.specs.Sets.{HasFirst};
+ghost use Rattle.g1_handles.specs.Lacks.{LacksRegion};
+
+use core::mem::replace_with;
+use g1_handles::code::{DONE, Refusal};
+use g1_handles::heap::at_pause::{PausedHeap, at_pause};
+use g1_handles::heap::drains::refine_at;
+use g1_handles::heap::handle::HeapHandle;
+use g1_handles::heap::sets::{Told, Which, set_of_heap};
+use std::alloc::Global;
+
+/// As in `g1.h`.
+#[unsafe(no_mangle)]
+pub extern "C" fn g1_heap_drain(
+    alloc: Global,
+    heap: &mut HeapHandle,
+    region: u32,
+    cards: &mut [u32],
+    count: &mut u32,
+) -> u32
+    ensures drained { result ≡ 0 → IsSameHeap heap.old.value heap.new.value (λ old new.
+        DrainsAtPause old region new (take count.new cards.new)) }
+    ensures room { result ≡ 16 → IsSameHeap heap.old.value heap.new.value (λ old new.
+        HasFirst (DrainsAtPause old region new) cards.new count.new) }
+    ensures why { 0 < result → result ≢ 16 → IsRefusal result
+        (IsHeapRefused heap.old.value (λ old. LacksRegion old.layout region)) }
+    ensures none { result ≢ 0 → result ≢ 16 → count.new ≡ 0 }
+    ensures written { result ≡ 0 → IsWritten cards.old count.new cards.new }
+    ensures unwritten { 0 < result → result ≢ 16 → cards.new ≡ cards.old }
+    ensures refused { 0 < result → result ≢ 16 → heap.new.value ≡ heap.old.value }
+{
+    *count = 0;
+    match set_of_heap(alloc, heap, Which::Refined, region, cards) {
+        Err(refusal) => refusal.word(),
+        Ok(Told::First(size)) => {
+            *count = size;
+            Refusal::NoRoom.word()
+        }
+        Ok(Told::All(size)) => {
+            *count = size;
+            DONE
+        }
+    }
+}
+
+/// As in `g1.h`.
+#[unsafe(no_mangle)]
+pub extern "C" fn g1_heap_refine(alloc: Global, heap: &mut HeapHandle) -> u32
+    ensures refined { result ≡ 0 → IsSameHeap heap.old.value heap.new.value (λ old new.
+        Refines old new) }
+    ensures why { 0 < result → IsRefusal result (IsHeapRefused heap.old.value (λ old r. ⊥)) }
+    ensures refused { 0 < result → heap.new.value ≡ heap.old.value }
+{
+    match replace_with(
+        heap,
+        (alloc, |heap: &mut PausedHeap| Ok(refine_at(heap))),
+        at_pause,
+    ) {
+        Err(refusal) => refusal.word(),
+        Ok(()) => DONE,
+    }
+}

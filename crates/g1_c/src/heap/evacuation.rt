@@ -1,0 +1,124 @@
+//! What follows an evacuation of a heap at a pause: references are moved or a remembered set is
+//! emptied, and a region is freed.
+ghost use Rattle.std.specs.Prelude.{◌≡◌, ◌≢◌, ◌⊎◌, ◌<◌};
+ghost use Rattle.g1_handles.specs.AtPause.{ClearsAt, Redirects, Wipes, Forgets, RefersOut};
+ghost use Rattle.g1_handles.specs.Codes.{IsRefusal};
+ghost use Rattle.g1_handles.specs.HeapCalls.{IsHeapRefused};
+ghost use Rattle.g1_handles.specs.Life.{IsSameHeap, OfPaused};
+ghost use Rattle.g1_handles.specs.Lacks.{LacksRegion};
+
+use core::mem::replace_with;
+use g1_core::ClearReply;
+use g1_handles::code::{DONE, Refusal};
+use g1_handles::heap::at_pause::{PausedHeap, at_pause};
+use g1_handles::heap::evacuation::{clear_at, forget_at, redirect_at, wipe_at};
+use g1_handles::heap::handle::HeapHandle;
+use std::alloc::Global;
+
+/// As in `g1.h`.
+#[unsafe(no_mangle)]
+pub extern "C" fn g1_heap_clear(
+    alloc: Global,
+    heap: &mut HeapHandle,
+    region: u32,
+    detail: &mut u32,
+) -> u32
+    ensures cleared { result ≡ 0 → IsSameHeap heap.old.value heap.new.value (λ old new.
+        ClearsAt old region ClearReply.Cleared new) }
+    ensures pending { result ≡ 19 → IsSameHeap heap.old.value heap.new.value (λ old new.
+        ClearsAt old region (ClearReply.Pending detail.new) new) }
+    ensures referenced { result ≡ 20 → IsSameHeap heap.old.value heap.new.value (λ old new.
+        ClearsAt old region (ClearReply.StillReferenced detail.new) new) }
+    ensures none { result ≢ 19 → result ≢ 20 → detail.new ≡ 0 }
+    ensures why { 0 < result → result ≢ 19 → result ≢ 20 → IsRefusal result
+        (IsHeapRefused heap.old.value (λ old. LacksRegion old.layout region)) }
+    ensures refused { 0 < result → heap.new.value ≡ heap.old.value }
+{
+    match replace_with(
+        heap,
+        (alloc, |heap: &mut PausedHeap| clear_at(heap, region)),
+        at_pause,
+    ) {
+        Err(refusal) => {
+            *detail = 0;
+            refusal.word()
+        }
+        Ok((word, number)) => {
+            *detail = number;
+            word
+        }
+    }
+}
+
+/// As in `g1.h`.
+#[unsafe(no_mangle)]
+pub extern "C" fn g1_heap_redirect(
+    alloc: Global,
+    heap: &mut HeapHandle,
+    from: u32,
+    to: u32,
+    moved: &mut u32,
+) -> u32
+    ensures redirected { result ≡ 0 → IsSameHeap heap.old.value heap.new.value (λ old new.
+        Redirects old from to moved.new new) }
+    ensures none { 0 < result → moved.new ≡ 0 }
+    ensures why { 0 < result → IsRefusal result (IsHeapRefused heap.old.value (λ old r.
+        LacksRegion old.layout from r ⊎ LacksRegion old.layout to r
+        ⊎ ((r ≡ Refusal.SameRegion) × (from ≡ to)))) }
+    ensures refused { 0 < result → heap.new.value ≡ heap.old.value }
+{
+    match replace_with(
+        heap,
+        (alloc, |heap: &mut PausedHeap| redirect_at(heap, from, to)),
+        at_pause,
+    ) {
+        Err(refusal) => {
+            *moved = 0;
+            refusal.word()
+        }
+        Ok(slots) => {
+            *moved = slots;
+            DONE
+        }
+    }
+}
+
+/// As in `g1.h`.
+#[unsafe(no_mangle)]
+pub extern "C" fn g1_heap_wipe(alloc: Global, heap: &mut HeapHandle, region: u32) -> u32
+    ensures wiped { result ≡ 0 → IsSameHeap heap.old.value heap.new.value (λ old new.
+        Wipes old region new) }
+    ensures answered { OfPaused heap.old.value (λ old. region < old.layout.regions) → result ≡ 0 }
+    ensures why { 0 < result → IsRefusal result
+        (IsHeapRefused heap.old.value (λ old. LacksRegion old.layout region)) }
+    ensures refused { 0 < result → heap.new.value ≡ heap.old.value }
+{
+    match replace_with(
+        heap,
+        (alloc, |heap: &mut PausedHeap| wipe_at(heap, region)),
+        at_pause,
+    ) {
+        Err(refusal) => refusal.word(),
+        Ok(()) => DONE,
+    }
+}
+
+/// As in `g1.h`.
+#[unsafe(no_mangle)]
+pub extern "C" fn g1_heap_forget(alloc: Global, heap: &mut HeapHandle, region: u32) -> u32
+    ensures forgotten { result ≡ 0 → IsSameHeap heap.old.value heap.new.value (λ old new.
+        Forgets old region new) }
+    ensures why { 0 < result → IsRefusal result (IsHeapRefused heap.old.value (λ old r.
+        LacksRegion old.layout region r
+        ⊎ ((r ≡ Refusal.StillReferenced) × RefersOut old region))) }
+    ensures refused { 0 < result → heap.new.value ≡ heap.old.value }
+{
+    match replace_with(
+        heap,
+        (alloc, |heap: &mut PausedHeap| forget_at(heap, region)),
+        at_pause,
+    ) {
+        Err(refusal) => refusal.word(),
+        Ok(()) => DONE,
+    }
+}

@@ -1,0 +1,127 @@
+//! The life of a heap whose stores race: it begins at a pause, goes on, pauses again, and ends at a
+//! pause.
+ghost use Rattle.std.specs.Prelude.{◌≡◌, ◌<◌, None, length};
+ghost use Rattle.std.specs.Arc.{arc_value};
+ghost use Rattle.g1_handles.specs.Codes.{layout_of, IsRefusal};
+ghost use Rattle.g1_handles.specs.Life.{OfPaused, OfRacing, IsFor, IsNewHeap, IsOpeningRefused};
+ghost use Rattle.g1_handles.specs.Life.{IsGoingRefused, IsPausedWith, IsPauseRefused, IsEndRefused};
+ghost use Rattle.g1_handles.specs.Life.{AreLikeOf, AreOfHeap, GoesOn, heap_race};
+ghost use Rattle.g1_handles.specs.Life.{heap_counts, held_counts, HasCountedNothing};
+ghost use Rattle.g1_handles.specs.Racing.{held_racers, held_sweepers, AreClosed};
+
+use g1_handles::code::DONE;
+use g1_handles::heap::handle::HeapHandle;
+use g1_handles::heap::open::{close_heap, open_heap};
+use g1_handles::heap::pause::pause_heap;
+use g1_handles::heap::resume::resume_heap;
+use g1_handles::member::racer_handle::RacerHandle;
+use g1_handles::member::sweeper_handle::SweeperHandle;
+use g1_handles::one_core::open::Counts;
+use std::alloc::Global;
+
+/// As in `g1.h`.
+#[unsafe(no_mangle)]
+pub extern "C" fn g1_heap_open(
+    alloc: Global,
+    heap: &mut HeapHandle,
+    counts: &Counts,
+    racers: u32,
+    sweepers: u32,
+) -> u32
+    ensures opened { result ≡ 0 →
+        OfPaused heap.new.value (IsNewHeap (layout_of counts.now) racers sweepers) }
+    ensures counts { result ≡ 0 → HasCountedNothing heap.new.value }
+    ensures closed { result ≡ 0 → heap.old.value ≡ None }
+    ensures why { 0 < result →
+        IsRefusal result (IsOpeningRefused heap.old.value (layout_of counts.now) racers sweepers) }
+    ensures refused { 0 < result → heap.new.value ≡ heap.old.value }
+{
+    match open_heap(alloc, heap, counts, racers, sweepers) {
+        Ok(()) => DONE,
+        Err(refusal) => refusal.word(),
+    }
+}
+
+/// As in `g1.h`.
+#[unsafe(no_mangle)]
+pub extern "C" fn g1_heap_resume(
+    alloc: Global,
+    heap: &mut HeapHandle,
+    racers: &mut [RacerHandle],
+    sweepers: &mut [SweeperHandle],
+) -> u32
+    ensures resumed { result ≡ 0 → OfPaused heap.old.value (λ p.
+        OfRacing heap.new.value (λ b.
+        GoesOn p (arc_value b.race) (held_racers racers.new) (held_sweepers sweepers.new))) }
+    ensures same { result ≡ 0 → heap_race heap.new.value ≡ heap_race heap.old.value }
+    ensures counts { result ≡ 0 → held_counts (held_racers racers.new) (held_sweepers sweepers.new)
+        ≡ heap_counts heap.old.value }
+    ensures members { result ≡ 0 → IsFor heap.old.value (length racers.old) (length sweepers.old)
+        × IsFor heap.new.value (length racers.old) (length sweepers.old) }
+    ensures closed { result ≡ 0 → AreClosed (held_racers racers.old)
+        × AreClosed (held_sweepers sweepers.old) }
+    ensures why { 0 < result →
+        IsRefusal result (IsGoingRefused heap.old.value (held_racers racers.old)
+        (held_sweepers sweepers.old)) }
+    ensures refused { 0 < result → (heap.new.value ≡ heap.old.value)
+        × (held_racers racers.new ≡ held_racers racers.old)
+        × (held_sweepers sweepers.new ≡ held_sweepers sweepers.old) }
+{
+    match resume_heap(alloc, heap, racers, sweepers) {
+        Ok(()) => DONE,
+        Err(refusal) => refusal.word(),
+    }
+}
+
+/// As in `g1.h`.
+///
+/// Members of other heaps are refused before anything changes, by counts of each race's owners. No
+/// proof knows what these counts say, so the condition `one` takes their place: members that are as
+/// many as the heap's are of its race. Nothing relies on the condition before the counts are taken.
+#[unsafe(no_mangle)]
+pub extern "C" fn g1_heap_pause(
+    alloc: Global,
+    heap: &mut HeapHandle,
+    racers: &mut [RacerHandle],
+    sweepers: &mut [SweeperHandle],
+) -> u32
+    requires one { IsFor heap.old.value (length racers.old) (length sweepers.old) →
+        AreLikeOf heap.old.value (held_racers racers.old) (held_sweepers sweepers.old) →
+        AreOfHeap heap.old.value (held_racers racers.old) (held_sweepers sweepers.old) }
+    ensures paused { result ≡ 0 → OfRacing heap.old.value (λ b. OfPaused heap.new.value
+        (IsPausedWith (arc_value b.race) (held_racers racers.old) (held_sweepers sweepers.old))) }
+    ensures same { result ≡ 0 → heap_race heap.new.value ≡ heap_race heap.old.value }
+    ensures counts { result ≡ 0 → heap_counts heap.new.value
+        ≡ held_counts (held_racers racers.old) (held_sweepers sweepers.old) }
+    ensures members { result ≡ 0 → IsFor heap.old.value (length racers.old) (length sweepers.old)
+        × IsFor heap.new.value (length racers.old) (length sweepers.old) }
+    ensures like { result ≡ 0 →
+        AreLikeOf heap.old.value (held_racers racers.old) (held_sweepers sweepers.old) }
+    ensures closed { result ≡ 0 → AreClosed (held_racers racers.new)
+        × AreClosed (held_sweepers sweepers.new) }
+    ensures why { 0 < result →
+        IsRefusal result (IsPauseRefused heap.old.value (held_racers racers.old)
+        (held_sweepers sweepers.old)) }
+    ensures refused { 0 < result → (heap.new.value ≡ heap.old.value)
+        × (held_racers racers.new ≡ held_racers racers.old)
+        × (held_sweepers sweepers.new ≡ held_sweepers sweepers.old) }
+{
+    match pause_heap(alloc, heap, racers, sweepers) {
+        Ok(()) => DONE,
+        Err(refusal) => refusal.word(),
+    }
+}
+
+/// As in `g1.h`.
+#[unsafe(no_mangle)]
+pub extern "C" fn g1_heap_close(alloc: Global, heap: &mut HeapHandle) -> u32
+    ensures closed { result ≡ 0 → heap.new.value ≡ None }
+    ensures paused { result ≡ 0 → OfPaused heap.old.value (λ p. Unit {0}) }
+    ensures why { 0 < result → IsRefusal result (IsEndRefused heap.old.value) }
+    ensures refused { 0 < result → heap.new.value ≡ heap.old.value }
+{
+    match close_heap(alloc, heap) {
+        Ok(()) => DONE,
+        Err(refusal) => refusal.word(),
+    }
+}

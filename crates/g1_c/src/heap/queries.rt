@@ -1,0 +1,187 @@
+//! Queries on a heap at a pause: what a slot refers to, whether a card is pending, how much is
+//! pending and recorded, and what is recorded for a region.
+ghost use Rattle.std.specs.Prelude.{◌≡◌, ◌≢◌, ◌<◌, ◌≤◌, ◌==◌, take};
+ghost use Rattle.g1_race.specs.Over.{halted};
+ghost use Rattle.g1_race.specs.Reading.{IsNextMember};
+ghost use Rattle.g1_handles.specs.AtPause.{SlotRefers, TellsPending, TellsStatus, TellsMembers};
+ghost use Rattle.g1_handles.specs.Arrays.{IsWritten};
+ghost use Rattle.g1_handles.specs.Codes.{IsRefusal, reference_of};
+ghost use Rattle.g1_handles.specs.HeapCalls.{IsHeapRefused};
+ghost use Rattle.g1_handles.specs.Life.{IsSameHeap};
+ghost use Rattle.g1_handles.specs.Sets.{HasFirst};
+ghost use Rattle.g1_handles.specs.Lacks.{LacksCard, LacksRegion, LacksSlot};
+
+use crate::one_core::queries::Totals;
+use core::mem::replace_with;
+use g1_handles::code::{DONE, NULL, Refusal};
+use g1_handles::heap::at_pause::{PausedHeap, at_pause};
+use g1_handles::heap::handle::HeapHandle;
+use g1_handles::heap::queries::{is_pending_at, next_member_at, status_at, target_at};
+use g1_handles::heap::sets::{Told, Which, set_of_heap};
+use std::alloc::Global;
+
+/// As in `g1.h`.
+#[unsafe(no_mangle)]
+pub extern "C" fn g1_heap_target(
+    alloc: Global,
+    heap: &mut HeapHandle,
+    slot: u32,
+    target: &mut u32,
+) -> u32
+    ensures target { result ≡ 0 → IsSameHeap heap.old.value heap.new.value (λ old new.
+        SlotRefers old slot (reference_of target.new)) }
+    ensures null { 0 < result → target.new ≡ 4294967295 }
+    ensures why { 0 < result → IsRefusal result
+        (IsHeapRefused heap.old.value (λ old. LacksSlot old.layout slot)) }
+    ensures same { heap.new.value ≡ heap.old.value }
+{
+    match replace_with(
+        heap,
+        (alloc, |heap: &mut PausedHeap| target_at(heap, slot)),
+        at_pause,
+    ) {
+        Err(refusal) => {
+            *target = NULL;
+            refusal.word()
+        }
+        Ok(word) => {
+            *target = word;
+            DONE
+        }
+    }
+}
+
+/// As in `g1.h`.
+#[unsafe(no_mangle)]
+pub extern "C" fn g1_heap_is_pending(
+    alloc: Global,
+    heap: &mut HeapHandle,
+    card: u32,
+    pending: &mut u32,
+) -> u32
+    ensures pending { result ≡ 0 → IsSameHeap heap.old.value heap.new.value (λ old new.
+        TellsPending old card (pending.new == 1)) }
+    ensures word { pending.new ≤ 1 }
+    ensures none { 0 < result → pending.new ≡ 0 }
+    ensures why { 0 < result → IsRefusal result
+        (IsHeapRefused heap.old.value (λ old. LacksCard old.layout card)) }
+    ensures same { heap.new.value ≡ heap.old.value }
+{
+    match replace_with(
+        heap,
+        (alloc, |heap: &mut PausedHeap| is_pending_at(heap, card)),
+        at_pause,
+    ) {
+        Err(refusal) => {
+            *pending = 0;
+            refusal.word()
+        }
+        Ok(answer) => {
+            *pending = answer as u32;
+            DONE
+        }
+    }
+}
+
+/// As in `g1.h`.
+#[unsafe(no_mangle)]
+pub extern "C" fn g1_heap_status(alloc: Global, heap: &mut HeapHandle, totals: &mut Totals) -> u32
+    ensures status { result ≡ 0 → IsSameHeap heap.old.value heap.new.value (λ old new.
+        TellsStatus old (record {
+          pending = totals.new.pending;
+          recorded = totals.new.recorded;
+        })) }
+    ensures none { 0 < result → (totals.new.pending ≡ 0) × (totals.new.recorded ≡ 0) }
+    ensures why { 0 < result → IsRefusal result (IsHeapRefused heap.old.value (λ old r. ⊥)) }
+    ensures same { heap.new.value ≡ heap.old.value }
+{
+    match replace_with(
+        heap,
+        (alloc, |heap: &mut PausedHeap| Ok(status_at(heap))),
+        at_pause,
+    ) {
+        Err(refusal) => {
+            *totals = Totals {
+                pending: 0,
+                recorded: 0,
+            };
+            refusal.word()
+        }
+        Ok(status) => {
+            *totals = Totals {
+                pending: status.pending,
+                recorded: status.recorded,
+            };
+            DONE
+        }
+    }
+}
+
+/// As in `g1.h`.
+#[unsafe(no_mangle)]
+pub extern "C" fn g1_heap_members(
+    alloc: Global,
+    heap: &mut HeapHandle,
+    region: u32,
+    cards: &mut [u32],
+    count: &mut u32,
+) -> u32
+    ensures members { result ≡ 0 → IsSameHeap heap.old.value heap.new.value (λ old new.
+        TellsMembers old region (take count.new cards.new)) }
+    ensures room { result ≡ 16 → IsSameHeap heap.old.value heap.new.value (λ old new.
+        HasFirst (TellsMembers old region) cards.new count.new) }
+    ensures why { 0 < result → result ≢ 16 → IsRefusal result
+        (IsHeapRefused heap.old.value (λ old. LacksRegion old.layout region)) }
+    ensures none { result ≢ 0 → result ≢ 16 → count.new ≡ 0 }
+    ensures written { result ≡ 0 → IsWritten cards.old count.new cards.new }
+    ensures unwritten { 0 < result → result ≢ 16 → cards.new ≡ cards.old }
+    ensures same { heap.new.value ≡ heap.old.value }
+{
+    *count = 0;
+    match set_of_heap(alloc, heap, Which::Recorded, region, cards) {
+        Err(refusal) => refusal.word(),
+        Ok(Told::First(size)) => {
+            *count = size;
+            Refusal::NoRoom.word()
+        }
+        Ok(Told::All(size)) => {
+            *count = size;
+            DONE
+        }
+    }
+}
+
+/// As in `g1.h`.
+#[unsafe(no_mangle)]
+pub extern "C" fn g1_heap_next_member(
+    alloc: Global,
+    heap: &mut HeapHandle,
+    region: u32,
+    from: u32,
+    card: &mut u32,
+) -> u32
+    ensures next { result ≡ 0 → IsSameHeap heap.old.value heap.new.value (λ old new.
+        IsNextMember (halted old) region from (reference_of card.new)) }
+    ensures null { 0 < result → card.new ≡ 4294967295 }
+    ensures why { 0 < result → IsRefusal result
+        (IsHeapRefused heap.old.value (λ old. LacksRegion old.layout region)) }
+    ensures same { heap.new.value ≡ heap.old.value }
+{
+    match replace_with(
+        heap,
+        (
+            alloc,
+            |heap: &mut PausedHeap| next_member_at(heap, region, from),
+        ),
+        at_pause,
+    ) {
+        Err(refusal) => {
+            *card = NULL;
+            refusal.word()
+        }
+        Ok(word) => {
+            *card = word;
+            DONE
+        }
+    }
+}

@@ -1,0 +1,67 @@
+//! Several threads read a heap at a pause: how that begins and ends.
+ghost use Rattle.std.specs.Prelude.{◌≡◌, ◌<◌, length};
+ghost use Rattle.g1_handles.specs.Codes.{IsRefusal};
+ghost use Rattle.g1_handles.specs.Life.{OfHeap, OfPaused};
+ghost use Rattle.g1_handles.specs.Racing.{held_readers, AreClosed};
+ghost use Rattle.g1_handles.specs.Readers.{AreReadersAt, AreReadersOf, AreReadersLike, IsLentHeap};
+ghost use Rattle.g1_handles.specs.Readers.{IsReadBy, IsReadRefused, IsReadEndRefused};
+
+use g1_handles::code::DONE;
+use g1_handles::heap::handle::HeapHandle;
+use g1_handles::heap::reading::read_heap;
+use g1_handles::heap::reading_end::end_read_of_heap;
+use g1_handles::member::reader_handle::ReaderHandle;
+use std::alloc::Global;
+
+/// As in `g1.h`.
+#[unsafe(no_mangle)]
+pub extern "C" fn g1_heap_read(
+    alloc: Global,
+    heap: &mut HeapHandle,
+    readers: &mut [ReaderHandle],
+) -> u32
+    ensures lent { result ≡ 0 → IsLentHeap heap.old.value heap.new.value }
+    ensures readers { result ≡ 0 → OfPaused heap.old.value (λ p. OfHeap heap.old.value (λ race.
+        AreReadersAt race p (held_readers readers.new))) }
+    ensures count { result ≡ 0 → IsReadBy heap.new.value (length readers.old) }
+    ensures closed { result ≡ 0 → AreClosed (held_readers readers.old) }
+    ensures why { 0 < result →
+        IsRefusal result (IsReadRefused heap.old.value (held_readers readers.old)) }
+    ensures refused { 0 < result → (heap.new.value ≡ heap.old.value)
+        × (held_readers readers.new ≡ held_readers readers.old) }
+{
+    match read_heap(alloc, heap, readers) {
+        Ok(()) => DONE,
+        Err(refusal) => refusal.word(),
+    }
+}
+
+/// As in `g1.h`.
+///
+/// Readers of other heaps are refused before anything changes, by counts of each race's owners. No
+/// proof knows what these counts say, so the condition `one` takes their place: readers that are as
+/// many as read the heap are those that read it. Nothing relies on the condition before the counts
+/// are taken.
+#[unsafe(no_mangle)]
+pub extern "C" fn g1_heap_read_end(
+    alloc: Global,
+    heap: &mut HeapHandle,
+    readers: &mut [ReaderHandle],
+) -> u32
+    requires one { IsReadBy heap.old.value (length readers.old) →
+        AreReadersLike heap.old.value (held_readers readers.old) →
+        AreReadersOf heap.old.value (held_readers readers.old) }
+    ensures ended { result ≡ 0 → IsLentHeap heap.new.value heap.old.value }
+    ensures count { result ≡ 0 → IsReadBy heap.old.value (length readers.old) }
+    ensures like { result ≡ 0 → AreReadersLike heap.old.value (held_readers readers.old) }
+    ensures closed { result ≡ 0 → AreClosed (held_readers readers.new) }
+    ensures why { 0 < result →
+        IsRefusal result (IsReadEndRefused heap.old.value (held_readers readers.old)) }
+    ensures refused { 0 < result → (heap.new.value ≡ heap.old.value)
+        × (held_readers readers.new ≡ held_readers readers.old) }
+{
+    match end_read_of_heap(alloc, heap, readers) {
+        Ok(()) => DONE,
+        Err(refusal) => refusal.word(),
+    }
+}

@@ -1,0 +1,85 @@
+//! The collector's own stores into a heap at a pause.
+ghost use Rattle.std.specs.Prelude.{◌≡◌, ◌⊎◌, ◌<◌, ◌≤◌, length, take};
+ghost use Rattle.g1_handles.specs.AtPause.{StoresAt, StoresAllAt};
+ghost use Rattle.g1_handles.specs.Batch.{IsFaultAt};
+ghost use Rattle.g1_handles.specs.Codes.{IsRefusal, OfKind, reference_of};
+ghost use Rattle.g1_handles.specs.HeapCalls.{IsHeapRefused};
+ghost use Rattle.g1_handles.specs.Life.{IsSameHeap, OfPaused};
+ghost use Rattle.g1_handles.specs.Lacks.{LacksPlace};
+
+use core::mem::replace_with;
+use g1_handles::code::{DONE, STOPPED, kind_word};
+use g1_handles::heap::at_pause::{PausedHeap, at_pause};
+use g1_handles::heap::handle::HeapHandle;
+use g1_handles::heap::stores::{store_all_at, store_at};
+use g1_handles::one_core::batch::Store;
+use std::alloc::Global;
+
+/// As in `g1.h`.
+#[unsafe(no_mangle)]
+pub extern "C" fn g1_heap_store(
+    alloc: Global,
+    heap: &mut HeapHandle,
+    slot: u32,
+    target: u32,
+    kind: &mut u32,
+) -> u32
+    ensures stored { result ≡ 0 → IsSameHeap heap.old.value heap.new.value (λ old new.
+        OfKind kind.new (λ k. StoresAt old slot (reference_of target) k new)) }
+    ensures none { 0 < result → kind.new ≡ 0 }
+    ensures why { 0 < result → IsRefusal result (IsHeapRefused heap.old.value (λ old.
+        LacksPlace old.layout slot target)) }
+    ensures refused { 0 < result → heap.new.value ≡ heap.old.value }
+{
+    match replace_with(
+        heap,
+        (alloc, |heap: &mut PausedHeap| store_at(heap, slot, target)),
+        at_pause,
+    ) {
+        Err(refusal) => {
+            *kind = 0;
+            refusal.word()
+        }
+        Ok(stored) => {
+            *kind = kind_word(stored);
+            DONE
+        }
+    }
+}
+
+/// As in `g1.h`.
+#[unsafe(no_mangle)]
+pub extern "C" fn g1_heap_store_all(
+    alloc: Global,
+    heap: &mut HeapHandle,
+    stores: &[Store],
+    stored: &mut usize,
+) -> u32
+    ensures stored { result ≤ 3 → IsSameHeap heap.old.value heap.new.value (λ old new.
+        StoresAllAt old (take stored.new stores.now) new) }
+    ensures whole { result ≡ 0 → stored.new ≡ length stores.now }
+    ensures stopped { result ≡ 3 → OfPaused heap.old.value (λ old.
+        IsFaultAt old.layout stores.now stored.new) }
+    ensures done { result ≤ 3 → (result ≡ 0) ⊎ (result ≡ 3) }
+    ensures none { 3 < result → stored.new ≡ 0 }
+    ensures why { 3 < result → IsRefusal result (IsHeapRefused heap.old.value (λ old r. ⊥)) }
+    ensures refused { 3 < result → heap.new.value ≡ heap.old.value }
+{
+    match replace_with(
+        heap,
+        (
+            alloc,
+            |heap: &mut PausedHeap| Ok(store_all_at(heap, stores)),
+        ),
+        at_pause,
+    ) {
+        Err(refusal) => {
+            *stored = 0;
+            refusal.word()
+        }
+        Ok(count) => {
+            *stored = count;
+            if count == stores.len() { DONE } else { STOPPED }
+        }
+    }
+}

@@ -1,0 +1,56 @@
+//! Checks of a heap at a pause, for a debug build.
+ghost use Rattle.std.specs.Prelude.{◌≡◌, ◌+◌, ◌<◌, ◌≤◌, length};
+ghost use Rattle.g1_layout.specs.Shape.{slot_count};
+ghost use Rattle.g1_handles.specs.Codes.{IsRefusal};
+ghost use Rattle.g1_handles.specs.HeapCalls.{IsHeapRefused};
+ghost use Rattle.g1_handles.specs.Life.{IsSameHeap, OfPaused};
+ghost use Rattle.g1_handles.specs.Verifying.{FindsAt};
+ghost use Rattle.g1_handles.specs.Lacks.{LacksRanges};
+
+use core::mem::replace_with;
+use g1_handles::code::{DONE, NULL};
+use g1_handles::heap::at_pause::{PausedHeap, at_pause};
+use g1_handles::heap::handle::HeapHandle;
+use g1_handles::heap::verify::verify_at;
+use std::alloc::Global;
+
+/// As in `g1.h`.
+#[unsafe(no_mangle)]
+pub extern "C" fn g1_heap_verify(
+    alloc: Global,
+    heap: &mut HeapHandle,
+    first: u32,
+    count: u32,
+    references: &[u32],
+    differing: &mut u32,
+    missing: &mut u32,
+) -> u32
+    ensures found { result ≡ 0 → IsSameHeap heap.old.value heap.new.value (λ old new.
+        FindsAt old first count references.now differing.new missing.new) }
+    ensures answered { OfPaused heap.old.value (λ old. (first + count ≤ slot_count old.layout)
+        × (first + length references.now ≤ slot_count old.layout)) → result ≡ 0 }
+    ensures none { 0 < result → (differing.new ≡ 4294967295) × (missing.new ≡ 4294967295) }
+    ensures why { 0 < result → IsRefusal result (IsHeapRefused heap.old.value (λ old.
+        LacksRanges old.layout first count first (length references.now))) }
+    ensures same { heap.new.value ≡ heap.old.value }
+{
+    match replace_with(
+        heap,
+        (
+            alloc,
+            |heap: &mut PausedHeap| verify_at(heap, first, count, references),
+        ),
+        at_pause,
+    ) {
+        Err(refusal) => {
+            *differing = NULL;
+            *missing = NULL;
+            refusal.word()
+        }
+        Ok(found) => {
+            *differing = found.differing;
+            *missing = found.missing;
+            DONE
+        }
+    }
+}

@@ -1,0 +1,95 @@
+//! The words of a heap: where they lie, and, at a pause, what a slot's is and a store of data.
+ghost use Rattle.std.specs.Prelude.{◌≡◌, ◌⊎◌, ◌<◌, ◌^◌};
+ghost use Rattle.g1_race.specs.Members.{race_words};
+ghost use Rattle.g1_handles.specs.AtPause.{HasWord, StoresDataAt};
+ghost use Rattle.g1_handles.specs.Codes.{IsRefusal};
+ghost use Rattle.g1_handles.specs.HeapCalls.{IsHeapRefused};
+ghost use Rattle.g1_handles.specs.Life.{IsSameHeap, OfHeap, SaysNoHeap};
+ghost use denote.RawPtr.{null_ptr};
+ghost use Rattle.g1_handles.specs.Lacks.{LacksSlot};
+
+use core::mem::replace_with;
+use g1_handles::code::{DONE, Refusal};
+use g1_handles::heap::at_pause::{PausedHeap, at_pause};
+use g1_handles::heap::handle::HeapHandle;
+use g1_handles::heap::words::{store_data_at, word_at, words_in};
+use std::alloc::Global;
+use std::ptr::null;
+
+/// As in `g1.h`.
+#[unsafe(no_mangle)]
+pub extern "C" fn g1_heap_words(alloc: Global, heap: &mut HeapHandle, words: &mut *const u64) -> u32
+    ensures words { result ≡ 0 → OfHeap heap.old.value (λ race. words.new ≡ race_words race) }
+    ensures none { 0 < result → words.new ≡ null_ptr }
+    ensures why { 0 < result → IsRefusal result (SaysNoHeap heap.old.value) }
+    ensures same { heap.new.value ≡ heap.old.value }
+{
+    match replace_with(heap, alloc, words_in) {
+        Err(refusal) => {
+            *words = null();
+            refusal.word()
+        }
+        Ok(found) => {
+            *words = found;
+            DONE
+        }
+    }
+}
+
+/// As in `g1.h`.
+#[unsafe(no_mangle)]
+pub extern "C" fn g1_heap_word(
+    alloc: Global,
+    heap: &mut HeapHandle,
+    slot: u32,
+    word: &mut u64,
+) -> u32
+    ensures word { result ≡ 0 → IsSameHeap heap.old.value heap.new.value (λ old new.
+        HasWord old slot word.new) }
+    ensures none { 0 < result → word.new ≡ 0 }
+    ensures why { 0 < result → IsRefusal result
+        (IsHeapRefused heap.old.value (λ old. LacksSlot old.layout slot)) }
+    ensures same { heap.new.value ≡ heap.old.value }
+{
+    match replace_with(
+        heap,
+        (alloc, |heap: &mut PausedHeap| word_at(heap, slot)),
+        at_pause,
+    ) {
+        Err(refusal) => {
+            *word = 0;
+            refusal.word()
+        }
+        Ok(found) => {
+            *word = found;
+            DONE
+        }
+    }
+}
+
+/// As in `g1.h`.
+#[unsafe(no_mangle)]
+pub extern "C" fn g1_heap_store_data(
+    alloc: Global,
+    heap: &mut HeapHandle,
+    slot: u32,
+    word: u64,
+) -> u32
+    ensures stored { result ≡ 0 → IsSameHeap heap.old.value heap.new.value (λ old new.
+        StoresDataAt old slot word new) }
+    ensures why { 0 < result → IsRefusal result (IsHeapRefused heap.old.value (λ old r.
+        LacksSlot old.layout slot r ⊎ ((r ≡ Refusal.BadWord) × (word < 2 ^ 32)))) }
+    ensures refused { 0 < result → heap.new.value ≡ heap.old.value }
+{
+    match replace_with(
+        heap,
+        (
+            alloc,
+            |heap: &mut PausedHeap| store_data_at(heap, slot, word),
+        ),
+        at_pause,
+    ) {
+        Err(refusal) => refusal.word(),
+        Ok(()) => DONE,
+    }
+}

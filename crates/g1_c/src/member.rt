@@ -1,0 +1,18 @@
+//! The calls of a racer, a sweeper or a reader.
+//!
+//! - [`store`], [`log`] and [`refine`] are the path of a card in a race.
+//! - [`exchange`] has the stores that tell what a slot referred to or depend on it, [`batch`]
+//!   several stores by one call, [`data`] a store of data, and [`words`] the stores of any word
+//!   that return or compare the one before.
+//! - [`counts`] tells what a racer and a sweeper have done.
+//! - [`reader_queries`] has the calls of a reader at a pause.
+
+pub mod batch;
+pub mod counts;
+pub mod data;
+pub mod exchange;
+pub mod log;
+pub mod reader_queries;
+pub mod refine;
+pub mod store;
+pub mod words;

@@ -1,0 +1,63 @@
+//! Several stores in a race by one call.
+ghost use Rattle.std.specs.Prelude.{◌≡◌, ◌⊎◌, ◌<◌, ◌≤◌, length, take};
+ghost use Rattle.arrayvec.specs.ArrayVec.{array_vec_len};
+ghost use Rattle.g1_race.specs.Members.{race_layout};
+ghost use Rattle.g1_handles.specs.Batch.{IsFaultAt};
+ghost use Rattle.g1_handles.specs.Codes.{IsRefusal};
+ghost use Rattle.g1_handles.specs.RaceStores.{StoresAll, CanStoreAll};
+ghost use Rattle.g1_handles.specs.Racing.{OfRacer, IfRacer, racer_race_of};
+ghost use Rattle.g1_handles.specs.Refusals.{SaysNoMember};
+
+use core::mem::replace_with;
+use g1_handles::any_handle::visit;
+use g1_handles::code::{DONE, FULL, STOPPED};
+use g1_handles::member::Member;
+use g1_handles::member::batch::{BatchEnd, store_all_by};
+use g1_handles::member::racer_handle::RacerHandle;
+use g1_handles::one_core::batch::Store;
+use g1_race::Racer;
+use std::alloc::Global;
+
+/// As in `g1.h`.
+#[unsafe(no_mangle)]
+pub extern "C" fn g1_race_store_all(
+    alloc: Global,
+    racer: &mut RacerHandle,
+    stores: &[Store],
+    stored: &mut usize,
+) -> u32
+    ensures stored { result ≤ 4 → OfRacer racer.old.value (λ a.
+        OfRacer racer.new.value (λ b. StoresAll a (take stored.new stores.now) b)) }
+    ensures whole { result ≡ 0 → stored.new ≡ length stores.now }
+    ensures stopped { result ≡ 3 → OfRacer racer.old.value (λ a.
+        IsFaultAt (race_layout (racer_race_of a)) stores.now stored.new) }
+    ensures full { result ≡ 4 → (stored.new < length stores.now)
+        × OfRacer racer.new.value (λ b. 256 ≤ array_vec_len b.racer.log) }
+    ensures done { result ≤ 4 → (result ≡ 0) ⊎ (result ≡ 3) ⊎ (result ≡ 4) }
+    ensures taken { IfRacer racer.old.value (λ a. CanStoreAll a stores.now → result ≡ 0) }
+    ensures none { 4 < result → stored.new ≡ 0 }
+    ensures why { 4 < result → IsRefusal result (SaysNoMember racer.old.value) }
+    ensures refused { 4 < result → racer.new.value ≡ racer.old.value }
+{
+    match replace_with(
+        racer,
+        (
+            alloc,
+            |racer: &mut Member<Racer>| store_all_by(racer, stores),
+        ),
+        visit,
+    ) {
+        Err(refusal) => {
+            *stored = 0;
+            refusal.word()
+        }
+        Ok(answer) => {
+            *stored = answer.count;
+            match answer.end {
+                BatchEnd::Whole => DONE,
+                BatchEnd::Stopped => STOPPED,
+                BatchEnd::Full => FULL,
+            }
+        }
+    }
+}

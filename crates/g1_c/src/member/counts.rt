@@ -1,0 +1,95 @@
+//! What a racer and a sweeper have done.
+ghost use Rattle.std.specs.Prelude.{◌≡◌, ◌<◌};
+ghost use Rattle.g1_handles.specs.Counting.{stored_of};
+ghost use Rattle.g1_handles.specs.Racing.{OfRacer, OfSweeper};
+ghost use Rattle.g1_handles.specs.Codes.{IsRefusal};
+ghost use Rattle.g1_handles.specs.Refusals.{SaysNoMember};
+
+use core::mem::replace_with;
+use g1_handles::any_handle::visit;
+use g1_handles::code::DONE;
+use g1_handles::member::Member;
+use g1_handles::member::counts::{store_counts_of, sweep_counts_of};
+use g1_handles::member::racer_handle::RacerHandle;
+use g1_handles::member::sweeper_handle::SweeperHandle;
+use g1_layout::Kind;
+use g1_race::{Racer, Sweeper};
+use std::alloc::Global;
+
+/// As in `g1.h`.
+#[unsafe(no_mangle)]
+pub extern "C" fn g1_racer_counts(
+    alloc: Global,
+    racer: &mut RacerHandle,
+    null: &mut u64,
+    same_region: &mut u64,
+    already_dirty: &mut u64,
+    logged: &mut u64,
+) -> u32
+    ensures counts { result ≡ 0 → OfRacer racer.old.value (λ a.
+        (null.new ≡ stored_of a.counts Kind.Null)
+        × (same_region.new ≡ stored_of a.counts Kind.SameRegion)
+        × (already_dirty.new ≡ stored_of a.counts Kind.AlreadyDirty)
+        × (logged.new ≡ stored_of a.counts Kind.Logged)) }
+    ensures none { 0 < result → (null.new ≡ 0) × (same_region.new ≡ 0) × (already_dirty.new ≡ 0)
+        × (logged.new ≡ 0) }
+    ensures why { 0 < result → IsRefusal result (SaysNoMember racer.old.value) }
+    ensures same { racer.new.value ≡ racer.old.value }
+{
+    match replace_with(
+        racer,
+        (alloc, |racer: &mut Member<Racer>| store_counts_of(racer)),
+        visit,
+    ) {
+        Err(refusal) => {
+            *null = 0;
+            *same_region = 0;
+            *already_dirty = 0;
+            *logged = 0;
+            refusal.word()
+        }
+        Ok(counts) => {
+            [*null, *same_region, *already_dirty, *logged] = counts.by_kind;
+            DONE
+        }
+    }
+}
+
+/// As in `g1.h`.
+#[unsafe(no_mangle)]
+pub extern "C" fn g1_sweeper_counts(
+    alloc: Global,
+    sweeper: &mut SweeperHandle,
+    refined: &mut u64,
+    cleaned: &mut u64,
+    references: &mut u64,
+) -> u32
+    ensures counts { result ≡ 0 → OfSweeper sweeper.old.value (λ a.
+        (refined.new ≡ a.counts.refined) × (cleaned.new ≡ a.counts.cleaned)
+        × (references.new ≡ a.counts.references)) }
+    ensures none { 0 < result → (refined.new ≡ 0) × (cleaned.new ≡ 0) × (references.new ≡ 0) }
+    ensures why { 0 < result → IsRefusal result (SaysNoMember sweeper.old.value) }
+    ensures same { sweeper.new.value ≡ sweeper.old.value }
+{
+    match replace_with(
+        sweeper,
+        (
+            alloc,
+            |sweeper: &mut Member<Sweeper>| sweep_counts_of(sweeper),
+        ),
+        visit,
+    ) {
+        Err(refusal) => {
+            *refined = 0;
+            *cleaned = 0;
+            *references = 0;
+            refusal.word()
+        }
+        Ok(counts) => {
+            *refined = counts.refined;
+            *cleaned = counts.cleaned;
+            *references = counts.references;
+            DONE
+        }
+    }
+}

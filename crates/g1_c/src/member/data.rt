@@ -1,0 +1,52 @@
+//! Stores of data in a race.
+ghost use Rattle.std.specs.Prelude.{◌≡◌, ◌<◌, ◌≤◌, ◌^◌};
+ghost use Rattle.g1_layout.specs.Shape.{slot_count};
+ghost use Rattle.g1_race.specs.Members.{race_layout};
+ghost use Rattle.g1_handles.specs.Codes.{IsRefusal};
+ghost use Rattle.g1_handles.specs.Racing.{OfRacer, IfRacer, StoresData, racer_race_of};
+ghost use Rattle.g1_handles.specs.Refusals.{IsRaceDataRefused};
+
+use core::mem::replace_with;
+use g1_handles::any_handle::visit;
+use g1_handles::code::DONE;
+use g1_handles::member::Member;
+use g1_handles::member::data::store_data_by;
+use g1_handles::member::racer_handle::RacerHandle;
+use g1_race::Racer;
+use std::alloc::Global;
+
+/// As in `g1.h`.
+#[unsafe(no_mangle)]
+pub extern "C" fn g1_race_store_data(
+    alloc: Global,
+    racer: &mut RacerHandle,
+    slot: u32,
+    word: u64,
+    old: &mut u64,
+) -> u32
+    ensures stored { result ≡ 0 → OfRacer racer.old.value (λ a.
+        OfRacer racer.new.value (λ b. StoresData a slot word old.new b)) }
+    ensures taken { IfRacer racer.old.value (λ a. slot < slot_count (race_layout (racer_race_of a))
+        → 2 ^ 32 ≤ word → result ≡ 0) }
+    ensures none { 0 < result → old.new ≡ 0 }
+    ensures why { 0 < result → IsRefusal result (IsRaceDataRefused racer.old.value slot word) }
+    ensures refused { 0 < result → racer.new.value ≡ racer.old.value }
+{
+    match replace_with(
+        racer,
+        (
+            alloc,
+            |racer: &mut Member<Racer>| store_data_by(racer, slot, word),
+        ),
+        visit,
+    ) {
+        Err(refusal) => {
+            *old = 0;
+            refusal.word()
+        }
+        Ok(found) => {
+            *old = found;
+            DONE
+        }
+    }
+}

@@ -1,0 +1,111 @@
+//! Stores in a race that tell what the slot referred to before, or depend on it.
+ghost use Rattle.std.specs.Prelude.{◌≡◌, ◌⊎◌, ◌<◌, ◌≤◌};
+ghost use Rattle.arrayvec.specs.ArrayVec.{array_vec_len};
+ghost use Rattle.g1_race.specs.Members.{race_layout};
+ghost use Rattle.g1_handles.specs.Codes.{IsRefusal, IsStoreOf, OfKind, reference_of};
+ghost use Rattle.g1_handles.specs.RaceStores.{Swaps, Exchanges, FindsOther};
+ghost use Rattle.g1_handles.specs.Racing.{OfRacer, IfRacer, racer_race_of};
+ghost use Rattle.g1_handles.specs.Refusals.{IsRaceStoreRefused, IsRaceExchangeRefused};
+
+use core::mem::replace_with;
+use g1_handles::any_handle::visit;
+use g1_handles::code::{DIFFERS, DONE, NULL, kind_word};
+use g1_handles::member::Member;
+use g1_handles::member::exchange::{Exchange, compare_exchange_by, swap_by};
+use g1_handles::member::racer_handle::RacerHandle;
+use g1_race::Racer;
+use std::alloc::Global;
+
+/// As in `g1.h`.
+#[unsafe(no_mangle)]
+pub extern "C" fn g1_race_swap(
+    alloc: Global,
+    racer: &mut RacerHandle,
+    slot: u32,
+    target: u32,
+    old: &mut u32,
+    kind: &mut u32,
+) -> u32
+    ensures swapped { result ≡ 0 → OfRacer racer.old.value (λ a.
+        OfRacer racer.new.value (λ b. OfKind kind.new (λ k.
+        Swaps a slot (reference_of target) (reference_of old.new) k b))) }
+    ensures taken { IfRacer racer.old.value (λ a. array_vec_len a.racer.log < 256
+        → IsStoreOf (race_layout (racer_race_of a)) slot target → result ≡ 0) }
+    ensures none { 0 < result → (old.new ≡ 4294967295) × (kind.new ≡ 0) }
+    ensures why { 0 < result →
+        IsRefusal result (IsRaceStoreRefused racer.old.value slot target) }
+    ensures refused { 0 < result → racer.new.value ≡ racer.old.value }
+{
+    match replace_with(
+        racer,
+        (
+            alloc,
+            |racer: &mut Member<Racer>| swap_by(racer, slot, target),
+        ),
+        visit,
+    ) {
+        Err(refusal) => {
+            *old = NULL;
+            *kind = 0;
+            refusal.word()
+        }
+        Ok(swapped) => {
+            *old = swapped.old;
+            *kind = kind_word(swapped.kind);
+            DONE
+        }
+    }
+}
+
+/// As in `g1.h`.
+#[unsafe(no_mangle)]
+pub extern "C" fn g1_race_compare_exchange(
+    alloc: Global,
+    racer: &mut RacerHandle,
+    slot: u32,
+    expected: u32,
+    target: u32,
+    found: &mut u32,
+    kind: &mut u32,
+) -> u32
+    ensures stored { result ≡ 0 → OfRacer racer.old.value (λ a.
+        OfRacer racer.new.value (λ b. OfKind kind.new (λ k.
+        Exchanges a slot (reference_of expected) (reference_of target) k b))) }
+    ensures found { result ≡ 0 → found.new ≡ expected }
+    ensures differs { result ≡ 2 → OfRacer racer.old.value (λ a.
+        OfRacer racer.new.value (λ b.
+        FindsOther a slot (reference_of expected) (reference_of found.new) b)) }
+    ensures done { result ≤ 2 → (result ≡ 0) ⊎ (result ≡ 2) }
+    ensures taken { IfRacer racer.old.value (λ a. array_vec_len a.racer.log < 256
+        → IsStoreOf (race_layout (racer_race_of a)) slot expected
+        → IsStoreOf (race_layout (racer_race_of a)) slot target → result ≤ 2) }
+    ensures none { 0 < result → kind.new ≡ 0 }
+    ensures null { 2 < result → found.new ≡ 4294967295 }
+    ensures why { 2 < result →
+        IsRefusal result (IsRaceExchangeRefused racer.old.value slot expected target) }
+    ensures refused { 2 < result → racer.new.value ≡ racer.old.value }
+{
+    *kind = 0;
+    match replace_with(
+        racer,
+        (
+            alloc,
+            |racer: &mut Member<Racer>| compare_exchange_by(racer, slot, expected, target),
+        ),
+        visit,
+    ) {
+        Err(refusal) => {
+            *found = NULL;
+            refusal.word()
+        }
+        Ok(Exchange::Differs(other)) => {
+            *found = other;
+            DIFFERS
+        }
+        Ok(Exchange::Stored(stored)) => {
+            *found = expected;
+            *kind = kind_word(stored);
+            DONE
+        }
+    }
+}

@@ -1,0 +1,54 @@
+//! Lock-free stores in a race.
+ghost use Rattle.std.specs.Prelude.{◌≡◌, ◌<◌};
+ghost use Rattle.arrayvec.specs.ArrayVec.{array_vec_len};
+ghost use Rattle.g1_race.specs.Members.{race_layout};
+ghost use Rattle.g1_handles.specs.Codes.{IsRefusal, IsStoreOf, OfKind, reference_of};
+ghost use Rattle.g1_handles.specs.Racing.{OfRacer, IfRacer, Stores, racer_race_of};
+ghost use Rattle.g1_handles.specs.Refusals.{IsRaceStoreRefused};
+
+use core::mem::replace_with;
+use g1_handles::any_handle::visit;
+use g1_handles::code::{DONE, kind_word};
+use g1_handles::member::Member;
+use g1_handles::member::racer_handle::RacerHandle;
+use g1_handles::member::store::store_by;
+use g1_race::Racer;
+use std::alloc::Global;
+
+/// As in `g1.h`.
+#[unsafe(no_mangle)]
+pub extern "C" fn g1_race_store(
+    alloc: Global,
+    racer: &mut RacerHandle,
+    slot: u32,
+    target: u32,
+    kind: &mut u32,
+) -> u32
+    ensures stored { result ≡ 0 → OfRacer racer.old.value (λ a.
+        OfRacer racer.new.value (λ b. OfKind kind.new (λ k.
+        Stores a slot (reference_of target) k b))) }
+    ensures taken { IfRacer racer.old.value (λ a. array_vec_len a.racer.log < 256
+        → IsStoreOf (race_layout (racer_race_of a)) slot target → result ≡ 0) }
+    ensures none { 0 < result → kind.new ≡ 0 }
+    ensures why { 0 < result →
+        IsRefusal result (IsRaceStoreRefused racer.old.value slot target) }
+    ensures refused { 0 < result → racer.new.value ≡ racer.old.value }
+{
+    match replace_with(
+        racer,
+        (
+            alloc,
+            |racer: &mut Member<Racer>| store_by(racer, slot, target),
+        ),
+        visit,
+    ) {
+        Err(refusal) => {
+            *kind = 0;
+            refusal.word()
+        }
+        Ok(stored) => {
+            *kind = kind_word(stored);
+            DONE
+        }
+    }
+}

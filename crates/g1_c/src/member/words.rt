@@ -1,0 +1,105 @@
+//! Stores of words in a race: a slot may hold null, a reference or data.
+ghost use Rattle.std.specs.Prelude.{◌≡◌, ◌⊎◌, ◌<◌, ◌≤◌};
+ghost use Rattle.g1_handles.specs.Codes.{IsRefusal, OfKind};
+ghost use Rattle.g1_handles.specs.RaceWords.{SwapsWord, FindsOtherWord, CanStoreWord, MayHave};
+ghost use Rattle.g1_handles.specs.RaceWords.{IsSwapWordRefused, IsExchangeWordRefused};
+ghost use Rattle.g1_handles.specs.Racing.{OfRacer, IfRacer, racer_race_of};
+
+use core::mem::replace_with;
+use g1_handles::any_handle::visit;
+use g1_handles::code::{DIFFERS, DONE, kind_word};
+use g1_handles::member::Member;
+use g1_handles::member::racer_handle::RacerHandle;
+use g1_handles::member::words::{compare_exchange_word_by, swap_word_by};
+use g1_race::Racer;
+use std::alloc::Global;
+
+/// As in `g1.h`.
+#[unsafe(no_mangle)]
+pub extern "C" fn g1_race_swap_word(
+    alloc: Global,
+    racer: &mut RacerHandle,
+    slot: u32,
+    word: u64,
+    old: &mut u64,
+    kind: &mut u32,
+) -> u32
+    ensures swapped { result ≡ 0 → OfRacer racer.old.value (λ a.
+        OfRacer racer.new.value (λ b. OfKind kind.new (λ k. SwapsWord a slot word old.new k b))) }
+    ensures taken { IfRacer racer.old.value (λ a.
+        CanStoreWord (racer_race_of a) a.racer slot word → result ≡ 0) }
+    ensures none { 0 < result → (old.new ≡ 0) × (kind.new ≡ 0) }
+    ensures why { 0 < result → IsRefusal result (IsSwapWordRefused racer.old.value slot word) }
+    ensures refused { 0 < result → racer.new.value ≡ racer.old.value }
+{
+    match replace_with(
+        racer,
+        (
+            alloc,
+            |racer: &mut Member<Racer>| swap_word_by(racer, slot, word),
+        ),
+        visit,
+    ) {
+        Err(refusal) => {
+            *old = 0;
+            *kind = 0;
+            refusal.word()
+        }
+        Ok((stored, found)) => {
+            *old = found;
+            *kind = kind_word(stored);
+            DONE
+        }
+    }
+}
+
+/// As in `g1.h`.
+#[unsafe(no_mangle)]
+pub extern "C" fn g1_race_compare_exchange_word(
+    alloc: Global,
+    racer: &mut RacerHandle,
+    slot: u32,
+    expected: u64,
+    word: u64,
+    found: &mut u64,
+    kind: &mut u32,
+) -> u32
+    ensures stored { result ≡ 0 → OfRacer racer.old.value (λ a.
+        OfRacer racer.new.value (λ b. OfKind kind.new (λ k.
+        SwapsWord a slot word expected k b))) }
+    ensures found { result ≡ 0 → found.new ≡ expected }
+    ensures differs { result ≡ 2 → OfRacer racer.old.value (λ a.
+        OfRacer racer.new.value (λ b. FindsOtherWord a slot expected found.new b)) }
+    ensures done { result ≤ 2 → (result ≡ 0) ⊎ (result ≡ 2) }
+    ensures taken { IfRacer racer.old.value (λ a. CanStoreWord (racer_race_of a) a.racer slot word
+        → MayHave (racer_race_of a) expected → result ≤ 2) }
+    ensures none { 0 < result → kind.new ≡ 0 }
+    ensures null { 2 < result → found.new ≡ 0 }
+    ensures why { 2 < result →
+        IsRefusal result (IsExchangeWordRefused racer.old.value slot expected word) }
+    ensures refused { 2 < result → racer.new.value ≡ racer.old.value }
+{
+    *kind = 0;
+    match replace_with(
+        racer,
+        (
+            alloc,
+            |racer: &mut Member<Racer>| compare_exchange_word_by(racer, slot, expected, word),
+        ),
+        visit,
+    ) {
+        Err(refusal) => {
+            *found = 0;
+            refusal.word()
+        }
+        Ok(Err(other)) => {
+            *found = other;
+            DIFFERS
+        }
+        Ok(Ok(stored)) => {
+            *found = expected;
+            *kind = kind_word(stored);
+            DONE
+        }
+    }
+}

@@ -1,0 +1,70 @@
+//! Several stores by one call.
+ghost use Rattle.std.specs.Prelude.{◌≡◌, ◌⊎◌, ◌<◌, ◌≤◌, length, take, IfSome};
+ghost use Rattle.g1_handles.specs.Arrays.{IsWritten};
+ghost use Rattle.g1_handles.specs.Codes.{Between, IsRefusal};
+ghost use Rattle.g1_handles.specs.Batch.{made_all, IsFaultAt};
+ghost use Rattle.g1_handles.specs.Refusals.{AreStoresRefused, IsCallRefused};
+
+use core::mem::replace_with;
+use g1_core::Core;
+use g1_handles::any_handle::visit;
+use g1_handles::code::{DONE, STOPPED};
+use g1_handles::list::put;
+use g1_handles::one_core::batch::{Store, store_all_in};
+use g1_handles::one_core::handle::Handle;
+use std::alloc::Global;
+
+/// What several stores counted.
+#[repr(C)]
+#[derive(Clone, Copy, Debug)]
+pub struct Batch {
+    /// How many stores were made.
+    pub stored: u32,
+    /// How many of them were logged.
+    pub logged: u32,
+}
+
+/// As in `g1.h`.
+#[unsafe(no_mangle)]
+pub extern "C" fn g1_store_all(
+    alloc: Global,
+    handle: &mut Handle,
+    stores: &[Store],
+    cards: &mut [u32],
+    batch: &mut Batch,
+) -> u32
+    ensures made { result ≤ 3 → Between handle.old.value handle.new.value (λ old new.
+        record { machine = new; cards = take batch.new.logged cards.new }
+        ≡ made_all old (take batch.new.stored stores.now)) }
+    ensures whole { result ≡ 0 → batch.new.stored ≡ length stores.now }
+    ensures stopped { result ≡ 3 → IfSome handle.old.value (λ old.
+        IsFaultAt old.state.table.layout stores.now batch.new.stored) }
+    ensures done { result ≤ 3 → (result ≡ 0) ⊎ (result ≡ 3) }
+    ensures why { 3 < result →
+        IsRefusal result
+        (IsCallRefused handle.old.value (λ old.
+        AreStoresRefused (length stores.now) (length cards.old))) }
+    ensures refused { 3 < result → handle.new.value ≡ handle.old.value }
+    ensures none { 3 < result → (batch.new.stored ≡ 0) × (batch.new.logged ≡ 0) }
+    ensures written { IsWritten cards.old batch.new.logged cards.new }
+{
+    *batch = Batch {
+        stored: 0,
+        logged: 0,
+    };
+    let room = cards.len();
+    match replace_with(
+        handle,
+        (alloc, |core: &mut Core| store_all_in(core, stores, room)),
+        visit,
+    ) {
+        Err(refusal) => refusal.word(),
+        Ok(stored) => {
+            *batch = Batch {
+                stored: stored.count as u32,
+                logged: put(stored.cards.as_slice(), cards),
+            };
+            if stored.is_whole { DONE } else { STOPPED }
+        }
+    }
+}

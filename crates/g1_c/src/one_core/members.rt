@@ -1,0 +1,55 @@
+//! The remembered set of a region, as it is recorded.
+ghost use Rattle.std.specs.Prelude.{◌≡◌, ◌≢◌, ◌<◌, length, take};
+ghost use Rattle.g1_handles.specs.Arrays.{IsWritten};
+ghost use Rattle.g1_handles.specs.Codes.{OfOpen, IsRefusal};
+ghost use Rattle.g1_handles.specs.Queries.{HasMembers, Overflows};
+ghost use Rattle.g1_handles.specs.Refusals.{AreMembersRefused, IsCallRefused};
+
+use core::mem::replace_with;
+use g1_core::Core;
+use g1_handles::any_handle::visit;
+use g1_handles::code::{DONE, Refusal};
+use g1_handles::list::put;
+use g1_handles::one_core::handle::Handle;
+use g1_handles::one_core::members::{Listed, members_in};
+use std::alloc::Global;
+
+/// As in `g1.h`.
+#[unsafe(no_mangle)]
+pub extern "C" fn g1_members(
+    alloc: Global,
+    handle: &mut Handle,
+    region: u32,
+    cards: &mut [u32],
+    count: &mut u32,
+) -> u32
+    ensures members { result ≡ 0 → OfOpen handle.old.value (λ machine.
+        HasMembers machine region (take count.new cards.new)) }
+    ensures room { result ≡ 16 → OfOpen handle.old.value (λ machine.
+        Overflows (HasMembers machine region) (length cards.old) count.new) }
+    ensures why { 0 < result → result ≢ 16 →
+        IsRefusal result (IsCallRefused handle.old.value (λ old.
+        AreMembersRefused old.state.table.layout region)) }
+    ensures none { result ≢ 0 → result ≢ 16 → count.new ≡ 0 }
+    ensures written { result ≡ 0 → IsWritten cards.old count.new cards.new }
+    ensures unwritten { 0 < result → cards.new ≡ cards.old }
+    ensures same { handle.new.value ≡ handle.old.value }
+{
+    *count = 0;
+    let room = cards.len();
+    match replace_with(
+        handle,
+        (alloc, |core: &mut Core| members_in(core, region, room)),
+        visit,
+    ) {
+        Err(refusal) => refusal.word(),
+        Ok(Listed::NoRoom(needed)) => {
+            *count = needed;
+            Refusal::NoRoom.word()
+        }
+        Ok(Listed::Members(members)) => {
+            *count = put(members.as_slice(), cards);
+            DONE
+        }
+    }
+}

@@ -1,0 +1,45 @@
+//! Opening and closing a handle.
+ghost use Rattle.std.specs.Prelude.{◌≡◌, ◌↔◌, ◌<◌, Some, None, IsSome};
+ghost use Rattle.g1_core.specs.Machine.{Machine, new_machine};
+ghost use Rattle.g1_handles.specs.Codes.{layout_of, settings_of, IsRefusal};
+ghost use Rattle.g1_handles.specs.Refusals.{IsOpenRefused, SaysNotOpen};
+
+use core::mem::replace_with;
+use g1_handles::code::DONE;
+use g1_handles::one_core::handle::Handle;
+use g1_handles::one_core::open::{Counts, close_in, open_core};
+use std::alloc::Global;
+
+/// As in `g1.h`.
+#[unsafe(no_mangle)]
+pub extern "C" fn g1_open(
+    alloc: Global,
+    handle: &mut Handle,
+    counts: &Counts,
+    hot: u32,
+    ring: u32,
+) -> u32
+    ensures new { result ≡ 0 →
+        handle.new.value ≡ Some (new_machine (layout_of counts.now) (settings_of hot ring)) }
+    ensures closed { result ≡ 0 → handle.old.value ≡ None }
+    ensures why { 0 < result →
+        IsRefusal result
+        (IsOpenRefused handle.old.value (layout_of counts.now) (settings_of hot ring)) }
+    ensures refused { 0 < result → handle.new.value ≡ handle.old.value }
+{
+    match open_core(alloc, handle, counts, hot, ring) {
+        Ok(()) => DONE,
+        Err(refusal) => refusal.word(),
+    }
+}
+
+/// As in `g1.h`.
+#[unsafe(no_mangle)]
+pub extern "C" fn g1_close(alloc: Global, handle: &mut Handle) -> u32
+    ensures closed { handle.new.value ≡ None }
+    ensures done { IsSome handle.old.value → result ≡ 0 }
+    ensures refused { (0 < result) ↔ (handle.old.value ≡ None) }
+    ensures why { 0 < result → IsRefusal result (SaysNotOpen handle.old.value) }
+{
+    replace_with(handle, alloc, close_in)
+}

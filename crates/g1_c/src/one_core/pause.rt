@@ -1,0 +1,71 @@
+//! The pause.
+ghost use Rattle.std.specs.Prelude.{◌≡◌, ◌<◌, length, take};
+ghost use Rattle.g1_handles.specs.Arrays.{IsWritten};
+ghost use Rattle.g1_handles.specs.Codes.{Between, IsRefusal};
+ghost use Rattle.g1_handles.specs.Refusals.{IsCallRefused, IsDrainRefused};
+ghost use Rattle.g1_handles.specs.Replies.{DrainsTo};
+
+use core::mem::replace_with;
+use g1_core::{Core, Drained};
+use g1_handles::any_handle::visit;
+use g1_handles::code::{DONE, SHORT};
+use g1_handles::list::put;
+use g1_handles::one_core::handle::Handle;
+use g1_handles::one_core::pause::drain_in;
+use std::alloc::Global;
+
+/// As in `g1.h`.
+#[unsafe(no_mangle)]
+pub extern "C" fn g1_drain(
+    alloc: Global,
+    handle: &mut Handle,
+    region: u32,
+    cards: &mut [u32],
+    count: &mut u32,
+    refined: &mut [u32],
+    refined_count: &mut u32,
+) -> u32
+    ensures whole { result ≡ 0 → Between handle.old.value handle.new.value (λ old new.
+        DrainsTo old region (Drained.Cards (take count.new cards.new)
+        (take refined_count.new refined.new)) new) }
+    ensures short { result ≡ 1 → Between handle.old.value handle.new.value (λ old new.
+        DrainsTo old region (Drained.Short (take refined_count.new refined.new)) new) }
+    ensures none { 0 < result → count.new ≡ 0 }
+    ensures why { 1 < result →
+        IsRefusal result
+        (IsCallRefused handle.old.value (λ old. IsDrainRefused old.state.table.layout region
+        (length cards.old) (length refined.old))) }
+    ensures empty { 1 < result → refined_count.new ≡ 0 }
+    ensures refused { 1 < result → handle.new.value ≡ handle.old.value }
+    ensures cards { IsWritten cards.old count.new cards.new }
+    ensures refined { IsWritten refined.old refined_count.new refined.new }
+{
+    *count = 0;
+    *refined_count = 0;
+    let room = cards.len();
+    let refined_room = refined.len();
+    match replace_with(
+        handle,
+        (
+            alloc,
+            |core: &mut Core| drain_in(core, region, room, refined_room),
+        ),
+        visit,
+    ) {
+        Err(refusal) => refusal.word(),
+        Ok(Drained::Short { refined: list }) => {
+            *refined_count = put(list.as_slice(), refined);
+            SHORT
+        }
+        Ok(
+            Drained::Cards {
+                cards: members,
+                refined: list,
+            },
+        ) => {
+            *count = put(members.as_slice(), cards);
+            *refined_count = put(list.as_slice(), refined);
+            DONE
+        }
+    }
+}

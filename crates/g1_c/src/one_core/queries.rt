@@ -1,0 +1,116 @@
+//! Queries: what a slot refers to, whether a card is pending, and how much is pending and recorded.
+ghost use Rattle.std.specs.Prelude.{◌≡◌, ◌<◌, ◌≤◌, ◌==◌, IfSome, IsSome};
+ghost use Rattle.g1_layout.specs.Shape.{slot_count, card_count};
+ghost use Rattle.g1_handles.specs.Codes.{Between, IsRefusal, OfOpen, reference_of};
+ghost use Rattle.g1_handles.specs.Queries.{RefersTo, IsToldPending, HasStatus};
+ghost use Rattle.g1_handles.specs.Refusals.{IsCallRefused, SaysNotOpen};
+ghost use Rattle.g1_handles.specs.Lacks.{LacksCard, LacksSlot};
+
+use core::mem::replace_with;
+use g1_core::Core;
+use g1_handles::any_handle::visit;
+use g1_handles::code::{DONE, NULL};
+use g1_handles::one_core::handle::Handle;
+use g1_handles::one_core::queries::{is_pending_in, status_in, target_in};
+use std::alloc::Global;
+
+/// How much is pending and recorded.
+#[repr(C)]
+#[derive(Clone, Copy, Debug)]
+pub struct Totals {
+    /// How many cards are pending.
+    pub pending: u32,
+    /// How many pairs of a card and a region are recorded.
+    pub recorded: u32,
+}
+
+/// As in `g1.h`.
+#[unsafe(no_mangle)]
+pub extern "C" fn g1_target(alloc: Global, handle: &mut Handle, slot: u32, target: &mut u32) -> u32
+    ensures target { result ≡ 0 → Between handle.old.value handle.new.value (λ old new.
+        RefersTo old slot (reference_of target.new) new) }
+    ensures null { 0 < result → target.new ≡ 4294967295 }
+    ensures answered { IfSome handle.old.value (λ old. slot < slot_count old.state.table.layout
+        → result ≡ 0) }
+    ensures why { 0 < result → IsRefusal result (IsCallRefused handle.old.value (λ old.
+        LacksSlot old.state.table.layout slot)) }
+    ensures refused { 0 < result → handle.new.value ≡ handle.old.value }
+{
+    *target = NULL;
+    match replace_with(
+        handle,
+        (alloc, |core: &mut Core| target_in(core, slot)),
+        visit,
+    ) {
+        Err(refusal) => refusal.word(),
+        Ok(word) => {
+            *target = word;
+            DONE
+        }
+    }
+}
+
+/// As in `g1.h`.
+#[unsafe(no_mangle)]
+pub extern "C" fn g1_is_pending(
+    alloc: Global,
+    handle: &mut Handle,
+    card: u32,
+    pending: &mut u32,
+) -> u32
+    ensures pending { result ≡ 0 → OfOpen handle.old.value (λ machine.
+        IsToldPending machine card (pending.new == 1)) }
+    ensures word { pending.new ≤ 1 }
+    ensures none { 0 < result → pending.new ≡ 0 }
+    ensures answered { IfSome handle.old.value (λ machine.
+        card < card_count machine.state.table.layout → result ≡ 0) }
+    ensures why { 0 < result → IsRefusal result (IsCallRefused handle.old.value (λ old.
+        LacksCard old.state.table.layout card)) }
+    ensures same { handle.new.value ≡ handle.old.value }
+{
+    match replace_with(
+        handle,
+        (alloc, |core: &mut Core| is_pending_in(core, card)),
+        visit,
+    ) {
+        Err(refusal) => {
+            *pending = 0;
+            refusal.word()
+        }
+        Ok(answer) => {
+            *pending = answer as u32;
+            DONE
+        }
+    }
+}
+
+/// As in `g1.h`.
+#[unsafe(no_mangle)]
+pub extern "C" fn g1_status(alloc: Global, handle: &mut Handle, totals: &mut Totals) -> u32
+    ensures totals { result ≡ 0 → OfOpen handle.old.value (λ machine.
+        HasStatus machine
+        (record { pending = totals.new.pending; recorded = totals.new.recorded })) }
+    ensures none { 0 < result → (totals.new.pending ≡ 0) × (totals.new.recorded ≡ 0) }
+    ensures answered { IsSome handle.old.value → result ≡ 0 }
+    ensures why { 0 < result → IsRefusal result (SaysNotOpen handle.old.value) }
+    ensures same { handle.new.value ≡ handle.old.value }
+{
+    *totals = Totals {
+        pending: 0,
+        recorded: 0,
+    };
+    match replace_with(
+        handle,
+        (alloc, |core: &mut Core| Ok(status_in(core))),
+        visit,
+    ) {
+        Err(refusal) => refusal.word(),
+        Ok(status) => {
+            *totals = Totals {
+                pending: status.pending,
+                recorded: status.recorded,
+            };
+            DONE
+        }
+    }
+}

@@ -1,0 +1,65 @@
+//! The redirect.
+ghost use Rattle.std.specs.Prelude.{◌≡◌, ◌<◌, length, take};
+ghost use Rattle.g1_handles.specs.Arrays.{IsWritten};
+ghost use Rattle.g1_handles.specs.Codes.{Between, IsRefusal};
+ghost use Rattle.g1_handles.specs.Refusals.{IsCallRefused, IsRedirectRefused};
+ghost use Rattle.g1_handles.specs.Replies.{RedirectsTo};
+
+use core::mem::replace_with;
+use g1_core::{Core, Redirected};
+use g1_handles::any_handle::visit;
+use g1_handles::code::{DONE, SHORT};
+use g1_handles::list::put;
+use g1_handles::one_core::handle::Handle;
+use g1_handles::one_core::redirection::redirect_in;
+use std::alloc::Global;
+
+/// As in `g1.h`.
+#[unsafe(no_mangle)]
+pub extern "C" fn g1_redirect(
+    alloc: Global,
+    handle: &mut Handle,
+    from: u32,
+    to: u32,
+    moved: &mut u32,
+    refined: &mut [u32],
+    refined_count: &mut u32,
+) -> u32
+    ensures moved { result ≡ 0 → Between handle.old.value handle.new.value (λ old new.
+        RedirectsTo old from to (Redirected.Moved moved.new (take refined_count.new refined.new))
+        new) }
+    ensures short { result ≡ 1 → Between handle.old.value handle.new.value (λ old new.
+        RedirectsTo old from to (Redirected.Short (take refined_count.new refined.new)) new) }
+    ensures none { 0 < result → moved.new ≡ 0 }
+    ensures why { 1 < result →
+        IsRefusal result (IsCallRefused handle.old.value (λ old.
+        IsRedirectRefused old.state.table.layout from to (length refined.old))) }
+    ensures empty { 1 < result → refined_count.new ≡ 0 }
+    ensures refused { 1 < result → handle.new.value ≡ handle.old.value }
+    ensures written { IsWritten refined.old refined_count.new refined.new }
+{
+    *moved = 0;
+    *refined_count = 0;
+    let room = refined.len();
+    match replace_with(
+        handle,
+        (alloc, |core: &mut Core| redirect_in(core, from, to, room)),
+        visit,
+    ) {
+        Err(refusal) => refusal.word(),
+        Ok(Redirected::Short { refined: list }) => {
+            *refined_count = put(list.as_slice(), refined);
+            SHORT
+        }
+        Ok(
+            Redirected::Moved {
+                slots,
+                refined: list,
+            },
+        ) => {
+            *moved = slots;
+            *refined_count = put(list.as_slice(), refined);
+            DONE
+        }
+    }
+}

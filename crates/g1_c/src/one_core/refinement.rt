@@ -1,0 +1,69 @@
+//! Refinement.
+ghost use Rattle.std.specs.Prelude.{◌≡◌, ◌<◌, ◌≤◌, length, take};
+ghost use Rattle.g1_handles.specs.Arrays.{IsWritten};
+ghost use Rattle.g1_handles.specs.Codes.{Between, IsRefusal};
+ghost use Rattle.g1_handles.specs.Refusals.{IsCallRefused, IsRefinementRefused};
+ghost use Rattle.g1_handles.specs.Replies.{RefinesTo, reply_of};
+
+use core::mem::replace_with;
+use g1_core::Core;
+use g1_handles::any_handle::visit;
+use g1_handles::list::put;
+use g1_handles::one_core::handle::Handle;
+use g1_handles::one_core::refinement::{refine_in, word_of};
+use std::alloc::Global;
+
+/// What a refinement counted.
+#[repr(C)]
+#[derive(Clone, Copy, Debug)]
+pub struct Tally {
+    /// How many cards were refined.
+    pub refined: u32,
+    /// How many cards were found hot.
+    pub hot: u32,
+    /// How many cards were not dirty.
+    pub skipped: u32,
+}
+
+/// As in `g1.h`.
+#[unsafe(no_mangle)]
+pub extern "C" fn g1_refine(
+    alloc: Global,
+    handle: &mut Handle,
+    cards: &[u32],
+    refined: &mut [u32],
+    tally: &mut Tally,
+) -> u32
+    ensures refined { result ≤ 1 → Between handle.old.value handle.new.value (λ old new.
+        RefinesTo old cards.now (reply_of result (take tally.new.refined refined.new) tally.new.hot
+        tally.new.skipped) new) }
+    ensures why { 1 < result →
+        IsRefusal result (IsCallRefused handle.old.value (λ old.
+        IsRefinementRefused old.state.table.layout cards.now (length refined.old))) }
+    ensures refused { 1 < result → handle.new.value ≡ handle.old.value }
+    ensures none { 1 < result → (tally.new.refined ≡ 0) × (tally.new.hot ≡ 0)
+        × (tally.new.skipped ≡ 0) }
+    ensures written { IsWritten refined.old tally.new.refined refined.new }
+{
+    *tally = Tally {
+        refined: 0,
+        hot: 0,
+        skipped: 0,
+    };
+    let room = refined.len();
+    match replace_with(
+        handle,
+        (alloc, |core: &mut Core| refine_in(core, cards, room)),
+        visit,
+    ) {
+        Err(refusal) => refusal.word(),
+        Ok(reply) => {
+            *tally = Tally {
+                refined: put(reply.refined.as_slice(), refined),
+                hot: reply.hot,
+                skipped: reply.skipped,
+            };
+            word_of(&reply)
+        }
+    }
+}

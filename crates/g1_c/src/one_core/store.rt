@@ -1,0 +1,52 @@
+//! Stores.
+ghost use Rattle.std.specs.Prelude.{◌≡◌, ◌<◌, IfSome};
+ghost use Rattle.g1_core.specs.Run.{kind_of};
+ghost use Rattle.g1_handles.specs.Codes.{kind_word, reference_of, IsRefusal, IsStoreOf, Between};
+ghost use Rattle.g1_core.specs.Barrier.{stored_machine};
+ghost use Rattle.g1_handles.specs.Codes.{OfOpen};
+ghost use Rattle.g1_handles.specs.Lacks.{LacksPlace};
+ghost use Rattle.g1_handles.specs.Refusals.{IsCallRefused};
+
+use core::mem::replace_with;
+use g1_core::Core;
+use g1_handles::any_handle::visit;
+use g1_handles::code::{DONE, kind_word};
+use g1_handles::one_core::handle::Handle;
+use g1_handles::one_core::store::store_in;
+use std::alloc::Global;
+
+/// As in `g1.h`.
+#[unsafe(no_mangle)]
+pub extern "C" fn g1_store(
+    alloc: Global,
+    handle: &mut Handle,
+    slot: u32,
+    target: u32,
+    kind: &mut u32,
+) -> u32
+    ensures kind { result ≡ 0 → OfOpen handle.old.value (λ old.
+        kind.new ≡ kind_word (kind_of old.state.table slot (reference_of target))) }
+    ensures machine { result ≡ 0 → Between handle.old.value handle.new.value (λ old new.
+        new ≡ stored_machine old slot (reference_of target)) }
+    ensures taken { IfSome handle.old.value (λ old. IsStoreOf old.state.table.layout slot target
+        → result ≡ 0) }
+    ensures none { 0 < result → kind.new ≡ 0 }
+    ensures why { 0 < result → IsRefusal result (IsCallRefused handle.old.value
+        (λ old. LacksPlace old.state.table.layout slot target)) }
+    ensures refused { 0 < result → handle.new.value ≡ handle.old.value }
+{
+    match replace_with(
+        handle,
+        (alloc, |core: &mut Core| store_in(core, slot, target)),
+        visit,
+    ) {
+        Err(refusal) => {
+            *kind = 0;
+            refusal.word()
+        }
+        Ok(stored) => {
+            *kind = kind_word(stored);
+            DONE
+        }
+    }
+}

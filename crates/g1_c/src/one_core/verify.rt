@@ -1,0 +1,60 @@
+//! Checks of a core for a debug build.
+ghost use Rattle.std.specs.Prelude.{◌≡◌, ◌+◌, ◌<◌, ◌≤◌, IfSome, length};
+ghost use Rattle.g1_layout.specs.Shape.{slot_count};
+ghost use Rattle.g1_core.specs.Machine.{IsOnlyRead};
+ghost use Rattle.g1_handles.specs.Codes.{IsRefusal, Between};
+ghost use Rattle.g1_handles.specs.Verifying.{Finds};
+ghost use Rattle.g1_handles.specs.Lacks.{LacksRanges};
+ghost use Rattle.g1_handles.specs.Refusals.{IsCallRefused};
+
+use core::mem::replace_with;
+use g1_core::Core;
+use g1_handles::any_handle::visit;
+use g1_handles::code::{DONE, NULL};
+use g1_handles::one_core::handle::Handle;
+use g1_handles::one_core::verify::verify_in;
+use std::alloc::Global;
+
+/// As in `g1.h`.
+#[unsafe(no_mangle)]
+pub extern "C" fn g1_verify(
+    alloc: Global,
+    handle: &mut Handle,
+    first: u32,
+    count: u32,
+    references: &[u32],
+    differing: &mut u32,
+    missing: &mut u32,
+) -> u32
+    ensures found { result ≡ 0 → Between handle.old.value handle.new.value (λ old new.
+        Finds old.state.table first count references.now differing.new missing.new
+        × IsOnlyRead old new) }
+    ensures answered { IfSome handle.old.value (λ old.
+        first + count ≤ slot_count old.state.table.layout
+        → first + length references.now ≤ slot_count old.state.table.layout → result ≡ 0) }
+    ensures none { 0 < result → (differing.new ≡ 4294967295) × (missing.new ≡ 4294967295) }
+    ensures why { 0 < result → IsRefusal result
+        (IsCallRefused handle.old.value (λ old.
+        LacksRanges old.state.table.layout first count first (length references.now))) }
+    ensures refused { 0 < result → handle.new.value ≡ handle.old.value }
+{
+    match replace_with(
+        handle,
+        (
+            alloc,
+            |core: &mut Core| verify_in(core, first, count, references),
+        ),
+        visit,
+    ) {
+        Err(refusal) => {
+            *differing = NULL;
+            *missing = NULL;
+            refusal.word()
+        }
+        Ok(found) => {
+            *differing = found.differing;
+            *missing = found.missing;
+            DONE
+        }
+    }
+}

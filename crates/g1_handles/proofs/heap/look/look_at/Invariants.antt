@@ -1,0 +1,12 @@
+-- The handles hold what they held, and the first i are as they are to be.
+use Rattle.std.proofs.Common.{◌≡◌, length, map}
+use Rattle.std.specs.List.{AllWithin}
+use Rattle.g1_handles.specs.Racing.{IsAmong}
+use Rattle.g1_handles.proofs.heap.look.look_at.Given as goal
+
+abbrev pub invariant-loop-i : goal.invariant-loop-i
+invariant-loop-i g l = record {
+  sized : length l.handles ≡ length l.initial.handles;
+  same : map g.H.AnyHandle.value l.handles ≡ map g.H.AnyHandle.value l.fn.handles;
+  among : AllWithin (λ h. IsAmong l.members (g.H.AnyHandle.value h)) l.handles 0 l.i;
+}

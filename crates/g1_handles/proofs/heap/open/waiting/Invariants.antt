@@ -1,0 +1,13 @@
+-- The members that are in the list are of the race, and have the numbers of their places.
+use Rattle.std.proofs.Common.{◌≡◌, ◌<◌, ℕ, All, slice_index_or, vec_len}
+use Rattle.std.specs.Arc.{arc_value}
+use Rattle.g1_handles.specs.Counting.{no_counts}
+use Rattle.g1_handles.proofs.heap.open.waiting.Given as goal
+
+abbrev pub invariant-loop-number : goal.invariant-loop-number
+invariant-loop-number g l = record {
+  count : vec_len l.members ≡ l.number;
+  race : All (λ m. arc_value m.value.race ≡ arc_value l.race) l.members.items;
+  counts : All (λ m. m.value.counts ≡ no_counts) l.members.items;
+  numbers : (i : ℕ) (m : _) → i < vec_len l.members → (slice_index_or l.members.items i m).value.number ≡ i;
+}

@@ -1,0 +1,38 @@
+-- A look at the members finds a handle with none, or a member of another race.
+use Rattle.std.proofs.Common.{◌≡◌, ◌⊎◌, inl, inr, List}
+use Rattle.std.specs.Prelude.{Option, Some, Any}
+use Rattle.g1_handles.specs.declared.code.Refusal.{Refusal}
+use Rattle.g1_handles.specs.declared.code.Refusal.TheVariants as refusal
+use Rattle.g1_handles.specs.declared.heap.racing_heap.RacingHeap.{RacingHeap}
+use Rattle.g1_handles.specs.Own.{RacerMember, SweeperMember}
+use Rattle.g1_handles.specs.Refusals.{SaysNoMember}
+use Rattle.g1_handles.specs.Life.{IsPauseRefused}
+use Rattle.g1_handles.specs.Racing.{held_racers, held_sweepers}
+use Rattle.g1_handles.proofs.MemberLemmas.{passed}
+use Rattle.g1_handles.proofs.heap.pause.pause_of.Goals as goal
+
+of_racers : (h : Option RacingHeap) (rs : List (Option RacerMember)) (ss : List (Option SweeperMember)) (r : Refusal)
+    → (r ≡ refusal.OtherRace) ⊎ Any (λ m. SaysNoMember m r) rs → IsPauseRefused h rs ss r
+of_racers h rs ss r (inl other) = inr (inr (inr (inr (inr other))))
+of_racers h rs ss r (inr none) = inr (inr (inr (inl none)))
+
+of_sweepers : (h : Option RacingHeap) (rs : List (Option RacerMember)) (ss : List (Option SweeperMember)) (r : Refusal)
+    → (r ≡ refusal.OtherRace) ⊎ Any (λ m. SaysNoMember m r) ss → IsPauseRefused h rs ss r
+of_sweepers h rs ss r (inl other) = inr (inr (inr (inr (inr other))))
+of_sweepers h rs ss r (inr none) = inr (inr (inr (inr (inl none))))
+
+pub returns-in_err-look_at-clause-why : goal.returns-in_err-look_at-clause-why
+returns-in_err-look_at-clause-why c =
+    let h = Some c.args.heap.now in
+    let rs = held_racers c.args.racers.now in
+    let ss = held_sweepers c.args.sweepers.now in
+    passed (λ r. (r ≡ refusal.OtherRace) ⊎ Any (λ m. SaysNoMember m r) rs) (IsPauseRefused h rs ss) c.look_at.result _ _ c.in_err-look_at.was c.look_at.ensures.why c.from_residual.ensures.1
+    (of_racers h rs ss _)
+
+pub returns-in_err-look_at-2-clause-why : goal.returns-in_err-look_at-2-clause-why
+returns-in_err-look_at-2-clause-why c =
+    let h = Some c.args.heap.now in
+    let rs = held_racers c.args.racers.now in
+    let ss = held_sweepers c.args.sweepers.now in
+    passed (λ r. (r ≡ refusal.OtherRace) ⊎ Any (λ m. SaysNoMember m r) ss) (IsPauseRefused h rs ss) c.look_at-2.result _ _ c.in_err-look_at-2.was c.look_at-2.ensures.why c.from_residual-in_err-look_at-2.ensures.1
+    (of_sweepers h rs ss _)

@@ -1,0 +1,11 @@
+-- The heap's own answer.
+use Rattle.std.proofs.Common.{ℕ, Option, subst}
+use Rattle.g1_handles.specs.AtPause.{StoresAt}
+use Rattle.g1_handles.specs.Codes.{reference_of}
+use Rattle.g1_handles.proofs.heap.stores.store_at.Goals as goal
+
+pub returns-clause-stored : goal.returns-clause-stored
+returns-clause-stored c =
+    subst (λ (slot : ℕ). StoresAt c.args.heap.now slot (reference_of c.args.target) c.store.result c.store.new.self) c.in-Some.ensures.1
+    (subst (λ (target : Option ℕ). StoresAt c.args.heap.now c.in-Some.slot target c.store.result c.store.new.self) c.in-Some-reference.ensures.value
+    (record { race = c.store.ensures.race; words = c.store.ensures.words; kind_is = c.store.ensures.kind; table = c.store.ensures.table; step = c.store.ensures.step }))

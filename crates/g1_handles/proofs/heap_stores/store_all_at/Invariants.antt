@@ -1,7 +1,0 @@
--- The first i stores were made.
-use Rattle.std.proofs.Common.{take}
-use Rattle.g1_handles.specs.AtPause.{StoresAllAt}
-use Rattle.g1_handles.proofs.heap_stores.store_all_at.Given as goal
-
-abbrev pub invariant-loop-i : goal.invariant-loop-i
-invariant-loop-i l = StoresAllAt l.initial.heap (take l.i l.stores) l.heap

@@ -1,0 +1,10 @@
+-- A call that is refused leaves the racer as it was.
+use Rattle.std.proofs.Common.{refl, sym}
+use Rattle.g1_handles.proofs.MemberLemmas.{if_err, same_member}
+use Rattle.g1_handles.proofs.member.exchange.swap_by.Goals as goal
+
+pub returns-in_default-clause-refused : goal.returns-in_default-clause-refused
+returns-in_default-clause-refused c = same_member _ _ refl refl refl refl refl
+
+pub returns-in_err-slot-clause-refused : goal.returns-in_err-slot-clause-refused
+returns-in_err-slot-clause-refused c = if_err _ (same_member _ _ refl refl refl (sym c.in-Some.is) refl)

@@ -1,0 +1,13 @@
+-- A question leaves the reader as it was.
+use Rattle.std.proofs.Common.{Some, refl, sym, ap, ◌∙◌}
+use Rattle.g1_handles.proofs.MemberLemmas.{same_member}
+use Rattle.g1_handles.proofs.member.reader_queries.target_by.Goals as goal
+
+pub returns-in_default-clause-same : goal.returns-in_default-clause-same
+returns-in_default-clause-same c = same_member _ _ refl refl refl refl refl
+
+pub returns-in_default-slot-clause-same : goal.returns-in_default-slot-clause-same
+returns-in_default-slot-clause-same c = same_member _ _ refl refl refl (sym c.in-Some.is) refl
+
+pub returns-clause-same : goal.returns-clause-same
+returns-clause-same c = same_member _ _ refl refl refl (ap (λ r. Some r) c.target.ensures.same ∙ sym c.in-Some.is) refl

@@ -1,0 +1,16 @@
+-- A handle goes to another thread, as a `Box` of its value does.
+use denote.Struct.Struct.{exits_of}
+use denote.Struct.Owning.{shape, fields, to}
+use denote.Param.Send.{IsSend, AllSend, owning_send, struct_send, sendable}
+use Rattle.std_alloc.proofs.SendSync.{quiet}
+use Rattle.std.proofs.alloc.Global.TheSendSync as global
+use Rattle.g1_core.proofs.machinery.Core.TheSendSync.{the_send as home}
+use Rattle.g1_handles.proofs.Sending.{keyless}
+use Rattle.g1_handles.specs.Own.{core_row as R}
+use Rattle.g1_handles.specs.contracts.one_core.handle.Handle.{the_row, the_type}
+
+pub send : IsSend the_row
+send =
+    let all : AllSend (fields the_type) = (search sendable, (global.the_field_send, tt)) in
+    owning_send the_type all (λ d. keyless R home d.alloc d.at d.value)
+    (λ k. quiet (to the_type) (exits_of k (fields the_type)) ((struct_send (shape the_type) all).leaving k))

@@ -1,0 +1,17 @@
+-- There are no more members than cards.
+use Rattle.std.proofs.Common.{ℕ, subst}
+use Rattle.g1_handles.specs.Queries.{HasMembers}
+use Rattle.g1_handles.proofs.RoomLemmas.{few_members, fits_words}
+use Rattle.g1_handles.proofs.ListLemmas.{lists_so}
+use Rattle.g1_handles.proofs.one_core.members.members_in.Goals as goal
+
+pub list_of-requires : goal.list_of-requires
+list_of-requires c =
+    let sound = c.layout-layout.ensures.sound in
+    fits_words c.args.core.now.state c.in-Ok.members sound (few_members c.args.core.now.state c.in-Some.region c.in-Ok.members sound c.in-Ok.ensures.did.members)
+
+pub returns-clause-listed : goal.returns-clause-listed
+returns-clause-listed c =
+    lists_so (HasMembers c.args.core.now c.args.region) c.in-Ok.members c.args.room c.list_of.result
+    (subst (λ (region : ℕ). HasMembers c.args.core.now region c.in-Ok.members) c.in-Some.ensures.1 (record { members = c.in-Ok.ensures.did.members; step = c.in-Ok.ensures.step }))
+    c.list_of.ensures

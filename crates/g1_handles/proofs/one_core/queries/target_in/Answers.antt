@@ -1,0 +1,11 @@
+-- The word stands for what the core answers.
+use Rattle.std.proofs.Common.{ℕ, Option, sym, subst}
+use Rattle.g1_handles.specs.Codes.{reference_of}
+use Rattle.g1_handles.specs.Queries.{RefersTo}
+use Rattle.g1_handles.proofs.one_core.queries.target_in.Goals as goal
+
+pub returns-clause-target : goal.returns-clause-target
+returns-clause-target c =
+    subst (λ (slot : ℕ). RefersTo c.args.core.now slot (reference_of c.word_of.result) c.target.new.self) c.in-Some.ensures.1
+    (subst (λ (target : Option ℕ). RefersTo c.args.core.now c.in-Some.slot target c.target.new.self) (sym c.word_of.ensures)
+    (record { refers = c.target.ensures.did.answer; machine = c.target.ensures.did.machine; step = c.target.ensures.step }))

@@ -1,0 +1,19 @@
+-- No more cards are refined than the heap has.
+use Rattle.std.proofs.Common.{◌≡◌, ℕ, ap, subst, arith}
+use Rattle.g1_layout.specs.Shape.{card_count}
+use Rattle.g1_core.specs.Calls.{redirect_refined}
+use Rattle.g1_handles.specs.Replies.{RedirectsTo}
+use Rattle.g1_handles.proofs.RoomLemmas.{few_refined, fits_words}
+use Rattle.g1_handles.proofs.one_core.redirection.redirect_in.Goals as goal
+
+pub returns-in-Ok-clause-redirected : goal.returns-in-Ok-clause-redirected
+returns-in-Ok-clause-redirected c =
+    subst (λ (from : ℕ). RedirectsTo c.args.core.now from c.args.to c.in-Ok.answer c.redirect.new.self) c.in-Some.ensures.1
+    (subst (λ (to : ℕ). RedirectsTo c.args.core.now c.in-Some.from to c.in-Ok.answer c.redirect.new.self) c.in-Some-region.ensures.1
+    (record { redirected = c.in-Ok.ensures.did; step = c.in-Ok.ensures.step; later = c.in-Ok.ensures.later }))
+
+pub returns-in-Ok-clause-refined : goal.returns-in-Ok-clause-refined
+returns-in-Ok-clause-refined c =
+    let count : card_count c.layout-layout.result ≡ card_count c.args.core.now.state.table.layout = ap card_count c.layout-layout.ensures.value in
+    let few = few_refined c.args.core.now.state (redirect_refined c.in-Ok.answer) c.layout-layout.ensures.sound (c.in-Ok.ensures.step 0).allowed.refines in
+    (omega (arith, few, count, c.card_count.ensures.count, c.if-room-card_count.false), fits_words c.args.core.now.state (redirect_refined c.in-Ok.answer) c.layout-layout.ensures.sound few)

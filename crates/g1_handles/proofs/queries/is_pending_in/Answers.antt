@@ -1,8 +1,0 @@
--- The core's own answer.
-use Rattle.std.proofs.Common.{ℕ, subst}
-use Rattle.g1_handles.specs.Queries.{IsToldPending}
-use Rattle.g1_handles.proofs.queries.is_pending_in.Goals as goal
-
-pub returns-clause-pending : goal.returns-clause-pending
-returns-clause-pending c =
-    subst (λ (card : ℕ). IsToldPending c.args.core.now card c.is_pending.result) c.in-Some.ensures.1 (record { pending = c.is_pending.ensures.did.pending; step = c.is_pending.ensures.step })

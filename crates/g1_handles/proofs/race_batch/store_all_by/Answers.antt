@@ -1,7 +1,0 @@
--- A call that is refused leaves the racer as it was.
-use Rattle.std.proofs.Common.{refl}
-use Rattle.g1_handles.proofs.MemberLemmas.{same_member}
-use Rattle.g1_handles.proofs.race_batch.store_all_by.Goals as goal
-
-pub returns-in_default-clause-refused : goal.returns-in_default-clause-refused
-returns-in_default-clause-refused c = same_member _ _ refl refl refl refl refl

@@ -1,6 +1,0 @@
--- The list has the first i cards.
-use Rattle.std.proofs.Common.{◌≡◌, take}
-use Rattle.g1_handles.proofs.refinement.buffer_of.Given as goal
-
-abbrev pub invariant-loop-i : goal.invariant-loop-i
-invariant-loop-i l = l.list.items ≡ take l.i l.cards

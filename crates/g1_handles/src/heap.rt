@@ -1,0 +1,30 @@
+//! A heap whose stores race.
+//!
+//! - [`racing_heap`] is the heap: at a pause, read there or with its members out. [`handle`] has
+//!   its handle.
+//! - [`open`] begins and ends it, [`resume`] hands its members out, and [`pause`] takes them in.
+//!   Before anything changes, a pause checks that it was given all members of the heap (`look`,
+//!   `one_race`).
+//! - [`queries`], [`sets`], [`drains`], [`stores`], [`copy`], [`evacuation`], [`words`] and
+//!   [`verify`] are the collector's calls at a pause, on an [`at_pause::PausedHeap`].
+//! - [`reading`] lends a heap at a pause to readers, one for each thread that reads it, and
+//!   [`reading_end`] takes them in.
+
+pub mod at_pause;
+pub mod copy;
+pub mod drains;
+pub mod evacuation;
+pub mod handle;
+mod look;
+mod one_race;
+pub mod open;
+pub mod pause;
+pub mod queries;
+pub mod racing_heap;
+pub mod reading;
+pub mod reading_end;
+pub mod resume;
+pub mod sets;
+pub mod stores;
+pub mod verify;
+pub mod words;

@@ -1,0 +1,53 @@
+//! A call on a heap at a pause.
+ghost use Rattle.std.specs.Prelude.{Some, Result};
+ghost use Rattle.std.specs.Fn.{FnOnceReturnsAtMut};
+ghost use Rattle.g1_race.specs.Over.{Halt};
+ghost use Rattle.g1_handles.specs.declared.code.Refusal.{Refusal};
+ghost use Rattle.g1_handles.specs.AtPause.{IsKept};
+ghost use Rattle.g1_handles.specs.HeapCalls.{IsCalled};
+
+use crate::any_handle::{closed, into_box, opened};
+use crate::code::Refusal;
+use crate::heap::handle::HeapHandle;
+use crate::heap::racing_heap::RacingHeap;
+use g1_race::{Paused, Race};
+use std::alloc::Global;
+use std::sync::Arc;
+
+/// A heap at a pause. It holds a share of its race, so its members keep theirs.
+pub type PausedHeap = Paused<Arc<Race, Global>>;
+
+/// Makes a call on the heap of a handle, which is at a pause, and puts the heap back. `words` has
+/// the call. Returns `NotOpen`, or `NotPaused` if the heap's members are out or readers read it:
+/// nothing has changed.
+pub fn at_pause<A, F: FnOnce(&mut PausedHeap) -> Result<A, Refusal>>(
+    handle: HeapHandle,
+    words: (Global, F),
+) -> (HeapHandle, Result<A, Refusal>)
+    requires callable { F.IsAlwaysCallable words.1 }
+    requires kept { (old new : Halt) (r : Result A Refusal)
+        → FnOnceReturnsAtMut F.FnOnce words.1 old r new → IsKept old new }
+    ensures { IsCalled (FnOnceReturnsAtMut F.FnOnce words.1) handle.value result.1 result.0.value }
+{
+    let (alloc, call) = words;
+    let Some(mut heap) = into_box(handle) else {
+        return (closed(alloc), Err(Refusal::NotOpen));
+    };
+    let answer = call_on(&mut heap, call);
+    (opened(heap), answer)
+}
+
+fn call_on<A, F: FnOnce(&mut PausedHeap) -> Result<A, Refusal>>(
+    heap: &mut RacingHeap,
+    call: F,
+) -> Result<A, Refusal>
+    requires callable { F.IsAlwaysCallable call }
+    requires kept { (old new : Halt) (r : Result A Refusal)
+        → FnOnceReturnsAtMut F.FnOnce call old r new → IsKept old new }
+    ensures { IsCalled (FnOnceReturnsAtMut F.FnOnce call) (Some heap.old) result (Some heap.new) }
+{
+    let RacingHeap::Paused(at) = heap else {
+        return Err(Refusal::NotPaused);
+    };
+    call(&mut at.pause)
+}

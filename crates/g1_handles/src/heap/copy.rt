@@ -1,0 +1,28 @@
+//! A range of slots is copied to another one at a pause.
+ghost use Rattle.std.specs.Prelude.{◌≡◌, OnOk, IfErr, OnErr};
+ghost use Rattle.g1_handles.specs.AtPause.{IsKept, Copies};
+ghost use Rattle.g1_handles.specs.Lacks.{LacksRanges};
+
+use crate::code::Refusal;
+use crate::heap::at_pause::PausedHeap;
+use crate::one_core::copy::has_slots;
+
+/// Copies the words of `count` slots, from the slot `from` on, to as many from the slot `to` on.
+/// Returns `NoSlot` if one of the two ranges leaves the heap: nothing has changed.
+#[tactic(auto, using(crate::proofs::Kept::kept_same, crate::proofs::Kept::kept_race))]
+pub fn copy_at(heap: &mut PausedHeap, from: u32, to: u32, count: u32) -> Result<(), Refusal>
+    ensures copied { OnOk result (Copies heap.old from to count heap.new) }
+    ensures why { IfErr result (LacksRanges heap.old.layout from count to count) }
+    ensures refused { OnErr result (heap.new ≡ heap.old) }
+    ensures kept { IsKept heap.old heap.new }
+{
+    let layout = heap.layout();
+    if !has_slots(layout, from, count as usize) || !has_slots(layout, to, count as usize) {
+        return Err(Refusal::NoSlot);
+    }
+    // Only an empty range begins behind the last slot.
+    if let (Some(from), Some(to)) = (layout.slot(from), layout.slot(to)) {
+        heap.copy_slots(from, to, count);
+    }
+    Ok(())
+}

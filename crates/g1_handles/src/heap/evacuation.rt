@@ -1,0 +1,119 @@
+//! What follows an evacuation: references are moved or a remembered set is emptied, and a region is
+//! freed.
+ghost use Rattle.std.specs.Prelude.{◌≡◌, ◌≢◌, ◌<◌, ◌⊎◌, ℕ, true, false, IfOk, OnOk, IfErr, OnErr};
+ghost use Rattle.g1_layout.specs.Shape.{region_of};
+ghost use Rattle.g1_core.specs.Table.{Crosses};
+ghost use Rattle.g1_race.specs.Over.{halted};
+ghost use Rattle.g1_handles.specs.AtPause.{IsKept, ClearsAt, Redirects, Wipes, Forgets, RefersOut};
+ghost use Rattle.g1_handles.specs.Codes.{cleared_of, IsClearWord};
+ghost use Rattle.g1_handles.specs.Lacks.{LacksRegion};
+
+use crate::code::Refusal;
+use crate::heap::at_pause::PausedHeap;
+use crate::one_core::clearing::words_of;
+use g1_layout::{Layout, Region};
+
+/// Empties the remembered set of a region, once no card is dirty and no slot outside the region
+/// refers into it. Returns the word of the reply and the number that goes with it, as
+/// [`clear_in`](crate::one_core::clearing::clear_in) does. Unless that word is 0, nothing has
+/// changed. Returns `NoRegion` if the call was refused.
+#[tactic(auto, using(crate::proofs::Kept::kept_same, crate::proofs::Kept::kept_race))]
+pub fn clear_at(heap: &mut PausedHeap, region: u32) -> Result<(u32, u32), Refusal>
+    ensures cleared { IfOk result (λ answer.
+        ClearsAt heap.old region (cleared_of answer.0 answer.1) heap.new) }
+    ensures words { IfOk result (λ answer. IsClearWord answer.0 answer.1) }
+    ensures left { IfOk result (λ answer. 0 < answer.0 → heap.new ≡ heap.old) }
+    ensures why { IfErr result (LacksRegion heap.old.layout region) }
+    ensures refused { OnErr result (heap.new ≡ heap.old) }
+    ensures kept { IsKept heap.old heap.new }
+{
+    let Some(region) = heap.layout().region(region) else {
+        return Err(Refusal::NoRegion);
+    };
+    Ok(words_of(heap.clear(region)))
+}
+
+/// Moves the references into one region to another, and returns how many slots changed. Returns
+/// `NoRegion`, for either region, or `SameRegion` if the call was refused: nothing has changed.
+#[tactic(auto, using(crate::proofs::Kept::kept_same, crate::proofs::Kept::kept_refined))]
+pub fn redirect_at(heap: &mut PausedHeap, from: u32, to: u32) -> Result<u32, Refusal>
+    ensures redirected { IfOk result (λ slots. Redirects heap.old from to slots heap.new) }
+    ensures why { IfErr result (λ refusal. LacksRegion heap.old.layout from refusal
+        ⊎ LacksRegion heap.old.layout to refusal ⊎ ((refusal ≡ Refusal.SameRegion) × (from ≡ to))) }
+    ensures refused { OnErr result (heap.new ≡ heap.old) }
+    ensures kept { IsKept heap.old heap.new }
+{
+    let layout = heap.layout();
+    let Some(from) = layout.region(from) else {
+        return Err(Refusal::NoRegion);
+    };
+    let Some(to) = layout.region(to) else {
+        return Err(Refusal::NoRegion);
+    };
+    if from == to {
+        return Err(Refusal::SameRegion);
+    }
+    Ok(heap.redirect_in_place(from, to))
+}
+
+/// Stores null into each slot of a region. Returns `NoRegion` if the call was refused: nothing has
+/// changed.
+#[tactic(auto, using(crate::proofs::Kept::kept_same, crate::proofs::Kept::kept_race))]
+pub fn wipe_at(heap: &mut PausedHeap, region: u32) -> Result<(), Refusal>
+    ensures wiped { OnOk result (Wipes heap.old region heap.new) }
+    ensures why { IfErr result (LacksRegion heap.old.layout region) }
+    ensures refused { OnErr result (heap.new ≡ heap.old) }
+    ensures kept { IsKept heap.old heap.new }
+{
+    let Some(region) = heap.layout().region(region) else {
+        return Err(Refusal::NoRegion);
+    };
+    heap.wipe(region);
+    Ok(())
+}
+
+/// Removes a region's cards from all remembered sets. Returns `NoRegion`, or `StillReferenced` if a
+/// slot of the region refers out of it: nothing has changed.
+#[tactic(auto, using(crate::proofs::Kept::kept_same, crate::proofs::Kept::kept_race))]
+pub fn forget_at(heap: &mut PausedHeap, region: u32) -> Result<(), Refusal>
+    ensures forgotten { OnOk result (Forgets heap.old region heap.new) }
+    ensures why { IfErr result (λ refusal. LacksRegion heap.old.layout region refusal
+        ⊎ ((refusal ≡ Refusal.StillReferenced) × RefersOut heap.old region)) }
+    ensures refused { OnErr result (heap.new ≡ heap.old) }
+    ensures kept { IsKept heap.old heap.new }
+{
+    let layout = heap.layout();
+    let Some(region) = layout.region(region) else {
+        return Err(Refusal::NoRegion);
+    };
+    if refers_out(heap, layout, region) {
+        return Err(Refusal::StillReferenced);
+    }
+    heap.forget(region);
+    Ok(())
+}
+
+/// Whether a slot of a region refers out of it.
+fn refers_out(heap: &mut PausedHeap, layout: Layout, region: Region) -> bool
+    requires layout { layout ≡ heap.old.layout }
+    requires region { region < layout.regions }
+    ensures some { result ≡ true → RefersOut heap.old region }
+    ensures none { result ≡ false → (slot place : ℕ) → Crosses (halted heap.old) slot place
+        → region_of layout slot ≢ region }
+    ensures same { heap.new ≡ heap.old }
+{
+    let (_, cards, slots) = layout.counts();
+    let span = cards * slots;
+    let first = region.number() * span;
+    for i in 0..span {
+        let Some(slot) = layout.slot(first + i) else {
+            unreachable!()
+        };
+        if let Some(target) = heap.target(slot) {
+            if layout.region_of(target) != region {
+                return true;
+            }
+        }
+    }
+    false
+}

@@ -1,0 +1,172 @@
+//! How a heap whose stores race begins and ends: at a pause.
+ghost use Rattle.std.specs.Prelude.{◌≡◌, IsTrue, Some, None, All, IfOk, IfErr, OnOk, OnErr};
+ghost use Rattle.std.specs.Prelude.{ℕ, ◌<◌, slice_index_or, vec_len};
+ghost use Rattle.std.specs.Arc.{arc_value};
+ghost use Rattle.g1_handles.specs.Codes.{layout_of};
+ghost use Rattle.g1_handles.specs.Life.{IsNewHeap, IsOpeningRefused, AreHeapCounts, OfPaused};
+ghost use Rattle.g1_handles.specs.Life.{IsEndRefused, HasCountedNothing};
+ghost use Rattle.g1_handles.specs.Counting.{no_counts};
+
+use crate::any_handle::{closed, into_box, is_closed, opened};
+use crate::code::Refusal;
+use crate::heap::handle::HeapHandle;
+use crate::heap::racing_heap::{AtPause, RacingHeap, Readers, Room};
+use crate::member::counts::MemberCounts;
+use crate::member::{Member, Part};
+use crate::one_core::open::Counts;
+use core::mem::replace_with;
+use g1_layout::{Layout, NoMemory};
+use g1_race::{Paused, Race};
+use std::alloc::Global;
+use std::sync::Arc;
+
+/// Opens a heap at a pause in a closed handle, for this many racers and sweepers, 1 to 64 of each.
+/// Its slots are all null and its cards are all clean. Takes all memory that the heap ever takes.
+///
+/// Returns `AlreadyOpen`, whatever else is so, `BadMembers`, `BadLayout` or `NoMemory`: the handle
+/// has not changed.
+pub fn open_heap(
+    alloc: Global,
+    handle: &mut HeapHandle,
+    counts: &Counts,
+    racers: u32,
+    sweepers: u32,
+) -> Result<(), Refusal>
+    ensures opened { OnOk result
+        (OfPaused handle.new.value (IsNewHeap (layout_of counts.now) racers sweepers)) }
+    ensures counts { OnOk result (HasCountedNothing handle.new.value) }
+    ensures closed { OnOk result (handle.old.value ≡ None) }
+    ensures why { IfErr result (λ refusal.
+        IsOpeningRefused handle.old.value (layout_of counts.now) racers sweepers refusal) }
+    ensures refused { OnErr result (handle.new.value ≡ handle.old.value) }
+{
+    if !is_closed(alloc, handle) {
+        return Err(Refusal::AlreadyOpen);
+    }
+    if !are_heap_counts(racers, sweepers) {
+        return Err(Refusal::BadMembers);
+    }
+    let Some(layout) = Layout::large(counts.regions, counts.cards, counts.slots) else {
+        return Err(Refusal::BadLayout);
+    };
+    let Ok(heap) = new_heap(alloc, layout, racers, sweepers) else {
+        return Err(Refusal::NoMemory);
+    };
+    *handle = opened(heap);
+    Ok(())
+}
+
+/// Whether a heap can have this many racers and sweepers.
+fn are_heap_counts(racers: u32, sweepers: u32) -> bool
+    ensures some { IsTrue result → AreHeapCounts racers sweepers }
+    ensures none { AreHeapCounts racers sweepers → IsTrue result }
+{
+    1 <= racers && racers <= 64 && 1 <= sweepers && sweepers <= 64
+}
+
+fn new_heap(
+    alloc: Global,
+    layout: Layout,
+    racers: u32,
+    sweepers: u32,
+) -> Result<Box<RacingHeap>, NoMemory>
+    requires { AreHeapCounts racers sweepers }
+    ensures opened { IfOk result (λ heap.
+        OfPaused (Some heap.value) (IsNewHeap layout racers sweepers)) }
+    ensures counts { IfOk result (λ heap. HasCountedNothing (Some heap.value)) }
+{
+    let paused = Paused::open(alloc, layout, racers, sweepers)?;
+    let (pause, race) = paused.shared(alloc)?;
+    let racers = waiting(alloc, &race, racers as usize)?;
+    let sweepers = waiting(alloc, &race, sweepers as usize)?;
+    let readers = idle_readers(alloc, &race, pause.reader_limit())?;
+    let at = AtPause {
+        race,
+        pause,
+        racers,
+        sweepers,
+        readers,
+    };
+    Ok(Box::new(alloc, RacingHeap::Paused(at))?)
+}
+
+/// As many readers that read nothing, with room for all of them.
+fn idle_readers(alloc: Global, race: &Arc<Race, Global>, count: usize) -> Result<Readers, NoMemory>
+    ensures count { IfOk result (λ readers. vec_len readers.idle ≡ count) }
+    ensures race { IfOk result (λ readers.
+        All (λ m. arc_value m.value.race ≡ arc_value race.now) readers.idle.items) }
+{
+    let idle = waiting(alloc, race, count)?;
+    let out = Room {
+        count: 0,
+        parts: Vec::with_capacity(alloc, count)?,
+        boxes: Vec::with_capacity(alloc, count)?,
+    };
+    Ok(Readers { idle, out })
+}
+
+/// As many members that wait, each in its box, and have counted nothing. The number of each is its
+/// place.
+fn waiting<P: Part>(
+    alloc: Global,
+    race: &Arc<Race, Global>,
+    count: usize,
+) -> Result<Vec<Box<Member<P>>>, NoMemory>
+    ensures count { IfOk result (λ members. vec_len members ≡ count) }
+    ensures race { IfOk result (λ members.
+        All (λ m. arc_value m.value.race ≡ arc_value race.now) members.items) }
+    ensures counts { IfOk result (λ members.
+        All (λ m. m.value.counts ≡ no_counts) members.items) }
+    ensures numbers { IfOk result (λ members. (i : ℕ) (m : _) → i < vec_len members →
+        (slice_index_or members.items i m).value.number ≡ i) }
+{
+    let mut members = Vec::with_capacity(alloc, count)?;
+    for number in 0..count {
+        let race = Arc::try_clone(race)?;
+        let member = Member {
+            race,
+            number,
+            part: None,
+            counts: MemberCounts::none(),
+            apart: [0; 8],
+        };
+        members.push(Box::new(alloc, member)?)?;
+    }
+    Ok(members)
+}
+
+/// Closes a heap at a pause, and frees all that it has.
+///
+/// Returns `NotOpen`, or `NotPaused` if its members are out or readers read it: the handle has not
+/// changed.
+pub fn close_heap(alloc: Global, handle: &mut HeapHandle) -> Result<(), Refusal>
+    ensures closed { OnOk result (handle.new.value ≡ None) }
+    ensures paused { OnOk result (OfPaused handle.old.value (λ p. Unit {0})) }
+    ensures why { IfErr result (λ refusal. IsEndRefused handle.old.value refusal) }
+    ensures refused { OnErr result (handle.new.value ≡ handle.old.value) }
+{
+    replace_with(handle, alloc, close_in)
+}
+
+fn close_in(handle: HeapHandle, alloc: Global) -> (HeapHandle, Result<(), Refusal>)
+    ensures closed { OnOk result.1 (result.0.value ≡ None) }
+    ensures paused { OnOk result.1 (OfPaused handle.value (λ p. Unit {0})) }
+    ensures why { IfErr result.1 (λ refusal. IsEndRefused handle.value refusal) }
+    ensures refused { OnErr result.1 (result.0.value ≡ handle.value) }
+{
+    let Some(heap) = into_box(handle) else {
+        return (closed(alloc), Err(Refusal::NotOpen));
+    };
+    if is_paused(&heap) {
+        (closed(alloc), Ok(()))
+    } else {
+        (opened(heap), Err(Refusal::NotPaused))
+    }
+}
+
+fn is_paused(heap: &RacingHeap) -> bool
+    ensures paused { IsTrue result → OfPaused (Some heap.now) (λ p. Unit {0}) }
+    ensures racing { OfPaused (Some heap.now) (λ p. Unit {0}) → IsTrue result }
+{
+    matches!(heap, RacingHeap::Paused(_))
+}

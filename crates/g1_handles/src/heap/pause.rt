@@ -1,0 +1,227 @@
+//! How a heap whose stores race comes to a pause.
+ghost use Rattle.std.specs.Prelude.{◌≡◌, ◌≤◌, Some, All, IfErr, OnOk, OnErr};
+ghost use Rattle.std.specs.Prelude.{IsSome, length, map, vec_capacity};
+ghost use Rattle.std.specs.Arc.{arc_value};
+ghost use Rattle.g1_race.specs.declared.race.Race.{Race};
+ghost use Rattle.g1_race.specs.Members.{racer_view, sweeper_view, racer_log};
+ghost use Rattle.g1_handles.specs.Life.{OfPaused, OfRacing, IsFor, IsPauseOf, IsPausedWith};
+ghost use Rattle.g1_handles.specs.Life.{IsPauseRefused, AreOfHeap, AreLikeOf, AreFor, ComesIn};
+ghost use Rattle.g1_handles.specs.Life.{heap_race, heap_counts, held_counts, boxed_counts};
+ghost use Rattle.g1_handles.specs.Life.{waiting_counts};
+ghost use Rattle.g1_handles.specs.Racing.{held_racers, held_sweepers, part_in, AreClosed, IsOf};
+ghost use Rattle.g1_handles.specs.Racing.{counts_of};
+
+use crate::any_handle::{AnyHandle, closed, into_box, opened};
+use crate::code::Refusal;
+use crate::heap::handle::HeapHandle;
+use crate::heap::look::look_at;
+use crate::heap::one_race::share_of_race;
+use crate::heap::racing_heap::{AtPause, RacingHeap, UnderWay};
+use crate::member::racer_handle::RacerHandle;
+use crate::member::sweeper_handle::SweeperHandle;
+use crate::member::{Member, Part};
+use core::mem::{replace, replace_with};
+use g1_race::{Paused, Race};
+use std::alloc::Global;
+use std::sync::Arc;
+
+/// Brings the heap of a handle to a pause. All its racers and sweepers must be handed in, and their
+/// handles are closed. What each member has counted stays with the heap. Takes no memory.
+///
+/// Returns `NotOpen`, also for a member's handle, `NotRacing`, `BadMembers` if there are not as
+/// many handles as the heap was opened for, or `OtherRace` for a member of another heap or one that
+/// is given twice: nothing has changed. Members of other heaps are refused before anything relies
+/// on the condition `one`.
+pub fn pause_heap(
+    alloc: Global,
+    handle: &mut HeapHandle,
+    racers: &mut [RacerHandle],
+    sweepers: &mut [SweeperHandle],
+) -> Result<(), Refusal>
+    requires one { IsFor handle.old.value (length racers.old) (length sweepers.old) →
+        AreLikeOf handle.old.value (held_racers racers.old) (held_sweepers sweepers.old) →
+        AreOfHeap handle.old.value (held_racers racers.old) (held_sweepers sweepers.old) }
+    ensures paused { OnOk result (OfRacing handle.old.value (λ b. OfPaused handle.new.value
+        (IsPausedWith (arc_value b.race) (held_racers racers.old) (held_sweepers sweepers.old)))) }
+    ensures same { OnOk result (heap_race handle.new.value ≡ heap_race handle.old.value) }
+    ensures counts { OnOk result (heap_counts handle.new.value
+        ≡ held_counts (held_racers racers.old) (held_sweepers sweepers.old)) }
+    ensures members { OnOk result (IsFor handle.old.value (length racers.old) (length sweepers.old)
+        × IsFor handle.new.value (length racers.old) (length sweepers.old)) }
+    ensures like { OnOk result (AreLikeOf handle.old.value (held_racers racers.old)
+        (held_sweepers sweepers.old)) }
+    ensures closed { OnOk result (AreClosed (held_racers racers.new)
+        × AreClosed (held_sweepers sweepers.new)) }
+    ensures why { IfErr result (λ refusal.
+        IsPauseRefused handle.old.value (held_racers racers.old)
+        (held_sweepers sweepers.old) refusal) }
+    ensures refused { OnErr result ((handle.new.value ≡ handle.old.value)
+        × (held_racers racers.new ≡ held_racers racers.old)
+        × (held_sweepers sweepers.new ≡ held_sweepers sweepers.old)) }
+{
+    let Some(mut heap) = into_box(replace(handle, closed(alloc))) else {
+        return Err(Refusal::NotOpen);
+    };
+    let answer = pause_of(alloc, &mut heap, racers, sweepers);
+    *handle = opened(heap);
+    answer
+}
+
+fn pause_of(
+    alloc: Global,
+    heap: &mut RacingHeap,
+    racers: &mut [RacerHandle],
+    sweepers: &mut [SweeperHandle],
+) -> Result<(), Refusal>
+    requires one { IsFor (Some heap.old) (length racers.old) (length sweepers.old) →
+        AreLikeOf (Some heap.old) (held_racers racers.old) (held_sweepers sweepers.old) →
+        AreOfHeap (Some heap.old) (held_racers racers.old) (held_sweepers sweepers.old) }
+    ensures paused { OnOk result (OfRacing (Some heap.old) (λ b. OfPaused (Some heap.new)
+        (IsPausedWith (arc_value b.race) (held_racers racers.old) (held_sweepers sweepers.old)))) }
+    ensures same { OnOk result (heap_race (Some heap.new) ≡ heap_race (Some heap.old)) }
+    ensures counts { OnOk result (heap_counts (Some heap.new)
+        ≡ held_counts (held_racers racers.old) (held_sweepers sweepers.old)) }
+    ensures members { OnOk result (IsFor (Some heap.old) (length racers.old) (length sweepers.old)
+        × IsFor (Some heap.new) (length racers.old) (length sweepers.old)) }
+    ensures like { OnOk result (AreLikeOf (Some heap.old) (held_racers racers.old)
+        (held_sweepers sweepers.old)) }
+    ensures closed { OnOk result (AreClosed (held_racers racers.new)
+        × AreClosed (held_sweepers sweepers.new)) }
+    ensures why { IfErr result (λ refusal.
+        IsPauseRefused (Some heap.old) (held_racers racers.old)
+        (held_sweepers sweepers.old) refusal) }
+    ensures refused { OnErr result ((heap.new ≡ heap.old)
+        × (held_racers racers.new ≡ held_racers racers.old)
+        × (held_sweepers sweepers.new ≡ held_sweepers sweepers.old)) }
+{
+    let RacingHeap::Racing(under_way) = &*heap else {
+        return Err(Refusal::NotRacing);
+    };
+    if racers.len() != under_way.racers.count || sweepers.len() != under_way.sweepers.count {
+        return Err(Refusal::BadMembers);
+    }
+    let members = under_way.race.members();
+    look_at(alloc, racers, members)?;
+    look_at(alloc, sweepers, members)?;
+    let Some(share) = share_of_race(alloc, &under_way.race, racers, sweepers) else {
+        return Err(Refusal::OtherRace);
+    };
+    let RacingHeap::Racing(under_way) = heap else {
+        unreachable!()
+    };
+    take_in(alloc, under_way, racers, sweepers);
+    replace_with(heap, share, come_in);
+    Ok(())
+}
+
+/// Takes the members of these handles in.
+fn take_in(
+    alloc: Global,
+    under_way: &mut UnderWay,
+    racers: &mut [RacerHandle],
+    sweepers: &mut [SweeperHandle],
+)
+    requires racers { (length racers.old ≡ under_way.old.racers.count)
+        × All (λ m. IsSome (part_in m)) (held_racers racers.old)
+        × All (IsOf (arc_value under_way.old.race)) (held_racers racers.old) }
+    requires sweepers { (length sweepers.old ≡ under_way.old.sweepers.count)
+        × All (λ m. IsSome (part_in m)) (held_sweepers sweepers.old)
+        × All (IsOf (arc_value under_way.old.race)) (held_sweepers sweepers.old) }
+    ensures came { ComesIn under_way.old under_way.new (held_racers racers.old)
+        (held_sweepers sweepers.old) }
+    ensures closed { AreClosed (held_racers racers.new) × AreClosed (held_sweepers sweepers.new) }
+{
+    let UnderWay {
+        race: _,
+        racers: racing,
+        sweepers: sweeping,
+        readers: _,
+    } = under_way;
+    gather(alloc, racers, &mut racing.parts, &mut racing.boxes);
+    gather(alloc, sweepers, &mut sweeping.parts, &mut sweeping.boxes);
+}
+
+/// The heap is at a pause once its members are in.
+fn come_in(heap: RacingHeap, share: Arc<Race, Global>) -> (RacingHeap, ())
+    requires { OfRacing (Some heap) (λ b. (arc_value share ≡ arc_value b.race)
+        × AreFor (arc_value b.race) b.racers.count b.racers.boxes b.racers.parts
+        × AreFor (arc_value b.race) b.sweepers.count b.sweepers.boxes b.sweepers.parts) }
+    ensures paused { OfRacing (Some heap) (λ b. OfPaused (Some result.0) (IsPauseOf
+        (arc_value b.race) (map racer_view b.racers.parts.items)
+        (map sweeper_view b.sweepers.parts.items) (map racer_log b.racers.parts.items))) }
+    ensures members { OfRacing (Some heap) (λ b.
+        IsFor (Some result.0) b.racers.count b.sweepers.count) }
+    ensures race { heap_race (Some result.0) ≡ heap_race (Some heap) }
+    ensures counts { OfRacing (Some heap) (λ b.
+        heap_counts (Some result.0) ≡ waiting_counts b) }
+{
+    match heap {
+        RacingHeap::Racing(under_way) => (RacingHeap::Paused(halt(under_way, share)), ()),
+        RacingHeap::Paused(_) | RacingHeap::Read(_) => unreachable!(),
+    }
+}
+
+fn halt(under_way: UnderWay, share: Arc<Race, Global>) -> AtPause
+    requires share { arc_value share ≡ arc_value under_way.race }
+    requires racers { AreFor (arc_value under_way.race) under_way.racers.count
+        under_way.racers.boxes under_way.racers.parts }
+    requires sweepers { AreFor (arc_value under_way.race) under_way.sweepers.count
+        under_way.sweepers.boxes under_way.sweepers.parts }
+    ensures paused { IsPauseOf (arc_value under_way.race)
+        (map racer_view under_way.racers.parts.items)
+        (map sweeper_view under_way.sweepers.parts.items)
+        (map racer_log under_way.racers.parts.items) result.pause }
+    ensures members { (under_way.racers.count ≡ length result.pause.logs)
+        × (under_way.sweepers.count ≡ result.pause.sweepers) }
+    ensures race { result.race ≡ under_way.race }
+    ensures boxes { (result.racers ≡ under_way.racers.boxes)
+        × (result.sweepers ≡ under_way.sweepers.boxes) }
+{
+    let UnderWay {
+        race,
+        racers,
+        sweepers,
+        readers,
+    } = under_way;
+    let pause = Paused::of(share, racers.parts, sweepers.parts);
+    AtPause {
+        race,
+        pause,
+        racers: racers.boxes,
+        sweepers: sweepers.boxes,
+        readers,
+    }
+}
+
+/// Takes the parts of these handles' members, and lets their boxes wait. The handles are closed
+/// then.
+pub(crate) fn gather<P: Part, H: AnyHandle<Value = Member<P>>>(
+    alloc: Global,
+    handles: &mut [H],
+    parts: &mut Vec<P>,
+    boxes: &mut Vec<Box<Member<P>>>,
+)
+    requires room { (length handles.old ≤ vec_capacity parts.old)
+        × (length handles.old ≤ vec_capacity boxes.old) }
+    requires parts { All (λ m. IsSome (part_in m)) (map H.value handles.old) }
+    ensures room { (vec_capacity parts.new ≡ vec_capacity parts.old)
+        × (vec_capacity boxes.new ≡ vec_capacity boxes.old) }
+    ensures closed { AreClosed (map H.value handles.new) }
+    ensures members { (race : Race) → All (IsOf race) (map H.value handles.old) →
+        AreFor race (length handles.old) boxes.new parts.new }
+    ensures parts { map Some parts.new.items ≡ map part_in (map H.value handles.old) }
+    ensures counts { boxed_counts boxes.new ≡ map counts_of (map H.value handles.old) }
+{
+    parts.clear();
+    boxes.clear();
+    for i in 0..handles.len() {
+        let Some(mut member) = into_box(replace(&mut handles[i], closed(alloc))) else {
+            unreachable!()
+        };
+        let Some(part) = member.park() else {
+            unreachable!()
+        };
+        parts.push_reserved(part);
+        boxes.push_reserved(member);
+    }
+}

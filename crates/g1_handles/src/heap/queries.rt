@@ -1,0 +1,73 @@
+//! Queries at a pause: what a slot refers to, whether a card is pending, how much is pending and
+//! recorded, and what is recorded for a region, card by card.
+ghost use Rattle.std.specs.Prelude.{◌≡◌, IfOk, IfErr};
+ghost use Rattle.g1_handles.specs.Codes.{reference_of};
+ghost use Rattle.g1_handles.specs.AtPause.{IsKept, SlotRefers, TellsPending, TellsStatus};
+ghost use Rattle.g1_race.specs.Over.{halted};
+ghost use Rattle.g1_race.specs.Reading.{IsNextMember};
+ghost use Rattle.g1_handles.specs.Lacks.{LacksCard, LacksRegion, LacksSlot};
+
+use crate::code::{NULL, Refusal};
+use crate::heap::at_pause::PausedHeap;
+use crate::one_core::queries::word_of;
+use g1_core::Status;
+
+/// Returns the word of what a slot refers to, or `NoSlot`.
+#[tactic(auto, using(crate::proofs::Kept::kept_same))]
+pub fn target_at(heap: &mut PausedHeap, slot: u32) -> Result<u32, Refusal>
+    ensures target { IfOk result (λ word. SlotRefers heap.old slot (reference_of word)) }
+    ensures why { IfErr result (LacksSlot heap.old.layout slot) }
+    ensures same { heap.new ≡ heap.old }
+    ensures kept { IsKept heap.old heap.new }
+{
+    let layout = heap.layout();
+    let Some(slot) = layout.slot(slot) else {
+        return Err(Refusal::NoSlot);
+    };
+    Ok(word_of(layout, heap.target(slot)))
+}
+
+/// Returns whether a card is pending, or `NoCard`.
+#[tactic(auto, using(crate::proofs::Kept::kept_same))]
+pub fn is_pending_at(heap: &mut PausedHeap, card: u32) -> Result<bool, Refusal>
+    ensures pending { IfOk result (TellsPending heap.old card) }
+    ensures why { IfErr result (LacksCard heap.old.layout card) }
+    ensures same { heap.new ≡ heap.old }
+    ensures kept { IsKept heap.old heap.new }
+{
+    let Some(card) = heap.layout().card(card) else {
+        return Err(Refusal::NoCard);
+    };
+    Ok(heap.is_pending(card))
+}
+
+/// Returns how much is pending and recorded.
+#[tactic(auto, using(crate::proofs::Kept::kept_same))]
+pub fn status_at(heap: &mut PausedHeap) -> Status
+    ensures status { TellsStatus heap.old result }
+    ensures same { heap.new ≡ heap.old }
+    ensures kept { IsKept heap.old heap.new }
+{
+    heap.status()
+}
+
+/// Returns the word of the least card from the number `from` on that is recorded for a region, or
+/// of null if there is none. Returns `NoRegion` if the call was refused.
+#[tactic(auto, using(crate::proofs::Kept::kept_same))]
+pub fn next_member_at(heap: &mut PausedHeap, region: u32, from: u32) -> Result<u32, Refusal>
+    ensures next { IfOk result (λ word.
+        IsNextMember (halted heap.old) region from (reference_of word)) }
+    ensures why { IfErr result (LacksRegion heap.old.layout region) }
+    ensures same { heap.new ≡ heap.old }
+    ensures kept { IsKept heap.old heap.new }
+{
+    let layout = heap.layout();
+    let _limit = layout.card_count();
+    let Some(region) = layout.region(region) else {
+        return Err(Refusal::NoRegion);
+    };
+    match heap.next_member(region, from) {
+        Some(card) => Ok(card.number()),
+        None => Ok(NULL),
+    }
+}

@@ -1,0 +1,168 @@
+//! How a heap at a pause is lent to several threads, each of which reads it by a reader.
+ghost use Rattle.std.specs.Prelude.{◌≡◌, ◌+◌, ◌≤◌, Some, All, IfErr, OnOk, OnErr, length, map};
+ghost use Rattle.std.specs.Prelude.{vec_len, vec_capacity};
+ghost use Rattle.std.specs.Arc.{arc_value};
+ghost use Rattle.g1_race.specs.declared.race.Race.{Race};
+ghost use Rattle.g1_handles.specs.Life.{OfHeap, OfPaused, OfRead, AreFor};
+ghost use Rattle.g1_handles.specs.Racing.{held_readers, part_in, AreClosed, IsOf};
+ghost use Rattle.g1_handles.specs.Readers.{AreReadersAt, IsLentHeap, IsReadBy, IsReadRefused};
+ghost use Rattle.g1_handles.specs.Readers.{IsLent, AreOut};
+
+use crate::any_handle::{are_closed, closed, into_box, opened};
+use crate::code::Refusal;
+use crate::heap::handle::HeapHandle;
+use crate::heap::racing_heap::{AtPause, BeingRead, RacingHeap, Readers, Room};
+use crate::heap::resume::hand_out_to;
+use crate::member::reader_handle::ReaderHandle;
+use crate::member::{Member, Part};
+use core::mem::{replace, replace_with};
+use std::alloc::Global;
+
+/// Lets threads read the heap of a handle, which is at a pause, and puts a reader into each of
+/// these closed handles. A reader reads what the pause has. Nothing changes until the reading ends.
+/// Takes no memory.
+///
+/// Returns `NotOpen`, `NotPaused`, `BadMembers` if there are more handles than the heap has racers
+/// and sweepers, or `AlreadyOpen` for a reader's handle: nothing has changed.
+pub fn read_heap(
+    alloc: Global,
+    handle: &mut HeapHandle,
+    readers: &mut [ReaderHandle],
+) -> Result<(), Refusal>
+    ensures lent { OnOk result (IsLentHeap handle.old.value handle.new.value) }
+    ensures readers { OnOk result (OfPaused handle.old.value (λ p. OfHeap handle.old.value (λ race.
+        AreReadersAt race p (held_readers readers.new)))) }
+    ensures count { OnOk result (IsReadBy handle.new.value (length readers.old)) }
+    ensures closed { OnOk result (AreClosed (held_readers readers.old)) }
+    ensures why { IfErr result (IsReadRefused handle.old.value (held_readers readers.old)) }
+    ensures refused { OnErr result ((handle.new.value ≡ handle.old.value)
+        × (held_readers readers.new ≡ held_readers readers.old)) }
+{
+    let Some(mut heap) = into_box(replace(handle, closed(alloc))) else {
+        return Err(Refusal::NotOpen);
+    };
+    let answer = read_of(alloc, &mut heap, readers);
+    *handle = opened(heap);
+    answer
+}
+
+fn read_of(
+    alloc: Global,
+    heap: &mut RacingHeap,
+    readers: &mut [ReaderHandle],
+) -> Result<(), Refusal>
+    ensures lent { OnOk result (IsLentHeap (Some heap.old) (Some heap.new)) }
+    ensures readers { OnOk result (OfPaused (Some heap.old) (λ p. OfHeap (Some heap.old) (λ race.
+        AreReadersAt race p (held_readers readers.new)))) }
+    ensures count { OnOk result (IsReadBy (Some heap.new) (length readers.old)) }
+    ensures closed { OnOk result (AreClosed (held_readers readers.old)) }
+    ensures why { IfErr result (IsReadRefused (Some heap.old) (held_readers readers.old)) }
+    ensures refused { OnErr result ((heap.new ≡ heap.old)
+        × (held_readers readers.new ≡ held_readers readers.old)) }
+{
+    let RacingHeap::Paused(at) = &*heap else {
+        return Err(Refusal::NotPaused);
+    };
+    if readers.len() > at.readers.idle.len() {
+        return Err(Refusal::BadMembers);
+    }
+    if !are_closed(alloc, readers) {
+        return Err(Refusal::AlreadyOpen);
+    }
+    replace_with(heap, readers.len(), lend);
+    let RacingHeap::Read(being_read) = heap else {
+        unreachable!()
+    };
+    hand_out_readers(being_read, readers);
+    Ok(())
+}
+
+/// Lends a heap at a pause to this many readers, which are not handed out yet.
+fn lend(heap: RacingHeap, count: usize) -> (RacingHeap, ())
+    requires { OfPaused (Some heap) (λ p. count ≤ p.shape.members) }
+    ensures lent { IsLentHeap (Some heap) (Some result.0) }
+    ensures out { OfRead (Some result.0) (AreOut count) }
+{
+    match heap {
+        RacingHeap::Paused(at) => (RacingHeap::Read(lent(at, count)), ()),
+        RacingHeap::Read(_) | RacingHeap::Racing(_) => unreachable!(),
+    }
+}
+
+fn lent(at: AtPause, count: usize) -> BeingRead
+    requires { count ≤ at.pause.shape.members }
+    ensures lent { IsLent at result }
+    ensures out { AreOut count result }
+{
+    let AtPause {
+        race,
+        pause,
+        racers,
+        sweepers,
+        readers,
+    } = at;
+    let Readers { mut idle, out } = readers;
+    let Room {
+        count: _,
+        mut parts,
+        mut boxes,
+    } = out;
+    parts.clear();
+    boxes.clear();
+    move_boxes(&mut idle, &mut boxes, count);
+    let reading = pause.read_by(&mut parts, count);
+    let out = Room {
+        count,
+        parts,
+        boxes,
+    };
+    BeingRead {
+        race,
+        reading,
+        racers,
+        sweepers,
+        readers: Readers { idle, out },
+    }
+}
+
+/// Moves this many boxes of members that wait from one list to another.
+pub(crate) fn move_boxes<P: Part>(
+    from: &mut Vec<Box<Member<P>>>,
+    to: &mut Vec<Box<Member<P>>>,
+    count: usize,
+)
+    requires some { count ≤ vec_len from.old }
+    requires room { vec_len to.old + count ≤ vec_capacity to.old }
+    ensures from { vec_len from.new + count ≡ vec_len from.old }
+    ensures to { vec_len to.new ≡ vec_len to.old + count }
+    ensures room { (vec_capacity from.new ≡ vec_capacity from.old)
+        × (vec_capacity to.new ≡ vec_capacity to.old) }
+    ensures race { (race : Race) → All (λ m. arc_value m.value.race ≡ race) from.old.items →
+        All (λ m. arc_value m.value.race ≡ race) to.old.items →
+        All (λ m. arc_value m.value.race ≡ race) from.new.items
+        × All (λ m. arc_value m.value.race ≡ race) to.new.items }
+{
+    for _i in 0..count {
+        let Some(member) = from.pop() else {
+            unreachable!()
+        };
+        to.push_reserved(member);
+    }
+}
+
+/// Gives each handle a reader of a heap that has just been lent.
+fn hand_out_readers(being_read: &mut BeingRead, readers: &mut [ReaderHandle])
+    requires { AreFor (arc_value being_read.old.race) (length readers.old)
+        being_read.old.readers.out.boxes being_read.old.readers.out.parts }
+    ensures same { (being_read.new.race ≡ being_read.old.race)
+        × (being_read.new.reading ≡ being_read.old.reading)
+        × (being_read.new.racers ≡ being_read.old.racers)
+        × (being_read.new.sweepers ≡ being_read.old.sweepers)
+        × (being_read.new.readers.out.count ≡ being_read.old.readers.out.count) }
+    ensures readers { map part_in (held_readers readers.new)
+        ≡ map Some being_read.old.readers.out.parts.items }
+    ensures race { All (IsOf (arc_value being_read.old.race)) (held_readers readers.new) }
+{
+    let out = &mut being_read.readers.out;
+    hand_out_to(readers, &mut out.boxes, &mut out.parts);
+}

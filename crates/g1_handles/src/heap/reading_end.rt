@@ -1,0 +1,147 @@
+//! How a heap is at its pause again, after threads have read it.
+ghost use Rattle.std.specs.Prelude.{◌≡◌, Some, IfErr, OnOk, OnErr, IsSome, All, length};
+ghost use Rattle.std.specs.Arc.{arc_value};
+ghost use Rattle.g1_handles.specs.Life.{OfRead};
+ghost use Rattle.g1_handles.specs.Racing.{held_readers, part_in, AreClosed};
+ghost use Rattle.g1_handles.specs.Readers.{AreReadersAt, AreReadersOf, AreReadersLike, IsLentHeap};
+ghost use Rattle.g1_handles.specs.Readers.{IsReadBy, IsReadEndRefused, IsLent, AreOut};
+
+use crate::any_handle::{closed, into_box, opened};
+use crate::code::Refusal;
+use crate::heap::handle::HeapHandle;
+use crate::heap::look::look_at;
+use crate::heap::one_race::are_of;
+use crate::heap::pause::gather;
+use crate::heap::racing_heap::{AtPause, BeingRead, RacingHeap, Readers, Room};
+use crate::heap::reading::move_boxes;
+use crate::member::reader_handle::ReaderHandle;
+use core::mem::{replace, replace_with};
+use std::alloc::Global;
+
+/// Ends the reading of the heap of a handle, which is then at its pause as it was. All its readers
+/// must be handed in, and their handles are closed. Takes no memory.
+///
+/// Returns `NotOpen`, also for a reader's handle, `NotPaused` if the heap's members are out,
+/// `BadMembers` if not as many readers read it, or `OtherRace` for a reader of another heap or one
+/// that is given twice: nothing has changed. Readers of other heaps are refused before anything
+/// relies on the condition `one`.
+pub fn end_read_of_heap(
+    alloc: Global,
+    handle: &mut HeapHandle,
+    readers: &mut [ReaderHandle],
+) -> Result<(), Refusal>
+    requires one { IsReadBy handle.old.value (length readers.old) →
+        AreReadersLike handle.old.value (held_readers readers.old) →
+        AreReadersOf handle.old.value (held_readers readers.old) }
+    ensures ended { OnOk result (IsLentHeap handle.new.value handle.old.value) }
+    ensures count { OnOk result (IsReadBy handle.old.value (length readers.old)) }
+    ensures like { OnOk result (AreReadersLike handle.old.value (held_readers readers.old)) }
+    ensures closed { OnOk result (AreClosed (held_readers readers.new)) }
+    ensures why { IfErr result (IsReadEndRefused handle.old.value (held_readers readers.old)) }
+    ensures refused { OnErr result ((handle.new.value ≡ handle.old.value)
+        × (held_readers readers.new ≡ held_readers readers.old)) }
+{
+    let Some(mut heap) = into_box(replace(handle, closed(alloc))) else {
+        return Err(Refusal::NotOpen);
+    };
+    let answer = end_read_of(alloc, &mut heap, readers);
+    *handle = opened(heap);
+    answer
+}
+
+fn end_read_of(
+    alloc: Global,
+    heap: &mut RacingHeap,
+    readers: &mut [ReaderHandle],
+) -> Result<(), Refusal>
+    requires one { IsReadBy (Some heap.old) (length readers.old) →
+        AreReadersLike (Some heap.old) (held_readers readers.old) →
+        AreReadersOf (Some heap.old) (held_readers readers.old) }
+    ensures ended { OnOk result (IsLentHeap (Some heap.new) (Some heap.old)) }
+    ensures count { OnOk result (IsReadBy (Some heap.old) (length readers.old)) }
+    ensures like { OnOk result (AreReadersLike (Some heap.old) (held_readers readers.old)) }
+    ensures closed { OnOk result (AreClosed (held_readers readers.new)) }
+    ensures why { IfErr result (IsReadEndRefused (Some heap.old) (held_readers readers.old)) }
+    ensures refused { OnErr result ((heap.new ≡ heap.old)
+        × (held_readers readers.new ≡ held_readers readers.old)) }
+{
+    let being_read = match &*heap {
+        RacingHeap::Read(being_read) => being_read,
+        RacingHeap::Paused(_) => return Err(Refusal::BadMembers),
+        RacingHeap::Racing(_) => return Err(Refusal::NotPaused),
+    };
+    if readers.len() != being_read.readers.out.count {
+        return Err(Refusal::BadMembers);
+    }
+    look_at(alloc, readers, being_read.race.members())?;
+    if !are_of(alloc, &being_read.race, readers) {
+        return Err(Refusal::OtherRace);
+    }
+    let RacingHeap::Read(being_read) = heap else {
+        unreachable!()
+    };
+    take_in_readers(alloc, being_read, readers);
+    replace_with(heap, (), end);
+    Ok(())
+}
+
+/// Takes the readers of these handles in.
+fn take_in_readers(alloc: Global, being_read: &mut BeingRead, readers: &mut [ReaderHandle])
+    requires count { length readers.old ≡ being_read.old.readers.out.count }
+    requires some { All (λ m. IsSome (part_in m)) (held_readers readers.old) }
+    requires readers { AreReadersAt (arc_value being_read.old.race) being_read.old.reading.pause
+        (held_readers readers.old) }
+    ensures same { (being_read.new.race ≡ being_read.old.race)
+        × (being_read.new.reading ≡ being_read.old.reading)
+        × (being_read.new.racers ≡ being_read.old.racers)
+        × (being_read.new.sweepers ≡ being_read.old.sweepers) }
+    ensures out { AreOut being_read.old.readers.out.count being_read.new }
+    ensures closed { AreClosed (held_readers readers.new) }
+{
+    let out = &mut being_read.readers.out;
+    gather(alloc, readers, &mut out.parts, &mut out.boxes);
+}
+
+/// The heap is at its pause again once its readers are in.
+fn end(heap: RacingHeap, _nothing: ()) -> (RacingHeap, ())
+    requires { OfRead (Some heap) (λ b. AreOut b.readers.out.count b) }
+    ensures { IsLentHeap (Some result.0) (Some heap) }
+{
+    match heap {
+        RacingHeap::Read(being_read) => (RacingHeap::Paused(given_back(being_read)), ()),
+        RacingHeap::Paused(_) | RacingHeap::Racing(_) => unreachable!(),
+    }
+}
+
+fn given_back(being_read: BeingRead) -> AtPause
+    requires { AreOut being_read.readers.out.count being_read }
+    ensures { IsLent result being_read }
+{
+    let BeingRead {
+        race,
+        reading,
+        racers,
+        sweepers,
+        readers,
+    } = being_read;
+    let Readers { mut idle, out } = readers;
+    let Room {
+        count,
+        mut parts,
+        mut boxes,
+    } = out;
+    let pause = reading.pause(&mut parts);
+    move_boxes(&mut boxes, &mut idle, count);
+    let out = Room {
+        count: 0,
+        parts,
+        boxes,
+    };
+    AtPause {
+        race,
+        pause,
+        racers,
+        sweepers,
+        readers: Readers { idle, out },
+    }
+}

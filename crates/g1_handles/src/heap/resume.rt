@@ -1,0 +1,195 @@
+//! How a heap whose stores race goes on after a pause.
+ghost use Rattle.std.specs.Prelude.{◌≡◌, Some, All, IfErr, OnOk, OnErr, length, map};
+ghost use Rattle.std.specs.Prelude.{vec_capacity};
+ghost use Rattle.std.specs.Arc.{arc_value};
+ghost use Rattle.g1_race.specs.declared.race.Race.{Race};
+ghost use Rattle.g1_handles.specs.Life.{OfPaused, OfRacing, GoesOn, LetsGo, IsLetGo, IsFor};
+ghost use Rattle.g1_handles.specs.Life.{IsGoingRefused, AreFor, heap_race};
+ghost use Rattle.g1_handles.specs.Life.{heap_counts, held_counts, boxed_counts, waiting_counts};
+ghost use Rattle.g1_handles.specs.Racing.{held_racers, held_sweepers, part_in, AreClosed, IsOf};
+ghost use Rattle.g1_handles.specs.Racing.{counts_of};
+
+use crate::any_handle::{AnyHandle, are_closed, closed, into_box, opened};
+use crate::code::Refusal;
+use crate::heap::handle::HeapHandle;
+use crate::heap::racing_heap::{AtPause, RacingHeap, Room, UnderWay};
+use crate::member::racer_handle::RacerHandle;
+use crate::member::sweeper_handle::SweeperHandle;
+use crate::member::{Member, Part};
+use core::mem::{replace, replace_with};
+use std::alloc::Global;
+
+/// Lets the heap of a handle go on, and puts its racers and its sweepers into handles that are
+/// closed. The race begins with the table that the pause left, and each racer has its log, which is
+/// empty if all was refined. Each member has what the one at its place had counted. Takes no
+/// memory.
+///
+/// Returns `NotOpen`, `NotPaused`, `BadMembers` if there are not as many handles as the heap was
+/// opened for, or `AlreadyOpen` for a member's handle: nothing has changed.
+pub fn resume_heap(
+    alloc: Global,
+    handle: &mut HeapHandle,
+    racers: &mut [RacerHandle],
+    sweepers: &mut [SweeperHandle],
+) -> Result<(), Refusal>
+    ensures resumed { OnOk result (OfPaused handle.old.value (λ p.
+        OfRacing handle.new.value (λ b.
+        GoesOn p (arc_value b.race) (held_racers racers.new) (held_sweepers sweepers.new)))) }
+    ensures same { OnOk result (heap_race handle.new.value ≡ heap_race handle.old.value) }
+    ensures counts { OnOk result (held_counts (held_racers racers.new) (held_sweepers sweepers.new)
+        ≡ heap_counts handle.old.value) }
+    ensures members { OnOk result (IsFor handle.old.value (length racers.old) (length sweepers.old)
+        × IsFor handle.new.value (length racers.old) (length sweepers.old)) }
+    ensures closed { OnOk result (AreClosed (held_racers racers.old)
+        × AreClosed (held_sweepers sweepers.old)) }
+    ensures why { IfErr result (λ refusal.
+        IsGoingRefused handle.old.value (held_racers racers.old)
+        (held_sweepers sweepers.old) refusal) }
+    ensures refused { OnErr result ((handle.new.value ≡ handle.old.value)
+        × (held_racers racers.new ≡ held_racers racers.old)
+        × (held_sweepers sweepers.new ≡ held_sweepers sweepers.old)) }
+{
+    let Some(mut heap) = into_box(replace(handle, closed(alloc))) else {
+        return Err(Refusal::NotOpen);
+    };
+    let answer = resume_of(alloc, &mut heap, racers, sweepers);
+    *handle = opened(heap);
+    answer
+}
+
+fn resume_of(
+    alloc: Global,
+    heap: &mut RacingHeap,
+    racers: &mut [RacerHandle],
+    sweepers: &mut [SweeperHandle],
+) -> Result<(), Refusal>
+    ensures resumed { OnOk result (OfPaused (Some heap.old) (λ p.
+        OfRacing (Some heap.new) (λ b.
+        GoesOn p (arc_value b.race) (held_racers racers.new) (held_sweepers sweepers.new)))) }
+    ensures same { OnOk result (heap_race (Some heap.new) ≡ heap_race (Some heap.old)) }
+    ensures counts { OnOk result (held_counts (held_racers racers.new) (held_sweepers sweepers.new)
+        ≡ heap_counts (Some heap.old)) }
+    ensures members { OnOk result (IsFor (Some heap.old) (length racers.old) (length sweepers.old)
+        × IsFor (Some heap.new) (length racers.old) (length sweepers.old)) }
+    ensures closed { OnOk result (AreClosed (held_racers racers.old)
+        × AreClosed (held_sweepers sweepers.old)) }
+    ensures why { IfErr result (λ refusal.
+        IsGoingRefused (Some heap.old) (held_racers racers.old)
+        (held_sweepers sweepers.old) refusal) }
+    ensures refused { OnErr result ((heap.new ≡ heap.old)
+        × (held_racers racers.new ≡ held_racers racers.old)
+        × (held_sweepers sweepers.new ≡ held_sweepers sweepers.old)) }
+{
+    let RacingHeap::Paused(at) = &*heap else {
+        return Err(Refusal::NotPaused);
+    };
+    if racers.len() != at.racers.len() || sweepers.len() != at.sweepers.len() {
+        return Err(Refusal::BadMembers);
+    }
+    if !are_closed(alloc, racers) {
+        return Err(Refusal::AlreadyOpen);
+    }
+    if !are_closed(alloc, sweepers) {
+        return Err(Refusal::AlreadyOpen);
+    }
+    replace_with(heap, (), let_go);
+    let RacingHeap::Racing(under_way) = heap else {
+        unreachable!()
+    };
+    hand_out(under_way, racers, sweepers);
+    Ok(())
+}
+
+/// Ends the pause. The members are not handed out yet.
+fn let_go(heap: RacingHeap, _nothing: ()) -> (RacingHeap, ())
+    requires { OfPaused (Some heap) (λ p. Unit {0}) }
+    ensures { IsLetGo heap result.0 }
+{
+    match heap {
+        RacingHeap::Paused(at) => (RacingHeap::Racing(begin(at)), ()),
+        RacingHeap::Read(_) | RacingHeap::Racing(_) => unreachable!(),
+    }
+}
+
+fn begin(at: AtPause) -> UnderWay
+    ensures { LetsGo at result }
+{
+    let AtPause {
+        race,
+        pause,
+        racers,
+        sweepers,
+        readers,
+    } = at;
+    let (_share, racer_parts, sweeper_parts) = pause.resume();
+    UnderWay {
+        race,
+        racers: Room {
+            count: racers.len(),
+            parts: racer_parts,
+            boxes: racers,
+        },
+        sweepers: Room {
+            count: sweepers.len(),
+            parts: sweeper_parts,
+            boxes: sweepers,
+        },
+        readers,
+    }
+}
+
+/// Gives each handle a member of a heap that has just been let go.
+fn hand_out(under_way: &mut UnderWay, racers: &mut [RacerHandle], sweepers: &mut [SweeperHandle])
+    requires racers { AreFor (arc_value under_way.old.race) (length racers.old)
+        under_way.old.racers.boxes under_way.old.racers.parts }
+    requires sweepers { AreFor (arc_value under_way.old.race) (length sweepers.old)
+        under_way.old.sweepers.boxes under_way.old.sweepers.parts }
+    ensures same { (arc_value under_way.new.race ≡ arc_value under_way.old.race)
+        × (under_way.new.racers.count ≡ under_way.old.racers.count)
+        × (under_way.new.sweepers.count ≡ under_way.old.sweepers.count) }
+    ensures racers { map part_in (held_racers racers.new)
+        ≡ map Some under_way.old.racers.parts.items }
+    ensures sweepers { map part_in (held_sweepers sweepers.new)
+        ≡ map Some under_way.old.sweepers.parts.items }
+    ensures counts { held_counts (held_racers racers.new) (held_sweepers sweepers.new)
+        ≡ waiting_counts under_way.old }
+    ensures race { All (IsOf (arc_value under_way.old.race)) (held_racers racers.new)
+        × All (IsOf (arc_value under_way.old.race)) (held_sweepers sweepers.new) }
+{
+    let UnderWay {
+        race: _,
+        racers: racing,
+        sweepers: sweeping,
+        readers: _,
+    } = under_way;
+    hand_out_to(racers, &mut racing.boxes, &mut racing.parts);
+    hand_out_to(sweepers, &mut sweeping.boxes, &mut sweeping.parts);
+}
+
+/// Gives each handle the part of its place, in the box of that place.
+pub(crate) fn hand_out_to<P: Part, H: AnyHandle<Value = Member<P>>>(
+    handles: &mut [H],
+    boxes: &mut Vec<Box<Member<P>>>,
+    parts: &mut Vec<P>,
+)
+    requires { (race : Race) × AreFor race (length handles.old) boxes.old parts.old }
+    ensures parts { map part_in (map H.value handles.new) ≡ map Some parts.old.items }
+    ensures counts { map counts_of (map H.value handles.new) ≡ boxed_counts boxes.old }
+    ensures race { (race : Race) → All (λ m. arc_value m.value.race ≡ race) boxes.old.items →
+        All (IsOf race) (map H.value handles.new) }
+    ensures capacity { (vec_capacity boxes.new ≡ vec_capacity boxes.old)
+        × (vec_capacity parts.new ≡ vec_capacity parts.old) }
+{
+    let mut left = handles.len();
+    while left > 0 {
+        left -= 1;
+        let Some(mut member) = boxes.pop() else {
+            unreachable!()
+        };
+        let Some(part) = parts.pop() else {
+            unreachable!()
+        };
+        member.seat(part);
+        handles[left] = opened(member);
+    }
+}

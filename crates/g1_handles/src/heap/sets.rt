@@ -1,0 +1,164 @@
+//! The remembered set of a region at a pause, in an array of the caller's.
+ghost use Rattle.std.specs.Prelude.{◌≡◌, ◌+◌, ◌<◌, ◌≤◌, ◌++◌, ℕ, List, Some, IfOk, IfErr};
+ghost use Rattle.std.specs.Prelude.{OnErr, length};
+ghost use Rattle.g1_layout.specs.Shape.{card_count};
+ghost use Rattle.g1_core.specs.Table.{AreMembers};
+ghost use Rattle.g1_race.specs.Over.{halted};
+ghost use Rattle.g1_handles.specs.AtPause.{IsKept, DrainsAtPause, TellsMembers};
+ghost use Rattle.g1_handles.specs.HeapCalls.{IsCalled};
+ghost use Rattle.g1_handles.specs.Sets.{Tells, AreMembersBelow, IsSetCall};
+ghost use Rattle.g1_handles.specs.Lacks.{LacksRegion};
+
+use crate::any_handle::{closed, into_box, opened};
+use crate::code::Refusal;
+use crate::heap::at_pause::PausedHeap;
+use crate::heap::handle::HeapHandle;
+use crate::heap::racing_heap::RacingHeap;
+use core::mem::replace;
+use g1_layout::Region;
+use std::alloc::Global;
+
+/// Which set of a region.
+#[derive(Clone, Copy)]
+pub enum Which {
+    /// The set as it is recorded.
+    Recorded,
+    /// The set once every dirty card is refined.
+    Refined,
+}
+
+/// What the caller is told of a set.
+#[derive(Clone, Copy)]
+pub enum Told {
+    /// The set has this many cards, and the front of the array has them.
+    All(u32),
+    /// The set has this many cards. The array has the first of them, and no room for the others.
+    First(u32),
+}
+
+/// Writes the set of a region of a heap to the front of an array, ascending, as far as it reaches.
+/// Takes no memory.
+///
+/// Returns `NotOpen`, `NotPaused` or `NoRegion` if the call was refused: nothing has changed.
+pub fn set_of_heap(
+    alloc: Global,
+    handle: &mut HeapHandle,
+    which: Which,
+    region: u32,
+    cards: &mut [u32],
+) -> Result<Told, Refusal>
+    ensures called { IsCalled (IsSetCall which region cards.old cards.new)
+        handle.old.value result handle.new.value }
+    ensures unwritten { OnErr result (cards.new ≡ cards.old) }
+{
+    let Some(mut heap) = into_box(replace(handle, closed(alloc))) else {
+        return Err(Refusal::NotOpen);
+    };
+    let answer = set_of(&mut heap, which, region, cards);
+    *handle = opened(heap);
+    answer
+}
+
+fn set_of(
+    heap: &mut RacingHeap,
+    which: Which,
+    region: u32,
+    cards: &mut [u32],
+) -> Result<Told, Refusal>
+    ensures called { IsCalled (IsSetCall which region cards.old cards.new)
+        (Some heap.old) result (Some heap.new) }
+    ensures unwritten { OnErr result (cards.new ≡ cards.old) }
+{
+    let RacingHeap::Paused(at) = heap else {
+        return Err(Refusal::NotPaused);
+    };
+    set_at(&mut at.pause, which, region, cards)
+}
+
+fn set_at(
+    heap: &mut PausedHeap,
+    which: Which,
+    region: u32,
+    cards: &mut [u32],
+) -> Result<Told, Refusal>
+    ensures called { IsSetCall which region cards.old cards.new heap.old result heap.new }
+    ensures unwritten { OnErr result (cards.new ≡ cards.old) }
+    ensures kept { IsKept heap.old heap.new }
+{
+    match which {
+        Which::Recorded => members_at(heap, region, cards),
+        Which::Refined => drain_at(heap, region, cards),
+    }
+}
+
+/// Refines every dirty card, and writes the remembered set of a region.
+#[tactic(auto, using(crate::proofs::Kept::kept_same))]
+fn drain_at(heap: &mut PausedHeap, region: u32, cards: &mut [u32]) -> Result<Told, Refusal>
+    ensures told { IfOk result (λ told.
+        Tells (DrainsAtPause heap.old region heap.new) cards.old told cards.new) }
+    ensures why { IfErr result (LacksRegion heap.old.layout region) }
+    ensures refused { OnErr result ((heap.new ≡ heap.old) × (cards.new ≡ cards.old)) }
+    ensures kept { IsKept heap.old heap.new }
+{
+    let Some(region) = heap.layout().region(region) else {
+        return Err(Refusal::NoRegion);
+    };
+    heap.refine_all();
+    Ok(write_set(heap, region, cards))
+}
+
+/// Writes the remembered set of a region as it is recorded.
+fn members_at(heap: &mut PausedHeap, region: u32, cards: &mut [u32]) -> Result<Told, Refusal>
+    ensures told { IfOk result (λ told.
+        Tells (TellsMembers heap.old region) cards.old told cards.new) }
+    ensures why { IfErr result (LacksRegion heap.old.layout region) }
+    ensures unwritten { OnErr result (cards.new ≡ cards.old) }
+    ensures same { heap.new ≡ heap.old }
+{
+    let Some(region) = heap.layout().region(region) else {
+        return Err(Refusal::NoRegion);
+    };
+    Ok(write_set(heap, region, cards))
+}
+
+fn write_set(heap: &mut PausedHeap, region: Region, array: &mut [u32]) -> Told
+    requires { region < heap.old.layout.regions }
+    ensures told { Tells (AreMembers (halted heap.old) region) array.old result array.new }
+    ensures same { heap.new ≡ heap.old }
+{
+    let _limit = heap.layout().card_count();
+    let mut count = 0;
+    let mut from = 0;
+    while count < array.len() {
+        let Some(card) = heap.next_member(region, from) else {
+            return Told::All(count as u32);
+        };
+        array[count] = card.number();
+        count += 1;
+        from = card.number() + 1;
+    }
+    let more = count_from(heap, region, from);
+    if more == 0 {
+        return Told::All(count as u32);
+    }
+    Told::First(count as u32 + more)
+}
+
+/// How many cards of a region's set there are from a number on.
+fn count_from(heap: &mut PausedHeap, region: Region, from: u32) -> u32
+    requires region { region < heap.old.layout.regions }
+    requires from { from ≤ card_count heap.old.layout }
+    ensures rest { (xs : List ℕ) → AreMembersBelow (halted heap.old) region from xs →
+        (ys : List ℕ) × AreMembers (halted heap.old) region (xs ++ ys) × (length ys ≡ result) }
+    ensures few { from + result ≤ card_count heap.old.layout }
+    ensures same { heap.new ≡ heap.old }
+{
+    let _limit = heap.layout().card_count();
+    let mut more = 0;
+    let mut next = from;
+    while let Some(card) = heap.next_member(region, next) {
+        more += 1;
+        next = card.number() + 1;
+    }
+    more
+}

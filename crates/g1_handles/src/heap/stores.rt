@@ -1,0 +1,50 @@
+//! The collector's own stores at a pause.
+ghost use Rattle.std.specs.Prelude.{◌≡◌, ◌⊎◌, length, take, IfOk, IfErr, OnErr};
+ghost use Rattle.g1_handles.specs.AtPause.{IsKept, StoresAt, StoresAllAt};
+ghost use Rattle.g1_handles.specs.Batch.{IsFaultAt};
+ghost use Rattle.g1_handles.specs.Codes.{reference_of};
+ghost use Rattle.g1_handles.specs.Lacks.{LacksPlace};
+
+use crate::code::Refusal;
+use crate::heap::at_pause::PausedHeap;
+use crate::one_core::batch::Store;
+use crate::one_core::store::reference;
+use g1_layout::Kind;
+
+/// Stores a target into a slot, and returns the kind of the store. Returns `NoSlot`, for the slot
+/// or the target, if the call was refused: nothing has changed.
+#[tactic(auto, using(crate::proofs::Kept::kept_same, crate::proofs::Kept::kept_race))]
+pub fn store_at(heap: &mut PausedHeap, slot: u32, target: u32) -> Result<Kind, Refusal>
+    ensures stored { IfOk result (λ kind.
+        StoresAt heap.old slot (reference_of target) kind heap.new) }
+    ensures why { IfErr result (LacksPlace heap.old.layout slot target) }
+    ensures refused { OnErr result (heap.new ≡ heap.old) }
+    ensures kept { IsKept heap.old heap.new }
+{
+    let layout = heap.layout();
+    let Some(slot) = layout.slot(slot) else {
+        return Err(Refusal::NoSlot);
+    };
+    let Some(target) = reference(layout, target) else {
+        return Err(Refusal::NoSlot);
+    };
+    Ok(heap.store(slot, target))
+}
+
+/// Makes stores in order, up to the first that names a slot or a target that the heap does not
+/// have, and returns how many it made.
+#[tactic(auto, using(crate::proofs::Kept::kept_race))]
+pub fn store_all_at(heap: &mut PausedHeap, stores: &[Store]) -> usize
+    ensures stored { StoresAllAt heap.old (take result stores.now) heap.new }
+    ensures stopped { (result ≡ length stores.now)
+        ⊎ IsFaultAt heap.old.layout stores.now result }
+    ensures kept { IsKept heap.old heap.new }
+{
+    for i in 0..stores.len() {
+        let store = stores[i];
+        let Ok(_) = store_at(heap, store.slot, store.target) else {
+            return i;
+        };
+    }
+    stores.len()
+}

@@ -1,0 +1,44 @@
+//! Checks of a heap at a pause, for a debug build.
+ghost use Rattle.std.specs.Prelude.{◌≡◌, ◌+◌, ◌≤◌, length, IfOk, IfErr, IsOk};
+ghost use Rattle.g1_layout.specs.Shape.{slot_count};
+ghost use Rattle.g1_handles.specs.AtPause.{IsKept};
+ghost use Rattle.g1_handles.specs.Verifying.{FindsAt};
+ghost use Rattle.g1_handles.specs.Lacks.{LacksRanges};
+
+use crate::code::Refusal;
+use crate::heap::at_pause::PausedHeap;
+use crate::one_core::copy::has_slots;
+use crate::one_core::queries::word_of;
+use crate::one_core::verify::{Findings, NOTHING};
+
+/// Checks a heap against the references that a runtime's memory has from a slot on, as many as are
+/// given, and the cards of `count` slots from there. Returns `NoSlot` if one of the two ranges
+/// leaves the heap.
+#[tactic(auto, using(crate::proofs::Kept::kept_same))]
+pub fn verify_at(
+    heap: &mut PausedHeap,
+    first: u32,
+    count: u32,
+    memory: &[u32],
+) -> Result<Findings, Refusal>
+    ensures found { IfOk result (λ f.
+        FindsAt heap.old first count memory.now f.differing f.missing) }
+    ensures answered { first + count ≤ slot_count heap.old.layout
+        → first + length memory.now ≤ slot_count heap.old.layout → IsOk result }
+    ensures why { IfErr result (LacksRanges heap.old.layout first count first
+        (length memory.now)) }
+    ensures same { heap.new ≡ heap.old }
+    ensures kept { IsKept heap.old heap.new }
+{
+    let layout = heap.layout();
+    if !has_slots(layout, first, count as usize) || !has_slots(layout, first, memory.len()) {
+        return Err(Refusal::NoSlot);
+    }
+    // Only an empty range begins behind the last slot.
+    let Some(from) = layout.slot(first) else {
+        return Ok(NOTHING);
+    };
+    let differing = word_of(layout, heap.first_differing(from, memory));
+    let missing = word_of(layout, heap.first_missing(from, count));
+    Ok(Findings { differing, missing })
+}

@@ -1,0 +1,90 @@
+//! Several stores in a race by one call.
+ghost use Rattle.std.specs.Prelude.{◌≡◌, ◌≢◌, Some, IfOk, IfErr, IsOkAnd, OnErr};
+ghost use Rattle.g1_race.specs.Members.{race_id, racer_race};
+ghost use Rattle.g1_handles.specs.Racing.{OfRacer, IfRacer, racing};
+ghost use Rattle.g1_handles.specs.RaceStores.{StoresFirst, CanStoreAll};
+ghost use Rattle.g1_handles.specs.Refusals.{SaysNoMember};
+
+use crate::code::Refusal;
+use crate::member::Member;
+use crate::member::counts::StoreCounts;
+use crate::member::store::store_next;
+use crate::one_core::batch::Store;
+use g1_race::{Race, Racer};
+
+/// Why no more of several stores were made.
+#[derive(Clone, Copy)]
+pub enum BatchEnd {
+    /// All were made.
+    Whole,
+    /// The next one names a slot or a target that the heap does not have.
+    Stopped,
+    /// The racer's log is full before the next one.
+    Full,
+}
+
+/// How many of several stores were made, and why no more.
+#[derive(Clone, Copy)]
+pub struct RaceBatch {
+    /// How many stores were made: the first ones.
+    pub count: usize,
+    /// Why no more were.
+    pub end: BatchEnd,
+}
+
+/// Makes stores in order by a racer, up to the first that it cannot make. Returns `NotOpen` if the
+/// call was refused: nothing has changed.
+pub fn store_all_by(member: &mut Member<Racer>, stores: &[Store]) -> Result<RaceBatch, Refusal>
+    ensures stored { IfOk result (λ answer. OfRacer (Some member.old) (λ a.
+        OfRacer (Some member.new) (λ b. StoresFirst a stores.now answer b))) }
+    ensures taken { IfRacer (Some member.old) (λ a. CanStoreAll a stores.now
+        → IsOkAnd result (λ answer. answer.end ≡ BatchEnd.Whole)) }
+    ensures why { IfErr result (SaysNoMember (Some member.old)) }
+    ensures refused { OnErr result (member.new ≡ member.old) }
+{
+    let Some(racer) = &mut member.part else {
+        return Err(Refusal::NotOpen);
+    };
+    Ok(store_each(&member.race, racer, &mut member.counts.stores, stores))
+}
+
+fn store_each(
+    race: &Race,
+    racer: &mut Racer,
+    counts: &mut StoreCounts,
+    stores: &[Store],
+) -> RaceBatch
+    requires same { racer_race racer.old ≡ race_id race.now }
+    ensures same { racer_race racer.new ≡ racer_race racer.old }
+    ensures stored { StoresFirst (racing race.now racer.old counts.old) stores.now result
+        (racing race.now racer.new counts.new) }
+    ensures taken { CanStoreAll (racing race.now racer.old counts.old) stores.now
+        → result.end ≡ BatchEnd.Whole }
+{
+    for i in 0..stores.len() {
+        match store_next(race, racer, counts, stores[i].slot, stores[i].target) {
+            Ok(_) => {}
+            Err(refusal) => {
+                return RaceBatch {
+                    count: i,
+                    end: end_of(refusal),
+                };
+            }
+        }
+    }
+    RaceBatch {
+        count: stores.len(),
+        end: BatchEnd::Whole,
+    }
+}
+
+/// Why no more stores are made once one is refused.
+fn end_of(refusal: Refusal) -> BatchEnd
+    ensures full { refusal ≡ Refusal.LogFull → result ≡ BatchEnd.Full }
+    ensures stopped { refusal ≢ Refusal.LogFull → result ≡ BatchEnd.Stopped }
+{
+    match refusal {
+        Refusal::LogFull => BatchEnd::Full,
+        _ => BatchEnd::Stopped,
+    }
+}

@@ -1,0 +1,94 @@
+//! Stores in a race that return what the slot referred to before, or depend on it.
+ghost use Rattle.std.specs.Prelude.{◌≡◌, ◌<◌, Some, IfOk, IfErr, IsOk, OnErr};
+ghost use Rattle.arrayvec.specs.ArrayVec.{array_vec_len};
+ghost use Rattle.g1_race.specs.Members.{race_layout};
+ghost use Rattle.g1_handles.specs.Codes.{IsStoreOf, reference_of};
+ghost use Rattle.g1_handles.specs.RaceStores.{Swaps, IsExchange};
+ghost use Rattle.g1_handles.specs.Racing.{OfRacer, IfRacer, racer_race_of};
+ghost use Rattle.g1_handles.specs.Refusals.{IsRaceStoreRefused, IsRaceExchangeRefused};
+
+use crate::code::Refusal;
+use crate::member::Member;
+use crate::member::store::may_store;
+use crate::one_core::queries::word_of;
+use crate::one_core::store::reference;
+use g1_layout::Kind;
+use g1_race::Racer;
+
+/// What a swap did.
+#[derive(Clone, Copy)]
+pub struct Swapped {
+    /// The kind of the store.
+    pub kind: Kind,
+    /// The word of what the slot referred to.
+    pub old: u32,
+}
+
+/// What a compare-and-swap came to.
+#[derive(Clone, Copy)]
+pub enum Exchange {
+    /// The slot had what was expected, and has the target by a store of this kind.
+    Stored(Kind),
+    /// The slot has something else, and nothing was stored. This is the word of what it refers to,
+    /// that for null also where it has data.
+    Differs(u32),
+}
+
+/// Stores a target into a slot by a racer, and returns also what the slot referred to. Returns
+/// `NotOpen`, `LogFull`, or `NoSlot` for the slot or the target, if the call was refused: nothing
+/// has changed.
+#[inline(always)]
+pub fn swap_by(member: &mut Member<Racer>, slot: u32, target: u32) -> Result<Swapped, Refusal>
+    ensures swapped { IfOk result (λ swapped. OfRacer (Some member.old) (λ a.
+        OfRacer (Some member.new) (λ b. Swaps a slot (reference_of target)
+        (reference_of swapped.old) swapped.kind b))) }
+    ensures taken { IfRacer (Some member.old) (λ a. array_vec_len a.racer.log < 256
+        → IsStoreOf (race_layout (racer_race_of a)) slot target → IsOk result) }
+    ensures why { IfErr result (IsRaceStoreRefused (Some member.old) slot target) }
+    ensures refused { OnErr result (member.new ≡ member.old) }
+{
+    let Some(racer) = &mut member.part else {
+        return Err(Refusal::NotOpen);
+    };
+    let (slot, target) = may_store(&member.race, racer, slot, target)?;
+    let layout = member.race.layout();
+    let (kind, old) = racer.swap(&member.race, slot, target);
+    member.counts.stores.add(kind);
+    let old = word_of(layout, old);
+    Ok(Swapped { kind, old })
+}
+
+/// Stores a target into a slot by a racer, if the slot has what is expected. Returns `NotOpen`,
+/// `LogFull`, or `NoSlot` for one of the words, if the call was refused: nothing has changed.
+#[inline(always)]
+pub fn compare_exchange_by(
+    member: &mut Member<Racer>,
+    slot: u32,
+    expected: u32,
+    target: u32,
+) -> Result<Exchange, Refusal>
+    ensures exchange { IfOk result (λ exchange. OfRacer (Some member.old) (λ a.
+        OfRacer (Some member.new) (λ b. IsExchange a slot (reference_of expected)
+        (reference_of target) exchange b))) }
+    ensures taken { IfRacer (Some member.old) (λ a. array_vec_len a.racer.log < 256
+        → IsStoreOf (race_layout (racer_race_of a)) slot expected
+        → IsStoreOf (race_layout (racer_race_of a)) slot target → IsOk result) }
+    ensures why { IfErr result (IsRaceExchangeRefused (Some member.old) slot expected target) }
+    ensures refused { OnErr result (member.new ≡ member.old) }
+{
+    let Some(racer) = &mut member.part else {
+        return Err(Refusal::NotOpen);
+    };
+    let (slot, target) = may_store(&member.race, racer, slot, target)?;
+    let layout = member.race.layout();
+    let Some(expected) = reference(layout, expected) else {
+        return Err(Refusal::NoSlot);
+    };
+    match racer.compare_exchange(&member.race, slot, expected, target) {
+        Ok(kind) => {
+            member.counts.stores.add(kind);
+            Ok(Exchange::Stored(kind))
+        }
+        Err(found) => Ok(Exchange::Differs(word_of(layout, found))),
+    }
+}

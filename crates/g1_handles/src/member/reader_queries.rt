@@ -1,0 +1,113 @@
+//! What a reader answers, as the heap does at its pause.
+ghost use Rattle.std.specs.Prelude.{◌≡◌, Some, IfOk, IfErr};
+ghost use Rattle.g1_handles.specs.Codes.{reference_of};
+ghost use Rattle.g1_handles.specs.Readers.{OfReader, reader_layout, ReadsTarget, ReadsWord};
+ghost use Rattle.g1_handles.specs.Readers.{ReadsPending, ReadsPair, ReadsNext, IsReaderRefused};
+ghost use Rattle.g1_handles.specs.Lacks.{LacksCard, LacksPair, LacksRegion, LacksSlot};
+
+use crate::code::{NULL, Refusal};
+use crate::member::Member;
+use crate::one_core::queries::word_of;
+use g1_race::Reader;
+
+/// Returns the word of what a slot refers to, by a reader, or `NotOpen` or `NoSlot`. The reader
+/// stays as it is.
+pub fn target_by(member: &mut Member<Reader>, slot: u32) -> Result<u32, Refusal>
+    ensures target { IfOk result (λ word.
+        OfReader (Some member.old) (λ a. ReadsTarget a slot (reference_of word))) }
+    ensures why { IfErr result (IsReaderRefused (Some member.old)
+        (λ a. LacksSlot (reader_layout a) slot)) }
+    ensures same { member.new ≡ member.old }
+{
+    let Some(reader) = &mut member.part else {
+        return Err(Refusal::NotOpen);
+    };
+    let layout = member.race.layout();
+    let Some(slot) = layout.slot(slot) else {
+        return Err(Refusal::NoSlot);
+    };
+    Ok(word_of(layout, reader.target(&member.race, slot)))
+}
+
+/// Returns a slot's word, by a reader: 0 for null, the number of the slot that it refers to plus 1,
+/// or data from 2^32 on. Returns `NotOpen` or `NoSlot` if the call was refused. The reader stays as
+/// it is.
+pub fn word_by(member: &mut Member<Reader>, slot: u32) -> Result<u64, Refusal>
+    ensures word { IfOk result (λ word.
+        OfReader (Some member.old) (λ a. ReadsWord a slot word)) }
+    ensures why { IfErr result (IsReaderRefused (Some member.old)
+        (λ a. LacksSlot (reader_layout a) slot)) }
+    ensures same { member.new ≡ member.old }
+{
+    let Some(reader) = &mut member.part else {
+        return Err(Refusal::NotOpen);
+    };
+    let Some(slot) = member.race.layout().slot(slot) else {
+        return Err(Refusal::NoSlot);
+    };
+    Ok(reader.word(&member.race, slot))
+}
+
+/// Returns whether a card is pending, by a reader, or `NotOpen` or `NoCard`. The reader stays as it
+/// is.
+pub fn is_pending_by(member: &mut Member<Reader>, card: u32) -> Result<bool, Refusal>
+    ensures pending { IfOk result (λ answer.
+        OfReader (Some member.old) (λ a. ReadsPending a card answer)) }
+    ensures why { IfErr result (IsReaderRefused (Some member.old)
+        (λ a. LacksCard (reader_layout a) card)) }
+    ensures same { member.new ≡ member.old }
+{
+    let Some(reader) = &mut member.part else {
+        return Err(Refusal::NotOpen);
+    };
+    let Some(card) = member.race.layout().card(card) else {
+        return Err(Refusal::NoCard);
+    };
+    Ok(reader.is_pending(&member.race, card))
+}
+
+/// Returns whether a card is recorded for a region, by a reader, or `NotOpen`, `NoCard` or
+/// `NoRegion`. The reader stays as it is.
+pub fn has_by(member: &mut Member<Reader>, card: u32, region: u32) -> Result<bool, Refusal>
+    ensures has { IfOk result (λ answer.
+        OfReader (Some member.old) (λ a. ReadsPair a card region answer)) }
+    ensures why { IfErr result (IsReaderRefused (Some member.old)
+        (λ a. LacksPair (reader_layout a) card region)) }
+    ensures same { member.new ≡ member.old }
+{
+    let Some(reader) = &mut member.part else {
+        return Err(Refusal::NotOpen);
+    };
+    let layout = member.race.layout();
+    let Some(card) = layout.card(card) else {
+        return Err(Refusal::NoCard);
+    };
+    let Some(region) = layout.region(region) else {
+        return Err(Refusal::NoRegion);
+    };
+    Ok(reader.has(&member.race, card, region))
+}
+
+/// Returns the word of the least card from the number `from` on that is recorded for a region, or
+/// of null if there is none, by a reader. Returns `NotOpen` or `NoRegion` if the call was refused.
+/// The reader stays as it is.
+pub fn next_member_by(member: &mut Member<Reader>, region: u32, from: u32) -> Result<u32, Refusal>
+    ensures next { IfOk result (λ word.
+        OfReader (Some member.old) (λ a. ReadsNext a region from (reference_of word))) }
+    ensures why { IfErr result (IsReaderRefused (Some member.old)
+        (λ a. LacksRegion (reader_layout a) region)) }
+    ensures same { member.new ≡ member.old }
+{
+    let Some(reader) = &mut member.part else {
+        return Err(Refusal::NotOpen);
+    };
+    let layout = member.race.layout();
+    let _limit = layout.card_count();
+    let Some(region) = layout.region(region) else {
+        return Err(Refusal::NoRegion);
+    };
+    match reader.next_member(&member.race, region, from) {
+        Some(card) => Ok(card.number()),
+        None => Ok(NULL),
+    }
+}

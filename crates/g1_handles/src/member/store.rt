@@ -1,0 +1,84 @@
+//! Lock-free stores in a race.
+ghost use Rattle.std.specs.Prelude.{◌≡◌, ◌<◌, Some, IfOk, IfErr, IsOk, OnErr};
+ghost use Rattle.arrayvec.specs.ArrayVec.{array_vec_len};
+ghost use Rattle.g1_race.specs.Members.{race_id, race_layout, racer_race};
+ghost use Rattle.g1_handles.specs.Codes.{IsStoreOf, reference_of};
+ghost use Rattle.g1_handles.specs.Racing.{OfRacer, IfRacer, Stores, racer_race_of, racing};
+ghost use Rattle.g1_handles.specs.Refusals.{IsRaceStoreRefused, SaysNoStore};
+
+use crate::code::Refusal;
+use crate::member::Member;
+use crate::member::counts::StoreCounts;
+use crate::one_core::store::reference;
+use g1_layout::{Kind, Slot};
+use g1_race::{Race, Racer};
+
+/// Stores a target into a slot by a racer. Returns the kind of the store, or `NotOpen`, `LogFull`,
+/// or `NoSlot` for the slot or the target: nothing has changed.
+#[inline(always)]
+pub fn store_by(member: &mut Member<Racer>, slot: u32, target: u32) -> Result<Kind, Refusal>
+    ensures stored { IfOk result (λ kind. OfRacer (Some member.old) (λ a.
+        OfRacer (Some member.new) (λ b. Stores a slot (reference_of target) kind b))) }
+    ensures taken { IfRacer (Some member.old) (λ a. array_vec_len a.racer.log < 256
+        → IsStoreOf (race_layout (racer_race_of a)) slot target → IsOk result) }
+    ensures why { IfErr result (IsRaceStoreRefused (Some member.old) slot target) }
+    ensures refused { OnErr result (member.new ≡ member.old) }
+{
+    let Some(racer) = &mut member.part else {
+        return Err(Refusal::NotOpen);
+    };
+    store_next(&member.race, racer, &mut member.counts.stores, slot, target)
+}
+
+/// Makes one store by a racer of the race, and counts it. Returns the kind of the store, or
+/// `LogFull`, or `NoSlot` for the slot or the target: nothing has changed.
+#[inline(always)]
+pub(crate) fn store_next(
+    race: &Race,
+    racer: &mut Racer,
+    counts: &mut StoreCounts,
+    slot: u32,
+    target: u32,
+) -> Result<Kind, Refusal>
+    requires same { racer_race racer.old ≡ race_id race.now }
+    ensures same { racer_race racer.new ≡ racer_race racer.old }
+    ensures stored { IfOk result (λ kind. Stores (racing race.now racer.old counts.old) slot
+        (reference_of target) kind (racing race.now racer.new counts.new)) }
+    ensures taken { array_vec_len racer.old.log < 256
+        → IsStoreOf (race_layout race.now) slot target → IsOk result }
+    ensures why { IfErr result (SaysNoStore race.now racer.old slot target) }
+    ensures refused { OnErr result ((racer.new ≡ racer.old) × (counts.new ≡ counts.old)) }
+{
+    let (slot, target) = may_store(race, racer, slot, target)?;
+    let kind = racer.store(race, slot, target);
+    counts.add(kind);
+    Ok(kind)
+}
+
+/// Returns the slot and the target of a store that a racer can make, or `LogFull` or `NoSlot`.
+#[inline(always)]
+pub(crate) fn may_store(
+    race: &Race,
+    racer: &Racer,
+    slot: u32,
+    target: u32,
+) -> Result<(Slot, Option<Slot>), Refusal>
+    ensures room { IsOk result → array_vec_len racer.now.log < 256 }
+    ensures places { IfOk result (λ store. (store.0 ≡ slot) × (store.1 ≡ reference_of target)) }
+    ensures within { IsOk result → IsStoreOf (race_layout race.now) slot target }
+    ensures taken { array_vec_len racer.now.log < 256
+        → IsStoreOf (race_layout race.now) slot target → IsOk result }
+    ensures why { IfErr result (SaysNoStore race.now racer.now slot target) }
+{
+    if !racer.has_room() {
+        return Err(Refusal::LogFull);
+    }
+    let layout = race.layout();
+    let Some(slot) = layout.slot(slot) else {
+        return Err(Refusal::NoSlot);
+    };
+    let Some(target) = reference(layout, target) else {
+        return Err(Refusal::NoSlot);
+    };
+    Ok((slot, target))
+}

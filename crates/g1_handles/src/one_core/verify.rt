@@ -1,0 +1,58 @@
+//! Checks of a core for a debug build.
+ghost use Rattle.std.specs.Prelude.{◌≡◌, ◌+◌, ◌≤◌, length, IfOk, IfErr, IsOk, OnErr};
+ghost use Rattle.g1_layout.specs.Shape.{slot_count};
+ghost use Rattle.g1_core.specs.Machine.{IsOnlyRead};
+ghost use Rattle.g1_handles.specs.Verifying.{Finds};
+ghost use Rattle.g1_handles.specs.Lacks.{LacksRanges};
+
+use crate::code::{NULL, Refusal};
+use crate::one_core::copy::has_slots;
+use crate::one_core::queries::word_of;
+use g1_core::Core;
+
+/// What a check found: the numbers of slots, or the word for null where there is none.
+#[derive(Clone, Copy)]
+pub struct Findings {
+    /// The least slot that refers to something else than memory does.
+    pub differing: u32,
+    /// The least slot that refers into another region from a card that is neither pending nor
+    /// recorded for that region.
+    pub missing: u32,
+}
+
+/// A check that finds nothing.
+pub(crate) const NOTHING: Findings = Findings {
+    differing: NULL,
+    missing: NULL,
+};
+
+/// Checks a core against the references that a runtime's memory has from a slot on, as many as are
+/// given, and the cards of `count` slots from there. Returns `NoSlot` if one of the two ranges
+/// leaves the heap: nothing has changed.
+pub fn verify_in(
+    core: &mut Core,
+    first: u32,
+    count: u32,
+    memory: &[u32],
+) -> Result<Findings, Refusal>
+    ensures found { IfOk result (λ f.
+        Finds core.old.state.table first count memory.now f.differing f.missing
+        × IsOnlyRead core.old core.new) }
+    ensures answered { first + count ≤ slot_count core.old.state.table.layout
+        → first + length memory.now ≤ slot_count core.old.state.table.layout → IsOk result }
+    ensures why { IfErr result
+        (LacksRanges core.old.state.table.layout first count first (length memory.now)) }
+    ensures refused { OnErr result (core.new ≡ core.old) }
+{
+    let layout = core.layout();
+    if !has_slots(layout, first, count as usize) || !has_slots(layout, first, memory.len()) {
+        return Err(Refusal::NoSlot);
+    }
+    // Only an empty range begins behind the last slot.
+    let Some(from) = layout.slot(first) else {
+        return Ok(NOTHING);
+    };
+    let differing = word_of(layout, core.first_differing(from, memory));
+    let missing = word_of(layout, core.first_missing(from, count));
+    Ok(Findings { differing, missing })
+}

@@ -1,9 +1,0 @@
-use Rattle.std.proofs.Common.{◌≡◌, [], replicate, map, vec_len}
-use Rattle.g1_race.specs.Members.{racer_log}
-use Rattle.g1_race.proofs.open.spent_racers.Given as goal
-
-abbrev pub invariant-loop-i : goal.invariant-loop-i
-invariant-loop-i l = record {
-  logs : map racer_log l.racers.items ≡ replicate l._i [];
-  len : vec_len l.racers ≡ l._i;
-}

@@ -1,7 +1,0 @@
-use Rattle.std.proofs.Common.{◌≡◌, ◌++◌, take}
-use Rattle.std.specs.Slots.{slots_items}
-use Rattle.g1_race.proofs.Blocks.{with_regions}
-use Rattle.g1_race.proofs.pairs.list_card.Given as goal
-
-abbrev pub invariant-loop-region : goal.invariant-loop-region
-invariant-loop-region l = l.pairs.items ≡ l.fn.pairs.items ++ with_regions l.shape (slots_items l.words.words) l.card (take l.region-index l.regions)

@@ -1,0 +1,25 @@
+use Rattle.std.proofs.Common.{◌≡◌, ◌+◌, ℕ, false, eqb, sym, ap, ◌∙◌, subst, arith}
+use mathlib.Core.Option.{some}
+use lib.ListN.{get_elem?}
+use Rattle.g1_layout.specs.Shape.{slot_count, card_count}
+use Rattle.g1_race_words.specs.declared.view.Shape.{Shape}
+use Rattle.g1_race.specs.Over.{ended, marks_of}
+use Rattle.g1_race_words.proofs.Places.{at_take, reads_as}
+use Rattle.g1_race.proofs.Ends.{marks_here}
+use Rattle.g1_core.proofs.SetLemmas.{same_bools}
+use Rattle.g1_core.proofs.AdoptionLemmas.{flag_pending, pending_flag}
+use Rattle.g1_race.proofs.paused.access.is_dirty.Goals as goal
+
+pub returns-clause-dirty : goal.returns-clause-dirty
+returns-clause-dirty c =
+    let race = c.args.race.now in
+    let k = race.shape in
+    let words = c.args.seat.now.me.0.began_words in
+    let e = ended race.layout k words in
+    let marks = marks_of e in
+    let slots : k.slots ≡ slot_count race.layout = ap (λ (x : Shape). x.slots) race.laid in
+    let cards : k.cards ≡ card_count race.layout = ap (λ (x : Shape). x.cards) race.laid in
+    let word = subst (λ (n : ℕ). get_elem? words n ≡ some c.see.result) (λ i. slots i + c.number.ensures i) c.see.ensures.word in
+    let there = at_take words (k.slots + k.cards) (slot_count race.layout + c.args.card) c.see.result (omega (arith, slots, cards, c.requires.card)) word in
+    let read = reads_as marks c.args.card (eqb c.see.result 1) false (marks_here e c.args.card c.see.result there) in
+    same_bools _ _ (λ t. flag_pending marks c.args.card (read ∙ t)) (λ p. sym read ∙ pending_flag marks c.args.card p)

@@ -1,0 +1,37 @@
+use Rattle.std.proofs.Common.{◌^◌, ◌⊎◌, ◌≤◌, List, ◌≡◌, ◌+◌, ◌<◌, ℕ, Option, None, ap, sym, ◌∙◌, subst, arith}
+use mathlib.Core.Option.{some}
+use lib.ListN.{get_elem?}
+use Rattle.g1_layout.specs.Shape as layout
+use Rattle.g1_layout.specs.Shape.{slot_count}
+use Rattle.g1_race_words.specs.declared.view.Shape.{Shape}
+use Rattle.g1_race.specs.Race.{shape_of}
+use Rattle.g1_race.specs.Over.{ended, refs_of}
+use Rattle.g1_race.proofs.Ends.{refs_here}
+use Rattle.g1_race_words.proofs.Places.{at_take, reads_as}
+use Rattle.g1_race.proofs.paused.access.target_of.Goals as goal
+
+-- a slot's word among those of slots and marks
+front_word : (l : layout.Shape) (k : Shape) (words : List ℕ) (p n : ℕ) → k ≡ shape_of l k.members → p < slot_count l → get_elem? words p ≡ some n → get_elem? (ended l k words).words p ≡ some n
+front_word l k words p n laid lt at = at_take words (k.slots + k.cards) p n (let e : k.slots ≡ slot_count l = ap (λ (x : Shape). x.slots) laid in omega (arith, e, lt)) at
+
+pub returns-clause-target : goal.returns-clause-target
+returns-clause-target c =
+    let race = c.args.race.now in
+    let words = c.args.seat.now.me.0.began_words in
+    let e = ended race.layout race.shape words in
+    let word = subst (λ (i : ℕ). get_elem? words i ≡ some c.see-word.result) c.number.ensures c.see-word.ensures.word in
+    let there = front_word race.layout race.shape words c.args.slot c.see-word.result race.laid c.requires.slot word in
+    sym (reads_as (refs_of e) c.args.slot c.refers_to.result None (refs_here e c.args.slot c.see-word.result c.requires.slot there ∙ ap (λ (t : Option ℕ). some t) (sym c.refers_to.ensures.target)))
+
+pub refers_to-requires-clause-word : goal.refers_to-requires-clause-word
+refers_to-requires-clause-word c =
+    let race = c.args.race.now in
+    let slots : race.shape.slots ≡ slot_count race.layout = ap (λ (k : Shape). k.slots) race.laid in
+    let fits = c.requires.seat.begun.bounded c.number.result c.see-word.result (omega (arith, slots, c.requires.slot, c.number.ensures)) c.see-word.ensures.word in
+    subst (λ (n : ℕ). (c.see-word.result ≤ n) ⊎ (2 ^ 32 ≤ c.see-word.result)) slots fits
+
+pub refers_to-requires-clause-low : goal.refers_to-requires-clause-low
+refers_to-requires-clause-low c =
+    let race = c.args.race.now in
+    let slots : race.shape.slots ≡ slot_count race.layout = ap (λ (k : Shape). k.slots) race.laid in
+    omega (arith, slots, race.shaped.3)

@@ -1,0 +1,42 @@
+use Rattle.std.proofs.Common.{◌+◌, ◌≤◌, ℕ, List, sym, ap, ◌∙◌, subst, arith}
+use Rattle.std.specs.FinSet as set_of
+use Rattle.atomic_table.specs.declared.shared.Seat.{Seat}
+use Rattle.g1_race_words.specs.declared.view.View.{View}
+use Rattle.g1_race.specs.Resumed.{AreMarked}
+use Rattle.g1_race_words.specs.Seats.{IsPaused}
+use Rattle.g1_race.proofs.Placing.{marked_flag, marked_none, marked_next, marked_past, marked_less}
+use Rattle.g1_race.proofs.paused.begin.place_marks.Goals.{then-is_pending, else-is_pending}
+use Rattle.g1_race.proofs.paused.begin.place_marks.Goals as goal
+
+pub loop-number-init : goal.loop-number-init
+loop-number-init c = record { below = omega arith; seat = c.requires.seat; marks = marked_none _ _ _ }
+
+pub loop-number-preserved : goal.loop-number-preserved
+loop-number-preserved c =
+    let k = c.args.race.now.shape in
+    let z = c.args.race.now.table.table_id in
+    let t = c.args.core.now.state.table in
+    let i = c.loop-number.invariant in
+    let old = c.args.seat.now.me.0.began_words in
+    let mid = c.loop-number.seat.me.0.began_words in
+    let n = c.loop-number.number in
+    let lt = c.loop-number-test.true in
+    let flag = c.is_pending.ensures.did.pending ∙ ap (λ (x : ℕ). set_of.contains t.pending x) c.in-Some.ensures.1 in
+    elim c.if-is_pending.branch [
+      | then-is_pending w ↦ subst (λ (s : Seat (Unit {0}) View). record { below : n + 1 ≤ k.cards; seat : IsPaused z k s; marks : AreMarked k t old s.me.0.began_words (n + 1) }) (sym w.seat-is)
+          (record {
+            below = omega (arith, lt);
+            seat = w.dirty.ensures.seat;
+            marks = let d = w.dirty.ensures.dirtied in subst (λ (l : List ℕ). AreMarked k t old l (n + 1)) (sym d.marked)
+                (marked_next k t old d.mid n lt (omega (arith, d.begun.sized)) (sym flag ∙ w.if-is_pending.true) (marked_flag k t old mid d.mid n n d.flagged i.marks));
+          })
+      | else-is_pending w ↦ subst (λ (s : Seat (Unit {0}) View). record { below : n + 1 ≤ k.cards; seat : IsPaused z k s; marks : AreMarked k t old s.me.0.began_words (n + 1) }) (sym w.seat-is)
+          (record {
+            below = omega (arith, lt);
+            seat = i.seat;
+            marks = marked_past k t old mid n lt (c.requires.clean n lt) (sym flag ∙ w.if-is_pending.false) i.marks;
+          })
+    ]
+
+pub returns-clause-marks : goal.returns-clause-marks
+returns-clause-marks c = marked_less _ _ _ _ c.loop-number.number _ (omega (arith, c.loop-number.invariant.below, c.loop-number-test.false)) c.loop-number.invariant.marks

@@ -1,0 +1,57 @@
+use Rattle.std.proofs.Common.{◌≡◌, ◌<◌, ℕ, [], ◌∷◌, List, length, get_or, take, refl, sym, ap, ◌∙◌, subst, arith}
+use mathlib.Core.Option.{some}
+use lib.ListN.{get_elem?}
+use Rattle.g1_race_words.specs.Rule.{In, IsOfCrossing}
+use Rattle.g1_race.specs.Refining.{Notes}
+use Rattle.g1_race_words.proofs.Places.{at_read, contains_in, take_next, take_all}
+use Rattle.g1_race.proofs.PauseWords.{notes_same, notes_then}
+use Rattle.g1_race.proofs.paused.begin.place_pairs.Goals as goal
+
+pub loop-pair-init : goal.loop-pair-init
+loop-pair-init c = record { seat = c.requires.seat; notes = notes_same _ _ _ [] refl (λ x i. absurd i) }
+
+item : (xs : List (ℕ × ℕ)) (i : ℕ) (x : ℕ × ℕ) → i < length xs → x ≡ get_or xs i x → get_elem? xs i ≡ some x
+item xs i x lt e = at_read xs i x lt ∙ ap (λ (y : ℕ × ℕ). some y) (sym e)
+
+-- the pair is among those
+among : (xs : List (ℕ × ℕ)) (i : ℕ) (x : ℕ × ℕ) → i < length xs → x ≡ get_or xs i x → In xs x
+among xs i x lt e = contains_in xs x (i, lt, sym e)
+
+pub set_bit-requires-clause-card : goal.set_bit-requires-clause-card
+set_bit-requires-clause-card c =
+    let x = c.pair-item.result in
+    let pair = (c.requires.pairs x (among c.args.pairs.now c.loop-pair.pair-index x c.loop-pair-test.true c.pair-item.is)).0 in
+    omega (arith, c.number.ensures, pair.0)
+
+pub set_bit-requires-clause-row : goal.set_bit-requires-clause-row
+set_bit-requires-clause-row c =
+    let x = c.pair-item.result in
+    let pair = (c.requires.pairs x (among c.args.pairs.now c.loop-pair.pair-index x c.loop-pair-test.true c.pair-item.is)).0 in
+    omega (arith, c.number-in-loop-pair.ensures, pair.1)
+
+pub set_bit-requires-clause-proper : goal.set_bit-requires-clause-proper
+set_bit-requires-clause-proper c low =
+    let x = c.pair-item.result in
+    let same : (c.number.result, c.number-in-loop-pair.result) ≡ x = λ i. (c.number.ensures i, c.number-in-loop-pair.ensures i) in
+    subst (IsOfCrossing c.args.race.now.shape) (sym same) (c.requires.pairs x (among c.args.pairs.now c.loop-pair.pair-index x c.loop-pair-test.true c.pair-item.is)).1
+
+pub loop-pair-preserved : goal.loop-pair-preserved
+loop-pair-preserved c =
+    let k = c.args.race.now.shape in
+    let x = c.pair-item.result in
+    let pairs = c.args.pairs.now in
+    let n = c.loop-pair.pair-index in
+    let same : (c.number.result, c.number-in-loop-pair.result) ≡ x = λ i. (c.number.ensures i, c.number-in-loop-pair.ensures i) in
+    let old = c.args.seat.now.me.0.began_words in
+    let mid = c.loop-pair.seat.me.0.began_words in
+    let new = c.set_bit.new.seat.me.0.began_words in
+    record {
+      seat = c.set_bit.ensures.seat;
+      notes = subst (λ (xs : List (ℕ × ℕ)). Notes k old new xs) (sym (take_next pairs n x (item pairs n x c.loop-pair-test.true c.pair-item.is)))
+          (notes_then k old mid new (take n pairs) (x ∷ []) c.loop-pair.invariant.notes (subst (λ (y : ℕ × ℕ). Notes k mid new (y ∷ [])) same c.set_bit.ensures.notes));
+    }
+
+pub returns-clause-notes : goal.returns-clause-notes
+returns-clause-notes c =
+    let k = c.args.race.now.shape in
+    subst (λ (xs : List (ℕ × ℕ)). Notes k c.args.seat.now.me.0.began_words c.loop-pair.seat.me.0.began_words xs) (take_all c.args.pairs.now c.loop-pair.pair-index (omega (arith, c.loop-pair-test.false))) c.loop-pair.invariant.notes

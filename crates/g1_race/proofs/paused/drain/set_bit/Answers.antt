@@ -1,0 +1,32 @@
+use Rattle.std.proofs.Common.{◌≡◌, ℕ, ◌*◌, ◌%◌, ◌^◌, [], ◌∷◌, List, bit_or, slice_set, sym, ap, ◌∙◌, subst, ⊎_elim}
+use Rattle.std.proofs.lemmas.Nat.Bits.{shr_and_one}
+use Rattle.g1_race_words.specs.Rule.{IsBegun, HasBit, started}
+use Rattle.g1_race.specs.Refining.{Notes}
+use Rattle.g1_race.proofs.PauseWords.{begun_bit, notes_bit, notes_same, with_found, bit_read}
+use Rattle.g1_race.proofs.paused.drain.set_bit.Goals as goal
+
+pub returns-then-found-place-eq1-clause-notes : goal.returns-then-found-place-eq1-clause-notes
+returns-then-found-place-eq1-clause-notes c =
+    let k = c.args.race.now.shape in
+    let words = c.args.seat.now.me.0.began_words in
+    let x : ℕ × ℕ = (c.args.card, c.args.region) in
+    let set : HasBit k words x = sym (bit_read k words x c.bit_of-at.result.0 c.bit_of-at.result.1 c.see-found.result c.bit_of-at.ensures.word c.bit_of-at.ensures.place c.see-found.ensures.word) ∙ (sym (shr_and_one c.see-found.result c.bit_of-at.result.1) ∙ c.if-found-place-eq1.true) in
+    notes_same k words c.see-found.new.seat.me.0.began_words (x ∷ []) (ap (λ m. m.0.began_words) c.see-found.ensures.seat.1) (λ y i. ⊎_elim (λ (e : x ≡ y). subst (HasBit k words) e set) (λ (n : ⊥). absurd n) i)
+
+pub put-requires-clause-begun : goal.put-requires-clause-begun
+put-requires-clause-begun c =
+    let k = c.args.race.now.shape in
+    let words = c.args.seat.now.me.0.began_words in
+    let x : ℕ × ℕ = (c.args.card, c.args.region) in
+    let is = ap (λ (l : List ℕ). slice_set l c.bit_of-at.result.0 (bit_or c.see-found.result (1 * 2 ^ c.bit_of-at.result.1 % 2 ^ 64))) (ap (λ m. m.0.began_words) c.see-found.ensures.seat.1)
+    ∙ with_found k words x c.bit_of-at.result.0 c.bit_of-at.result.1 c.see-found.result c.bit_of-at.ensures.word c.bit_of-at.ensures.place c.see-found.ensures.word in
+    subst (λ (l : List ℕ). IsBegun (started k l)) (sym is) (begun_bit k words x c.requires.seat.begun c.requires.card c.requires.row c.requires.proper)
+
+pub returns-clause-notes : goal.returns-clause-notes
+returns-clause-notes c =
+    let k = c.args.race.now.shape in
+    let words = c.args.seat.now.me.0.began_words in
+    let x : ℕ × ℕ = (c.args.card, c.args.region) in
+    let is = ap (λ (l : List ℕ). slice_set l c.bit_of-at.result.0 (bit_or c.see-found.result (1 * 2 ^ c.bit_of-at.result.1 % 2 ^ 64))) (ap (λ m. m.0.began_words) c.see-found.ensures.seat.1)
+    ∙ with_found k words x c.bit_of-at.result.0 c.bit_of-at.result.1 c.see-found.result c.bit_of-at.ensures.word c.bit_of-at.ensures.place c.see-found.ensures.word in
+    subst (λ (l : List ℕ). Notes k words l (x ∷ [])) (sym (c.put.ensures.words ∙ is)) (notes_bit k words x c.requires.seat.begun c.requires.card c.requires.row)

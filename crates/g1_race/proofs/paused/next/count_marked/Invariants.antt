@@ -1,0 +1,14 @@
+use Rattle.std.proofs.Common.{◌≡◌, ◌≤◌, ◌-◌, length}
+use Rattle.g1_race.specs.Telling.{cards_where, is_marked}
+use Rattle.g1_race.proofs.paused.next.count_marked.Given as goal
+
+abbrev pub invariant-loop-card : goal.invariant-loop-card
+invariant-loop-card l = record {
+  table : l.seat.table_id ≡ l.fn.seat.table_id;
+  me : l.seat.me ≡ l.fn.seat.me;
+  within : l.from ≤ l.race.shape.cards;
+  counted : l.count ≡ length (cards_where (is_marked l.race.shape l.fn.seat.me.0.began_words) l.from);
+}
+
+abbrev pub decreases-loop-card : goal.decreases-loop-card
+decreases-loop-card l = l.race.shape.cards - l.from

@@ -1,0 +1,14 @@
+use Rattle.std.proofs.Common.{◌≡◌, ◌≤◌, ◌<◌, ◌-◌, ℕ, false}
+use Rattle.g1_race.specs.Telling.{is_marked}
+use Rattle.g1_race.proofs.paused.next.next_marked.Given as goal
+
+abbrev pub invariant-loop-card : goal.invariant-loop-card
+invariant-loop-card l = record {
+  table : l.seat.table_id ≡ l.fn.seat.table_id;
+  me : l.seat.me ≡ l.fn.seat.me;
+  past : l.from ≤ l.next;
+  none : (c : ℕ) → l.from ≤ c → c < l.next → c < l.race.shape.cards → is_marked l.race.shape l.fn.seat.me.0.began_words c ≡ false;
+}
+
+abbrev pub decreases-loop-card : goal.decreases-loop-card
+decreases-loop-card l = l.race.shape.cards - l.next

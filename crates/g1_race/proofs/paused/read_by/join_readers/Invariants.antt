@@ -1,0 +1,17 @@
+use Rattle.std.proofs.Common.{◌≡◌, ◌+◌, All, vec_len, vec_capacity}
+use Rattle.g1_race_words.specs.Rule.{start_of}
+use Rattle.g1_race_words.specs.Readers.{IsLent}
+use Rattle.g1_race.specs.Reading.{known}
+use Rattle.g1_race.proofs.paused.read_by.join_readers.Given as goal
+
+abbrev pub invariant-loop-reader : goal.invariant-loop-reader
+invariant-loop-reader l = record {
+  seat : IsLent l.table.table_id l.table.shape l.chair;
+  start : start_of l.chair.me.0 ≡ start_of l.fn.chair.me.0;
+  weight : l.chair.me.0.weight + vec_len l.readers ≡ l.fn.chair.me.0.weight + vec_len l.fn.readers;
+  capacity : vec_capacity l.readers ≡ vec_capacity l.fn.readers;
+  all : All (λ r. r ≡ known l.table.table_id (start_of l.fn.chair.me.0)) l.readers.items;
+}
+
+abbrev pub decreases-loop-reader : goal.decreases-loop-reader
+decreases-loop-reader l = vec_len l.readers

@@ -1,0 +1,16 @@
+use Rattle.std.proofs.Common.{◌≡◌, ◌+◌, ◌≤◌, All, vec_len, vec_capacity}
+use Rattle.g1_race_words.specs.Rule.{start_of}
+use Rattle.g1_race_words.specs.Readers.{IsLent}
+use Rattle.g1_race.specs.Reading.{known}
+use Rattle.g1_race.proofs.paused.read_by.seat_readers.Given as goal
+
+abbrev pub invariant-loop-i : goal.invariant-loop-i
+invariant-loop-i l = record {
+  seat : IsLent l.table.table_id l.table.shape l.chair;
+  start : start_of l.chair.me.0 ≡ start_of l.fn.chair.me.0;
+  weight : l.chair.me.0.weight + l._i ≡ l.fn.chair.me.0.weight;
+  len : vec_len l.readers ≡ l._i;
+  room : l.count ≤ vec_capacity l.readers;
+  grows : vec_capacity l.fn.readers ≤ vec_capacity l.readers;
+  all : All (λ r. r ≡ known l.table.table_id (start_of l.fn.chair.me.0)) l.readers.items;
+}

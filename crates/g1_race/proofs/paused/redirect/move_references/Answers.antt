@@ -1,0 +1,73 @@
+use Rattle.std.proofs.Common.{◌≡◌, ℕ, ◌+◌, ◌*◌, ◌≤◌, List, sym, ap, ◌∙◌, subst, arith}
+use Rattle.g1_race.specs.Clearing.{Into}
+use Rattle.g1_race.specs.Moving.{AreMoved, into_count}
+use Rattle.g1_race.proofs.AtPause.{paused_same}
+use Rattle.g1_race.proofs.MovedCards.{in_order, none_into, on_card, on_count, passed, passed_count}
+use Rattle.g1_race.proofs.paused.redirect.move_references.Goals as goal
+
+pub loop-card-preserved : goal.loop-card-preserved
+loop-card-preserved c =
+    let race = c.args.race.now in
+    let k = race.shape in
+    let i = c.loop-card.invariant in
+    let old = c.args.seat.now.me.0.began_words in
+    let mid = c.loop-card.seat.me.0.began_words in
+    let from = c.args.from in
+    let to = c.args.to in
+    let same = ap (λ m. m.0.began_words) c.next_member.ensures.seat.1 in
+    let card = c.in-Some.card in
+    let next = c.in-Some.ensures.next in
+    let new = c.move_on-count.new.seat.me.0.began_words in
+    let step : AreMoved k mid new from to (card * k.size) k.size = subst (λ (ws : List ℕ). AreMoved k ws new from to (card * k.size) k.size) same c.move_on-count.ensures.moved in
+    let counted : c.move_on-count.result ≡ into_count k mid from (card * k.size) k.size = subst (λ (ws : List ℕ). c.move_on-count.result ≡ into_count k ws from (card * k.size) k.size) same c.move_on-count.ensures.count in
+    let order = in_order k old mid from to c.loop-card.next card c.requires.seat.begun c.requires.apart next.0 (omega (arith, next.1)) c.requires.clean i.moved next.3 in
+    record {
+      seat = c.move_on-count.ensures.seat;
+      within = omega (arith, next.1);
+      moved = on_card k old mid from to c.loop-card.next card c.requires.seat.begun c.requires.apart next.0 (omega (arith, next.1)) c.requires.clean i.moved next.3 new step;
+      counted = (λ j. i.counted j + counted j) ∙ sym (on_count k old mid from to c.loop-card.next card c.requires.seat.begun c.requires.apart next.0 (omega (arith, next.1)) c.requires.clean i.moved next.3 next.1);
+      few = (let x : ℕ = c.loop-card.next * k.size in let y : ℕ = card * k.size in let o : x ≤ y = order in let f : c.loop-card.count ≤ x = i.few in let e : (card + 1) * k.size ≡ y + k.size = omega arith in omega (arith, c.move_on-count.ensures.few));
+    }
+
+pub empty_row-requires-clause-none : goal.empty_row-requires-clause-none
+empty_row-requires-clause-none c =
+    let race = c.args.race.now in
+    let k = race.shape in
+    let i = c.loop-card.invariant in
+    let old = c.args.seat.now.me.0.began_words in
+    let mid = c.loop-card.seat.me.0.began_words in
+    let from = c.args.from in
+    let to = c.args.to in
+    let same = ap (λ m. m.0.began_words) c.next_member.ensures.seat.1 in
+    let all : AreMoved k old mid from to 0 k.slots = subst (λ (n : ℕ). AreMoved k old mid from to 0 n) (sym race.shaped.0) (passed k old mid from to c.loop-card.next k.cards c.requires.seat.begun c.requires.apart i.within (omega arith) c.requires.clean i.moved c.in_default.ensures.next) in
+    λ p x. none_into k old mid from to p c.requires.seat.begun c.requires.apart all (subst (λ (ws : List ℕ). Into k ws from p) same x)
+
+pub returns-clause-moved : goal.returns-clause-moved
+returns-clause-moved c =
+    let race = c.args.race.now in
+    let k = race.shape in
+    let i = c.loop-card.invariant in
+    let old = c.args.seat.now.me.0.began_words in
+    let mid = c.loop-card.seat.me.0.began_words in
+    let from = c.args.from in
+    let to = c.args.to in
+    let same = ap (λ m. m.0.began_words) c.next_member.ensures.seat.1 in
+    let all : AreMoved k old mid from to 0 k.slots = subst (λ (n : ℕ). AreMoved k old mid from to 0 n) (sym race.shaped.0) (passed k old mid from to c.loop-card.next k.cards c.requires.seat.begun c.requires.apart i.within (omega arith) c.requires.clean i.moved c.in_default.ensures.next) in
+    record {
+      between = c.next_member.new.seat.me.0.began_words;
+      begun = (paused_same race.table.table_id k c.loop-card.seat c.next_member.new.seat c.next_member.ensures.seat.0 c.next_member.ensures.seat.1 i.seat).begun;
+      moved = subst (λ (ws : List ℕ). AreMoved k old ws from to 0 k.slots) (sym same) all;
+      emptied = c.empty_row.ensures.emptied;
+    }
+
+pub returns-clause-count : goal.returns-clause-count
+returns-clause-count c =
+    let race = c.args.race.now in
+    let k = race.shape in
+    let i = c.loop-card.invariant in
+    let old = c.args.seat.now.me.0.began_words in
+    let mid = c.loop-card.seat.me.0.began_words in
+    let from = c.args.from in
+    let to = c.args.to in
+    let same = ap (λ m. m.0.began_words) c.next_member.ensures.seat.1 in
+    i.counted ∙ (sym (passed_count k old mid from to c.loop-card.next k.cards c.requires.seat.begun c.requires.apart i.within (omega arith) c.requires.clean i.moved c.in_default.ensures.next) ∙ ap (into_count k old from 0) (sym race.shaped.0))

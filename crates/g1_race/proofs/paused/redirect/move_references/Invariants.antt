@@ -1,0 +1,16 @@
+use Rattle.std.proofs.Common.{◌≡◌, ◌*◌, ◌-◌, ◌≤◌}
+use Rattle.g1_race_words.specs.Seats.{IsPaused}
+use Rattle.g1_race.specs.Moving.{AreMoved, into_count}
+use Rattle.g1_race.proofs.paused.redirect.move_references.Given as goal
+
+abbrev pub invariant-loop-card : goal.invariant-loop-card
+invariant-loop-card l = record {
+  seat : IsPaused l.race.table.table_id l.race.shape l.seat;
+  within : l.next ≤ l.race.shape.cards;
+  moved : AreMoved l.race.shape l.fn.seat.me.0.began_words l.seat.me.0.began_words l.from l.to 0 (l.next * l.race.shape.size);
+  counted : l.count ≡ into_count l.race.shape l.fn.seat.me.0.began_words l.from 0 (l.next * l.race.shape.size);
+  few : l.count ≤ l.next * l.race.shape.size;
+}
+
+abbrev pub decreases-loop-card : goal.decreases-loop-card
+decreases-loop-card l = l.race.shape.cards - l.next

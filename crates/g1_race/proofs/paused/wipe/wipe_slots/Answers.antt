@@ -1,0 +1,70 @@
+use Rattle.std.proofs.Common.{sym, subst, inl, inr, ◌≢◌, ◌⊎◌, ◌≤◌, ◌≡◌, ℕ, suc, ◌+◌, ◌*◌, ◌<◌, List, set, None, refl, ap, ◌∙◌, arith}
+use lib.ListN.{get_elem?}
+use Rattle.std.proofs.lemmas.Bool.{cases_eq}
+use Rattle.atomic_table.proofs.Lists.{set_else, set_here}
+use Rattle.g1_layout.specs.declared.kind.Kind.TheVariants.{Null}
+use Rattle.g1_race_words.specs.declared.view.Shape.{Shape}
+use Rattle.g1_race.specs.Over.{ended, table_of}
+use Rattle.g1_race.specs.Evacuating.{nulled}
+use Rattle.g1_race.proofs.AtPause.{begun_placed}
+use Rattle.g1_race.proofs.StoreCalls.{null_crosses}
+use Rattle.g1_race.proofs.PauseStores.{kind_null, quiet_store, slot_in}
+use Rattle.g1_race.proofs.paused.wipe.wipe_slots.Goals as goal
+
+-- a slot outside of the first ones is outside of all before
+out_of : (first i q : ℕ) → (q < first) ⊎ (first + (i + 1) ≤ q) → (q ≢ first + i) × ((q < first) ⊎ (first + i ≤ q))
+out_of first i q (inl low) = ((λ e. absurd (omega (arith, low, e))), inl low)
+out_of first i q (inr high) = ((λ e. absurd (omega (arith, high, e))), inr (omega (arith, high)))
+
+pub loop-i-init : goal.loop-i-init
+loop-i-init c = record { seat = c.requires.seat; table = refl; null = λ j lt. absurd (omega (arith, lt)); other = λ p out. refl }
+
+pub put-requires-clause-seat : goal.put-requires-clause-seat
+put-requires-clause-seat c = c.loop-i.invariant.seat
+
+pub put-requires-clause-word : goal.put-requires-clause-word
+put-requires-clause-word c = let a = slot_in c.args.race.now.shape c.args.region c.loop-i.i c.args.race.now.shaped c.requires.region c.loop-i-test.true in omega (arith, a)
+
+pub put-requires-clause-begun : goal.put-requires-clause-begun
+put-requires-clause-begun c =
+    let k = c.args.race.now.shape in
+    let p : ℕ = c.args.region * k.span + c.loop-i.i in
+    begun_placed k c.loop-i.seat.me.0.began_words p 0 (slot_in k c.args.region c.loop-i.i c.args.race.now.shaped c.requires.region c.loop-i-test.true) (inl (omega arith)) (λ cr. absurd (let no_one = null_crosses k p 0 refl in cc (cr, no_one))) c.loop-i.invariant.seat.begun
+
+pub loop-i-preserved : goal.loop-i-preserved
+loop-i-preserved c =
+    let race = c.args.race.now in
+    let k = race.shape in
+    let i = c.loop-i.invariant in
+    let words = c.loop-i.seat.me.0.began_words in
+    let first : ℕ = c.args.region * k.span in
+    let p : ℕ = first + c.loop-i.i in
+    let lt : p < k.slots = slot_in k c.args.region c.loop-i.i race.shaped c.requires.region c.loop-i-test.true in
+    let old = table_of (ended race.layout k c.args.seat.now.me.0.began_words) in
+    let new = c.put.new.seat.me.0.began_words in
+    record {
+      seat = c.put.ensures.seat;
+      table = (quiet_store k race.layout race.laid p lt None 0 refl (nulled first c.loop-i.i old) words new i.table c.put.ensures.words i.seat.begun c.put.ensures.seat.begun Null (kind_null k race.layout race.laid p lt None 0 refl (table_of (ended race.layout k words)) refl) (λ e. cc)).1
+          ∙ ap (λ (n : ℕ). nulled first n old) (let e : suc c.loop-i.i ≡ c.loop-i.i + 1 = omega arith in e);
+      null = λ j low. ap (λ (ws : List ℕ). get_elem? ws (first + j)) c.put.ensures.words ∙ elim (cases_eq j c.loop-i.i) [
+        | inl e ↦ ap (λ (m : ℕ). get_elem? (set words p 0) (first + m)) e ∙ set_here words p 0 (omega (arith, lt, i.seat.begun.sized))
+        | inr ne ↦ set_else words p (first + j) 0 (λ e. ne (omega (arith, e))) ∙ i.null j (omega (arith, low, ne))
+      ];
+      other = λ q out. ap (λ (ws : List ℕ). get_elem? ws q) c.put.ensures.words ∙ (set_else words p q 0 (out_of first c.loop-i.i q out).0 ∙ i.other q (out_of first c.loop-i.i q out).1);
+    }
+
+pub returns-clause-table : goal.returns-clause-table
+returns-clause-table c =
+    let race = c.args.race.now in
+    let k = race.shape in
+    let old = table_of (ended race.layout k c.args.seat.now.me.0.began_words) in
+    c.loop-i.invariant.table ∙ ap (λ (n : ℕ). nulled (c.args.region * k.span) n old) (let e : c.loop-i.i ≡ k.span = omega (arith, c.loop-i-test.false) in e) ∙ ap (λ (s : Shape). nulled (c.args.region * s.span) s.span old) race.laid
+
+pub returns-clause-null : goal.returns-clause-null
+returns-clause-null c = λ j lt. c.loop-i.invariant.null j (omega (arith, lt, c.loop-i-test.false))
+
+pub returns-clause-other : goal.returns-clause-other
+returns-clause-other c =
+    let first : ℕ = c.args.region * c.args.race.now.shape.span in
+    let whole : c.loop-i.i ≡ c.args.race.now.shape.span = omega (arith, c.loop-i-test.false) in
+    λ p out. c.loop-i.invariant.other p (subst (λ (n : ℕ). (p < first) ⊎ (first + n ≤ p)) (sym whole) out)

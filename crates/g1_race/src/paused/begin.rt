@@ -1,0 +1,131 @@
+//! A core becomes a race at a pause: its table is placed into the words of a heap of nulls.
+ghost use Rattle.std.specs.Prelude.{◌≡◌, ℕ, ◌+◌, ◌<◌, ◌≤◌, [], IfOk, All, replicate};
+ghost use Rattle.std.specs.FinSet as set;
+ghost use mathlib.Core.Option.{some};
+ghost use lib.ListN.{get_elem?};
+ghost use Rattle.g1_core.specs.Adoption.{IsPairOf};
+ghost use Rattle.g1_race_words.specs.Rule.{In, IsPair, IsOfCrossing, mark_word, null_of};
+ghost use Rattle.g1_race.specs.Race.{shape_of};
+ghost use Rattle.g1_race.specs.Over.{halted, start_at};
+ghost use Rattle.g1_race.specs.Refining.{Notes};
+ghost use Rattle.g1_race.specs.Resumed.{AreCovered, AreMarked, ArePlaced, IsSame};
+ghost use Rattle.g1_race_words.specs.Seats.{IsPaused};
+
+use crate::paused::Paused;
+use crate::paused::access::{dirty, put};
+use crate::paused::drain::set_bit;
+use crate::race::Race;
+use crate::word::word_of;
+use g1_core::Core;
+use g1_layout::{Card, NoMemory, Region};
+use g1_race_words::Place;
+use std::alloc::Global;
+
+impl Paused {
+    /// Opens a heap at a pause with a core's whole table, for 1 to 64 racers and 1 to 64 sweepers.
+    /// Each slot refers to what it refers to in the core, the pending cards are dirty, and the
+    /// recorded pairs are recorded. The settings and the refinement counts are not taken over.
+    ///
+    /// Reads each slot of the core once. The core stays as it is, except for its count of reads.
+    /// Takes the memory of [`Paused::open`] and, during the call, that of the list of pairs.
+    /// Returns `NoMemory` if memory was refused: nothing is left of the heap.
+    pub fn begin_from(
+        alloc: Global,
+        core: &mut Core,
+        racers: u32,
+        sweepers: u32,
+    ) -> Result<Paused, NoMemory>
+        requires racers { (1 ≤ racers) × (racers ≤ 64) }
+        requires sweepers { (1 ≤ sweepers) × (sweepers ≤ 64) }
+        ensures layout { IfOk result (λ p. p.layout ≡ core.old.state.table.layout) }
+        ensures shape { IfOk result (λ p.
+            p.shape ≡ shape_of core.old.state.table.layout (racers + sweepers)) }
+        ensures table { IfOk result (λ p. halted p ≡ core.old.state.table) }
+        ensures logs { IfOk result (λ p. p.logs ≡ replicate racers []) }
+        ensures sweepers { IfOk result (λ p. p.sweepers ≡ sweepers) }
+        ensures same { IsSame core.old core.new }
+    {
+        let pairs = core.pairs()?;
+        let mut paused = Paused::open(alloc, core.layout(), racers, sweepers)?;
+        paused.place(core, &pairs);
+        Ok(paused)
+    }
+
+    // Places the core's table into a heap of nulls.
+    fn place(&mut self, core: &mut Core, pairs: &[(Card, Region)])
+        requires layout { self.old.layout ≡ core.old.state.table.layout }
+        requires null { start_at self.old ≡ null_of self.old.shape }
+        requires pairs { set.from_list pairs.now ≡ core.old.state.table.recorded }
+        requires within { All (IsPairOf core.old.state.table.layout) pairs.now }
+        ensures table { halted self.new ≡ core.old.state.table }
+        ensures rest { self.new ≡ record self.old { words = self.new.words } }
+        ensures same { IsSame core.old core.new }
+    {
+        let _layout = core.layout();
+        place_pairs(&self.race, &mut self.seat, pairs);
+        place_marks(&self.race, &mut self.seat, core);
+        place_slots(&self.race, &mut self.seat, core);
+    }
+}
+
+// Sets the bits of these pairs.
+fn place_pairs(race: &Race, seat: &mut Place, pairs: &[(Card, Region)])
+    requires seat { IsPaused race.now.table.table_id race.now.shape seat.old }
+    requires pairs { (x : ℕ × ℕ) → In pairs.now x →
+        IsPair race.now.shape x × IsOfCrossing race.now.shape x }
+    ensures seat { IsPaused race.now.table.table_id race.now.shape seat.new }
+    ensures notes { Notes race.now.shape seat.old.me.0.began_words seat.new.me.0.began_words
+        pairs.now }
+{
+    for pair in pairs {
+        set_bit(
+            race,
+            seat,
+            pair.0.number() as usize,
+            pair.1.number() as usize,
+        );
+    }
+}
+
+// Dirties the cards that are pending in the core.
+fn place_marks(race: &Race, seat: &mut Place, core: &Core)
+    requires seat { IsPaused race.now.table.table_id race.now.shape seat.old }
+    requires layout { race.now.layout ≡ core.now.state.table.layout }
+    requires clean { (c : ℕ) → c < race.now.shape.cards →
+        get_elem? seat.old.me.0.began_words (mark_word race.now.shape c) ≡ some 0 }
+    ensures seat { IsPaused race.now.table.table_id race.now.shape seat.new }
+    ensures marks { AreMarked race.now.shape core.now.state.table seat.old.me.0.began_words
+        seat.new.me.0.began_words race.now.shape.cards }
+{
+    for number in 0..race.shape.cards {
+        let Some(card) = race.layout.card(number as u32) else {
+            unreachable!()
+        };
+        if core.is_pending(card) {
+            dirty(race, seat, number);
+        }
+    }
+}
+
+// Writes the core's references.
+fn place_slots(race: &Race, seat: &mut Place, core: &mut Core)
+    requires seat { IsPaused race.now.table.table_id race.now.shape seat.old }
+    requires layout { race.now.layout ≡ core.old.state.table.layout }
+    requires null { (p : ℕ) → p < race.now.shape.slots →
+        get_elem? seat.old.me.0.began_words p ≡ some 0 }
+    requires covered { AreCovered race.now.shape core.old.state.table seat.old.me.0.began_words }
+    ensures seat { IsPaused race.now.table.table_id race.now.shape seat.new }
+    ensures slots { ArePlaced race.now.shape core.old.state.table seat.old.me.0.began_words
+        seat.new.me.0.began_words race.now.shape.slots }
+    ensures same { IsSame core.old core.new }
+{
+    for number in 0..race.shape.slots {
+        let Some(slot) = race.layout.slot(number as u32) else {
+            unreachable!()
+        };
+        let word = word_of(core.target(slot));
+        if word != 0 {
+            put(race, seat, number, word);
+        }
+    }
+}

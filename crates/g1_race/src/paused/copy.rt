@@ -1,0 +1,72 @@
+//! A range of slots is copied to another one.
+ghost use Rattle.std.specs.Prelude.{◌≡◌, ◌+◌, ◌<◌, ◌≤◌, slice_index};
+ghost use Rattle.g1_layout.specs.Shape.{slot_count};
+ghost use Rattle.g1_core.specs.Table.{target_of};
+ghost use Rattle.g1_core.specs.Run.{stored};
+ghost use Rattle.g1_core.specs.Copying.{copied};
+ghost use Rattle.g1_race.specs.Over.{halted};
+ghost use Rattle.g1_race.specs.Evacuating.{IsSameRace, SlotsBecome, copied_word, one_word};
+
+use crate::paused::Paused;
+use crate::paused::holds::Holds;
+use crate::word::refers_to;
+use g1_layout::{Layout, Slot};
+
+impl<R: Holds> Paused<R> {
+    /// Copies the words of `count` slots, from `from` on, into as many slots from `to` on:
+    /// references, null and data. The two ranges may overlap: each slot gets the word that its
+    /// source had before the call.
+    ///
+    /// Each copy is a store as [`Paused::store`] or [`Paused::store_data`] makes it. So a slot's
+    /// card becomes dirty if the reference crosses regions from there, and no log gets the card.
+    /// Takes time in proportion to `count`, and no memory.
+    pub fn copy_slots(&mut self, from: Slot, to: Slot, count: u32)
+        requires from { from + count ≤ slot_count self.old.layout }
+        requires to { to + count ≤ slot_count self.old.layout }
+        ensures race { IsSameRace self.old self.new }
+        ensures words { SlotsBecome (copied_word self.old.words from to count) self.old self.new }
+        ensures table { halted self.new ≡ copied from to count (halted self.old) }
+    {
+        let layout = self.race.race().layout;
+        // Where the ranges overlap, each slot is read before it is written.
+        let upwards = to.number() <= from.number();
+        for i in 0..count {
+            let distance = if upwards { i } else { count - 1 - i };
+            self.copy_slot(
+                slot_behind(layout, from, distance),
+                slot_behind(layout, to, distance),
+            );
+        }
+    }
+
+    // Stores the word of a slot into another one.
+    fn copy_slot(&mut self, from: Slot, to: Slot)
+        requires from { from < slot_count self.old.layout }
+        requires to { to < slot_count self.old.layout }
+        ensures race { IsSameRace self.old self.new }
+        ensures words { let word = slice_index self.old.words from in
+            SlotsBecome (one_word to word) self.old self.new }
+        ensures table { halted self.new
+            ≡ stored (halted self.old) to (target_of (halted self.old) from) }
+    {
+        let layout = self.race.race().layout;
+        let word = self.word(from);
+        if word > u32::MAX as u64 {
+            self.store_data(to, word);
+            return;
+        }
+        let target = refers_to(layout, word);
+        self.store(to, target);
+    }
+}
+
+// The slot that lies so far behind the first one.
+pub(crate) fn slot_behind(layout: Layout, first: Slot, distance: u32) -> Slot
+    requires { first + distance < slot_count layout }
+    ensures { result ≡ first + distance }
+{
+    let Some(slot) = layout.slot(first.number() + distance) else {
+        unreachable!()
+    };
+    slot
+}

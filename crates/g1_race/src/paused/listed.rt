@@ -1,0 +1,226 @@
+//! The pairs that are recorded at a pause, and the cards that are dirty.
+ghost use Rattle.std.specs.Prelude.{◌≡◌, ◌<◌, ◌≤◌, ◌^◌, ◌↔◌, IsTrue, IfOk, IfSome, ℕ, [], length};
+ghost use Rattle.std.specs.Prelude.{vec_len, vec_capacity};
+ghost use Rattle.std.specs.FinSet as set;
+ghost use Rattle.g1_layout.specs.Shape.{card_count};
+ghost use Rattle.g1_core.specs.Table.{IsRecorded, AreMembers};
+ghost use Rattle.g1_core.specs.Run.{IsStep};
+ghost use Rattle.g1_core.specs.Calls.{members_entry, status_entry};
+ghost use Rattle.g1_race_words.specs.Rule.{HasBit, IsPair};
+ghost use Rattle.g1_race.specs.Over.{halted};
+ghost use Rattle.g1_race.specs.Reading.{IsNextPending, IsNextMember, table_known};
+ghost use Rattle.g1_race.specs.Telling.{marked_cards, member_cards};
+ghost use Rattle.g1_race_words.specs.Readers.{IsReading};
+
+use crate::bits::bit_of;
+use crate::paused::Paused;
+use crate::paused::access::see;
+use crate::paused::holds::Holds;
+use crate::paused::next::{
+    card_at, count_marked, count_members, count_pairs, list_marked, list_members, next_marked,
+    next_member,
+};
+use crate::race::Race;
+use g1_core::{CardList, Status};
+use g1_layout::{Card, NoMemory, Region};
+use g1_race_words::Place;
+use std::alloc::Global;
+
+impl<R: Holds> Paused<R> {
+    /// Returns whether a pair is recorded. Reads one word.
+    pub fn has(&mut self, card: Card, region: Region) -> bool
+        ensures has { IsTrue result ↔ IsRecorded (halted self.old) card region }
+        ensures same { self.new ≡ self.old }
+    {
+        is_recorded(self.race.race(), &mut self.seat, card, region)
+    }
+
+    /// Returns the cards of a region's remembered set as it is recorded, ascending, each once.
+    /// Dirty cards may be missing from it. Reads a word for each 64 cards of the heap, and one more
+    /// for each card of the set, and all of this twice.
+    ///
+    /// Returns `NoMemory` if the room for the list was refused.
+    pub fn members(&mut self, alloc: Global, region: Region) -> Result<CardList, NoMemory>
+        requires { region < self.old.layout.regions }
+        ensures members { IfOk result (λ cards. AreMembers (halted self.old) region cards) }
+        ensures few { IfOk result (λ cards. length cards ≤ card_count self.old.layout) }
+        ensures step { IfOk result (λ cards. (caller : ℕ)
+            → IsStep (halted self.old) (members_entry caller region cards) (halted self.new)) }
+        ensures same { self.new ≡ self.old }
+    {
+        members_of(self.race.race(), &mut self.seat, alloc, region)
+    }
+
+    /// Returns how many cards are dirty. Reads a word for each 64 cards of the heap, and the marks
+    /// of each eight cards of which one was dirtied since all were last refined at a pause.
+    pub fn pending_count(&mut self) -> u32
+        ensures count { result ≡ set.len (halted self.old).pending }
+        ensures same { self.new ≡ self.old }
+    {
+        count_marked(self.race.race(), &mut self.seat) as u32
+    }
+
+    /// Returns how many cards are dirty, and how many pairs are recorded. Reads what
+    /// [`Paused::pending_count`] reads, for each region a word for each 64 cards of the heap, and
+    /// one more word for each recorded pair.
+    pub fn status(&mut self) -> Status
+        ensures pending { result.pending ≡ set.len (halted self.old).pending }
+        ensures recorded { result.recorded ≡ set.len (halted self.old).recorded }
+        ensures step { (caller : ℕ) →
+            IsStep (halted self.old) (status_entry caller result) (halted self.new) }
+        ensures same { self.new ≡ self.old }
+    {
+        let race = self.race.race();
+        let _counts = race.layout.counts();
+        let pending = count_marked(race, &mut self.seat) as u32;
+        let recorded = count_pairs(race, &mut self.seat) as u32;
+        Status { pending, recorded }
+    }
+
+    /// Returns the least dirty card from the number `from` on, or `None` if there is none. Reads a
+    /// word for each 64 cards up to it, and the marks of each eight of these of which one was
+    /// dirtied since all were last refined at a pause. Takes no memory.
+    ///
+    /// A walk over all of them goes on from the number behind the card that it got, which may be no
+    /// card's.
+    pub fn next_dirty(&mut self, from: u32) -> Option<Card>
+        ensures dirty { IsNextPending (halted self.old) from result }
+        ensures same { self.new ≡ self.old }
+    {
+        next_dirty_from(self.race.race(), &mut self.seat, from)
+    }
+
+    /// Returns the least card from the number `from` on that is recorded for a region, or `None` if
+    /// there is none. Reads a word for each 64 cards up to it. Takes no memory. A walk goes on as
+    /// that of [`Paused::next_dirty`] does.
+    pub fn next_member(&mut self, region: Region, from: u32) -> Option<Card>
+        requires { region < self.old.layout.regions }
+        ensures member { IsNextMember (halted self.old) region from result }
+        ensures within { IfSome result (λ card. card < card_count self.old.layout) }
+        ensures same { self.new ≡ self.old }
+    {
+        next_member_from(self.race.race(), &mut self.seat, region, from)
+    }
+
+    // The dirty cards, ascending.
+    pub(crate) fn dirty_cards(&mut self, alloc: Global) -> Result<Vec<Card>, NoMemory>
+        ensures cards { IfOk result (λ cards.
+            cards.items ≡ marked_cards self.old.shape self.old.words) }
+        ensures few { IfOk result (λ cards. vec_len cards < 2 ^ 32) }
+        ensures same { self.new ≡ self.old }
+    {
+        let race = self.race.race();
+        let count = count_marked(race, &mut self.seat);
+        let mut cards = Vec::with_capacity(alloc, count)?;
+        list_marked(race, &mut self.seat, &mut cards);
+        Ok(cards)
+    }
+
+    // How many cards the region's set has.
+    pub(crate) fn member_count(&mut self, region: Region) -> usize
+        requires { region < self.old.layout.regions }
+        ensures count { result ≡ length (member_cards self.old.shape self.old.words region) }
+        ensures few { result < 2 ^ 32 }
+        ensures same { self.new ≡ self.old }
+    {
+        count_members(self.race.race(), &mut self.seat, region.number() as usize)
+    }
+
+    // Lists the cards of the region's set.
+    pub(crate) fn gather(&mut self, region: Region, cards: &mut Vec<Card>)
+        requires region { region < self.old.layout.regions }
+        requires empty { cards.old.items ≡ [] }
+        requires room { length (member_cards self.old.shape self.old.words region)
+            ≤ vec_capacity cards.old }
+        ensures members { AreMembers (halted self.old) region cards.new.items }
+        ensures few { length cards.new.items ≤ card_count self.old.layout }
+        ensures same { self.new ≡ self.old }
+    {
+        list_members(
+            self.race.race(),
+            &mut self.seat,
+            region.number() as usize,
+            cards,
+        );
+    }
+}
+
+// The least dirty card from one on.
+pub(crate) fn next_dirty_from(race: &Race, seat: &mut Place, from: u32) -> Option<Card>
+    requires seat { IsReading race.now.table.table_id race.now.shape seat.old }
+    ensures dirty { IsNextPending (table_known race.now seat.old) from result }
+    ensures seat { (seat.new.table_id ≡ seat.old.table_id) × (seat.new.me ≡ seat.old.me) }
+{
+    let Some(card) = next_marked(race, seat, from as usize) else {
+        return None;
+    };
+    Some(card_at(race, card))
+}
+
+// The least card from one on that is recorded for the region.
+pub(crate) fn next_member_from(
+    race: &Race,
+    seat: &mut Place,
+    region: Region,
+    from: u32,
+) -> Option<Card>
+    requires seat { IsReading race.now.table.table_id race.now.shape seat.old }
+    requires region { region < race.now.layout.regions }
+    ensures member { IsNextMember (table_known race.now seat.old) region from result }
+    ensures within { IfSome result (λ card. card < card_count race.now.layout) }
+    ensures seat { (seat.new.table_id ≡ seat.old.table_id) × (seat.new.me ≡ seat.old.me) }
+{
+    let number = region.number() as usize;
+    let Some(card) = next_member(race, seat, from as usize, number) else {
+        return None;
+    };
+    Some(card_at(race, card))
+}
+
+// Whether the pair is recorded.
+pub(crate) fn is_recorded(race: &Race, seat: &mut Place, card: Card, region: Region) -> bool
+    requires seat { IsReading race.now.table.table_id race.now.shape seat.old }
+    ensures recorded { IsTrue result ↔ IsRecorded (table_known race.now seat.old) card region }
+    ensures seat { (seat.new.table_id ≡ seat.old.table_id) × (seat.new.me ≡ seat.old.me) }
+{
+    let (card, region) = (card.number() as usize, region.number() as usize);
+    if card >= race.shape.cards {
+        return false;
+    }
+    if region >= race.shape.regions {
+        return false;
+    }
+    is_set(race, seat, card, region)
+}
+
+// The cards of the region's set.
+pub(crate) fn members_of(
+    race: &Race,
+    seat: &mut Place,
+    alloc: Global,
+    region: Region,
+) -> Result<CardList, NoMemory>
+    requires seat { IsReading race.now.table.table_id race.now.shape seat.old }
+    requires region { region < race.now.layout.regions }
+    ensures members { IfOk result (λ cards.
+        AreMembers (table_known race.now seat.old) region cards) }
+    ensures few { IfOk result (λ cards. length cards ≤ card_count race.now.layout) }
+    ensures seat { (seat.new.table_id ≡ seat.old.table_id) × (seat.new.me ≡ seat.old.me) }
+{
+    let number = region.number() as usize;
+    let count = count_members(race, seat, number);
+    let mut cards = Vec::with_capacity(alloc, count)?;
+    list_members(race, seat, number, &mut cards);
+    Ok(CardList::of(cards))
+}
+
+// Whether the pair's bit is set.
+fn is_set(race: &Race, seat: &mut Place, card: usize, region: usize) -> bool
+    requires seat { IsReading race.now.table.table_id race.now.shape seat.old }
+    requires pair { IsPair race.now.shape (card, region) }
+    ensures set { IsTrue result ↔ HasBit race.now.shape seat.old.me.0.began_words (card, region) }
+    ensures seat { (seat.new.table_id ≡ seat.old.table_id) × (seat.new.me ≡ seat.old.me) }
+{
+    let (at, place) = bit_of(race.shape, card, region);
+    (see(race, seat, at) >> place) & 1 == 1
+}

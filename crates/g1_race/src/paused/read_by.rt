@@ -1,0 +1,136 @@
+//! How readers are made at a pause, and handed in again.
+ghost use Rattle.std.specs.Prelude.{◌≡◌, ◌+◌, ◌≤◌, All, vec_len, vec_capacity};
+ghost use Rattle.g1_race_words.specs.Rule.{start_of};
+ghost use Rattle.g1_race_words.specs.Readers.{IsLent};
+ghost use Rattle.g1_race.specs.Members.{race_id, race_layout, race_words};
+ghost use Rattle.g1_race.specs.Over.{halted};
+ghost use Rattle.g1_race.specs.Reading.{IsReaderOf, Known, known, table_read};
+
+use crate::paused::Paused;
+use crate::paused::holds::Holds;
+use crate::paused::reading::{Reader, Reading};
+use crate::race::Race;
+use g1_race_words::{Place, RaceTable};
+
+impl<R: Holds> Paused<R> {
+    /// Returns how many readers a pause can have at most: as many as the race has racers and
+    /// sweepers.
+    pub fn reader_limit(&self) -> usize
+        ensures { result ≡ self.now.shape.members }
+    {
+        self.race.race().shape.members
+    }
+
+    /// Lets `count` readers read concurrently, each in a thread of its own, and puts them into the
+    /// list. The list must be empty and have room for them, and `count` is at most
+    /// [`Paused::reader_limit`].
+    ///
+    /// Takes no memory and cannot fail. The only steps that it makes are those that split the
+    /// seats.
+    pub fn read_by(self, readers: &mut Vec<Reader>, count: usize) -> Reading<R>
+        requires count { count ≤ self.shape.members }
+        requires empty { vec_len readers.old ≡ 0 }
+        requires room { count ≤ vec_capacity readers.old }
+        ensures pause { result.pause ≡ self }
+        ensures table { result.table_id ≡ self.table_id }
+        ensures count { (result.readers ≡ count) × (vec_len readers.new ≡ count) }
+        ensures readers { All (IsReaderOf result) readers.new.items }
+        ensures room { vec_capacity readers.old ≤ vec_capacity readers.new }
+    {
+        let Paused {
+            race,
+            mut seat,
+            racers,
+            sweepers,
+        } = self;
+        seat_readers(&race.race().table, &mut seat, readers, count);
+        Reading {
+            race,
+            seat,
+            racers,
+            sweepers,
+        }
+    }
+}
+
+impl<R: Holds> Reading<R> {
+    /// Returns the race, which readers pass to their calls. Threads share it by `&`. What a reader
+    /// of this pause knows of the race is the table of the pause.
+    pub fn race(&self) -> &Race
+        ensures race { race_id result.now ≡ (self.now.table_id, self.now.pause.shape) }
+        ensures layout { race_layout result.now ≡ self.now.pause.layout }
+        ensures words { race_words result.now ≡ self.now.pause.address }
+        ensures table { (reader : Known) → IsReaderOf self.now reader →
+            table_read result.now reader ≡ halted self.now.pause }
+    {
+        self.race.race()
+    }
+
+    /// Ends the reading, and returns the pause as it was. All readers must be handed in. The list
+    /// is then empty, and keeps its room for the next time.
+    ///
+    /// Takes no memory and cannot fail. The only steps that it makes are those that join the seats,
+    /// and one more.
+    pub fn pause(self, readers: &mut Vec<Reader>) -> Paused<R>
+        requires count { vec_len readers.old ≡ self.readers }
+        requires readers { All (IsReaderOf self) readers.old.items }
+        ensures pause { result ≡ self.pause }
+        ensures empty { vec_len readers.new ≡ 0 }
+        ensures room { vec_capacity readers.new ≡ vec_capacity readers.old }
+    {
+        let Reading {
+            race,
+            mut seat,
+            racers,
+            sweepers,
+        } = self;
+        let table = &race.race().table;
+        join_readers(table, &mut seat, readers);
+        table.freeze(&mut seat);
+        Paused {
+            race,
+            seat,
+            racers,
+            sweepers,
+        }
+    }
+}
+
+// Splits off a seat for each reader.
+fn seat_readers(table: &RaceTable, chair: &mut Place, readers: &mut Vec<Reader>, count: usize)
+    requires seat { IsLent table.now.table_id table.now.shape chair.old }
+    requires weight { count ≤ chair.old.me.0.weight }
+    requires empty { vec_len readers.old ≡ 0 }
+    requires room { count ≤ vec_capacity readers.old }
+    ensures seat { IsLent table.now.table_id table.now.shape chair.new }
+    ensures start { start_of chair.new.me.0 ≡ start_of chair.old.me.0 }
+    ensures weight { chair.new.me.0.weight + count ≡ chair.old.me.0.weight }
+    ensures count { vec_len readers.new ≡ count }
+    ensures readers { let begin = start_of chair.old.me.0 in
+        All (λ r. r ≡ known table.now.table_id begin) readers.new.items }
+    ensures room { vec_capacity readers.old ≤ vec_capacity readers.new }
+{
+    for _i in 0..count {
+        let seat = table.split_reader(chair);
+        let Ok(()) = readers.push(Reader { seat }) else {
+            unreachable!()
+        };
+    }
+}
+
+// Joins the readers' seats to the one that they were split from.
+fn join_readers(table: &RaceTable, chair: &mut Place, readers: &mut Vec<Reader>)
+    requires seat { IsLent table.now.table_id table.now.shape chair.old }
+    requires readers { let begin = start_of chair.old.me.0 in
+        All (λ r. r ≡ known table.now.table_id begin) readers.old.items }
+    ensures seat { IsLent table.now.table_id table.now.shape chair.new }
+    ensures start { start_of chair.new.me.0 ≡ start_of chair.old.me.0 }
+    ensures weight { chair.new.me.0.weight ≡ chair.old.me.0.weight + vec_len readers.old }
+    ensures empty { vec_len readers.new ≡ 0 }
+    ensures room { vec_capacity readers.new ≡ vec_capacity readers.old }
+{
+    while let Some(reader) = readers.pop() {
+        let Reader { seat } = reader;
+        table.join(chair, seat);
+    }
+}

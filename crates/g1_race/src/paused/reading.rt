@@ -1,0 +1,61 @@
+//! A race at a pause that several threads read, and what each of them reads with.
+
+use crate::paused::holds::Holds;
+use crate::race::{Race, Racer, Sweeper};
+use g1_race_words::Place;
+use std::marker::Model;
+
+/// A race at a pause, while readers read it.
+///
+/// Its model has the pause, the identity of its table, and how many readers have to be handed in
+/// before the pause goes on. Nothing changes meanwhile.
+#[derive(Drop)]
+pub struct Reading<R: Holds = Race> {
+    pub(crate) race: R,
+    pub(crate) seat: Place,
+    pub(crate) racers: Vec<Racer>,
+    pub(crate) sweepers: Vec<Sweeper>,
+}
+
+impl<R: Holds> Model for Reading<R> {
+    ghost use Rattle.std.specs.Prelude.{◌≡◌, ◌+◌, ◌-◌, ◌≤◌, map, vec_len};
+    ghost use Rattle.g1_race.specs.Members.{halt_of, racer_log};
+    ghost use Rattle.g1_race.specs.Reading.{Readable};
+    ghost use Rattle.g1_race_words.specs.Readers.{IsLent};
+
+    ghost Value = { Readable };
+
+    ghost view = { λ a. record {
+      pause = halt_of (R.held a.race) a.seat.me.0.began_words
+          (map racer_log a.racers.items) (vec_len a.sweepers);
+      table_id = (R.held a.race).table.table_id;
+      readers = (R.held a.race).shape.members - a.seat.me.0.weight;
+    } };
+
+    ghost invariant = { λ a. let race = R.held a.race in
+        IsLent race.table.table_id race.shape a.seat
+        × (a.seat.me.0.weight ≤ race.shape.members)
+        × (vec_len a.racers + vec_len a.sweepers ≡ race.shape.members) };
+}
+
+/// What a thread of the collector reads with at a pause: its right to read the words. It has no
+/// bytes.
+///
+/// It belongs to one thread at a time, and any number of readers read concurrently. Its model has
+/// the identity of its table, and all the words there.
+#[derive(Drop)]
+pub struct Reader {
+    pub(crate) seat: Place,
+}
+
+impl Model for Reader {
+    ghost use Rattle.g1_race_words.specs.Rule.{IsBegun, start_of};
+    ghost use Rattle.g1_race_words.specs.Readers.{IsReader};
+    ghost use Rattle.g1_race.specs.Reading.{Known};
+
+    ghost Value = { Known };
+
+    ghost view = { λ a. record { table_id = a.seat.table_id; start = start_of a.seat.me.0 } };
+
+    ghost invariant = { λ a. IsReader a.seat.me.0 × IsBegun (start_of a.seat.me.0) };
+}

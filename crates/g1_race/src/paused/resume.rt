@@ -1,0 +1,161 @@
+//! How a race goes on after a pause, or begins from a core.
+ghost use Rattle.std.specs.Prelude.{◌≡◌, ◌+◌, ◌-◌, ◌<◌, ◌≤◌, [], All, IfOk, IfErr, length, map};
+ghost use Rattle.std.specs.Prelude.{vec_len};
+ghost use Rattle.g1_race_words.specs.Rule.{beginning, start_of};
+ghost use Rattle.g1_race_words.specs.Steps.{chair};
+ghost use Rattle.g1_race.specs.Race.{shape_of};
+ghost use Rattle.g1_race.specs.Over.{halted, start_at};
+ghost use Rattle.g1_race.specs.Drain.{began};
+ghost use Rattle.g1_race.specs.Resumed.{IsSame};
+ghost use Rattle.g1_race.specs.Members.{race_id, race_layout, race_shape, race_words, racer_log};
+ghost use Rattle.g1_race.specs.Members.{AreFreshRacers, AreFreshSweepers, HaveBegunWith};
+ghost use Rattle.g1_race.specs.Members.{IsNewRacer, IsNewSweeper};
+
+use crate::paused::Paused;
+use crate::paused::holds::Holds;
+use crate::race::{Race, Racer, Sweeper};
+use g1_core::Core;
+use g1_layout::NoMemory;
+use g1_race_words::{Place, RaceTable};
+use std::alloc::Global;
+
+impl<R: Holds> Paused<R> {
+    /// Lets the race go on, and returns it with its racers and its sweepers. The racers get their
+    /// logs back, which are empty if all was refined. They have stored nothing, and the sweepers
+    /// have swept nothing: the race begins with the table as the pause left it. A racer has a
+    /// number of its own from here to the next pause.
+    ///
+    /// Takes no memory and cannot fail. The only steps that it makes are those that split the
+    /// seats, and one more.
+    pub fn resume(self) -> (R, Vec<Racer>, Vec<Sweeper>)
+        ensures layout { race_layout (R.held result.0) ≡ self.layout }
+        ensures shape { race_shape (R.held result.0) ≡ self.shape }
+        ensures words { race_words (R.held result.0) ≡ self.address }
+        ensures table { (race_id (R.held result.0)).0 ≡ self.table_id }
+        ensures members { vec_len result.1 + vec_len result.2
+            ≡ (race_shape (R.held result.0)).members }
+        ensures began { began self.layout (beginning (start_at self)) ≡ halted self }
+        ensures racers { (vec_len result.1 ≡ length self.logs)
+            × All (IsNewRacer (race_id (R.held result.0)).0 (start_at self)) result.1.items }
+        ensures logs { map racer_log result.1.items ≡ self.logs }
+        ensures sweepers { (vec_len result.2 ≡ self.sweepers)
+            × All (IsNewSweeper (race_id (R.held result.0)).0 (start_at self)) result.2.items }
+    {
+        let Paused {
+            race,
+            mut seat,
+            mut racers,
+            mut sweepers,
+        } = self;
+        let table = &race.race().table;
+        table.thaw(&mut seat);
+        seat_racers(table, &mut seat, &mut racers);
+        seat_sweepers(table, &mut seat, &mut sweepers);
+        (race, racers, sweepers)
+    }
+}
+
+impl Race {
+    /// Opens a race that begins with a core's whole table, with 1 to 8 racers and 1 to 4 sweepers.
+    /// Each slot refers to what it refers to in the core, the pending cards are dirty, and the
+    /// recorded pairs are recorded (docs/rules.md, Racing stores).
+    ///
+    /// No racer has stored and no sweeper has refined. A card that is dirty from the beginning is
+    /// in no racer's log: a sweep of that card, or a drain after the race, refines it. The settings
+    /// and the refinement counts are dropped with the core.
+    ///
+    /// Reads each slot once. Takes the memory of [`Paused::open`] and, during the call, that of the
+    /// list of pairs. Returns `NoMemory` if memory was refused, with the core as it was, except for
+    /// its count of reads.
+    pub fn resume(
+        alloc: Global,
+        mut core: Core,
+        racers: u32,
+        sweepers: u32,
+    ) -> Result<(Race, Vec<Racer>, Vec<Sweeper>), (Core, NoMemory)>
+        requires racers { (1 ≤ racers) × (racers ≤ 8) }
+        requires sweepers { (1 ≤ sweepers) × (sweepers ≤ 4) }
+        ensures layout { IfOk result (λ r. race_layout r.0 ≡ core.state.table.layout) }
+        ensures shape { IfOk result (λ r.
+            race_shape r.0 ≡ shape_of core.state.table.layout (racers + sweepers)) }
+        ensures began { IfOk result (λ r. HaveBegunWith core.state.table r.0 r.1 r.2) }
+        ensures racers { IfOk result (λ r. AreFreshRacers r.0 racers r.1) }
+        ensures sweepers { IfOk result (λ r. AreFreshSweepers r.0 sweepers r.2) }
+        ensures refused { IfErr result (λ e. IsSame core e.0) }
+    {
+        match Race::begin_from(alloc, &mut core, racers, sweepers) {
+            Ok(members) => Ok(members),
+            Err(e) => Err((core, e)),
+        }
+    }
+
+    /// Opens a race as [`Race::resume`] does, and the core stays as it is, except for its count of
+    /// reads. Use it to keep the core until every later allocation has succeeded.
+    pub fn begin_from(
+        alloc: Global,
+        core: &mut Core,
+        racers: u32,
+        sweepers: u32,
+    ) -> Result<(Race, Vec<Racer>, Vec<Sweeper>), NoMemory>
+        requires racers { (1 ≤ racers) × (racers ≤ 8) }
+        requires sweepers { (1 ≤ sweepers) × (sweepers ≤ 4) }
+        ensures layout { IfOk result (λ r. race_layout r.0 ≡ core.old.state.table.layout) }
+        ensures shape { IfOk result
+            (λ r. race_shape r.0 ≡ shape_of core.old.state.table.layout (racers + sweepers)) }
+        ensures began { IfOk result (λ r. HaveBegunWith core.old.state.table r.0 r.1 r.2) }
+        ensures racers { IfOk result (λ r. AreFreshRacers r.0 racers r.1) }
+        ensures sweepers { IfOk result (λ r. AreFreshSweepers r.0 sweepers r.2) }
+        ensures same { IsSame core.old core.new }
+    {
+        let paused = Paused::begin_from(alloc, core, racers, sweepers)?;
+        Ok(paused.resume())
+    }
+}
+
+// Splits off a seat for each racer. They keep their logs.
+fn seat_racers(table: &RaceTable, registrar: &mut Place, racers: &mut Vec<Racer>)
+    requires seat { registrar.old.table_id ≡ table.now.table_id }
+    requires view { registrar.old.me ≡ (
+      chair (start_of registrar.old.me.0)
+          registrar.old.me.0.weight,
+      [],
+    ) }
+    requires shape { registrar.old.me.0.shape ≡ table.now.shape }
+    requires weight { vec_len racers.old ≤ registrar.old.me.0.weight }
+    ensures seat { registrar.new.table_id ≡ registrar.old.table_id }
+    ensures view { registrar.new.me ≡ (
+      chair (start_of registrar.old.me.0)
+          (registrar.old.me.0.weight - vec_len racers.old),
+      [],
+    ) }
+    ensures racers { (vec_len racers.new ≡ vec_len racers.old)
+        × All (IsNewRacer table.now.table_id (start_of registrar.old.me.0)) racers.new.items }
+    ensures logs { map racer_log racers.new.items ≡ map racer_log racers.old.items }
+{
+    for i in 0..racers.len() {
+        let seat = table.split_racer(registrar);
+        let racer = &mut racers[i];
+        racer.seat = seat;
+    }
+}
+
+// Splits off a seat for each sweeper.
+fn seat_sweepers(table: &RaceTable, registrar: &mut Place, sweepers: &mut Vec<Sweeper>)
+    requires seat { registrar.old.table_id ≡ table.now.table_id }
+    requires view { registrar.old.me ≡ (
+      chair (start_of registrar.old.me.0)
+          registrar.old.me.0.weight,
+      [],
+    ) }
+    requires shape { registrar.old.me.0.shape ≡ table.now.shape }
+    requires weight { vec_len sweepers.old ≤ registrar.old.me.0.weight }
+    ensures seat { registrar.new.table_id ≡ registrar.old.table_id }
+    ensures sweepers { (vec_len sweepers.new ≡ vec_len sweepers.old)
+        × All (IsNewSweeper table.now.table_id (start_of registrar.old.me.0)) sweepers.new.items }
+{
+    for i in 0..sweepers.len() {
+        let seat = table.split_sweeper(registrar);
+        let sweeper = &mut sweepers[i];
+        sweeper.seat = seat;
+    }
+}

@@ -1,0 +1,50 @@
+//! A region is freed: its slots are nulled.
+ghost use Rattle.std.specs.Prelude.{◌≡◌, ◌⊎◌, ℕ, ◌+◌, ◌*◌, ◌<◌, ◌≤◌, None};
+ghost use mathlib.Core.Option.{some};
+ghost use lib.ListN.{get_elem?};
+ghost use Rattle.g1_layout.specs.Shape.{region_of};
+ghost use Rattle.g1_core.specs.Table.{target_of};
+ghost use Rattle.g1_race.specs.Over.{halted, ended, table_of};
+ghost use Rattle.g1_race.specs.Evacuating.{IsSameRace, SlotsBecome, wiped, wiped_word};
+ghost use Rattle.g1_race_words.specs.Seats.{IsPaused};
+
+use crate::paused::Paused;
+use crate::paused::access::put;
+use crate::paused::holds::Holds;
+use crate::race::Race;
+use g1_layout::Region;
+use g1_race_words::Place;
+
+impl<R: Holds> Paused<R> {
+    /// Stores null into each slot of the region, ascending, also where it has data. Takes no
+    /// memory.
+    pub fn wipe(&mut self, region: Region)
+        requires { region < self.old.layout.regions }
+        ensures race { IsSameRace self.old self.new }
+        ensures words { SlotsBecome (wiped_word self.old.shape region) self.old self.new }
+        ensures table { halted self.new ≡ wiped region (halted self.old) }
+        ensures null { (slot : ℕ) → region_of self.old.layout slot ≡ region
+            → target_of (halted self.new) slot ≡ None }
+    {
+        wipe_slots(self.race.race(), &mut self.seat, region.number() as usize);
+    }
+}
+
+// Stores null into each slot of the region.
+fn wipe_slots(race: &Race, seat: &mut Place, region: usize)
+    requires seat { IsPaused race.now.table.table_id race.now.shape seat.old }
+    requires region { region < race.now.shape.regions }
+    ensures seat { IsPaused race.now.table.table_id race.now.shape seat.new }
+    ensures table { table_of (ended race.now.layout race.now.shape seat.new.me.0.began_words)
+        ≡ wiped region (table_of (ended race.now.layout race.now.shape seat.old.me.0.began_words)) }
+    ensures null { (i : ℕ) → i < race.now.shape.span
+        → get_elem? seat.new.me.0.began_words (region * race.now.shape.span + i) ≡ some 0 }
+    ensures other { let first = region * race.now.shape.span in (p : ℕ) →
+        (p < first) ⊎ (first + race.now.shape.span ≤ p) →
+        get_elem? seat.new.me.0.began_words p ≡ get_elem? seat.old.me.0.began_words p }
+{
+    let first = region * race.shape.span;
+    for i in 0..race.shape.span {
+        put(race, seat, first + i, 0);
+    }
+}

@@ -1,0 +1,145 @@
+//! How a race comes to a pause, and what holds then.
+ghost use Rattle.g1_core.specs.Table.{IsCovered};
+ghost use Rattle.g1_race.specs.Over.{halted, ended_of};
+ghost use Rattle.g1_core.specs.Adoption.{IsPairOf};
+ghost use Rattle.std.specs.Prelude.{◌≡◌, ℕ, ◌+◌, ◌<◌, ◌≤◌, ◌↔◌, [], ◌∷◌, All, Contains, map};
+ghost use Rattle.std.specs.Prelude.{vec_len};
+ghost use Rattle.g1_race.specs.Race.{IsOver, IsKnown, collected};
+ghost use Rattle.g1_race.specs.Members.{race_id, race_layout, race_shape, race_words, race_begun};
+ghost use Rattle.g1_race.specs.Members.{racer_race, sweeper_race, racer_view, sweeper_view};
+ghost use Rattle.g1_race.specs.Members.{racer_log, RacerOf, SweeperOf};
+
+use crate::paused::Paused;
+use crate::paused::holds::Holds;
+use crate::race::{Race, Racer, Sweeper};
+use g1_race_words::{Place, RaceTable};
+use std::mem::replace;
+
+impl Race {
+    /// Pauses the race in place: the table stays where it is. All its racers and sweepers must be
+    /// handed in. The following holds then. The beginning of the race is its last resume, as its
+    /// racers and sweepers know it.
+    ///
+    /// - Each slot has the last target that some racer stored into it. If no racer stored into it,
+    ///   it refers to what it referred to when the race began.
+    /// - Take the words that were stored to a slot, and the one that it had when the race began.
+    ///   They are the words that stores overwrote there and the one that it has now, each as often.
+    /// - A dirty card was dirtied by a racer or dirty at the beginning. Any other such card was
+    ///   cleaned by a sweeper.
+    /// - Take the number of a card's claims, plus 1 if it was dirty at the beginning. That is the
+    ///   number of its cleanings, plus 1 if it is dirty now.
+    /// - A pair that a sweeper recorded is of a reference that was stored, or was there at the
+    ///   beginning. Its card lies outside its region.
+    /// - A slot that refers into another region has its card dirty or its pair recorded.
+    ///
+    /// Takes no memory and copies no word. The only steps that it makes are those that join the
+    /// seats, and one more. Each log stays where it is, in its racer.
+    pub fn pause(self, racers: Vec<Racer>, sweepers: Vec<Sweeper>) -> Paused
+        requires racers { (vec_len racers + vec_len sweepers ≡ (race_shape self).members)
+            × All (λ r. racer_race r ≡ race_id self) racers.items }
+        requires sweepers { All (λ w. sweeper_race w ≡ race_id self) sweepers.items }
+        ensures layout { result.layout ≡ race_layout self }
+        ensures shape { result.shape ≡ race_shape self }
+        ensures words { result.address ≡ race_words self }
+        ensures table { result.table_id ≡ (race_id self).0 }
+        ensures within { (x : ℕ × ℕ) → Contains (ended_of result).pairs x →
+            IsPairOf (race_layout self) x }
+        ensures cover { IsCovered (halted result) }
+        ensures pairs { let rs = map racer_view racers.items in
+            let ws = map sweeper_view sweepers.items in
+            (x : ℕ × ℕ) →
+            Contains (ended_of result).pairs x ↔ IsKnown (race_begun self rs ws) ws x }
+        ensures over { let rs = map racer_view racers.items in
+            let ws = map sweeper_view sweepers.items in
+            IsOver (race_begun self rs ws) (ended_of result).words rs ws }
+        ensures logs { result.logs ≡ map racer_log racers.items }
+        ensures sweepers { result.sweepers ≡ vec_len sweepers }
+    {
+        Paused::of(self, racers, sweepers)
+    }
+}
+
+impl<R: Holds> Paused<R> {
+    /// Pauses a race in place, as [`Race::pause`] does, that is held by value or by a share. While
+    /// it is paused the other shares can do nothing to its words, since each call takes a racer or
+    /// a sweeper, and all of these are in the pause. So threads may keep their shares over it, and
+    /// go on with the racers of [`Paused::resume`]. Neither call takes memory or gives it back.
+    pub fn of(race: R, mut racers: Vec<Racer>, mut sweepers: Vec<Sweeper>) -> Paused<R>
+        requires racers { (vec_len racers + vec_len sweepers ≡ (race_shape (R.held race)).members)
+            × All (λ r. racer_race r ≡ race_id (R.held race)) racers.items }
+        requires sweepers { All (λ w. sweeper_race w ≡ race_id (R.held race)) sweepers.items }
+        ensures layout { result.layout ≡ race_layout (R.held race) }
+        ensures shape { result.shape ≡ race_shape (R.held race) }
+        ensures words { result.address ≡ race_words (R.held race) }
+        ensures table { result.table_id ≡ (race_id (R.held race)).0 }
+        ensures within { (x : ℕ × ℕ) → Contains (ended_of result).pairs x →
+            IsPairOf (race_layout (R.held race)) x }
+        ensures cover { IsCovered (halted result) }
+        ensures pairs { let rs = map racer_view racers.items in
+            let ws = map sweeper_view sweepers.items in
+            (x : ℕ × ℕ) →
+            Contains (ended_of result).pairs x ↔ IsKnown (race_begun (R.held race) rs ws) ws x }
+        ensures over { let rs = map racer_view racers.items in
+            let ws = map sweeper_view sweepers.items in
+            IsOver (race_begun (R.held race) rs ws) (ended_of result).words rs ws }
+        ensures logs { result.logs ≡ map racer_log racers.items }
+        ensures sweepers { result.sweepers ≡ vec_len sweepers }
+    {
+        let table = &race.race().table;
+        let mut seat = table.enter();
+        join_racers(table, &mut seat, &mut racers);
+        join_sweepers(table, &mut seat, &mut sweepers);
+        table.freeze(&mut seat);
+        Paused {
+            race,
+            seat,
+            racers,
+            sweepers,
+        }
+    }
+}
+
+// Joins the racers' seats to the registrar's, the last first. They keep their logs.
+fn join_racers(table: &RaceTable, registrar: &mut Place, racers: &mut Vec<Racer>)
+    requires some { 0 < table.now.shape.members }
+    requires seat { registrar.old.table_id ≡ table.now.table_id }
+    requires racers { All (RacerOf table.now.table_id table.now.shape) racers.old.items }
+    ensures seat { registrar.new.table_id ≡ registrar.old.table_id }
+    ensures view { registrar.new.me ≡ (
+      collected (map racer_view racers.old.items)
+          registrar.old.me.0,
+      registrar.old.me.1,
+    ) }
+    ensures len { vec_len racers.new ≡ vec_len racers.old }
+    ensures logs { map racer_log racers.new.items ≡ map racer_log racers.old.items }
+{
+    let mut left = racers.len();
+    while left > 0 {
+        left -= 1;
+        let racer = &mut racers[left];
+        let seat = replace(&mut racer.seat, table.spent());
+        table.join(registrar, seat);
+    }
+}
+
+// Joins the sweepers' seats to the registrar's, the last first.
+fn join_sweepers(table: &RaceTable, registrar: &mut Place, sweepers: &mut Vec<Sweeper>)
+    requires some { 0 < table.now.shape.members }
+    requires seat { registrar.old.table_id ≡ table.now.table_id }
+    requires sweepers { All (SweeperOf table.now.table_id table.now.shape) sweepers.old.items }
+    ensures seat { registrar.new.table_id ≡ registrar.old.table_id }
+    ensures view { registrar.new.me ≡ (
+      collected (map sweeper_view sweepers.old.items)
+          registrar.old.me.0,
+      registrar.old.me.1,
+    ) }
+    ensures len { vec_len sweepers.new ≡ vec_len sweepers.old }
+{
+    let mut left = sweepers.len();
+    while left > 0 {
+        left -= 1;
+        let sweeper = &mut sweepers[left];
+        let seat = replace(&mut sweeper.seat, table.spent());
+        table.join(registrar, seat);
+    }
+}

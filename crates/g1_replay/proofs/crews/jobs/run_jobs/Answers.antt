@@ -1,0 +1,54 @@
+use Rattle.std.proofs.Common.{ap, sym, ◌∙◌, zero-add, arith}
+use Rattle.g1_layout.specs.Shape.{slot_count}
+use Rattle.std.proofs.lemmas.List.Elements.{length_all_zip}
+use Rattle.std.proofs.lemmas.List.Sums.{count_by-le-length}
+use Rattle.g1_shared.specs.Counts.{is_store}
+use Rattle.g1_log.specs.Ends.{capacity_of}
+use Rattle.g1_replay.proofs.JobLemmas.{has_come}
+use Rattle.g1_replay.proofs.CrewScriptLemmas.{each_from, script_at_fits}
+use Rattle.g1_replay.proofs.crews.jobs.run_jobs.Goals as goal
+
+pub open-requires-clause-ledgers : goal.open-requires-clause-ledgers
+open-requires-clause-ledgers g c =
+    let stored = c.requires.stored in (c.requires.made, stored.0, stored.1, stored.2)
+
+pub open-requires-clause-terms : goal.open-requires-clause-terms
+open-requires-clause-terms g c = c.requires.terms
+
+pub open-requires-clause-empty : goal.open-requires-clause-empty
+open-requires-clause-empty g c = c.requires.empty
+
+pub jobs_of-requires : goal.jobs_of-requires
+jobs_of-requires g c = each_from _ 0 _ (λ k d lt.
+    let new = c.in-Ok.ensures.each k d (omega (arith, lt, c.in-Ok.ensures.callers, c.in-Ok.callers.ok.0)) in
+    (new.of, ap (λ counts. counts.number) new.counts ∙ sym (zero-add k)))
+
+pub run_crew-requires-after_bounds : goal.run_crew-requires-after_bounds
+run_crew-requires-after_bounds g c lts lives k d lt =
+    script_at_fits (λ steps. steps.items) (slot_count g.M.Terms.terms.layout) c.args.options.now.rounds g.M.Terms.terms.mutators _ c.args.scripts.items _ (omega (arith, c.requires.count, c.args.scripts.ok.0)) c.requires.fits
+    (c.in_ok-jobs.ensures.scripts k d lt)
+
+-- as many come back as there are callers, for whom there is room
+pub callers_of-callers-requires : goal.callers_of-callers-requires
+callers_of-callers-requires g c =
+    let run = length_all_zip _ c.in_ok-jobs.jobs.items c.in_ok-done.done.items c.in_ok-done.ensures in (
+      c.in_ok-room.ensures.len,
+      omega (arith, run, c.in_ok-room.ensures.capacity, c.in_ok-jobs.ensures.len, c.in-Ok.ensures.callers, c.in_ok-jobs.jobs.ok.0, c.in_ok-done.done.ok.0),
+    )
+
+pub returns-clause-terms : goal.returns-clause-terms
+returns-clause-terms g c = c.finish-book.ensures.terms
+
+-- as many as the book has entries at most, which is far from what the sum has no room for
+pub returns-clause-stores : goal.returns-clause-stores
+returns-clause-stores g c =
+    let all = c.finish-book.ensures.stored in
+    c.callers_of-callers.ensures.stores (omega (arith, all, count_by-le-length is_store c.finish-book.result.entries, c.entries-entries.ensures.entries)) ∙ sym all
+
+pub returns-clause-came : goal.returns-clause-came
+returns-clause-came g c =
+    has_come (λ d. capacity_of d.shared.now) (λ d. d.caller) (λ steps. steps.items) _ _ _ _ _ c.in-Ok.callers.items c.callers_of-callers.result.0.items c.in_ok-jobs.jobs.items c.in_ok-done.done.items
+    c.in_ok-done.ensures c.in_ok-jobs.ensures.scripts c.in_ok-jobs.ensures.callers (omega (arith, c.in-Ok.ensures.callers, c.in-Ok.callers.ok.0))
+    (λ k d lt. (c.in-Ok.ensures.each k d (omega (arith, lt, c.in-Ok.ensures.callers, c.in-Ok.callers.ok.0))).counts)
+    c.callers_of-callers.ensures.first c.callers_of-callers.ensures.callers
+    (c.callers_of-callers.ensures.stores (omega (arith, c.finish-book.ensures.stored, count_by-le-length is_store c.finish-book.result.entries, c.entries-entries.ensures.entries)))

@@ -1,0 +1,19 @@
+use Rattle.std.proofs.Common.{None}
+use Rattle.std.proofs.lemmas.Result.{err_from_is_err_and}
+use Rattle.g1_replay.proofs.ReadingLemmas.{reads_then}
+use Rattle.g1_replay.proofs.lines.opening.read_heap.Goals as goal
+
+pub returns-in_err-next_header-clause-read : goal.returns-in_err-next_header-clause-read
+returns-in_err-next_header-clause-read g c =
+    let p = err_from_is_err_and c.from_residual.result c.from_residual.ensures.1 in
+    rw (p.1, p.2) (λ d. reads_then d None None None _ _ _ _ _ _ _ _ _ (c.lines.invariant d) (c.in_err-next_header.ensures.read d))
+
+pub returns-in-Some-clause-read : goal.returns-in-Some-clause-read
+returns-in-Some-clause-read g c =
+    let read = rw c.in-Some.is at c.in_ok-next_header.ensures.read in
+    λ d. reads_then d None None _ _ _ _ _ _ _ _ _ _ (c.lines.invariant d) (read d)
+
+pub lines-preserved : goal.lines-preserved
+lines-preserved g c =
+    let read = rw c.in-None.is at c.in_ok-next_header.ensures.read in
+    λ d. reads_then d None None None _ _ _ _ _ _ _ _ _ (c.lines.invariant d) (read d)

@@ -1,0 +1,12 @@
+use Rattle.std.proofs.Common.{[], None, true, ◌^◌, ◌-◌}
+use Rattle.std.specs.Prelude.{Ok}
+use Rattle.g1_trace.specs.declared.dialect.Dialect.{Dialect}
+use Rattle.g1_replay.specs.Reading.{Reads}
+use Rattle.g1_replay.proofs.lines.opening.read_heap.Given as goal
+
+-- what was passed over so far
+abbrev pub invariant-lines : goal.invariant-lines
+invariant-lines g l = (d : Dialect) → Reads d None l.fn.source.number l.source.number (g.R.Read.remaining l.fn.input) (g.R.Read.remaining l.input) None [] (Ok true)
+
+abbrev pub decreases-lines : goal.decreases-lines
+decreases-lines g l = 2 ^ 40 - l.source.reads

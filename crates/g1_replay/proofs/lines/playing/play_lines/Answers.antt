@@ -1,0 +1,24 @@
+use Rattle.std.proofs.lemmas.Result.{err_from_is_err_and}
+use Rattle.g1_replay.proofs.PlayingLemmas.{follows_none, follows_then}
+use Rattle.g1_replay.proofs.lines.playing.play_lines.Goals as goal
+
+pub lines-init : goal.lines-init
+lines-init g c = record { done = follows_none g.P.Player.did g.P.Player.full _ _ _ _ _ _ (g.met.P.Player.none _); takes = c.requires }
+
+pub returns-in_err-play_some-clause-followed : goal.returns-in_err-play_some-clause-followed
+returns-in_err-play_some-clause-followed g c =
+    let p = err_from_is_err_and c.from_residual.result c.from_residual.ensures.1 in
+    rw (p.1, p.2) (follows_then g.P.Player.did g.P.Player.full g.met.P.Player.then _ _ _ _ _ _ _ _ _ _ _ _ _ _ _ c.lines.invariant.done c.in_err-play_some.ensures.followed)
+
+pub lines-preserved : goal.lines-preserved
+lines-preserved g c =
+    let more = rw c.if-branch.true at c.in_ok-play_some.ensures in
+    record {
+      done = follows_then g.P.Player.did g.P.Player.full g.met.P.Player.then _ _ _ _ _ _ _ _ _ _ _ _ _ _ _ c.lines.invariant.done more.followed;
+      takes = more.takes;
+    }
+
+pub returns-clause-followed : goal.returns-clause-followed
+returns-clause-followed g c =
+    let end = rw c.if-branch.false at c.in_ok-play_some.ensures.followed in
+    follows_then g.P.Player.did g.P.Player.full g.met.P.Player.then _ _ _ _ _ _ _ _ _ _ _ _ _ _ _ c.lines.invariant.done end

@@ -1,6 +1,0 @@
-use Rattle.std.proofs.Common.{arith}
-use Rattle.std.proofs.lemmas.List.{take-take}
-use Rattle.g1_replay.proofs.playing.front_of.Goals as goal
-
-pub returns-clause-front : goal.returns-clause-front
-returns-clause-front c = λ n within. rw c.split_at.ensures.front (take-take n _ c.args.shown.now (omega (arith, within)))

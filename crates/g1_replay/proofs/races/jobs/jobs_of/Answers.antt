@@ -1,0 +1,74 @@
+use Rattle.std.proofs.Common.{◌≡◌, ◌+◌, ◌++◌, ℕ, suc, map, ap, ◌∙◌, sym, subst, arith}
+use Rattle.std.specs.Prelude.{All}
+use Rattle.std.specs.Vec.Iter.{into_iter_items}
+use Rattle.std.proofs.lemmas.List.Elements.{All-nil, All-push, All-same}
+use Rattle.g1_layout.specs.Shape.{slot_count}
+use Rattle.g1_race.specs.declared.race.Race.{Race}
+use Rattle.g1_race.specs.Members.{race_layout}
+use Rattle.g1_steps.specs.Ask.{ScriptFits}
+use Rattle.g1_replay.specs.declared.races.desk.Member.{Member}
+use Rattle.g1_replay.specs.Members.{is_racer}
+use Rattle.g1_replay.specs.RaceJobs.{AllFrom, IsNewMember, IsRaceJob}
+use Rattle.g1_replay.proofs.PlacedLemmas.{all_from_next, all_from_rest, all_moved, list_moves}
+use Rattle.g1_replay.proofs.RanRaceLemmas.{race_script_fits}
+use Rattle.g1_replay.proofs.races.jobs.jobs_of.Goals as goal
+
+pub loop-member-preserved : goal.loop-member-preserved
+loop-member-preserved g c =
+    let was = c.loop-member.invariant in
+    let steps = c.in-Some.ensures.steps in
+    let race = c.args.race.now in
+    let line = c.args.line.now in
+    let mutators = c.args.options.now.mutators in
+    let rounds = c.args.options.now.rounds in
+    let commands = c.args.commands.now in
+    let k = c.loop-member.number in
+    let script = c.in_ok-script.script in
+    let first = all_from_rest (IsNewMember race line mutators) k _ _ _ steps.0 was.rest in
+    let next : suc k ≡ k + 1 = omega arith in
+    let fits = race_script_fits (race_layout race) mutators rounds k commands c.in-Some.member script c.requires.commands first.0.kind c.in_ok-script.ensures in
+    record {
+      len = omega (arith, was.len, steps.1, c.push_reserved.ensures.len);
+      number = omega (arith, was.number, c.push_reserved.ensures.len);
+      room = omega (arith, was.room, c.push_reserved.ensures.capacity);
+      same = list_moves (λ job. job.desk.member) _ _ _ _ _ _ _ c.push_reserved.ensures.items steps.0 c.new.ensures.member was.same;
+      rest = subst (λ (n : ℕ). AllFrom (IsNewMember race line mutators) n (into_iter_items c.next.new.self)) next first.1;
+      jobs = all_from_next (λ i job. IsRaceJob race line mutators rounds commands i job.desk.member job.script) _ _ k _ c.push_reserved.ensures.items (omega (arith, was.number, c.loop-member.jobs.ok.0)) was.jobs
+          (subst (λ (m : Member). IsRaceJob race line mutators rounds commands k m script) (sym c.new.ensures.member) (record { new = first.0; script = c.in_ok-script.ensures }));
+      fits = All-same (λ job. ScriptFits (slot_count (race_layout job.desk.race.now)) (is_racer job.desk.member) job.script) _ _ c.push_reserved.ensures.items
+          (All-push (λ job. ScriptFits (slot_count (race_layout job.desk.race.now)) (is_racer job.desk.member) job.script) _ _ was.fits
+          (subst (λ (m : Member). ScriptFits (slot_count (race_layout c.new.result.race.now)) (is_racer m) script) (sym c.new.ensures.member)
+          (subst (λ (r : Race). ScriptFits (slot_count (race_layout r)) (is_racer c.in-Some.member) script) (sym c.new.ensures.race) fits)));
+    }
+
+-- no member has a job at first
+pub loop-member-init : goal.loop-member-init
+loop-member-init g c =
+    let given : into_iter_items c.into_iter-member-iterator.result ≡ c.args.members.items = c.into_iter-member-iterator.ensures.into_iter_gives.0 in
+    let left = c.into_iter-member-iterator.ensures.into_iter_gives.1 in
+    let none = c.in_ok-jobs.ensures.items in
+    record {
+      len = omega (arith, left, c.in_ok-jobs.ensures.len);
+      number = sym c.in_ok-jobs.ensures.len;
+      room = omega (arith, c.len.ensures, c.in_ok-jobs.ensures.capacity);
+      same = ap (λ jobs. map (λ job. job.desk.member) jobs ++ into_iter_items c.into_iter-member-iterator.result) none ∙ given;
+      rest = subst (AllFrom (IsNewMember c.args.race.now c.args.line.now c.args.options.now.mutators) 0) (sym given) c.requires.members;
+      jobs = subst (λ jobs. AllFrom (λ i job. IsRaceJob c.args.race.now c.args.line.now c.args.options.now.mutators c.args.options.now.rounds c.args.commands.now i job.desk.member job.script) 0 jobs) (sym none) tt;
+      fits = subst (λ jobs. All (λ job. ScriptFits (slot_count (race_layout job.desk.race.now)) (is_racer job.desk.member) job.script) jobs) (sym none) (All-nil (λ job. ScriptFits (slot_count (race_layout job.desk.race.now)) (is_racer job.desk.member) job.script));
+    }
+
+-- and each has one at the end
+pub returns-clause-members : goal.returns-clause-members
+returns-clause-members g c = all_moved _ (into_iter_items c.loop-member.member-iterator) _ (omega (arith, c.in-None.ensures.steps.0, c.loop-member.member-iterator.rest.ok.0)) c.loop-member.invariant.same
+
+pub returns-clause-jobs : goal.returns-clause-jobs
+returns-clause-jobs g c = c.loop-member.invariant.jobs
+
+pub returns-clause-fits : goal.returns-clause-fits
+returns-clause-fits g c = c.loop-member.invariant.fits
+
+pub new-requires-clause-fill : goal.new-requires-clause-fill
+new-requires-clause-fill g c = c.log.ensures.within
+
+pub new-requires-clause-empty : goal.new-requires-clause-empty
+new-requires-clause-empty g c = (all_from_rest (IsNewMember c.args.race.now c.args.line.now c.args.options.now.mutators) c.loop-member.number _ _ _ c.in-Some.ensures.steps.0 c.loop-member.invariant.rest).0.logged

@@ -1,0 +1,20 @@
+use Rattle.std.proofs.Common.{◌≡◌, ◌+◌, ◌++◌, ◌≤◌, map, vec_len, vec_capacity, All}
+use Rattle.std.specs.Vec.Iter.{into_iter_len, into_iter_items}
+use Rattle.g1_layout.specs.Shape.{slot_count}
+use Rattle.g1_race.specs.Members.{race_layout}
+use Rattle.g1_steps.specs.Ask.{ScriptFits}
+use Rattle.g1_replay.specs.Members.{is_racer}
+use Rattle.g1_replay.specs.RaceJobs.{AllFrom, IsNewMember, IsRaceJob}
+use Rattle.g1_replay.proofs.races.jobs.jobs_of.Given as goal
+
+-- the jobs so far are those of the members that came first
+abbrev pub invariant-loop-member : goal.invariant-loop-member
+invariant-loop-member g l = record {
+  len : vec_len l.jobs + into_iter_len l.member-iterator ≡ vec_len l.fn.members;
+  number : l.number ≡ vec_len l.jobs;
+  room : vec_len l.fn.members ≤ vec_capacity l.jobs;
+  same : map (λ job. job.desk.member) l.jobs.items ++ into_iter_items l.member-iterator ≡ l.fn.members.items;
+  rest : AllFrom (IsNewMember l.race l.line l.options.mutators) l.number (into_iter_items l.member-iterator);
+  jobs : AllFrom (λ k job. IsRaceJob l.race l.line l.options.mutators l.options.rounds l.commands k job.desk.member job.script) 0 l.jobs.items;
+  fits : All (λ job. ScriptFits (slot_count (race_layout job.desk.race.now)) (is_racer job.desk.member) job.script) l.jobs.items;
+}

@@ -1,0 +1,117 @@
+use Rattle.std.proofs.Common.{◌^◌, ◌≡◌, ◌+◌, ◌<◌, List, length, map, ap, refl, sym, subst, ◌∙◌, arith, All}
+use Rattle.std.specs.Prelude.{sum_by}
+use Rattle.std.proofs.lemmas.List.Elements.{All-contains}
+use Rattle.g1_layout.specs.Shape as layout
+use Rattle.g1_layout.specs.Shape.{slot_count}
+use Rattle.g1_race_words.proofs.Places.{in_contains}
+use Rattle.g1_race.proofs.StoreCalls.{word_fits}
+use Rattle.g1_trace.specs.Grammar.{IsCommandOf}
+use Rattle.g1_trace.specs.declared.command.Command.TheVariants.{Store}
+use Rattle.g1_core.specs.Adoption.{IsPairOf}
+use Rattle.g1_log.specs.declared.ends.Sender.{Sender}
+use Rattle.g1_log.specs.declared.ends.Taker.{Taker}
+use Rattle.g1_log.specs.Ends.{sender_rights, taker_rights, IsSenderOf, IsTakerOf}
+use Rattle.g1_race.specs.declared.race.Racer.{Racer}
+use Rattle.g1_race.specs.declared.race.Sweeper.{Sweeper}
+use Rattle.g1_race_words.specs.Begin.{Begun}
+use Rattle.g1_race_words.specs.declared.view.Shape.{Shape}
+use Rattle.g1_race_words.specs.Rule.{beginning, null_of}
+use Rattle.g1_race.specs.Race.{IsKnown, IsOver, shape_of}
+use Rattle.g1_race.proofs.Fresh.{begun_as}
+use Rattle.g1_race.proofs.Opening.{begins_null}
+use Rattle.g1_race.specs.Members.{null_begun, race_begun, race_id, racer_race, racer_start, racer_view, sweeper_race, sweeper_start, sweeper_view}
+use Rattle.g1_replay.specs.declared.races.desk.Member.{Member}
+use Rattle.g1_replay.specs.Members.{member_rights}
+use Rattle.g1_replay.proofs.LeftLemmas.{table_left}
+use Rattle.g1_replay.proofs.PlacedLemmas.{racers_of, racers_begun_of, senders_of, sweepers_begun_of, sweepers_of, takers_of, sorted_length, sorted_rights}
+use Rattle.g1_replay.proofs.RanRaceLemmas.{are_run, each_own, every_own, views_of}
+use Rattle.g1_replay.proofs.races.jobs.run_race.Goals as goal
+
+pub settle-requires-clause-senders : goal.settle-requires-clause-senders
+settle-requires-clause-senders g c =
+    let race = c.in_ok-race.race in
+    let line = c.in_ok-line.line in
+    let run = are_run (λ d. d.member) race line c.args.options.now.mutators c.args.options.now.rounds c.args.commands.now 0 c.in_ok-jobs.jobs.items c.in_ok-done.done.items c.in_ok-jobs.ensures.jobs c.in_ok-done.ensures c.in_ok-returned.ensures.whole in
+    subst (λ (xs : List Sender). All (IsSenderOf line) xs) (sym c.in_ok-returned.ensures.senders) (senders_of race line _ run.of)
+
+pub settle-requires-clause-takers : goal.settle-requires-clause-takers
+settle-requires-clause-takers g c =
+    let race = c.in_ok-race.race in
+    let line = c.in_ok-line.line in
+    let run = are_run (λ d. d.member) race line c.args.options.now.mutators c.args.options.now.rounds c.args.commands.now 0 c.in_ok-jobs.jobs.items c.in_ok-done.done.items c.in_ok-jobs.ensures.jobs c.in_ok-done.ensures c.in_ok-returned.ensures.whole in
+    subst (λ (xs : List Taker). All (IsTakerOf line) xs) (sym c.in_ok-returned.ensures.takers) (takers_of race line _ run.of)
+
+pub settle-requires-clause-all : goal.settle-requires-clause-all
+settle-requires-clause-all g c =
+    let race = c.in_ok-race.race in
+    let line = c.in_ok-line.line in
+    let run = are_run (λ d. d.member) race line c.args.options.now.mutators c.args.options.now.rounds c.args.commands.now 0 c.in_ok-jobs.jobs.items c.in_ok-done.done.items c.in_ok-jobs.ensures.jobs c.in_ok-done.ensures c.in_ok-returned.ensures.whole in
+    let senders = ap (λ (xs : List Sender). sum_by sender_rights xs) c.in_ok-returned.ensures.senders in
+    let takers = ap (λ (xs : List Taker). sum_by taker_rights xs) c.in_ok-returned.ensures.takers in
+    let members = ap (λ (ms : List Member). sum_by member_rights ms) c.in_ok-jobs.ensures.members in
+    omega (arith, senders, takers, sorted_rights (map (λ job. job.desk.member) c.in_ok-done.done.items), run.rights, members, c.in_ok-members.ensures.rights, c.in_ok-line.ensures.all)
+
+pub close-requires-clause-racers : goal.close-requires-clause-racers
+close-requires-clause-racers g c =
+    let race = c.in_ok-race.race in
+    let line = c.in_ok-line.line in
+    let run = are_run (λ d. d.member) race line c.args.options.now.mutators c.args.options.now.rounds c.args.commands.now 0 c.in_ok-jobs.jobs.items c.in_ok-done.done.items c.in_ok-jobs.ensures.jobs c.in_ok-done.ensures c.in_ok-returned.ensures.whole in
+    let racers = ap (λ (xs : List Racer). length xs) c.in_ok-returned.ensures.racers in
+    let sweepers = ap (λ (xs : List Sweeper). length xs) c.in_ok-returned.ensures.sweepers in
+    let members = ap (λ (ms : List Member). length ms) c.in_ok-jobs.ensures.members in
+    let shape = ap (λ k. k.members) c.in_ok-race.ensures.shape in (
+      omega (
+        arith,
+        racers,
+        sweepers,
+        sorted_length (map (λ job. job.desk.member) c.in_ok-done.done.items),
+        run.len,
+        members,
+        c.in_ok-members.ensures.len,
+        c.in_ok-race.ensures.racers.0,
+        c.in_ok-race.ensures.sweepers.0,
+        shape,
+        c.in_ok-returned.returned.racers.ok.0,
+        c.in_ok-returned.returned.sweepers.ok.0,
+        c.in_ok-members.members.ok.0,
+      ),
+      subst (λ (xs : List Racer). All (λ r. racer_race r ≡ race_id race) xs) (sym c.in_ok-returned.ensures.racers) (racers_of race line _ run.of),
+    )
+
+pub close-requires-clause-sweepers : goal.close-requires-clause-sweepers
+close-requires-clause-sweepers g c =
+    let race = c.in_ok-race.race in
+    let line = c.in_ok-line.line in
+    let run = are_run (λ d. d.member) race line c.args.options.now.mutators c.args.options.now.rounds c.args.commands.now 0 c.in_ok-jobs.jobs.items c.in_ok-done.done.items c.in_ok-jobs.ensures.jobs c.in_ok-done.ensures c.in_ok-returned.ensures.whole in
+    subst (λ (xs : List Sweeper). All (λ w. sweeper_race w ≡ race_id race) xs) (sym c.in_ok-returned.ensures.sweepers) (sweepers_of race line _ run.of)
+
+pub returns-clause-left : goal.returns-clause-left
+returns-clause-left g c =
+    let race = c.in_ok-race.race in
+    let line = c.in_ok-line.line in
+    let mutators = c.args.options.now.mutators in
+    let commands = c.args.commands.now in
+    let closed = c.close.result in
+    let count = mutators + c.args.options.now.refiners in
+    let ms = map (λ job. job.desk.member) c.in_ok-done.done.items in
+    let rs = c.in_ok-returned.returned.racers.items in
+    let ws = c.in_ok-returned.returned.sweepers.items in
+    let sweepers = map sweeper_view ws in
+    let run = are_run (λ d. d.member) race line mutators c.args.options.now.rounds commands 0 c.in_ok-jobs.jobs.items c.in_ok-done.done.items c.in_ok-jobs.ensures.jobs c.in_ok-done.ensures c.in_ok-returned.ensures.whole in
+    let members = ap (λ (xs : List Member). length xs) c.in_ok-jobs.ensures.members in
+    let laid = c.close.ensures.layout ∙ c.in_ok-race.ensures.layout in
+    let racing = subst (λ (xs : List Racer). All (λ r. racer_start r ≡ null_of race.shape) xs) (sym c.in_ok-returned.ensures.racers) (racers_begun_of race line ms run.of) in
+    let sweeping = subst (λ (xs : List Sweeper). All (λ w. sweeper_start w ≡ null_of race.shape) xs) (sym c.in_ok-returned.ensures.sweepers) (sweepers_begun_of race line ms run.of) in
+    let some : 0 < length rs + length ws = omega (arith, ap (λ (xs : List Racer). length xs) c.in_ok-returned.ensures.racers, ap (λ (xs : List Sweeper). length xs) c.in_ok-returned.ensures.sweepers, sorted_length ms, run.len, members, c.in_ok-members.ensures.len, c.in_ok-race.ensures.racers.0, c.in_ok-members.members.ok.0, c.args.options.now.mutators_in) in
+    let begun : race_begun race (map racer_view rs) sweepers ≡ null_begun closed.layout count =
+    begun_as race (null_of race.shape) rs ws racing sweeping refl some ∙ (ap (λ (k : Shape). beginning (null_of k)) (c.in_ok-race.ensures.shape ∙ ap (λ (l : layout.Shape). shape_of l count) (sym laid)) ∙ begins_null closed.layout count) in
+    let over = subst (λ (xs : List Racer). IsOver (null_begun closed.layout count) closed.words (map racer_view xs) sweepers) c.in_ok-returned.ensures.racers (subst (λ (b : Begun). IsOver b closed.words (map racer_view rs) sweepers) begun c.close.ensures.over) in
+    let low : slot_count c.args.layout < 2 ^ 32 = subst (λ (l : layout.Shape). slot_count l < 2 ^ 32) c.in_ok-race.ensures.layout (subst (λ (k : Shape). k.slots < 2 ^ 32) race.laid race.shaped.3) in
+    table_left closed count mutators commands (views_of ms) sweepers over
+    (each_own mutators commands 0 ms run.run)
+    (λ m lt. every_own mutators commands 0 ms run.run m (omega arith) lt
+    (omega (arith, run.len, members, c.in_ok-members.ensures.len, c.in_ok-race.ensures.racers.0, c.in_ok-race.ensures.sweepers.0, c.in_ok-members.members.ok.0)))
+    (λ by slot target i. let fits = word_fits target (slot_count c.args.layout) (All-contains (IsCommandOf c.args.layout mutators) commands (Store by slot target) c.requires (in_contains commands _ i)).2 in omega (arith, fits, low))
+    c.close.ensures.cover
+    (λ x i. subst (λ (l : layout.Shape). IsPairOf l x) (sym c.close.ensures.layout) (c.close.ensures.within x i))
+    (λ x i. subst (λ (b : Begun). IsKnown b sweepers x) begun ((c.close.ensures.pairs x).0 i))

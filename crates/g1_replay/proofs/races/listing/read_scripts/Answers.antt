@@ -1,0 +1,27 @@
+use Rattle.std.proofs.Common.{rules}
+use Rattle.std.proofs.lemmas.Result.{err_from_is_err_and}
+use Rattle.g1_replay.proofs.ScriptedLemmas.{Lists, Never, head_stops, lines_stop, lines_read, lists_silent, listed}
+use Rattle.g1_replay.proofs.races.listing.read_scripts.Goals as goal
+
+pub returns-in_err-layout-clause-read : goal.returns-in_err-layout-clause-read
+returns-in_err-layout-clause-read g c =
+    let p = err_from_is_err_and c.from_residual.result c.from_residual.ensures.1 in
+    rw (p.1, p.2) (head_stops _ _ _ _ _ _ c.in_err-layout.ensures.stops (c.in_err-layout.ensures.read _))
+
+pub returns-in_err-play_lines-clause-read : goal.returns-in_err-play_lines-clause-read
+returns-in_err-play_lines-clause-read g c =
+    let p = err_from_is_err_and c.from_residual-in_err-play_lines.result c.from_residual-in_err-play_lines.ensures.1 in
+    rw (p.1, p.2) (lines_stop Lists Never lists_silent _ _ _ _ c.in_ok-layout.layout _ _ _ _ _ _ _ _ c.in_err-play_lines.ensures.stops (c.in_ok-layout.ensures.read _) c.in_err-play_lines.ensures.followed).0
+
+pub returns-in_err-play_lines-clause-silent : goal.returns-in_err-play_lines-clause-silent
+returns-in_err-play_lines-clause-silent g c =
+    (lines_stop Lists Never lists_silent _ _ _ _ c.in_ok-layout.layout _ _ _ _ _ _ _ _ c.in_err-play_lines.ensures.stops (c.in_ok-layout.ensures.read _) c.in_err-play_lines.ensures.followed).1
+
+pub returns-clause-read : goal.returns-clause-read
+returns-clause-read g c =
+    listed _ _ _ c.in_ok-layout.layout (record { commands = c.new.result }) c.play_lines.new.player _ _ _ _ (search rules)
+    (lines_read Lists Never lists_silent _ _ _ _ c.in_ok-layout.layout _ _ _ _ _ _ _ (c.in_ok-layout.ensures.read _) c.in_ok-play_lines.ensures.followed)
+
+pub returns-clause-silent : goal.returns-clause-silent
+returns-clause-silent g c =
+    (lines_read Lists Never lists_silent _ _ _ _ c.in_ok-layout.layout (record { commands = c.new.result }) _ _ _ _ _ _ (c.in_ok-layout.ensures.read _) c.in_ok-play_lines.ensures.followed).4

@@ -1,0 +1,32 @@
+use Rattle.std.proofs.Common.{◌≡◌, sym, refl, arith, nat_lt, false, Some, vec_len}
+use Rattle.std.proofs.lemmas.Bool.{le-ltb}
+use Rattle.std.proofs.lemmas.List.Elements.{All-head, All-pop, All-rest, All-same}
+use Rattle.g1_log.specs.Ends.{taker_rights, IsTakerOf}
+use Rattle.g1_race.specs.declared.race.Sweeper.{Sweeper}
+use Rattle.g1_race_words.specs.Rule.{null_of}
+use Rattle.g1_race.specs.Members.{sweeper_start, IsFreshSweeper}
+use Rattle.g1_replay.specs.RaceJobs.{IsNewMember}
+use Rattle.g1_replay.proofs.PlacedLemmas.{all_from_next, rights_move}
+use Rattle.g1_replay.proofs.races.members.add_sweeping.Goals as goal
+
+pub loop-sweeper-preserved : goal.loop-sweeper-preserved
+loop-sweeper-preserved c =
+    let was = c.loop-sweeper.invariant in
+    let steps = c.in-Some.ensures.steps in
+    let race = c.args.race.now in
+    let fresh = All-head (IsFreshSweeper race.table.table_id race.shape) _ _ (All-same (IsFreshSweeper race.table.table_id race.shape) _ _ (sym steps.0) was.sweepers) in
+    let Began : Sweeper → Type 0 = λ x. sweeper_start x ≡ null_of race.shape in
+    let begun = All-head Began _ _ (All-same Began _ _ (sym steps.0) was.begun) in
+    let ends = All-pop (IsTakerOf c.args.line.now) _ _ (Some c.take_last.result) c.take_last.ensures.items was.takers in
+    let kind : false ≡ nat_lt (vec_len c.loop-sweeper.members) (vec_len c.args.members.now) = sym (le-ltb _ _ was.behind) in
+    record {
+      left = omega (arith, was.left, steps.1, c.take_last.ensures.len);
+      behind = omega (arith, was.behind, c.in_ok-push.ensures.len);
+      len = omega (arith, was.len, steps.1, c.in_ok-push.ensures.len);
+      rights = rights_move taker_rights _ _ _ _ _ _ _ c.in_ok-push.ensures.items c.take_last.ensures.items refl was.rights;
+      sweepers = All-rest (IsFreshSweeper race.table.table_id race.shape) _ _ _ steps.0 was.sweepers;
+      begun = All-rest Began _ _ _ steps.0 was.begun;
+      takers = ends.0;
+      members = all_from_next (IsNewMember race c.args.line.now (vec_len c.args.members.now)) _ _ (vec_len c.loop-sweeper.members) _ c.in_ok-push.ensures.items (omega (arith, c.loop-sweeper.members.ok.0)) was.members
+          (record { of = (fresh.0, ends.1, begun); kind = kind; logged = refl; fresh = tt });
+    }

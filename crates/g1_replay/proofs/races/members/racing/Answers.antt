@@ -1,0 +1,32 @@
+use Rattle.std.proofs.Common.{◌≡◌, ◌<◌, ap, sym, refl, arith, nat_lt, true, length, Some, vec_len}
+use Rattle.std.proofs.lemmas.Bool.{lt-ltb}
+use Rattle.std.proofs.lemmas.List.Elements.{All-head, All-pop, All-rest, All-same}
+use Rattle.g1_log.specs.Ends.{sender_rights, IsSenderOf}
+use Rattle.g1_race.specs.declared.race.Racer.{Racer}
+use Rattle.g1_race_words.specs.Rule.{null_of}
+use Rattle.g1_race.specs.Members.{racer_start, IsFreshRacer}
+use Rattle.g1_replay.specs.RaceJobs.{IsNewMember}
+use Rattle.g1_replay.proofs.PlacedLemmas.{all_from_next, rights_move}
+use Rattle.g1_replay.proofs.races.members.racing.Goals as goal
+
+pub loop-racer-preserved : goal.loop-racer-preserved
+loop-racer-preserved c =
+    let was = c.loop-racer.invariant in
+    let steps = c.in-Some.ensures.steps in
+    let race = c.args.race.now in
+    let fresh = All-head (IsFreshRacer race.table.table_id race.shape) _ _ (All-same (IsFreshRacer race.table.table_id race.shape) _ _ (sym steps.0) was.racers) in
+    let Began : Racer → Type 0 = λ x. racer_start x ≡ null_of race.shape in
+    let begun = All-head Began _ _ (All-same Began _ _ (sym steps.0) was.begun) in
+    let ends = All-pop (IsSenderOf c.args.line.now) _ _ (Some c.take_last.result) c.take_last.ensures.items was.senders in
+    let below : vec_len c.loop-racer.members < vec_len c.args.racers = omega (arith, was.len, steps.1) in
+    let kind : true ≡ nat_lt (vec_len c.loop-racer.members) (vec_len c.args.racers) = sym (lt-ltb _ _ below) in
+    record {
+      left = omega (arith, was.left, steps.1, c.take_last.ensures.len);
+      len = omega (arith, was.len, steps.1, c.in_ok-push.ensures.len);
+      rights = rights_move sender_rights _ _ _ _ _ _ _ c.in_ok-push.ensures.items c.take_last.ensures.items refl was.rights;
+      racers = All-rest (IsFreshRacer race.table.table_id race.shape) _ _ _ steps.0 was.racers;
+      begun = All-rest Began _ _ _ steps.0 was.begun;
+      senders = ends.0;
+      members = all_from_next (IsNewMember race c.args.line.now (vec_len c.args.racers)) _ _ (vec_len c.loop-racer.members) _ c.in_ok-push.ensures.items (omega (arith, c.loop-racer.members.ok.0)) was.members
+          (record { of = (fresh.0, ends.1, begun); kind = kind; logged = ap length fresh.2; fresh = (_, ap (λ v. v.histories) fresh.1) });
+    }

@@ -1,0 +1,15 @@
+use Rattle.std.proofs.Common.{◌≡◌, rules}
+use Rattle.std.proofs.lemmas.Result.{err_from_is_err_and}
+use Rattle.g1_replay.specs.Race.{RaceRan}
+use Rattle.g1_replay.proofs.ScriptedLemmas.{scripts_unread, scripts_run}
+use Rattle.g1_replay.proofs.races.play.play_race.Goals as goal
+
+pub returns-in_err-layout : goal.returns-in_err-layout
+returns-in_err-layout g c =
+    let p = err_from_is_err_and c.from_residual.result c.from_residual.ensures.1 in
+    rw (p.1, p.2) (scripts_unread (RaceRan c.args.options.now.mutators) _ _ _ _ _ _ _ _ c.in_err-layout.ensures.read c.in_err-layout.ensures.silent)
+
+pub returns : goal.returns
+returns g c =
+    let same : c.deref.result.now ≡ c.in_ok-layout.commands.items = search rules in
+    scripts_run (RaceRan c.args.options.now.mutators) _ _ _ c.in_ok-layout.layout _ _ _ _ _ _ c.race_commands.result c.in_ok-layout.ensures.read c.in_ok-layout.ensures.silent (rw same at c.race_commands.ensures)

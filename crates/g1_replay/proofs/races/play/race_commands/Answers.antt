@@ -1,0 +1,23 @@
+use Rattle.std.proofs.Common.{List, ℕ, ap, subst}
+use Rattle.std.proofs.lemmas.Result.{err_from_is_err_and}
+use Rattle.g1_layout.specs.Shape.{Shape}
+use Rattle.g1_core.specs.Machine.{Machine}
+use Rattle.g1_replay.specs.Playing.{Writes}
+use Rattle.g1_replay.specs.Race.{RaceRan}
+use Rattle.g1_replay.specs.declared.stop.Stop.TheVariants.{NoMemory}
+use Rattle.g1_replay.proofs.RaceLemmas.{race_stopped}
+use Rattle.g1_replay.proofs.races.play.race_commands.Goals as goal
+
+pub returns-in_err-closed : goal.returns-in_err-closed
+returns-in_err-closed g c =
+    let p = err_from_is_err_and c.from_residual.result c.from_residual.ensures.1 in
+    rw (p.1, p.2) (race_stopped c.args.options.now.mutators c.args.layout c.args.commands.now _ (g.W.Write.contents c.args.output.now) c.in_err-closed.ensures.stops)
+
+pub returns-in_default : goal.returns-in_default
+returns-in_default g c = race_stopped c.args.options.now.mutators c.args.layout c.args.commands.now NoMemory (g.W.Write.contents c.args.output.now) tt
+
+pub returns : goal.returns
+returns g c =
+    let table = ap (λ (m : Machine). m.state.table) c.in-Ok.ensures.core in
+    let done = c.put_race.ensures c.args.options.now.mutators c.in_ok-closed.closed table c.in_ok-closed.ensures.left in
+    subst (λ (l : Shape). (text : List ℕ) × RaceRan c.args.options.now.mutators l c.args.commands.now c.put_race.result text × Writes (g.W.Write.contents c.args.output.now) (g.W.Write.contents c.put_race.new.output) c.put_race.result text) c.in_ok-closed.ensures.layout done

@@ -1,0 +1,13 @@
+use Rattle.std.proofs.Common.{rules, ◌∷◌, [], subst}
+use Rattle.g1_steps.specs.Made.{Refined, AreCalls}
+use Rattle.g1_steps.specs.Lent.{IsBookCall}
+use Rattle.g1_steps.specs.Steps.{buffer_in, called}
+use Rattle.g1_replay.proofs.AnswerLemmas.{refine_made}
+use Rattle.g1_replay.proofs.runs.play.refine.Goals as goal
+
+pub returns-clause-answered : goal.returns-clause-answered
+returns-clause-answered g c =
+    let h = c.in_ok-reply.ensures.refined in
+    let made = subst (λ n. AreCalls (IsBookCall n) c.new-calls.result.book.now (Refined (buffer_in h.parcel) (called c.in_ok-reply.reply) ∷ []) c.refine.new.calls.book.now) c.new-calls.ensures.caller h.made.2 in
+    let by = refine_made c.new-calls.result.book.now c.refine.new.calls.book.now _ c.in_ok-reply.reply made in
+    search rules

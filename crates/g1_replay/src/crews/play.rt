@@ -1,0 +1,138 @@
+//! Reads a trace to its end, makes the calls of each mutator in a thread of its own, and prints the
+//! result.
+ghost use Rattle.std.specs.Prelude.{◌≡◌, ℕ, List, ◌++◌, true, vec_len, All, Result, IfSome};
+ghost use Rattle.g1_layout.specs.Shape.{slot_count};
+ghost use Rattle.g1_steps.specs.Ask.{StepFits};
+ghost use Rattle.g1_trace.specs.declared.mode.Mode.TheVariants.{Crew};
+ghost use Rattle.g1_replay.specs.Crew.{Crewed, IsWholeCrew, CrewRan};
+ghost use Rattle.g1_replay.specs.Output.{IsEndWritten, ending_line};
+ghost use Rattle.g1_replay.specs.Playing.{Writes};
+ghost use Rattle.g1_replay.specs.Scripted.{IsRefusedTrace};
+ghost use Rattle.g1_replay.specs.declared.stop.Stop.{Stop};
+
+use crate::crews::jobs::run_jobs;
+use crate::crews::listing::read_crew;
+use crate::crews::output::put_crew;
+use crate::end::End;
+use crate::lines::source::Source;
+use crate::runs::engine::put_end;
+use crate::stop::Stop;
+use g1_history::Book;
+use g1_layout::Layout;
+use g1_options::Options;
+use g1_steps::Step;
+use g1_trace::{Dialect, Mode};
+use std::alloc::Global;
+use std::io::{BufRead, Write};
+use std::marker::Brand;
+use std::sync::Wait;
+use std::sync::ledger::Blank;
+use std::thread::Threads;
+
+// Runs the scripts, and prints the result.
+fn run_scripts<T: Threads + Wait + Sync, W: Write>(
+    rt: &T,
+    alloc: Global,
+    layout: Layout,
+    scripts: Vec<Vec<Step>>,
+    output: &mut W,
+    options: &Options,
+) -> Result<(), Stop>
+    requires count { vec_len scripts ≡ options.now.mutators }
+    requires fits { All (λ steps.
+        All (StepFits (slot_count layout) true) steps.items) scripts.items }
+    ensures { (text : List ℕ) × CrewRan layout options.now.history result text
+        × Writes (W.contents output.old) (W.contents output.new) result text }
+{
+    let count = u64::from(options.mutators + options.refiners);
+    let book = Book::open(
+        alloc,
+        layout,
+        options.config,
+        options.mutators,
+        options.history as usize,
+    )?;
+    let blanks = (Blank::new(count), Blank::new(count));
+    let (mut book, stores, refused) = run_jobs::<T, Brand, Brand>(
+        rt, alloc, blanks, book, scripts, options,
+    )?;
+    put_crew(&mut book, stores, refused, options.history, output)
+}
+
+// The whole trace and then its scripts, but for the line of the end.
+fn play_crew<T: Threads + Wait + Sync, R: BufRead, W: Write>(
+    rt: &T,
+    alloc: Global,
+    source: &mut Source,
+    input: &mut R,
+    output: &mut W,
+    options: &Options,
+) -> Result<(), Stop>
+    ensures { (text : List ℕ) × Crewed (record {
+      mode = Crew;
+      mutators = options.now.mutators;
+    }) options.now.history source.old.number source.new.number
+        (R.remaining input.old) (R.remaining input.new) result text
+        × Writes (W.contents output.old) (W.contents output.new) result text }
+{
+    let dialect = Dialect {
+        mode: Mode::Crew,
+        mutators: options.mutators,
+    };
+    let (layout, scripts) = read_crew(rt, alloc, source, dialect, input, output)?;
+    run_scripts(rt, alloc, layout, scripts, output, options)
+}
+
+/// Replays a trace by a crew: reads all of it, makes the calls of each mutator in a thread of its
+/// own with refinement threads beside them, and writes how many stores were made and what a drain
+/// of each region returns (docs/traces.md).
+///
+/// It writes how many stores a permitted run of the plain table has, then the lines of the drains
+/// that end this run, of each region in order, and then the line of the end, if it has one. Returns
+/// `Whole` only if the trace has no fault and all regions were drained, and `Refused` only if the
+/// trace has a fault: then nothing was run, and only the fault's line was written. With `Stopped`,
+/// either the threads were refused a call, memory or a thread, and that line is all that was
+/// written, or a drain was refused, and its line follows those of the drains before it. `book full`
+/// is written only if the run has as many entries as `options` allows. With `ReadFailed` nothing
+/// was run. With `WriteFailed` a beginning of such a text was written.
+///
+/// Which cards are refined between two stores is free. So two runs may write different text for a
+/// trace that stores to a slot twice.
+///
+/// The crew keeps the scripts, asks the reader for bytes at most 2^40 times, and tries no failed
+/// read or write again. A line is one write or a few, so give it a writer with a buffer. Its
+/// threads wait for the lock of the book. All of them have been joined when it returns.
+pub fn crew<T: Threads + Wait + Sync, R: BufRead, W: Write>(
+    rt: &T,
+    alloc: Global,
+    input: &mut R,
+    output: &mut W,
+    options: &Options,
+) -> End
+    ensures told { (number : ℕ) × (outcome : Result (Unit {0}) Stop) × (text : List ℕ)
+        × Crewed (record {
+          mode = Crew;
+          mutators = options.now.mutators;
+        }) options.now.history 1 number (R.remaining input.old)
+        (R.remaining input.new) outcome text
+        × IsEndWritten (W.contents output.old) (W.contents output.new) outcome
+        (text ++ ending_line number outcome) result }
+    ensures whole { result ≡ End.Whole
+        → IfSome (R.remaining input.old) (λ bytes.
+        IsWholeCrew (record {
+          mode = Crew;
+          mutators = options.now.mutators;
+        }) options.now.history bytes (W.contents output.old)
+        (W.contents output.new)) }
+    ensures refused { result ≡ End.Refused
+        → IfSome (R.remaining input.old) (λ bytes.
+        IsRefusedTrace (record { mode = Crew; mutators = options.now.mutators }) bytes
+        (W.contents output.old) (W.contents output.new)) }
+{
+    let mut source = Source {
+        reads: 0,
+        number: 1,
+    };
+    let outcome = play_crew(rt, alloc, &mut source, input, output, options);
+    put_end(output, source.number, outcome)
+}

@@ -1,0 +1,57 @@
+//! A line of a trace that the reader does not show as a whole.
+
+ghost use Rattle.std.specs.Prelude.{◌≤◌, ◌*◌, ◌^◌, [], ℕ, List, Option, Some, IfOk, IfErr};
+ghost use Rattle.g1_replay.specs.Lines.{HasPart};
+ghost use Rattle.g1_replay.specs.Reading.{Reads, commands_of, next_met, IsNextCommandOf};
+ghost use Rattle.g1_replay.specs.Reading.{IsReadStop};
+
+use crate::lines::line::{Part, rest_of_line};
+use crate::lines::source::Source;
+use crate::stop::Stop;
+use arrayvec::ArrayVec;
+use g1_layout::Layout;
+use g1_trace::{Command, Dialect, read_command};
+use std::io::BufRead;
+
+/// What the next line asks for.
+#[derive(Clone, Copy)]
+pub enum Next {
+    /// There is none: the input has ended.
+    End,
+    /// Nothing: it is empty or a remark.
+    Blank,
+    /// A command.
+    Do(Command),
+}
+
+/// Reads on from the first part of a line behind the header, of which no byte is kept yet, and
+/// returns what the line asks for (docs/traces.md, Lines and words, Commands).
+///
+/// On a fault, `source.number` is the faulty line. Nothing behind the line is
+/// read, and no read follows a failed one. It takes no memory.
+pub fn read_next<R: BufRead>(
+    part: Part,
+    source: &mut Source,
+    layout: &Layout,
+    dialect: Dialect,
+    input: &mut R,
+) -> Result<Next, Stop>
+    requires counted { source.old.number ≤ 2 ^ 20 * source.old.reads }
+    ensures read { (begun : Option (List ℕ)) → HasPart begun (R.remaining input.old) part []
+        → Reads dialect (Some layout.now) source.old.number source.new.number begun
+        (R.remaining input.new) (Some layout.now) (commands_of result) (next_met result) }
+    ensures stops { IfErr result IsReadStop }
+    ensures valid { IfOk result (λ next. IsNextCommandOf layout.now dialect next) }
+    ensures reads { source.old.reads ≤ source.new.reads }
+{
+    let mut line = ArrayVec::new();
+    if !rest_of_line(part, &mut source.reads, input, &mut line)? {
+        return Ok(Next::End);
+    }
+    let command = read_command(*layout, dialect, line.as_slice())?;
+    source.number += 1;
+    match command {
+        None => Ok(Next::Blank),
+        Some(command) => Ok(Next::Do(command)),
+    }
+}

@@ -1,0 +1,129 @@
+//! The lines of a trace behind its header, which are read and played.
+ghost use Rattle.std.specs.Prelude.{◌≡◌, ℕ, List, Option, [], ◌<◌, ◌≤◌, ◌*◌, ◌^◌, ◌⊎◌, Ok, true};
+ghost use Rattle.std.specs.Prelude.{IfErr, OnOk, take, length};
+ghost use Rattle.g1_replay.specs.Lines.{HasPart};
+ghost use Rattle.g1_replay.specs.Output.{end_met};
+ghost use Rattle.g1_replay.specs.Playing.{Follows};
+ghost use Rattle.g1_replay.specs.Reading.{IsReadStop};
+
+use crate::lines::line::Part;
+use crate::lines::next::{Next, read_next};
+use crate::lines::player::Player;
+use crate::lines::shown::play_shown;
+use crate::lines::source::{READ_LIMIT, SHOWN_LIMIT, Source};
+use crate::stop::Stop;
+use g1_layout::Layout;
+use g1_trace::Dialect;
+use std::io::{BufRead, Write};
+use std::sync::Wait;
+
+// What a reader shows of a line that it does not show as a whole, of which no byte is taken.
+fn first_part(shown: &[u8]) -> Part
+    ensures { (left : Option (List ℕ)) → HasPart left left result [] }
+{
+    if shown.is_empty() {
+        Part::Nothing
+    } else {
+        Part::More
+    }
+}
+
+// The front of what a reader shows: as many of its bytes as one read may take.
+fn front_of(shown: &[u8]) -> &[u8]
+    ensures front { (n : ℕ) → n ≤ length result.now → take n result.now ≡ take n shown.now }
+    ensures within { (length result.now ≤ length shown.now) × (length result.now ≤ 2 ^ 20) }
+{
+    shown.split_at(shown.len().min(SHOWN_LIMIT)).0
+}
+
+// The next line, of which the reader shows this part. Returns whether another may come: at the end
+// of the input it does not.
+fn play_line<T: Wait, P: Player, R: BufRead, W: Write>(
+    rt: &T,
+    part: Part,
+    source: &mut Source,
+    layout: &Layout,
+    dialect: Dialect,
+    input: &mut R,
+    player: &mut P,
+    output: &mut W,
+) -> Result<bool, Stop>
+    requires part { HasPart (R.remaining input.old) (R.remaining input.old) part [] }
+    requires counted { source.old.number ≤ 2 ^ 20 * source.old.reads }
+    requires takes { P.takes player.old layout.now dialect }
+    ensures followed { Follows P.did P.full dialect layout.now source.old.number source.new.number
+        player.old player.new (R.remaining input.old) (R.remaining input.new)
+        (W.contents output.old) (W.contents output.new) result }
+    ensures reads { source.old.reads ≤ source.new.reads }
+    ensures stops { IfErr result (λ stop. IsReadStop stop ⊎ P.stops stop) }
+    ensures takes { OnOk result (P.takes player.new layout.now dialect) }
+{
+    match read_next(part, source, layout, dialect, input)? {
+        Next::End => Ok(false),
+        Next::Blank => Ok(true),
+        Next::Do(command) => {
+            player.play(rt, *layout, dialect, command, output)?;
+            Ok(true)
+        }
+    }
+}
+
+// The lines that the reader shows as a whole, or the next line if it shows none. Returns whether
+// another may come.
+fn play_some<T: Wait, P: Player, R: BufRead, W: Write>(
+    rt: &T,
+    source: &mut Source,
+    layout: &Layout,
+    dialect: Dialect,
+    input: &mut R,
+    player: &mut P,
+    output: &mut W,
+) -> Result<bool, Stop>
+    requires { P.takes player.old layout.now dialect }
+    ensures followed { Follows P.did P.full dialect layout.now source.old.number source.new.number
+        player.old player.new (R.remaining input.old) (R.remaining input.new)
+        (W.contents output.old) (W.contents output.new) result }
+    ensures more { result ≡ Ok true → source.old.reads < source.new.reads }
+    ensures stops { IfErr result (λ stop. IsReadStop stop ⊎ P.stops stop) }
+    ensures takes { OnOk result (P.takes player.new layout.now dialect) }
+{
+    if source.reads >= READ_LIMIT {
+        return Err(Stop::ReadFailed);
+    }
+    source.reads += 1;
+    let shown = match input.fill_buf() {
+        Ok(shown) => shown,
+        Err(_) => return Err(Stop::ReadFailed),
+    };
+    let part = first_part(shown);
+    let front = front_of(shown);
+    let number = &mut source.number;
+    let (taken, played) = play_shown(rt, number, layout, dialect, front, player, output);
+    input.consume(taken);
+    played?;
+    if taken > 0 {
+        return Ok(true);
+    }
+    play_line(rt, part, source, layout, dialect, input, player, output)
+}
+
+/// The lines behind the header, up to the end of the input or to what stops the replay.
+pub(crate) fn play_lines<T: Wait, P: Player, R: BufRead, W: Write>(
+    rt: &T,
+    source: &mut Source,
+    layout: Layout,
+    dialect: Dialect,
+    input: &mut R,
+    player: &mut P,
+    output: &mut W,
+) -> Result<(), Stop>
+    requires { P.takes player.old layout dialect }
+    ensures followed { Follows P.did P.full dialect layout source.old.number source.new.number
+        player.old player.new (R.remaining input.old) (R.remaining input.new)
+        (W.contents output.old) (W.contents output.new) (end_met result) }
+    ensures stops { IfErr result (λ stop. IsReadStop stop ⊎ P.stops stop) }
+    ensures takes { OnOk result (P.takes player.new layout dialect) }
+{
+    'lines: while play_some(rt, source, &layout, dialect, input, player, output)? {}
+    Ok(())
+}

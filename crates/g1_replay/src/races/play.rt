@@ -1,0 +1,124 @@
+//! Reads a trace to its end, makes the stores of each mutator in a race, in a thread of its own,
+//! and prints the result.
+ghost use Rattle.std.specs.Prelude.{◌≡◌, ℕ, List, ◌++◌, All, Result, IfSome};
+ghost use Rattle.g1_trace.specs.Grammar.{IsCommandOf};
+ghost use Rattle.g1_trace.specs.declared.mode.Mode.TheVariants.{Race};
+ghost use Rattle.g1_replay.specs.Output.{IsEndWritten, ending_line};
+ghost use Rattle.g1_replay.specs.Playing.{Writes};
+ghost use Rattle.g1_replay.specs.Race.{IsWholeRace, RacedTrace, RaceRan};
+ghost use Rattle.g1_replay.specs.Scripted.{IsRefusedTrace};
+ghost use Rattle.g1_replay.specs.declared.stop.Stop.{Stop};
+
+use crate::end::End;
+use crate::lines::source::Source;
+use crate::races::jobs::run_race;
+use crate::races::listing::read_scripts;
+use crate::races::output::put_race;
+use crate::runs::engine::put_end;
+use crate::stop::Stop;
+use g1_layout::Layout;
+use g1_options::Options;
+use g1_trace::{Command, Dialect, Mode};
+use std::alloc::Global;
+use std::io::{BufRead, Write};
+use std::sync::Wait;
+use std::thread::Threads;
+
+// Races the scripts of the commands, and prints the result.
+fn race_commands<T: Threads + Wait + Sync, W: Write>(
+    rt: &T,
+    alloc: Global,
+    layout: Layout,
+    commands: &[Command],
+    output: &mut W,
+    options: &Options,
+) -> Result<(), Stop>
+    requires { All (IsCommandOf layout options.now.mutators) commands.now }
+    ensures { (text : List ℕ) × RaceRan options.now.mutators layout commands.now result text
+        × Writes (W.contents output.old) (W.contents output.new) result text }
+{
+    let closed = run_race(rt, alloc, layout, commands, options)?;
+    let Ok(mut core) = closed.into_core(alloc, options.config) else {
+        return Err(Stop::NoMemory);
+    };
+    put_race(&mut core, commands, output)
+}
+
+// The whole trace and then its scripts, but for the line of the end.
+fn play_race<T: Threads + Wait + Sync, R: BufRead, W: Write>(
+    rt: &T,
+    alloc: Global,
+    source: &mut Source,
+    input: &mut R,
+    output: &mut W,
+    options: &Options,
+) -> Result<(), Stop>
+    ensures { (text : List ℕ) × RacedTrace (record {
+      mode = Race;
+      mutators = options.now.mutators;
+    }) source.old.number source.new.number
+        (R.remaining input.old) (R.remaining input.new) result text
+        × Writes (W.contents output.old) (W.contents output.new) result text }
+{
+    let dialect = Dialect {
+        mode: Mode::Race,
+        mutators: options.mutators,
+    };
+    let (layout, commands) = read_scripts(rt, alloc, source, dialect, input, output)?;
+    race_commands(rt, alloc, layout, &commands, output, options)
+}
+
+/// Replays a trace of stores by a race: reads all of it, and makes the stores of each mutator in a
+/// thread of its own with no lock around them and refinement threads beside them. Then, with the
+/// race closed and made a core, it writes how many stores were made and what a drain of each region
+/// returns (docs/traces.md, A race).
+///
+/// It writes how many stores the trace has, then the lines of drains of the regions in order, and
+/// then the line of the end, if it has one. By the drains each slot refers to what some mutator
+/// stored to it last, or to nothing if none stores to it. A line `drained` lists cards outside its
+/// region, ascending: every card that holds one of these references into the region, and only cards
+/// to which the trace stores a reference into it.
+///
+/// Returns `Whole` only if the trace has no fault and all regions were drained, and `Refused` only
+/// if the trace has a fault: then nothing was run, and only the fault's line was written. With
+/// `Stopped`, either memory or a thread was refused, and that line is all that was written, or a
+/// drain was refused, and its line follows those of the drains before it. With `ReadFailed` nothing
+/// was run. With `WriteFailed` a beginning of such a text was written.
+///
+/// Which of two racing stores to a slot comes last is free, and so is which cards a refinement
+/// thread meets. So two runs may write different text for a trace that stores to a slot twice. It
+/// is not claimed that a history of one thread explains a run, nor that a logged card ever reaches
+/// a refinement thread: a card that none refines stays dirty, and the drains find it.
+///
+/// The race keeps the commands and the scripts, asks the reader for bytes at most 2^40 times, and
+/// tries no failed read or write again. A line is one write or a few, so give it a writer with a
+/// buffer. Its threads wait for nothing but the queue of completed buffers. All of them have been
+/// joined when it returns.
+pub fn race<T: Threads + Wait + Sync, R: BufRead, W: Write>(
+    rt: &T,
+    alloc: Global,
+    input: &mut R,
+    output: &mut W,
+    options: &Options,
+) -> End
+    ensures told { (number : ℕ) × (outcome : Result (Unit {0}) Stop) × (text : List ℕ)
+        × RacedTrace (record { mode = Race; mutators = options.now.mutators }) 1 number
+        (R.remaining input.old) (R.remaining input.new) outcome text
+        × IsEndWritten (W.contents output.old) (W.contents output.new) outcome
+        (text ++ ending_line number outcome) result }
+    ensures whole { result ≡ End.Whole
+        → IfSome (R.remaining input.old) (λ bytes.
+        IsWholeRace (record { mode = Race; mutators = options.now.mutators }) bytes
+        (W.contents output.old) (W.contents output.new)) }
+    ensures refused { result ≡ End.Refused
+        → IfSome (R.remaining input.old) (λ bytes.
+        IsRefusedTrace (record { mode = Race; mutators = options.now.mutators }) bytes
+        (W.contents output.old) (W.contents output.new)) }
+{
+    let mut source = Source {
+        reads: 0,
+        number: 1,
+    };
+    let outcome = play_race(rt, alloc, &mut source, input, output, options);
+    put_end(output, source.number, outcome)
+}

@@ -1,0 +1,132 @@
+//! A replay by one thread: the header of its trace, its lines, and the line of its end.
+ghost use Rattle.std.specs.Prelude.{◌≡◌, ℕ, List, ◌++◌, Result, IfSome};
+ghost use Rattle.g1_trace.specs.declared.mode.Mode.TheVariants.{Run};
+ghost use Rattle.g1_replay.specs.Playing.{Writes};
+ghost use Rattle.g1_replay.specs.Output.{Told, IsEndWritten, ending_line, end_or_failed};
+ghost use Rattle.g1_replay.specs.Output.{IsWholeOutput, IsRefusedOutput};
+ghost use Rattle.g1_replay.specs.declared.stop.Stop.{Stop};
+
+use crate::end::End;
+use crate::lines::opening::read_heap;
+use crate::lines::playing::play_lines;
+use crate::lines::source::Source;
+use crate::runs::machinery::Machinery;
+use crate::stop::Stop;
+use g1_layout::Layout;
+use g1_options::Options;
+use g1_trace::{
+    Dialect, Mode, WriteFailed, put_book_full, put_fault, put_no_memory, put_no_thread,
+    put_read_failed,
+};
+use std::alloc::Global;
+use std::io::{BufRead, Write};
+use std::sync::Wait;
+
+// The whole trace, but for the line of its end.
+fn play_trace<T: Wait, R: BufRead, W: Write>(
+    rt: &T,
+    alloc: Global,
+    source: &mut Source,
+    input: &mut R,
+    output: &mut W,
+    options: &Options,
+) -> Result<(), Stop>
+    ensures { (text : List ℕ) × Told (record {
+      mode = Run;
+      mutators = options.now.mutators;
+    }) options.now.config options.now.history source.old.number
+        source.new.number (R.remaining input.old) (R.remaining input.new) result text
+        × Writes (W.contents output.old) (W.contents output.new) result text }
+{
+    let layout = read_heap(source, input)?;
+    let mut machinery = Machinery::open(alloc, layout, options)?;
+    let dialect = Dialect {
+        mode: Mode::Run,
+        mutators: options.mutators,
+    };
+    let result = play_lines(rt, source, layout, dialect, input, &mut machinery, output);
+    let _history = machinery.book.entries();
+    result
+}
+
+/// Writes the line of the end.
+pub(crate) fn put_end<W: Write>(output: &mut W, number: u64, outcome: Result<(), Stop>) -> End
+    ensures { IsEndWritten (W.contents output.old) (W.contents output.new) outcome
+        (ending_line number outcome) result }
+{
+    match outcome {
+        Ok(()) => End::Whole,
+        Err(Stop::WriteFailed) => End::WriteFailed,
+        Err(Stop::Fault(fault)) => end_unless(put_fault(output, number, fault), End::Refused),
+        Err(Stop::NoMemory) => end_unless(put_no_memory(output), End::Stopped),
+        Err(Stop::BookFull) => end_unless(put_book_full(output), End::Stopped),
+        Err(Stop::NoThread) => end_unless(put_no_thread(output), End::Stopped),
+        Err(Stop::ReadFailed) => end_unless(put_read_failed(output), End::ReadFailed),
+    }
+}
+
+// The end, unless its line could not be written.
+fn end_unless(written: Result<(), WriteFailed>, end: End) -> End
+    ensures { result ≡ end_or_failed written end }
+{
+    match written {
+        Ok(()) => end,
+        Err(_) => End::WriteFailed,
+    }
+}
+
+/// Replays a trace: reads it line by line, makes the calls of each command and writes its output
+/// line (docs/traces.md).
+///
+/// It writes the text of a permitted run of the plain table that belongs to the commands that were
+/// read, a line for each command, and then the line of the end, if it has one. Returns `Whole` only
+/// if the trace has no fault, and `Refused` only if it has one, whose line was written. With
+/// `Stopped` and `ReadFailed` the commands are those before the end. `book full` is written only if
+/// the run has as many entries as `options` allows. With `WriteFailed` a beginning of such a text
+/// was written. A fault is the end wherever its line was read whole: a failed read or refused
+/// memory does not hide it.
+///
+/// A round of `work` makes at most as many calls as one that begins at the start threshold of
+/// `options` and sees no more completed buffers than their limit.
+///
+/// It holds one line of the trace at a time, asks the reader for bytes at most 2^40 times, and
+/// tries no failed read or write again. A line is one write or a few, so give it a writer with a
+/// buffer. Reading and writing take no memory; history and sets grow, and the lists of replies. It
+/// may wait for the queue of completed buffers, which nothing else uses.
+pub fn run<T: Wait, R: BufRead, W: Write>(
+    rt: &T,
+    alloc: Global,
+    input: &mut R,
+    output: &mut W,
+    options: &Options,
+) -> End
+    ensures told { (number : ℕ) × (outcome : Result (Unit {0}) Stop) × (text : List ℕ)
+        × Told (record {
+          mode = Run;
+          mutators = options.now.mutators;
+        }) options.now.config options.now.history 1 number
+        (R.remaining input.old) (R.remaining input.new) outcome text
+        × IsEndWritten (W.contents output.old) (W.contents output.new) outcome
+        (text ++ ending_line number outcome) result }
+    ensures whole { result ≡ End.Whole
+        → IfSome (R.remaining input.old) (λ bytes.
+        IsWholeOutput (record {
+          mode = Run;
+          mutators = options.now.mutators;
+        }) options.now.config bytes (W.contents output.old)
+        (W.contents output.new)) }
+    ensures refused { result ≡ End.Refused
+        → IfSome (R.remaining input.old) (λ bytes.
+        IsRefusedOutput (record {
+          mode = Run;
+          mutators = options.now.mutators;
+        }) options.now.config bytes (W.contents output.old)
+        (W.contents output.new)) }
+{
+    let mut source = Source {
+        reads: 0,
+        number: 1,
+    };
+    let outcome = play_trace(rt, alloc, &mut source, input, output, options);
+    put_end(output, source.number, outcome)
+}
