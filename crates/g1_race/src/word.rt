@@ -36,10 +36,13 @@ pub(crate) fn refers_to(layout: Layout, word: u64) -> Option<Slot>
     ensures target { result ≡ target_of_word word }
     ensures within { IfSome result (λ place. place < slot_count layout) }
 {
-    if !is_reference(word) {
-        return None;
+    // (Null wraps round, and so is above all slots, as data is.)
+    let place = word.wrapping_sub(1);
+    if place < u64::from(layout.slot_count()) {
+        layout.slot(place as u32)
+    } else {
+        None
     }
-    layout.slot(word as u32 - 1)
 }
 
 // The pair of a slot's word: the slot's card, and the region that the word refers into if that is

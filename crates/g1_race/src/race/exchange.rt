@@ -112,10 +112,11 @@ impl Racer {
             self.new }
         ensures fits { IsWord (race_shape race.now) result.1 }
     {
-        if word > u32::MAX as u64 {
-            return (Kind::Null, self.store_data(race, slot, word));
+        match word {
+            0 => self.write(race, slot, None),
+            1..=0xFFFF_FFFF => self.write(race, slot, refers_to(race.layout, word)),
+            _ => (Kind::Null, self.store_data(race, slot, word)),
         }
-        self.write(race, slot, refers_to(race.layout, word))
     }
 
     /// Stores a word as [`Racer::swap_word`] does if the slot has the word that is expected: null,
