@@ -17,7 +17,7 @@ SHOWN = {
 
 def summary_of(program, record, words):
     """What tools/summary says of a record that is replayed with these options, or in this heap."""
-    text = pathlib.Path(f"crates/gate_examples/data/{record}.trace").read_text()
+    text = pathlib.Path(f"examples/traces/{record}.trace").read_text()
     options = dict(OPTIONS)
     if words[0] == "heap":
         text = re.sub("^heap .*$", " ".join(words), text, flags=re.M)

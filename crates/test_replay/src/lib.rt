@@ -1,6 +1,6 @@
 //! Tests of `g1_replay` through its public calls, which no file of a trace can show: readers and
 //! writers that fail, and the options and texts of the command line. The worked traces are files,
-//! and the crate `gate_examples` replays them; `scripts/check-lines` has tables of lines.
+//! and `scripts/check-traces` replays them; `scripts/check-lines` has tables of lines.
 //!
 //! A crate of its own for the gate: a proof of the tests does not prove the libraries again.
 #![tactic(auto)]

@@ -1,5 +1,5 @@
 //! The callers of a lent book: each of their steps once, and a pause of two mutators. What steps
-//! answer is in the worked traces (crates/gate_examples/data).
+//! answer is in the worked traces (examples/traces).
 ghost use Rattle.std.specs.Prelude.{All};
 ghost use Rattle.g1_log.specs.Ends.{IsSenderOf, IsTakerOf};
 

@@ -1,38 +1,26 @@
-//! The barrier and the pause, where a trace (crates/gate_examples/data) cannot show it.
-use crate::cores::numbers::{numbers_of, slot};
+//! The barrier and the pause, where a trace (examples/traces) cannot show it.
+use crate::checks::assert_equal;
+use crate::cores::numbers::slot;
 use crate::cores::steps::Step::{Drain, Refine, Status, Store};
 use crate::cores::steps::play;
 use g1_core::Fill::{Full, No};
 use g1_core::Kind::{AlreadyDirty, Logged, SameRegion};
-use g1_core::{Config, Core, Layout, Log};
+use g1_core::{Card, Config, Core, Kind, Layout};
 use std::process::Abort;
 use std::test::Fail;
 
-// The third card fills the log, whose cards go into the lent place.
+// The second card fills the log, whose cards go into the lent place; the next one begins another.
 #[test]
 fn a_filled_log_goes_into_the_lent_place(rt: HostRuntime) -> Result<(), Fail> {
-    let layout = Layout::new(4, 2, 4).ok_or("layout")?;
-    let config = Config::new(3, 4, 4, 4, 5).ok_or("settings")?;
-    let mut core = Core::new(rt.alloc(), layout, config)?;
-    let mut log = Log::new(3);
-    let mut completed = None;
-    for (from, to, kind, fill) in [
-        (0, 8, Logged, No),
-        (1, 8, AlreadyDirty, No),
-        (4, 5, SameRegion, No),
-        (4, 8, Logged, No),
-        (8, 0, Logged, Full),
-    ] {
-        assert!(rt; completed.is_none());
-        let from = slot(&rt, &core, from);
-        let to = slot(&rt, &core, to);
-        let reply = core.store_into(&mut log, &mut completed, from, Some(to));
-        assert_eq!(rt; (reply.kind, reply.fill), (kind, fill));
-    }
-    let buffer = completed.ok_or("a completed buffer")?;
-    assert!(rt; numbers_of(&rt, buffer.cards()).as_slice() == [0, 1, 2].as_slice());
-    assert!(rt; log.is_empty());
-    Ok(())
+    let steps = [
+        Store(0, 8, Logged, No),
+        Store(1, 8, AlreadyDirty, No),
+        Store(4, 5, SameRegion, No),
+        Store(4, 8, Logged, Full),
+        Store(8, 0, Logged, No),
+        Store(12, 0, Logged, Full),
+    ];
+    play(&rt, rt.alloc(), 4, 4, &steps)
 }
 
 // A runtime that keeps the cards itself: two of them, and each once.
@@ -47,14 +35,22 @@ fn a_store_without_a_log_tells_its_card(rt: HostRuntime) -> Result<(), Fail> {
         (4, 5, SameRegion, None),
         (8, 0, Logged, Some(2)),
     ] {
-        let from = slot(&rt, &core, from);
-        let to = slot(&rt, &core, to);
-        let (found, dirtied) = core.store_unlogged(from, Some(to));
-        assert_eq!(rt; found, kind);
-        assert_eq!(rt; dirtied.map(|card| card.number()), number);
+        tells(&rt, &mut core, (from, to), kind, number);
     }
-    assert_eq!(rt; core.status().pending, 2);
+    assert_equal(&rt, core.status().pending, 2);
     Ok(())
+}
+
+// A store without a log is of this kind, and tells the card of this number.
+fn tells(rt: &impl Abort, core: &mut Core, store: (u32, u32), kind: Kind, number: Option<u32>) {
+    let from = slot(rt, core, store.0);
+    let to = slot(rt, core, store.1);
+    let (found, dirtied) = core.store_unlogged(from, Some(to));
+    assert_equal(rt, (found, dirtied), (kind, card_of(core, number)));
+}
+
+fn card_of(core: &Core, number: Option<u32>) -> Option<Card> {
+    core.layout().card(number?)
 }
 
 // Two stores across regions on one card: the drain reads that card's slots once. It leaves the log,

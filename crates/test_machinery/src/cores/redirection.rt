@@ -1,5 +1,5 @@
 //! The order in which a redirect refines. What it moves and records is in the worked traces
-//! (crates/gate_examples/data).
+//! (examples/traces).
 use crate::cores::steps::Step::{Drain, Redirect, Refine, Status, Store, Target};
 use crate::cores::steps::play;
 use g1_core::Fill::{Full, No};

@@ -1,4 +1,5 @@
 //! The limits of the settings, in numbers.
+use crate::checks::assert_equal;
 use g1_core::Config;
 
 // The numbers at and beyond each limit, with the others as they are by default.
@@ -25,15 +26,12 @@ fn limits_of_each_setting(rt: HostRuntime) {
         ((256, 10, 4, 1024, 1025), false),
         ((usize::MAX, 10, 4, 1024, 5), false),
     ];
-    for ((log, limit, hot, ring, start), good) in settings {
+    for (numbers, good) in settings {
+        let (log, limit, hot, ring, start) = numbers;
         let config = Config::new(log, limit, hot, ring, start);
-        assert_eq!(rt;
-            config.is_some(),
-            good,
-            "settings {log} {limit} {hot} {ring} {start}"
-        );
+        assert_equal(&rt, (numbers, config.is_some()), (numbers, good));
     }
     let settings = Config::default();
-    assert_eq!(rt; Config::new(256, 10, 4, 1024, 5), Some(settings));
-    assert_eq!(rt; settings.new_log().len(), 0);
+    assert_equal(&rt, Config::new(256, 10, 4, 1024, 5), Some(settings));
+    assert_equal(&rt, settings.new_log().len(), 0);
 }

@@ -1,8 +1,11 @@
 //! Steps of a core, each with the answer that it must get.
 
+use crate::checks::{assert_equal, assert_numbered};
 use crate::cores::numbers::{card, has_cards, numbers_of, region, slot};
 use crate::samples::buffer;
-use g1_core::{Config, Core, Drained, Fill, Kind, Layout, Log, NoMemory, Redirected, Status};
+use g1_core::{
+    Card, Config, Core, Drained, Fill, Kind, Layout, Log, NoMemory, Redirected, Slot, Status,
+};
 use std::alloc::Global;
 use std::process::Abort;
 use std::test::Fail;
@@ -74,18 +77,19 @@ fn take(rt: &impl Abort, core: &mut Core, log: &mut Log, step: Step) -> Result<(
         }
         Step::Target(of, place) => {
             let of = slot(rt, core, of);
-            assert_eq!(rt; core.target(of).map(|slot| slot.number()), Some(place));
+            assert_equal(rt, core.target(of), core.layout().slot(place));
         }
         Step::Pending(of, pending) => {
-            assert_eq!(rt; core.is_pending(card(rt, core, of)), pending);
+            assert_equal(rt, core.is_pending(card(rt, core, of)), pending);
         }
         Step::Status(pending, recorded) => {
-            assert_eq!(rt; core.status(), Status { pending, recorded });
+            assert_equal(rt, core.status(), Status { pending, recorded });
         }
     }
     Ok(())
 }
 
+// A store whose full log goes into the place that is lent to it.
 fn store(
     rt: &impl Abort,
     core: &mut Core,
@@ -96,21 +100,28 @@ fn store(
 ) {
     let from = slot(rt, core, from);
     let to = slot(rt, core, to);
-    let mut wanted = numbers_of(rt, log.cards());
-    let (reply, buffer) = core.store(log, from, Some(to));
+    let before = numbers_of(rt, log.cards());
+    let mut completed = None;
+    let reply = core.store_into(log, &mut completed, from, Some(to));
     assert!(rt; reply.refined.is_empty() && !reply.short);
-    assert_eq!(rt; buffer.is_some(), reply.fill == Fill::Full);
-    assert_eq!(rt; (reply.kind, reply.fill), answer);
-    // card `c` has the slots from `4 * c` on
-    if reply.kind == Kind::Logged {
-        wanted.try_push(from.number() / 4).expect(rt, "room");
-    }
-    let logged = match &buffer {
-        Some(buffer) => numbers_of(rt, buffer.cards()),
-        None => numbers_of(rt, log.cards()),
+    assert_equal(rt, (reply.kind, reply.fill), answer);
+    let Some(buffer) = completed else {
+        assert!(rt; reply.fill == Fill::No);
+        return assert_logged(rt, log.cards(), before.as_slice(), from, answer.0);
     };
-    assert!(rt; logged.as_slice() == wanted.as_slice());
-    assert_eq!(rt; log.is_empty(), buffer.is_some() || wanted.is_empty());
+    assert!(rt; reply.fill == Fill::Full && log.is_empty());
+    assert_logged(rt, buffer.cards(), before.as_slice(), from, answer.0);
+}
+
+// A log with these cards has those of before, and after a store that is logged the slot's card: card
+// `c` has the slots from `4 * c` on.
+fn assert_logged(rt: &impl Abort, cards: &[Card], before: &[u32], from: Slot, kind: Kind) {
+    assert!(rt; before.len() <= cards.len());
+    assert_numbered(rt, &cards[..before.len()], before);
+    match &cards[before.len()..] {
+        [card] => assert_equal(rt, (card.number(), kind), (from.number() / 4, Kind::Logged)),
+        others => assert!(rt; others.is_empty() && kind != Kind::Logged),
+    }
 }
 
 fn refine(

@@ -1,4 +1,6 @@
 //! Checks of a core against a runtime's memory, and ranges of slots that are copied.
+use crate::checks::assert_equal;
+use crate::cores::numbers::{card, slot};
 use g1_core::{Config, Core, Layout, Slot};
 use std::alloc::{AllocError, Global};
 use std::process::Abort;
@@ -12,38 +14,39 @@ fn targets_of(
 ) -> Result<Vec<Option<Slot>>, AllocError> {
     let mut targets = Vec::new(alloc);
     for number in 0..core.layout().slot_count() {
-        let slot = core.layout().slot(number).expect(rt, "a slot of the heap");
-        targets.push(core.target(slot))?;
+        targets.push(core.target(slot(rt, core, number)))?;
     }
     Ok(targets)
 }
 
 // Stores a reference into a slot.
-fn refers(rt: &impl Abort, core: &mut Core, slot: u32, place: u32) {
-    let layout = core.layout();
-    let slot = layout.slot(slot).expect(rt, "a slot of the heap");
-    let place = layout.slot(place).expect(rt, "a place of the heap");
-    let _stored = core.store_unlogged(slot, Some(place));
+fn refers(rt: &impl Abort, core: &mut Core, from: u32, to: u32) {
+    let from = slot(rt, core, from);
+    let to = slot(rt, core, to);
+    let _stored = core.store_unlogged(from, Some(to));
 }
 
-// The first slot that memory has otherwise, and the first that no drain would find.
-fn verified(
+// Of the slots from the first one on, this is the first that memory has otherwise, and there is none
+// that no drain would find.
+fn finds(
     rt: &impl Abort,
     core: &mut Core,
     first: u32,
     memory: &[Option<Slot>],
-) -> (Option<u32>, Option<u32>) {
+    wanted: Option<u32>,
+) {
     let slots = core.layout().slot_count();
     assert!(rt; memory.len() <= slots as usize && first <= slots - memory.len() as u32);
     let from = core.layout().slot(first).expect(rt, "a slot of the heap");
     let differing = core.first_differing(from, memory);
     let from = core.layout().slot(first).expect(rt, "a slot of the heap");
     let missing = core.first_missing(from, memory.len() as u32);
-    (number_of(differing), number_of(missing))
+    assert!(rt; missing.is_none());
+    assert_equal(rt, differing, slot_of(core, wanted));
 }
 
-fn number_of(slot: Option<Slot>) -> Option<u32> {
-    Some(slot?.number())
+fn slot_of(core: &Core, number: Option<u32>) -> Option<Slot> {
+    core.layout().slot(number?)
 }
 
 // Copies a range of slots, as a list copies a range within itself.
@@ -63,15 +66,15 @@ fn copies(
     let source = layout.slot(from).expect(rt, "a source");
     let target = layout.slot(to).expect(rt, "a target");
     core.copy_slots(source, target, count);
-    assert!(rt; verified(rt, core, 0, targets.as_slice()) == (None, None));
+    finds(rt, core, 0, targets.as_slice(), None);
     Ok(())
 }
 
 // Just these cards are pending.
 fn are_pending(rt: &impl Abort, core: &Core, numbers: &[u32]) {
     for number in 0..core.layout().card_count() {
-        let card = core.layout().card(number).expect(rt, "a card of the heap");
-        assert_eq!(rt; core.is_pending(card), numbers.contains(&number));
+        let is_pending = core.is_pending(card(rt, core, number));
+        assert_equal(rt, is_pending, numbers.contains(&number));
     }
 }
 
@@ -88,17 +91,17 @@ fn small(rt: &impl Abort, alloc: Global) -> Result<Core, Fail> {
 fn the_first_slot_that_memory_has_otherwise_is_found(rt: HostRuntime) -> Result<(), Fail> {
     let mut core = small(&rt, rt.alloc())?;
     let mut memory = targets_of(&rt, rt.alloc(), &mut core)?;
-    assert!(rt; verified(&rt, &mut core, 0, memory.as_slice()) == (None, None));
+    finds(&rt, &mut core, 0, memory.as_slice(), None);
     assert!(rt; memory.len() == 32);
     memory[30] = core.layout().slot(30);
-    assert!(rt; verified(&rt, &mut core, 0, memory.as_slice()) == (Some(30), None));
+    finds(&rt, &mut core, 0, memory.as_slice(), Some(30));
     memory[3] = None;
-    assert!(rt; verified(&rt, &mut core, 0, memory.as_slice()) == (Some(3), None));
+    finds(&rt, &mut core, 0, memory.as_slice(), Some(3));
     memory[0] = core.layout().slot(9);
-    assert!(rt; verified(&rt, &mut core, 0, memory.as_slice()) == (Some(0), None));
-    assert!(rt; verified(&rt, &mut core, 1, &memory.as_slice()[1..]) == (Some(3), None));
-    assert!(rt; verified(&rt, &mut core, 4, &memory.as_slice()[4..30]) == (None, None));
-    assert!(rt; verified(&rt, &mut core, 5, &memory.as_slice()[5..5]) == (None, None));
+    finds(&rt, &mut core, 0, memory.as_slice(), Some(0));
+    finds(&rt, &mut core, 1, &memory.as_slice()[1..], Some(3));
+    finds(&rt, &mut core, 4, &memory.as_slice()[4..30], None);
+    finds(&rt, &mut core, 5, &memory.as_slice()[5..5], None);
     Ok(())
 }
 
