@@ -113,8 +113,8 @@ fn store(
     assert_logged(rt, buffer.cards(), before.as_slice(), from, answer.0);
 }
 
-// A log with these cards has those of before, and after a store that is logged the slot's card: card
-// `c` has the slots from `4 * c` on.
+// A log with these cards has those of before, and after a store that is logged the slot's card:
+// card `c` has the slots from `4 * c` on.
 fn assert_logged(rt: &impl Abort, cards: &[Card], before: &[u32], from: Slot, kind: Kind) {
     assert!(rt; before.len() <= cards.len());
     assert_numbered(rt, &cards[..before.len()], before);

@@ -26,8 +26,8 @@ fn refers(rt: &impl Abort, core: &mut Core, from: u32, to: u32) {
     let _stored = core.store_unlogged(from, Some(to));
 }
 
-// Of the slots from the first one on, this is the first that memory has otherwise, and there is none
-// that no drain would find.
+// Of the slots from the first one on, this is the first that memory has otherwise, and there is
+// none that no drain would find.
 fn finds(
     rt: &impl Abort,
     core: &mut Core,
