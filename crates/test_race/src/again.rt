@@ -1,12 +1,14 @@
 //! A race becomes a core, and the core a race again.
+use crate::checks::{assert_equal, assert_numbered};
 use crate::small::Seen::{Has, Marked, Target};
 use crate::small::Step::{First, Refine, Second};
-use crate::small::{Small, are, raced, see};
+use crate::small::{Small, raced, see};
 use g1_core::{Config, Core, Drained};
 use g1_layout::Kind::{AlreadyDirty, Logged, Null};
 use g1_layout::NoMemory;
 use g1_race::Closed;
 use std::alloc::Global;
+use std::process::Abort;
 use std::test::Fail;
 
 // A core of the closed race, with the settings by default.
@@ -17,28 +19,20 @@ fn core_of(alloc: Global, closed: Closed) -> Result<Core, NoMemory> {
     }
 }
 
-// Whether a drain of the region of this number gives just these cards.
-fn drains(core: &mut Core, number: u32, cards: &[u32]) -> bool {
-    let Some(region) = core.layout().region(number) else {
-        return false;
+// A drain of the region of this number gives just these cards.
+fn drains(rt: &impl Abort, core: &mut Core, number: u32, wanted: &[u32]) {
+    let region = core.layout().region(number).expect(rt, "region");
+    let Ok(Drained::Cards { cards, refined: _ }) = core.drain(region) else {
+        panic!(rt; "a drain was short");
     };
-    match core.drain(region) {
-        Ok(
-            Drained::Cards {
-                cards: given,
-                refined: _,
-            },
-        ) => are(given.as_slice(), cards),
-        _ => false,
-    }
+    assert_numbered(rt, cards.as_slice(), wanted);
 }
 
-// Whether the core has read nothing, and the card of this number is pending.
-fn is_unread_and_pending(core: &Core, number: u32) -> bool {
-    let Some(card) = core.layout().card(number) else {
-        return false;
-    };
-    core.is_pending(card) && core.reads() == 0
+// The core has read nothing, and the card of this number is pending.
+fn is_unread_and_pending(rt: &impl Abort, core: &Core, number: u32) {
+    let card = core.layout().card(number).expect(rt, "card");
+    assert!(rt; core.is_pending(card));
+    assert_equal(rt, core.reads(), 0);
 }
 
 #[test]
@@ -46,8 +40,8 @@ fn a_race_is_a_core_and_a_race_again(rt: HostRuntime) -> Result<(), Fail> {
     let steps = [First(0, Some(8), Logged), Second(1, Some(16), AlreadyDirty)];
     let closed = raced(&rt, rt.alloc(), &steps)?;
     let mut core = core_of(rt.alloc(), closed)?;
-    assert!(rt; is_unread_and_pending(&core, 0));
-    assert!(rt; drains(&mut core, 1, &[0]));
+    is_unread_and_pending(&rt, &core, 0);
+    drains(&rt, &mut core, 1, &[0]);
     let steps = [First(4, Some(8), Logged)];
     let closed = Small::resume(rt.alloc(), core)?.close_after(&rt, rt.alloc(), &steps)?;
     let seen = [
@@ -60,7 +54,8 @@ fn a_race_is_a_core_and_a_race_again(rt: HostRuntime) -> Result<(), Fail> {
     ];
     see(&rt, &closed, &seen);
     let mut core = core_of(rt.alloc(), closed)?;
-    assert!(rt; drains(&mut core, 1, &[0, 1]) && drains(&mut core, 2, &[0]));
+    drains(&rt, &mut core, 1, &[0, 1]);
+    drains(&rt, &mut core, 2, &[0]);
     Ok(())
 }
 

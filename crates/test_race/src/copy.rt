@@ -1,4 +1,6 @@
 //! Ranges of slots that are copied at a pause.
+use crate::checks::assert_equal;
+use crate::numbers::{card, slot};
 use g1_layout::Layout;
 use g1_race::Paused;
 use std::alloc::{AllocError, Global};
@@ -12,17 +14,17 @@ const TEXT: u64 = 0x6461_7461_0000_0009;
 fn words_of(rt: &impl Abort, alloc: Global, paused: &mut Paused) -> Result<Vec<u64>, AllocError> {
     let mut words = Vec::new(alloc);
     for number in 0..paused.layout().slot_count() {
-        let slot = paused.layout().slot(number).expect(rt, "slot");
+        let slot = slot(rt, paused, number);
         words.push(paused.word(slot))?;
     }
     Ok(words)
 }
 
 // Stores a reference into a slot.
-fn refers(rt: &impl Abort, paused: &mut Paused, slot: u32, place: u32) {
-    let layout = paused.layout();
-    let slot = layout.slot(slot).expect(rt, "slot");
-    paused.store(slot, Some(layout.slot(place).expect(rt, "place")));
+fn refers(rt: &impl Abort, paused: &mut Paused, from: u32, to: u32) {
+    let from = slot(rt, paused, from);
+    let to = slot(rt, paused, to);
+    paused.store(from, Some(to));
 }
 
 // Copies a range of slots, as a list copies a range within itself.
@@ -49,8 +51,8 @@ fn copies(
 // Just these cards are dirty.
 fn are_dirty(rt: &impl Abort, paused: &mut Paused, numbers: &[u32]) {
     for number in 0..paused.layout().card_count() {
-        let card = paused.layout().card(number).expect(rt, "card");
-        assert_eq!(rt; paused.is_pending(card), numbers.contains(&number));
+        let card = card(rt, paused, number);
+        assert_equal(rt, paused.is_pending(card), numbers.contains(&number));
     }
 }
 
@@ -75,8 +77,8 @@ fn copies_are_those_of_a_list(rt: HostRuntime) -> Result<(), Fail> {
     let layout = Layout::new(4, 2, 4).expect(&rt, "layout");
     let mut paused = Paused::open(rt.alloc(), layout, 1, 1)?;
     refers(&rt, &mut paused, 0, 8);
-    let slot = paused.layout().slot(1).expect(&rt, "slot");
-    paused.store_data(slot, TEXT);
+    let text = slot(&rt, &paused, 1);
+    paused.store_data(text, TEXT);
     refers(&rt, &mut paused, 3, 5);
     refers(&rt, &mut paused, 4, 31);
     are_dirty(&rt, &mut paused, &[0, 1]);

@@ -1,13 +1,15 @@
 //! Data in slots: words from 2^32 on, which refer to nothing.
-use crate::pause_calls::open;
+use crate::checks::{assert_equal, assert_numbered, assert_place};
+use crate::numbers::{region, slot};
+use crate::pause_calls::{clear, open, redirect_in_place, target};
 use crate::small::Step::{
     First, FirstLog, FirstSwap, FirstWord, Refine, Second, SecondData, SecondExchange, SecondLog,
     SecondWord,
 };
-use crate::small::{Small, Step, are, number_of};
-use g1_core::{ClearReply, Config, Drained};
+use crate::small::{Small, Step};
+use g1_core::{ClearReply, Config, Core, Drained};
 use g1_layout::Kind::{AlreadyDirty, Logged, Null, SameRegion};
-use g1_layout::NoMemory;
+use g1_layout::{NoMemory, Slot};
 use g1_race::Paused;
 use std::alloc::Global;
 use std::process::Abort;
@@ -27,11 +29,15 @@ fn race(rt: &impl Abort, alloc: Global, steps: &[Step]) -> Result<Paused, NoMemo
 // The first four slots have these words, and refer to these places.
 fn are_words(rt: &impl Abort, paused: &mut Paused, words: [u64; 4], places: [Option<u32>; 4]) {
     for number in 0..4u32 {
-        let slot = paused.layout().slot(number).expect(rt, "slot");
-        assert_eq!(rt; paused.word(slot), words[number as usize]);
-        let slot = paused.layout().slot(number).expect(rt, "slot");
-        assert!(rt; number_of(paused.target(slot)) == places[number as usize]);
+        is_word(rt, paused, number, words[number as usize]);
+        assert_place(rt, target(rt, paused, number), places[number as usize]);
     }
+}
+
+// The slot of this number has this word.
+fn is_word(rt: &impl Abort, paused: &mut Paused, number: u32, word: u64) {
+    let slot = slot(rt, paused, number);
+    assert_equal(rt, paused.word(slot), word);
 }
 
 // A drain of the region lists just these cards.
@@ -42,11 +48,11 @@ fn drains(
     number: u32,
     wanted: &[u32],
 ) -> Result<(), NoMemory> {
-    let region = paused.layout().region(number).expect(rt, "region");
+    let region = region(rt, paused, number);
     let Drained::Cards { cards, refined: _ } = paused.drain(alloc, region)? else {
         panic!(rt; "a drain was short");
     };
-    assert!(rt; are(cards.as_slice(), wanted));
+    assert_numbered(rt, cards.as_slice(), wanted);
     Ok(())
 }
 
@@ -128,19 +134,16 @@ fn data_survives_a_pause_and_a_redirect(rt: HostRuntime) -> Result<(), Fail> {
 }
 
 fn redirect_and_clear(rt: &impl Abort, paused: &mut Paused) {
-    let from = paused.layout().region(1).expect(rt, "region");
-    let to = paused.layout().region(2).expect(rt, "region");
-    assert_eq!(rt; paused.redirect_in_place(from, to), 1);
+    redirect_in_place(rt, paused, 1, 2, 1);
     let places = [None, Some(17), None, Some(24)];
     are_words(rt, paused, [TEXT, 18, LEAST, 25], places);
-    let slot = paused.layout().slot(3).expect(rt, "slot");
-    paused.store_data(slot, TEXT);
-    let region = paused.layout().region(3).expect(rt, "region");
-    assert!(rt; paused.clear(region) == ClearReply::Cleared);
+    let text = slot(rt, paused, 3);
+    paused.store_data(text, TEXT);
+    clear(rt, paused, 3, ClearReply::Cleared);
     let places = [None, Some(17), None, None];
     are_words(rt, paused, [TEXT, 18, LEAST, TEXT], places);
-    let region = paused.layout().region(0).expect(rt, "region");
-    paused.wipe(region);
+    let wiped = region(rt, paused, 0);
+    paused.wipe(wiped);
     are_words(rt, paused, [0, 0, 0, 0], [None, None, None, None]);
 }
 
@@ -151,9 +154,13 @@ fn a_core_has_null_for_data(rt: HostRuntime) -> Result<(), Fail> {
     let Ok(mut core) = closed.into_core(rt.alloc(), Config::default()) else {
         return Err(Fail::from("no memory"));
     };
-    let slot = core.layout().slot(0).expect(&rt, "slot");
-    assert!(rt; core.target(slot).is_none());
-    let slot = core.layout().slot(4).expect(&rt, "slot");
-    assert!(rt; number_of(core.target(slot)) == Some(8));
+    assert_place(&rt, target_of(&rt, &mut core, 0), None);
+    assert_place(&rt, target_of(&rt, &mut core, 4), Some(8));
     Ok(())
+}
+
+// What the slot of this number refers to at a core.
+fn target_of(rt: &impl Abort, core: &mut Core, number: u32) -> Option<Slot> {
+    let slot = core.layout().slot(number).expect(rt, "slot");
+    core.target(slot)
 }

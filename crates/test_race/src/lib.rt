@@ -9,6 +9,8 @@ mod again;
 #[cfg(test)]
 mod by_hand;
 #[cfg(test)]
+mod checks;
+#[cfg(test)]
 mod copy;
 #[cfg(test)]
 mod cycles;
@@ -16,6 +18,8 @@ mod cycles;
 mod data;
 #[cfg(test)]
 mod in_threads;
+#[cfg(test)]
+mod numbers;
 #[cfg(test)]
 mod pause_calls;
 #[cfg(test)]

@@ -1,7 +1,9 @@
 //! Calls at a pause, and their answers.
-use crate::small::{Small, Step, are, number_of};
-use g1_core::{ClearReply, Drained, Redirected};
-use g1_layout::{Layout, NoMemory};
+use crate::checks::{assert_equal, assert_numbered, assert_place};
+use crate::numbers::{card, region, slot};
+use crate::small::{Small, Step};
+use g1_core::{ClearReply, Drained, Redirected, Status};
+use g1_layout::{Layout, NoMemory, Slot};
 use g1_race::Paused;
 use std::alloc::Global;
 use std::process::Abort;
@@ -77,9 +79,9 @@ fn make(rt: &impl Abort, alloc: Global, paused: &mut Paused, call: Call) -> Resu
             return drain(rt, alloc, paused, number, wanted, wanted_refined);
         }
         Call::Members(number, wanted) => {
-            let region = paused.layout().region(number).expect(rt, "region");
+            let region = region(rt, paused, number);
             let cards = paused.members(alloc, region)?;
-            assert!(rt; are(cards.as_slice(), wanted));
+            assert_numbered(rt, cards.as_slice(), wanted);
         }
         Call::Walk(number, wanted) => walk(rt, paused, number, wanted),
         Call::Redirect(from, to, slots, refined) => {
@@ -96,9 +98,9 @@ fn make(rt: &impl Abort, alloc: Global, paused: &mut Paused, call: Call) -> Resu
         Call::ClearPending(number, cards) => {
             clear(rt, paused, number, ClearReply::Pending(cards));
         }
-        Call::ClearReferenced(number, slot) => {
-            let slot = paused.layout().slot(slot).expect(rt, "slot");
-            clear(rt, paused, number, ClearReply::StillReferenced(slot));
+        Call::ClearReferenced(number, by) => {
+            let by = slot(rt, paused, by);
+            clear(rt, paused, number, ClearReply::StillReferenced(by));
         }
     }
     Ok(())
@@ -112,12 +114,12 @@ fn drain(
     wanted: &[u32],
     wanted_refined: &[u32],
 ) -> Result<(), NoMemory> {
-    let region = paused.layout().region(number).expect(rt, "region");
+    let region = region(rt, paused, number);
     let Drained::Cards { cards, refined } = paused.drain(alloc, region)? else {
         panic!(rt; "a drain was short");
     };
-    assert!(rt; are(cards.as_slice(), wanted));
-    assert!(rt; are(refined.as_slice(), wanted_refined));
+    assert_numbered(rt, cards.as_slice(), wanted);
+    assert_numbered(rt, refined.as_slice(), wanted_refined);
     Ok(())
 }
 
@@ -126,14 +128,17 @@ fn walk(rt: &impl Abort, paused: &mut Paused, number: u32, wanted: &[u32]) {
     assert!(rt; paused.next_dirty(0).is_none());
     let mut from = 0;
     for card in wanted {
-        let region = paused.layout().region(number).expect(rt, "region");
-        let met = paused.next_member(region, from).expect(rt, "a member");
-        assert_eq!(rt; met.number(), *card);
+        assert_equal(rt, next_member(rt, paused, number, from), Some(*card));
         from = card.wrapping_add(1);
     }
-    let region = paused.layout().region(number).expect(rt, "region");
-    assert!(rt; paused.next_member(region, from).is_none());
-    assert!(rt; paused.next_member(region, u32::MAX).is_none());
+    assert_equal(rt, next_member(rt, paused, number, from), None);
+    assert_equal(rt, next_member(rt, paused, number, u32::MAX), None);
+}
+
+// The number of the next card that is recorded for a region.
+fn next_member(rt: &impl Abort, paused: &mut Paused, number: u32, from: u32) -> Option<u32> {
+    let region = region(rt, paused, number);
+    Some(paused.next_member(region, from)?.number())
 }
 
 fn redirect(
@@ -146,55 +151,53 @@ fn redirect(
     wanted_refined: &[u32],
 ) -> Result<(), NoMemory> {
     assert!(rt; from != to);
-    let from = paused.layout().region(from).expect(rt, "region");
-    let to = paused.layout().region(to).expect(rt, "region");
+    let from = region(rt, paused, from);
+    let to = region(rt, paused, to);
     let Redirected::Moved { slots, refined } = paused.redirect(alloc, from, to)? else {
         panic!(rt; "a redirect was short");
     };
-    assert_eq!(rt; slots, wanted);
-    assert!(rt; are(refined.as_slice(), wanted_refined));
+    assert_equal(rt, slots, wanted);
+    assert_numbered(rt, refined.as_slice(), wanted_refined);
     Ok(())
 }
 
-fn redirect_in_place(rt: &impl Abort, paused: &mut Paused, from: u32, to: u32, wanted: u32) {
+/// The references into a region move to another, without a list: how many.
+pub(crate) fn redirect_in_place(
+    rt: &impl Abort,
+    paused: &mut Paused,
+    from: u32,
+    to: u32,
+    wanted: u32,
+) {
     assert!(rt; from != to);
-    let from = paused.layout().region(from).expect(rt, "region");
-    let to = paused.layout().region(to).expect(rt, "region");
-    assert_eq!(rt; paused.redirect_in_place(from, to), wanted);
+    let from = region(rt, paused, from);
+    let to = region(rt, paused, to);
+    assert_equal(rt, paused.redirect_in_place(from, to), wanted);
 }
 
-fn clear(rt: &impl Abort, paused: &mut Paused, number: u32, wanted: ClearReply) {
-    let region = paused.layout().region(number).expect(rt, "region");
-    assert!(rt; paused.clear(region) == wanted);
+/// A region is cleared, or not, with this answer.
+pub(crate) fn clear(rt: &impl Abort, paused: &mut Paused, number: u32, wanted: ClearReply) {
+    let region = region(rt, paused, number);
+    assert_equal(rt, paused.clear(region), wanted);
 }
 
 // The calls that change nothing.
 fn look(rt: &impl Abort, paused: &mut Paused, call: Call) {
-    let layout = paused.layout();
     match call {
         Call::Status(pending, recorded) => {
-            let status = paused.status();
-            assert_eq!(rt; status.pending, pending);
-            assert_eq!(rt; status.recorded, recorded);
-            assert_eq!(rt; paused.pending_count(), pending);
+            assert_equal(rt, paused.status(), Status { pending, recorded });
+            assert_equal(rt, paused.pending_count(), pending);
         }
-        Call::Dirty(wanted) => match (paused.next_dirty(0), wanted) {
-            (Some(card), Some(wanted)) => assert_eq!(rt; card.number(), wanted),
-            (None, None) => {}
-            (Some(_), None) | (None, Some(_)) => panic!(rt; "another card is dirty"),
-        },
-        Call::Target(slot, wanted) => {
-            let slot = layout.slot(slot).expect(rt, "slot");
-            assert!(rt; number_of(paused.target(slot)) == wanted);
+        Call::Dirty(wanted) => assert_equal(rt, dirty(paused), wanted),
+        Call::Target(of, wanted) => assert_place(rt, target(rt, paused, of), wanted),
+        Call::Pending(of, wanted) => {
+            let of = card(rt, paused, of);
+            assert_equal(rt, paused.is_pending(of), wanted);
         }
-        Call::Pending(card, wanted) => {
-            let card = layout.card(card).expect(rt, "card");
-            assert_eq!(rt; paused.is_pending(card), wanted);
-        }
-        Call::Has(card, region, wanted) => {
-            let card = layout.card(card).expect(rt, "card");
-            let region = layout.region(region).expect(rt, "region");
-            assert_eq!(rt; paused.has(card, region), wanted);
+        Call::Has(of, into, wanted) => {
+            let of = card(rt, paused, of);
+            let into = region(rt, paused, into);
+            assert_equal(rt, paused.has(of, into), wanted);
         }
         Call::Drain(_, _, _)
         | Call::Walk(_, _)
@@ -206,4 +209,15 @@ fn look(rt: &impl Abort, paused: &mut Paused, call: Call) {
         | Call::ClearPending(_, _)
         | Call::ClearReferenced(_, _) => {}
     }
+}
+
+// The number of the least dirty card.
+fn dirty(paused: &mut Paused) -> Option<u32> {
+    Some(paused.next_dirty(0)?.number())
+}
+
+/// What the slot of this number refers to.
+pub(crate) fn target(rt: &impl Abort, paused: &mut Paused, number: u32) -> Option<Slot> {
+    let slot = slot(rt, paused, number);
+    paused.target(slot)
 }

@@ -1,5 +1,6 @@
 //! Pauses in place of races of two racers and one sweeper, over the heap `4 2 4`: card `c` has the
 //! slots from `4 * c` on, region `r` those from `8 * r` on.
+use crate::checks::assert_equal;
 use crate::pause_calls::{Call, live, live_on};
 use crate::small::Step::{First, FirstLog, Refine, Second, SecondLog};
 use g1_layout::Kind::{AlreadyDirty, Logged, Null, SameRegion};
@@ -218,6 +219,6 @@ fn a_heap_for_as_many_threads_as_there_may_be(rt: HostRuntime) -> Result<(), Fai
     let layout = Layout::new(4, 2, 4).ok_or("layout")?;
     let (race, racers, sweepers) = Paused::open(rt.alloc(), layout, 64, 64)?.resume();
     assert!(rt; racers.len() == 64 && sweepers.len() == 64);
-    assert_eq!(rt; race.members(), 128);
+    assert_equal(&rt, race.members(), 128);
     Ok(())
 }

@@ -3,7 +3,9 @@ ghost use Rattle.std.specs.Prelude.{◌≡◌, All, vec_len};
 ghost use Rattle.g1_race.specs.Members.{race_id};
 ghost use Rattle.g1_race.specs.Reading.{IsReaderOf, reader_race};
 
+use crate::checks::assert_equal;
 use crate::in_threads::{Plan, run_race};
+use crate::numbers::{card, card_in, region, slot, slot_in};
 use g1_core::Drained;
 use g1_layout::{Card, Layout, NoMemory, Region, Slot};
 use g1_race::{Paused, Race, Reader, Reading};
@@ -41,7 +43,7 @@ fn card_of(
     paused: &mut Paused,
     number: u32,
 ) -> Result<Told, NoMemory> {
-    let card = paused.layout().card(number).expect(rt, "card");
+    let card = card(rt, paused, number);
     let pending = paused.is_pending(card);
     Ok(Told {
         card,
@@ -57,12 +59,10 @@ fn targets_of(
     paused: &mut Paused,
     card: Card,
 ) -> Result<Vec<(Slot, Option<Slot>)>, NoMemory> {
-    let layout = paused.layout();
     let mut targets = Vec::new(alloc);
-    for number in 0..layout.slot_count() {
-        let slot = layout.slot(number).expect(rt, "slot");
-        if layout.card_of(slot) == card {
-            let slot = paused.layout().slot(number).expect(rt, "slot");
+    for number in 0..paused.layout().slot_count() {
+        let slot = slot(rt, paused, number);
+        if paused.layout().card_of(slot) == card {
             targets.push((slot, paused.target(slot)))?;
         }
     }
@@ -103,7 +103,7 @@ fn ask(rt: &impl Abort, race: &Race, reader: &mut Reader, told: &Told)
     ensures { reader.new ≡ reader.old }
 {
     let number = told.card.number();
-    let card = race.layout().card(number).expect(rt, "card");
+    let card = card_in(rt, race, number);
     assert!(rt; reader.is_pending(race, card) == told.pending);
     assert!(rt; (reader.next_dirty(race, number) == Some(card)) == told.pending);
     for pair in &told.pairs {
@@ -119,13 +119,13 @@ fn ask_of(rt: &impl Abort, race: &Race, reader: &mut Reader, told: &(Slot, Optio
     requires { reader_race reader.old ≡ race_id race.now }
     ensures { reader.new ≡ reader.old }
 {
-    let slot = race.layout().slot(told.0.number()).expect(rt, "slot");
+    let slot = slot_in(rt, race, told.0.number());
     assert!(rt; reader.target(race, slot) == told.1);
     let word = match told.1 {
         Some(place) => place.number() as u64 + 1,
         None => 0,
     };
-    assert_eq!(rt; reader.word(race, slot), word);
+    assert_equal(rt, reader.word(race, slot), word);
 }
 
 // Each reader scans in a thread of its own.
@@ -154,6 +154,19 @@ fn race_on<R: Threads + Sync>(rt: &R, paused: Paused, plan: Plan) -> Paused {
     run_race(rt, race, racers, sweepers, plan)
 }
 
+// Slot 0 refers to slot 100, in region 3, whose drain lists a card then.
+fn store_and_drain(rt: &impl Abort, alloc: Global, paused: &mut Paused) -> Result<(), NoMemory> {
+    let from = slot(rt, paused, 0);
+    let place = slot(rt, paused, 100);
+    paused.store(from, Some(place));
+    let region = region(rt, paused, 3);
+    let Drained::Cards { cards, refined: _ } = paused.drain(alloc, region)? else {
+        panic!(rt; "a drain was short");
+    };
+    assert!(rt; cards.as_slice().len() > 0);
+    Ok(())
+}
+
 #[test]
 fn four_readers(rt: HostRuntime) -> Result<(), Fail> {
     let layout = Layout::new(16, 2, 16).expect(&rt, "layout");
@@ -171,14 +184,7 @@ fn four_readers(rt: HostRuntime) -> Result<(), Fail> {
     let reading = paused.read_by(&mut readers, 4);
     all_scan(&rt, &reading, &mut readers, told.as_slice());
     let mut paused = reading.pause(&mut readers);
-    let slot = paused.layout().slot(0).expect(&rt, "slot");
-    let place = paused.layout().slot(100).expect(&rt, "place");
-    paused.store(slot, Some(place));
-    let region = paused.layout().region(3).expect(&rt, "region");
-    let Drained::Cards { cards, refined: _ } = paused.drain(rt.alloc(), region)? else {
-        panic!(rt; "a drain was short");
-    };
-    assert!(rt; cards.as_slice().len() > 0);
+    store_and_drain(&rt, rt.alloc(), &mut paused)?;
     let (race, racers, sweepers) = paused.resume();
     assert!(rt; race.members() == racers.len() + sweepers.len());
     Ok(())

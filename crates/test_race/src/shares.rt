@@ -3,8 +3,8 @@ ghost use Rattle.std.specs.Prelude.{◌≡◌};
 ghost use Rattle.std.specs.Arc.{arc_value};
 ghost use Rattle.g1_race.specs.Members.{race_id, race_shape};
 
+use crate::checks::{assert_equal, assert_numbered};
 use crate::in_threads::{Plan, all_store};
-use crate::small::are;
 use g1_core::Drained;
 use g1_layout::Layout;
 use g1_race::{Paused, Race};
@@ -45,14 +45,14 @@ fn a_share_is_kept_over_two_pauses(rt: HostRuntime) -> Result<(), Fail> {
     let kept = race.clone()?;
     let mut paused = Paused::of(race, racers, sweepers);
     for _turn in 0..2 {
-        assert_eq!(rt; paused.pending_count(), 0);
+        assert_equal(&rt, paused.pending_count(), 0);
         paused = go_on(&rt, &kept, paused, plan);
         let region = paused.layout().region(1).expect(&rt, "region");
         let Drained::Cards { cards, refined } = paused.drain(rt.alloc(), region)? else {
             panic!(rt; "a drain was short");
         };
-        assert!(rt; are(cards.as_slice(), &[0]));
-        assert!(rt; are(refined.as_slice(), &[0, 2, 4, 6]));
+        assert_numbered(&rt, cards.as_slice(), &[0]);
+        assert_numbered(&rt, refined.as_slice(), &[0, 2, 4, 6]);
     }
     Ok(())
 }

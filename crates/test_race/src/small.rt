@@ -4,8 +4,10 @@ ghost use Rattle.std.specs.Prelude.{◌≡◌, ◌<◌, All, IfSome, vec_len};
 ghost use Rattle.g1_layout.specs.Shape.{slot_count};
 ghost use Rattle.g1_race.specs.Members.{race_id, race_layout, race_shape, racer_race, sweeper_race};
 
+use crate::checks::{assert_equal, assert_numbered, assert_place, number_of};
+use crate::numbers::{card_in, slot_in};
 use g1_core::Core;
-use g1_layout::{Card, Kind, Layout, NoMemory, Slot};
+use g1_layout::{Kind, Layout, NoMemory, Slot};
 use g1_race::{Closed, Paused, Race, Racer, Sweeper};
 use std::alloc::{AllocError, Global};
 use std::process::Abort;
@@ -137,7 +139,7 @@ impl Small {
             }
             Step::SecondExchange(from, expected, to, answer) => {
                 let found = exchange(rt, &self.race, &mut self.second, from, expected, to);
-                assert!(rt; found == answer);
+                assert_equal(rt, found, answer);
             }
             Step::SecondData(slot, word, old) => {
                 store_data(rt, &self.race, &mut self.second, slot, word, old);
@@ -147,16 +149,16 @@ impl Small {
             }
             Step::SecondWord(slot, expected, word, answer) => {
                 let found = exchange_word(rt, &self.race, &mut self.second, slot, expected, word);
-                assert!(rt; found == answer);
+                assert_equal(rt, found, answer);
             }
             Step::FirstLog(cards) => {
-                assert!(rt; are(self.first.take_log().as_slice(), cards));
+                assert_numbered(rt, self.first.take_log().as_slice(), cards);
             }
             Step::SecondLog(cards) => {
-                assert!(rt; are(self.second.take_log().as_slice(), cards));
+                assert_numbered(rt, self.second.take_log().as_slice(), cards);
             }
             Step::Refine(number) => {
-                let card = self.race.layout().card(number).expect(rt, "card");
+                let card = card_in(rt, &self.race, number);
                 assert!(rt; self.sweeper.refine(&self.race, card).is_ok());
             }
         }
@@ -204,10 +206,10 @@ fn store(rt: &impl Abort, race: &Race, racer: &mut Racer, from: u32, to: Option<
     requires { racer_race racer.old ≡ race_id race.now }
     ensures { racer_race racer.new ≡ racer_race racer.old }
 {
-    let from = race.layout().slot(from).expect(rt, "slot");
+    let from = slot_in(rt, race, from);
     let to = place(rt, race, to);
     assert!(rt; racer.has_room());
-    assert_eq!(rt; racer.store(race, from, to), kind);
+    assert_equal(rt, racer.store(race, from, to), kind);
 }
 
 fn swap(
@@ -221,21 +223,20 @@ fn swap(
     requires { racer_race racer.old ≡ race_id race.now }
     ensures { racer_race racer.new ≡ racer_race racer.old }
 {
-    let from = race.layout().slot(from).expect(rt, "slot");
+    let from = slot_in(rt, race, from);
     let to = place(rt, race, to);
     assert!(rt; racer.has_room());
     let (kind, old) = racer.swap(race, from, to);
-    assert_eq!(rt; kind, answer.0);
-    assert!(rt; number_of(old) == answer.1);
+    assert_equal(rt, (kind, number_of(old)), answer);
 }
 
 fn store_data(rt: &impl Abort, race: &Race, racer: &mut Racer, slot: u32, word: u64, old: u64)
     requires { racer_race racer.old ≡ race_id race.now }
     ensures { racer_race racer.new ≡ racer_race racer.old }
 {
-    let slot = race.layout().slot(slot).expect(rt, "slot");
+    let slot = slot_in(rt, race, slot);
     assert!(rt; word > u32::MAX as u64);
-    assert_eq!(rt; racer.store_data(race, slot, word), old);
+    assert_equal(rt, racer.store_data(race, slot, word), old);
 }
 
 fn exchange(
@@ -249,7 +250,7 @@ fn exchange(
     requires { racer_race racer.old ≡ race_id race.now }
     ensures { racer_race racer.new ≡ racer_race racer.old }
 {
-    let from = race.layout().slot(from).expect(rt, "slot");
+    let from = slot_in(rt, race, from);
     let expected = place(rt, race, expected);
     let to = place(rt, race, to);
     assert!(rt; racer.has_room());
@@ -270,11 +271,9 @@ fn swap_word(
     requires { racer_race racer.old ≡ race_id race.now }
     ensures { racer_race racer.new ≡ racer_race racer.old }
 {
-    let slot = race.layout().slot(slot).expect(rt, "slot");
+    let slot = slot_in(rt, race, slot);
     assert!(rt; racer.has_room() && race.is_word(word));
-    let (kind, old) = racer.swap_word(race, slot, word);
-    assert_eq!(rt; kind, answer.0);
-    assert_eq!(rt; old, answer.1);
+    assert_equal(rt, racer.swap_word(race, slot, word), answer);
 }
 
 fn exchange_word(
@@ -288,7 +287,7 @@ fn exchange_word(
     requires { racer_race racer.old ≡ race_id race.now }
     ensures { racer_race racer.new ≡ racer_race racer.old }
 {
-    let slot = race.layout().slot(slot).expect(rt, "slot");
+    let slot = slot_in(rt, race, slot);
     assert!(rt; racer.has_room() && race.is_word(word));
     racer.compare_exchange_word(race, slot, expected, word)
 }
@@ -297,21 +296,7 @@ fn exchange_word(
 fn place(rt: &impl Abort, race: &Race, number: Option<u32>) -> Option<Slot>
     ensures { IfSome result (λ place. place < slot_count (race_layout race.now)) }
 {
-    Some(race.layout().slot(number?).expect(rt, "place"))
-}
-
-/// Whether these are the cards of these numbers.
-pub(crate) fn are(cards: &[Card], numbers: &[u32]) -> bool {
-    for (card, number) in cards.iter().zip(numbers) {
-        if card.number() != *number {
-            return false;
-        }
-    }
-    cards.len() == numbers.len()
-}
-
-pub(crate) fn number_of(place: Option<Slot>) -> Option<u32> {
-    Some(place?.number())
+    Some(slot_in(rt, race, number?))
 }
 
 /// Looks at a race that is closed.
@@ -321,16 +306,16 @@ pub(crate) fn see(rt: &impl Abort, closed: &Closed, seen: &[Seen]) {
         match fact {
             Seen::Target(from, to) => {
                 let from = layout.slot(*from).expect(rt, "slot");
-                assert!(rt; number_of(closed.target(from)) == *to);
+                assert_place(rt, closed.target(from), *to);
             }
             Seen::Marked(number, is) => {
                 let card = layout.card(*number).expect(rt, "card");
-                assert_eq!(rt; closed.marked(card), *is);
+                assert_equal(rt, closed.marked(card), *is);
             }
             Seen::Has(number, region, is) => {
                 let card = layout.card(*number).expect(rt, "card");
                 let region = layout.region(*region).expect(rt, "region");
-                assert_eq!(rt; closed.has(card, region), *is);
+                assert_equal(rt, closed.has(card, region), *is);
             }
         }
     }

@@ -1,4 +1,6 @@
 //! Checks of a heap at a pause against a runtime's memory.
+use crate::checks::assert_place;
+use crate::numbers::slot;
 use g1_layout::{Layout, Slot};
 use g1_race::Paused;
 use std::process::Abort;
@@ -7,27 +9,23 @@ use std::test::Fail;
 // A word that is data.
 const TEXT: u64 = 0x6461_7461_0000_0009;
 
-// The first slot that memory has otherwise, and the first that no drain would find.
-fn verified(
+// Of the slots from the first one on, this is the first that memory has otherwise, and there is none
+// that no drain would find.
+fn finds(
     rt: &impl Abort,
     paused: &mut Paused,
     first: u32,
     memory: &[Option<Slot>],
-) -> (Option<u32>, Option<u32>) {
-    let layout = paused.layout();
-    let slots = layout.slot_count();
+    wanted: Option<u32>,
+) {
+    let slots = paused.layout().slot_count();
     assert!(rt; memory.len() <= slots as usize && first <= slots - memory.len() as u32);
-    let from = layout.slot(first).expect(rt, "slot");
-    let differing = number_of(paused.first_differing(from, memory));
-    let from = layout.slot(first).expect(rt, "slot");
-    (
-        differing,
-        number_of(paused.first_missing(from, memory.len() as u32)),
-    )
-}
-
-fn number_of(slot: Option<Slot>) -> Option<u32> {
-    Some(slot?.number())
+    let from = paused.layout().slot(first).expect(rt, "a slot of the heap");
+    let differing = paused.first_differing(from, memory);
+    let from = paused.layout().slot(first).expect(rt, "a slot of the heap");
+    let missing = paused.first_missing(from, memory.len() as u32);
+    assert!(rt; missing.is_none());
+    assert_place(rt, differing, wanted);
 }
 
 // A slot with data refers to nothing.
@@ -35,20 +33,20 @@ fn number_of(slot: Option<Slot>) -> Option<u32> {
 fn the_first_slot_that_memory_has_otherwise_is_found(rt: HostRuntime) -> Result<(), Fail> {
     let layout = Layout::new(4, 2, 4).expect(&rt, "layout");
     let mut paused = Paused::open(rt.alloc(), layout, 1, 1)?;
-    let layout = paused.layout();
-    let from = layout.slot(1).expect(&rt, "slot");
-    paused.store(from, layout.slot(8));
-    let data = layout.slot(2).expect(&rt, "slot");
+    let from = slot(&rt, &paused, 1);
+    let place = slot(&rt, &paused, 8);
+    paused.store(from, Some(place));
+    let data = slot(&rt, &paused, 2);
     paused.store_data(data, TEXT);
     let memory = [None, layout.slot(8), None, None, None];
-    assert!(rt; verified(&rt, &mut paused, 0, &memory) == (None, None));
+    finds(&rt, &mut paused, 0, &memory, None);
     let memory = [None, layout.slot(8), layout.slot(5), None, layout.slot(8)];
-    assert!(rt; verified(&rt, &mut paused, 0, &memory) == (Some(2), None));
+    finds(&rt, &mut paused, 0, &memory, Some(2));
     let memory = [None, layout.slot(8)];
-    assert!(rt; verified(&rt, &mut paused, 0, &memory) == (None, None));
-    assert!(rt; verified(&rt, &mut paused, 3, &memory) == (Some(4), None));
+    finds(&rt, &mut paused, 0, &memory, None);
+    finds(&rt, &mut paused, 3, &memory, Some(4));
     let memory = [None, layout.slot(5)];
-    assert!(rt; verified(&rt, &mut paused, 0, &memory) == (Some(1), None));
-    assert!(rt; verified(&rt, &mut paused, 30, &memory) == (Some(31), None));
+    finds(&rt, &mut paused, 0, &memory, Some(1));
+    finds(&rt, &mut paused, 30, &memory, Some(31));
     Ok(())
 }

@@ -3,7 +3,10 @@ use crate::played::{is_played, without_rounds};
 use g1_replay::{End, Mode};
 use std::alloc::{AllocError, Global};
 use std::fmt::Write;
+use std::process::Abort;
+use std::sync::Wait;
 use std::test::Fail;
+use std::thread::Threads;
 
 /// Stores from each seventeenth card, so many from the first on, into the last region, and its
 /// drain.
@@ -34,16 +37,19 @@ fn list(alloc: Global, length: u8) -> Result<String, AllocError> {
 #[test]
 fn a_list_of_more_than_one_block(rt: HostRuntime) -> Result<(), Fail> {
     for length in [12u8, 63, 64, 65, 200] {
-        let trace = stores_and_drain(rt.alloc(), length)?;
-        let printed = list(rt.alloc(), length)?;
-        let wanted = (printed.as_str(), End::Whole);
-        is_played(
-            &rt,
-            Mode::Run,
-            trace.as_str(),
-            &without_rounds(1000),
-            wanted,
-        );
+        is_listed(&rt, length)?;
     }
+    Ok(())
+}
+
+/// The drain lists the cards of so many stores.
+fn is_listed<R: Abort + Threads + Wait + Sync + AllocGlobal>(
+    rt: &R,
+    length: u8,
+) -> Result<(), AllocError> {
+    let trace = stores_and_drain(rt.alloc(), length)?;
+    let printed = list(rt.alloc(), length)?;
+    let wanted = (printed.as_str(), End::Whole);
+    is_played(rt, Mode::Run, trace.as_str(), &without_rounds(1000), wanted);
     Ok(())
 }

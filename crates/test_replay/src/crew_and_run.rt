@@ -1,4 +1,5 @@
 //! A crew and a race of many threads against one that makes the same stores in their order.
+use crate::checks::assert_equal;
 use crate::played::{config, replay};
 use g1_replay::{End, Mode, Options};
 use std::alloc::{AllocError, Global};
@@ -57,9 +58,20 @@ fn drains_as_one_by_one<R: Abort + Threads + Wait + Sync + AllocGlobal>(
         .as_slice()
         .strip_prefix(b"stores 100000\n")
         .expect(rt, "all stores are counted");
-    assert_eq!(rt; drains.iter().filter(|byte| **byte == b'\n').count(), 64);
+    assert_equal(rt, line_count(drains), 64);
     assert!(rt; one_by_one.as_slice().ends_with(drains));
     Ok(())
+}
+
+/// How many lines there are.
+fn line_count(text: &[u8]) -> u32 {
+    let mut count: u32 = 0;
+    for byte in text {
+        if *byte == b'\n' {
+            count = count.saturating_add(1);
+        }
+    }
+    count
 }
 
 /// What the trace prints, which is taken whole.
@@ -72,7 +84,7 @@ fn printed<R: Abort + Threads + Wait + Sync + AllocGlobal>(
     let mut output: Vec<u8> = Vec::new(rt.alloc());
     let mut input = trace.as_bytes();
     let end = replay(rt, mode, &mut input, &mut output, options);
-    assert_eq!(rt; end, End::Whole);
+    assert_equal(rt, end, End::Whole);
     output
 }
 

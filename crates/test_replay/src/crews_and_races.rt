@@ -1,4 +1,5 @@
 //! Crews and races: reads and writes that fail.
+use crate::checks::assert_equal;
 use crate::failing_ends::TRACE;
 use crate::played::{replay, without_rounds};
 use crate::streams::{Narrow, failing_after};
@@ -18,7 +19,7 @@ fn is_not_run<R: Abort + Threads + Wait + Sync + AllocGlobal>(
     let mut input = BufReader::new(rt.alloc(), failing_after(TRACE, room))?;
     let mut output: Vec<u8> = Vec::new(rt.alloc());
     let end = replay(rt, mode, &mut input, &mut output, &without_rounds(1000));
-    assert_eq!(rt; end, End::ReadFailed);
+    assert_equal(rt, end, End::ReadFailed);
     assert!(rt; output.as_slice() == b"read failed\n".as_slice());
     Ok(())
 }
@@ -52,9 +53,9 @@ fn stops_at<R: Abort + Threads + Wait + Sync + AllocGlobal>(
         refused: 0,
     };
     let end = replay(rt, mode, &mut input, &mut output, &without_rounds(1000));
-    assert_eq!(rt; end, End::WriteFailed);
+    assert_equal(rt, end, End::WriteFailed);
     assert!(rt; b"stores 0\ndrained\n".starts_with(output.bytes.as_slice()));
-    assert_eq!(rt; (output.bytes.len(), output.refused), (room, 1));
+    assert_equal(rt, (output.bytes.len(), output.refused), (room, 1));
 }
 
 /// Of the two lines a beginning is written, and nothing after a failed write; a write that takes no

@@ -1,7 +1,10 @@
 //! Inputs and outputs that fail or end early, and what is written then.
+use crate::checks::assert_equal;
+use crate::played::run_alone;
 use crate::streams::{Narrow, failing_after};
-use g1_replay::{End, Options, run};
+use g1_replay::{End, Options};
 use g1_trace::put;
+use std::alloc::AllocError;
 use std::io::{self, BufReader};
 use std::process::Abort;
 use std::sync::Wait;
@@ -19,14 +22,8 @@ fn byte_by_byte(rt: HostRuntime) -> Result<(), Fail> {
         fails: true,
         refused: 0,
     };
-    let end = run(
-        &rt,
-        rt.alloc(),
-        &mut input,
-        &mut output,
-        &Options::default(),
-    );
-    assert_eq!(rt; end, End::Whole);
+    let end = run_alone(&rt, &mut input, &mut output, &Options::default());
+    assert_equal(&rt, end, End::Whole);
     assert!(rt; output.bytes.as_slice() == b"logged\ndrained 0\n".as_slice());
     Ok(())
 }
@@ -53,15 +50,13 @@ fn prints_before_the_failure<R: Abort + Wait + AllocGlobal>(
 ) -> io::Result<()> {
     let mut input = BufReader::new(rt.alloc(), failing_after(TRACE, room))?;
     let mut output: Vec<u8> = Vec::new(rt.alloc());
-    let end = run(rt, rt.alloc(), &mut input, &mut output, &Options::default());
-    assert_eq!(rt; end, End::ReadFailed);
-    assert!(rt; output.as_slice() == wanted, "{room}");
+    let end = run_alone(rt, &mut input, &mut output, &Options::default());
+    assert_equal(rt, end, End::ReadFailed);
+    assert_equal(rt, (room, output.as_slice()), (room, wanted));
     // It would have gone on, and was not asked again.
-    assert_eq!(rt;
-        input.get_ref().bytes.len(),
-        TRACE.len().saturating_sub(room)
-    );
-    assert_eq!(rt; input.get_ref().reads, room.saturating_add(1));
+    let read = input.get_ref();
+    assert_equal(rt, read.bytes.len(), TRACE.len().saturating_sub(room));
+    assert_equal(rt, read.reads, room.saturating_add(1));
     Ok(())
 }
 
@@ -86,10 +81,10 @@ fn stops_at<R: Abort + Wait + AllocGlobal>(
         fails,
         refused: 0,
     };
-    let end = run(rt, rt.alloc(), &mut input, &mut output, &Options::default());
-    assert_eq!(rt; end, End::WriteFailed);
+    let end = run_alone(rt, &mut input, &mut output, &Options::default());
+    assert_equal(rt, end, End::WriteFailed);
     assert!(rt; whole.starts_with(output.bytes.as_slice()));
-    assert_eq!(rt; (output.bytes.len(), output.refused), (room, 1));
+    assert_equal(rt, (output.bytes.len(), output.refused), (room, 1));
 }
 
 /// In the lines of calls, in a list, and in the line of a fault.
@@ -105,18 +100,23 @@ fn writes_that_fail(rt: HostRuntime) {
 #[test]
 fn words_of_a_failed_write(rt: HostRuntime) -> Result<(), Fail> {
     for fails in [true, false] {
-        let mut output = Narrow {
-            bytes: Vec::new(rt.alloc()),
-            room: 1,
-            fails,
-            refused: 0,
-        };
-        let Err(failed) = put(&mut output, b"yes\n") else {
-            panic!(rt; "it was written")
-        };
-        let shown = format!(in rt.alloc(); "{failed}")?;
-        assert_eq!(rt; shown.as_str(), "write failed");
+        says_that_it_failed(&rt, fails)?;
     }
+    Ok(())
+}
+
+fn says_that_it_failed(rt: &(impl Abort + AllocGlobal), fails: bool) -> Result<(), AllocError> {
+    let mut output = Narrow {
+        bytes: Vec::new(rt.alloc()),
+        room: 1,
+        fails,
+        refused: 0,
+    };
+    let Err(failed) = put(&mut output, b"yes\n") else {
+        panic!(rt; "it was written")
+    };
+    let shown = format!(in rt.alloc(); "{failed}")?;
+    assert_equal(rt, shown.as_str(), "write failed");
     Ok(())
 }
 
@@ -137,12 +137,15 @@ fn cut(length: usize) -> (&'static [u8], End) {
 #[test]
 fn every_beginning(rt: HostRuntime) {
     for length in 0..=TRACE.len() {
-        let mut input = &TRACE[..length];
-        let mut printed: Vec<u8> = Vec::new(rt.alloc());
-        let options = Options::default();
-        let end = run(&rt, rt.alloc(), &mut input, &mut printed, &options);
-        let (wanted, wanted_end) = cut(length);
-        assert!(rt; printed.as_slice() == wanted, "{length}");
-        assert_eq!(rt; end, wanted_end, "{length}");
+        prints_when_cut(&rt, length, cut(length));
     }
+}
+
+fn prints_when_cut<R: Abort + Wait + AllocGlobal>(rt: &R, length: usize, wanted: (&[u8], End)) {
+    assert!(rt; length <= TRACE.len());
+    let mut input = &TRACE[..length];
+    let mut printed: Vec<u8> = Vec::new(rt.alloc());
+    let end = run_alone(rt, &mut input, &mut printed, &Options::default());
+    let found = (printed.as_slice(), end);
+    assert_equal(rt, (length, found), (length, wanted));
 }

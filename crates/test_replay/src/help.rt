@@ -1,5 +1,6 @@
 //! The texts of help.
-use g1_replay::read_options;
+use crate::checks::assert_equal;
+use g1_replay::{LineFault, Mode, Options, read_options};
 use std::process::Abort;
 
 const WHOLE: &str = "\
@@ -163,10 +164,20 @@ Exit status:
 
 /// The line is refused with just this text.
 pub(crate) fn is_refused(rt: &(impl Abort + AllocGlobal), words: &[&str], text: &str) {
-    match read_options(rt.alloc(), words) {
+    assert_equal(rt, refusal(rt, words).text.as_str(), text);
+}
+
+/// What the line is refused with.
+pub(crate) fn refusal(rt: &(impl Abort + AllocGlobal), words: &[&str]) -> LineFault {
+    match read(rt, words) {
         Ok(_) => panic!(rt; "{words:?} was taken"),
-        Err(fault) => assert_eq!(rt; fault.text.as_str(), text),
+        Err(fault) => fault,
     }
+}
+
+/// The options of the line.
+pub(crate) fn read(rt: &impl AllocGlobal, words: &[&str]) -> Result<(Mode, Options), LineFault> {
+    read_options(rt.alloc(), words)
 }
 
 /// Command lines, each with the text that it is answered with.

@@ -8,6 +8,8 @@
 #[cfg(test)]
 mod answers;
 #[cfg(test)]
+mod checks;
+#[cfg(test)]
 mod crew_and_run;
 #[cfg(test)]
 mod crews_and_races;

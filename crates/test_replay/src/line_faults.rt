@@ -1,7 +1,10 @@
 //! The texts of what is refused, and what a refused growth leaves.
-use crate::help::is_refused;
+use crate::checks::assert_equal;
+use crate::help::{is_refused, read, refusal};
 use crate::played::config;
-use g1_replay::{Mode, Options, TraceFault, read_options};
+use g1_replay::{Mode, Options, TraceFault};
+use std::alloc::AllocError;
+use std::process::Abort;
 use std::test::Fail;
 
 #[test]
@@ -98,16 +101,14 @@ For more information, try '--help'.
 /// A program that shows a fault of its own accord shows the same text.
 #[test]
 fn text_of_a_fault(rt: HostRuntime) -> Result<(), Fail> {
-    let Err(fault) = read_options(rt.alloc(), &["g1replay", "run", "--log", "0"]) else {
-        panic!(rt; "0 was taken")
-    };
+    let fault = refusal(&rt, &["g1replay", "run", "--log", "0"]);
     let shown = format!(in rt.alloc(); "{fault}")?;
     let text = "\
 error: invalid value '0' for '--log <CARDS>': 0 is not in 1..=256
 
 For more information, try '--help'.
 ";
-    assert_eq!(rt; shown.as_str(), text);
+    assert_equal(&rt, shown.as_str(), text);
     Ok(())
 }
 
@@ -129,9 +130,18 @@ fn words_of_faults(rt: HostRuntime) -> Result<(), Fail> {
         (TraceFault::Twice, "same region twice"),
     ];
     for (fault, words) in rows {
-        let shown = format!(in rt.alloc(); "{fault}")?;
-        assert_eq!(rt; shown.as_str(), words);
+        is_shown(&rt, fault, words)?;
     }
+    Ok(())
+}
+
+fn is_shown(
+    rt: &(impl Abort + AllocGlobal),
+    fault: TraceFault,
+    words: &str,
+) -> Result<(), AllocError> {
+    let shown = format!(in rt.alloc(); "{fault}")?;
+    assert_equal(rt, shown.as_str(), words);
     Ok(())
 }
 
@@ -145,7 +155,7 @@ error: invalid value '257' for '--log <CARDS>': 257 is not in 1..=256
 
 For more information, try '--help'.
 ";
-    match read_options(rt.alloc(), &["g1replay", "run", "--log", "257"]) {
+    match read(&rt, &["g1replay", "run", "--log", "257"]) {
         Ok(_) => panic!(rt; "257 was taken"),
         Err(fault) => {
             assert!(rt; fault.text.is_empty() || fault.text.as_str() == not_in_range);
@@ -153,10 +163,9 @@ For more information, try '--help'.
     }
     let mut expected = Options::default();
     expected.config = config(&rt, 7, 10, 4, 1024, 5);
-    match read_options(rt.alloc(), &["g1replay", "run", "--log", "7"]) {
+    match read(&rt, &["g1replay", "run", "--log", "7"]) {
         Ok((mode, options)) => {
-            assert!(rt; mode == Mode::Run);
-            assert_eq!(rt; options, expected);
+            assert_equal(&rt, (mode, options), (Mode::Run, expected));
         }
         Err(fault) => assert!(rt; fault.text.is_empty()),
     }

@@ -1,20 +1,26 @@
 //! The options that a command line gives.
-use crate::help::is_refused;
+use crate::checks::assert_equal;
+use crate::help::{is_refused, read};
 use crate::played::config;
-use g1_replay::{Mode, Options, read_options};
+use g1_replay::{Mode, Options};
 use std::alloc::AllocError;
 use std::process::Abort;
 use std::test::Fail;
 
 /// The options of a line that is taken, and asks for this subcommand.
 fn taken(rt: &(impl Abort + AllocGlobal), wanted: Mode, words: &[&str]) -> Options {
-    match read_options(rt.alloc(), words) {
+    match read(rt, words) {
         Ok((mode, options)) => {
-            assert!(rt; mode == wanted);
+            assert_equal(rt, mode, wanted);
             options
         }
         Err(fault) => panic!(rt; "{words:?} was refused: {}", fault.text),
     }
+}
+
+/// The line is taken, asks for this subcommand, and gives these options.
+fn gives(rt: &(impl Abort + AllocGlobal), mode: Mode, words: &[&str], wanted: &Options) {
+    assert_equal(rt, taken(rt, mode, words), *wanted);
 }
 
 #[test]
@@ -26,10 +32,10 @@ fn defaults(rt: HostRuntime) {
         refiners: 1,
         rounds: 100,
     };
-    assert_eq!(rt; taken(&rt, Mode::Run, &["g1replay", "run"]), expected);
-    assert_eq!(rt; taken(&rt, Mode::Crew, &["g1replay", "crew"]), expected);
-    assert_eq!(rt; taken(&rt, Mode::Race, &["g1replay", "race"]), expected);
-    assert_eq!(rt; Options::default(), expected);
+    gives(&rt, Mode::Run, &["g1replay", "run"], &expected);
+    gives(&rt, Mode::Crew, &["g1replay", "crew"], &expected);
+    gives(&rt, Mode::Race, &["g1replay", "race"], &expected);
+    assert_equal(&rt, Options::default(), expected);
 }
 
 #[test]
@@ -59,7 +65,7 @@ fn each_option_goes_to_its_field(rt: HostRuntime) {
         refiners: 1,
         rounds: 100,
     };
-    assert_eq!(rt; taken(&rt, Mode::Run, words.as_slice()), expected);
+    gives(&rt, Mode::Run, words.as_slice(), &expected);
 }
 
 #[test]
@@ -93,25 +99,23 @@ fn each_option_of_threads_goes_to_its_field(rt: HostRuntime) {
         refiners: 3,
         rounds: 28,
     };
-    assert_eq!(rt; taken(&rt, Mode::Crew, words.as_slice()), expected);
+    gives(&rt, Mode::Crew, words.as_slice(), &expected);
     words[1] = "race";
-    assert_eq!(rt; taken(&rt, Mode::Race, words.as_slice()), expected);
+    gives(&rt, Mode::Race, words.as_slice(), &expected);
 }
 
 #[test]
 fn one_option_leaves_the_others(rt: HostRuntime) {
     let mut log = Options::default();
     log.config = config(&rt, 1, 10, 4, 1024, 5);
-    assert_eq!(rt; taken(&rt, Mode::Run, &["g1replay", "run", "--log=1"]), log);
+    gives(&rt, Mode::Run, &["g1replay", "run", "--log=1"], &log);
     let mut history = Options::default();
     history.history = 2;
-    assert_eq!(rt;
-        taken(
-            &rt,
-            Mode::Run,
-            &["g1replay", "run", "--history", "0000000002"]
-        ),
-        history
+    gives(
+        &rt,
+        Mode::Run,
+        &["g1replay", "run", "--history", "0000000002"],
+        &history,
     );
 }
 
@@ -169,7 +173,7 @@ fn is_taken(
     value: (&str, u32),
 ) {
     let options = taken(rt, mode, &["g1replay", subcommand, name, value.0]);
-    assert_eq!(rt; value_of(rt, &options, name), value.1, "{name}");
+    assert_equal(rt, (name, value_of(rt, &options, name)), (name, value.1));
 }
 
 /// Each option is taken at its limits, and refused outside them.

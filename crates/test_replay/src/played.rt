@@ -1,6 +1,7 @@
 //! Replays of a trace, and the options that they are made with.
 ghost use Rattle.std.specs.Prelude.{◌≤◌};
 
+use crate::checks::assert_equal;
 use g1_core::Config;
 use g1_replay::{End, Mode, Options, crew, race, run};
 use std::io::{BufRead, Write};
@@ -17,10 +18,20 @@ pub(crate) fn replay<T: Threads + Wait + Sync + AllocGlobal, R: BufRead, W: Writ
     options: &Options,
 ) -> End {
     match mode {
-        Mode::Run => run(rt, rt.alloc(), input, output, options),
+        Mode::Run => run_alone(rt, input, output, options),
         Mode::Crew => crew(rt, rt.alloc(), input, output, options),
         Mode::Race => race(rt, rt.alloc(), input, output, options),
     }
+}
+
+/// The replay by one thread.
+pub(crate) fn run_alone<T: Wait + AllocGlobal, R: BufRead, W: Write>(
+    rt: &T,
+    input: &mut R,
+    output: &mut W,
+    options: &Options,
+) -> End {
+    run(rt, rt.alloc(), input, output, options)
 }
 
 /// Checks that the trace prints just this, and ends so.
@@ -35,8 +46,7 @@ pub(crate) fn is_played<R: Abort + Threads + Wait + Sync + AllocGlobal>(
     let mut output: Vec<u8> = Vec::new(rt.alloc());
     let end = replay(rt, mode, &mut input, &mut output, options);
     let text = str::from_utf8(output.as_slice()).expect(rt, "a text");
-    assert_eq!(rt; text, printed, "{trace}");
-    assert_eq!(rt; end, wanted, "{trace}");
+    assert_equal(rt, (trace, text, end), (trace, printed, wanted));
 }
 
 /// The settings of these numbers.

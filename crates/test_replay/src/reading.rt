@@ -1,8 +1,9 @@
 //! How far a replay reads: long lines, lines that the reader's buffer cuts, and what it leaves
 //! behind the line that ends it.
-use crate::played::{two_mutators, without_rounds};
+use crate::checks::assert_equal;
+use crate::played::{run_alone, two_mutators, without_rounds};
 use crate::streams::failing_after;
-use g1_replay::{End, Options, run};
+use g1_replay::{End, Options};
 use std::alloc::Global;
 use std::io;
 use std::io::{BufReader, Read};
@@ -17,13 +18,13 @@ fn play_line<R: Wait + AllocGlobal>(
     byte: u8,
     count: u64,
     rest: &[u8],
-) -> Result<(Vec<u8>, End), Fail> {
+) -> io::Result<(Vec<u8>, End)> {
     let alloc: Global = rt.alloc();
     let head: &[u8] = b"heap 4 2 4\n";
     let bytes = head.chain(io::repeat(byte).take(count)).chain(rest);
     let mut input = BufReader::with_capacity(alloc, 7, bytes)?;
     let mut output: Vec<u8> = Vec::new(alloc);
-    let end = run(rt, alloc, &mut input, &mut output, &Options::default());
+    let end = run_alone(rt, &mut input, &mut output, &Options::default());
     Ok((output, end))
 }
 
@@ -48,10 +49,20 @@ fn long_lines(rt: HostRuntime) -> Result<(), Fail> {
         (b'7', 10_000, b"\n", too_long, End::Refused),
     ];
     for (byte, count, rest, want, wanted) in rows {
-        let (printed, end) = play_line(&rt, byte, count, rest)?;
-        assert!(rt; printed.as_slice() == want, "{count}");
-        assert_eq!(rt; end, wanted, "{count}");
+        is_answered(&rt, (byte, count, rest), (want, wanted))?;
     }
+    Ok(())
+}
+
+/// Checks what comes of such a line.
+fn is_answered<R: Abort + Wait + AllocGlobal>(
+    rt: &R,
+    (byte, count, rest): (u8, u64, &[u8]),
+    wanted: (&[u8], End),
+) -> io::Result<()> {
+    let (printed, end) = play_line(rt, byte, count, rest)?;
+    let found = (printed.as_slice(), end);
+    assert_equal(rt, (count, found), (count, wanted));
     Ok(())
 }
 
@@ -64,9 +75,10 @@ fn prints<R: Abort + Wait + AllocGlobal>(
 ) -> io::Result<()> {
     let mut input = BufReader::with_capacity(rt.alloc(), capacity, trace.as_bytes())?;
     let mut output: Vec<u8> = Vec::new(rt.alloc());
-    let end = run(rt, rt.alloc(), &mut input, &mut output, &two_mutators());
-    assert!(rt; output.as_slice() == printed.as_bytes(), "{capacity}");
-    assert_eq!(rt; end, End::Whole, "{capacity}");
+    let end = run_alone(rt, &mut input, &mut output, &two_mutators());
+    let found = (output.as_slice(), end);
+    let wanted = (printed.as_bytes(), End::Whole);
+    assert_equal(rt, (capacity, found), (capacity, wanted));
     Ok(())
 }
 
@@ -89,16 +101,10 @@ fn lines_across_two_reads(rt: HostRuntime) -> Result<(), Fail> {
 fn long_line_before_a_failing_read(rt: HostRuntime) -> Result<(), Fail> {
     let mut input = BufReader::new(rt.alloc(), failing_after(&[b'7'; 66], 65))?;
     let mut output: Vec<u8> = Vec::new(rt.alloc());
-    let end = run(
-        &rt,
-        rt.alloc(),
-        &mut input,
-        &mut output,
-        &Options::default(),
-    );
-    assert_eq!(rt; end, End::Refused);
+    let end = run_alone(&rt, &mut input, &mut output, &Options::default());
+    assert_equal(&rt, end, End::Refused);
     assert!(rt; output.as_slice() == b"line 1: too long\n".as_slice());
-    assert_eq!(rt; input.get_ref().reads, 65);
+    assert_equal(&rt, input.get_ref().reads, 65);
     Ok(())
 }
 
@@ -130,10 +136,14 @@ fn lines_one_by_one(rt: HostRuntime) {
         ),
     ];
     for (trace, printed, left) in rows {
-        let mut input = trace;
-        let mut output: Vec<u8> = Vec::new(rt.alloc());
-        let _end = run(&rt, rt.alloc(), &mut input, &mut output, &without_rounds(1));
-        assert!(rt; output.as_slice() == printed);
-        assert!(rt; input == left);
+        leaves(&rt, trace, (printed, left));
     }
+}
+
+/// Checks what the trace prints, and what is left of it.
+fn leaves<R: Abort + Wait + AllocGlobal>(rt: &R, trace: &[u8], wanted: (&[u8], &[u8])) {
+    let mut input = trace;
+    let mut output: Vec<u8> = Vec::new(rt.alloc());
+    let _end = run_alone(rt, &mut input, &mut output, &without_rounds(1));
+    assert_equal(rt, (output.as_slice(), input), wanted);
 }
