@@ -9,8 +9,8 @@ use std::test::Fail;
 // A word that is data.
 const TEXT: u64 = 0x6461_7461_0000_0009;
 
-// Of the slots from the first one on, this is the first that memory has otherwise, and there is none
-// that no drain would find.
+// Of the slots from the first one on, this is the first that memory has otherwise, and there is
+// none that no drain would find.
 fn finds(
     rt: &impl Abort,
     paused: &mut Paused,
