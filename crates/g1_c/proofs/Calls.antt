@@ -34,12 +34,6 @@ not_upto_2 r refused done = absurd (omega arith)
 pub not_upto_3 : {A : Type 0} (r : ℕ) → 7 < r → r ≤ 3 → A
 not_upto_3 r refused done = absurd (omega arith)
 
-pub not_4 : {A : Type 0} (r : ℕ) → 7 < r → r ≡ 4 → A
-not_4 r refused done = absurd (omega arith)
-
-pub not_upto_4 : {A : Type 0} (r : ℕ) → 7 < r → r ≤ 4 → A
-not_upto_4 r refused done = absurd (omega arith)
-
 -- and what a call did is no refusal
 pub not_above : {A : Type 0} (n : ℕ) → n < n → A
 not_above n above = absurd (omega arith)
