@@ -6,7 +6,7 @@ use crate::numbers::{Numbers, buffer, card, number_of, numbers_of, place_of, reg
 use crate::outcome::{Failure, check, refused};
 use arrayvec::ArrayVec;
 use g1_core::{Config, Core, Drained, Redirected, RefineReply, Settings};
-use g1_layout::NoMemory;
+use g1_layout::{Layout, NoMemory};
 use g1_log::Log;
 
 /// A core whose cards are hot after `hot` refinements, with a ring of `ring` cards.
@@ -15,13 +15,21 @@ pub(crate) fn new_core<R: Eprint + AllocGlobal>(
     hot: u32,
     ring: usize,
 ) -> Result<Core, Failure> {
-    let layout = small()?;
     let config = Config::of(Settings {
         hot,
         ring,
         ..Settings::default()
     })
     .ok_or(Failure::Wrong)?;
+    core_of(rt, small()?, config)
+}
+
+/// A core with this layout and these settings, made again where it is refused.
+pub(crate) fn core_of<R: Eprint + AllocGlobal>(
+    rt: &R,
+    layout: Layout,
+    config: Config,
+) -> Result<Core, Failure> {
     match Core::new(rt.alloc(), layout, config) {
         Ok(core) => Ok(core),
         Err(NoMemory) => {

@@ -9,6 +9,7 @@ use crate::cores::PauseCall::Drain;
 use crate::cores::steps::Step::{Pause, Refine, See, Store};
 use crate::cores::steps::{rest, take};
 use crate::cores::{is_left, new_core, state_of};
+use crate::numbers::small;
 use crate::outcome::{Failure, refused};
 use crate::race::{REFERENCES, are_refined, closed_after, raced};
 use g1_core::{Config, Core};
@@ -17,7 +18,7 @@ use g1_race::{Closed, Race, Racer, Sweeper};
 
 /// A core of a race in which cards 0 and 1 are refined, and card 2 is dirty.
 pub(crate) fn race_to_core<R: Eprint + AllocGlobal>(rt: &R) -> Result<(), Failure> {
-    let closed = closed_after(rt, &REFERENCES, 2)?;
+    let closed = closed_after(rt, small()?, &REFERENCES, 2)?;
     let mut core = core_of(rt, closed, 2)?;
     are_drained(rt, &mut core, 2)
 }

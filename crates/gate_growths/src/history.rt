@@ -160,15 +160,19 @@ fn on_books<R: Eprint + AllocGlobal>(rt: &R, scenario: &Scenario) -> Result<(), 
 // Stores the first references into a new book, each of which logs its card.
 fn stored(rt: &impl Eprint, kept: &mut Kept, stores: usize) -> Result<(), Failure> {
     check(rt, kept.book.entries().is_empty(), "a new book has entries")?;
-    for (count, (from, to)) in REFERENCES.iter().take(stores).enumerate() {
-        let (references, _) = REFERENCES.split_at_checked(count).ok_or(Failure::Wrong)?;
-        let (pending, _) = CARDS.split_at_checked(count).ok_or(Failure::Wrong)?;
-        let before = Before {
-            references,
-            pending,
-            recorded: 0,
-        };
-        kept.made(rt, Ask::Store(*from, *to), &[], Answer::Stored, before)?;
+    for count in 0..stores {
+        stored_one(rt, kept, count)?;
     }
     check(rt, kept.log.len() == stores, "how many cards were logged")
+}
+
+// Stores the reference behind so many.
+fn stored_one(rt: &impl Eprint, kept: &mut Kept, count: usize) -> Result<(), Failure> {
+    let (from, to) = *REFERENCES.get(count).ok_or(Failure::Wrong)?;
+    let before = Before {
+        references: REFERENCES.get(..count).unwrap_or(&[]),
+        pending: CARDS.get(..count).unwrap_or(&[]),
+        recorded: 0,
+    };
+    kept.made(rt, Ask::Store(from, to), &[], Answer::Stored, before)
 }

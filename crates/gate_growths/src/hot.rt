@@ -1,5 +1,5 @@
 //! The counts and the ring of hot cards: making them takes memory.
-ghost use Rattle.std.specs.Prelude.{◌≡◌, length};
+ghost use Rattle.std.specs.Prelude.{◌≡◌, length, IfOk};
 ghost use Rattle.g1_layout.specs.Shape.{card_count};
 
 use crate::numbers::{card, small};
@@ -16,46 +16,51 @@ struct Counted {
 }
 
 impl Counted {
-    // What the ring answers to the card of this number, which does not stand in it.
-    fn offer(&mut self, number: u32) -> Result<Offer, Failure> {
+    // A ring of two cards, which are hot after one refinement.
+    fn new<R: Eprint + AllocGlobal>(rt: &R) -> Result<Counted, Failure> {
+        let layout = small()?;
+        let hot = new_hot(rt, layout)?;
+        Ok(Counted { layout, hot })
+    }
+
+    // Offers the card of this number, which does not stand in the ring, and checks the answer.
+    fn answers(
+        &mut self,
+        rt: &impl Eprint,
+        number: u32,
+        wanted: Offer,
+        what: &str,
+    ) -> Result<(), Failure> {
         let card = card(&self.layout, number)?;
         if self.hot.contains(card) {
             return Err(Failure::Wrong);
         }
-        Ok(self.hot.offer(card))
+        check(rt, self.hot.offer(card) == wanted, what)
+    }
+}
+
+fn new_hot<R: Eprint + AllocGlobal>(rt: &R, layout: Layout) -> Result<Hot, Failure>
+    ensures { IfOk result (λ hot. length hot.counts ≡ card_count layout) }
+{
+    match Hot::new(rt.alloc(), layout, 1, 2) {
+        Ok(hot) => Ok(hot),
+        Err(NoMemory) => {
+            refused(rt, "Hot::new");
+            Ok(Hot::new(rt.alloc(), layout, 1, 2)?)
+        }
     }
 }
 
 /// A refused ring is made again, with each count 0 and no card in the ring.
 pub(crate) fn new_ring<R: Eprint + AllocGlobal>(rt: &R) -> Result<(), Failure> {
-    let layout = small()?;
-    let hot = match Hot::new(rt.alloc(), layout, 1, 2) {
-        Ok(hot) => hot,
-        Err(NoMemory) => {
-            refused(rt, "Hot::new");
-            Hot::new(rt.alloc(), layout, 1, 2)?
-        }
-    };
-    check(rt, hot.is_empty(), "a new ring holds a card")?;
-    let mut counted = Counted { layout, hot };
+    let mut counted = Counted::new(rt)?;
+    check(rt, counted.hot.is_empty(), "a new ring holds a card")?;
     for number in 0..8 {
-        check(
-            rt,
-            counted.offer(number)? == Offer::Cold,
-            "a card of a new ring was counted",
-        )?;
+        counted.answers(rt, number, Offer::Cold, "a card of a new ring was counted")?;
     }
     for number in 0..2 {
-        check(
-            rt,
-            counted.offer(number)? == Offer::Kept,
-            "a card was not counted",
-        )?;
+        counted.answers(rt, number, Offer::Kept, "a card was not counted")?;
     }
-    let first = card(&layout, 0)?;
-    check(
-        rt,
-        counted.offer(2)? == Offer::Out(first),
-        "the ring of two took three cards",
-    )
+    let first = card(&counted.layout, 0)?;
+    counted.answers(rt, 2, Offer::Out(first), "the ring of two took three cards")
 }

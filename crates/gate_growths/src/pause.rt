@@ -10,21 +10,33 @@ use g1_core::{Drained, Redirected};
 use g1_layout::NoMemory;
 use g1_race::Paused;
 
-// A heap at a pause in which the references were stored: cards 0, 1 and 2 are dirty.
-fn stored<R: Eprint + AllocGlobal>(rt: &R) -> Result<Paused, Failure> {
-    let mut paused = match Paused::open(rt.alloc(), small()?, 1, 1) {
-        Ok(paused) => paused,
+// A heap at a pause, made again where it is refused.
+fn opened<R: Eprint + AllocGlobal>(rt: &R) -> Result<Paused, Failure> {
+    let layout = small()?;
+    match Paused::open(rt.alloc(), layout, 1, 1) {
+        Ok(paused) => Ok(paused),
         Err(NoMemory) => {
             refused(rt, "Paused::open");
-            Paused::open(rt.alloc(), small()?, 1, 1)?
+            Ok(Paused::open(rt.alloc(), layout, 1, 1)?)
         }
-    };
+    }
+}
+
+// A heap at a pause in which the references were stored: cards 0, 1 and 2 are dirty.
+fn stored<R: Eprint + AllocGlobal>(rt: &R) -> Result<Paused, Failure> {
+    let mut paused = opened(rt)?;
     for (from, to) in REFERENCES {
-        let layout = paused.layout();
-        let to = slot(&layout, to)?;
-        paused.store(slot(&layout, from)?, Some(to));
+        store(&mut paused, from, to)?;
     }
     Ok(paused)
+}
+
+fn store(paused: &mut Paused, from: u32, to: u32) -> Result<(), Failure> {
+    let layout = paused.layout();
+    let from = slot(&layout, from)?;
+    let to = slot(&layout, to)?;
+    paused.store(from, Some(to));
+    Ok(())
 }
 
 /// A drain lists the cards that hold into region 3.
@@ -40,20 +52,19 @@ pub(crate) fn drained<R: Eprint + AllocGlobal>(rt: &R) -> Result<(), Failure> {
 
 // Drains region 3. A refused drain changes nothing, and is made again.
 fn drain<R: Eprint + AllocGlobal>(rt: &R, paused: &mut Paused) -> Result<Drained, Failure> {
-    if let Ok(answer) = drain_once(rt, paused)? {
-        return Ok(answer);
+    match drain_once(rt, paused) {
+        Err(Failure::NoMemory) => {
+            refused(rt, "Paused::drain");
+            are_as_stored(rt, paused)?;
+            drain_once(rt, paused)
+        }
+        answer => answer,
     }
-    refused(rt, "Paused::drain");
-    are_as_stored(rt, paused)?;
-    Ok(drain_once(rt, paused)??)
 }
 
-fn drain_once<R: AllocGlobal>(
-    rt: &R,
-    paused: &mut Paused,
-) -> Result<Result<Drained, NoMemory>, Failure> {
+fn drain_once<R: AllocGlobal>(rt: &R, paused: &mut Paused) -> Result<Drained, Failure> {
     let of = region(&paused.layout(), 3)?;
-    Ok(paused.drain(rt.alloc(), of))
+    Ok(paused.drain(rt.alloc(), of)?)
 }
 
 /// The references into region 3 move to region 1, where slot 8 lies.
@@ -69,21 +80,21 @@ pub(crate) fn redirected<R: Eprint + AllocGlobal>(rt: &R) -> Result<(), Failure>
 
 // Redirects region 3. A refused redirect changes nothing, and is made again.
 fn redirect<R: Eprint + AllocGlobal>(rt: &R, paused: &mut Paused) -> Result<Redirected, Failure> {
-    if let Ok(answer) = redirect_once(rt, paused)? {
-        return Ok(answer);
+    match redirect_once(rt, paused) {
+        Err(Failure::NoMemory) => {
+            refused(rt, "Paused::redirect");
+            are_as_stored(rt, paused)?;
+            redirect_once(rt, paused)
+        }
+        answer => answer,
     }
-    refused(rt, "Paused::redirect");
-    are_as_stored(rt, paused)?;
-    Ok(redirect_once(rt, paused)??)
 }
 
-fn redirect_once<R: AllocGlobal>(
-    rt: &R,
-    paused: &mut Paused,
-) -> Result<Result<Redirected, NoMemory>, Failure> {
+fn redirect_once<R: AllocGlobal>(rt: &R, paused: &mut Paused) -> Result<Redirected, Failure> {
     let layout = paused.layout();
-    let (from, to) = (region(&layout, 3)?, region(&layout, 1)?);
-    Ok(paused.redirect(rt.alloc(), from, to))
+    let from = region(&layout, 3)?;
+    let to = region(&layout, 1)?;
+    Ok(paused.redirect(rt.alloc(), from, to)?)
 }
 
 // Whether the references into region 3 refer into region 1, and the cards outside it are recorded.

@@ -8,16 +8,18 @@ ghost use Rattle.g1_race.specs.Members.{AreFreshRacers, AreFreshSweepers};
 
 use crate::numbers::{card, number_of, region, slot, small};
 use crate::outcome::{Failure, check, refused};
-use g1_layout::{Kind, NoMemory};
+use g1_layout::{Kind, Layout, NoMemory};
 use g1_race::{Closed, Race, Racer, Sweeper};
 
 // A race of one racer and one sweeper.
-fn new_race<R: Eprint + AllocGlobal>(rt: &R) -> Result<(Race, Vec<Racer>, Vec<Sweeper>), Failure>
+fn new_race<R: Eprint + AllocGlobal>(
+    rt: &R,
+    layout: Layout,
+) -> Result<(Race, Vec<Racer>, Vec<Sweeper>), Failure>
     ensures members { IfOk result (λ r. (race_shape r.0).members ≡ 2) }
     ensures racers { IfOk result (λ r. AreFreshRacers r.0 1 r.1) }
     ensures sweepers { IfOk result (λ r. AreFreshSweepers r.0 1 r.2) }
 {
-    let layout = small()?;
     match Race::open(rt.alloc(), layout, 1, 1) {
         Ok(made) => Ok(made),
         Err(NoMemory) => {
@@ -29,9 +31,9 @@ fn new_race<R: Eprint + AllocGlobal>(rt: &R) -> Result<(Race, Vec<Racer>, Vec<Sw
 
 /// A race with no store has nulls and clean cards, and nothing recorded.
 pub(crate) fn untouched<R: Eprint + AllocGlobal>(rt: &R) -> Result<(), Failure> {
-    let closed = closed_after(rt, &[], 0)?;
+    let closed = closed_after(rt, small()?, &[], 0)?;
     for number in 0..32 {
-        let place = closed.target(slot(&closed.layout(), number)?);
+        let place = place_after(&closed, number)?;
         check(rt, place.is_none(), "a slot of a new race refers")?;
     }
     for number in 0..8 {
@@ -47,10 +49,11 @@ pub(crate) static REFERENCES: [(u32, u32); 3] = [(0, 24), (4, 16), (8, 24)];
 /// A race that was closed after these stores and a refinement of the first cards.
 pub(crate) fn closed_after<R: Eprint + AllocGlobal>(
     rt: &R,
+    layout: Layout,
     references: &[(u32, u32)],
     cards: u32,
 ) -> Result<Closed, Failure> {
-    let (race, racers, sweepers) = new_race(rt)?;
+    let (race, racers, sweepers) = new_race(rt, layout)?;
     raced(rt, race, racers, sweepers, references, cards)
 }
 
@@ -69,10 +72,9 @@ pub(crate) fn raced(
 {
     let mut racer = racers.take_last();
     racers.clear();
-    stored(rt, &race, &mut racer, references)?;
     let mut sweeper = sweepers.take_last();
     sweepers.clear();
-    refined(&race, &mut sweeper, cards)?;
+    stored_and_refined(rt, &race, &mut racer, &mut sweeper, references, cards)?;
     Ok(closed(race, racers, racer, sweepers, sweeper))
 }
 
@@ -96,6 +98,24 @@ fn closed(
     race.close(racers, sweepers)
 }
 
+// Stores the references, and refines the first cards then.
+fn stored_and_refined(
+    rt: &impl Eprint,
+    race: &Race,
+    racer: &mut Racer,
+    sweeper: &mut Sweeper,
+    references: &[(u32, u32)],
+    cards: u32,
+) -> Result<(), Failure>
+    requires racer { racer_race racer.old ≡ race_id race.now }
+    requires sweeper { sweeper_race sweeper.old ≡ race_id race.now }
+    ensures racer { racer_race racer.new ≡ racer_race racer.old }
+    ensures sweeper { sweeper_race sweeper.new ≡ sweeper_race sweeper.old }
+{
+    stored(rt, race, racer, references)?;
+    refined(race, sweeper, cards)
+}
+
 // Stores references into other regions, whose cards are logged.
 fn stored(
     rt: &impl Eprint,
@@ -107,16 +127,28 @@ fn stored(
     ensures race { racer_race racer.new ≡ racer_race racer.old }
 {
     for reference in references {
-        let layout = race.layout();
-        let from = slot(&layout, reference.0)?;
-        let to = slot(&layout, reference.1)?;
-        if !racer.has_room() {
-            return Err(Failure::Wrong);
-        }
-        let kind = racer.store(race, from, Some(to));
-        check(rt, kind == Kind::Logged, "a store of a race")?;
+        store(rt, race, racer, *reference)?;
     }
     Ok(())
+}
+
+fn store(
+    rt: &impl Eprint,
+    race: &Race,
+    racer: &mut Racer,
+    reference: (u32, u32),
+) -> Result<(), Failure>
+    requires race { racer_race racer.old ≡ race_id race.now }
+    ensures race { racer_race racer.new ≡ racer_race racer.old }
+{
+    let layout = race.layout();
+    let from = slot(&layout, reference.0)?;
+    let to = slot(&layout, reference.1)?;
+    if !racer.has_room() {
+        return Err(Failure::Wrong);
+    }
+    let kind = racer.store(race, from, Some(to));
+    check(rt, kind == Kind::Logged, "a store of a race")
 }
 
 // Refines the first cards in order.
@@ -137,8 +169,7 @@ fn refined(race: &Race, sweeper: &mut Sweeper, cards: u32) -> Result<(), Failure
 /// the others dirty and not recorded.
 pub(crate) fn are_refined(rt: &impl Eprint, closed: &Closed, done: u32) -> Result<(), Failure> {
     for (number, (from, to)) in (0..3).zip(REFERENCES) {
-        let from = slot(&closed.layout(), from)?;
-        let place = number_of(closed.target(from));
+        let place = place_after(closed, from)?;
         check(rt, place == Some(to), "a slot after a race")?;
         let region = [to / 8];
         let recorded: &[u32] = if number < done { &region } else { &[] };
@@ -152,13 +183,18 @@ pub(crate) fn are_refined(rt: &impl Eprint, closed: &Closed, done: u32) -> Resul
     Ok(())
 }
 
+/// The number of the place that the slot of this number refers to after a race.
+pub(crate) fn place_after(closed: &Closed, number: u32) -> Result<Option<u32>, Failure> {
+    let from = slot(&closed.layout(), number)?;
+    Ok(number_of(closed.target(from)))
+}
+
 // Whether the card is dirty or not, as told, and recorded for these regions alone.
 fn is_at(closed: &Closed, number: u32, dirty: bool, regions: &[u32]) -> Result<bool, Failure> {
     let layout = closed.layout();
     let card = card(&layout, number)?;
     for of in 0..4 {
-        let region = region(&layout, of)?;
-        if closed.has(card, region) != regions.contains(&of) {
+        if closed.has(card, region(&layout, of)?) != regions.contains(&of) {
             return Ok(false);
         }
     }

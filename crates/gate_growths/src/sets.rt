@@ -1,5 +1,5 @@
 //! The remembered sets: making them, recording cards and listing them take memory.
-ghost use Rattle.std.specs.Prelude.{◌≡◌};
+ghost use Rattle.std.specs.Prelude.{◌≡◌, IfOk};
 
 use crate::numbers;
 use crate::outcome::{Failure, check, refused, told};
@@ -23,6 +23,18 @@ pub(crate) fn play<R: Print + Eprint + AllocGlobal>(rt: &R) -> Result<(), Failur
     Ok(())
 }
 
+fn new_sets<R: Eprint + AllocGlobal>(rt: &R, layout: Layout) -> Result<Sets, Failure>
+    ensures { IfOk result (λ sets. sets.layout ≡ layout) }
+{
+    match Sets::new(rt.alloc(), layout) {
+        Ok(sets) => Ok(sets),
+        Err(NoMemory) => {
+            refused(rt, "Sets::new");
+            Ok(Sets::new(rt.alloc(), layout)?)
+        }
+    }
+}
+
 /// Sets whose cards and regions are named by number.
 #[derive(Drop)]
 struct Numbered {
@@ -35,13 +47,7 @@ impl Numbered {
     // Sets of no card, for `regions` regions of `cards` cards.
     fn new<R: Eprint + AllocGlobal>(rt: &R, regions: u32, cards: u32) -> Result<Numbered, Failure> {
         let layout = Layout::large(regions, cards, 1).ok_or(Failure::Wrong)?;
-        let sets = match Sets::new(rt.alloc(), layout) {
-            Ok(sets) => sets,
-            Err(NoMemory) => {
-                refused(rt, "Sets::new");
-                Sets::new(rt.alloc(), layout)?
-            }
-        };
+        let sets = new_sets(rt, layout)?;
         check(rt, sets.total() == 0, "new sets have a card")?;
         Ok(Numbered { layout, sets })
     }

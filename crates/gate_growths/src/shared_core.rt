@@ -5,11 +5,11 @@ ghost use Rattle.g1_shared.specs.Counts.{AreNone, shared_terms};
 use crate::cores::steps::Step::{Refine, Store};
 use crate::cores::steps::take;
 use crate::cores::{is_left, new_core, state_of};
-use crate::numbers::{numbers_of, region};
+use crate::numbers::{are_numbered, region};
 use crate::outcome::{Failure, check, refused};
 use crate::race::REFERENCES;
-use g1_book::{Book, Caller, Refusal, SharedCore, Tallied, Terms};
-use g1_core::Core;
+use g1_book::{Book, Caller, SharedCore, Tallied, Terms};
+use g1_core::{CardList, Core};
 use g1_layout::NoMemory;
 use std::alloc::Global;
 use std::marker::Brand;
@@ -69,12 +69,7 @@ fn share<M: Terms, S: Ledger, R: Wait + Eprint>(
         Err((book, NoMemory)) => return Ok(Err(book.into_core())),
     };
     let mut caller = callers.take_last();
-    if has_members(rt, &shared, &mut caller)? == Err(Refusal::NoMemory) {
-        refused(rt, "Counted::members without a history");
-        let is_uncounted = caller.made() == 0 && shared.lock(rt).book().made() == 0;
-        check(rt, is_uncounted, "a refused call was counted")?;
-        has_members(rt, &shared, &mut caller)??;
-    }
+    asked(rt, &shared, &mut caller)?;
     callers.push_reserved(caller);
     let book = shared.finish(callers);
     let is_one = book.made() == 1 && book.stored() == 0;
@@ -82,20 +77,33 @@ fn share<M: Terms, S: Ledger, R: Wait + Eprint>(
     Ok(Ok(book.into_core()))
 }
 
-// Asks the guard for the members of the region that cards 0 and 2 refer into.
-fn has_members<M: Terms, S: Ledger, R: Wait + Eprint>(
+// Asks for the members of the region that cards 0 and 2 refer into, again where that is refused,
+// which counts no call.
+fn asked<M: Terms, S: Ledger, R: Wait + Eprint>(
     rt: &R,
     shared: &SharedCore<M, S>,
     caller: &mut Caller<M, S>,
-) -> Result<Result<(), Refusal>, Failure> {
+) -> Result<(), Failure> {
+    let cards = match members(rt, shared, caller) {
+        Err(Failure::NoMemory) => {
+            refused(rt, "Counted::members without a history");
+            let is_uncounted = caller.made() == 0 && shared.lock(rt).book().made() == 0;
+            check(rt, is_uncounted, "a refused call was counted")?;
+            members(rt, shared, caller)?
+        }
+        answer => answer?,
+    };
+    let is = are_numbered(cards.as_slice(), &[0, 2]);
+    check(rt, is, "the members of a shared core's region")
+}
+
+// Asks the guard for the members of region 3.
+fn members<M: Terms, S: Ledger, R: Wait>(
+    rt: &R,
+    shared: &SharedCore<M, S>,
+    caller: &mut Caller<M, S>,
+) -> Result<CardList, Failure> {
     let mut guard = shared.lock(rt);
     let of = region(&guard.book().layout(), 3)?;
-    let cards = match guard.members(caller, of) {
-        Ok(cards) => cards,
-        Err(refusal) => return Ok(Err(refusal)),
-    };
-    let cards = numbers_of(cards.as_slice())?;
-    let is = cards.as_slice() == [0, 2].as_slice();
-    check(rt, is, "the members of a shared core's region")?;
-    Ok(Ok(()))
+    Ok(guard.members(caller, of)?)
 }

@@ -2,7 +2,7 @@
 //! again.
 
 use crate::cores::PauseCall::{self, Drain, Redirect};
-use crate::cores::{is_left, is_seen, members, pause, refine, state_of, store};
+use crate::cores::{State, is_left, is_seen, members, pause, refine, state_of, store};
 use crate::numbers::{are_numbered, numbers_of};
 use crate::outcome::{Failure, check, refused, short};
 use g1_core::{Core, RefineReply};
@@ -88,26 +88,50 @@ fn refined(
         Err(Failure::NoMemory) => {
             refused(rt, "Core::refine");
             is_left(rt, core, &before, &[])?;
-            is_whole(rt, &refine(core, cards)?, order, hot, 0)
+            refined_again(rt, core, cards, order, hot, 0)
         }
         Err(Failure::Wrong) => Err(Failure::Wrong),
         Ok(turns) => {
             if !turns.short {
                 return is_whole(rt, &turns, order, hot, 0);
             }
-            let first = numbers_of(turns.refined.as_slice())?;
-            let first = first.as_slice();
-            short(rt, "Core::refine", first.len());
-            let is = order.starts_with(first) && turns.skipped == 0;
-            check(rt, is, "a short refinement")?;
-            is_left(rt, core, &before, first)?;
+            let first = is_short(rt, core, &before, &turns, order)?;
             // Each card had its turn that was refined or found hot, and is skipped now.
-            let skipped = turns.hot.max(first.len() as u32);
+            let skipped = turns.hot.max(first);
             let left = hot.saturating_sub(turns.hot);
-            let rest = rest(order, first.len());
-            is_whole(rt, &refine(core, cards)?, rest, left, skipped)
+            refined_again(rt, core, cards, rest(order, first as usize), left, skipped)
         }
     }
+}
+
+// Whether a refinement that is short has refined the first cards of the order, and left all else.
+// Answers how many these are.
+fn is_short(
+    rt: &impl Eprint,
+    core: &mut Core,
+    before: &State,
+    turns: &RefineReply,
+    order: &[u32],
+) -> Result<u32, Failure> {
+    let first = numbers_of(turns.refined.as_slice())?;
+    let first = first.as_slice();
+    short(rt, "Core::refine", first.len());
+    let is = order.starts_with(first) && turns.skipped == 0;
+    check(rt, is, "a short refinement")?;
+    is_left(rt, core, before, first)?;
+    Ok(first.len() as u32)
+}
+
+fn refined_again(
+    rt: &impl Eprint,
+    core: &mut Core,
+    cards: &[u32],
+    order: &[u32],
+    hot: u32,
+    skipped: u32,
+) -> Result<(), Failure> {
+    let turns = refine(core, cards)?;
+    is_whole(rt, &turns, order, hot, skipped)
 }
 
 fn is_whole(
