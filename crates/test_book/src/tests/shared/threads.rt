@@ -262,7 +262,7 @@ fn assert_recorded(rt: &impl Abort, book: &Book, caller: u32, record: &[Entry]) 
 
 /// Checks that each caller's entries are its record, and that the line took what it flushed first.
 fn assert_all_recorded(rt: &impl Abort, book: &Book, records: &[Record]) {
-    assert_equal(rt, records.len(), 4);
+    assert!(rt; records.len() == 4);
     for (caller, record) in records.iter().enumerate() {
         assert_equal(rt, record.flushed, Some(Fill::Full));
         assert_recorded(rt, book, caller as u32, record.entries.as_slice());
