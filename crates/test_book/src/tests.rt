@@ -15,7 +15,7 @@ use g1_core::{
 };
 use g1_layout::{Card, Kind, Layout, NoMemory, Region, Slot};
 use g1_log::{Buffer, Line, Log, Taker};
-use replies::assert_drained;
+use replies::{assert_drained, assert_equal};
 use std::alloc::Global;
 use std::process::Abort;
 
@@ -145,7 +145,7 @@ fn counts(book: &mut Book) -> Result<Status, Refusal> {
 
 /// Checks how many cards are pending.
 pub(crate) fn assert_pending(rt: &impl Abort, book: &mut Book, cards: u32) -> Result<(), Refusal> {
-    assert_eq!(rt; counts(book)?.pending, cards);
+    assert_equal(rt, counts(book)?.pending, cards);
     Ok(())
 }
 
@@ -241,17 +241,25 @@ pub(crate) fn assert_entries(rt: &impl Abort, book: &Book, wanted: &[WantedEntry
 /// Checks that just these entries stand after the first ones.
 pub(crate) fn assert_last(rt: &impl Abort, book: &Book, first: usize, wanted: &[WantedEntry<'_>]) {
     let entries = book.entries();
-    assert_eq!(rt; entries.len(), first.saturating_add(wanted.len()));
+    assert_equal(rt, entries.len(), first.saturating_add(wanted.len()));
     for (entry, want) in entries.iter().skip(first).zip(wanted) {
         assert!(rt; is_entry(entry, want), "{entry:?}");
     }
+}
+
+/// How many stores the history has.
+pub(crate) fn stores_in(book: &Book) -> usize {
+    book.entries()
+        .iter()
+        .filter(|entry| matches!(entry.call, Call::Store { .. }))
+        .count()
 }
 
 /// Checks that the history is `stores` stores, and that none of their cards was refined: then they
 /// are pending.
 pub(crate) fn assert_stores(rt: &impl Abort, book: &Book, stores: usize) {
     let entries = book.entries();
-    assert_eq!(rt; entries.len(), stores);
+    assert_equal(rt, entries.len(), stores);
     for entry in entries {
         assert!(rt; matches!(entry.call, Call::Store { .. }));
         assert!(rt; entry.refined.is_empty());
@@ -262,7 +270,7 @@ pub(crate) fn assert_stores(rt: &impl Abort, book: &Book, stores: usize) {
 /// the cards.
 pub(crate) fn assert_rounds(rt: &impl Abort, book: &Book, cards: &[u32]) {
     let entries = book.entries();
-    assert_eq!(rt; entries.len(), cards.len().saturating_add(5));
+    assert_equal(rt, entries.len(), cards.len().saturating_add(5));
     for (entry, card) in entries.iter().skip(5).zip(cards) {
         let refined = [*card];
         let want = (0, Call::Refine, Want::Refined(1, 0, 0), refined.as_slice());

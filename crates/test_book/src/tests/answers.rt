@@ -21,10 +21,10 @@ fn one_recorded_one_pending(rt: &impl Abort, book: &mut Book) -> Result<(), Refu
 
 fn ask(rt: &impl Abort, book: &mut Book) -> Result<(), Refusal> {
     one_recorded_one_pending(rt, book)?;
-    assert_eq!(rt; target(rt, book, 1, 0)?, Some(8));
+    assert_equal(rt, target(rt, book, 1, 0)?, Some(8));
     assert!(rt; is_pending(rt, book, 2, 1)?);
     assert!(rt; has_cards(&members(rt, book, 3, 1)?, &[0]));
-    assert_eq!(rt; status(book, 4)?, (1, 1));
+    assert_equal(rt, status(book, 4)?, (1, 1));
     assert_questions(rt, book);
     Ok(())
 }
@@ -65,12 +65,12 @@ fn drains_and_clears_are_entered(rt: HostRuntime) -> Result<(), Fail> {
 fn drain_and_clear(rt: &impl Abort, book: &mut Book) -> Result<(), Refusal> {
     let mut log = Log::new(2);
     let _ = store(rt, book, 0, &mut log, 4, Some(16))?;
-    assert_eq!(rt; clear(rt, book, 1, 2)?, ClearReply::Pending(1));
+    assert_equal(rt, clear(rt, book, 1, 2)?, ClearReply::Pending(1));
     assert_set(rt, book, 2, &[1])?;
     let still = still_referenced(rt, book);
-    assert_eq!(rt; clear(rt, book, 2, 2)?, still);
+    assert_equal(rt, clear(rt, book, 2, 2)?, still);
     let _ = store(rt, book, 0, &mut log, 4, None)?;
-    assert_eq!(rt; clear(rt, book, 3, 2)?, ClearReply::Cleared);
+    assert_equal(rt, clear(rt, book, 3, 2)?, ClearReply::Cleared);
     assert_drains_and_clears(rt, book);
     Ok(())
 }
@@ -124,7 +124,7 @@ fn move_one(rt: &impl Abort, book: &mut Book) -> Result<(), Refusal> {
     let mut log = Log::new(2);
     let _ = store(rt, book, 0, &mut log, 0, Some(9))?;
     assert_moved(rt, &redirect(rt, book, 7, 1, 2)?, 1, &[0]);
-    assert_eq!(rt; target(rt, book, 0, 0)?, Some(17));
+    assert_equal(rt, target(rt, book, 0, 0)?, Some(17));
     assert_set(rt, book, 1, &[])?;
     assert_set(rt, book, 2, &[0])?;
     assert_move_is_entered(rt, book);
@@ -137,9 +137,10 @@ fn assert_move_is_entered(rt: &impl Abort, book: &Book) {
         to: region(rt, book, 2),
     };
     let entries = book.entries();
-    assert_eq!(rt; entries.len(), 5);
+    assert_equal(rt, entries.len(), 5);
+    let entry = entries.get(1).expect(rt, "an entry for each call");
     let want = (7, call, Want::Moved(1), [0].as_slice());
-    assert!(rt; is_entry(&entries[1], &want));
+    assert!(rt; is_entry(entry, &want));
 }
 
 #[test]
@@ -148,7 +149,7 @@ fn refusals_have_their_texts(rt: HostRuntime) -> Result<(), Fail> {
         (Refusal::NoMemory, "no memory"),
         (Refusal::BookFull, "book full"),
     ] {
-        assert_eq!(rt; format!(in rt.alloc(); "{refusal}")?.as_str(), text);
+        assert_equal(&rt, format!(in rt.alloc(); "{refusal}")?.as_str(), text);
     }
     Ok(())
 }

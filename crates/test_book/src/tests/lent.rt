@@ -43,7 +43,7 @@ fn store_by<R: Abort + Wait>(
     let to = slot(rt, book, 24);
     let mut calls = LentBook::new(book, number);
     let reply = ends.store(rt, &mut calls, from, Some(to))?;
-    assert_eq!(rt; reply.fill, fill);
+    assert_equal(rt, reply.fill, fill);
     Ok(())
 }
 
@@ -111,15 +111,15 @@ fn store_six<R: Abort + Wait>(
     store_by(rt, book, second, 1, 12, Full)?;
     store_by(rt, book, first, 0, 16, No)?;
     store_by(rt, book, second, 1, 20, No)?;
-    assert_eq!(rt; first.line().len(rt), 2);
+    assert_equal(rt, first.line().len(rt), 2);
     Ok(())
 }
 
 /// Checks that a pause has emptied the line without an entry, and that a drain then finds each card
 /// by its mark.
 fn assert_paused<R: Abort + Wait>(rt: &R, book: &mut Book, line: &Line) -> Result<(), Refusal> {
-    assert_eq!(rt; line.len(rt), 0);
-    assert_eq!(rt; book.entries().len(), 6);
+    assert_equal(rt, line.len(rt), 0);
+    assert_equal(rt, book.entries().len(), 6);
     assert_set(rt, book, 3, &[0, 1, 2, 3, 4, 5])
 }
 

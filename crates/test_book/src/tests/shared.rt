@@ -179,7 +179,7 @@ fn assert_made<M: Terms, S: Ledger>(
     calls: u64,
     stores: u64,
 ) {
-    assert_eq!(rt; (caller.made(), caller.stored()), (calls, stores));
+    assert_equal(rt, (caller.made(), caller.stored()), (calls, stores));
 }
 
 /// The caller with the book that made it.

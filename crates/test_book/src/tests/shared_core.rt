@@ -5,6 +5,7 @@ ghost use Rattle.g1_layout.specs.Shape.{slot_count};
 ghost use Rattle.g1_shared.specs.Callers.{IsCallerOf, caller_mark};
 ghost use Rattle.g1_shared.specs.Counts.{AreNone, shared_terms};
 
+use crate::tests::replies::assert_equal;
 use g1_book::{Book, Caller, Refusal, SharedCore, Tallied, Terms};
 use g1_core::{Call, CardList, Config, Core, Reply};
 use g1_layout::{Layout, NoMemory, Slot};
@@ -148,7 +149,7 @@ fn assert_drains<M: Terms, S: Ledger, R: Wait + Abort>(
         let cards = drained(rt, shared, caller, region)?;
         let mut numbers = cards.as_slice().iter().map(|card| card.number());
         for want in wanted[region as usize] {
-            assert_eq!(rt; numbers.next(), Some(*want));
+            assert_equal(rt, numbers.next(), Some(*want));
         }
         assert!(rt; numbers.next().is_none());
     }
@@ -217,8 +218,8 @@ fn play<M: Terms + Send + Sync, S: Ledger + Send + Sync, R: Threads + Wait + Abo
 {
     let (shared, callers, mut drains) = opened::<M, S>(made, stored, book)?;
     let callers = ran(rt, &shared, callers);
-    assert_eq!(rt; shared.lock(rt).book().made(), 50);
-    assert_eq!(rt; shared.lock(rt).book().stored(), 40);
+    assert_equal(rt, shared.lock(rt).book().made(), 50);
+    assert_equal(rt, shared.lock(rt).book().stored(), 40);
     let callers = stopped(rt, &shared, callers);
     assert_drains(rt, &shared, &mut drains)?;
     let mut callers = ran(rt, &shared, callers);
@@ -241,8 +242,8 @@ fn a_shared_core_stops_at_its_limit(rt: HostRuntime) -> Result<(), Fail> {
     let (made, stored) = (Blank::new(4), Blank::new(4));
     let book = Book::over(rt.alloc(), core, MUTATORS, LIMIT);
     let book = play::<Brand, Brand, HostRuntime>(&rt, made, stored, book)?;
-    assert_eq!(rt; book.made(), LIMIT);
+    assert_equal(&rt, book.made(), LIMIT);
     assert!(rt; 40 <= book.stored() && book.stored() <= 46);
-    assert_eq!(rt; book.into_core().status().recorded, 4);
+    assert_equal(&rt, book.into_core().status().recorded, 4);
     Ok(())
 }

@@ -101,8 +101,8 @@ fn assert_worked<R: Abort + Wait>(
     requires high { history ≤ 1000000 }
 {
     let mut book = plain_book(rt, alloc, 256, history)?;
-    assert_eq!(rt; worked(rt, alloc, &mut book, wishes)?, ends);
-    assert_eq!(rt; book.entries().len(), entries);
+    assert_equal(rt, worked(rt, alloc, &mut book, wishes)?, ends);
+    assert_equal(rt, book.entries().len(), entries);
     Ok(())
 }
 

@@ -119,9 +119,9 @@ fn both<'a>(
 
 /// Checks that both jobs have made their two calls.
 fn assert_both_made(rt: &impl Abort, done: &[Job<Meeting<'_>>]) {
-    assert_eq!(rt; done.len(), 2);
+    assert_equal(rt, done.len(), 2);
     for job in done {
-        assert_eq!(rt; job.outcome, Some(Ok(2)));
+        assert_equal(rt, job.outcome, Some(Ok(2)));
     }
 }
 
@@ -138,9 +138,10 @@ fn run_both<R: Threads + Wait + Sync + Abort>(
 
 #[test]
 fn a_crew_that_is_not_started_has_its_text(rt: HostRuntime) -> Result<(), Fail> {
-    assert_eq!(rt;
+    assert_equal(
+        &rt,
         format!(in rt.alloc(); "{NotStarted}")?.as_str(),
-        "no thread"
+        "no thread",
     );
     Ok(())
 }

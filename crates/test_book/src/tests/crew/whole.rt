@@ -124,7 +124,7 @@ fn callers_of<'a, R: Abort, M: Terms, S: Ledger>(
             Script::Mutate(steps) => steps.len() as u64,
             Script::Refine(rounds) => u64::from(rounds),
         };
-        assert_eq!(rt; outcome, Some(Ok(calls)));
+        assert_equal(rt, outcome, Some(Ok(calls)));
         let caller = desk.into_caller();
         made = made.saturating_add(caller.made());
         callers.push_reserved(caller);
@@ -197,14 +197,6 @@ fn assert_all_drained(rt: &impl Abort, book: &mut Book) -> Result<(), Refusal> {
     Ok(())
 }
 
-/// How many stores the history has.
-fn stores_in(book: &Book) -> usize {
-    book.entries()
-        .iter()
-        .filter(|entry| matches!(entry.call, Call::Store { .. }))
-        .count()
-}
-
 /// Every call is made and entered, and the drains find every reference, whatever the threads did in
 /// what order. Cards stay in logs of two and in a line of four buffers only while they are 16 or
 /// fewer, so some of the 64 were refined.
@@ -221,8 +213,8 @@ fn a_crew_makes_all_calls_and_loses_no_reference(rt: HostRuntime) -> Result<(), 
         stored,
         book,
     )?;
-    assert_eq!(rt; book.entries().len() as u64, count);
-    assert_eq!(rt; stores_in(&book), 16_000);
+    assert_equal(&rt, book.entries().len() as u64, count);
+    assert_equal(&rt, stores_in(&book), 16_000);
     assert!(rt; 16_000 < count);
     Ok(assert_all_drained(&rt, &mut book)?)
 }

@@ -106,7 +106,7 @@ fn a_shared_round_begins_at_the_start_of_its_book(rt: HostRuntime) -> Result<(),
     let book = Book::open(rt.alloc(), layout, config, 2, 10)?;
     let steps = [(0, Completed(2)), (0, Work(whole(2, &[0, 1], 0)))];
     let book = played(&rt, rt.alloc(), book, 2, &steps.as_slice())?;
-    assert_eq!(rt; book.entries().len(), 4);
+    assert_equal(&rt, book.entries().len(), 4);
     Ok(())
 }
 
@@ -120,7 +120,7 @@ fn a_shared_redirect_moves_references(rt: HostRuntime) -> Result<(), Fail> {
         (0, Target(0, 24)),
     ];
     let book = played(&rt, rt.alloc(), book, 1, &steps.as_slice())?;
-    assert_eq!(rt; book.entries().len(), 3);
+    assert_equal(&rt, book.entries().len(), 3);
     Ok(())
 }
 

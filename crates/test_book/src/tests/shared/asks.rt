@@ -2,6 +2,8 @@
 ghost use Rattle.std.specs.Prelude.{◌≡◌, []};
 ghost use Rattle.g1_shared.specs.Counts.{shared_terms};
 
+use crate::tests::replies::assert_equal;
+use crate::tests::stores_in;
 use g1_book::{Book, Caller, Refusal, Shared, Terms};
 use g1_core::{Call, ClearReply, Config, Reply};
 use g1_layout::Layout;
@@ -82,13 +84,7 @@ fn a_shared_book_is_asked_by_value(rt: HostRuntime) -> Result<(), Fail> {
     let book = Book::open(rt.alloc(), layout, config, 1, 10)?;
     let (made, stored) = (Blank::new(1), Blank::new(1));
     let book = asked::<Brand, Brand, HostRuntime>(&rt, made, stored, book)?;
-    let calls = book.entries().iter().map(|entry| entry.call);
-    assert_eq!(rt;
-        calls
-            .filter(|call| matches!(call, Call::Store { .. }))
-            .count(),
-        1
-    );
-    assert_eq!(rt; book.entries().len(), 8);
+    assert_equal(&rt, stores_in(&book), 1);
+    assert_equal(&rt, book.entries().len(), 8);
     Ok(())
 }

@@ -42,9 +42,9 @@ fn call_by_hand<M: Terms, S: Ledger, R: Wait + Abort>(
     assert_made(rt, caller, 1, 1);
     assert!(rt; guard.members(caller, of)?.is_empty());
     assert_made(rt, caller, 2, 1);
-    assert_eq!(rt; guard.status(caller)?.pending, 1);
+    assert_equal(rt, guard.status(caller)?.pending, 1);
     assert_made(rt, caller, 3, 1);
-    assert_eq!(rt; guard.book().entries().len(), 3);
+    assert_equal(rt, guard.book().entries().len(), 3);
     Ok(())
 }
 

@@ -51,7 +51,7 @@ fn a_pause_without_callers_does_nothing(rt: HostRuntime) -> Result<(), Fail> {
         ],
     };
     let mut book = played(&rt, rt.alloc(), book, 2, &play)?;
-    assert_eq!(rt; book.entries().len(), 5);
+    assert_equal(&rt, book.entries().len(), 5);
     Ok(assert_pending(&rt, &mut book, 0)?)
 }
 
@@ -113,7 +113,7 @@ fn paused<M: Terms, S: Ledger, R: Wait + Abort>(
     let (shared, callers) = opened::<M, S>(made, stored, book, 2)?;
     let callers = all_stored(rt, alloc, &shared, callers)?;
     let callers = stopped(rt, &shared, callers);
-    assert_eq!(rt; shared.lock(rt).book().entries().len(), 6);
+    assert_equal(rt, shared.lock(rt).book().entries().len(), 6);
     assert_all_emptied(rt, &shared, callers)
 }
 
@@ -156,7 +156,7 @@ fn assert_emptied<M: Terms, S: Ledger, R: Wait + Abort>(
     assert_round(rt, &shared.work(rt, caller)?, whole(0, &[], 0));
     assert!(rt; caller.number() < shared.lock(rt).book().mutators());
     assert_flushed(rt, &shared.flush(rt, caller), 0, No);
-    assert_eq!(rt; shared.status(rt, caller)?.pending, 6);
+    assert_equal(rt, shared.status(rt, caller)?.pending, 6);
     Ok(())
 }
 

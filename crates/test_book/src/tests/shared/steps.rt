@@ -49,7 +49,7 @@ pub(crate) fn take<M: Terms, S: Ledger, R: Wait + Abort>(
         Step::Flush(cards, fill) => assert_flushed(rt, &caller.flush(rt), cards, fill),
         Step::Refine(round) => assert_round(rt, &caller.refine(rt)?, round),
         Step::Work(round) => assert_round(rt, &caller.work(rt)?, round),
-        Step::Target(of, place) => assert_eq!(rt; caller.target(rt, of)?, Some(place)),
+        Step::Target(of, place) => assert_equal(rt, caller.target(rt, of)?, Some(place)),
         Step::Drain(of, set) => assert_drained(rt, &caller.drain(rt, of)?, set),
         Step::Redirect(from, to, slots, refined) => {
             assert_moved(rt, &caller.redirect(rt, from, to)?, slots, refined);
@@ -100,5 +100,5 @@ fn refuse_all<M: Terms, S: Ledger, R: Wait + Abort>(rt: &R, caller: &mut SharedC
 
 /// Checks that a call was refused for the full history.
 fn assert_full(rt: &impl Abort, refusal: Option<Refusal>) {
-    assert_eq!(rt; refusal, Some(Refusal::BookFull));
+    assert_equal(rt, refusal, Some(Refusal::BookFull));
 }

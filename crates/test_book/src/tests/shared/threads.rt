@@ -230,7 +230,7 @@ fn is_same(reply: &Reply, other: &Reply) -> bool {
             skipped,
             ..
         } => Want::Refined(*taken, *hot, *skipped),
-        Reply::Target(place) => Want::Target(place.map(|slot| slot.number())),
+        Reply::Target(place) => Want::Target(number_of(*place)),
         Reply::Pending(answer) => Want::Pending(*answer),
         Reply::Status(status) => Want::Status(status.pending, status.recorded),
         Reply::Short => Want::Short,
@@ -262,9 +262,9 @@ fn assert_recorded(rt: &impl Abort, book: &Book, caller: u32, record: &[Entry]) 
 
 /// Checks that each caller's entries are its record, and that the line took what it flushed first.
 fn assert_all_recorded(rt: &impl Abort, book: &Book, records: &[Record]) {
-    assert_eq!(rt; records.len(), 4);
+    assert!(rt; records.len() == 4);
     for (caller, record) in records.iter().enumerate() {
-        assert_eq!(rt; record.flushed, Some(Fill::Full));
+        assert_equal(rt, record.flushed, Some(Fill::Full));
         assert_recorded(rt, book, caller as u32, record.entries.as_slice());
     }
 }
@@ -287,7 +287,7 @@ fn replies_are_entries(rt: HostRuntime) -> Result<(), Fail> {
     for record in &records {
         record.outcome?;
     }
-    assert_eq!(rt; book.entries().len(), 160);
+    assert_equal(&rt, book.entries().len(), 160);
     assert_all_recorded(&rt, &book, records.as_slice());
     Ok(())
 }

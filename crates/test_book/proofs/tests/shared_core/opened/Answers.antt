@@ -1,4 +1,4 @@
-use Rattle.std.proofs.Common.{rules, arith, ◌≡◌, ◌<◌, All, Some, length, vec_len}
+use Rattle.std.proofs.Common.{rules, arith, ◌≡◌, All, Some, length, vec_len}
 use Rattle.std.proofs.lemmas.List.Elements.{All-pop}
 use Rattle.g1_shared.specs.Callers.{IsCallerOf}
 use Rattle.test_book.proofs.tests.shared_core.opened.Goals as goal
