@@ -46,11 +46,11 @@ fn tells(rt: &impl Abort, core: &mut Core, store: (u32, u32), kind: Kind, number
     let from = slot(rt, core, store.0);
     let to = slot(rt, core, store.1);
     let (found, dirtied) = core.store_unlogged(from, Some(to));
-    assert_equal(rt, (found, dirtied), (kind, card_of(core, number)));
+    assert_equal(rt, (found, number_of(dirtied)), (kind, number));
 }
 
-fn card_of(core: &Core, number: Option<u32>) -> Option<Card> {
-    core.layout().card(number?)
+fn number_of(card: Option<Card>) -> Option<u32> {
+    Some(card?.number())
 }
 
 // Two stores across regions on one card: the drain reads that card's slots once. It leaves the log,

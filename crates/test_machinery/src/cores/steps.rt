@@ -77,7 +77,8 @@ fn take(rt: &impl Abort, core: &mut Core, log: &mut Log, step: Step) -> Result<(
         }
         Step::Target(of, place) => {
             let of = slot(rt, core, of);
-            assert_equal(rt, core.target(of), core.layout().slot(place));
+            let place = slot(rt, core, place);
+            assert_equal(rt, core.target(of), Some(place));
         }
         Step::Pending(of, pending) => {
             assert_equal(rt, core.is_pending(card(rt, core, of)), pending);

@@ -42,11 +42,11 @@ fn finds(
     let from = core.layout().slot(first).expect(rt, "a slot of the heap");
     let missing = core.first_missing(from, memory.len() as u32);
     assert!(rt; missing.is_none());
-    assert_equal(rt, differing, slot_of(core, wanted));
+    assert_equal(rt, number_of(differing), wanted);
 }
 
-fn slot_of(core: &Core, number: Option<u32>) -> Option<Slot> {
-    core.layout().slot(number?)
+fn number_of(slot: Option<Slot>) -> Option<u32> {
+    Some(slot?.number())
 }
 
 // Copies a range of slots, as a list copies a range within itself.
