@@ -3,19 +3,19 @@ use Rattle.std.proofs.Common.{◌≡◌, ◌<◌, ◌≤◌, ◌⊎◌, ℕ, ari
 use Rattle.std.specs.Prelude.{Option, Some, None, Result, Ok, Err, IsSomeAnd, IfSome}
 use Rattle.std.specs.Fn.{FnOnceReturnsAtMut}
 use denote.Param.Members.{Once}
-use Rattle.g1_race.specs.Over.{Halt}
+use Rattle.g1_race.specs.Over.{Pause}
 use Rattle.g1_handles.specs.declared.code.Refusal.{Refusal}
 use Rattle.g1_handles.specs.declared.heap.racing_heap.RacingHeap.{RacingHeap}
-use Rattle.g1_handles.specs.declared.member.Part.{Ghosts}
+use Rattle.g1_handles.specs.declared.member.Role.{Ghosts}
 use Rattle.g1_handles.specs.declared.member.Member.{Member}
 use Rattle.g1_layout.specs.declared.kind.Kind.{Kind}
 use Rattle.g1_handles.specs.Codes.{OfKind, kind_word}
-use Rattle.g1_handles.specs.Racing.{OfPart, IfPart}
+use Rattle.g1_handles.specs.Racing.{OfRole, IfRole}
 use Rattle.g1_handles.specs.Refusals.{SaysNoMember}
 use Rattle.g1_handles.specs.Visits.{IsVisit}
 use Rattle.g1_handles.specs.Life.{IsSameHeap, OfPaused, SaysNoHeap, SaysNotPaused}
 use Rattle.g1_handles.specs.HeapCalls.{IsCalled}
-use Rattle.g1_handles.proofs.VisitLemmas.{part_ok, part_of, part_why, part_if, visit_same}
+use Rattle.g1_handles.proofs.VisitLemmas.{role_ok, role_of, role_why, role_if, visit_same}
 use Rattle.g1_handles.proofs.CalledLemmas.{called_ok, called_why, called_same}
 
 -- the word of a refusal is none of what a call did
@@ -64,100 +64,100 @@ if_so P Q None so is = tt
 if_so P Q (Some x) so is = so x is
 
 module _ {P : Type 0} {g : Ghosts P} {T : Type 0} (seen : Member P g → P → T) where
-  of_so : (R Q : T → Type 0) (m : Option (Member P g)) → ((a : T) → R a → Q a) → OfPart seen m R → OfPart seen m Q
+  of_so : (R Q : T → Type 0) (m : Option (Member P g)) → ((a : T) → R a → Q a) → OfRole seen m R → OfRole seen m Q
   of_so R Q None so is = is
-  of_so R Q (Some m) so is = some_so (λ p. R (seen m p)) (λ p. Q (seen m p)) m.part (λ p. so (seen m p)) is
+  of_so R Q (Some m) so is = some_so (λ p. R (seen m p)) (λ p. Q (seen m p)) m.role (λ p. so (seen m p)) is
 
   -- what is so with the kind of a store is so with its word
   pub of_kind : (R : Kind → T → T → Type 0) (old new : Option (Member P g)) (word : ℕ) (k : Kind) → word ≡ kind_word k
-      → OfPart seen old (λ a. OfPart seen new (λ b. R k a b)) → OfPart seen old (λ a. OfPart seen new (λ b. OfKind word (λ kind. R kind a b)))
+      → OfRole seen old (λ a. OfRole seen new (λ b. R k a b)) → OfRole seen old (λ a. OfRole seen new (λ b. OfKind word (λ kind. R kind a b)))
   of_kind R old new word k is so =
-      of_so (λ a. OfPart seen new (λ b. R k a b)) (λ a. OfPart seen new (λ b. OfKind word (λ kind. R kind a b))) old
+      of_so (λ a. OfRole seen new (λ b. R k a b)) (λ a. OfRole seen new (λ b. OfKind word (λ kind. R kind a b))) old
       (λ a. of_so (λ b. R k a b) (λ b. OfKind word (λ kind. R kind a b)) new (λ b stores. (k, is, stores))) so
 
-  -- what was done was done whatever holds of the part
-  pub if_1 : (X : T → Type 0) (Z : Type 0) (m : Option (Member P g)) → Z → IfPart seen m (λ a. X a → Z)
+  -- what was done was done whatever holds of the role
+  pub if_1 : (X : T → Type 0) (Z : Type 0) (m : Option (Member P g)) → Z → IfRole seen m (λ a. X a → Z)
   if_1 X Z None z = tt
-  if_1 X Z (Some m) z = if_all (λ p. X (seen m p) → Z) m.part (λ p x. z)
+  if_1 X Z (Some m) z = if_all (λ p. X (seen m p) → Z) m.role (λ p x. z)
 
-  pub if_2 : (X Y : T → Type 0) (Z : Type 0) (m : Option (Member P g)) → Z → IfPart seen m (λ a. X a → Y a → Z)
+  pub if_2 : (X Y : T → Type 0) (Z : Type 0) (m : Option (Member P g)) → Z → IfRole seen m (λ a. X a → Y a → Z)
   if_2 X Y Z None z = tt
-  if_2 X Y Z (Some m) z = if_all (λ p. X (seen m p) → Y (seen m p) → Z) m.part (λ p x y. z)
+  if_2 X Y Z (Some m) z = if_all (λ p. X (seen m p) → Y (seen m p) → Z) m.role (λ p x y. z)
 
-  pub if_3 : (W X Y : T → Type 0) (Z : Type 0) (m : Option (Member P g)) → Z → IfPart seen m (λ a. W a → X a → Y a → Z)
+  pub if_3 : (W X Y : T → Type 0) (Z : Type 0) (m : Option (Member P g)) → Z → IfRole seen m (λ a. W a → X a → Y a → Z)
   if_3 W X Y Z None z = tt
-  if_3 W X Y Z (Some m) z = if_all (λ p. W (seen m p) → X (seen m p) → Y (seen m p) → Z) m.part (λ p w x y. z)
+  if_3 W X Y Z (Some m) z = if_all (λ p. W (seen m p) → X (seen m p) → Y (seen m p) → Z) m.role (λ p w x y. z)
 
-  if_part_so : (R Q : T → Type 0) (m : Option (Member P g)) → ((a : T) → R a → Q a) → IfPart seen m R → IfPart seen m Q
-  if_part_so R Q None so is = tt
-  if_part_so R Q (Some m) so is = if_so (λ p. R (seen m p)) (λ p. Q (seen m p)) m.part (λ p. so (seen m p)) is
+  if_role_so : (R Q : T → Type 0) (m : Option (Member P g)) → ((a : T) → R a → Q a) → IfRole seen m R → IfRole seen m Q
+  if_role_so R Q None so is = tt
+  if_role_so R Q (Some m) so is = if_so (λ p. R (seen m p)) (λ p. Q (seen m p)) m.role (λ p. so (seen m p)) is
 
   module _ {F A : Type 0} (h : Once F (MutBor (Member P g) × Unit {0}) (Result A Refusal × (MutBor (Member P g) × Unit {0}))) (f : F) where
     abbrev Made : Member P g → Result A Refusal → Member P g → Type 0
     Made m r n = FnOnceReturnsAtMut h f m r n
 
     -- a call that answers
-    pub part_made : (R : T → T → Type 0) (old new : Option (Member P g)) (answer : A) → IsVisit Made old (Ok answer) new
-        → ((m n : MutBor (Member P g)) → h.post f (m, tt) (Ok answer, (n, tt)) → OfPart seen (Some m.now) (λ a. OfPart seen (Some n.now) (λ b. R a b)))
-        → OfPart seen old (λ a. OfPart seen new (λ b. R a b))
-    part_made R old new answer is so =
-        part_ok seen Made R old new answer (λ m n call. moved (λ x y. OfPart seen (Some x) (λ a. OfPart seen (Some y) (λ b. R a b))) call.shows call.leaves (so call.shown call.left call.met)) is
+    pub role_made : (R : T → T → Type 0) (old new : Option (Member P g)) (answer : A) → IsVisit Made old (Ok answer) new
+        → ((m n : MutBor (Member P g)) → h.post f (m, tt) (Ok answer, (n, tt)) → OfRole seen (Some m.now) (λ a. OfRole seen (Some n.now) (λ b. R a b)))
+        → OfRole seen old (λ a. OfRole seen new (λ b. R a b))
+    role_made R old new answer is so =
+        role_ok seen Made R old new answer (λ m n call. moved (λ x y. OfRole seen (Some x) (λ a. OfRole seen (Some y) (λ b. R a b))) call.shows call.leaves (so call.shown call.left call.met)) is
 
     -- one that is refused
-    pub part_refused : (Why : T → Type 0) (old new : Option (Member P g)) (r : Refusal) → IsVisit Made old (Err r) new
-        → ((m n : MutBor (Member P g)) → h.post f (m, tt) (Err r, (n, tt)) → SaysNoMember (Some m.now) r ⊎ OfPart seen (Some m.now) Why)
-        → SaysNoMember old r ⊎ OfPart seen old Why
-    part_refused Why old new r is so =
-        part_why seen Made (λ a s. Why a) old new r (λ m n call. moved (λ x y. SaysNoMember (Some x) r ⊎ OfPart seen (Some x) Why) call.shows call.leaves (so call.shown call.left call.met)) is
+    pub role_refused : (Why : T → Type 0) (old new : Option (Member P g)) (r : Refusal) → IsVisit Made old (Err r) new
+        → ((m n : MutBor (Member P g)) → h.post f (m, tt) (Err r, (n, tt)) → SaysNoMember (Some m.now) r ⊎ OfRole seen (Some m.now) Why)
+        → SaysNoMember old r ⊎ OfRole seen old Why
+    role_refused Why old new r is so =
+        role_why seen Made (λ a s. Why a) old new r (λ m n call. moved (λ x y. SaysNoMember (Some x) r ⊎ OfRole seen (Some x) Why) call.shows call.leaves (so call.shown call.left call.met)) is
 
-    pub part_seen : (R : T → Type 0) (old new : Option (Member P g)) (answer : A) → IsVisit Made old (Ok answer) new
-        → ((m n : MutBor (Member P g)) → h.post f (m, tt) (Ok answer, (n, tt)) → OfPart seen (Some m.now) R) → OfPart seen old R
-    part_seen R old new answer is so =
-        part_of seen Made R old new answer (λ m n call. moved (λ x y. OfPart seen (Some x) R) call.shows call.leaves (so call.shown call.left call.met)) is
+    pub role_seen : (R : T → Type 0) (old new : Option (Member P g)) (answer : A) → IsVisit Made old (Ok answer) new
+        → ((m n : MutBor (Member P g)) → h.post f (m, tt) (Ok answer, (n, tt)) → OfRole seen (Some m.now) R) → OfRole seen old R
+    role_seen R old new answer is so =
+        role_of seen Made R old new answer (λ m n call. moved (λ x y. OfRole seen (Some x) R) call.shows call.leaves (so call.shown call.left call.met)) is
 
     held : (R : T → Type 0) (old new : Option (Member P g)) (r : Result A Refusal) → IsVisit Made old r new
-        → ((m n : MutBor (Member P g)) → h.post f (m, tt) (r, (n, tt)) → IfPart seen (Some m.now) R) → IfPart seen old R
+        → ((m n : MutBor (Member P g)) → h.post f (m, tt) (r, (n, tt)) → IfRole seen (Some m.now) R) → IfRole seen old R
     held R old new r is so =
-        part_if seen Made R old new r (λ m n call. moved (λ x y. IfPart seen (Some x) R) call.shows call.leaves (so call.shown call.left call.met)) is
+        role_if seen Made R old new r (λ m n call. moved (λ x y. IfRole seen (Some x) R) call.shows call.leaves (so call.shown call.left call.met)) is
 
     -- what cannot be refused was not
     pub taken_1 : (X : T → Type 0) (Z : Type 0) (old new : Option (Member P g)) (r : Refusal) → IsVisit Made old (Err r) new
-        → ((m n : MutBor (Member P g)) → h.post f (m, tt) (Err r, (n, tt)) → IfPart seen (Some m.now) (λ a. X a → ⊥)) → IfPart seen old (λ a. X a → Z)
+        → ((m n : MutBor (Member P g)) → h.post f (m, tt) (Err r, (n, tt)) → IfRole seen (Some m.now) (λ a. X a → ⊥)) → IfRole seen old (λ a. X a → Z)
     taken_1 X Z old new r is so =
-        if_part_so (λ a. X a → ⊥) (λ a. X a → Z) old (λ a none x. absurd (none x)) (held (λ a. X a → ⊥) old new (Err r) is so)
+        if_role_so (λ a. X a → ⊥) (λ a. X a → Z) old (λ a none x. absurd (none x)) (held (λ a. X a → ⊥) old new (Err r) is so)
 
     pub taken_2 : (X Y : T → Type 0) (Z : Type 0) (old new : Option (Member P g)) (r : Refusal) → IsVisit Made old (Err r) new
-        → ((m n : MutBor (Member P g)) → h.post f (m, tt) (Err r, (n, tt)) → IfPart seen (Some m.now) (λ a. X a → Y a → ⊥)) → IfPart seen old (λ a. X a → Y a → Z)
+        → ((m n : MutBor (Member P g)) → h.post f (m, tt) (Err r, (n, tt)) → IfRole seen (Some m.now) (λ a. X a → Y a → ⊥)) → IfRole seen old (λ a. X a → Y a → Z)
     taken_2 X Y Z old new r is so =
-        if_part_so (λ a. X a → Y a → ⊥) (λ a. X a → Y a → Z) old (λ a none x y. absurd (none x y)) (held (λ a. X a → Y a → ⊥) old new (Err r) is so)
+        if_role_so (λ a. X a → Y a → ⊥) (λ a. X a → Y a → Z) old (λ a none x y. absurd (none x y)) (held (λ a. X a → Y a → ⊥) old new (Err r) is so)
 
     pub taken_3 : (W X Y : T → Type 0) (Z : Type 0) (old new : Option (Member P g)) (r : Refusal) → IsVisit Made old (Err r) new
-        → ((m n : MutBor (Member P g)) → h.post f (m, tt) (Err r, (n, tt)) → IfPart seen (Some m.now) (λ a. W a → X a → Y a → ⊥)) → IfPart seen old (λ a. W a → X a → Y a → Z)
+        → ((m n : MutBor (Member P g)) → h.post f (m, tt) (Err r, (n, tt)) → IfRole seen (Some m.now) (λ a. W a → X a → Y a → ⊥)) → IfRole seen old (λ a. W a → X a → Y a → Z)
     taken_3 W X Y Z old new r is so =
-        if_part_so (λ a. W a → X a → Y a → ⊥) (λ a. W a → X a → Y a → Z) old (λ a none w x y. absurd (none w x y)) (held (λ a. W a → X a → Y a → ⊥) old new (Err r) is so)
+        if_role_so (λ a. W a → X a → Y a → ⊥) (λ a. W a → X a → Y a → Z) old (λ a none w x y. absurd (none w x y)) (held (λ a. W a → X a → Y a → ⊥) old new (Err r) is so)
 
 module _ {V F A : Type 0} (h : Once F (MutBor V × Unit {0}) (Result A Refusal × (MutBor V × Unit {0}))) (f : F) where
-  pub part_same : (old new : Option V) (r : Result A Refusal) → IsVisit (λ m r n. FnOnceReturnsAtMut h f m r n) old r new
+  pub role_same : (old new : Option V) (r : Result A Refusal) → IsVisit (λ m r n. FnOnceReturnsAtMut h f m r n) old r new
       → ((m n : MutBor V) → h.post f (m, tt) (r, (n, tt)) → n.now ≡ m.now) → new ≡ old
-  part_same old new r is so =
+  role_same old new r is so =
       visit_same (λ m r n. FnOnceReturnsAtMut h f m r n) old new r (λ m n call. moved (λ x y. y ≡ x) call.shows call.leaves (so call.shown call.left call.met)) is
 
-module _ {F A : Type 0} (h : Once F (MutBor Halt × Unit {0}) (Result A Refusal × (MutBor Halt × Unit {0}))) (f : F) where
-  abbrev Done : Halt → Result A Refusal → Halt → Type 0
+module _ {F A : Type 0} (h : Once F (MutBor Pause × Unit {0}) (Result A Refusal × (MutBor Pause × Unit {0}))) (f : F) where
+  abbrev Done : Pause → Result A Refusal → Pause → Type 0
   Done p r q = FnOnceReturnsAtMut h f p r q
 
   -- the same of a heap at a pause
-  pub heap_made : (R : Halt → Halt → Type 0) (old new : Option RacingHeap) (answer : A) → IsCalled Done old (Ok answer) new
-      → ((p q : MutBor Halt) → h.post f (p, tt) (Ok answer, (q, tt)) → R p.now q.now) → IsSameHeap old new R
+  pub heap_made : (R : Pause → Pause → Type 0) (old new : Option RacingHeap) (answer : A) → IsCalled Done old (Ok answer) new
+      → ((p q : MutBor Pause) → h.post f (p, tt) (Ok answer, (q, tt)) → R p.now q.now) → IsSameHeap old new R
   heap_made R old new answer is so =
       called_ok Done R old new answer (λ p q call. moved R call.shows call.leaves (so call.shown call.left call.met)) is
 
-  pub heap_refused : (Why : Halt → Type 0) (old new : Option RacingHeap) (r : Refusal) → IsCalled Done old (Err r) new
-      → ((p q : MutBor Halt) → h.post f (p, tt) (Err r, (q, tt)) → Why p.now) → SaysNoHeap old r ⊎ SaysNotPaused old r ⊎ OfPaused old Why
+  pub heap_refused : (Why : Pause → Type 0) (old new : Option RacingHeap) (r : Refusal) → IsCalled Done old (Err r) new
+      → ((p q : MutBor Pause) → h.post f (p, tt) (Err r, (q, tt)) → Why p.now) → SaysNoHeap old r ⊎ SaysNotPaused old r ⊎ OfPaused old Why
   heap_refused Why old new r is so =
       called_why Done (λ p s. Why p) old new r (λ p q call. moved (λ x y. Why x) call.shows call.leaves (so call.shown call.left call.met)) is
 
   pub heap_same : (old new : Option RacingHeap) (r : Result A Refusal) → IsCalled Done old r new
-      → ((p q : MutBor Halt) → h.post f (p, tt) (r, (q, tt)) → q.now ≡ p.now) → new ≡ old
+      → ((p q : MutBor Pause) → h.post f (p, tt) (r, (q, tt)) → q.now ≡ p.now) → new ≡ old
   heap_same old new r is so =
       called_same Done old new r (λ p q call. moved (λ x y. y ≡ x) call.shows call.leaves (so call.shown call.left call.met)) is

@@ -20,9 +20,8 @@ use Rattle.g1_core.specs.declared.entry.Reply.TheVariants as reply
 use Rattle.g1_core.specs.Run.{IsFirstInto, IsStep, Answers, settled}
 use Rattle.g1_core.specs.declared.reply.ClearReply.{ClearReply}
 use Rattle.g1_core.specs.declared.reply.ClearReply.TheVariants as clear_reply
-use Rattle.g1_core.specs.Calls.{clear_entry}
+use Rattle.g1_core.specs.Calls.{clear_entry, DoesClear}
 use Rattle.g1_core.specs.Clearing.{member_count, IsLeastOn, AreRead}
-use Rattle.g1_core.specs.Does.{DoesClear}
 use Rattle.g1_core.proofs.SetLemmas.{pair_total, pair_exact}
 use Rattle.g1_core.proofs.RunLemmas.{has_slots, step_covered}
 use Rattle.g1_core.proofs.OutsideLemmas.{cleared_outside}

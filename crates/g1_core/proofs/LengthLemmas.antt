@@ -10,7 +10,7 @@ use Rattle.g1_core.specs.Table.{Table, AreRefinable, refined}
 use Rattle.g1_core.specs.Machine.{State, Machine}
 use Rattle.g1_core.specs.Turns.{Round, refined_by, hot_by, skipped_by, offer_to, turn, turns, start}
 use Rattle.g1_core.specs.Refinement.{IsTurned, IsIdle, AreCardsRead}
-use Rattle.g1_core.specs.Does.{DoesRefine}
+use Rattle.g1_core.specs.Calls.{DoesRefine}
 use Rattle.g1_core.proofs.MarkLemmas.{one_less}
 use Rattle.g1_core.proofs.TurnLemmas.{rest_refinable}
 

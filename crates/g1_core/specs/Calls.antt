@@ -1,5 +1,10 @@
--- The entry that each call of a core makes, from what it answers.
-use Rattle.std.specs.Prelude.{ℕ, Bool, List, [], Option}
+-- What each call of a core enters in a history, from what it returns, and what it does, from one
+-- machine to the next.
+use Rattle.std.specs.Prelude.{ℕ, Bool, List, [], Option, ◌≡◌, ◌≢◌, ◌≤◌, ◌<◌, ◌+◌, ◌-◌, ◌*◌, ◌^◌}
+use Rattle.std.specs.Prelude.{false, length, All, IfSome, IsNone, min}
+use Rattle.std.specs.FinSet as set
+use Rattle.g1_layout.specs.Shape.{Shape, slot_count, card_count}
+use Rattle.g1_log.specs.Log.{Cards}
 use Rattle.g1_core.specs.declared.reply.StoreReply.{StoreReply}
 use Rattle.g1_core.specs.declared.reply.RefineReply.{RefineReply}
 use Rattle.g1_core.specs.declared.reply.Status.{Status}
@@ -12,6 +17,16 @@ use Rattle.g1_core.specs.declared.entry.Call.TheVariants as call
 use Rattle.g1_core.specs.declared.entry.Reply.{Reply}
 use Rattle.g1_core.specs.declared.entry.Reply.TheVariants as reply
 use Rattle.g1_core.specs.declared.entry.Entry.{Entry}
+use Rattle.g1_core.specs.declared.reply.ClearReply.TheVariants.{Cleared}
+use Rattle.g1_core.specs.declared.entry.Call.{Call}
+use Rattle.g1_core.specs.Barrier.{logged, buffer_of, fill_of, stored_machine}
+use Rattle.g1_core.specs.Clearing.{member_count}
+use Rattle.g1_core.specs.Machine.{Machine, IsOnlyRead}
+use Rattle.g1_core.specs.Pause.{IsDrainOf}
+use Rattle.g1_core.specs.Redirect.{IsRedirectOf}
+use Rattle.g1_core.specs.Refinement.{IsRefined, AreCardsRead}
+use Rattle.g1_core.specs.Run.{kind_of}
+use Rattle.g1_core.specs.Table.{target_of, AreMembers}
 
 abbrev pub store_entry : ℕ → ℕ → Option ℕ → StoreReply → Entry
 store_entry caller slot target answer =
@@ -89,3 +104,84 @@ redirect_entry caller from to answer =
       reply = redirect_reply answer;
       refined = redirect_refined answer;
     }
+
+abbrev pub layout_at : Machine → Shape
+layout_at m = m.state.table.layout
+
+pub record DoesStore (slot : ℕ) (target : Option ℕ) (reply : StoreReply)
+    (old new : Machine) : Type 0 where
+  pub kind : reply.kind ≡ kind_of old.state.table slot target
+  pub refined : reply.refined ≡ []
+  pub short : reply.short ≡ false
+  pub machine : new ≡ stored_machine old slot target
+
+-- What a store of this card does to the lent log, and the buffer that it hands out.
+pub record IsLent (card : ℕ) (reply : StoreReply) (old new : Cards)
+    (buffer : Option (List ℕ)) : Type 0 where
+  pub fill : reply.fill ≡ fill_of buffer
+  pub log : new ≡ logged reply.kind old card
+  pub handed : buffer ≡ buffer_of reply.kind old card
+
+pub record DoesRefine (buffer : Option (List ℕ)) (reply : RefineReply)
+    (old new : Machine) : Type 0 where
+  pub refined : IsRefined old.state buffer reply new.state
+  pub reads : AreCardsRead old reply new
+  pub taken : reply.taken ≤ 1
+  pub cards : length reply.refined + reply.skipped ≤ 256
+  pub hot : reply.hot ≤ 256
+  pub left : reply.left ≡ 0
+  pub idle : IsNone buffer → reply.taken ≡ 0
+
+pub record DoesTarget (slot : ℕ) (target : Option ℕ) (old new : Machine) : Type 0 where
+  pub answer : target ≡ target_of old.state.table slot
+  pub within : IfSome target (λ place. place < slot_count (layout_at old))
+  pub machine : new ≡ record {
+    state = old.state;
+    settings = old.settings;
+    reads = min (old.reads + 1) (2 ^ 64 - 1);
+  }
+
+pub record DoesPending (card : ℕ) (answer : Bool) (old new : Machine) : Type 0 where
+  pub pending : answer ≡ set.contains old.state.table.pending card
+  pub machine : new ≡ old
+
+pub record DoesMembers (region : ℕ) (cards : List ℕ) (old new : Machine) : Type 0 where
+  pub members : AreMembers old.state.table region cards
+  pub within : All (λ card. card < card_count (layout_at old)) cards
+  pub machine : new ≡ old
+
+pub record DoesStatus (status : Status) (old new : Machine) : Type 0 where
+  pub pending : status.pending ≡ set.len old.state.table.pending
+  pub recorded : status.recorded ≡ set.len old.state.table.recorded
+  pub machine : new ≡ old
+
+pub record DoesDrain (region : ℕ) (answer : Drained) (old new : Machine) : Type 0 where
+  pub drained : IsDrainOf old region answer new
+  pub within : All (λ card. card < card_count (layout_at old)) (drain_cards answer)
+
+pub record DoesClear (region : ℕ) (answer : ClearReply) (old new : Machine) : Type 0 where
+  pub refused : answer ≢ Cleared → IsOnlyRead old new
+  pub ring : new.state.ring ≡ old.state.ring
+  pub unread : 1 ≤ set.len old.state.table.pending → new.reads ≡ old.reads
+  pub reads : new.reads ≤ old.reads + member_count old.state.table region * (layout_at old).slots
+
+abbrev pub DoesRedirect : ℕ → ℕ → Redirected → Machine → Machine → Type 0
+DoesRedirect from to answer old new = IsRedirectOf old from to answer new
+
+-- What a call does that lends nothing, by its values, its reply and the cards that it refined.
+abbrev pub DoesAsked : Call → Reply → List ℕ → Machine → Machine → Type 0
+DoesAsked (call.Target slot) (reply.Target target) cards old new = DoesTarget slot target old new
+DoesAsked (call.Pending card) (reply.Pending answer) cards old new = DoesPending card answer old new
+DoesAsked (call.Members region) (reply.Cards members) cards old new =
+    DoesMembers region members old new
+DoesAsked call.Status (reply.Status status) cards old new = DoesStatus status old new
+DoesAsked (call.Drain region) (reply.Cards members) cards old new =
+    DoesDrain region (drained.Cards members cards) old new
+DoesAsked (call.Drain region) reply.Short cards old new =
+    DoesDrain region (drained.Short cards) old new
+DoesAsked (call.Clear region) (reply.Clear answer) cards old new = DoesClear region answer old new
+DoesAsked (call.Redirect from to) (reply.Moved slots) cards old new =
+    DoesRedirect from to (redirected.Moved slots cards) old new
+DoesAsked (call.Redirect from to) reply.Short cards old new =
+    DoesRedirect from to (redirected.Short cards) old new
+DoesAsked _ _ cards old new = ⊥

@@ -10,8 +10,8 @@ ghost use Rattle.g1_core.specs.Machine.{pending_of};
 ghost use Rattle.g1_core.specs.Adoption.{IsPairOf, marks_for, table_with, adopted_machine};
 
 use crate::config::Config;
+use crate::heap_and_sets::HeapAndSets;
 use crate::machinery::Core;
-use crate::parts::Parts;
 use arrayvec::ArrayVec;
 use g1_heap::{Heap, Mark};
 use g1_hot::Hot;
@@ -58,7 +58,7 @@ impl Core {
         Ok(Core {
             alloc,
             config,
-            parts: Parts {
+            memory: HeapAndSets {
                 heap,
                 sets,
                 pending,
@@ -79,7 +79,7 @@ impl Core {
         ensures within { IfOk result (λ pairs.
             All (IsPairOf self.now.state.table.layout) pairs.items) }
     {
-        let pairs = all_pairs(self.alloc, self.parts.heap.layout(), &self.parts.sets)?;
+        let pairs = all_pairs(self.alloc, self.memory.heap.layout(), &self.memory.sets)?;
         Ok(pairs)
     }
 }

@@ -16,8 +16,7 @@ impl Core {
     ghost use Rattle.g1_core.specs.Machine.{IsLater};
     ghost use Rattle.g1_core.specs.Run.{kind_of, IsStep};
     ghost use Rattle.g1_core.specs.Barrier.{unfilled};
-    ghost use Rattle.g1_core.specs.Calls.{store_entry};
-    ghost use Rattle.g1_core.specs.Does.{DoesStore, IsLent};
+    ghost use Rattle.g1_core.specs.Calls.{store_entry, DoesStore, IsLent};
 
     /// What kind of store it is, and the card that a logged one dirties.
     fn kind(&self, slot: Slot, target: &Option<Slot>) -> (Kind, Option<Card>)
@@ -33,12 +32,12 @@ impl Core {
         let Some(place) = *target else {
             return (Kind::Null, None);
         };
-        let layout = self.parts.heap.layout();
+        let layout = self.memory.heap.layout();
         if layout.region_of(slot) == layout.region_of(place) {
             return (Kind::SameRegion, None);
         }
         let card = layout.card_of(slot);
-        match self.parts.heap.mark(card) {
+        match self.memory.heap.mark(card) {
             Mark::Clean => return (Kind::Logged, Some(card)),
             Mark::Dirty => return (Kind::AlreadyDirty, None),
             Mark::Held => return (Kind::AlreadyDirty, None),
@@ -136,12 +135,12 @@ impl Core {
         ensures later { IsLater self.old self.new }
     {
         let (kind, dirtied) = self.kind(slot, &target);
-        self.parts.heap.set(slot, target);
+        self.memory.heap.set(slot, target);
         let Some(card) = dirtied else {
             return (kind, None);
         };
-        self.parts.heap.set_mark(card, Mark::Dirty);
-        self.parts.pending += 1;
+        self.memory.heap.set_mark(card, Mark::Dirty);
+        self.memory.pending += 1;
         (kind, Some(card))
     }
 }

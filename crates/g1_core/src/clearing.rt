@@ -17,8 +17,7 @@ use g1_sets::Sets;
 impl Core {
     ghost use Rattle.g1_core.specs.Machine.{IsLater};
     ghost use Rattle.g1_core.specs.Run.{IsStep};
-    ghost use Rattle.g1_core.specs.Calls.{clear_entry};
-    ghost use Rattle.g1_core.specs.Does.{DoesClear};
+    ghost use Rattle.g1_core.specs.Calls.{clear_entry, DoesClear};
 
     /// Empties the remembered set of a region, once nothing is pending and no slot outside the
     /// region refers into it (docs/rules.md, Clear; ISMM 2004, "Evacuation Pauses": the region
@@ -38,13 +37,13 @@ impl Core {
             → IsStep self.old.state.table (clear_entry caller region result) self.new.state.table }
         ensures later { IsLater self.old self.new }
     {
-        if self.parts.pending > 0 {
-            return ClearReply::Pending(self.parts.pending);
+        if self.memory.pending > 0 {
+            return ClearReply::Pending(self.memory.pending);
         }
-        if let Some(slot) = least_entering(&mut self.parts.heap, &self.parts.sets, region) {
+        if let Some(slot) = least_entering(&mut self.memory.heap, &self.memory.sets, region) {
             return ClearReply::StillReferenced(slot);
         }
-        self.parts.sets.clear(region);
+        self.memory.sets.clear(region);
         ClearReply::Cleared
     }
 }

@@ -3,7 +3,7 @@ ghost use Rattle.std.specs.Prelude.{◌≡◌, IfOk};
 ghost use Rattle.g1_core.specs.Machine.{new_machine};
 
 use crate::config::Config;
-use crate::parts::Parts;
+use crate::heap_and_sets::HeapAndSets;
 use arrayvec::ArrayVec;
 use g1_heap::Heap;
 use g1_hot::Hot;
@@ -22,7 +22,7 @@ use std::marker::Model;
 pub struct Core {
     pub(crate) alloc: Global,
     pub(crate) config: Config,
-    pub(crate) parts: Parts,
+    pub(crate) memory: HeapAndSets,
     pub(crate) hot: Hot,
 }
 
@@ -33,9 +33,9 @@ impl Model for Core {
 
     ghost coded = { machine_code };
 
-    ghost view = { λ a. machine_from a.parts.heap a.parts.sets.pairs a.hot a.config };
+    ghost view = { λ a. machine_from a.memory.heap a.memory.sets.pairs a.hot a.config };
 
-    ghost invariant = { λ a. IsCore a.parts.heap a.parts.sets a.hot a.parts.pending };
+    ghost invariant = { λ a. IsCore a.memory.heap a.memory.sets a.hot a.memory.pending };
 }
 
 impl Core {
@@ -57,7 +57,7 @@ impl Core {
         Ok(Core {
             alloc,
             config,
-            parts: Parts {
+            memory: HeapAndSets {
                 heap,
                 sets,
                 pending: 0,

@@ -16,8 +16,7 @@ impl Core {
     ghost use Rattle.g1_core.specs.Machine.{IsLater};
     ghost use Rattle.g1_core.specs.Run.{IsStep};
     ghost use Rattle.g1_core.specs.Turns.{is_dirty};
-    ghost use Rattle.g1_core.specs.Calls.{drain_entry};
-    ghost use Rattle.g1_core.specs.Does.{DoesDrain};
+    ghost use Rattle.g1_core.specs.Calls.{drain_entry, DoesDrain};
     ghost use Rattle.g1_core.specs.Pause.{Drains, IsShortDrain, IsDrainOrder};
     ghost use Rattle.g1_core.specs.Pause.{IsRingDrained, IsCardDrained, IsCardRead, IsDirtyDrained};
     ghost use Rattle.g1_core.specs.Pause.{IsDirtyStopped, IsAllDrained, reset_machine};
@@ -33,7 +32,7 @@ impl Core {
         let Some(card) = self.hot.oldest() else {
             unreachable!();
         };
-        self.parts.refine(card)?;
+        self.memory.refine(card)?;
         let _ = self.hot.pop_oldest();
         Ok(card)
     }
@@ -44,7 +43,7 @@ impl Core {
         ensures ok { OnOk result (IsCardDrained self.old card self.old.state.ring self.new) }
         ensures err { OnErr result (IsCardRead self.old self.new) }
     {
-        self.parts.refine(card)?;
+        self.memory.refine(card)?;
         Ok(())
     }
 
@@ -59,10 +58,10 @@ impl Core {
         ensures first { IfSome result (λ card. (earlier : ℕ) → from ≤ earlier → earlier < card
             → is_dirty self.now.state earlier ≡ false) }
     {
-        if self.parts.pending == 0 {
+        if self.memory.pending == 0 {
             return None;
         }
-        self.parts.heap.next_dirty(from)
+        self.memory.heap.next_dirty(from)
     }
 
     /// Refines the cards of the ring, oldest first, and lists them.
@@ -112,7 +111,7 @@ impl Core {
         ensures room { IfOk result (λ room.
             set.len self.now.state.table.pending ≤ vec_capacity room) }
     {
-        let room = Vec::with_capacity(self.alloc, self.parts.pending as usize)?;
+        let room = Vec::with_capacity(self.alloc, self.memory.pending as usize)?;
         Ok(room)
     }
 

@@ -15,7 +15,7 @@ impl Core {
     ghost use Rattle.g1_core.specs.Machine.{IsSound, IsLater};
     ghost use Rattle.g1_core.specs.Run.{IsStep};
     ghost use Rattle.g1_core.specs.Calls.{target_entry, pending_entry, members_entry, status_entry};
-    ghost use Rattle.g1_core.specs.Does.{DoesTarget, DoesPending, DoesMembers, DoesStatus};
+    ghost use Rattle.g1_core.specs.Calls.{DoesTarget, DoesPending, DoesMembers, DoesStatus};
 
     /// The layout of the heap. Constant time. The clauses also say what every core keeps, cover
     /// above all.
@@ -25,7 +25,7 @@ impl Core {
         ensures cover { IsCovered self.now.state.table }
         ensures sound { IsSound self.now.state }
     {
-        self.parts.heap.layout()
+        self.memory.heap.layout()
     }
 
     /// The settings that the core was made with. Constant time.
@@ -42,7 +42,7 @@ impl Core {
         ensures value { result ≡ self.now.reads }
         ensures bound { self.now.reads < 2 ^ 64 }
     {
-        self.parts.heap.reads()
+        self.memory.heap.reads()
     }
 
     /// Returns the place that a slot refers to, or `None` if the slot is null. One slot is read.
@@ -55,7 +55,7 @@ impl Core {
         ensures later { IsLater self.old self.new }
     {
         let _reads = self.reads();
-        self.parts.heap.get(slot)
+        self.memory.heap.get(slot)
     }
 
     /// Whether a card is pending: dirty, or held in the hot ring. Constant time.
@@ -65,7 +65,7 @@ impl Core {
         ensures step { (caller : ℕ)
             → IsStep self.now.state.table (pending_entry caller card result) self.now.state.table }
     {
-        match self.parts.heap.mark(card) {
+        match self.memory.heap.mark(card) {
             Mark::Clean => return false,
             Mark::Dirty => return true,
             Mark::Held => return true,
@@ -84,7 +84,7 @@ impl Core {
             → IsStep self.now.state.table (members_entry caller region cards)
             self.now.state.table) }
     {
-        let cards = self.parts.sets.cards(region)?;
+        let cards = self.memory.sets.cards(region)?;
         Ok(CardList::of(cards))
     }
 
@@ -96,8 +96,8 @@ impl Core {
             → IsStep self.now.state.table (status_entry caller result) self.now.state.table }
     {
         Status {
-            pending: self.parts.pending,
-            recorded: self.parts.sets.total(),
+            pending: self.memory.pending,
+            recorded: self.memory.sets.total(),
         }
     }
 }

@@ -121,8 +121,7 @@ impl Core {
     ghost use Rattle.g1_core.specs.Table.{moved_count};
     ghost use Rattle.g1_core.specs.Machine.{IsLater};
     ghost use Rattle.g1_core.specs.Run.{IsStep};
-    ghost use Rattle.g1_core.specs.Calls.{redirect_entry};
-    ghost use Rattle.g1_core.specs.Does.{DoesRedirect};
+    ghost use Rattle.g1_core.specs.Calls.{redirect_entry, DoesRedirect};
     ghost use Rattle.g1_core.specs.Redirect.{IsMoved, AreMembersRead};
 
     // Moves every reference into a region, where nothing is pending, and returns how many slots
@@ -137,10 +136,16 @@ impl Core {
         ensures moved { IfOk result (λ slots. IsMoved self.old from to slots self.new) }
         ensures err { OnErr result (AreMembersRead self.old from self.new) }
     {
-        let changes = changes_into(self.alloc, &mut self.parts.heap, &self.parts.sets, from, to)?;
-        self.parts.sets.record_many(changes.cards.as_slice(), to)?;
-        make_changes(&mut self.parts.heap, changes.references.as_slice());
-        self.parts.sets.clear(from);
+        let changes = changes_into(
+            self.alloc,
+            &mut self.memory.heap,
+            &self.memory.sets,
+            from,
+            to,
+        )?;
+        self.memory.sets.record_many(changes.cards.as_slice(), to)?;
+        make_changes(&mut self.memory.heap, changes.references.as_slice());
+        self.memory.sets.clear(from);
         Ok(changes.references.len() as u32)
     }
 

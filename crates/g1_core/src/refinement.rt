@@ -21,8 +21,7 @@ impl Core {
     ghost use Rattle.g1_core.specs.Machine.{IsLater};
     ghost use Rattle.g1_core.specs.Turns.{offer_to, state_after};
     ghost use Rattle.g1_core.specs.Refinement.{IsTurned, AreCardsRead};
-    ghost use Rattle.g1_core.specs.Calls.{refine_entry};
-    ghost use Rattle.g1_core.specs.Does.{DoesRefine};
+    ghost use Rattle.g1_core.specs.Calls.{refine_entry, DoesRefine};
     ghost use Rattle.g1_core.specs.Run.{IsStep};
 
     /// Refines a completed buffer: its cards take their turns, oldest first. `None` changes nothing
@@ -96,25 +95,25 @@ impl Core {
         ensures settings { self.new.settings ≡ self.old.settings }
     {
         let _reads = self.reads();
-        let dirty = is_dirty(&self.parts.heap, card);
+        let dirty = is_dirty(&self.memory.heap, card);
         if !dirty {
             return Ok(None);
         }
         let offer = self.hot.would(card);
         match offer {
             Offer::Cold => {
-                self.parts.refine(card)?;
+                self.memory.refine(card)?;
                 self.hot.offer(card);
                 return Ok(Some(offer));
             }
             Offer::Kept => {
-                self.parts.heap.set_mark(card, Mark::Held);
+                self.memory.heap.set_mark(card, Mark::Held);
                 self.hot.offer(card);
                 return Ok(Some(offer));
             }
             Offer::Out(oldest) => {
-                self.parts.refine(oldest)?;
-                self.parts.heap.set_mark(card, Mark::Held);
+                self.memory.refine(oldest)?;
+                self.memory.heap.set_mark(card, Mark::Held);
                 self.hot.offer(card);
                 return Ok(Some(offer));
             }

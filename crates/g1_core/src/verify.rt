@@ -112,7 +112,7 @@ impl Core {
         requires { region < self.now.state.table.layout.regions }
         ensures { result ≡ set.contains self.now.state.table.recorded (card, region) }
     {
-        self.parts.sets.has(card, region)
+        self.memory.sets.has(card, region)
     }
 }
 

@@ -5,7 +5,7 @@ use Rattle.std.specs.Prelude.{Option, Some, None, Result, Ok, Err, All, length, 
 use Rattle.std.specs.Arc.{arc_value}
 use mathlib.Core.HLevel.{is_prop→PathP}
 use Rattle.g1_race.specs.Members.{race_id, race_layout}
-use Rattle.g1_race.specs.Over.{Halt}
+use Rattle.g1_race.specs.Over.{Pause}
 use Rattle.g1_handles.specs.declared.code.Refusal.{Refusal}
 use Rattle.g1_handles.specs.declared.heap.racing_heap.AtPause.{AtPause}
 use Rattle.g1_handles.specs.declared.heap.racing_heap.RacingHeap.{RacingHeap}
@@ -32,10 +32,10 @@ same_at a b same e = λ i. record {
   readers_wait = is_prop→PathP (λ j. All (λ m. arc_value m.value.race ≡ arc_value (same.race j)) (same.readers j).idle.items) (λ j. hlevel props) b.readers_wait a.readers_wait i;
 }
 
-module _ {A : Type 0} (Q : Halt → Result A Refusal → Halt → Type 0) where
+module _ {A : Type 0} (Q : Pause → Result A Refusal → Pause → Type 0) where
   -- a call that answers was made at a pause
-  pub called_ok : (P : Halt → Halt → Type 0) (old new : Option RacingHeap) (answer : A)
-      → ((p q : Halt) → Q p (Ok answer) q → P p q) → IsCalled Q old (Ok answer) new → IsSameHeap old new P
+  pub called_ok : (P : Pause → Pause → Type 0) (old new : Option RacingHeap) (answer : A)
+      → ((p q : Pause) → Q p (Ok answer) q → P p q) → IsCalled Q old (Ok answer) new → IsSameHeap old new P
   called_ok P None new answer so is = absurd (subst is_ok is.1 tt)
   called_ok P (Some (heap.Racing b)) new answer so is = absurd (subst is_ok is.1 tt)
   called_ok P (Some (heap.Read b)) new answer so is = absurd (subst is_ok is.1 tt)
@@ -45,8 +45,8 @@ module _ {A : Type 0} (Q : Halt → Result A Refusal → Halt → Type 0) where
   called_ok P (Some (heap.Paused a)) (Some (heap.Paused b)) answer so is = (is.0, so a.pause b.pause is.1)
 
   -- a call that is refused has a reason
-  pub called_why : (Why : Halt → Refusal → Type 0) (old new : Option RacingHeap) (r : Refusal)
-      → ((p q : Halt) → Q p (Err r) q → Why p r) → IsCalled Q old (Err r) new → IsHeapRefused old Why r
+  pub called_why : (Why : Pause → Refusal → Type 0) (old new : Option RacingHeap) (r : Refusal)
+      → ((p q : Pause) → Q p (Err r) q → Why p r) → IsCalled Q old (Err r) new → IsHeapRefused old Why r
   called_why Why None new r so is = inl (ap (err_of r) is.1, refl)
   called_why Why (Some (heap.Racing b)) new r so is = inr (inl (ap (err_of r) is.1, inl tt))
   called_why Why (Some (heap.Read b)) new r so is = inr (inl (ap (err_of r) is.1, inr tt))
@@ -57,7 +57,7 @@ module _ {A : Type 0} (Q : Halt → Result A Refusal → Halt → Type 0) where
 
   -- and nothing has changed where it keeps the pause as it is
   pub called_same : (old new : Option RacingHeap) (r : Result A Refusal)
-      → ((p q : Halt) → Q p r q → q ≡ p) → IsCalled Q old r new → new ≡ old
+      → ((p q : Pause) → Q p r q → q ≡ p) → IsCalled Q old r new → new ≡ old
   called_same None new r so is = is.0
   called_same (Some (heap.Racing b)) new r so is = is.0
   called_same (Some (heap.Read b)) new r so is = is.0

@@ -1,21 +1,21 @@
 -- What a call at a pause keeps.
 use Rattle.std.proofs.Common.{◌≡◌, [], ap, ◌∙◌, length}
 use Rattle.std.proofs.lemmas.List.{length-replicate}
-use Rattle.g1_race.specs.Over.{Halt}
+use Rattle.g1_race.specs.Over.{Pause}
 use Rattle.g1_race.specs.Evacuating.{IsSameRace, IsRefinedRace}
 use Rattle.g1_handles.specs.AtPause.{IsKept}
 
-pub kept_same : (old new : Halt) → new ≡ old → IsKept old new
+pub kept_same : (old new : Pause) → new ≡ old → IsKept old new
 kept_same old new e = record {
-  layout = ap (λ (h : Halt). h.layout) e;
-  shape = ap (λ (h : Halt). h.shape) e;
-  address = ap (λ (h : Halt). h.address) e;
-  table_id = ap (λ (h : Halt). h.table_id) e;
-  racers = ap (λ (h : Halt). length h.logs) e;
-  sweepers = ap (λ (h : Halt). h.sweepers) e;
+  layout = ap (λ (h : Pause). h.layout) e;
+  shape = ap (λ (h : Pause). h.shape) e;
+  address = ap (λ (h : Pause). h.address) e;
+  table_id = ap (λ (h : Pause). h.table_id) e;
+  racers = ap (λ (h : Pause). length h.logs) e;
+  sweepers = ap (λ (h : Pause). h.sweepers) e;
 }
 
-pub kept_race : (old new : Halt) → IsSameRace old new → IsKept old new
+pub kept_race : (old new : Pause) → IsSameRace old new → IsKept old new
 kept_race old new h = record {
   layout = h.layout;
   shape = h.shape;
@@ -25,7 +25,7 @@ kept_race old new h = record {
   sweepers = h.sweepers;
 }
 
-pub kept_refined : (old new : Halt) → IsRefinedRace old new → IsKept old new
+pub kept_refined : (old new : Pause) → IsRefinedRace old new → IsKept old new
 kept_refined old new h = record {
   layout = h.layout;
   shape = h.shape;

@@ -1,4 +1,4 @@
--- A member and its part.
+-- A member and its role.
 use Rattle.std.proofs.Common.{◌≡◌, ◌<◌, List, [], ◌∷◌, Some, None, All, map, refl, ap, ◌∙◌, sym, subst}
 use Rattle.std.proofs.Props.{props}
 use Rattle.std.proofs.lemmas.List.{length-map}
@@ -11,19 +11,19 @@ use mathlib.Core.HLevel.{is_prop→PathP}
 use Rattle.g1_race.specs.declared.race.Race.{Race}
 use Rattle.g1_race.specs.Members.{race_id}
 use Rattle.g1_handles.specs.declared.code.Refusal.{Refusal}
-use Rattle.g1_handles.specs.declared.member.Part.{Ghosts}
+use Rattle.g1_handles.specs.declared.member.Role.{Ghosts}
 use Rattle.g1_handles.specs.declared.member.Member.{Member}
 use Rattle.g1_handles.specs.Racing.{IsOf}
 
--- a member is its share, its number, its counts and its part, with padding
-pub same_member : {P : Type 0} {g : Ghosts P} (m n : Member P g) → m.race ≡ n.race → m.number ≡ n.number → m.counts ≡ n.counts → m.part ≡ n.part → m.apart ≡ n.apart → m ≡ n
-same_member {P} {g} m n race number counts part apart = λ i. record {
+-- a member is its share, its number, its counts and its role, with padding
+pub same_member : {P : Type 0} {g : Ghosts P} (m n : Member P g) → m.race ≡ n.race → m.number ≡ n.number → m.counts ≡ n.counts → m.role ≡ n.role → m.apart ≡ n.apart → m ≡ n
+same_member {P} {g} m n race number counts role apart = λ i. record {
   race = race i;
   number = number i;
-  part = part i;
+  role = role i;
   counts = counts i;
   apart = apart i;
-  same = is_prop→PathP (λ j. ForSome (part j) (λ p. g.of p ≡ race_id (arc_value (race j)))) (λ j. hlevel props) m.same n.same i;
+  same = is_prop→PathP (λ j. ForSome (role j) (λ p. g.of p ≡ race_id (arc_value (race j)))) (λ j. hlevel props) m.same n.same i;
 }
 
 -- a call that is refused leaves what it was made on
@@ -36,25 +36,25 @@ pub if_err : {A E P : Type 0} (r : Result A E) → P → OnErr r P
 if_err (Ok a) p = tt
 if_err (Err e) p = p
 
--- the part of a member is of its race
-pub part_is_of : {P : Type 0} {g : Ghosts P} (m : Member P g) (part : P) (race : Race) → m.part ≡ Some part → IsOf race (Some m) → g.of part ≡ race_id race
-part_is_of m part race is of = m.same part is ∙ ap race_id of
+-- the role of a member is of its race
+pub role_is_of : {P : Type 0} {g : Ghosts P} (m : Member P g) (role : P) (race : Race) → m.role ≡ Some role → IsOf race (Some m) → g.of role ≡ race_id race
+role_is_of m role race is of = m.same role is ∙ ap race_id of
 
 pub none_is_some : {P : Type 0} (o : Option P) → IsSome o → o ≡ None → ⊥
 none_is_some None some e = cc
-none_is_some (Some part) some e = cc
+none_is_some (Some role) some e = cc
 
--- what is seen of each part in a list is what is seen of each handle, if the parts are the handles'
-pub seen_alike : {P B M : Type 0} (find : M → Option P) (f : P → B) (g : Option P → B) → ((part : P) → g (Some part) ≡ f part) → (ms : List M) (parts : List P)
-    → map (λ part. Some part) parts ≡ map find ms → map f parts ≡ map (λ m. g (find m)) ms
+-- what is seen of each role in a list is what is seen of each handle, if the roles are the handles'
+pub seen_alike : {P B M : Type 0} (find : M → Option P) (f : P → B) (g : Option P → B) → ((role : P) → g (Some role) ≡ f role) → (ms : List M) (roles : List P)
+    → map (λ role. Some role) roles ≡ map find ms → map f roles ≡ map (λ m. g (find m)) ms
 seen_alike find f g same [] [] e = refl
-seen_alike find f g same [] (part ∷ parts) e = absurd cc
+seen_alike find f g same [] (role ∷ roles) e = absurd cc
 seen_alike find f g same (m ∷ ms) [] e = absurd cc
-seen_alike find f g same (m ∷ ms) (part ∷ parts) e =
-    let first : Some part ≡ find m = cc in
-    let later : map (λ part. Some part) parts ≡ map find ms = cc in
-    let here : f part ≡ g (find m) = sym (same part) ∙ ap g first in
-    let there = seen_alike find f g same ms parts later in
+seen_alike find f g same (m ∷ ms) (role ∷ roles) e =
+    let first : Some role ≡ find m = cc in
+    let later : map (λ role. Some role) roles ≡ map find ms = cc in
+    let here : f role ≡ g (find m) = sym (same role) ∙ ap g first in
+    let there = seen_alike find f g same ms roles later in
     cc
 
 -- what is so of each of a list is so of what a function finds in each of another, if it finds that list

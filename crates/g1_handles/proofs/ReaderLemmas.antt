@@ -7,15 +7,15 @@ use Rattle.std.proofs.Math.ListN.{get_or-map}
 use Rattle.std.proofs.lemmas.List.Elements.{All-map}
 use Rattle.g1_race.specs.declared.race.Race.{Race}
 use Rattle.g1_race.specs.Members.{race_id, race_layout, race_shape}
-use Rattle.g1_race.specs.Over.{Halt, ended, start_at, table_of}
+use Rattle.g1_race.specs.Over.{Pause, ended, start_at, table_of}
 use Rattle.g1_race.specs.Reading.{Known, known}
 use Rattle.g1_handles.specs.Own.{ReaderMember}
-use Rattle.g1_handles.specs.Racing.{part_in, IsOf}
+use Rattle.g1_handles.specs.Racing.{role_in, IsOf}
 use Rattle.g1_handles.specs.Readers.{OfReader, IsReaderAt, AreReadersAt, reader_at}
 use Rattle.g1_handles.proofs.MemberLemmas.{found}
 
 -- what every reader of the pause knows
-abbrev pub KnowsPause : Halt → Known → Type 0
+abbrev pub KnowsPause : Pause → Known → Type 0
 KnowsPause p r = r ≡ known p.table_id (start_at p)
 
 weaker : {A : Type 0} (P Q : A → Type 0) (o : Option A) → ((x : A) → P x → Q x) → IsSomeAnd o P → IsSomeAnd o Q
@@ -26,41 +26,41 @@ whence : {A : Type 0} (P : A → Type 0) (R : Type 0) (o : Option A) → ((x : A
 whence P R None so is = absurd is
 whence P R (Some x) so is = so x is
 
-at_pause : (race here : Race) (p : Halt) (r : Known) → race_id race ≡ (p.table_id, p.shape) → race_layout race ≡ p.layout → here ≡ race
+at_pause : (race here : Race) (p : Pause) (r : Known) → race_id race ≡ (p.table_id, p.shape) → race_layout race ≡ p.layout → here ≡ race
     → KnowsPause p r → IsReaderAt race p (reader_at here r)
 at_pause race here p r id laid of is =
     let layout : race_layout here ≡ p.layout = ap race_layout of ∙ laid in
     let shape : race_shape here ≡ p.shape = ap race_shape of ∙ ap (λ z. z.1) id in
     record { of = of; knows = is; table = λ i. table_of (ended (layout i) (shape i) (is i).start.words) }
 
-reader_behind : (race : Race) (p : Halt) (m : Option ReaderMember) → race_id race ≡ (p.table_id, p.shape) → race_layout race ≡ p.layout
-    → IsSomeAnd (part_in m) (KnowsPause p) → IsOf race m → OfReader m (IsReaderAt race p)
+reader_behind : (race : Race) (p : Pause) (m : Option ReaderMember) → race_id race ≡ (p.table_id, p.shape) → race_layout race ≡ p.layout
+    → IsSomeAnd (role_in m) (KnowsPause p) → IsOf race m → OfReader m (IsReaderAt race p)
 reader_behind race p None id laid is of = is
 reader_behind race p (Some m) id laid is of =
-    weaker (KnowsPause p) (λ r. IsReaderAt race p (reader_at (arc_value m.race) r)) m.part (λ r knows. at_pause race (arc_value m.race) p r id laid of knows) is
+    weaker (KnowsPause p) (λ r. IsReaderAt race p (reader_at (arc_value m.race) r)) m.role (λ r knows. at_pause race (arc_value m.race) p r id laid of knows) is
 
 -- handles that got readers of the pause, of this race, have such readers
-pub handed_out : (race : Race) (p : Halt) (ms : List (Option ReaderMember)) (parts : List Known) → race_id race ≡ (p.table_id, p.shape) → race_layout race ≡ p.layout
-    → map part_in ms ≡ map (λ r. Some r) parts → All (KnowsPause p) parts → All (IsOf race) ms → AreReadersAt race p ms
-handed_out race p ms parts id laid is know of k d below =
-    reader_behind race p _ id laid (found part_in (KnowsPause p) ms parts is know k d below) (of k d below)
+pub handed_out : (race : Race) (p : Pause) (ms : List (Option ReaderMember)) (roles : List Known) → race_id race ≡ (p.table_id, p.shape) → race_layout race ≡ p.layout
+    → map role_in ms ≡ map (λ r. Some r) roles → All (KnowsPause p) roles → All (IsOf race) ms → AreReadersAt race p ms
+handed_out race p ms roles id laid is know of k d below =
+    reader_behind race p _ id laid (found role_in (KnowsPause p) ms roles is know k d below) (of k d below)
 
-knows : (race : Race) (p : Halt) (m : Option ReaderMember) → OfReader m (IsReaderAt race p) → IsSomeAnd (part_in m) (KnowsPause p)
+knows : (race : Race) (p : Pause) (m : Option ReaderMember) → OfReader m (IsReaderAt race p) → IsSomeAnd (role_in m) (KnowsPause p)
 knows race p None is = is
-knows race p (Some m) is = weaker (λ r. IsReaderAt race p (reader_at (arc_value m.race) r)) (KnowsPause p) m.part (λ r at. at.knows) is
+knows race p (Some m) is = weaker (λ r. IsReaderAt race p (reader_at (arc_value m.race) r)) (KnowsPause p) m.role (λ r at. at.knows) is
 
-of_race : (race : Race) (p : Halt) (m : Option ReaderMember) → OfReader m (IsReaderAt race p) → IsOf race m
+of_race : (race : Race) (p : Pause) (m : Option ReaderMember) → OfReader m (IsReaderAt race p) → IsOf race m
 of_race race p None is = is
-of_race race p (Some m) is = whence (λ r. IsReaderAt race p (reader_at (arc_value m.race) r)) (arc_value m.race ≡ race) m.part (λ r at. at.of) is
+of_race race p (Some m) is = whence (λ r. IsReaderAt race p (reader_at (arc_value m.race) r)) (arc_value m.race ≡ race) m.role (λ r at. at.of) is
 
 -- readers of the pause are of its race
-pub all_of_race : (race : Race) (p : Halt) (ms : List (Option ReaderMember)) → AreReadersAt race p ms → All (IsOf race) ms
+pub all_of_race : (race : Race) (p : Pause) (ms : List (Option ReaderMember)) → AreReadersAt race p ms → All (IsOf race) ms
 all_of_race race p ms all k d below = of_race race p _ (all k d below)
 
 -- and know what it has
-pub all_know : (race : Race) (p : Halt) (ms : List (Option ReaderMember)) (parts : List Known) → map (λ r. Some r) parts ≡ map part_in ms
-    → AreReadersAt race p ms → All (KnowsPause p) parts
-all_know race p ms parts is all k d below =
-    let has : All (λ o. IsSomeAnd o (KnowsPause p)) (map part_in ms) = All-map (λ o. IsSomeAnd o (KnowsPause p)) part_in ms (λ k d below. knows race p _ (all k d below)) in
-    let there : All (λ o. IsSomeAnd o (KnowsPause p)) (map (λ r. Some r) parts) = subst (All (λ o. IsSomeAnd o (KnowsPause p))) (sym is) has in
-    subst (λ o. IsSomeAnd o (KnowsPause p)) (get_or-map (λ (r : Known). Some r) parts k d) (there k (Some d) (subst (λ n. k < n) (sym (length-map parts (λ (r : Known). Some r))) below))
+pub all_know : (race : Race) (p : Pause) (ms : List (Option ReaderMember)) (roles : List Known) → map (λ r. Some r) roles ≡ map role_in ms
+    → AreReadersAt race p ms → All (KnowsPause p) roles
+all_know race p ms roles is all k d below =
+    let has : All (λ o. IsSomeAnd o (KnowsPause p)) (map role_in ms) = All-map (λ o. IsSomeAnd o (KnowsPause p)) role_in ms (λ k d below. knows race p _ (all k d below)) in
+    let there : All (λ o. IsSomeAnd o (KnowsPause p)) (map (λ r. Some r) roles) = subst (All (λ o. IsSomeAnd o (KnowsPause p))) (sym is) has in
+    subst (λ o. IsSomeAnd o (KnowsPause p)) (get_or-map (λ (r : Known). Some r) roles k d) (there k (Some d) (subst (λ n. k < n) (sym (length-map roles (λ (r : Known). Some r))) below))

@@ -7,7 +7,7 @@ use Rattle.std.proofs.lemmas.List.Elements.{All-map}
 use Rattle.std.specs.Arc.{arc_value}
 use Rattle.g1_race.specs.declared.race.Race.{Race}
 use Rattle.g1_handles.specs.declared.member.Member.{Member}
-use Rattle.g1_handles.specs.declared.member.Part.{Ghosts}
+use Rattle.g1_handles.specs.declared.member.Role.{Ghosts}
 use Rattle.g1_handles.specs.Racing.{IsOf}
 
 -- the member is of the race that its box waited for

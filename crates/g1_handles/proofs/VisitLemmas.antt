@@ -2,11 +2,11 @@
 use Rattle.std.proofs.Common.{◌≡◌, ◌∙◌, ap, sym, subst, inl, inr, refl}
 use Rattle.std.specs.Prelude.{Option, Some, None, Result, Ok, Err, IfSome}
 use Rattle.g1_handles.specs.declared.code.Refusal.{Refusal}
-use Rattle.g1_handles.specs.declared.member.Part.{Ghosts}
+use Rattle.g1_handles.specs.declared.member.Role.{Ghosts}
 use Rattle.g1_handles.specs.declared.member.Member.{Member}
 use Rattle.g1_handles.specs.Codes.{Between, OfOpen}
-use Rattle.g1_handles.specs.Racing.{OfPart, IfPart}
-use Rattle.g1_handles.specs.Refusals.{IsCallRefused, IsPartRefused}
+use Rattle.g1_handles.specs.Racing.{OfRole, IfRole}
+use Rattle.g1_handles.specs.Refusals.{IsCallRefused, IsRoleRefused}
 use Rattle.g1_handles.specs.Visits.{IsVisit}
 
 abbrev pub is_ok : {A : Type 0} → Result A Refusal → Type 0
@@ -66,27 +66,27 @@ module _ {V A : Type 0} (Q : V → Result A Refusal → V → Type 0) where
 
 module _ {P : Type 0} {g : Ghosts P} {T A : Type 0} (seen : Member P g → P → T) (Q : Member P g → Result A Refusal → Member P g → Type 0) where
   -- the same of the racer, the sweeper or the reader of a handle
-  pub part_ok : (R : T → T → Type 0) (old new : Option (Member P g)) (answer : A)
-      → ((m n : Member P g) → Q m (Ok answer) n → OfPart seen (Some m) (λ a. OfPart seen (Some n) (λ b. R a b)))
-      → IsVisit Q old (Ok answer) new → OfPart seen old (λ a. OfPart seen new (λ b. R a b))
-  part_ok R None new answer so is = absurd (subst is_ok is.1 tt)
-  part_ok R (Some m) None answer so is = absurd is
-  part_ok R (Some m) (Some n) answer so is = so m n is
+  pub role_ok : (R : T → T → Type 0) (old new : Option (Member P g)) (answer : A)
+      → ((m n : Member P g) → Q m (Ok answer) n → OfRole seen (Some m) (λ a. OfRole seen (Some n) (λ b. R a b)))
+      → IsVisit Q old (Ok answer) new → OfRole seen old (λ a. OfRole seen new (λ b. R a b))
+  role_ok R None new answer so is = absurd (subst is_ok is.1 tt)
+  role_ok R (Some m) None answer so is = absurd is
+  role_ok R (Some m) (Some n) answer so is = so m n is
 
-  pub part_of : (R : T → Type 0) (old new : Option (Member P g)) (answer : A)
-      → ((m n : Member P g) → Q m (Ok answer) n → OfPart seen (Some m) R) → IsVisit Q old (Ok answer) new → OfPart seen old R
-  part_of R None new answer so is = absurd (subst is_ok is.1 tt)
-  part_of R (Some m) None answer so is = absurd is
-  part_of R (Some m) (Some n) answer so is = so m n is
+  pub role_of : (R : T → Type 0) (old new : Option (Member P g)) (answer : A)
+      → ((m n : Member P g) → Q m (Ok answer) n → OfRole seen (Some m) R) → IsVisit Q old (Ok answer) new → OfRole seen old R
+  role_of R None new answer so is = absurd (subst is_ok is.1 tt)
+  role_of R (Some m) None answer so is = absurd is
+  role_of R (Some m) (Some n) answer so is = so m n is
 
-  pub part_why : (Why : T → Refusal → Type 0) (old new : Option (Member P g)) (r : Refusal)
-      → ((m n : Member P g) → Q m (Err r) n → IsPartRefused seen (Some m) Why r) → IsVisit Q old (Err r) new → IsPartRefused seen old Why r
-  part_why Why None new r so is = inl (ap (err_of r) is.1, refl)
-  part_why Why (Some m) None r so is = absurd is
-  part_why Why (Some m) (Some n) r so is = so m n is
+  pub role_why : (Why : T → Refusal → Type 0) (old new : Option (Member P g)) (r : Refusal)
+      → ((m n : Member P g) → Q m (Err r) n → IsRoleRefused seen (Some m) Why r) → IsVisit Q old (Err r) new → IsRoleRefused seen old Why r
+  role_why Why None new r so is = inl (ap (err_of r) is.1, refl)
+  role_why Why (Some m) None r so is = absurd is
+  role_why Why (Some m) (Some n) r so is = so m n is
 
-  pub part_if : (R : T → Type 0) (old new : Option (Member P g)) (r : Result A Refusal)
-      → ((m n : Member P g) → Q m r n → IfPart seen (Some m) R) → IsVisit Q old r new → IfPart seen old R
-  part_if R None new r so is = tt
-  part_if R (Some m) None r so is = absurd is
-  part_if R (Some m) (Some n) r so is = so m n is
+  pub role_if : (R : T → Type 0) (old new : Option (Member P g)) (r : Result A Refusal)
+      → ((m n : Member P g) → Q m r n → IfRole seen (Some m) R) → IsVisit Q old r new → IfRole seen old R
+  role_if R None new r so is = tt
+  role_if R (Some m) None r so is = absurd is
+  role_if R (Some m) (Some n) r so is = so m n is

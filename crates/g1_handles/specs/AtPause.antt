@@ -17,7 +17,7 @@ use Rattle.g1_core.specs.declared.reply.ClearReply.{ClearReply}
 use Rattle.g1_core.specs.declared.reply.ClearReply.TheVariants as clear_reply
 use Rattle.g1_race_words.specs.Rule.{IsWord}
 use Rattle.g1_race.specs.Race.{word_of}
-use Rattle.g1_race.specs.Over.{Halt, halted}
+use Rattle.g1_race.specs.Over.{Pause, table_at}
 use Rattle.g1_race.specs.Evacuating.{IsSameRace, IsRefinedRace, SlotsBecome, same_word, one_word}
 use Rattle.g1_race.specs.Evacuating.{wiped_word, wiped, forgotten, plain_reply, AreAllRefined}
 use Rattle.g1_race.specs.Evacuating.{IsExactAtPause, copied_word}
@@ -27,7 +27,7 @@ use Rattle.g1_handles.specs.declared.one_core.batch.Store.{Store}
 use Rattle.g1_handles.specs.Codes.{reference_of}
 
 -- whose words these are, how they are laid out, and how many members there are is as it was
-pub record IsKept (old new : Halt) : Type 0 where
+pub record IsKept (old new : Pause) : Type 0 where
   pub layout : new.layout ≡ old.layout
   pub shape : new.shape ≡ old.shape
   pub address : new.address ≡ old.address
@@ -36,50 +36,52 @@ pub record IsKept (old new : Halt) : Type 0 where
   pub sweepers : new.sweepers ≡ old.sweepers
 
 -- the slot refers to the target
-pub record SlotRefers (heap : Halt) (slot : ℕ) (target : Option ℕ) : Type 0 where
-  pub refers : target ≡ target_of (halted heap) slot
-  pub step : (caller : ℕ) → IsStep (halted heap) (target_entry caller slot target) (halted heap)
+pub record SlotRefers (heap : Pause) (slot : ℕ) (target : Option ℕ) : Type 0 where
+  pub refers : target ≡ target_of (table_at heap) slot
+  pub step : (caller : ℕ) → IsStep (table_at heap) (target_entry caller slot target) (table_at heap)
 
 -- the answer is whether the card is pending
-pub record TellsPending (heap : Halt) (card : ℕ) (answer : Bool) : Type 0 where
-  pub pending : answer ≡ set.contains (halted heap).pending card
-  pub step : (caller : ℕ) → IsStep (halted heap) (pending_entry caller card answer) (halted heap)
+pub record TellsPending (heap : Pause) (card : ℕ) (answer : Bool) : Type 0 where
+  pub pending : answer ≡ set.contains (table_at heap).pending card
+  pub step : (caller : ℕ)
+    → IsStep (table_at heap) (pending_entry caller card answer) (table_at heap)
 
 -- the status counts the pending cards and the recorded pairs
-pub record TellsStatus (heap : Halt) (status : Status) : Type 0 where
-  pub pending : status.pending ≡ set.len (halted heap).pending
-  pub recorded : status.recorded ≡ set.len (halted heap).recorded
-  pub step : (caller : ℕ) → IsStep (halted heap) (status_entry caller status) (halted heap)
+pub record TellsStatus (heap : Pause) (status : Status) : Type 0 where
+  pub pending : status.pending ≡ set.len (table_at heap).pending
+  pub recorded : status.recorded ≡ set.len (table_at heap).recorded
+  pub step : (caller : ℕ) → IsStep (table_at heap) (status_entry caller status) (table_at heap)
 
 -- these cards are recorded for the region, ascending, each once
-pub record TellsMembers (heap : Halt) (region : ℕ) (cards : List ℕ) : Type 0 where
-  pub members : AreMembers (halted heap) region cards
-  pub step : (caller : ℕ) → IsStep (halted heap) (members_entry caller region cards) (halted heap)
+pub record TellsMembers (heap : Pause) (region : ℕ) (cards : List ℕ) : Type 0 where
+  pub members : AreMembers (table_at heap) region cards
+  pub step : (caller : ℕ)
+    → IsStep (table_at heap) (members_entry caller region cards) (table_at heap)
 
 -- all is refined, and these cards are every one that holds into the region, and only such or
 -- recorded ones
-pub record DrainsAtPause (old : Halt) (region : ℕ) (new : Halt) (cards : List ℕ) : Type 0 where
+pub record DrainsAtPause (old : Pause) (region : ℕ) (new : Pause) (cards : List ℕ) : Type 0 where
   pub race : IsRefinedRace old new
   pub words : SlotsBecome same_word old new
   pub done : List ℕ
-  pub step : (caller : ℕ) → IsStep (halted old) (drained caller region cards done) (halted new)
-  pub exact : IsExactAtPause (halted old) region cards
+  pub step : (caller : ℕ) → IsStep (table_at old) (drained caller region cards done) (table_at new)
+  pub exact : IsExactAtPause (table_at old) region cards
 
 -- all is refined
-pub record Refines (old new : Halt) : Type 0 where
+pub record Refines (old new : Pause) : Type 0 where
   pub race : IsRefinedRace old new
   pub words : SlotsBecome same_word old new
-  pub refined : AreAllRefined (halted old) (marked_cards old.shape old.words) (halted new)
+  pub refined : AreAllRefined (table_at old) (marked_cards old.shape old.words) (table_at new)
 
 -- the target is stored into the slot, by a store of this kind
-pub record StoresAt (old : Halt) (slot : ℕ) (target : Option ℕ) (kind : Kind) (new : Halt)
+pub record StoresAt (old : Pause) (slot : ℕ) (target : Option ℕ) (kind : Kind) (new : Pause)
     : Type 0 where
   pub race : IsSameRace old new
   pub words : SlotsBecome (one_word slot (word_of target)) old new
-  pub kind_is : kind ≡ kind_of (halted old) slot target
-  pub table : halted new ≡ stored (halted old) slot target
+  pub kind_is : kind ≡ kind_of (table_at old) slot target
+  pub table : table_at new ≡ stored (table_at old) slot target
   pub step : (caller : ℕ)
-      → IsStep (halted old) (store_entry caller slot target (plain_reply kind)) (halted new)
+      → IsStep (table_at old) (store_entry caller slot target (plain_reply kind)) (table_at new)
 
 -- the table after these stores, each after the one before
 abbrev pub stored_all : Table → List Store → Table
@@ -92,61 +94,61 @@ word_stored stores slot word =
     fold (λ w s. one_word s.slot (word_of (reference_of s.target)) slot w) word stores
 
 -- these stores are made in order
-pub record StoresAllAt (old : Halt) (stores : List Store) (new : Halt) : Type 0 where
+pub record StoresAllAt (old : Pause) (stores : List Store) (new : Pause) : Type 0 where
   pub race : IsSameRace old new
   pub words : SlotsBecome (word_stored stores) old new
-  pub table : halted new ≡ stored_all (halted old) stores
+  pub table : table_at new ≡ stored_all (table_at old) stores
 
 -- a clear of the region got the reply
-pub record ClearsAt (old : Halt) (region : ℕ) (reply : ClearReply) (new : Halt) : Type 0 where
+pub record ClearsAt (old : Pause) (region : ℕ) (reply : ClearReply) (new : Pause) : Type 0 where
   pub race : IsSameRace old new
   pub words : SlotsBecome same_word old new
-  pub step : (caller : ℕ) → IsStep (halted old) (clear_entry caller region reply) (halted new)
+  pub step : (caller : ℕ) → IsStep (table_at old) (clear_entry caller region reply) (table_at new)
   pub refused : reply ≢ clear_reply.Cleared → new ≡ old
 
 -- references into the one region are moved to the other, and as many slots have changed
-pub record Redirects (old : Halt) (from to slots : ℕ) (new : Halt) : Type 0 where
+pub record Redirects (old : Pause) (from to slots : ℕ) (new : Pause) : Type 0 where
   pub race : IsRefinedRace old new
   pub words : SlotsBecome (word_after old.shape from to) old new
   pub step : (caller : ℕ) → let refined = marked_cards old.shape old.words in
-      IsStep (halted old) (redirect_entry caller from to (Moved slots refined)) (halted new)
+      IsStep (table_at old) (redirect_entry caller from to (Moved slots refined)) (table_at new)
 
 -- null is stored to each slot of the region
-pub record Wipes (old : Halt) (region : ℕ) (new : Halt) : Type 0 where
+pub record Wipes (old : Pause) (region : ℕ) (new : Pause) : Type 0 where
   pub race : IsSameRace old new
   pub words : SlotsBecome (wiped_word old.shape region) old new
-  pub table : halted new ≡ wiped region (halted old)
+  pub table : table_at new ≡ wiped region (table_at old)
   pub null : (slot : ℕ) → region_of old.layout slot ≡ region
-      → target_of (halted new) slot ≡ None
+      → target_of (table_at new) slot ≡ None
 
 -- some slot of the region refers out of it
-pub record RefersOut (heap : Halt) (region : ℕ) : Type 0 where
+pub record RefersOut (heap : Pause) (region : ℕ) : Type 0 where
   pub slot : ℕ
   pub place : ℕ
-  pub crosses : Crosses (halted heap) slot place
+  pub crosses : Crosses (table_at heap) slot place
   pub inside : region_of heap.layout slot ≡ region
 
 -- the region's cards are removed from all remembered sets
-pub record Forgets (old : Halt) (region : ℕ) (new : Halt) : Type 0 where
+pub record Forgets (old : Pause) (region : ℕ) (new : Pause) : Type 0 where
   pub race : IsSameRace old new
   pub words : SlotsBecome same_word old new
-  pub table : halted new ≡ forgotten region (halted old)
+  pub table : table_at new ≡ forgotten region (table_at old)
 
 -- the slot has this word
-pub record HasWord (heap : Halt) (slot word : ℕ) : Type 0 where
+pub record HasWord (heap : Pause) (slot word : ℕ) : Type 0 where
   pub found : get_elem? heap.words slot ≡ some word
   pub fits : IsWord heap.shape word
 
 -- data is stored into the slot, which is a store of null to the table
-pub record StoresDataAt (old : Halt) (slot word : ℕ) (new : Halt) : Type 0 where
+pub record StoresDataAt (old : Pause) (slot word : ℕ) (new : Pause) : Type 0 where
   pub race : IsSameRace old new
   pub words : SlotsBecome (one_word slot word) old new
-  pub table : halted new ≡ stored (halted old) slot None
+  pub table : table_at new ≡ stored (table_at old) slot None
   pub step : (caller : ℕ)
-      → IsStep (halted old) (store_entry caller slot None (plain_reply kinds.Null)) (halted new)
+      → IsStep (table_at old) (store_entry caller slot None (plain_reply kinds.Null)) (table_at new)
 
 -- as many words, from the one slot on, are copied to as many slots from the other one on
-pub record Copies (old : Halt) (from to count : ℕ) (new : Halt) : Type 0 where
+pub record Copies (old : Pause) (from to count : ℕ) (new : Pause) : Type 0 where
   pub race : IsSameRace old new
   pub words : SlotsBecome (copied_word old.words from to count) old new
-  pub table : halted new ≡ copied from to count (halted old)
+  pub table : table_at new ≡ copied from to count (table_at old)

@@ -16,10 +16,10 @@ use Rattle.g1_race.specs.declared.race.Racer.{Racer}
 use Rattle.g1_race.specs.Drain.{began}
 use Rattle.g1_race.specs.Members.{race_id, race_layout, racer_log, IsNewRacer, IsNewSweeper}
 use Rattle.g1_race.specs.Members.{racer_view, sweeper_view, race_shape}
-use Rattle.g1_race.specs.Over.{Halt, halted, start_at, ended_of}
+use Rattle.g1_race.specs.Over.{Pause, table_at, start_at, ended_of}
 use Rattle.g1_handles.specs.declared.code.Refusal.{Refusal}
 use Rattle.g1_handles.specs.declared.code.Refusal.TheVariants as refusal
-use Rattle.g1_handles.specs.declared.member.Part.{Ghosts}
+use Rattle.g1_handles.specs.declared.member.Role.{Ghosts}
 use Rattle.g1_handles.specs.declared.member.Member.{Member}
 use Rattle.g1_handles.specs.declared.heap.racing_heap.AtPause.{AtPause}
 use Rattle.g1_handles.specs.declared.heap.racing_heap.BeingRead.{BeingRead}
@@ -29,13 +29,13 @@ use Rattle.g1_handles.specs.declared.heap.racing_heap.RacingHeap.TheVariants as 
 use Rattle.g1_handles.specs.declared.member.counts.MemberCounts.{MemberCounts}
 use Rattle.g1_handles.specs.Own.{RacerMember, SweeperMember}
 use Rattle.g1_handles.specs.Racing.{AreClosed, OfRacer, OfSweeper, racer_race_of, sweeper_race_of}
-use Rattle.g1_handles.specs.Racing.{racer_knows, sweeper_knows, part_in, IsAmong, IsOf, IsEndOf}
+use Rattle.g1_handles.specs.Racing.{racer_knows, sweeper_knows, role_in, IsAmong, IsOf, IsEndOf}
 use Rattle.g1_handles.specs.Counting.{no_counts}
 use Rattle.g1_handles.specs.Racing.{counts_of}
 use Rattle.g1_handles.specs.Refusals.{SaysNoMember}
 
 -- the handle has a heap at a pause that no reader reads, and it is so of the pause
-abbrev pub OfPaused : Option RacingHeap → (Halt → Type 0) → Type 0
+abbrev pub OfPaused : Option RacingHeap → (Pause → Type 0) → Type 0
 OfPaused None P = ⊥
 OfPaused (Some (heap.Paused a)) P = P a.pause
 OfPaused (Some (heap.Read r)) P = ⊥
@@ -64,7 +64,7 @@ pub record IsSameBut (old new : AtPause) : Type 0 where
 
 -- the handle has a heap at a pause, as before, nothing but the pause has changed, and it is so of
 -- the pause before and after
-abbrev pub IsSameHeap : Option RacingHeap → Option RacingHeap → (Halt → Halt → Type 0) → Type 0
+abbrev pub IsSameHeap : Option RacingHeap → Option RacingHeap → (Pause → Pause → Type 0) → Type 0
 IsSameHeap None new Q = ⊥
 IsSameHeap (Some (heap.Read r)) new Q = ⊥
 IsSameHeap (Some (heap.Racing b)) new Q = ⊥
@@ -102,8 +102,8 @@ pub record AreHeapCounts (racers sweepers : ℕ) : Type 0 where
 
 -- the heap has just begun, with a member for each: its slots are null, its cards are clean, no pair
 -- is recorded, and no log has a card
-pub record IsNewHeap (l : layout.Shape) (racers sweepers : ℕ) (p : Halt) : Type 0 where
-  pub table : halted p ≡ opening l
+pub record IsNewHeap (l : layout.Shape) (racers sweepers : ℕ) (p : Pause) : Type 0 where
+  pub table : table_at p ≡ opening l
   pub logs : p.logs ≡ replicate racers []
   pub members : p.sweepers ≡ sweepers
 
@@ -181,7 +181,7 @@ log_of (Some racer) = racer_log racer
 
 -- the log of the racer behind a member's handle
 abbrev pub log_in : Option RacerMember → List ℕ
-log_in m = log_of (part_in m)
+log_in m = log_of (role_in m)
 
 -- the handle is a racer's of this race, which has stored nothing since the race began so
 abbrev pub IsNewRacing : Race → Start → Option RacerMember → Type 0
@@ -195,36 +195,36 @@ IsNewSweeping race begin m = OfSweeper m (λ b. (sweeper_race_of b ≡ race)
 
 -- the race goes on from the pause with its table, and all its racers and sweepers are behind these
 -- handles, each racer with the log that it had
-pub record GoesOn (p : Halt) (race : Race) (racers : List (Option RacerMember))
+pub record GoesOn (p : Pause) (race : Race) (racers : List (Option RacerMember))
     (sweepers : List (Option SweeperMember)) : Type 0 where
-  pub began : began (race_layout race) (beginning (start_at p)) ≡ halted p
+  pub began : began (race_layout race) (beginning (start_at p)) ≡ table_at p
   pub racing : All (IsNewRacing race (start_at p)) racers
   pub sweeping : All (IsNewSweeping race (start_at p)) sweepers
   pub logs : map log_in racers ≡ p.logs
 
 -- as many racers, sweepers or readers of the race, and as many boxes of members that wait for them
 pub record AreFor {P : Type 0} {g : Ghosts P} (race : Race) (count : ℕ)
-    (boxes : Vec (Box (Member P g) Global) Global) (parts : Vec P Global) : Type 0 where
+    (boxes : Vec (Box (Member P g) Global) Global) (roles : Vec P Global) : Type 0 where
   pub box_count : vec_len boxes ≡ count
-  pub part_count : vec_len parts ≡ count
+  pub role_count : vec_len roles ≡ count
   pub waiting : All (λ m. arc_value m.value.race ≡ race) boxes.items
-  pub of : All (λ part. g.of part ≡ race_id race) parts.items
+  pub of : All (λ role. g.of role ≡ race_id race) roles.items
 
 -- the pause has ended, and the members are still to be handed out
 pub record LetsGo (a : AtPause) (b : UnderWay) : Type 0 where
   pub race : arc_value b.race ≡ arc_value a.race
   pub racer_count : b.racers.count ≡ length a.pause.logs
   pub sweeper_count : b.sweepers.count ≡ a.pause.sweepers
-  pub racers : AreFor (arc_value b.race) b.racers.count b.racers.boxes b.racers.parts
+  pub racers : AreFor (arc_value b.race) b.racers.count b.racers.boxes b.racers.roles
   pub sweepers : AreFor (arc_value b.race) b.sweepers.count b.sweepers.boxes
-      b.sweepers.parts
+      b.sweepers.roles
   pub racing : All (IsNewRacer (arc_value b.race).table.table_id (start_at a.pause))
-      b.racers.parts.items
+      b.racers.roles.items
   pub sweeping : All (IsNewSweeper (arc_value b.race).table.table_id (start_at a.pause))
-      b.sweepers.parts.items
-  pub logs : map racer_log b.racers.parts.items ≡ a.pause.logs
+      b.sweepers.roles.items
+  pub logs : map racer_log b.racers.roles.items ≡ a.pause.logs
   pub began : began (race_layout (arc_value b.race)) (beginning (start_at a.pause))
-      ≡ halted a.pause
+      ≡ table_at a.pause
   pub racers_waited : b.racers.boxes ≡ a.racers
   pub sweepers_waited : b.sweepers.boxes ≡ a.sweepers
 
@@ -258,14 +258,14 @@ AreOfHeap h racers sweepers = OfRacing h (λ b.
 
 -- a pause of the race, whose racers and sweepers know this, and whose racers have these logs
 pub record IsPauseOf (race : Race) (racers sweepers : List View) (logs : List (List ℕ))
-    (p : Halt) : Type 0 where
+    (p : Pause) : Type 0 where
   pub left : IsEndOf race racers sweepers (ended_of p)
   pub within : (x : ℕ × ℕ) → Contains (ended_of p).pairs x → IsPairOf (race_layout race) x
-  pub cover : IsCovered (halted p)
+  pub cover : IsCovered (table_at p)
   pub kept : p.logs ≡ logs
 
 -- a pause of the race with the members of these handles
-abbrev pub IsPausedWith : Race → List (Option RacerMember) → List (Option SweeperMember) → Halt
+abbrev pub IsPausedWith : Race → List (Option RacerMember) → List (Option SweeperMember) → Pause
     → Type 0
 IsPausedWith race racers sweepers p =
     IsPauseOf race (map racer_knows racers) (map sweeper_knows sweepers) (map log_in racers) p
@@ -277,12 +277,12 @@ pub record ComesIn (old new : UnderWay) (rs : List (Option RacerMember))
   pub racer_count : new.racers.count ≡ old.racers.count
   pub sweeper_count : new.sweepers.count ≡ old.sweepers.count
   pub racers : AreFor (arc_value new.race) new.racers.count new.racers.boxes
-      new.racers.parts
+      new.racers.roles
   pub sweepers : AreFor (arc_value new.race) new.sweepers.count new.sweepers.boxes
-      new.sweepers.parts
-  pub racer_views : map racer_view new.racers.parts.items ≡ map racer_knows rs
-  pub sweeper_views : map sweeper_view new.sweepers.parts.items ≡ map sweeper_knows ss
-  pub logs : map racer_log new.racers.parts.items ≡ map log_in rs
+      new.sweepers.roles
+  pub racer_views : map racer_view new.racers.roles.items ≡ map racer_knows rs
+  pub sweeper_views : map sweeper_view new.sweepers.roles.items ≡ map sweeper_knows ss
+  pub logs : map racer_log new.racers.roles.items ≡ map log_in rs
   pub counts : waiting_counts new ≡ held_counts rs ss
 
 -- a pause of the heap of the first handle; that the members are of its race, each given once, is

@@ -15,9 +15,9 @@ use Rattle.g1_race.specs.contracts.race.Sweeper as sweeper
 use Rattle.g1_race.specs.contracts.paused.reading.Reader as reader
 use Rattle.g1_handles.specs.declared.member.Member.{Member}
 use Rattle.g1_handles.specs.contracts.member.Member as member
-use Rattle.g1_handles.specs.contracts.member.RacerPart.TheImpl.{ghosts as racers}
-use Rattle.g1_handles.specs.contracts.member.SweeperPart.TheImpl.{ghosts as sweepers}
-use Rattle.g1_handles.specs.contracts.member.ReaderPart.TheImpl.{ghosts as readers}
+use Rattle.g1_handles.specs.contracts.member.RacerRole.TheImpl.{ghosts as racers}
+use Rattle.g1_handles.specs.contracts.member.SweeperRole.TheImpl.{ghosts as sweepers}
+use Rattle.g1_handles.specs.contracts.member.ReaderRole.TheImpl.{ghosts as readers}
 use Rattle.g1_handles.specs.contracts.heap.racing_heap.RacingHeap as racing_heap
 
 -- the value at the pointer, and the right to free its block

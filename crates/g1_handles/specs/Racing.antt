@@ -13,10 +13,10 @@ use Rattle.g1_race.specs.Over.{Ended}
 use Rattle.g1_race_words.specs.Rule.{IsWord, slot_card}
 use Rattle.g1_race_words.specs.Seats.{IsFound}
 use Rattle.g1_race.specs.Race.{word_of, stored_view, IsKnown, IsOver}
-use Rattle.g1_race_words.specs.Steps.{nothing}
+use Rattle.g1_race_words.specs.Steps.{no_seat}
 use Rattle.g1_race.specs.Members.{race_layout, race_begun, race_shape, racer_view}
 use Rattle.g1_race.specs.Members.{sweeper_start, sweeper_view, IsKind, is_logged}
-use Rattle.g1_handles.specs.declared.member.Part.{Ghosts}
+use Rattle.g1_handles.specs.declared.member.Role.{Ghosts}
 use Rattle.g1_handles.specs.declared.member.Member.{Member}
 use Rattle.g1_handles.specs.declared.member.racer_handle.RacerHandle.{RacerHandle}
 use Rattle.g1_handles.specs.declared.member.counts.MemberCounts.{MemberCounts}
@@ -51,30 +51,30 @@ sweeping_in m sweeper =
 
 module _ {P : Type 0} {g : Ghosts P} {T : Type 0} (seen : Member P g → P → T) where
   -- the handle has a racer, a sweeper or a reader, and what is seen of it is so
-  abbrev pub OfPart : Option (Member P g) → (T → Type 0) → Type 0
-  OfPart None Q = ⊥
-  OfPart (Some m) Q = IsSomeAnd m.part (λ p. Q (seen m p))
+  abbrev pub OfRole : Option (Member P g) → (T → Type 0) → Type 0
+  OfRole None Q = ⊥
+  OfRole (Some m) Q = IsSomeAnd m.role (λ p. Q (seen m p))
 
   -- if the handle has one, it is so of it
-  abbrev pub IfPart : Option (Member P g) → (T → Type 0) → Type 0
-  IfPart None Q = Unit {0}
-  IfPart (Some m) Q = IfSome m.part (λ p. Q (seen m p))
+  abbrev pub IfRole : Option (Member P g) → (T → Type 0) → Type 0
+  IfRole None Q = Unit {0}
+  IfRole (Some m) Q = IfSome m.role (λ p. Q (seen m p))
 
 -- the handle has a racer, and it is so of it
 abbrev pub OfRacer : Option RacerMember → (Racing → Type 0) → Type 0
-OfRacer m Q = OfPart racing_in m Q
+OfRacer m Q = OfRole racing_in m Q
 
 -- if the handle has a racer, it is so of it
 abbrev pub IfRacer : Option RacerMember → (Racing → Type 0) → Type 0
-IfRacer m Q = IfPart racing_in m Q
+IfRacer m Q = IfRole racing_in m Q
 
 -- the handle has a sweeper, and it is so of it
 abbrev pub OfSweeper : Option SweeperMember → (Sweeping → Type 0) → Type 0
-OfSweeper m Q = OfPart sweeping_in m Q
+OfSweeper m Q = OfRole sweeping_in m Q
 
 -- if the handle has a sweeper, it is so of it
 abbrev pub IfSweeper : Option SweeperMember → (Sweeping → Type 0) → Type 0
-IfSweeper m Q = IfPart sweeping_in m Q
+IfSweeper m Q = IfRole sweeping_in m Q
 
 abbrev pub racer_race_of : Racing → Race
 racer_race_of a = a.race
@@ -137,9 +137,9 @@ abbrev pub held_readers : List ReaderHandle → List (Option ReaderMember)
 held_readers hs = map (λ h. h.value) hs
 
 -- what this racer or sweeper knows
-abbrev pub part_view : {P : Type 0} → (P → View) → Option P → View
-part_view view None = nothing
-part_view view (Some part) = view part
+abbrev pub role_view : {P : Type 0} → (P → View) → Option P → View
+role_view view None = no_seat
+role_view view (Some role) = view role
 
 -- the handles are closed
 abbrev pub AreClosed : {A : Type 0} → List (Option A) → Type 0
@@ -147,19 +147,19 @@ AreClosed values = All (λ v. v ≡ None) values
 
 module _ {P : Type 0} {g : Ghosts P} where
   -- the racer, the sweeper or the reader behind a handle, if there is one
-  abbrev pub part_in : Option (Member P g) → Option P
-  part_in None = None
-  part_in (Some m) = m.part
+  abbrev pub role_in : Option (Member P g) → Option P
+  role_in None = None
+  role_in (Some m) = m.role
 
   -- what the member behind a handle has counted
   abbrev pub counts_of : Option (Member P g) → MemberCounts
   counts_of None = no_counts
   counts_of (Some m) = m.counts
 
-  -- the handle has a member with its part, whose race has this many members
+  -- the handle has a member with its role, whose race has this many members
   abbrev pub IsAmong : ℕ → Option (Member P g) → Type 0
   IsAmong members m =
-      IsSomeAnd m (λ x. IsSome x.part × ((race_shape (arc_value x.race)).members ≡ members))
+      IsSomeAnd m (λ x. IsSome x.role × ((race_shape (arc_value x.race)).members ≡ members))
 
   -- the handle's member is of this race
   abbrev pub IsOf : Race → Option (Member P g) → Type 0
@@ -167,10 +167,10 @@ module _ {P : Type 0} {g : Ghosts P} where
 
 -- what the racer or the sweeper behind a handle knows
 abbrev pub racer_knows : Option RacerMember → View
-racer_knows m = part_view racer_view (part_in m)
+racer_knows m = role_view racer_view (role_in m)
 
 abbrev pub sweeper_knows : Option SweeperMember → View
-sweeper_knows m = part_view sweeper_view (part_in m)
+sweeper_knows m = role_view sweeper_view (role_in m)
 
 -- what is left of a race that ended with racers and sweepers who know this
 pub record IsEndOf (race : Race) (racers sweepers : List View) (e : Ended) : Type 0 where

@@ -10,7 +10,7 @@ use Rattle.g1_core.specs.Table.{Table, target_of, IsRecorded}
 use Rattle.g1_race_words.specs.Rule.{IsWord}
 use Rattle.g1_race.specs.declared.race.Race.{Race}
 use Rattle.g1_race.specs.Members.{race_layout, race_shape}
-use Rattle.g1_race.specs.Over.{Halt, halted, start_at}
+use Rattle.g1_race.specs.Over.{Pause, table_at, start_at}
 use Rattle.g1_race.specs.Reading.{Known, known, table_read, IsReaderOf, IsNextMember}
 use Rattle.g1_handles.specs.declared.code.Refusal.{Refusal}
 use Rattle.g1_handles.specs.declared.code.Refusal.TheVariants as refusal
@@ -20,8 +20,8 @@ use Rattle.g1_handles.specs.declared.heap.racing_heap.RacingHeap.{RacingHeap}
 use Rattle.g1_handles.specs.declared.heap.racing_heap.RacingHeap.TheVariants as heap
 use Rattle.g1_handles.specs.Own.{ReaderMember}
 use Rattle.g1_handles.specs.Life.{OfPaused, OfRead, IsRacing, SaysNoHeap, SaysNotPaused, AreFor}
-use Rattle.g1_handles.specs.Racing.{OfPart, AreClosed, IsAmong}
-use Rattle.g1_handles.specs.Refusals.{SaysNoMember, IsPartRefused}
+use Rattle.g1_handles.specs.Racing.{OfRole, AreClosed, IsAmong}
+use Rattle.g1_handles.specs.Refusals.{SaysNoMember, IsRoleRefused}
 
 -- a reader with its race
 pub record ReaderAt : Type 0 where
@@ -36,7 +36,7 @@ reading_in m reader = reader_at (arc_value m.race) reader
 
 -- the handle has a reader, and it is so of it
 abbrev pub OfReader : Option ReaderMember → (ReaderAt → Type 0) → Type 0
-OfReader m Q = OfPart reading_in m Q
+OfReader m Q = OfRole reading_in m Q
 
 -- how the heap that a reader reads is laid out
 abbrev pub reader_layout : ReaderAt → Shape
@@ -47,13 +47,13 @@ abbrev pub table_of_reader : ReaderAt → Table
 table_of_reader a = table_read a.race a.reader
 
 -- a reader of this race at this pause, which reads the table of the pause
-pub record IsReaderAt (race : Race) (p : Halt) (a : ReaderAt) : Type 0 where
+pub record IsReaderAt (race : Race) (p : Pause) (a : ReaderAt) : Type 0 where
   pub of : a.race ≡ race
   pub knows : a.reader ≡ known p.table_id (start_at p)
-  pub table : table_of_reader a ≡ halted p
+  pub table : table_of_reader a ≡ table_at p
 
 -- the handles are of readers of this race at this pause
-abbrev pub AreReadersAt : Race → Halt → List (Option ReaderMember) → Type 0
+abbrev pub AreReadersAt : Race → Pause → List (Option ReaderMember) → Type 0
 AreReadersAt race p readers = All (λ m. OfReader m (IsReaderAt race p)) readers
 
 -- a heap at a pause, and the same while readers read it
@@ -73,8 +73,8 @@ IsLentHeap (Some (heap.Racing b)) read = ⊥
 -- the heap is read by this many readers, which are not in their handles
 pub record AreOut (count : ℕ) (b : BeingRead) : Type 0 where
   pub counted : b.readers.out.count ≡ count
-  pub boxes : AreFor (arc_value b.race) count b.readers.out.boxes b.readers.out.parts
-  pub readers : All (IsReaderOf b.reading) b.readers.out.parts.items
+  pub boxes : AreFor (arc_value b.race) count b.readers.out.boxes b.readers.out.roles
+  pub readers : All (IsReaderOf b.reading) b.readers.out.roles.items
 
 -- this many readers read the heap
 abbrev pub IsReadBy : Option RacingHeap → ℕ → Type 0
@@ -129,4 +129,4 @@ ReadsNext a region from next = IsNextMember (table_of_reader a) region from next
 
 -- a call by the reader of a handle, which is refused of the reader for this
 abbrev pub IsReaderRefused : Option ReaderMember → (ReaderAt → Refusal → Type 0) → Refusal → Type 0
-IsReaderRefused m Why r = IsPartRefused reading_in m Why r
+IsReaderRefused m Why r = IsRoleRefused reading_in m Why r

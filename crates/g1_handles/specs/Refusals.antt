@@ -10,12 +10,12 @@ use Rattle.g1_race.specs.declared.race.Race.{Race}
 use Rattle.g1_race.specs.declared.race.Racer.{Racer}
 use Rattle.g1_handles.specs.declared.code.Refusal.{Refusal}
 use Rattle.g1_handles.specs.declared.code.Refusal.TheVariants as refusal
-use Rattle.g1_handles.specs.declared.member.Part.{Ghosts}
+use Rattle.g1_handles.specs.declared.member.Role.{Ghosts}
 use Rattle.g1_handles.specs.declared.member.Member.{Member}
 use Rattle.g1_handles.specs.Own.{RacerMember, SweeperMember}
 use Rattle.g1_handles.specs.Codes.{OfOpen}
 use Rattle.g1_handles.specs.Lacks.{LacksSlot, LacksCard, LacksRegion, LacksPlace, LacksCards}
-use Rattle.g1_handles.specs.Racing.{Racing, racer_race_of, sweeper_race_of, part_in, OfPart}
+use Rattle.g1_handles.specs.Racing.{Racing, racer_race_of, sweeper_race_of, role_in, OfRole}
 use Rattle.g1_handles.specs.Racing.{racing_in, sweeping_in}
 
 -- the handle is closed
@@ -40,7 +40,7 @@ SaysTooMany given r = (r ≡ refusal.TooManyCards) × (256 < given)
 
 -- the handle has no racer or sweeper: it is closed, since no member waits in a handle
 abbrev pub SaysNoMember : {P : Type 0} {g : Ghosts P} → Option (Member P g) → Refusal → Type 0
-SaysNoMember m r = (r ≡ refusal.NotOpen) × (part_in m ≡ None)
+SaysNoMember m r = (r ≡ refusal.NotOpen) × (role_in m ≡ None)
 
 -- the racer's log is full, or the heap lacks the slot, or the place of the target
 abbrev pub SaysNoStore : Race → Racer → ℕ → ℕ → Refusal → Type 0
@@ -49,13 +49,13 @@ SaysNoStore race racer slot target r =
     ⊎ LacksPlace (race_layout race) slot target r
 
 -- a call by the member of a handle, which is refused of what is seen of it for this
-abbrev pub IsPartRefused : {P : Type 0} {g : Ghosts P} {T : Type 0} → (Member P g → P → T)
+abbrev pub IsRoleRefused : {P : Type 0} {g : Ghosts P} {T : Type 0} → (Member P g → P → T)
     → Option (Member P g) → (T → Refusal → Type 0) → Refusal → Type 0
-IsPartRefused seen m Why r = SaysNoMember m r ⊎ OfPart seen m (λ a. Why a r)
+IsRoleRefused seen m Why r = SaysNoMember m r ⊎ OfRole seen m (λ a. Why a r)
 
 -- a call by the racer of a handle, which is refused of the racer for this
 abbrev pub IsRacerRefused : Option RacerMember → (Racing → Refusal → Type 0) → Refusal → Type 0
-IsRacerRefused m Why r = IsPartRefused racing_in m Why r
+IsRacerRefused m Why r = IsRoleRefused racing_in m Why r
 
 -- a store of the target into the slot by the racer of a handle
 abbrev pub IsRaceStoreRefused : Option RacerMember → ℕ → ℕ → Refusal → Type 0
@@ -77,7 +77,7 @@ IsRaceDataRefused m slot word =
 -- the refinement of the card by the sweeper of a handle, which takes no memory
 abbrev pub IsSweepRefused : Option SweeperMember → ℕ → Refusal → Type 0
 IsSweepRefused m card =
-    IsPartRefused sweeping_in m (λ b. LacksCard (race_layout (sweeper_race_of b)) card)
+    IsRoleRefused sweeping_in m (λ b. LacksCard (race_layout (sweeper_race_of b)) card)
 
 -- a heap of these counts with these settings
 abbrev pub IsNewRefused : Shape → Settings → Refusal → Type 0

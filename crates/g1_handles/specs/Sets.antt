@@ -3,7 +3,7 @@ use Rattle.std.specs.Prelude.{◌≡◌, ◌<◌, ◌+◌, ◌++◌, ℕ, List, 
 use Rattle.std.specs.Prelude.{OnErr, length, take}
 use Rattle.std.specs.List.Sorted.{IsStrictlyIncreasing}
 use Rattle.g1_core.specs.Table.{Table, IsRecorded}
-use Rattle.g1_race.specs.Over.{Halt}
+use Rattle.g1_race.specs.Over.{Pause}
 use Rattle.g1_handles.specs.Arrays.{IsWritten}
 use Rattle.g1_handles.specs.AtPause.{DrainsAtPause, TellsMembers}
 use Rattle.g1_handles.specs.declared.code.Refusal.{Refusal}
@@ -33,13 +33,13 @@ pub record AreMembersBelow (t : Table) (region from : ℕ) (cards : List ℕ) : 
   pub all : (card : ℕ) → card < from → IsRecorded t card region → Contains cards card
 
 -- these cards are the set
-abbrev pub IsSet : Which → Halt → ℕ → Halt → List ℕ → Type 0
+abbrev pub IsSet : Which → Pause → ℕ → Pause → List ℕ → Type 0
 IsSet Recorded old region new cards = TellsMembers old region cards
 IsSet Refined old region new cards = DrainsAtPause old region new cards
 
 -- a call for the set of a region, with what the array had before and has after it
-pub record IsSetCall (which : Which) (region : ℕ) (before after : List ℕ) (old : Halt)
-    (r : Result Told Refusal) (new : Halt) : Type 0 where
+pub record IsSetCall (which : Which) (region : ℕ) (before after : List ℕ) (old : Pause)
+    (r : Result Told Refusal) (new : Pause) : Type 0 where
   pub told : IfOk r (λ told. Tells (IsSet which old region new) before told after)
   pub why : IfErr r (LacksRegion old.layout region)
   pub refused : OnErr r (new ≡ old)

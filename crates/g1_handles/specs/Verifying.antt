@@ -2,7 +2,7 @@
 use Rattle.std.specs.Prelude.{ℕ, List, length, map}
 use Rattle.g1_core.specs.Table.{Table}
 use Rattle.g1_core.specs.Verify.{IsFirst, IsMissing, Differs}
-use Rattle.g1_race.specs.Over.{Halt, halted}
+use Rattle.g1_race.specs.Over.{Pause, table_at}
 use Rattle.g1_handles.specs.Codes.{reference_of}
 
 -- the words are of the least slot that refers to something else than memory does, which has these
@@ -15,6 +15,6 @@ pub record Finds (t : Table) (first count : ℕ) (memory : List ℕ) (differing 
   pub misses : IsFirst (IsMissing t) first count (reference_of missing)
 
 -- the same of a heap at a pause
-pub record FindsAt (heap : Halt) (first count : ℕ) (memory : List ℕ) (differing missing : ℕ)
+pub record FindsAt (heap : Pause) (first count : ℕ) (memory : List ℕ) (differing missing : ℕ)
     : Type 0 where
-  pub found : Finds (halted heap) first count memory differing missing
+  pub found : Finds (table_at heap) first count memory differing missing

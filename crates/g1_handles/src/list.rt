@@ -7,7 +7,7 @@ use g1_layout::Card;
 
 /// Writes the numbers of the cards to the front of an array, which has room for them, and returns
 /// how many these are. The elements behind them stay as they are.
-pub fn put(cards: &[Card], array: &mut [u32]) -> u32
+pub fn write_list(cards: &[Card], array: &mut [u32]) -> u32
     requires { FitIn (length array.old) cards.now }
     ensures list { take result array.new ≡ cards.now }
     ensures written { IsWritten array.old result array.new }

@@ -32,7 +32,7 @@ use std::alloc::Global;
 use std::sync::Arc;
 
 /// A racer, which stores, a sweeper, which refines, or a reader, which reads a pause.
-pub trait Part: Drop {
+pub trait Role: Drop {
     ghost use Rattle.atomic_table.specs.Seated.{TableId};
     ghost use Rattle.g1_race_words.specs.declared.view.Shape.{Shape};
 
@@ -40,19 +40,19 @@ pub trait Part: Drop {
     ghost of: { Self → TableId × Shape };
 }
 
-impl Part for Racer {
+impl Role for Racer {
     ghost use Rattle.g1_race.specs.Members.{racer_race};
 
     ghost of = { racer_race };
 }
 
-impl Part for Sweeper {
+impl Role for Sweeper {
     ghost use Rattle.g1_race.specs.Members.{sweeper_race};
 
     ghost of = { sweeper_race };
 }
 
-impl Part for Reader {
+impl Role for Reader {
     ghost use Rattle.g1_race.specs.Reading.{reader_race};
 
     ghost of = { reader_race };
@@ -60,37 +60,37 @@ impl Part for Reader {
 
 /// A member of a race.
 #[derive(Drop)]
-pub struct Member<P: Part> {
+pub struct Member<P: Role> {
     pub(crate) race: Arc<Race, Global>,
     // Its number among the racers, the sweepers or the readers of its race.
     pub(crate) number: usize,
     // None while it waits, in no handle: a racer and a sweeper at a pause, a reader but while it
     // reads.
-    pub(crate) part: Option<P>,
+    pub(crate) role: Option<P>,
     pub(crate) counts: MemberCounts,
     // Padding of a cache line: boxes of racers lie side by side, and a store writes the end of its
     // racer.
     pub(crate) apart: [u64; 8],
-    ghost same: { ForSome part (λ p. P.of p ≡ race_id (arc_value race)) },
+    ghost same: { ForSome role (λ p. P.of p ≡ race_id (arc_value race)) },
 }
 
-impl<P: Part> Member<P> {
-    /// Takes its part, and leaves it waiting.
+impl<P: Role> Member<P> {
+    /// Takes its role, and leaves it waiting.
     pub(crate) fn park(&mut self) -> Option<P>
-        ensures part { result ≡ self.old.part }
+        ensures role { result ≡ self.old.role }
         ensures counts { self.new.counts ≡ self.old.counts }
         ensures race { arc_value self.new.race ≡ arc_value self.old.race }
     {
-        self.part.take()
+        self.role.take()
     }
 
-    /// Gives it a part.
-    pub(crate) fn seat(&mut self, part: P)
-        requires { P.of part ≡ race_id (arc_value self.old.race) }
-        ensures part { self.new.part ≡ Some part }
+    /// Gives it a role.
+    pub(crate) fn seat(&mut self, role: P)
+        requires { P.of role ≡ race_id (arc_value self.old.race) }
+        ensures role { self.new.role ≡ Some role }
         ensures counts { self.new.counts ≡ self.old.counts }
         ensures race { arc_value self.new.race ≡ arc_value self.old.race }
     {
-        self.part = Some(part);
+        self.role = Some(role);
     }
 }

@@ -11,14 +11,13 @@ use Rattle.g1_core.specs.Run.{IsStep, IsAllowed, IsPermitted, table_of_history, 
 use Rattle.g1_core.specs.declared.entry.Call.TheVariants as call
 use Rattle.g1_core.specs.declared.reply.Redirected.{Redirected}
 use Rattle.g1_core.specs.declared.reply.Redirected.TheVariants as redirected
-use Rattle.g1_core.specs.Calls.{drain_entry, drain_cards, drain_reply, redirect_entry, redirect_reply}
+use Rattle.g1_core.specs.Calls.{drain_entry, drain_cards, drain_reply, redirect_entry, redirect_reply, DoesDrain, DoesRedirect}
 use Rattle.g1_core.specs.declared.reply.Drained.{Drained}
 use Rattle.g1_core.specs.declared.reply.Drained.TheVariants.{Cards, Short}
 use Rattle.g1_core.proofs.TableLemmas.{opening_covered}
 use Rattle.g1_core.proofs.RunLemmas.{permitted_step, run_covered, run_layout, has_slots}
 use Rattle.g1_core.proofs.SinceLemmas.{drain_exact}
 use Rattle.g1_history.specs.History.{History, Past, IsHistory, IsTallied, IsKept, Made, AnswersExactly, AnswersBy, table_in, layout_in, history_of, past_with, made_of, is_store}
-use Rattle.g1_core.specs.Does.{DoesDrain, DoesRedirect}
 use Rattle.g1_history.specs.Asked.{MadeAsked}
 use Rattle.g1_history.proofs.RoomLemmas.{drained_few}
 

@@ -6,7 +6,7 @@ use Rattle.g1_core.specs.declared.entry.Call.TheVariants.{Store, Refine}
 use Rattle.g1_core.specs.declared.entry.Reply.{Reply}
 use Rattle.g1_core.specs.declared.entry.Entry.{Entry}
 use Rattle.g1_core.specs.Run.{IsCallOf}
-use Rattle.g1_core.specs.Does.{DoesAsked}
+use Rattle.g1_core.specs.Calls.{DoesAsked}
 use Rattle.g1_history.specs.History.{History, Made}
 
 -- The call is neither a store nor a refinement, and its numbers are of the layout.

@@ -151,6 +151,7 @@ impl Book<Tallied> {
 
 impl<H: Keeps> Book<H> {
     ghost use Rattle.g1_core.specs.Machine.{IsSound};
+    ghost use Rattle.std.specs.Global.{Global};
     ghost use Rattle.g1_history.specs.History.{IsKept, layout_in};
 
     /// The layout of the heap, which makes the numbers that calls take. Constant time. The clauses
@@ -184,8 +185,10 @@ impl<H: Keeps> Book<H> {
         &self.core
     }
 
-    /// The allocator that the book was opened with. Constant time.
-    pub fn allocator(&self) -> Global {
+    /// The allocator that the book was opened with: there is one alone. Constant time.
+    pub fn allocator(&self) -> Global
+        ensures one { (other : Global) → result ≡ other }
+    {
         self.alloc
     }
 }

@@ -11,8 +11,7 @@ use g1_core::{Call, CardList, ClearReply, Drained, Reply};
 use g1_layout::{Card, Region};
 
 impl<H: Keeps> Book<H> {
-    ghost use Rattle.g1_core.specs.Calls.{clear_entry};
-    ghost use Rattle.g1_core.specs.Does.{DoesDrain, DoesClear};
+    ghost use Rattle.g1_core.specs.Calls.{clear_entry, DoesDrain, DoesClear};
     ghost use Rattle.g1_history.specs.History.{Made, AnswersBy, RefusesBy, layout_in};
 
     /// Refines all pending cards, as the core does, returns the region's remembered set, and enters

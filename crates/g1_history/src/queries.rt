@@ -11,7 +11,7 @@ use g1_layout::{Card, Region, Slot};
 
 impl<H: Keeps> Book<H> {
     ghost use Rattle.g1_core.specs.Calls.{target_entry, pending_entry, members_entry, status_entry};
-    ghost use Rattle.g1_core.specs.Does.{DoesTarget, DoesPending, DoesMembers, DoesStatus};
+    ghost use Rattle.g1_core.specs.Calls.{DoesTarget, DoesPending, DoesMembers, DoesStatus};
     ghost use Rattle.g1_history.specs.History.{Made, RefusesBy, layout_in};
     ghost use Rattle.g1_history.specs.Asked.{IsAsked, MadeAsked};
 

@@ -10,8 +10,7 @@ use g1_core::{Call, CardList, Redirected, Reply};
 use g1_layout::Region;
 
 impl<H: Keeps> Book<H> {
-    ghost use Rattle.g1_core.specs.Calls.{redirect_entry};
-    ghost use Rattle.g1_core.specs.Does.{DoesRedirect};
+    ghost use Rattle.g1_core.specs.Calls.{redirect_entry, DoesRedirect};
     ghost use Rattle.g1_history.specs.History.{Made, RefusesBy, layout_in};
 
     /// Makes each slot outside `from` that refers into it refer to the same offset of `to`, as the

@@ -10,8 +10,7 @@ use g1_core::{Call, RefineReply, Reply};
 use g1_log::Buffer;
 
 impl<H: Keeps> Book<H> {
-    ghost use Rattle.g1_core.specs.Calls.{refine_entry};
-    ghost use Rattle.g1_core.specs.Does.{DoesRefine};
+    ghost use Rattle.g1_core.specs.Calls.{refine_entry, DoesRefine};
     ghost use Rattle.g1_history.specs.History.{Made, RefusesBy};
 
     /// Refines a buffer, as the core does, and enters the call: the buffer's cards take their

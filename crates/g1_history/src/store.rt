@@ -12,8 +12,7 @@ use g1_log::{Buffer, Log};
 use std::alloc::Global;
 
 impl<H: Keeps> Book<H> {
-    ghost use Rattle.g1_core.specs.Calls.{store_entry};
-    ghost use Rattle.g1_core.specs.Does.{DoesStore, IsLent};
+    ghost use Rattle.g1_core.specs.Calls.{store_entry, DoesStore, IsLent};
     ghost use Rattle.g1_history.specs.History.{Made, RefusesBy, layout_in};
 
     /// Stores a reference, or null, with the given log, as the core does, and enters the call

@@ -10,7 +10,7 @@ use Rattle.g1_race_words.specs.declared.view.Shape.{Shape}
 use Rattle.g1_race_words.specs.declared.view.View.{View}
 use Rattle.g1_race.specs.declared.race.Race.{Race}
 use Rattle.g1_race_words.specs.Rule.{IsWord, IsBegun, IsFlagged, IsMarked, HasBit, flag, mark_word, slot_card, region_at, crosses, started}
-use Rattle.g1_race_words.specs.Steps.{iced}
+use Rattle.g1_race_words.specs.Steps.{frozen_seat}
 use Rattle.g1_race_words.specs.Seats.{IsPaused}
 use Rattle.atomic_table.specs.Seated.{TableId}
 use Rattle.g1_race_words.proofs.PairBits.{SameBits, same_bits, bit_as}
@@ -85,6 +85,6 @@ begun_placed k words p n lt fits marked h = record {
 pub paused_same : (z : TableId) (k : Shape) (s q : Seat (Unit {0}) View) → q.table_id ≡ s.table_id → q.me ≡ s.me → IsPaused z k s → IsPaused z k q
 paused_same z k s q table me i = let words = ap (λ (m : Me (Unit {0}) View). m.0.began_words) me in record {
   table = table ∙ i.table;
-  view = me ∙ (i.view ∙ (λ j. (iced (started k (sym words j)) k.members, [])));
+  view = me ∙ (i.view ∙ (λ j. (frozen_seat (started k (sym words j)) k.members, [])));
   begun = subst (λ (l : List ℕ). IsBegun (started k l)) (sym words) i.begun;
 }

@@ -8,7 +8,7 @@ use Rattle.g1_core.specs.Copying.{copied}
 use Rattle.g1_core.proofs.CopyLemmas.{table_up, table_down}
 use Rattle.g1_race_words.proofs.Plain.{false_is, read_at, read_is, true_is}
 use Rattle.g1_race_words.specs.declared.view.Shape.{Shape}
-use Rattle.g1_race.specs.Over.{Halt, halted}
+use Rattle.g1_race.specs.Over.{Pause, table_at}
 use Rattle.g1_race.specs.Evacuating.{IsSameRace, SlotsBecome, copied_word, one_word}
 
 -- the words
@@ -28,28 +28,28 @@ in_or_out to count p = elim (cases_lt p to) [
 ]
 
 -- as many slots are copied so far
-pub record Copied (old new : Halt) (from to count : ℕ) : Type 0 where
+pub record Copied (old new : Pause) (from to count : ℕ) : Type 0 where
   pub race : IsSameRace old new
   pub words : SlotsBecome (copied_word old.words from to count) old new
-  pub table : halted new ≡ copied from to count (halted old)
+  pub table : table_at new ≡ copied from to count (table_at old)
 
 -- one slot is copied
-pub record CopiesOne (old new : Halt) (from to : ℕ) : Type 0 where
+pub record CopiesOne (old new : Pause) (from to : ℕ) : Type 0 where
   pub race : IsSameRace old new
   pub words : SlotsBecome (one_word to (get_or old.words from 0)) old new
-  pub table : halted new ≡ stored (halted old) to (target_of (halted old) from)
+  pub table : table_at new ≡ stored (table_at old) to (target_of (table_at old) from)
 
-pub copied_none : (halt : Halt) (from to : ℕ) → Copied halt halt from to 0
-copied_none halt from to = record {
+pub copied_none : (pause : Pause) (from to : ℕ) → Copied pause pause from to 0
+copied_none pause from to = record {
   race = record { layout = refl; shape = refl; address = refl; table_id = refl; logs = refl; sweepers = refl };
-  words = λ p n lt at. at ∙ ap (λ (m : ℕ). some m) (sym (copied_out halt.words from to 0 p n (out p)));
+  words = λ p n lt at. at ∙ ap (λ (m : ℕ). some m) (sym (copied_out pause.words from to 0 p n (out p)));
   table = refl;
 }
   where
     out : (p : ℕ) → (p < to) ⊎ (to + 0 ≤ p)
     out p = elim (cases_lt p to) [ inl low ↦ inl low | inr high ↦ inr (omega (arith, high)) ]
 
-race_then : (old mid new : Halt) → IsSameRace old mid → IsSameRace mid new → IsSameRace old new
+race_then : (old mid new : Pause) → IsSameRace old mid → IsSameRace mid new → IsSameRace old new
 race_then old mid new a b = record {
   layout = b.layout ∙ a.layout;
   shape = b.shape ∙ a.shape;
@@ -59,7 +59,7 @@ race_then old mid new a b = record {
   sweepers = b.sweepers ∙ a.sweepers;
 }
 
-module _ (old mid new : Halt) (full : old.shape.slots ≤ length old.words) where
+module _ (old mid new : Pause) (full : old.shape.slots ≤ length old.words) where
   -- a slot outside the range still has its word
   read_before : (from to count p : ℕ) → Copied old mid from to count → p < old.shape.slots → (p < to) ⊎ (to + count ≤ p) → get_or mid.words p 0 ≡ get_or old.words p 0
   read_before from to count p so lt out =
@@ -86,7 +86,7 @@ module _ (old mid new : Halt) (full : old.shape.slots ≤ length old.words) wher
               | inl i ↦ copied_in old.words from to count p n i.0 i.1 ∙ sym (copied_in old.words from to (suc count) p n i.0 (omega (arith, i.1)))
               | inr o ↦ copied_out old.words from to count p n o ∙ sym (copied_out old.words from to (suc count) p n (elim o [ inl low ↦ inl low | inr high ↦ inr (omega (arith, high, ne)) ]))
             ]);
-        table = table_up (halted old) (halted mid) (halted new) from to count le so.table one.table;
+        table = table_up (table_at old) (table_at mid) (table_at new) from to count le so.table one.table;
       }
 
   -- the slot before those that are copied
@@ -102,5 +102,5 @@ module _ (old mid new : Halt) (full : old.shape.slots ≤ length old.words) wher
                   ∙ (ap (λ (q : ℕ). get_or old.words q 0) (let low : suc to ≤ p = i.0 in let e : suc from + (p - suc to) ≡ from + (p - to) = omega (arith, low) in e) ∙ sym (copied_in old.words from to (suc count) p n (omega (arith, i.0)) (omega (arith, i.1))))
               | inr o ↦ copied_out old.words (suc from) (suc to) count p n o ∙ sym (copied_out old.words from to (suc count) p n (elim o [ inl low ↦ inl (omega (arith, low, ne)) | inr high ↦ inr (omega (arith, high)) ]))
             ]);
-        table = table_down (halted old) (halted mid) (halted new) from to count less so.table one.table;
+        table = table_down (table_at old) (table_at mid) (table_at new) from to count less so.table one.table;
       }

@@ -11,7 +11,7 @@ use Rattle.g1_race.specs.declared.race.Racer.{Racer}
 use Rattle.g1_race.specs.declared.race.Sweeper.{Sweeper}
 use Rattle.g1_race_words.specs.Begin.{Start}
 use Rattle.g1_race.specs.Drain.{began}
-use Rattle.g1_race.specs.Over.{Halt, halted, start_at}
+use Rattle.g1_race.specs.Over.{Pause, table_at, start_at}
 use Rattle.g1_race_words.specs.Rule.{beginning, started, start_of}
 use Rattle.g1_race_words.specs.Steps.{blank}
 use Rattle.g1_race.specs.Members.{race_begun, racer_view, sweeper_view, racer_log, racer_number, racer_start, sweeper_start, AreFreshRacers, AreFreshSweepers, HaveBegun, HaveBegunWith, IsNewRacer, IsNewSweeper, IsFreshRacer, IsFreshSweeper}
@@ -51,12 +51,12 @@ begun_as race begin (r ∷ rs) [] racing sweeping shape some = λ i. beginning (
 begun_as race begin [] [] racing sweeping shape some = absurd (omega (arith, some))
 
 -- the members of a race that has resumed
-module _ (race : Race) (h : Halt) (racers : Vec Racer Global) (sweepers : Vec Sweeper Global) (new : (vec_len racers ≡ length h.logs) × All (IsNewRacer race.table.table_id (start_at h)) racers.items)
+module _ (race : Race) (h : Pause) (racers : Vec Racer Global) (sweepers : Vec Sweeper Global) (new : (vec_len racers ≡ length h.logs) × All (IsNewRacer race.table.table_id (start_at h)) racers.items)
     (other : (vec_len sweepers ≡ h.sweepers) × All (IsNewSweeper race.table.table_id (start_at h)) sweepers.items) where
   pub have_begun : (begin : Start) → start_at h ≡ begin → HaveBegun begin racers sweepers
   have_begun begin e = subst (λ (b : Start). HaveBegun b racers sweepers) e (racers_begun race.table.table_id (start_at h) racers.items new.1, sweepers_begun race.table.table_id (start_at h) sweepers.items other.1)
 
-  pub begun_with : (t : Table) → race.layout ≡ h.layout → halted h ≡ t → HaveBegunWith t race racers sweepers
+  pub begun_with : (t : Table) → race.layout ≡ h.layout → table_at h ≡ t → HaveBegunWith t race racers sweepers
   begun_with t laid is = (start_at h, have_begun (start_at h) (λ i. start_at h), ap (λ (l : layout.Shape). began l (beginning (start_at h))) laid ∙ is)
 
   pub are_fresh : (n : ℕ) → race.shape ≡ h.shape → map racer_log racers.items ≡ h.logs → h.logs ≡ replicate n [] → AreFreshRacers race n racers

@@ -3,11 +3,11 @@ use Rattle.std.proofs.Common.{◌≡◌, ℕ, List, sym, ap, ◌∙◌, subst}
 use Rattle.g1_core.specs.Table.{Table}
 use Rattle.g1_race_words.specs.Rule.{IsBegun, started}
 use Rattle.g1_race.specs.declared.race.Race.{Race}
-use Rattle.g1_race.specs.Members.{halt_of}
-use Rattle.g1_race.specs.Over.{Halt, ended, halted, table_of}
+use Rattle.g1_race.specs.Members.{at_pause_of}
+use Rattle.g1_race.specs.Over.{Pause, ended, table_at, table_of}
 
-pub lent_view : {race held : Race} {words : List ℕ} {logs : List (List ℕ)} {sweepers : ℕ} {halt : Halt} → race ≡ held → halt_of held words logs sweepers ≡ halt → halt_of race words logs sweepers ≡ halt
-lent_view {words = words} {logs = logs} {sweepers = sweepers} is view = ap (λ (r : Race). halt_of r words logs sweepers) is ∙ view
+pub lent_view : {race held : Race} {words : List ℕ} {logs : List (List ℕ)} {sweepers : ℕ} {pause : Pause} → race ≡ held → at_pause_of held words logs sweepers ≡ pause → at_pause_of race words logs sweepers ≡ pause
+lent_view {words = words} {logs = logs} {sweepers = sweepers} is view = ap (λ (r : Race). at_pause_of r words logs sweepers) is ∙ view
 
 pub lent_begun : {race held : Race} {words : List ℕ} → race ≡ held → IsBegun (started held.shape words) → IsBegun (started race.shape words)
 lent_begun {words = words} is = subst (λ (r : Race). IsBegun (started r.shape words)) (sym is)
@@ -16,7 +16,7 @@ pub held_table : {race held : Race} (words : List ℕ) → race ≡ held → tab
 held_table words = ap (λ (r : Race). table_of (ended r.layout r.shape words))
 
 -- from the table of the race that was lent, before and after, to that of the pause
-pub at_pause : {race held : Race} {words : List ℕ} {logs : List (List ℕ)} {sweepers : ℕ} {halt : Halt} (change : Table → Table → Type 0) (new : List ℕ) → race ≡ held → halt_of held words logs sweepers ≡ halt
-    → change (table_of (ended race.layout race.shape words)) (table_of (ended race.layout race.shape new)) → change (halted halt) (table_of (ended held.layout held.shape new))
-at_pause {race = race} {halt = halt} change new is view there =
-    subst (change (halted halt)) (held_table new is) (subst (λ (h : Halt). change (halted h) (table_of (ended race.layout race.shape new))) (lent_view is view) there)
+pub at_pause : {race held : Race} {words : List ℕ} {logs : List (List ℕ)} {sweepers : ℕ} {pause : Pause} (change : Table → Table → Type 0) (new : List ℕ) → race ≡ held → at_pause_of held words logs sweepers ≡ pause
+    → change (table_of (ended race.layout race.shape words)) (table_of (ended race.layout race.shape new)) → change (table_at pause) (table_of (ended held.layout held.shape new))
+at_pause {race = race} {pause = pause} change new is view there =
+    subst (change (table_at pause)) (held_table new is) (subst (λ (h : Pause). change (table_at h) (table_of (ended race.layout race.shape new))) (lent_view is view) there)

@@ -52,8 +52,8 @@ no_pairs : (k : Shape) (n c : ℕ) → pairs_up_to k (zeros n) c ≡ []
 no_pairs k n zero = refl
 no_pairs k n (suc c) = λ i. no_pairs k n c i ++ no_pairs_of k n c k.regions i
 
-table_at : (l : layout.Shape) → table_of (record { layout = l; words = zeros (slot_count l + card_count l); pairs = [] }) ≡ opening l
-table_at l =
+table_of_zeros : (l : layout.Shape) → table_of (record { layout = l; words = zeros (slot_count l + card_count l); pairs = [] }) ≡ opening l
+table_of_zeros l =
     let slots = slot_count l in
     let cards = card_count l in
     λ i. record { layout = l; refs = null_refs slots (slots + cards) (omega arith) i; pending = (ap pending_of (clean_marks slots cards (slots + cards) refl) ∙ none_pending cards) i; recorded = set.empty }
@@ -62,7 +62,7 @@ pub opening_table : (l : layout.Shape) (k : Shape) (m : ℕ) → k ≡ shape_of 
 opening_table l k m laid =
     let count : k.slots + k.cards ≡ slot_count l + card_count l = ap (λ (s : Shape). s.slots + s.cards) laid in
     let words : front k (zeros (word_count k)) ≡ zeros (slot_count l + card_count l) = front_zeros (k.slots + k.cards) (word_count k) (omega arith) ∙ ap zeros count in
-    (λ i. table_of (record { layout = l; words = words i; pairs = no_pairs k (word_count k) k.cards i })) ∙ table_at l
+    (λ i. table_of (record { layout = l; words = words i; pairs = no_pairs k (word_count k) k.cards i })) ∙ table_of_zeros l
 
 -- what a race over nulls begins with
 pub begins_null : (l : layout.Shape) (m : ℕ) → beginning (null_of (shape_of l m)) ≡ null_begun l m

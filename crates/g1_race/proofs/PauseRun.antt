@@ -21,7 +21,7 @@ use Rattle.g1_race_words.specs.Begin.{Begun}
 use Rattle.g1_race_words.specs.Rule.{BeganInto, In, IsWholeShape}
 use Rattle.g1_race.specs.Race.{AmongStores, IsKnown, IsOver, shape_of}
 use Rattle.g1_race.specs.Over.{Ended, table_of}
-use Rattle.g1_race.specs.Drain.{DrainAtPause, HadInto, HeldDuring, table_at}
+use Rattle.g1_race.specs.Drain.{DrainAtPause, HadInto, HeldDuring, table_at_moment}
 use Rattle.g1_race.proofs.Draining.{HoldsInto, began_holds, in_shape, known_once, stored_now}
 use Rattle.g1_race_words.proofs.Places.{in_contains}
 
@@ -105,9 +105,9 @@ drain_at_pause e begun racers sweepers calls caller region cards done after shap
     t = table_of e
 
     now : Table
-    now = table_at (table_of e) calls (length calls)
+    now = table_at_moment (table_of e) calls (length calls)
 
-    whole : table_at (table_of e) calls (length calls) ≡ fold table_after (table_of e) calls
+    whole : table_at_moment (table_of e) calls (length calls) ≡ fold table_after (table_of e) calls
     whole = ap (fold table_after (table_of e)) (take_all (length calls) calls (omega arith))
 
     slots : HasSlots e.layout

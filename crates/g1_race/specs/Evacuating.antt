@@ -15,11 +15,11 @@ use Rattle.g1_core.specs.declared.reply.StoreReply.{StoreReply}
 use Rattle.g1_core.specs.Table.{Table, Holds, IsRecorded, IsCovered, AreRefinable, refined}
 use Rattle.g1_core.specs.Run.{stored}
 use Rattle.g1_race_words.specs.declared.view.Shape.{Shape}
-use Rattle.g1_race.specs.Over.{Halt}
+use Rattle.g1_race.specs.Over.{Pause}
 use Rattle.g1_race.specs.Refining.{AreUnflagged}
 
 -- all of a race at a pause but its words is as it was
-pub record IsSameRace (old new : Halt) : Type 0 where
+pub record IsSameRace (old new : Pause) : Type 0 where
   pub layout : new.layout ≡ old.layout
   pub shape : new.shape ≡ old.shape
   pub address : new.address ≡ old.address
@@ -28,7 +28,7 @@ pub record IsSameRace (old new : Halt) : Type 0 where
   pub sweepers : new.sweepers ≡ old.sweepers
 
 -- the same once all is refined: each racer's log is empty, and no flag is set
-pub record IsRefinedRace (old new : Halt) : Type 0 where
+pub record IsRefinedRace (old new : Pause) : Type 0 where
   pub layout : new.layout ≡ old.layout
   pub shape : new.shape ≡ old.shape
   pub address : new.address ≡ old.address
@@ -42,7 +42,7 @@ abbrev pub WordsBecome : (ℕ → ℕ → ℕ) → Shape → List ℕ → List �
 WordsBecome change heap old new = (p n : ℕ) → p < heap.slots →
     get_elem? old p ≡ some n → get_elem? new p ≡ some (change p n)
 
-abbrev pub SlotsBecome : (ℕ → ℕ → ℕ) → Halt → Halt → Type 0
+abbrev pub SlotsBecome : (ℕ → ℕ → ℕ) → Pause → Pause → Type 0
 SlotsBecome change old new = WordsBecome change old.shape old.words new.words
 
 -- no word becomes another

@@ -54,7 +54,7 @@ pub record IsEnded (heap : Shape) (layout : layout.Shape) (words : List ℕ) : T
 
 -- a race at a pause: its layout, also in plain numbers, the words of its table, where they lie and
 -- whose they are, the racers' logs, and how many sweepers there are
-pub record Halt : Type 0 where
+pub record Pause : Type 0 where
   pub layout : layout.Shape
   pub shape : Shape
   pub words : List ℕ
@@ -63,13 +63,13 @@ pub record Halt : Type 0 where
   pub logs : List (List ℕ)
   pub sweepers : ℕ
 
-abbrev pub ended_of : Halt → Ended
-ended_of halt = ended halt.layout halt.shape halt.words
+abbrev pub ended_of : Pause → Ended
+ended_of pause = ended pause.layout pause.shape pause.words
 
 -- what a race that goes on from it begins with
-abbrev pub start_at : Halt → Start
-start_at halt = started halt.shape halt.words
+abbrev pub start_at : Pause → Start
+start_at pause = started pause.shape pause.words
 
 -- its table
-abbrev pub halted : Halt → Table
-halted halt = table_of (ended_of halt)
+abbrev pub table_at : Pause → Table
+table_at pause = table_of (ended_of pause)

@@ -7,11 +7,11 @@ use Rattle.g1_race_words.specs.declared.view.Shape.{Shape}
 use Rattle.g1_race_words.specs.declared.view.View.{View}
 use Rattle.g1_race_words.specs.Begin.{Start}
 use Rattle.g1_race.specs.declared.race.Race.{Race}
-use Rattle.g1_race.specs.Over.{Halt, ended, start_at, table_of}
+use Rattle.g1_race.specs.Over.{Pause, ended, start_at, table_of}
 
 -- the pause, which table it is at, and how many readers there are
 pub record Readable : Type 0 where
-  pub pause : Halt
+  pub pause : Pause
   pub table_id : TableId
   pub readers : ℕ
 

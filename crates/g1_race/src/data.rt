@@ -11,7 +11,7 @@ ghost use Rattle.g1_race_words.specs.Seats.{IsFound};
 ghost use Rattle.g1_race.specs.Evacuating.{IsSameRace, SlotsBecome, one_word, plain_reply};
 ghost use Rattle.g1_race.specs.Members.{race_id, race_layout, race_shape, racer_log, racer_race};
 ghost use Rattle.g1_race.specs.Members.{racer_start, racer_view};
-ghost use Rattle.g1_race.specs.Over.{halted};
+ghost use Rattle.g1_race.specs.Over.{table_at};
 ghost use Rattle.g1_race.specs.Race as racing;
 ghost use Rattle.g1_race.specs.Reading.{reader_race};
 
@@ -55,10 +55,10 @@ impl<R: Holds> Paused<R> {
         requires high { 2 ^ 32 ≤ word }
         ensures race { IsSameRace self.old self.new }
         ensures words { SlotsBecome (one_word slot word) self.old self.new }
-        ensures table { halted self.new ≡ stored (halted self.old) slot None }
+        ensures table { table_at self.new ≡ stored (table_at self.old) slot None }
         ensures step { (caller : ℕ) →
-            IsStep (halted self.old) (store_entry caller slot None (plain_reply Null))
-            (halted self.new) }
+            IsStep (table_at self.old) (store_entry caller slot None (plain_reply Null))
+            (table_at self.new) }
     {
         let race = self.race.race();
         put(race, &mut self.seat, slot.number() as usize, word);

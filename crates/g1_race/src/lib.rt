@@ -28,7 +28,7 @@
 //! race over the pause. A [`Paused`] tells what each slot refers to, which cards are dirty and
 //! which pairs are recorded. It also refines, drains, redirects and clears. [`Paused::read_by`]
 //! lets several threads read at once. Between the birth of a heap and its end no call takes memory,
-//! except for the lists that are returned. [`Race::open`], [`Race::resume`] and [`Race::close`]
+//! except for the lists that are returned. [`Race::open`], [`Race::from_core`] and [`Race::close`]
 //! each make two of these calls in one.
 //!
 //! A race that ends ([`Race::close`], [`Paused::close`]) leaves a [`Closed`], which a core can be

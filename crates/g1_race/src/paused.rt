@@ -33,7 +33,7 @@ ghost use Rattle.std.specs.Prelude.{◌≡◌, ◌+◌, ◌<◌};
 
 use crate::paused::holds::Holds;
 use crate::race::{Race, Racer, Sweeper};
-use g1_race_words::Place;
+use g1_race_words::RaceSeat;
 use std::marker::Model;
 
 /// A race at a pause: no thread takes part in it.
@@ -46,7 +46,7 @@ use std::marker::Model;
 #[derive(Drop)]
 pub struct Paused<R: Holds = Race> {
     pub(crate) race: R,
-    pub(crate) seat: Place,
+    pub(crate) seat: RaceSeat,
     // Their seats are spent: this one has taken them in.
     pub(crate) racers: Vec<Racer>,
     pub(crate) sweepers: Vec<Sweeper>,
@@ -54,13 +54,13 @@ pub struct Paused<R: Holds = Race> {
 
 impl<R: Holds> Model for Paused<R> {
     ghost use Rattle.std.specs.Prelude.{◌≡◌, ◌+◌, map, vec_len};
-    ghost use Rattle.g1_race.specs.Members.{halt_of, racer_log};
-    ghost use Rattle.g1_race.specs.Over.{Halt};
+    ghost use Rattle.g1_race.specs.Members.{at_pause_of, racer_log};
+    ghost use Rattle.g1_race.specs.Over.{Pause};
     ghost use Rattle.g1_race_words.specs.Seats.{IsPaused};
 
-    ghost Value = { Halt };
+    ghost Value = { Pause };
 
-    ghost view = { λ a. halt_of (R.held a.race) a.seat.me.0.began_words
+    ghost view = { λ a. at_pause_of (R.held a.race) a.seat.me.0.began_words
         (map racer_log a.racers.items) (vec_len a.sweepers) };
 
     ghost invariant = { λ a. let race = R.held a.race in

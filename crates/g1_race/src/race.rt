@@ -18,7 +18,7 @@ ghost use Rattle.g1_race.specs.Race.{shape_of, IsRacing, IsSweeping};
 
 use arrayvec::ArrayVec;
 use g1_layout::{Card, Layout};
-use g1_race_words::{Place, RaceTable, Shape};
+use g1_race_words::{RaceSeat, RaceTable, Shape};
 
 /// A race over the slots and cards of one heap. Racers and sweepers in any number of threads share
 /// it by `&`.
@@ -45,7 +45,7 @@ pub struct Race {
 #[derive(Drop)]
 pub struct Racer {
     // Spent at a pause: its shape is that of no race.
-    pub(crate) seat: Place,
+    pub(crate) seat: RaceSeat,
     pub(crate) log: ArrayVec<Card, 256>,
     ghost racing: { 0 < seat.me.0.shape.members → IsRacing seat.me.0 },
 }
@@ -56,6 +56,6 @@ pub struct Racer {
 /// Between two calls it has nothing left to read, and each pair that it has read is recorded.
 #[derive(Drop)]
 pub struct Sweeper {
-    pub(crate) seat: Place,
+    pub(crate) seat: RaceSeat,
     ghost sweeping: { 0 < seat.me.0.shape.members → IsSweeping seat.me.0 },
 }

@@ -8,7 +8,7 @@ use Rattle.g1_race_words.specs.declared.view.Shape.{Shape}
 use Rattle.g1_race_words.specs.declared.view.View.{View}
 use Rattle.g1_race_words.specs.Begin.{Start}
 use Rattle.g1_race_words.specs.Rule.{IsWord, StoreHistory, Raced, beginning, mark_word, bit_word, bit_place, In, IsWholeShape, IsPair, AtRest, IsBlank, Going}
-use Rattle.g1_race_words.specs.Steps.{blank, wrote, exchanged, looked, owed_card, dirtied, cleaned, read, sought, recorded, lighter, new_racer, new_sweeper, both, nothing}
+use Rattle.g1_race_words.specs.Steps.{blank, wrote, exchanged, looked, owed_card, dirtied, cleaned, read, sought, recorded, after_split, new_racer, new_sweeper, both, no_seat}
 use Rattle.g1_race_words.proofs.PairBits.{with_pair}
 use Rattle.g1_race_words.proofs.Plain.{set_read, set_there, read_at}
 use Rattle.g1_race_words.proofs.Tallies.{number_given, number_dropped}
@@ -126,7 +126,7 @@ module _ {S : Type 0} where
   allows_record k slots id x me shaped sits one pair s h len at fits =
       (recorded me.0, keeps, tt, going_step k s.words s.views h (with_pair k s.words x) id me.0 (recorded me.0) at (omega (arith, sits.weight)) sits.going refl refl refl refl (raced_recorded (begun k s.words s.views h) s.words s.views id me.0 x shaped sits one pair at h.raced), refl)
 
-  pub splits_racer : (k : Shape) (id : ℕ) (v : View) → IsBlank v → 0 < v.weight → 0 < v.spare → v.frozen ≡ false → Splits (Rule k) id v (lighter v) (new_racer v)
+  pub splits_racer : (k : Shape) (id : ℕ) (v : View) → IsBlank v → 0 < v.weight → 0 < v.spare → v.frozen ≡ false → Splits (Rule k) id v (after_split v) (new_racer v)
   splits_racer k id v still heavy given moving s h at = going_split k s.words s.views h id v (new_racer v) at heavy refl (sym moving) (omega arith)
       (raced_split (begun k s.words s.views h) s.words s.views id v (new_racer v) still heavy refl (number_given v given) fresh refl refl refl refl refl refl at h.raced)
     where
@@ -134,13 +134,13 @@ module _ {S : Type 0} where
       fresh g (inl e) = ap (λ (x : StoreHistory). x.1) (sym e)
       fresh g (inr i) = absurd i
 
-  pub splits_sweeper : (k : Shape) (id : ℕ) (v : View) → IsBlank v → 0 < v.weight → v.frozen ≡ false → Splits (Rule k) id v (lighter v) (new_sweeper v)
+  pub splits_sweeper : (k : Shape) (id : ℕ) (v : View) → IsBlank v → 0 < v.weight → v.frozen ≡ false → Splits (Rule k) id v (after_split v) (new_sweeper v)
   splits_sweeper k id v still heavy moving s h at = going_split k s.words s.views h id v (new_sweeper v) at heavy refl (sym moving) (omega arith)
       (raced_split (begun k s.words s.views h) s.words s.views id v (new_sweeper v) still heavy refl (number_dropped v) (λ g i. absurd i) refl refl refl refl refl refl at h.raced)
 
-  pub joins_member : (k : Shape) (id : ℕ) (v : View) (other : ℕ) (u : View) → u.weight ≡ 1 → AtRest u → Joins (Rule k) id v other u (both v u) nothing
+  pub joins_member : (k : Shape) (id : ℕ) (v : View) (other : ℕ) (u : View) → u.weight ≡ 1 → AtRest u → Joins (Rule k) id v other u (both v u) no_seat
   joins_member k id v other u one rest s h at apart there = going_join k s.words s.views h id v other u at apart there (omega (arith, one))
-      (raced_join (begun k s.words s.views h) s.words s.views id v other u nothing one rest ((refl, refl, refl, refl), refl, refl, refl, refl, refl) refl refl at apart there h.raced)
+      (raced_join (begun k s.words s.views h) s.words s.views id v other u no_seat one rest ((refl, refl, refl, refl), refl, refl, refl, refl, refl) refl refl at apart there h.raced)
 
   pub enters_blank : (k : Shape) (slots i : ℕ) (b : Start) → Enters (Rule k) slots i (λ n w. ◌≡◌ {A = Me S View} (w, []) (blank b 0 [], []))
   enters_blank k slots i b s h len fits = (blank b 0 [], going_enter k s.words s.views h (blank b 0 []) refl refl (raced_enter (begun k s.words s.views h) s.words s.views (blank b 0 []) ((refl, refl, refl, refl), refl, refl, refl, refl, refl) refl refl h.raced), refl)

@@ -4,7 +4,7 @@ use Rattle.atomic_table.specs.Table.{Me, keeps, Allows}
 use Rattle.g1_race_words.specs.declared.view.Shape.{Shape}
 use Rattle.g1_race_words.specs.declared.view.View.{View}
 use Rattle.g1_race_words.specs.Rule.{IsWholeShape, AtRest, IsBlank, IsBegun, Going, started}
-use Rattle.g1_race_words.specs.Steps.{iced, thawed, put}
+use Rattle.g1_race_words.specs.Steps.{frozen_seat, thawed, put}
 use Rattle.g1_race_words.proofs.Plain.{set_read}
 use Rattle.g1_race_words.specs.Seats.{Freezes}
 use Rattle.g1_race_words.proofs.GoingAnew.{going_anew, begun_here, known_words, raced_mine, shape_mine}
@@ -49,7 +49,7 @@ pub allows_freeze : (k : Shape) (slots id p : ℕ) (me : Me (Unit {0}) View) →
 allows_freeze k slots id p me shaped all pos rest s h len at fits =
     let shape = shape_mine k s.words s.views id me.0 all pos h at in
     let here = begun_here k s.words s.views id me.0 all pos h at shaped rest in
-    let w = iced (started me.0.shape s.words) me.0.weight in (
+    let w = frozen_seat (started me.0.shape s.words) me.0.weight in (
       w,
       keeps,
       tt,

@@ -7,7 +7,7 @@ use lib.ListN.{get_elem?}
 use Rattle.g1_race_words.specs.declared.view.Shape.{Shape}
 use Rattle.g1_race_words.specs.declared.view.View.{View}
 use Rattle.g1_race_words.specs.Rule.{MadeDirty, IsBegun, IsWholeShape, HasBit, bit_word, bit_place, slot_card, mark_word, region_at, In, Held, claims_of, pairs_found, IsMarked, IsBlank, Raced, Going, front, pairs_up_to, null_of, started, beginning, start_of, word_count}
-use Rattle.g1_race_words.specs.Steps.{iced}
+use Rattle.g1_race_words.specs.Steps.{frozen_seat}
 use Rattle.g1_race_words.proofs.PairBits.{crossing_pair}
 use Rattle.g1_race_words.proofs.Places.{at_take, at_untake}
 use Rattle.g1_race_words.proofs.Listing.{in_set, set_in}
@@ -41,8 +41,8 @@ never_both l i z o = absurd (let e : 0 ≡ 1 = some-injective 0 1 (sym z ∙ o) 
 pub same_word : (words : List ℕ) (count i m n : ℕ) → get_elem? (take count words) i ≡ some m → get_elem? words i ≡ some n → m ≡ n
 same_word words count i m n was is = some-injective m n (sym (at_untake words count i m was).1 ∙ is)
 
-pub raced_beginning : (k : Shape) (words : List ℕ) → IsBegun (started k words) → Raced (beginning (started k words)) words (iced (started k words) k.members ∷ [])
-raced_beginning k words h = let v = iced (started k words) k.members in record {
+pub raced_beginning : (k : Shape) (words : List ℕ) → IsBegun (started k words) → Raced (beginning (started k words)) words (frozen_seat (started k words) k.members ∷ [])
+raced_beginning k words h = let v = frozen_seat (started k words) k.members in record {
   sized = h.sized;
   bounded = h.bounded;
   covered = λ p n lt at cr. ⊎_elim (λ (i : HasBit k words (slot_card k p, region_at k n)). inl (set_in k words _ (crossing_pair k p n h.shaped lt (h.bounded p n lt at) cr) i)) (λ (m : IsMarked k words p). inr (inl m)) (h.covered p n lt at cr);
@@ -94,13 +94,13 @@ null_begun k shaped = let all = word_count k in record {
 }
 
 -- a heap begins at a pause
-pub going_first : (k : Shape) → IsWholeShape k → Going k (zeros (word_count k)) (iced (null_of k) k.members ∷ [])
+pub going_first : (k : Shape) → IsWholeShape k → Going k (zeros (word_count k)) (frozen_seat (null_of k) k.members ∷ [])
 going_first k shaped = let all = word_count k in record {
   first = zeros all;
   frozen = true;
   raced = raced_beginning k (zeros all) (null_begun k shaped);
   proper = λ x i. let s = in_set k (zeros all) x i in (null_begun k shaped).proper x s.0 s.1;
-  agreed = λ seat v at heavy. subst (λ (u : View). (start_of u ≡ null_of k) × (u.frozen ≡ true)) (only (iced (null_of k) k.members) v seat at) (refl, refl);
-  spared = λ seat v at. subst (λ (u : View). u.spare ≤ u.weight) (only (iced (null_of k) k.members) v seat at) (omega arith);
+  agreed = λ seat v at heavy. subst (λ (u : View). (start_of u ≡ null_of k) × (u.frozen ≡ true)) (only (frozen_seat (null_of k) k.members) v seat at) (refl, refl);
+  spared = λ seat v at. subst (λ (u : View). u.spare ≤ u.weight) (only (frozen_seat (null_of k) k.members) v seat at) (omega arith);
   still = λ e. refl;
 }

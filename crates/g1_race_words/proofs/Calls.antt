@@ -7,8 +7,8 @@ use Rattle.atomic_table.specs.declared.shared.Seat.{Seat}
 use Rattle.g1_race_words.specs.declared.view.Shape.{Shape}
 use Rattle.g1_race_words.specs.declared.view.View.{View}
 use Rattle.g1_race_words.specs.Rule.{AtRest, Going, StoreHistory, IsBegun, IsBlank, IsWholeShape, IsWord, bit_place, flag, started, word_count}
-use Rattle.g1_race_words.specs.Steps.{both, chair, cleaned, dirtied, exchanged, iced, lighter, looked, new_racer, new_sweeper, nothing, owed_card, put, raised, read, recorded, sought, spotted, thawed, wrote}
-use Rattle.g1_race_words.specs.Seats.{Freezes, HoldsBit, IsChair, IsFound, IsMark, IsPaused, OwesFlag, OwesMark, Sits, Words}
+use Rattle.g1_race_words.specs.Steps.{both, whole_seat, cleaned, dirtied, exchanged, frozen_seat, after_split, looked, new_racer, new_sweeper, no_seat, owed_card, put, raised, read, recorded, sought, spotted, thawed, wrote}
+use Rattle.g1_race_words.specs.Seats.{Freezes, HoldsBit, IsWholeSeat, IsFound, IsMark, IsPaused, OwesFlag, OwesMark, Sits, Words}
 use Rattle.g1_race_words.proofs.PairBits.{word_below}
 use Rattle.g1_race_words.proofs.Flags.{flag_below}
 use Rattle.g1_race_words.proofs.Flagging.{allows_raise, allows_spot}
@@ -74,25 +74,25 @@ module _ (z : TableId) (k : Shape) (fits : z.words ≡ word_count k) (shaped : I
   some_word = omega (arith, fits, shaped.5)
 
   abbrev Cut : (View → View) → Type 0
-  Cut right = (s.table_id ≡ z) × (0 < z.words) × Splits (Rule k) s.id s.me.0 (lighter s.me.0) (right s.me.0)
+  Cut right = (s.table_id ≡ z) × (0 < z.words) × Splits (Rule k) s.id s.me.0 (after_split s.me.0) (right s.me.0)
 
-  pub split_racer_owed : IsChair s.me.0 → Cut new_racer
+  pub split_racer_owed : IsWholeSeat s.me.0 → Cut new_racer
   split_racer_owed (begin, w, is, heavy) = (
     table,
     some_word,
-    subst (λ (v : View). Splits (Rule k) s.id v (lighter v) (new_racer v)) (sym is)
-        (splits_racer k s.id (chair begin w) ((refl, refl, refl, refl), refl, refl, refl, refl, refl) heavy heavy refl),
+    subst (λ (v : View). Splits (Rule k) s.id v (after_split v) (new_racer v)) (sym is)
+        (splits_racer k s.id (whole_seat begin w) ((refl, refl, refl, refl), refl, refl, refl, refl, refl) heavy heavy refl),
   )
 
-  pub split_sweeper_owed : IsChair s.me.0 → Cut new_sweeper
+  pub split_sweeper_owed : IsWholeSeat s.me.0 → Cut new_sweeper
   split_sweeper_owed (begin, w, is, heavy) = (
     table,
     some_word,
-    subst (λ (v : View). Splits (Rule k) s.id v (lighter v) (new_sweeper v)) (sym is)
-        (splits_sweeper k s.id (chair begin w) ((refl, refl, refl, refl), refl, refl, refl, refl, refl) heavy refl),
+    subst (λ (v : View). Splits (Rule k) s.id v (after_split v) (new_sweeper v)) (sym is)
+        (splits_sweeper k s.id (whole_seat begin w) ((refl, refl, refl, refl), refl, refl, refl, refl, refl) heavy refl),
   )
 
-  pub join_owed : (other : ℕ) (u : View) → u.weight ≡ 1 → AtRest u → (0 < z.words) × Joins (Rule k) s.id s.me.0 other u (both s.me.0 u) nothing
+  pub join_owed : (other : ℕ) (u : View) → u.weight ≡ 1 → AtRest u → (0 < z.words) × Joins (Rule k) s.id s.me.0 other u (both s.me.0 u) no_seat
   join_owed other u one rest = (some_word, joins_member k s.id s.me.0 other u one rest)
 
   -- a pause
@@ -103,7 +103,7 @@ module _ (z : TableId) (k : Shape) (fits : z.words ≡ word_count k) (shaped : I
 
     module _ (paused : IsPaused z k s) where
       pub knows : Knows k s.me.0
-      knows = let view : s.me.0 ≡ iced (started k s.me.0.began_words) k.members = ap (λ (m : Me (Unit {0}) View). m.0) paused.view in record {
+      knows = let view : s.me.0 ≡ frozen_seat (started k s.me.0.began_words) k.members = ap (λ (m : Me (Unit {0}) View). m.0) paused.view in record {
         all = ap (λ (v : View). v.weight) view;
         pos = pos;
         spare = ap (λ (v : View). v.spare) view;

@@ -7,7 +7,7 @@ use Rattle.g1_race_words.specs.declared.view.Shape.{Shape}
 use Rattle.g1_race_words.specs.declared.view.View.{View}
 use Rattle.g1_race_words.specs.Begin.{Start, Begun}
 use Rattle.g1_race_words.specs.Rule.{IsBlank, Raced, Going, started, beginning, start_of}
-use Rattle.g1_race_words.specs.Steps.{lighter, both, nothing}
+use Rattle.g1_race_words.specs.Steps.{after_split, both, no_seat}
 use Rattle.g1_race_words.proofs.Plain.{weigh_all}
 
 -- where one seat has all the weight, no other answers for anything
@@ -58,14 +58,14 @@ module _ (k : Shape) (words : List ℕ) (views : List View) (h : Going k words v
       mine = h.agreed id v at heavy
 
   -- a seat is split off
-  pub going_split : (id : ℕ) (v right : View) → get_elem? views id ≡ some v → 0 < v.weight → start_of right ≡ start_of v → right.frozen ≡ v.frozen → right.spare ≤ right.weight → Raced begun words (set views id (lighter v) ++ right ∷ []) → Going k words (set views id (lighter v) ++ right ∷ [])
+  pub going_split : (id : ℕ) (v right : View) → get_elem? views id ≡ some v → 0 < v.weight → start_of right ≡ start_of v → right.frozen ≡ v.frozen → right.spare ≤ right.weight → Raced begun words (set views id (after_split v) ++ right ∷ []) → Going k words (set views id (after_split v) ++ right ∷ [])
   going_split id v right at heavy same flag few raced = record {
     first = h.first;
     proper = h.proper;
     frozen = h.frozen;
     raced = raced;
-    agreed = each_snoc (set views id (lighter v)) right One (each_set views id (lighter v) One (λ seat u there ne. h.agreed seat u there) (λ lt. mine)) (λ lt. (same ∙ mine.0, flag ∙ mine.1));
-    spared = each_snoc (set views id (lighter v)) right Few (each_set views id (lighter v) Few (λ seat u there ne. h.spared seat u there) (let s = h.spared id v at in omega (arith, s))) few;
+    agreed = each_snoc (set views id (after_split v)) right One (each_set views id (after_split v) One (λ seat u there ne. h.agreed seat u there) (λ lt. mine)) (λ lt. (same ∙ mine.0, flag ∙ mine.1));
+    spared = each_snoc (set views id (after_split v)) right Few (each_set views id (after_split v) Few (λ seat u there ne. h.spared seat u there) (let s = h.spared id v at in omega (arith, s))) few;
     still = h.still;
   }
     where
@@ -73,14 +73,14 @@ module _ (k : Shape) (words : List ℕ) (views : List View) (h : Going k words v
       mine = h.agreed id v at heavy
 
   -- a seat takes in another
-  pub going_join : (id : ℕ) (v : View) (other : ℕ) (u : View) → get_elem? views id ≡ some v → ¬ (other ≡ id) → get_elem? (set views id (both v u)) other ≡ some u → 0 < u.weight → Raced begun words (set (set views id (both v u)) other nothing) → Going k words (set (set views id (both v u)) other nothing)
+  pub going_join : (id : ℕ) (v : View) (other : ℕ) (u : View) → get_elem? views id ≡ some v → ¬ (other ≡ id) → get_elem? (set views id (both v u)) other ≡ some u → 0 < u.weight → Raced begun words (set (set views id (both v u)) other no_seat) → Going k words (set (set views id (both v u)) other no_seat)
   going_join id v other u at apart there heavy raced = record {
     first = h.first;
     proper = h.proper;
     frozen = h.frozen;
     raced = raced;
-    agreed = each_set (set views id (both v u)) other nothing One (λ seat y is ne. each_set views id (both v u) One (λ seat y is ne. h.agreed seat y is) (λ lt. mine) seat y is) (λ lt. absurd (omega (arith, lt)));
-    spared = each_set (set views id (both v u)) other nothing Few (λ seat y is ne. each_set views id (both v u) Few (λ seat y is ne. h.spared seat y is) (let s = h.spared id v at in omega (arith, s)) seat y is) (omega arith);
+    agreed = each_set (set views id (both v u)) other no_seat One (λ seat y is ne. each_set views id (both v u) One (λ seat y is ne. h.agreed seat y is) (λ lt. mine) seat y is) (λ lt. absurd (omega (arith, lt)));
+    spared = each_set (set views id (both v u)) other no_seat Few (λ seat y is ne. each_set views id (both v u) Few (λ seat y is ne. h.spared seat y is) (let s = h.spared id v at in omega (arith, s)) seat y is) (omega arith);
     still = h.still;
   }
     where

@@ -9,7 +9,7 @@ use Rattle.atomic_table.proofs.Lists.{set_again}
 use Rattle.g1_race_words.specs.declared.view.Shape.{Shape}
 use Rattle.g1_race_words.specs.declared.view.View.{View}
 use Rattle.g1_race_words.specs.Rule.{word_count, Going, IsBlank, IsWholeShape}
-use Rattle.g1_race_words.specs.Steps.{lighter}
+use Rattle.g1_race_words.specs.Steps.{after_split}
 use Rattle.g1_race_words.specs.Readers.{IsLent, IsReading, new_reader}
 use Rattle.g1_race_words.proofs.Plain.{read_at, set_read}
 use Rattle.g1_race_words.proofs.Tallies.{number_dropped}
@@ -19,7 +19,7 @@ use Rattle.g1_race_words.proofs.Going.{begun, going_split, known}
 abbrev Rule : Shape → State (Unit {0}) View → Type 0
 Rule k s = Going k s.words s.views
 
-splits_reader : (k : Shape) (id : ℕ) (v : View) → IsBlank v → 0 < v.weight → v.frozen ≡ true → Splits (Rule k) id v (lighter v) (new_reader v)
+splits_reader : (k : Shape) (id : ℕ) (v : View) → IsBlank v → 0 < v.weight → v.frozen ≡ true → Splits (Rule k) id v (after_split v) (new_reader v)
 splits_reader k id v still heavy frozen s h at = going_split k s.words s.views h id v (new_reader v) at heavy refl (sym frozen) (omega arith)
     (raced_split (begun k s.words s.views h) s.words s.views id v (new_reader v) still heavy refl (number_dropped v) (λ g i. absurd i) refl refl refl refl refl refl at h.raced)
 
@@ -37,7 +37,7 @@ allows_see k slots id p me heavy frozen lt s h len at fits =
 -- what the calls ask
 
 module _ (z : TableId) (k : Shape) (fits : z.words ≡ word_count k) (s : Seat (Unit {0}) View) (table : s.table_id ≡ z) where
-  pub split_reader_owed : IsWholeShape k → IsLent z k s → 0 < s.me.0.weight → (s.table_id ≡ z) × (0 < z.words) × Splits (Rule k) s.id s.me.0 (lighter s.me.0) (new_reader s.me.0)
+  pub split_reader_owed : IsWholeShape k → IsLent z k s → 0 < s.me.0.weight → (s.table_id ≡ z) × (0 < z.words) × Splits (Rule k) s.id s.me.0 (after_split s.me.0) (new_reader s.me.0)
   split_reader_owed shaped lent heavy = (table, omega (arith, fits, shaped.5), splits_reader k s.id s.me.0 lent.blank heavy lent.frozen)
 
   pub see_owed : (p : ℕ) → IsReading z k s → p < word_count k

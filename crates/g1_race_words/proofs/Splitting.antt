@@ -8,7 +8,7 @@ use Rattle.g1_race_words.specs.declared.view.Shape.{Shape}
 use Rattle.g1_race_words.specs.declared.view.View.{View}
 use Rattle.g1_race_words.specs.Begin.{Begun}
 use Rattle.g1_race_words.specs.Rule.{In, Held, StoreHistory, histories_of, claims_of, cleanings_of, pairs_found, held_of, flagged_of, Covered, AtRest, IsBlank, weigh, as_number, tally, numbers, Weighed, Numbered, Raced, times, claims_at, cleanings_at, sum_at, stored_sum, overwritten_sum, total}
-use Rattle.g1_race_words.specs.Steps.{lighter, both}
+use Rattle.g1_race_words.specs.Steps.{after_split, both}
 use Rattle.g1_race_words.proofs.Plain.{SameHeld, held_same, held_split, held_join, weigh_set, weigh_snoc, total_set, total_snoc}
 use Rattle.g1_race_words.proofs.Tallies.{tally_append, times_append, none_below}
 use Rattle.g1_race_words.proofs.Cover.{covered_moves}
@@ -29,20 +29,20 @@ held_split_blank views id v left right at e none h = let same = held_same histor
       (at_snoc (set views id left) right x.1 x.0 x.2),
 )
 
-weighed_split : (k : Shape) (views : List View) (id : ℕ) (v right : View) → get_elem? views id ≡ some v → IsBlank v → 0 < v.weight → right.weight ≡ 1 → Weighed k views → Weighed k (set views id (lighter v) ++ right ∷ [])
+weighed_split : (k : Shape) (views : List View) (id : ℕ) (v right : View) → get_elem? views id ≡ some v → IsBlank v → 0 < v.weight → right.weight ≡ 1 → Weighed k views → Weighed k (set views id (after_split v) ++ right ∷ [])
 weighed_split k views id v right at still heavy one h = (total, blanks)
   where
-    total : weigh (set views id (lighter v) ++ right ∷ []) ≡ k.members
-    total = let a = weigh_set views id v (lighter v) at in let b = weigh_snoc (set views id (lighter v)) right in let t = h.0 in omega arith
+    total : weigh (set views id (after_split v) ++ right ∷ []) ≡ k.members
+    total = let a = weigh_set views id v (after_split v) at in let b = weigh_snoc (set views id (after_split v)) right in let t = h.0 in omega arith
 
-    blanks : (seat : ℕ) (u : View) → get_elem? (set views id (lighter v) ++ right ∷ []) seat ≡ some u → u.weight ≡ 0 → IsBlank u
+    blanks : (seat : ℕ) (u : View) → get_elem? (set views id (after_split v) ++ right ∷ []) seat ≡ some u → u.weight ≡ 0 → IsBlank u
     blanks seat u there none = ⊎_elim
-        (λ (was : get_elem? (set views id (lighter v)) seat ≡ some u). ⊎_elim
-        (λ (t : (seat ≡ id) × (lighter v ≡ u)). subst IsBlank t.1 still)
+        (λ (was : get_elem? (set views id (after_split v)) seat ≡ some u). ⊎_elim
+        (λ (t : (seat ≡ id) × (after_split v ≡ u)). subst IsBlank t.1 still)
         (λ (t : (seat ≢ id) × (get_elem? views seat ≡ some u)). h.1 seat u t.1 none)
-        (at_set views id seat (lighter v) u was))
+        (at_set views id seat (after_split v) u was))
         (λ (is : right ≡ u). absurd (let e : right.weight ≡ u.weight = ap (λ (y : View). y.weight) is in omega arith))
-        (at_snoc (set views id (lighter v)) right u seat there)
+        (at_snoc (set views id (after_split v)) right u seat there)
 
 numbered_split : (k : Shape) (views : List View) (id : ℕ) (v left right : View) → get_elem? views id ≡ some v → ((m : ℕ) → numbers m left + numbers m right ≤ numbers m v) → Numbered k views → Numbered k (set views id left ++ right ∷ [])
 numbered_split k views id v left right at fewer h m = let a = total_set (numbers m) views id v left at in let b = total_snoc (numbers m) (set views id left) right in let c = fewer m in let t = h m in omega arith
@@ -56,23 +56,23 @@ total_join : (f : View → ℕ) (views : List View) (id : ℕ) (v w : View) (oth
     → total f (set (set views id w) other spent) ≡ total f views
 total_join f views id v w other u spent at there adds none = let a = total_set f views id v w at in let b = total_set f (set views id w) other u spent there in omega (arith, a, b, adds, none)
 
-pub raced_split : (begun : Begun) (words : List ℕ) (views : List View) (id : ℕ) (v right : View) → IsBlank v → 0 < v.weight → right.weight ≡ 1 → ((m : ℕ) → numbers m (lighter v) + numbers m right ≤ numbers m v) → ((h : StoreHistory) → In right.histories h → h.1 ≡ []) → right.claims ≡ [] → right.cleanings ≡ [] → right.pairs ≡ [] → right.overwritten ≡ [] → right.held ≡ [] → right.flagged ≡ []
-    → get_elem? views id ≡ some v → Raced begun words views → Raced begun words (set views id (lighter v) ++ right ∷ [])
-raced_split begun words views id v right still heavy one fewer fresh claims cleanings pairs over held_none flag_none at h = let after = set views id (lighter v) ++ right ∷ [] in let held = held_split_blank views id v (lighter v) right at refl fresh in record {
+pub raced_split : (begun : Begun) (words : List ℕ) (views : List View) (id : ℕ) (v right : View) → IsBlank v → 0 < v.weight → right.weight ≡ 1 → ((m : ℕ) → numbers m (after_split v) + numbers m right ≤ numbers m v) → ((h : StoreHistory) → In right.histories h → h.1 ≡ []) → right.claims ≡ [] → right.cleanings ≡ [] → right.pairs ≡ [] → right.overwritten ≡ [] → right.held ≡ [] → right.flagged ≡ []
+    → get_elem? views id ≡ some v → Raced begun words views → Raced begun words (set views id (after_split v) ++ right ∷ [])
+raced_split begun words views id v right still heavy one fewer fresh claims cleanings pairs over held_none flag_none at h = let after = set views id (after_split v) ++ right ∷ [] in let held = held_split_blank views id v (after_split v) right at refl fresh in record {
   sized = h.sized;
   bounded = h.bounded;
-  covered = covered_split begun.shape begun.pairs words views id v (lighter v) right at (λ q m a. a) h.covered;
+  covered = covered_split begun.shape begun.pairs words views id v (after_split v) right at (λ q m a. a) h.covered;
   weighed = weighed_split begun.shape views id v right at still heavy one h.weighed;
-  numbered = numbered_split begun.shape views id v (lighter v) right at fewer h.numbered;
+  numbered = numbered_split begun.shape views id v (after_split v) right at fewer h.numbered;
   stored = stored_same begun.shape begun.words words words views after (same_slots begun.shape words) (λ g. (held g).0) (λ g. (held g).1) h.stored;
-  balanced = balance_same begun.shape begun.words words views after (λ f q. total_split (stored_sum f q) views id v (lighter v) right at refl (none_in f q right.histories fresh))
-      (λ f q. total_split (overwritten_sum f q) views id v (lighter v) right at refl (ap (sum_at f q) over)) h.balanced;
-  recorded = recorded_same begun.shape begun.words views after (λ g. (held g).0) (held_split pairs_found views id v (lighter v) right at refl pairs) h.recorded;
-  kept = kept_same begun.shape begun.pairs words words views after (λ x. refl) (held_split pairs_found views id v (lighter v) right at refl pairs) (held_split held_of views id v (lighter v) right at refl held_none) h.kept;
-  claimed = claimed_same begun.shape begun.words words words views after (λ c. refl) (held_split claims_of views id v (lighter v) right at refl claims) (held_split cleanings_of views id v (lighter v) right at refl cleanings) h.claimed;
-  counted = counted_same begun.shape begun.words words views after (λ c. total_split (claims_at c) views id v (lighter v) right at refl (ap (times c) claims))
-      (λ c. total_split (cleanings_at c) views id v (lighter v) right at refl (ap (times c) cleanings)) h.counted;
-  flagged = flags_moved begun.shape words words views after (λ c lt m. m) (λ c b. b) (λ c. (held_split flagged_of views id v (lighter v) right at refl flag_none c).1) h.flagged;
+  balanced = balance_same begun.shape begun.words words views after (λ f q. total_split (stored_sum f q) views id v (after_split v) right at refl (none_in f q right.histories fresh))
+      (λ f q. total_split (overwritten_sum f q) views id v (after_split v) right at refl (ap (sum_at f q) over)) h.balanced;
+  recorded = recorded_same begun.shape begun.words views after (λ g. (held g).0) (held_split pairs_found views id v (after_split v) right at refl pairs) h.recorded;
+  kept = kept_same begun.shape begun.pairs words words views after (λ x. refl) (held_split pairs_found views id v (after_split v) right at refl pairs) (held_split held_of views id v (after_split v) right at refl held_none) h.kept;
+  claimed = claimed_same begun.shape begun.words words words views after (λ c. refl) (held_split claims_of views id v (after_split v) right at refl claims) (held_split cleanings_of views id v (after_split v) right at refl cleanings) h.claimed;
+  counted = counted_same begun.shape begun.words words views after (λ c. total_split (claims_at c) views id v (after_split v) right at refl (ap (times c) claims))
+      (λ c. total_split (cleanings_at c) views id v (after_split v) right at refl (ap (times c) cleanings)) h.counted;
+  flagged = flags_moved begun.shape words words views after (λ c lt m. m) (λ c b. b) (λ c. (held_split flagged_of views id v (after_split v) right at refl flag_none c).1) h.flagged;
 }
 
 -- a seat takes in a member's seat that is at rest

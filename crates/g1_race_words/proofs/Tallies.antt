@@ -3,7 +3,7 @@ use Rattle.std.proofs.Common.{◌≡◌, ℕ, ◌+◌, ◌<◌, ◌≤◌, List,
 use native.Mathlib.Decide.{ℕ_discrete}
 use Rattle.g1_race_words.specs.declared.view.View.{View}
 use Rattle.g1_race_words.specs.Rule.{In, StoreHistory, as_number, tally, numbers, times}
-use Rattle.g1_race_words.specs.Steps.{gains_store, lighter, new_racer, new_sweeper}
+use Rattle.g1_race_words.specs.Steps.{gains_store, after_split, new_racer, new_sweeper}
 
 pub one_is : (b : Bool) → b ≡ true → as_number b ≡ 1
 one_is b e = ap as_number e
@@ -62,10 +62,10 @@ below_less m n = pick (nat_lt m (n - 1)) refl
     pick false e = let x : as_number (nat_lt m (n - 1)) ≡ 0 = zero_is (nat_lt m (n - 1)) e in omega arith
 
 -- a racer gets the number that is cut off; a sweeper gets none
-pub number_given : (v : View) → 0 < v.spare → (m : ℕ) → numbers m (lighter v) + numbers m (new_racer v) ≤ numbers m v
+pub number_given : (v : View) → 0 < v.spare → (m : ℕ) → numbers m (after_split v) + numbers m (new_racer v) ≤ numbers m v
 number_given v pos m = let a = below_split m v.spare pos in let b = none_below m in omega arith
 
-pub number_dropped : (v : View) → (m : ℕ) → numbers m (lighter v) + numbers m (new_sweeper v) ≤ numbers m v
+pub number_dropped : (v : View) → (m : ℕ) → numbers m (after_split v) + numbers m (new_sweeper v) ≤ numbers m v
 number_dropped v m = let a = below_less m v.spare in let b = none_below m in omega arith
 
 -- cards

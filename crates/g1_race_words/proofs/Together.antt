@@ -6,7 +6,7 @@ use lib.ListN.{get_elem?}
 use Rattle.atomic_table.proofs.Lists.{at_set, at_snoc, at_longer, set_else}
 use Rattle.g1_race_words.specs.declared.view.View.{View}
 use Rattle.g1_race_words.specs.Rule.{AtRest, In, IsBlank, StoreHistory}
-use Rattle.g1_race_words.specs.Steps.{both, lighter, new_racer, new_sweeper, nothing}
+use Rattle.g1_race_words.specs.Steps.{both, after_split, new_racer, new_sweeper, no_seat}
 use Rattle.g1_race_words.specs.Readers.{new_reader}
 use Rattle.g1_race_words.specs.Together.{OfSome, HasStore, KeepAll, SeatsKeepAll}
 use Rattle.g1_race_words.proofs.Plain.{in_left, in_right, in_either, one_there, put_here}
@@ -31,37 +31,37 @@ module _ (P : View → Type 0) where
     λ h. ⊎_elim (λ (was : get_elem? views h.0 ≡ some h.1). (h.0, h.1, was, h.3)) (λ (is : w ≡ h.1). absurd (none (subst P (sym is) h.3))) (at_snoc views w h.1 h.0 h.2),
   )
 
-  splits : (views : List View) (id : ℕ) (v w : View) → get_elem? views id ≡ some v → (P v → P (lighter v)) → (P (lighter v) → P v) → (P w → ⊥) → Same views (set views id (lighter v) ++ w ∷ [])
+  splits : (views : List View) (id : ℕ) (v w : View) → get_elem? views id ≡ some v → (P v → P (after_split v)) → (P (after_split v) → P v) → (P w → ⊥) → Same views (set views id (after_split v) ++ w ∷ [])
   splits views id v w at on back none =
-      let more = comes (set views id (lighter v)) w none in (
+      let more = comes (set views id (after_split v)) w none in (
         λ h. more.0 (pick h (ℕ_discrete h.0 id)),
-        λ h. ⊎_elim (λ (a : OfSome P views). a) (λ (p : P (lighter v)). (id, v, at, back p)) (back_set views id (lighter v) (more.1 h)),
+        λ h. ⊎_elim (λ (a : OfSome P views). a) (λ (p : P (after_split v)). (id, v, at, back p)) (back_set views id (after_split v) (more.1 h)),
       )
     where
-      pick : (h : OfSome P views) → Dec (h.0 ≡ id) → OfSome P (set views id (lighter v))
-      pick h (yes e) = (id, lighter v, put_here views id v (lighter v) at, on (of_view views id h.0 v h.1 at h.2 e h.3))
-      pick h (no ne) = (h.0, h.1, set_else views id h.0 (lighter v) ne ∙ h.2, h.3)
+      pick : (h : OfSome P views) → Dec (h.0 ≡ id) → OfSome P (set views id (after_split v))
+      pick h (yes e) = (id, after_split v, put_here views id v (after_split v) at, on (of_view views id h.0 v h.1 at h.2 e h.3))
+      pick h (no ne) = (h.0, h.1, set_else views id h.0 (after_split v) ne ∙ h.2, h.3)
 
   joins : (views : List View) (id other : ℕ) (v u : View) → get_elem? views id ≡ some v → get_elem? views other ≡ some u → other ≢ id
-      → (P v → P (both v u)) → (P u → P (both v u)) → (P (both v u) → P v ⊎ P u) → (P nothing → ⊥) → Same views (set (set views id (both v u)) other nothing)
+      → (P v → P (both v u)) → (P u → P (both v u)) → (P (both v u) → P v ⊎ P u) → (P no_seat → ⊥) → Same views (set (set views id (both v u)) other no_seat)
   joins views id other v u at there apart on_v on_u back none = (λ h. pick h (ℕ_discrete h.0 id) (ℕ_discrete h.0 other), from)
     where
       w : View
       w = both v u
 
-      at_w : get_elem? (set (set views id w) other nothing) id ≡ some w
-      at_w = set_else (set views id w) other id nothing (λ e. apart (sym e)) ∙ put_here views id v w at
+      at_w : get_elem? (set (set views id w) other no_seat) id ≡ some w
+      at_w = set_else (set views id w) other id no_seat (λ e. apart (sym e)) ∙ put_here views id v w at
 
-      pick : (h : OfSome P views) → Dec (h.0 ≡ id) → Dec (h.0 ≡ other) → OfSome P (set (set views id w) other nothing)
+      pick : (h : OfSome P views) → Dec (h.0 ≡ id) → Dec (h.0 ≡ other) → OfSome P (set (set views id w) other no_seat)
       pick h (yes e) d = (id, w, at_w, on_v (of_view views id h.0 v h.1 at h.2 e h.3))
       pick h (no n) (yes e) = (id, w, at_w, on_u (of_view views other h.0 u h.1 there h.2 e h.3))
-      pick h (no n) (no m) = (h.0, h.1, set_else (set views id w) other h.0 nothing m ∙ (set_else views id h.0 w n ∙ h.2), h.3)
+      pick h (no n) (no m) = (h.0, h.1, set_else (set views id w) other h.0 no_seat m ∙ (set_else views id h.0 w n ∙ h.2), h.3)
 
       one : OfSome P (set views id w) → OfSome P views
       one h = ⊎_elim (λ (a : OfSome P views). a) (λ (p : P w). ⊎_elim (λ (q : P v). (id, v, at, q)) (λ (q : P u). (other, u, there, q)) (back p)) (back_set views id w h)
 
-      from : OfSome P (set (set views id w) other nothing) → OfSome P views
-      from h = ⊎_elim (λ (a : OfSome P (set views id w)). one a) (λ (p : P nothing). absurd (none p)) (back_set (set views id w) other nothing h)
+      from : OfSome P (set (set views id w) other no_seat) → OfSome P views
+      from h = ⊎_elim (λ (a : OfSome P (set views id w)). one a) (λ (p : P no_seat). absurd (none p)) (back_set (set views id w) other no_seat h)
 
 -- a seat that has none of these
 pub record HasNone (w : View) : Type 0 where
@@ -119,7 +119,7 @@ keep_come views w n = record {
   unread = λ p. comes (λ v. (v.next ≤ p) × (p < v.end)) views w (none_unread w p n.rest);
 }
 
-keep_split : (views : List View) (id : ℕ) (v w : View) → get_elem? views id ≡ some v → HasNone w → KeepAll views (set views id (lighter v) ++ w ∷ [])
+keep_split : (views : List View) (id : ℕ) (v w : View) → get_elem? views id ≡ some v → HasNone w → KeepAll views (set views id (after_split v) ++ w ∷ [])
 keep_split views id v w at n = record {
   stores = λ number x. splits (HasStore number x) views id v w at (λ h. h) (λ h. h) (n.stores number x);
   overwritten = λ x. splits (λ v. In v.overwritten x) views id v w at (λ h. h) (λ h. h) (none_in w.overwritten x n.overwritten);
@@ -132,12 +132,12 @@ keep_split views id v w at n = record {
 
 module _ (views : List View) (id other : ℕ) (v u : View) (at : get_elem? views id ≡ some v) (there : get_elem? views other ≡ some u) (apart : other ≢ id) (rest : AtRest u) where
   -- what the views have in lists
-  lists : {A : Type 0} (f : View → List A) (x : A) → f (both v u) ≡ f v ++ f u → f nothing ≡ [] → OfSome (λ w. In (f w) x) views ↔ OfSome (λ w. In (f w) x) (set (set views id (both v u)) other nothing)
+  lists : {A : Type 0} (f : View → List A) (x : A) → f (both v u) ≡ f v ++ f u → f no_seat ≡ [] → OfSome (λ w. In (f w) x) views ↔ OfSome (λ w. In (f w) x) (set (set views id (both v u)) other no_seat)
   lists {A} f x e none = joins (λ w. In (f w) x) views id other v u at there apart
       (λ i. subst (λ (l : List A). In l x) (sym e) (in_left (f v) (f u) x i)) (λ i. subst (λ (l : List A). In l x) (sym e) (in_right (f v) (f u) x i))
-      (λ i. in_either (f v) (f u) x (subst (λ (l : List A). In l x) e i)) (none_in (f nothing) x none)
+      (λ i. in_either (f v) (f u) x (subst (λ (l : List A). In l x) e i)) (none_in (f no_seat) x none)
 
-  keep_join : KeepAll views (set (set views id (both v u)) other nothing)
+  keep_join : KeepAll views (set (set views id (both v u)) other no_seat)
   keep_join = record {
     stores = λ number x. joins (HasStore number x) views id other v u at there apart
         (λ h. (h.0, in_left v.histories u.histories (number, h.0) h.1, h.2)) (λ h. (h.0, in_right v.histories u.histories (number, h.0) h.1, h.2))
@@ -147,8 +147,8 @@ module _ (views : List View) (id other : ℕ) (v u : View) (at : get_elem? views
     claims = λ c. lists (λ w. w.claims) c refl refl;
     cleanings = λ c. lists (λ w. w.cleanings) c refl refl;
     pairs = λ x. lists (λ w. w.pairs) x refl refl;
-    owed = λ c. joins (λ w. w.owed ≡ Some c) views id other v u at there apart (λ o. o) (λ o. absurd (none_owed u c rest o)) (λ o. inl o) (none_owed nothing c (refl, refl, refl, refl));
-    unread = λ p. joins (λ w. (w.next ≤ p) × (p < w.end)) views id other v u at there apart (λ a. a) (λ a. absurd (none_unread u p rest a)) (λ a. inl a) (none_unread nothing p (refl, refl, refl, refl));
+    owed = λ c. joins (λ w. w.owed ≡ Some c) views id other v u at there apart (λ o. o) (λ o. absurd (none_owed u c rest o)) (λ o. inl o) (none_owed no_seat c (refl, refl, refl, refl));
+    unread = λ p. joins (λ w. (w.next ≤ p) × (p < w.end)) views id other v u at there apart (λ a. a) (λ a. absurd (none_unread u p rest a)) (λ a. inl a) (none_unread no_seat p (refl, refl, refl, refl));
   }
 
 pub seats_keep_all : SeatsKeepAll

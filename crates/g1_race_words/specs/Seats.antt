@@ -11,7 +11,7 @@ use Rattle.g1_race_words.specs.declared.view.View.{View}
 use Rattle.g1_race_words.specs.Begin.{Start}
 use Rattle.g1_race_words.specs.Rule.{IsBegun, IsPair, Raced, beginning, bit_word, flag, mark_word}
 use Rattle.g1_race_words.specs.Rule.{started, start_of}
-use Rattle.g1_race_words.specs.Steps.{chair, iced}
+use Rattle.g1_race_words.specs.Steps.{whole_seat, frozen_seat}
 
 -- the words of a race: which table they are, the shape of its heap, and where the first one lies
 pub record Words : Type 0 where
@@ -45,13 +45,13 @@ HoldsBit heap view pair word =
     (view.held ≡ pair ∷ []) × IsPair heap pair × (word ≡ bit_word heap pair)
 
 -- the seat of a pause that ends, with the share of a member still to give
-abbrev pub IsChair : View → Type 0
-IsChair view = (begin : Start) × (weight : ℕ) × (view ≡ chair begin weight) × (0 < weight)
+abbrev pub IsWholeSeat : View → Type 0
+IsWholeSeat view = (begin : Start) × (weight : ℕ) × (view ≡ whole_seat begin weight) × (0 < weight)
 
 -- the one seat of a race at a pause
 pub record IsPaused (table_id : TableId) (heap : Shape) (seat : Seat (Unit {0}) View) : Type 0 where
   pub table : seat.table_id ≡ table_id
-  pub view : seat.me ≡ (iced (started heap seat.me.0.began_words) heap.members, [])
+  pub view : seat.me ≡ (frozen_seat (started heap seat.me.0.began_words) heap.members, [])
   pub begun : IsBegun (started heap seat.me.0.began_words)
 
 -- at some moment of the race, with the seat's view so, the slot had the word
@@ -69,7 +69,7 @@ pub record Freezes (before after : Me (Unit {0}) View) : Type 0 where
   pub words : List ℕ
   pub views : List View
   pub id : ℕ
-  pub view : after ≡ (iced (started before.0.shape words) before.0.weight, before.1)
+  pub view : after ≡ (frozen_seat (started before.0.shape words) before.0.weight, before.1)
   pub begun : IsBegun (started before.0.shape words)
   pub raced : Raced (beginning (start_of before.0)) words views
   pub mine : get_elem? views id ≡ some before.0

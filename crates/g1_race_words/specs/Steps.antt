@@ -32,12 +32,12 @@ blank begin weight histories =
     }
 
 -- the seat of a pause that ends, which has the weight and the numbers of all that are still to come
-abbrev pub chair : Start → ℕ → View
-chair begin weight = record (blank begin weight []) { spare = weight }
+abbrev pub whole_seat : Start → ℕ → View
+whole_seat begin weight = record (blank begin weight []) { spare = weight }
 
 -- the seat of a pause, which has all the weight and knows all the words
-abbrev pub iced : Start → ℕ → View
-iced begin weight = record (chair begin weight) { frozen = true }
+abbrev pub frozen_seat : Start → ℕ → View
+frozen_seat begin weight = record (whole_seat begin weight) { frozen = true }
 
 -- the words may change again
 abbrev pub thawed : View → View
@@ -139,8 +139,8 @@ abbrev pub recorded : View → View
 recorded view = record view { held = [] }
 
 -- one member's share of the weight is cut off, and the number that goes with it
-abbrev pub lighter : View → View
-lighter view = record view { weight = view.weight - 1; spare = view.spare - 1 }
+abbrev pub after_split : View → View
+after_split view = record view { weight = view.weight - 1; spare = view.spare - 1 }
 
 -- a racer that has stored nothing gets the number that is cut off
 abbrev pub new_racer : View → View
@@ -166,8 +166,8 @@ both view other =
     }
 
 -- the view of a seat that was joined to another
-abbrev pub nothing : View
-nothing =
+abbrev pub no_seat : View
+no_seat =
     blank (null_of (record {
       slots = 0;
       cards = 0;

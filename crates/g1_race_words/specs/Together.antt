@@ -5,7 +5,7 @@ use mathlib.Core.Option.{some}
 use lib.ListN.{get_elem?}
 use Rattle.g1_race_words.specs.declared.view.View.{View}
 use Rattle.g1_race_words.specs.Rule.{AtRest, In, IsBlank}
-use Rattle.g1_race_words.specs.Steps.{both, lighter, new_racer, new_sweeper, nothing}
+use Rattle.g1_race_words.specs.Steps.{both, after_split, new_racer, new_sweeper, no_seat}
 use Rattle.g1_race_words.specs.Readers.{new_reader}
 
 -- a seat comes, which answers for nothing
@@ -16,7 +16,7 @@ Comes before next = (w : View) × IsBlank w × (next ≡ before ++ w ∷ [])
 abbrev pub SplitsOff : List View → List View → Type 0
 SplitsOff before next =
     (seat : ℕ) × (v : View) × (w : View) × (get_elem? before seat ≡ some v)
-    × (next ≡ slice_set before seat (lighter v) ++ w ∷ [])
+    × (next ≡ slice_set before seat (after_split v) ++ w ∷ [])
     × ((w ≡ new_racer v) ⊎ (w ≡ new_sweeper v) ⊎ (w ≡ new_reader v))
 
 -- a seat takes in one that is at rest, of which nothing is left
@@ -24,7 +24,7 @@ abbrev pub TakesIn : List View → List View → Type 0
 TakesIn before next =
     (seat : ℕ) × (other : ℕ) × (v : View) × (u : View) × (get_elem? before seat ≡ some v)
     × (get_elem? before other ≡ some u) × (other ≢ seat) × AtRest u
-    × (next ≡ slice_set (slice_set before seat (both v u)) other nothing)
+    × (next ≡ slice_set (slice_set before seat (both v u)) other no_seat)
 
 abbrev pub SeatStep : List View → List View → Type 0
 SeatStep before next = Comes before next ⊎ SplitsOff before next ⊎ TakesIn before next

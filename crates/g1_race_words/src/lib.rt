@@ -1,8 +1,8 @@
 //! The words of a race, and every kind of step on them.
 //!
 //! A race of mutators and refinement threads shares one table of words ([`RaceTable`]). Each of its
-//! threads has a seat at the table ([`Place`]), which carries what the thread knows, in the proofs
-//! alone ([`View`]). The rule that holds between any two steps is in `specs/Rule.antt`.
+//! threads has a seat at the table ([`RaceSeat`]), which carries what the thread knows, in the
+//! proofs alone ([`View`]). The rule that holds between any two steps is in `specs/Rule.antt`.
 //!
 //! Neither type shows what is inside, so a thread makes a step only by a call of this crate. Each
 //! call is one step, and tells the seat what it did:
@@ -38,5 +38,5 @@ mod sweeping;
 mod table;
 mod view;
 
-pub use table::{Place, RaceTable};
+pub use table::{RaceSeat, RaceTable};
 pub use view::{Shape, View};

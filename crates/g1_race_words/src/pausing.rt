@@ -4,7 +4,7 @@ ghost use Rattle.g1_race_words.specs.Rule.{AtRest, IsBegun, started, word_count}
 ghost use Rattle.g1_race_words.specs.Steps.{thawed};
 ghost use Rattle.g1_race_words.specs.Seats.{Freezes, IsPaused};
 
-use crate::table::{Place, RaceTable};
+use crate::table::{RaceSeat, RaceTable};
 use crate::view::View;
 use atomic_table::Play;
 
@@ -38,7 +38,7 @@ impl Play<(), View> for Sets {
 impl RaceTable {
     /// The seat that all the others joined learns all the words, and how they follow from the
     /// beginning of the race. No word changes.
-    pub fn freeze(&self, seat: &mut Place)
+    pub fn freeze(&self, seat: &mut RaceSeat)
         requires table { seat.old.table_id ≡ self.now.table_id }
         requires all { seat.old.me.0.weight ≡ self.now.shape.members }
         requires rest { AtRest seat.old.me.0 }
@@ -49,7 +49,7 @@ impl RaceTable {
     }
 
     /// Lets the words change again. No word changes.
-    pub fn thaw(&self, seat: &mut Place)
+    pub fn thaw(&self, seat: &mut RaceSeat)
         requires seat { IsPaused self.now.table_id self.now.shape seat.old }
         ensures table { seat.new.table_id ≡ seat.old.table_id }
         ensures view { seat.new.me ≡ (thawed seat.old.me.0, seat.old.me.1) }
@@ -59,7 +59,7 @@ impl RaceTable {
 
     /// Writes a word at a pause, and nothing else. With it, the words must still be words that a
     /// race can begin with.
-    pub fn put(&self, seat: &mut Place, word: usize, new: u64)
+    pub fn put(&self, seat: &mut RaceSeat, word: usize, new: u64)
         requires seat { IsPaused self.now.table_id self.now.shape seat.old }
         requires word { word < word_count self.now.shape }
         requires begun { IsBegun

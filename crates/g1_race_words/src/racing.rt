@@ -5,7 +5,7 @@ ghost use Rattle.g1_race_words.specs.Steps.{wrote, exchanged, looked, spotted, r
 ghost use Rattle.g1_race_words.specs.Steps.{dirtied};
 ghost use Rattle.g1_race_words.specs.Seats.{Sits, IsFound, OwesMark, OwesFlag};
 
-use crate::table::{Place, RaceTable};
+use crate::table::{RaceSeat, RaceTable};
 use crate::view::View;
 use atomic_table::Play;
 
@@ -74,7 +74,7 @@ impl RaceTable {
     /// Writes a slot, for a racer that owes no card. `word` is 0 for null, or the number of the
     /// target slot plus 1, or data from 2^32 on. If the reference crosses regions, the racer owes
     /// the slot's card from then on. Returns the slot's word as it was.
-    pub fn write(&self, seat: &mut Place, slot: usize, word: u64) -> u64
+    pub fn write(&self, seat: &mut RaceSeat, slot: usize, word: u64) -> u64
         requires table { seat.old.table_id ≡ self.now.table_id }
         requires racer { Sits self.now.shape seat.old.me.0
             × ((h : StoreHistory) × (seat.old.me.0.histories ≡ h ∷ [])) }
@@ -90,7 +90,7 @@ impl RaceTable {
 
     /// As [`RaceTable::write`] where the slot has the word that is expected; else nothing changes.
     /// Returns the slot's word as it was.
-    pub fn exchange(&self, seat: &mut Place, slot: usize, expected: u64, word: u64) -> u64
+    pub fn exchange(&self, seat: &mut RaceSeat, slot: usize, expected: u64, word: u64) -> u64
         requires table { seat.old.table_id ≡ self.now.table_id }
         requires racer { Sits self.now.shape seat.old.me.0
             × ((h : StoreHistory) × (seat.old.me.0.histories ≡ h ∷ [])) }
@@ -109,7 +109,7 @@ impl RaceTable {
 
     /// Reads the mark of the card that a racer owes, and returns it. If the mark is dirty, the
     /// racer owes the card no more.
-    pub fn look(&self, seat: &mut Place, mark: usize) -> u64
+    pub fn look(&self, seat: &mut RaceSeat, mark: usize) -> u64
         requires table { seat.old.table_id ≡ self.now.table_id }
         requires racer { Sits self.now.shape seat.old.me.0 }
         requires mark { OwesMark self.now.shape seat.old.me.0 mark }
@@ -121,7 +121,7 @@ impl RaceTable {
 
     /// Reads the word with the flag of the card that a racer owes, and returns the word. If the
     /// flag is set in it, the racer knows that it is set. The call touches no slot and no mark.
-    pub fn spot(&self, seat: &mut Place, word: usize) -> u64
+    pub fn spot(&self, seat: &mut RaceSeat, word: usize) -> u64
         requires table { seat.old.table_id ≡ self.now.table_id }
         requires racer { Sits self.now.shape seat.old.me.0 }
         requires flag { (card : ℕ) × OwesFlag self.now.shape seat.old.me.0 card word }
@@ -133,7 +133,7 @@ impl RaceTable {
 
     /// Sets the flag of the card that a racer owes: the bit `place` of the word. The racer then
     /// knows that the flag is set. The call touches no slot and no mark.
-    pub fn raise(&self, seat: &mut Place, word: usize, place: u32)
+    pub fn raise(&self, seat: &mut RaceSeat, word: usize, place: u32)
         requires table { seat.old.table_id ≡ self.now.table_id }
         requires racer { Sits self.now.shape seat.old.me.0 }
         requires flag { (card : ℕ) × OwesFlag self.now.shape seat.old.me.0 card word
@@ -149,7 +149,7 @@ impl RaceTable {
     /// Swaps the mark of the card that a racer owes to dirty, and returns the mark as it was. The
     /// racer must know that the card's flag is set. It owes the card no more. If the mark was
     /// clean, the racer has claimed the card.
-    pub fn dirty(&self, seat: &mut Place, mark: usize) -> u64
+    pub fn dirty(&self, seat: &mut RaceSeat, mark: usize) -> u64
         requires table { seat.old.table_id ≡ self.now.table_id }
         requires racer { Sits self.now.shape seat.old.me.0 }
         requires mark { OwesMark self.now.shape seat.old.me.0 mark }

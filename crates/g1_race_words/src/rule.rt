@@ -7,9 +7,9 @@ pub struct RaceRule;
 
 impl TableRule<(), View, Shape> for RaceRule {
     ghost use Rattle.g1_race_words.specs.Rule.{Going, null_of};
-    ghost use Rattle.g1_race_words.specs.Steps.{iced};
+    ghost use Rattle.g1_race_words.specs.Steps.{frozen_seat};
 
     ghost holds = { λ k s. Going k s.words s.views };
 
-    ghost first = { λ k. iced (null_of k) k.members };
+    ghost first = { λ k. frozen_seat (null_of k) k.members };
 }

@@ -1,19 +1,20 @@
 //! How seats are made, split and joined. No word changes.
 ghost use Rattle.std.specs.Prelude.{◌≡◌, []};
 ghost use Rattle.g1_race_words.specs.Rule.{AtRest, null_of};
-ghost use Rattle.g1_race_words.specs.Steps.{blank, both, lighter, new_racer, new_sweeper, nothing};
-ghost use Rattle.g1_race_words.specs.Seats.{IsChair};
+ghost use Rattle.g1_race_words.specs.Steps.{after_split, blank, both, new_racer, new_sweeper};
+ghost use Rattle.g1_race_words.specs.Steps.{no_seat};
+ghost use Rattle.g1_race_words.specs.Seats.{IsWholeSeat};
 
-use crate::table::{Place, RaceTable};
+use crate::table::{RaceSeat, RaceTable};
 use crate::view::View;
 use atomic_table::{Join, Play, Split};
 
 pub(crate) struct NewRacer;
 
 impl Split<View> for NewRacer {
-    ghost use Rattle.g1_race_words.specs.Steps.{lighter, new_racer};
+    ghost use Rattle.g1_race_words.specs.Steps.{after_split, new_racer};
 
-    ghost left = { lighter };
+    ghost left = { after_split };
 
     ghost right = { new_racer };
 }
@@ -21,9 +22,9 @@ impl Split<View> for NewRacer {
 pub(crate) struct NewSweeper;
 
 impl Split<View> for NewSweeper {
-    ghost use Rattle.g1_race_words.specs.Steps.{lighter, new_sweeper};
+    ghost use Rattle.g1_race_words.specs.Steps.{after_split, new_sweeper};
 
-    ghost left = { lighter };
+    ghost left = { after_split };
 
     ghost right = { new_sweeper };
 }
@@ -31,11 +32,11 @@ impl Split<View> for NewSweeper {
 pub(crate) struct Gathers;
 
 impl Join<View> for Gathers {
-    ghost use Rattle.g1_race_words.specs.Steps.{both, nothing};
+    ghost use Rattle.g1_race_words.specs.Steps.{both, no_seat};
 
     ghost both = { both };
 
-    ghost spent = { nothing };
+    ghost spent = { no_seat };
 }
 
 pub(crate) struct Comes;
@@ -52,69 +53,75 @@ pub(crate) struct ComesSpent;
 
 impl Play<(), View> for ComesSpent {
     ghost use Rattle.std.specs.Prelude.{◌≡◌, []};
-    ghost use Rattle.g1_race_words.specs.Steps.{nothing};
+    ghost use Rattle.g1_race_words.specs.Steps.{no_seat};
 
-    ghost then = { λ step before found after. after ≡ (nothing, []) };
+    ghost then = { λ step before found after. after ≡ (no_seat, []) };
 }
 
 impl RaceTable {
     /// Makes a new seat. Its weight is 0, and its view is blank.
-    pub fn enter(&self) -> Place
+    pub fn enter(&self) -> RaceSeat
         ensures table { result.table_id ≡ self.now.table_id }
         ensures view { result.me ≡ (blank (null_of self.now.shape) 0 [], []) }
     {
         let (_, seat) = self.table.shared.load_new_seat::<Comes>(0);
-        Place { seat }
+        RaceSeat { seat }
     }
 
     /// Makes a spent seat, such as a join leaves: it answers for nothing, and its shape is that of
     /// no race. It stands in for the seat of a member that a pause has taken.
-    pub fn spent(&self) -> Place
+    pub fn spent(&self) -> RaceSeat
         ensures table { result.table_id ≡ self.now.table_id }
-        ensures view { result.me ≡ (nothing, []) }
+        ensures view { result.me ≡ (no_seat, []) }
     {
         let (_, seat) = self.table.shared.load_new_seat::<ComesSpent>(0);
-        Place { seat }
+        RaceSeat { seat }
     }
 
     /// Splits a racer's seat off the seat of a pause that ends. The racer has a number of its own.
-    pub fn split_racer(&self, chair: &mut Place) -> Place
-        requires table { chair.old.table_id ≡ self.now.table_id }
-        requires chair { IsChair chair.old.me.0 }
-        ensures table { chair.new.table_id ≡ chair.old.table_id }
-        ensures left { chair.new.me ≡ (lighter chair.old.me.0, chair.old.me.1) }
-        ensures racer { (result.table_id ≡ chair.old.table_id)
-            × (result.me ≡ (new_racer chair.old.me.0, [])) }
+    pub fn split_racer(&self, pause_seat: &mut RaceSeat) -> RaceSeat
+        requires table { pause_seat.old.table_id ≡ self.now.table_id }
+        requires whole { IsWholeSeat pause_seat.old.me.0 }
+        ensures table { pause_seat.new.table_id ≡ pause_seat.old.table_id }
+        ensures left { pause_seat.new.me ≡ (after_split pause_seat.old.me.0, pause_seat.old.me.1) }
+        ensures racer { (result.table_id ≡ pause_seat.old.table_id)
+            × (result.me ≡ (new_racer pause_seat.old.me.0, [])) }
     {
-        Place {
-            seat: self.table.shared.split_seat::<NewRacer>(&mut chair.seat),
+        RaceSeat {
+            seat: self
+                .table
+                .shared
+                .split_seat::<NewRacer>(&mut pause_seat.seat),
         }
     }
 
     /// Splits a sweeper's seat off the seat of a pause that ends.
-    pub fn split_sweeper(&self, chair: &mut Place) -> Place
-        requires table { chair.old.table_id ≡ self.now.table_id }
-        requires chair { IsChair chair.old.me.0 }
-        ensures table { chair.new.table_id ≡ chair.old.table_id }
-        ensures left { chair.new.me ≡ (lighter chair.old.me.0, chair.old.me.1) }
-        ensures sweeper { (result.table_id ≡ chair.old.table_id)
-            × (result.me ≡ (new_sweeper chair.old.me.0, [])) }
+    pub fn split_sweeper(&self, pause_seat: &mut RaceSeat) -> RaceSeat
+        requires table { pause_seat.old.table_id ≡ self.now.table_id }
+        requires whole { IsWholeSeat pause_seat.old.me.0 }
+        ensures table { pause_seat.new.table_id ≡ pause_seat.old.table_id }
+        ensures left { pause_seat.new.me ≡ (after_split pause_seat.old.me.0, pause_seat.old.me.1) }
+        ensures sweeper { (result.table_id ≡ pause_seat.old.table_id)
+            × (result.me ≡ (new_sweeper pause_seat.old.me.0, [])) }
     {
-        Place {
-            seat: self.table.shared.split_seat::<NewSweeper>(&mut chair.seat),
+        RaceSeat {
+            seat: self
+                .table
+                .shared
+                .split_seat::<NewSweeper>(&mut pause_seat.seat),
         }
     }
 
     /// Joins the seat of a member at rest to another seat, which takes in what the member knows.
     /// The member's seat is used up.
-    pub fn join(&self, seat: &mut Place, other: Place)
+    pub fn join(&self, seat: &mut RaceSeat, other: RaceSeat)
         requires table { (seat.old.table_id ≡ self.now.table_id)
             × (other.table_id ≡ self.now.table_id) }
         requires member { (other.me.0.weight ≡ 1) × AtRest other.me.0 }
         ensures table { seat.new.table_id ≡ seat.old.table_id }
         ensures view { seat.new.me ≡ (both seat.old.me.0 other.me.0, seat.old.me.1) }
     {
-        let Place { seat: other } = other;
+        let RaceSeat { seat: other } = other;
         self.table
             .shared
             .join_seat::<Gathers>(&mut seat.seat, other);

@@ -3,20 +3,20 @@ ghost use Rattle.std.specs.Prelude.{◌≡◌, ◌<◌, []};
 ghost use mathlib.Core.Option.{some};
 ghost use lib.ListN.{get_elem?};
 ghost use Rattle.g1_race_words.specs.Rule.{word_count};
-ghost use Rattle.g1_race_words.specs.Steps.{lighter};
+ghost use Rattle.g1_race_words.specs.Steps.{after_split};
 ghost use Rattle.g1_race_words.specs.Readers.{IsLent, IsReading, new_reader};
 
-use crate::table::{Place, RaceTable};
+use crate::table::{RaceSeat, RaceTable};
 use crate::view::View;
 use atomic_table::{Play, Split};
 
 pub(crate) struct NewReader;
 
 impl Split<View> for NewReader {
-    ghost use Rattle.g1_race_words.specs.Steps.{lighter};
+    ghost use Rattle.g1_race_words.specs.Steps.{after_split};
     ghost use Rattle.g1_race_words.specs.Readers.{new_reader};
 
-    ghost left = { lighter };
+    ghost left = { after_split };
 
     ghost right = { new_reader };
 }
@@ -35,21 +35,24 @@ impl Play<(), View> for Sees {
 impl RaceTable {
     /// Splits a reader's seat off the seat of a pause. No word can change until all readers have
     /// joined that seat again.
-    pub fn split_reader(&self, chair: &mut Place) -> Place
-        requires chair { IsLent self.now.table_id self.now.shape chair.old }
-        requires weight { 0 < chair.old.me.0.weight }
-        ensures table { chair.new.table_id ≡ chair.old.table_id }
-        ensures left { chair.new.me ≡ (lighter chair.old.me.0, chair.old.me.1) }
-        ensures reader { (result.table_id ≡ chair.old.table_id)
-            × (result.me ≡ (new_reader chair.old.me.0, [])) }
+    pub fn split_reader(&self, pause_seat: &mut RaceSeat) -> RaceSeat
+        requires whole { IsLent self.now.table_id self.now.shape pause_seat.old }
+        requires weight { 0 < pause_seat.old.me.0.weight }
+        ensures table { pause_seat.new.table_id ≡ pause_seat.old.table_id }
+        ensures left { pause_seat.new.me ≡ (after_split pause_seat.old.me.0, pause_seat.old.me.1) }
+        ensures reader { (result.table_id ≡ pause_seat.old.table_id)
+            × (result.me ≡ (new_reader pause_seat.old.me.0, [])) }
     {
-        Place {
-            seat: self.table.shared.split_seat::<NewReader>(&mut chair.seat),
+        RaceSeat {
+            seat: self
+                .table
+                .shared
+                .split_seat::<NewReader>(&mut pause_seat.seat),
         }
     }
 
     /// Reads a word at a pause, and returns it. It is the word that the seat knows.
-    pub fn see(&self, seat: &mut Place, word: usize) -> u64
+    pub fn see(&self, seat: &mut RaceSeat, word: usize) -> u64
         requires seat { IsReading self.now.table_id self.now.shape seat.old }
         requires word { word < word_count self.now.shape }
         ensures word { get_elem? seat.old.me.0.began_words word ≡ some result }

@@ -4,7 +4,7 @@ ghost use Rattle.g1_race_words.specs.Rule.{IsWord, bit_place};
 ghost use Rattle.g1_race_words.specs.Steps.{cleaned, read, sought, recorded};
 ghost use Rattle.g1_race_words.specs.Seats.{Sits, IsMark, HoldsBit};
 
-use crate::table::{Place, RaceTable};
+use crate::table::{RaceSeat, RaceTable};
 use crate::view::View;
 use atomic_table::Play;
 
@@ -50,7 +50,7 @@ impl Play<(), View> for Records {
 impl RaceTable {
     /// Swaps a mark to clean, for a sweeper that has nothing left to read, and returns the mark as
     /// it was. The sweeper then has each slot of the card to read.
-    pub fn clean(&self, seat: &mut Place, mark: usize) -> u64
+    pub fn clean(&self, seat: &mut RaceSeat, mark: usize) -> u64
         requires table { seat.old.table_id ≡ self.now.table_id }
         requires sweeper { Sits self.now.shape seat.old.me.0 }
         requires done { seat.old.me.0.next ≡ seat.old.me.0.end }
@@ -64,7 +64,7 @@ impl RaceTable {
 
     /// Reads the next slot, for a sweeper that holds no pair, and returns the slot's word. If the
     /// reference crosses regions, the sweeper holds the slot's pair from then on.
-    pub fn read(&self, seat: &mut Place, slot: usize) -> u64
+    pub fn read(&self, seat: &mut RaceSeat, slot: usize) -> u64
         requires table { seat.old.table_id ≡ self.now.table_id }
         requires sweeper { Sits self.now.shape seat.old.me.0 }
         requires free { seat.old.me.0.held ≡ [] }
@@ -80,7 +80,7 @@ impl RaceTable {
 
     /// Reads the word with the bit of the pair that a sweeper holds, and returns the word. If the
     /// bit is set in it, the sweeper holds the pair no more. The call touches no slot and no mark.
-    pub fn seek(&self, seat: &mut Place, word: usize) -> u64
+    pub fn seek(&self, seat: &mut RaceSeat, word: usize) -> u64
         requires table { seat.old.table_id ≡ self.now.table_id }
         requires sweeper { Sits self.now.shape seat.old.me.0 }
         requires pair { (x : ℕ × ℕ) × HoldsBit self.now.shape seat.old.me.0 x word }
@@ -92,7 +92,7 @@ impl RaceTable {
 
     /// Sets the bit of the pair that a sweeper holds: the bit `place` of the word. The sweeper
     /// holds the pair no more. The call touches no slot and no mark.
-    pub fn record(&self, seat: &mut Place, word: usize, place: u32)
+    pub fn record(&self, seat: &mut RaceSeat, word: usize, place: u32)
         requires table { seat.old.table_id ≡ self.now.table_id }
         requires sweeper { Sits self.now.shape seat.old.me.0 }
         requires pair { (x : ℕ × ℕ) × HoldsBit self.now.shape seat.old.me.0 x word

@@ -2,7 +2,7 @@
 ghost use Rattle.std.specs.Prelude.{◌≡◌, ◌<◌, [], IfOk};
 ghost use Rattle.std.specs.Slots.{slots_items, slots_len, IsFull};
 ghost use Rattle.g1_race_words.specs.Rule.{IsWholeShape, null_of, word_count};
-ghost use Rattle.g1_race_words.specs.Steps.{iced};
+ghost use Rattle.g1_race_words.specs.Steps.{frozen_seat};
 ghost use Rattle.g1_race_words.specs.Seats.{IsPaused};
 
 use crate::address::words_of;
@@ -43,11 +43,11 @@ impl Model for RaceTable {
 ///
 /// Its model has the identity of its table, and what its thread knows.
 #[derive(Drop)]
-pub struct Place {
+pub struct RaceSeat {
     pub(crate) seat: Seat<(), View>,
 }
 
-impl Model for Place {
+impl Model for RaceSeat {
     ghost use Rattle.atomic_table.specs.declared.shared.Seat.{Seat};
     ghost use Rattle.std.specs.Prelude.{◌≡◌, []};
     ghost use Rattle.g1_race_words.specs.declared.view.View.{View};
@@ -64,16 +64,17 @@ impl RaceTable {
     ///
     /// Takes 8 bytes a word, twice while it begins. Returns `AllocError` if memory was refused:
     /// nothing is left of the table.
-    pub fn open(alloc: Global, shape: Shape) -> Result<(RaceTable, Place), AllocError>
+    pub fn open(alloc: Global, shape: Shape) -> Result<(RaceTable, RaceSeat), AllocError>
         requires shape { IsWholeShape shape }
         requires members { 0 < shape.members }
         ensures shape { IfOk result (λ r. r.0.shape ≡ shape) }
         ensures seat { IfOk result (λ r. IsPaused r.0.table_id shape r.1) }
-        ensures words { IfOk result (λ r. r.1.me ≡ (iced (null_of shape) shape.members, [])) }
+        ensures words { IfOk result (λ r.
+            r.1.me ≡ (frozen_seat (null_of shape) shape.members, [])) }
     {
         let zeros = vec![in alloc; 0u64; shape.slots + shape.cards + shape.bits + shape.row]?;
         let (table, seat) = Table::of_words(alloc, &zeros, &shape)?;
-        Ok((RaceTable { table }, Place { seat }))
+        Ok((RaceTable { table }, RaceSeat { seat }))
     }
 
     /// Returns the address of the first word, which the others follow, 8 bytes each. It stays the
@@ -87,7 +88,7 @@ impl RaceTable {
     }
 
     /// Ends the race at a pause, and returns the words as the seat knew them.
-    pub fn close(self, seat: Place) -> Closed<(), Global>
+    pub fn close(self, seat: RaceSeat) -> Closed<(), Global>
         requires seat { IsPaused self.table_id self.shape seat }
         ensures words { slots_items result.words ≡ seat.me.0.began_words }
         ensures full { IsFull result.words }
@@ -95,7 +96,7 @@ impl RaceTable {
         ensures none { slots_len result.slots ≡ 0 }
     {
         let RaceTable { table } = self;
-        let Place { seat } = seat;
+        let RaceSeat { seat } = seat;
         table.close_with(seat)
     }
 }

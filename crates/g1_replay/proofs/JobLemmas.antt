@@ -12,49 +12,49 @@ use Rattle.g1_steps.specs.declared.crew.desk.Script.{Script}
 use Rattle.g1_steps.specs.declared.crew.desk.Step.{Step}
 use Rattle.g1_steps.specs.declared.crew.job.Job.{Job}
 use Rattle.g1_shared.specs.Counts.{CallerCounts}
-use Rattle.g1_shared.specs.Callers.{Standing}
+use Rattle.g1_shared.specs.Callers.{CallerState}
 use Rattle.g1_shared.specs.Did.{DeskDid}
 use Rattle.g1_replay.specs.Scripts.{IsScriptAt, first_refusal, JobEnd, asked_by, stored_by, HasCome}
 
 -- calls at a desk of a shared book
-abbrev DidAt : {X : Type 0} → (X → ℕ) → (X → Standing) → X → List Ask → X → Type 0
+abbrev DidAt : {X : Type 0} → (X → ℕ) → (X → CallerState) → X → List Ask → X → Type 0
 DidAt limit stood s asks t = DeskDid (limit s) (stood s) asks (limit t) (stood t)
 
-abbrev HasRun : {X : Type 0} → (X → ℕ) → (X → Standing) → Job X → Job X → Type 0
+abbrev HasRun : {X : Type 0} → (X → ℕ) → (X → CallerState) → Job X → Job X → Type 0
 HasRun limit stood a b = (b.script ≡ a.script) × Ran (DidAt limit stood) (asks_in a.script) a.desk b.outcome b.desk
 
 abbrev end_of : {X : Type 0} → Job X → JobEnd
 end_of job = record { script = job.script; outcome = job.outcome }
 
-one_stores : {X : Type 0} (limit : X → ℕ) (stood : X → Standing) (script : Script) (outcome : Option (Result ℕ (ℕ × Refusal))) (d e : X) → Ran (DidAt limit stood) (asks_in script) d outcome e
+one_stores : {X : Type 0} (limit : X → ℕ) (stood : X → CallerState) (script : Script) (outcome : Option (Result ℕ (ℕ × Refusal))) (d e : X) → Ran (DidAt limit stood) (asks_in script) d outcome e
     → (stood e).counts.stored ≡ (stood d).counts.stored + count_by is_store_ask (asked_by script outcome)
 one_stores limit stood script (Some (Ok made)) d e h = h.1.1.stored
 one_stores limit stood script (Some (Err refused)) d e h = h.1.1.stored
 one_stores limit stood script None d e h = absurd h
 
 -- each caller has as many stores more as its job asked for
-all_store : {X : Type 0} (limit : X → ℕ) (stood : X → Standing) (begun done : List (Job X)) → AllZip (HasRun limit stood) begun done
-    → sum_by (λ (c : Standing). c.counts.stored) (map (λ (j : Job X). stood j.desk) done) ≡ sum_by (λ (c : Standing). c.counts.stored) (map (λ (j : Job X). stood j.desk) begun) + sum_by stored_by (map end_of done)
+all_store : {X : Type 0} (limit : X → ℕ) (stood : X → CallerState) (begun done : List (Job X)) → AllZip (HasRun limit stood) begun done
+    → sum_by (λ (c : CallerState). c.counts.stored) (map (λ (j : Job X). stood j.desk) done) ≡ sum_by (λ (c : CallerState). c.counts.stored) (map (λ (j : Job X). stood j.desk) begun) + sum_by stored_by (map end_of done)
 all_store limit stood [] [] h = refl
 all_store limit stood [] (b ∷ done) h = absurd h
 all_store limit stood (a ∷ begun) [] h = absurd h
 all_store {X} limit stood (a ∷ begun) (b ∷ done) h =
-    let stored : Standing → ℕ = λ c. c.counts.stored in
-    let stand : Job X → Standing = λ j. stood j.desk in
+    let stored : CallerState → ℕ = λ c. c.counts.stored in
+    let stand : Job X → CallerState = λ j. stood j.desk in
     let made : stored (stand b) ≡ stored (stand a) + count_by is_store_ask (asked_by a.script b.outcome) = one_stores limit stood a.script b.outcome a.desk b.desk h.0.1 in
     let same : stored_by (end_of b) ≡ count_by is_store_ask (asked_by a.script b.outcome) = ap (λ s. count_by is_store_ask (asked_by s b.outcome)) h.0.0 in
     let rest : sum_by stored (map stand done) ≡ sum_by stored (map stand begun) + sum_by stored_by (map end_of done) = all_store limit stood begun done h.1 in
     omega (arith, made, same, rest, sum_by-cons stored (stand b) (map stand done), sum_by-cons stored (stand a) (map stand begun), sum_by-cons stored_by (end_of b) (map end_of done))
 
-none_stored : (callers : List Standing) → ((k : ℕ) (d : Standing) → k < length callers → (get_or callers k d).counts.stored ≡ 0) → sum_by (λ (c : Standing). c.counts.stored) callers ≡ 0
+none_stored : (callers : List CallerState) → ((k : ℕ) (d : CallerState) → k < length callers → (get_or callers k d).counts.stored ≡ 0) → sum_by (λ (c : CallerState). c.counts.stored) callers ≡ 0
 none_stored [] none = refl
 none_stored (c ∷ callers) none =
     let first : c.counts.stored ≡ 0 = none 0 c (omega arith) in
-    let rest : sum_by (λ (c : Standing). c.counts.stored) callers ≡ 0 = none_stored callers (λ k d lt. none (suc k) d (omega (arith, lt))) in
-    omega (arith, first, rest, sum_by-cons (λ (c : Standing). c.counts.stored) c callers)
+    let rest : sum_by (λ (c : CallerState). c.counts.stored) callers ≡ 0 = none_stored callers (λ k d lt. none (suc k) d (omega (arith, lt))) in
+    omega (arith, first, rest, sum_by-cons (λ (c : CallerState). c.counts.stored) c callers)
 
 -- what holds of the scripts that were begun holds of those that came back
-each_script : {X : Type 0} (limit : X → ℕ) (stood : X → Standing) (P : ℕ → Script → Type 0) (begun done : List (Job X)) → AllZip (HasRun limit stood) begun done
+each_script : {X : Type 0} (limit : X → ℕ) (stood : X → CallerState) (P : ℕ → Script → Type 0) (begun done : List (Job X)) → AllZip (HasRun limit stood) begun done
     → ((k : ℕ) (d : Job X) → k < length begun → P k (get_or begun k d).script) → (k : ℕ) (d : JobEnd) → k < length (map end_of done) → P k (get_or (map end_of done) k d).script
 each_script limit stood P [] [] h all k d lt = absurd (omega (arith, lt))
 each_script limit stood P [] (b ∷ done) h all k d lt = absurd h
@@ -68,19 +68,19 @@ outcomes_of [] = refl
 outcomes_of (b ∷ done) = ap (λ os. b.outcome ∷ os) (outcomes_of done)
 
 -- The jobs of callers that have made no call came back.
-pub has_come : {X E : Type 0} (limit : X → ℕ) (stood : X → Standing) (steps : E → List Step) (rounds count : ℕ) (asked : List E) (refused : Option Refusal) (stored : ℕ) (callers after : List Standing) (begun done : List (Job X))
+pub has_come : {X E : Type 0} (limit : X → ℕ) (stood : X → CallerState) (steps : E → List Step) (rounds count : ℕ) (asked : List E) (refused : Option Refusal) (stored : ℕ) (callers after : List CallerState) (begun done : List (Job X))
     → AllZip (HasRun limit stood) begun done → All (λ (j : Job X). IsScriptAt steps rounds asked (stood j.desk).counts.number j.script) begun
     → map (λ (j : Job X). stood j.desk) begun ≡ callers → length callers ≡ count
-    → ((k : ℕ) (d : Standing) → k < length callers → (get_or callers k d).counts ≡ record { number = k; made = 0; stored = 0 })
+    → ((k : ℕ) (d : CallerState) → k < length callers → (get_or callers k d).counts ≡ record { number = k; made = 0; stored = 0 })
     → refused ≡ first_refusal (map (λ (j : Job X). j.outcome) done) → after ≡ map (λ (j : Job X). stood j.desk) done
-    → stored ≡ sum_by (λ (c : Standing). c.counts.stored) after → HasCome steps rounds count asked refused stored
+    → stored ≡ sum_by (λ (c : CallerState). c.counts.stored) after → HasCome steps rounds count asked refused stored
 has_come {X} {E} limit stood steps rounds count asked refused stored callers after begun done ran scripts at many new first left are =
-    let stand : Job X → Standing = λ j. stood j.desk in
+    let stand : Job X → CallerState = λ j. stood j.desk in
     let n = length-map begun stand in
     let zip = length_all_zip (HasRun limit stood) begun done ran in
-    let called = ap (λ (l : List Standing). length l) at in
+    let called = ap (λ (l : List CallerState). length l) at in
     let number : (k : ℕ) (d : Job X) → k < length begun → (stand (get_or begun k d)).counts.number ≡ k =
-    λ k d lt. ap (λ (c : Standing). c.counts.number) (sym (get_or-map stand begun k d (stand d) lt) ∙ ap (λ (l : List Standing). get_or l k (stand d)) at) ∙ ap (λ (t : CallerCounts). t.number) (new k (stand d) (omega (arith, lt, n, called))) in
+    λ k d lt. ap (λ (c : CallerState). c.counts.number) (sym (get_or-map stand begun k d (stand d) lt) ∙ ap (λ (l : List CallerState). get_or l k (stand d)) at) ∙ ap (λ (t : CallerCounts). t.number) (new k (stand d) (omega (arith, lt, n, called))) in
     let none = none_stored callers (λ k d lt. ap (λ (t : CallerCounts). t.stored) (new k d lt)) in
     record {
       jobs = map end_of done;
@@ -88,5 +88,5 @@ has_come {X} {E} limit stood steps rounds count asked refused stored callers aft
       scripts = each_script limit stood (λ k script. IsScriptAt steps rounds asked k script) begun done ran
           (λ k d lt. subst (λ i. IsScriptAt steps rounds asked i (get_or begun k d).script) (number k d lt) (scripts k d lt));
       first = first ∙ ap first_refusal (sym (outcomes_of done));
-      stored = omega (arith, are, ap (sum_by (λ (c : Standing). c.counts.stored)) left, all_store limit stood begun done ran, ap (sum_by (λ (c : Standing). c.counts.stored)) at, none);
+      stored = omega (arith, are, ap (sum_by (λ (c : CallerState). c.counts.stored)) left, all_store limit stood begun done ran, ap (sum_by (λ (c : CallerState). c.counts.stored)) at, none);
     }

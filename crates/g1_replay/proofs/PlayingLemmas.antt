@@ -80,13 +80,13 @@ line_unread did full d l n n' s rd rd' out stop none h read = absurd h
 
 pub line_stopped : {S : Type 0} (did : S → List Command → List ℕ → S → Type 0) (full : S → Type 0) (d : Dialect) (l : Shape) (n n' : ℕ) (c : Command) (old new : S) (rd rd' out out' : Option (List ℕ)) (stop : Stop) → MayStop stop
     → Reads d (Some l) n n' rd rd' (Some l) (c ∷ []) (Ok true) → Does did full (c ∷ []) old new out out' (Err stop) → Follows did full d l n n' old new rd rd' out out' (Err stop)
-line_stopped did full d l n n' c old new rd rd' out out' stop h read done = record { commands = c ∷ []; read = halted d l n n' c rd rd' stop h read; done = done }
+line_stopped did full d l n n' c old new rd rd' out out' stop h read done = record { commands = c ∷ []; read = table_at d l n n' c rd rd' stop h read; done = done }
   where
-    halted : (d : Dialect) (l : Shape) (n n' : ℕ) (c : Command) (rd rd' : Option (List ℕ)) (stop : Stop) → MayStop stop → Reads d (Some l) n n' rd rd' (Some l) (c ∷ []) (Ok true) → Reads d (Some l) n n' rd rd' (Some l) (c ∷ []) (Err stop)
-    halted d l n n' c rd rd' NoMemory h read = record { lines = read.lines; rest = read.rest; consumed = read.consumed; passed = read.passed; met = read.met }
-    halted d l n n' c rd rd' BookFull h read = record { lines = read.lines; rest = read.rest; consumed = read.consumed; passed = read.passed; met = read.met }
-    halted d l n n' c rd rd' WriteFailed h read = record { lines = read.lines; rest = read.rest; consumed = read.consumed; passed = read.passed; met = read.met }
-    halted d l n n' c rd rd' stop h read = absurd h
+    table_at : (d : Dialect) (l : Shape) (n n' : ℕ) (c : Command) (rd rd' : Option (List ℕ)) (stop : Stop) → MayStop stop → Reads d (Some l) n n' rd rd' (Some l) (c ∷ []) (Ok true) → Reads d (Some l) n n' rd rd' (Some l) (c ∷ []) (Err stop)
+    table_at d l n n' c rd rd' NoMemory h read = record { lines = read.lines; rest = read.rest; consumed = read.consumed; passed = read.passed; met = read.met }
+    table_at d l n n' c rd rd' BookFull h read = record { lines = read.lines; rest = read.rest; consumed = read.consumed; passed = read.passed; met = read.met }
+    table_at d l n n' c rd rd' WriteFailed h read = record { lines = read.lines; rest = read.rest; consumed = read.consumed; passed = read.passed; met = read.met }
+    table_at d l n n' c rd rd' stop h read = absurd h
 
 -- a command that was played, or stopped
 pub line_done : {S : Type 0} (did : S → List Command → List ℕ → S → Type 0) (full : S → Type 0) (stops : Stop → Type 0) (may : (stop : Stop) → stops stop → MayStop stop) (d : Dialect) (l : Shape) (n n' : ℕ) (c : Command) (old new : S)

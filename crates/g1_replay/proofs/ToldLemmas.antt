@@ -68,8 +68,8 @@ head_told d s history n n' rd rd' out stop h read = absurd h
 pub unopened_told : (d : Dialect) (s : Settings) (history n n' : ℕ) (l : Shape) (rd rd' out : Option (List ℕ)) → Reads d None n n' rd rd' (Some l) [] (Ok true)
     → (text : List ℕ) × Told d s history n n' rd rd' (Err NoMemory) text × Writes {V = Unit {0}} out out (Err NoMemory) text
 unopened_told d s history n n' l rd rd' out read =
-    let halted : Reads d None n n' rd rd' (Some l) [] (Err NoMemory) = record { lines = read.lines; rest = read.rest; consumed = read.consumed; passed = read.passed; met = read.met } in
-    ([], told_nothing d s history n n' rd rd' (Some l) NoMemory tt (omega arith) halted, Appends-nil out)
+    let table_at : Reads d None n n' rd rd' (Some l) [] (Err NoMemory) = record { lines = read.lines; rest = read.rest; consumed = read.consumed; passed = read.passed; met = read.met } in
+    ([], told_nothing d s history n n' rd rd' (Some l) NoMemory tt (omega arith) table_at, Appends-nil out)
 
 entries_grown : (l : Shape) (o : Options) (book new : History) (es : List Entry) → IsOpened l o book → Grows book es new → new.entries ≡ es
 entries_grown l o book new es is g = g.entries ∙ ap (λ (h : History). h.entries ++ es) is

@@ -13,7 +13,7 @@ use Rattle.g1_history.specs.declared.refusal.Refusal.TheVariants.{BookFull}
 use Rattle.g1_history.specs.History.{stores_by, History, Totals, IsKept, IsEnteredBy, IsFull, made_of, stored_of}
 use Rattle.g1_steps.specs.declared.steps.mutator.Mutator.{Mutator}
 use Rattle.g1_shared.specs.Counts.{CallerCounts, SharedTerms, AreCounted, AreNone, LeadsTo, kept_terms, shared_terms, one_call, is_store, one_store}
-use Rattle.g1_shared.specs.Callers.{Standing, called_once}
+use Rattle.g1_shared.specs.Callers.{CallerState, called_once}
 use Rattle.std.proofs.lemmas.List.Sums.{count_by-le-length, fold-append}
 use Rattle.g1_core.specs.Table.{Table}
 use Rattle.g1_core.specs.Run.{IsStep, IsAllowed, table_after}
@@ -125,7 +125,7 @@ stored_fits keeps terms made stored old new e was h store kept =
     omega (arith, was.1, more, few, fits.0, fits.1)
 
 -- the caller with one call more
-pub called : (counts new : CallerCounts) (m : Option Mutator) (t : Taker) (now : Standing) → record { counts = counts; mutator = m; taker = t } ≡ now → new ≡ one_call counts → record { counts = new; mutator = m; taker = t } ≡ called_once now
+pub called : (counts new : CallerCounts) (m : Option Mutator) (t : Taker) (now : CallerState) → record { counts = counts; mutator = m; taker = t } ≡ now → new ≡ one_call counts → record { counts = new; mutator = m; taker = t } ≡ called_once now
 called counts new m t now view is = ap (λ (n : CallerCounts). record { counts = n; mutator = m; taker = t }) is ∙ ap called_once view
 
 -- a full book, as it was before
@@ -156,3 +156,6 @@ call_of_caller number made stored now t view is = ap (λ (n : ℕ). record { num
 pub store_of_caller : (number made stored now all : ℕ) (t : CallerCounts) → record { number = number; made = made; stored = stored } ≡ t → now ≡ made + 1 → all ≡ stored + 1 → record { number = number; made = now; stored = all } ≡ one_store t
 store_of_caller number made stored now all t view one more =
     ap (λ (n : ℕ). record { number = number; made = n; stored = all }) one ∙ ap (λ (n : ℕ). record { number = number; made = made + 1; stored = n }) more ∙ ap one_store view
+
+-- what each counted call needs
+pub ruleset counted_call = (if_refused, on_refused, err_refused, full_as, still_some, same_counted, called, call_counted, total_fits, stored_fits, call_of_caller, store_of_caller, store_counted)

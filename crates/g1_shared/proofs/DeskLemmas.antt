@@ -10,7 +10,7 @@ use Rattle.g1_shared.specs.Counts.{SharedTerms}
 use Rattle.g1_steps.specs.Made.{CallMade}
 use Rattle.g1_steps.specs.Rounds.{IsRound, round_size}
 use Rattle.g1_steps.specs.Ask.{AskWork}
-use Rattle.g1_shared.specs.Callers.{Standing, IsRoundAt, caller_mark, taken_list}
+use Rattle.g1_shared.specs.Callers.{CallerState, IsRoundAt, caller_mark, taken_list}
 use Rattle.g1_shared.specs.Did.{DeskDid}
 use Rattle.g1_shared.proofs.CountLemmas.{round_as, round_makes}
 
@@ -21,7 +21,7 @@ rounds_as did tells old new was now before reply after start named seen same tol
     subst (λ n. IsRound tells was before (round_size n seen) reply after now) same (round_as did tells old new was now before (round_size start seen) reply after told h)
 
 -- what a desk tells of it
-pub desk_worked : (r : Result RefineReply Refusal) (line : Line) (terms : SharedTerms) (s t : Standing) → caller_mark t ≡ caller_mark s → t.counts.stored ≡ s.counts.stored
+pub desk_worked : (r : Result RefineReply Refusal) (line : Line) (terms : SharedTerms) (s t : CallerState) → caller_mark t ≡ caller_mark s → t.counts.stored ≡ s.counts.stored
     → (s.counts.made ≤ t.counts.made) × (t.counts.made ≤ s.counts.made + capacity_of line) → IfOk r (λ reply. IsRoundAt terms line s reply t)
     → OnOk r (DeskDid (capacity_of line) s (AskWork ∷ []) (capacity_of line) t)
 desk_worked (Err refusal) line terms s t mark stored made round = tt

@@ -9,7 +9,7 @@ use Rattle.g1_log.specs.declared.parcel.Parcel.{Parcel}
 use Rattle.g1_log.specs.Log.{Cards}
 use Rattle.g1_log.specs.Ends.{line_home, capacity_of, put_of, taken_of}
 use Rattle.g1_core.specs.declared.reply.StoreReply.{StoreReply}
-use Rattle.g1_core.specs.Does.{IsLent}
+use Rattle.g1_core.specs.Calls.{IsLent}
 use Rattle.g1_core.specs.declared.reply.RefineReply.{RefineReply}
 use Rattle.g1_core.specs.declared.reply.Fill.{Fill}
 use Rattle.g1_core.specs.declared.reply.Fill.TheVariants.{No, Full, Helped}
@@ -22,7 +22,7 @@ use Rattle.g1_steps.specs.Opening.{IsNewMutator}
 use Rattle.g1_steps.specs.Marks.{MutatorMark, TakerMark, mutator_mark, taker_mark}
 
 -- A caller: its counts, its log and sender where it is a mutator, and its taker.
-pub record Standing : Type 0 where
+pub record CallerState : Type 0 where
   pub counts : CallerCounts
   pub mutator : Option Mutator
   pub taker : Taker
@@ -32,7 +32,7 @@ abbrev pub mutator_log : Option Mutator → Cards
 mutator_log None = record { size = 0; cards = [] }
 mutator_log (Some m) = m.log
 
-abbrev pub caller_log : Standing → Cards
+abbrev pub caller_log : CallerState → Cards
 caller_log c = mutator_log c.mutator
 
 -- the list of the buffers that its sender has put
@@ -40,11 +40,11 @@ abbrev pub puts_in : Option Mutator → List Buffer
 puts_in None = []
 puts_in (Some m) = put_of m.sender
 
-abbrev pub put_list : Standing → List Buffer
+abbrev pub put_list : CallerState → List Buffer
 put_list c = puts_in c.mutator
 
 -- the list of the parcels that its taker has taken
-abbrev pub taken_list : Standing → List Parcel
+abbrev pub taken_list : CallerState → List Parcel
 taken_list c = taken_of c.taker
 
 -- who a caller is, which no call changes
@@ -53,7 +53,7 @@ pub record Mark : Type 0 where
   pub mutator : Option MutatorMark
   pub taker : TakerMark
 
-abbrev pub caller_mark : Standing → Mark
+abbrev pub caller_mark : CallerState → Mark
 caller_mark c = record {
   number = c.counts.number;
   mutator = mutator_mark c.mutator;
@@ -64,7 +64,7 @@ caller_mark c = record {
 abbrev pub IsMarkOf : Line → Mark → Type 0
 IsMarkOf line m = IfSome m.mutator (λ s. s.line ≡ line_home line) × (m.taker.line ≡ line_home line)
 
-abbrev pub IsCallerOf : Line → Standing → Type 0
+abbrev pub IsCallerOf : Line → CallerState → Type 0
 IsCallerOf line c = IsMarkOf line (caller_mark c)
 
 -- One entry more, or a refused call: then nothing is refined, and that is short.
@@ -73,7 +73,7 @@ IsHelped made refined short now =
     (now ≡ made + 1) ⊎ ((now ≡ made) × (refined ≡ []) × (short ≡ true))
 
 -- What a store of a card does to its caller, by what became of the log.
-abbrev pub IsStoreAt : Standing → ℕ → Fill → List ℕ → Bool → Standing → Type 0
+abbrev pub IsStoreAt : CallerState → ℕ → Fill → List ℕ → Bool → CallerState → Type 0
 IsStoreAt c card No refined short d =
     (d.counts.made ≡ c.counts.made + 1) × (put_list d ≡ put_list c) × (refined ≡ [])
     × (short ≡ false)
@@ -86,7 +86,7 @@ IsStoreAt c card Helped refined short d =
     × ((caller_log d).cards ≡ [])
 
 -- What a flush does to its caller, by what became of the log.
-abbrev pub IsFlushAt : Standing → Fill → List ℕ → Bool → Standing → Type 0
+abbrev pub IsFlushAt : CallerState → Fill → List ℕ → Bool → CallerState → Type 0
 IsFlushAt c No refined short d =
     (d.counts ≡ c.counts) × (put_list d ≡ put_list c) × ((caller_log c).cards ≡ []) × (refined ≡ [])
     × (short ≡ false)
@@ -97,13 +97,13 @@ IsFlushAt c Helped refined short d =
     IsHelped c.counts.made refined short d.counts.made × (put_list d ≡ put_list c)
 
 -- A refinement of a caller: its counts tell of the call, and the reply is one of that buffer.
-abbrev pub IsRefinementAt : Shape → Standing → RefineReply → Standing → Type 0
+abbrev pub IsRefinementAt : Shape → CallerState → RefineReply → CallerState → Type 0
 IsRefinementAt layout c reply d =
     IsRefinement (CountsDid layout) c.counts c.taker reply d.taker d.counts
 
 -- A round of a caller at a line, on these terms: its counts tell of the calls, and the replies are
 -- those of the buffers.
-abbrev pub IsRoundAt : SharedTerms → Line → Standing → RefineReply → Standing → Type 0
+abbrev pub IsRoundAt : SharedTerms → Line → CallerState → RefineReply → CallerState → Type 0
 IsRoundAt terms line c reply d =
     (seen : ℕ) × (seen ≤ capacity_of line)
     × IsRound (CountsDid terms.layout) c.counts (taken_list c)
@@ -116,14 +116,14 @@ pub record MakesFor (made : ℕ) (old : List Parcel) (made' : ℕ) (new : List P
   pub within : made' ≤ made + length parcels
 
 -- A caller at a pause: its log is empty.
-pub record IsCallerAtPause (c d : Standing) : Type 0 where
+pub record IsCallerAtPause (c d : CallerState) : Type 0 where
   pub mark : caller_mark d ≡ caller_mark c
   pub counts : d.counts ≡ c.counts
   pub empty : (caller_log d).cards ≡ []
   pub put : put_list d ≡ put_list c
 
 -- Caller k as it begins, where the first `mutators` callers are mutators.
-pub record IsNewCaller (line : Line) (log mutators k : ℕ) (c : Standing) : Type 0 where
+pub record IsNewCaller (line : Line) (log mutators k : ℕ) (c : CallerState) : Type 0 where
   pub counts : c.counts ≡ record { number = k; made = 0; stored = 0 }
   pub some : k < mutators → IsSome c.mutator
   pub mutator : IfSome c.mutator (IsNewMutator line log k)
@@ -131,12 +131,12 @@ pub record IsNewCaller (line : Line) (log mutators k : ℕ) (c : Standing) : Typ
   pub taken : taken_list c ≡ []
 
 -- the caller after one entry more, which is no store
-abbrev pub called_once : Standing → Standing
+abbrev pub called_once : CallerState → CallerState
 called_once c = record { counts = one_call c.counts; mutator = c.mutator; taker = c.taker }
 
 -- Where the call succeeded, the caller has one call more, which is no store. A refusal leaves it as
 -- it was.
-abbrev pub CallsOnce : {X : Type 0} → Standing → Result X Refusal → Standing → Type 0
+abbrev pub CallsOnce : {X : Type 0} → CallerState → Result X Refusal → CallerState → Type 0
 CallsOnce old result new = OnOk result (new ≡ called_once old) × OnErr result (new ≡ old)
 
 -- What a store of this card does to a mutator, and the buffer that its log hands out.
@@ -145,6 +145,6 @@ HandsOutOf (Some m) card reply buffer (Some n) =
     IsLent card reply m.log n.log buffer × (n.sender ≡ m.sender)
 HandsOutOf _ card reply buffer _ = ⊥
 
-abbrev pub HandsOut : Standing → ℕ → StoreReply → Option Buffer → Standing → Type 0
+abbrev pub HandsOut : CallerState → ℕ → StoreReply → Option Buffer → CallerState → Type 0
 HandsOut c card reply buffer d =
     HandsOutOf c.mutator card reply buffer d.mutator × (d.taker ≡ c.taker)

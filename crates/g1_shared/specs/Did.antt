@@ -3,7 +3,7 @@ use Rattle.std.specs.Prelude.{◌≡◌, ℕ, Bool, cond, ◌+◌, ◌≤◌, Li
 use Rattle.std.proofs.Common.{refl, sym, ap, subst, ◌∙◌, arith, append-nil, append_assoc}
 use Rattle.std.proofs.Common.{length-append}
 use Rattle.std.proofs.lemmas.List.Sums.{sum_by-append}
-use Rattle.g1_shared.specs.Callers.{Standing, MakesFor, caller_mark, mutator_log, taken_list}
+use Rattle.g1_shared.specs.Callers.{CallerState, MakesFor, caller_mark, mutator_log, taken_list}
 use Rattle.g1_steps.specs.Ask.{Ask, AskStore, AskFlush, AskWork, is_store_ask}
 use Rattle.g1_steps.specs.Steps.{GainsAtMost}
 
@@ -14,40 +14,40 @@ most_for limit AskFlush = 1
 most_for limit AskWork = limit
 
 -- a flush leaves an empty log
-abbrev pub Leaves : Ask → Standing → Type 0
+abbrev pub Leaves : Ask → CallerState → Type 0
 Leaves AskFlush t = (mutator_log t.mutator).cards ≡ []
 Leaves (AskStore slot target) t = Unit {0}
 Leaves AskWork t = Unit {0}
 
 -- No call leaves log and sender; a flush that was the last call leaves an empty log.
-abbrev pub LeavesLog : Standing → List Ask → Standing → Type 0
+abbrev pub LeavesLog : CallerState → List Ask → CallerState → Type 0
 LeavesLog s [] t = t.mutator ≡ s.mutator
 LeavesLog s (a ∷ []) t = Leaves a t
 LeavesLog s (a ∷ b ∷ asks) t = LeavesLog s (b ∷ asks) t
 
-leaves_same : (a : Ask) (t u : Standing) → u.mutator ≡ t.mutator → Leaves a t → Leaves a u
+leaves_same : (a : Ask) (t u : CallerState) → u.mutator ≡ t.mutator → Leaves a t → Leaves a u
 leaves_same AskFlush t u e h = ap (λ m. (mutator_log m).cards) e ∙ h
 leaves_same (AskStore slot target) t u e h = tt
 leaves_same AskWork t u e h = tt
 
-log_same : (s t u : Standing) (xs : List Ask) → u.mutator ≡ t.mutator → LeavesLog s xs t
+log_same : (s t u : CallerState) (xs : List Ask) → u.mutator ≡ t.mutator → LeavesLog s xs t
     → LeavesLog s xs u
 log_same s t u [] e h = e ∙ h
 log_same s t u (a ∷ []) e h = leaves_same a t u e h
 log_same s t u (a ∷ b ∷ xs) e h = log_same s t u (b ∷ xs) e h
 
-log_behind : (s t u : Standing) (y : Ask) (ys : List Ask) → LeavesLog t (y ∷ ys) u
+log_behind : (s t u : CallerState) (y : Ask) (ys : List Ask) → LeavesLog t (y ∷ ys) u
     → LeavesLog s (y ∷ ys) u
 log_behind s t u y [] h = h
 log_behind s t u y (z ∷ ys) h = log_behind s t u z ys h
 
-log_after : (s t u : Standing) (xs : List Ask) (y : Ask) (ys : List Ask) → LeavesLog t (y ∷ ys) u
+log_after : (s t u : CallerState) (xs : List Ask) (y : Ask) (ys : List Ask) → LeavesLog t (y ∷ ys) u
     → LeavesLog s (xs ++ y ∷ ys) u
 log_after s t u [] y ys h = log_behind s t u y ys h
 log_after s t u (x ∷ []) y ys h = log_behind s t u y ys h
 log_after s t u (x ∷ z ∷ xs) y ys h = log_after s t u (z ∷ xs) y ys h
 
-log_then : (s t u : Standing) (xs ys : List Ask) → LeavesLog s xs t → LeavesLog t ys u
+log_then : (s t u : CallerState) (xs ys : List Ask) → LeavesLog s xs t → LeavesLog t ys u
     → LeavesLog s (xs ++ ys) u
 log_then s t u xs [] h k =
     subst (λ l. LeavesLog s l u) (sym (append-nil xs)) (log_same s t u xs k h)
@@ -56,7 +56,8 @@ log_then s t u xs (y ∷ ys) h k = log_after s t u xs y ys k
 -- A caller made these calls: it is the same caller, each store counts once, and each store makes at
 -- least one entry. At most two are made for a store, one for a flush, and one for each parcel that
 -- its taker gained.
-pub record CallerDid (limit : ℕ) (s : Standing) (asks : List Ask) (t : Standing) : Type 0 where
+pub record CallerDid (limit : ℕ) (s : CallerState) (asks : List Ask)
+    (t : CallerState) : Type 0 where
   pub mark : caller_mark t ≡ caller_mark s
   pub stored : t.counts.stored ≡ s.counts.stored + count_by is_store_ask asks
   pub least : s.counts.made + count_by is_store_ask asks ≤ t.counts.made
@@ -69,7 +70,7 @@ count_more : {X : Type 0} (p : X → Bool) (xs ys : List X)
     → count_by p (xs ++ ys) ≡ count_by p xs + count_by p ys
 count_more p xs ys = sum_by-append (λ x. cond (p x) 1 0) xs ys
 
-pub caller_did_none : (limit : ℕ) (s : Standing) → CallerDid limit s [] s
+pub caller_did_none : (limit : ℕ) (s : CallerState) → CallerDid limit s [] s
 caller_did_none limit s = record {
   mark = refl;
   stored = omega arith;
@@ -79,7 +80,7 @@ caller_did_none limit s = record {
   each = record { parcels = []; gained = sym (append-nil (taken_list s)); within = omega arith };
 }
 
-pub caller_did_then : (limit : ℕ) (s t u : Standing) (xs ys : List Ask) → CallerDid limit s xs t
+pub caller_did_then : (limit : ℕ) (s t u : CallerState) (xs ys : List Ask) → CallerDid limit s xs t
     → CallerDid limit t ys u → CallerDid limit s (xs ++ ys) u
 caller_did_then limit s t u xs ys p q = record {
   mark = q.mark ∙ p.mark;
@@ -103,17 +104,17 @@ caller_did_then limit s t u xs ys p q = record {
 
 -- What was asked of a caller is refused: a store leaves the caller as it was, and a round makes no
 -- entry and gives up at most one parcel. A flush never is.
-abbrev pub IsRefusedAt : Standing → Ask → Standing → Type 0
+abbrev pub IsRefusedAt : CallerState → Ask → CallerState → Type 0
 IsRefusedAt s (AskStore slot target) t = t ≡ s
 IsRefusedAt s AskFlush t = ⊥
 IsRefusedAt s AskWork t =
     (t.counts ≡ s.counts) × (t.mutator ≡ s.mutator) × GainsAtMost (taken_list s) 1 (taken_list t)
 
 -- What a caller made, at a desk whose line stays of one capacity.
-abbrev pub DeskDid : ℕ → Standing → List Ask → ℕ → Standing → Type 0
+abbrev pub DeskDid : ℕ → CallerState → List Ask → ℕ → CallerState → Type 0
 DeskDid limit s asks limit' t = (limit' ≡ limit) × CallerDid limit s asks t
 
-pub desk_did_then : (l m n : ℕ) (s t u : Standing) (xs ys : List Ask) → DeskDid l s xs m t
+pub desk_did_then : (l m n : ℕ) (s t u : CallerState) (xs ys : List Ask) → DeskDid l s xs m t
     → DeskDid m t ys n u → DeskDid l s (xs ++ ys) n u
 desk_did_then l m n s t u xs ys p q =
     let P : ℕ → Type 0 = λ k. CallerDid k t ys u in

@@ -5,12 +5,12 @@ use Rattle.g1_core.specs.Barrier.{logged, buffer_of}
 use Rattle.g1_core.specs.declared.reply.StoreReply.{StoreReply}
 use Rattle.g1_core.specs.declared.reply.Fill.TheVariants.{No, Helped}
 use Rattle.g1_steps.specs.Steps.{MayRefuse}
-use Rattle.g1_shared.specs.Callers.{Standing, IsStoreAt, caller_log}
+use Rattle.g1_shared.specs.Callers.{CallerState, IsStoreAt, caller_log}
 
 -- A store of this card counts once, and its log goes into the queue where the card fills it, or the
 -- caller refines it where the queue hands it back.
-pub record StoresBy (line : Line) (c : Standing) (card : ℕ) (reply : StoreReply)
-    (d : Standing) : Type 0 where
+pub record StoresBy (line : Line) (c : CallerState) (card : ℕ) (reply : StoreReply)
+    (d : CallerState) : Type 0 where
   pub stored : d.counts.stored ≡ c.counts.stored + 1
   pub taker : d.taker ≡ c.taker
   pub log : caller_log d ≡ logged reply.kind (caller_log c) card

@@ -91,9 +91,9 @@ pub struct Caller<M: Terms, S: Ledger> {
 
 impl<M: Terms, S: Ledger> Model for Caller<M, S> {
     ghost use Rattle.std.specs.Prelude.{◌<◌, IsSome};
-    ghost use Rattle.g1_shared.specs.Callers.{Standing};
+    ghost use Rattle.g1_shared.specs.Callers.{CallerState};
 
-    ghost Value = { Standing };
+    ghost Value = { CallerState };
 
     ghost view = { λ c. record { counts = c.counts; mutator = c.mutator; taker = c.taker } };
 

@@ -1,10 +1,8 @@
 //! A book with the ledgers of its calls and of its stores: what a shared book keeps under its lock.
-//! Its calls are in [`calls`].
+//! Its calls are in [`calls`](crate::calls).
 ghost use Rattle.std.specs.Prelude.{◌≡◌};
 ghost use Rattle.g1_shared.specs.Counts.{AreCounted, LeadsTo, kept_terms};
 ghost use Rattle.g1_history.specs.History.{made_of, stored_of, terms_of, table_in};
-
-mod calls;
 
 use crate::ledgers::Terms;
 use g1_history::{Book, Keeps, Kept};
@@ -19,9 +17,9 @@ use std::sync::ledger::{Ledger, Share};
 /// were.
 #[derive(Drop)]
 pub struct Counted<M: Terms, S: Ledger, H: Keeps = Kept> {
-    book: Book<H>,
-    made: ledger::Book<M>,
-    stored: ledger::Book<S>,
+    pub(crate) book: Book<H>,
+    pub(crate) made: ledger::Book<M>,
+    pub(crate) stored: ledger::Book<S>,
 }
 
 impl<M: Terms, S: Ledger, H: Keeps> Model for Counted<M, S, H> {

@@ -12,6 +12,7 @@
 #![tactic(auto)]
 
 mod caller;
+mod calls;
 mod counted;
 mod ledgers;
 mod lock;

@@ -1,11 +1,10 @@
 //! A book that threads share, with the queue of completed buffers beside its lock.
 //!
 //! From a thread of its own, each caller makes the steps of a caller over the locked book
-//! ([`steps`]) and asks it questions ([`calls`]). [`opening`] says how a book is shared, and how it
-//! is given back.
+//! ([`steps`]) and asks it questions ([`calls`](crate::calls)). [`opening`] says how a book is
+//! shared, and how it is given back.
 ghost use Rattle.std.specs.Prelude.{◌≡◌};
 
-mod calls;
 mod opening;
 mod steps;
 
@@ -27,7 +26,7 @@ use std::sync::{MutexGuard, Wait};
 /// while a buffer is put into the queue or taken from it. Contracts see the queue.
 #[derive(Drop)]
 pub struct Shared<M: Terms, S: Ledger, H: Keeps = Kept> {
-    counted: Lock<Counted<M, S, H>>,
+    pub(crate) counted: Lock<Counted<M, S, H>>,
     line: Line,
     alloc: Global,
     start: usize,

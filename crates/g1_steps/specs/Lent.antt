@@ -2,9 +2,8 @@
 use Rattle.std.specs.Prelude.{◌≡◌, ◌≢◌, ◌↔◌, ℕ, Bool, true, List, [], ◌∷◌, ◌++◌}
 use Rattle.std.proofs.Common.{◌∙◌, ap}
 use Rattle.g1_core.specs.declared.entry.Entry.{Entry}
-use Rattle.g1_core.specs.Calls.{store_entry, refine_entry}
+use Rattle.g1_core.specs.Calls.{store_entry, refine_entry, DoesStore, DoesRefine}
 use Rattle.g1_history.specs.declared.refusal.Refusal.TheVariants.{BookFull}
-use Rattle.g1_core.specs.Does.{DoesStore, DoesRefine}
 use Rattle.g1_history.specs.History.{History, IsEnteredBy, IsFull, made_of, terms_of}
 use Rattle.g1_steps.specs.Made.{CallMade, Stored, Refined, Refused, AreCalls}
 

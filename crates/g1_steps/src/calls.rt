@@ -2,7 +2,7 @@
 ghost use Rattle.std.specs.Prelude.{◌≡◌, ◌<◌, ◌≤◌, ◌+◌, ℕ, Bool, [], ◌∷◌, ◌++◌, List, true, false};
 ghost use Rattle.std.specs.Prelude.{length, IfOk, OnErr, IfSome, IsNone, option_map};
 ghost use Rattle.g1_layout.specs.Shape.{Shape, slot_count, card_of};
-ghost use Rattle.g1_core.specs.Does.{IsLent};
+ghost use Rattle.g1_core.specs.Calls.{IsLent};
 ghost use Rattle.g1_steps.specs.Made.{CallMade, stores, refines};
 
 use g1_core::{RefineReply, StoreReply};

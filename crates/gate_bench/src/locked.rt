@@ -1,7 +1,7 @@
 //! Stores at a book or a core under a lock, by callers that have each a thread and cards of their
 //! own.
 ghost use Rattle.std.specs.Prelude.{◌≡◌, ℕ, ◌<◌, ◌≤◌, length, slice_index_or};
-ghost use Rattle.g1_shared.specs.Callers.{Standing, IsCallerOf, IsNewCaller, caller_mark};
+ghost use Rattle.g1_shared.specs.Callers.{CallerState, IsCallerOf, IsNewCaller, caller_mark};
 ghost use Rattle.g1_shared.specs.Counts.{AreNone, shared_terms};
 
 use crate::list::{List, lists_of};
@@ -86,7 +86,7 @@ fn run_all<
     timed: Timed,
     meter: &Meter,
 )
-    requires each { (k : ℕ) (d : Standing) → k < length callers.old
+    requires each { (k : ℕ) (d : CallerState) → k < length callers.old
         → IsNewCaller shared.now M.terms.settings.log M.terms.mutators k
         (slice_index_or callers.old k d) }
     requires mutators { length callers.old ≡ M.terms.mutators }

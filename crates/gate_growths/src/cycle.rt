@@ -78,12 +78,12 @@ fn resumed<R: Eprint + AllocGlobal>(
     ensures sweepers { IfOk result (λ r. AreFreshSweepers r.0 1 r.2) }
 {
     let before = state_of(&mut core)?;
-    match Race::resume(rt.alloc(), core, 1, 1) {
+    match Race::from_core(rt.alloc(), core, 1, 1) {
         Ok(made) => Ok(made),
         Err((mut core, NoMemory)) => {
-            refused(rt, "Race::resume");
+            refused(rt, "Race::from_core");
             is_left(rt, &mut core, &before, &[])?;
-            match Race::resume(rt.alloc(), core, 1, 1) {
+            match Race::from_core(rt.alloc(), core, 1, 1) {
                 Ok(made) => Ok(made),
                 Err((_, NoMemory)) => Err(Failure::NoMemory),
             }

@@ -18,7 +18,7 @@ fn race_on<R: Threads + Sync>(
     core: Core,
     plan: Plan,
 ) -> Result<Core, NoMemory> {
-    match Race::resume(alloc, core, 4, 2) {
+    match Race::from_core(alloc, core, 4, 2) {
         Ok((race, racers, sweepers)) => {
             match run_race(rt, race, racers, sweepers, plan)
                 .close()

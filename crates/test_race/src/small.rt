@@ -73,7 +73,7 @@ impl Small {
 
     /// A race that goes on from a core.
     pub(crate) fn resume(alloc: Global, core: Core) -> Result<Small, NoMemory> {
-        match Race::resume(alloc, core, 2, 1) {
+        match Race::from_core(alloc, core, 2, 1) {
             Ok((race, racers, sweepers)) => Ok(Small::new(race, racers, sweepers)),
             Err((_, error)) => Err(error),
         }

@@ -1,7 +1,7 @@
 //! Queries on a heap at a pause: what a slot refers to, whether a card is pending, how much is
 //! pending and recorded, and what is recorded for a region.
 ghost use Rattle.std.specs.Prelude.{◌≡◌, ◌≢◌, ◌<◌, ◌≤◌, ◌==◌, take};
-ghost use Rattle.g1_race.specs.Over.{halted};
+ghost use Rattle.g1_race.specs.Over.{table_at};
 ghost use Rattle.g1_race.specs.Reading.{IsNextMember};
 ghost use Rattle.g1_handles.specs.AtPause.{SlotRefers, TellsPending, TellsStatus, TellsMembers};
 ghost use Rattle.g1_handles.specs.Arrays.{IsWritten};
@@ -161,7 +161,7 @@ pub extern "C" fn g1_heap_next_member(
     card: &mut u32,
 ) -> u32
     ensures next { result ≡ 0 → IsSameHeap heap.old.value heap.new.value (λ old new.
-        IsNextMember (halted old) region from (reference_of card.new)) }
+        IsNextMember (table_at old) region from (reference_of card.new)) }
     ensures null { 0 < result → card.new ≡ 4294967295 }
     ensures why { 0 < result → IsRefusal result
         (IsHeapRefused heap.old.value (λ old. LacksRegion old.layout region)) }

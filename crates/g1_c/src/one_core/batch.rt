@@ -9,7 +9,7 @@ use core::mem::replace_with;
 use g1_core::Core;
 use g1_handles::any_handle::visit;
 use g1_handles::code::{DONE, STOPPED};
-use g1_handles::list::put;
+use g1_handles::list::write_list;
 use g1_handles::one_core::batch::{Store, store_all_in};
 use g1_handles::one_core::handle::Handle;
 use std::alloc::Global;
@@ -62,7 +62,7 @@ pub extern "C" fn g1_store_all(
         Ok(stored) => {
             *batch = Batch {
                 stored: stored.count as u32,
-                logged: put(stored.cards.as_slice(), cards),
+                logged: write_list(stored.cards.as_slice(), cards),
             };
             if stored.is_whole { DONE } else { STOPPED }
         }

@@ -9,7 +9,7 @@ use core::mem::replace_with;
 use g1_core::Core;
 use g1_handles::any_handle::visit;
 use g1_handles::code::{DONE, Refusal};
-use g1_handles::list::put;
+use g1_handles::list::write_list;
 use g1_handles::one_core::handle::Handle;
 use g1_handles::one_core::members::{Listed, members_in};
 use std::alloc::Global;
@@ -48,7 +48,7 @@ pub extern "C" fn g1_members(
             Refusal::NoRoom.word()
         }
         Ok(Listed::Members(members)) => {
-            *count = put(members.as_slice(), cards);
+            *count = write_list(members.as_slice(), cards);
             DONE
         }
     }

@@ -9,7 +9,7 @@ use core::mem::replace_with;
 use g1_core::{Core, Drained};
 use g1_handles::any_handle::visit;
 use g1_handles::code::{DONE, SHORT};
-use g1_handles::list::put;
+use g1_handles::list::write_list;
 use g1_handles::one_core::handle::Handle;
 use g1_handles::one_core::pause::drain_in;
 use std::alloc::Global;
@@ -54,7 +54,7 @@ pub extern "C" fn g1_drain(
     ) {
         Err(refusal) => refusal.word(),
         Ok(Drained::Short { refined: list }) => {
-            *refined_count = put(list.as_slice(), refined);
+            *refined_count = write_list(list.as_slice(), refined);
             SHORT
         }
         Ok(
@@ -63,8 +63,8 @@ pub extern "C" fn g1_drain(
                 refined: list,
             },
         ) => {
-            *count = put(members.as_slice(), cards);
-            *refined_count = put(list.as_slice(), refined);
+            *count = write_list(members.as_slice(), cards);
+            *refined_count = write_list(list.as_slice(), refined);
             DONE
         }
     }

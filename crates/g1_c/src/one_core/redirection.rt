@@ -9,7 +9,7 @@ use core::mem::replace_with;
 use g1_core::{Core, Redirected};
 use g1_handles::any_handle::visit;
 use g1_handles::code::{DONE, SHORT};
-use g1_handles::list::put;
+use g1_handles::list::write_list;
 use g1_handles::one_core::handle::Handle;
 use g1_handles::one_core::redirection::redirect_in;
 use std::alloc::Global;
@@ -48,7 +48,7 @@ pub extern "C" fn g1_redirect(
     ) {
         Err(refusal) => refusal.word(),
         Ok(Redirected::Short { refined: list }) => {
-            *refined_count = put(list.as_slice(), refined);
+            *refined_count = write_list(list.as_slice(), refined);
             SHORT
         }
         Ok(
@@ -58,7 +58,7 @@ pub extern "C" fn g1_redirect(
             },
         ) => {
             *moved = slots;
-            *refined_count = put(list.as_slice(), refined);
+            *refined_count = write_list(list.as_slice(), refined);
             DONE
         }
     }

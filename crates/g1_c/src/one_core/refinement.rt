@@ -8,7 +8,7 @@ ghost use Rattle.g1_handles.specs.Replies.{RefinesTo, reply_of};
 use core::mem::replace_with;
 use g1_core::Core;
 use g1_handles::any_handle::visit;
-use g1_handles::list::put;
+use g1_handles::list::write_list;
 use g1_handles::one_core::handle::Handle;
 use g1_handles::one_core::refinement::{refine_in, word_of};
 use std::alloc::Global;
@@ -59,7 +59,7 @@ pub extern "C" fn g1_refine(
         Err(refusal) => refusal.word(),
         Ok(reply) => {
             *tally = Tally {
-                refined: put(reply.refined.as_slice(), refined),
+                refined: write_list(reply.refined.as_slice(), refined),
                 hot: reply.hot,
                 skipped: reply.skipped,
             };

@@ -1,7 +1,7 @@
 //! A call on a heap at a pause.
 ghost use Rattle.std.specs.Prelude.{Some, Result};
 ghost use Rattle.std.specs.Fn.{FnOnceReturnsAtMut};
-ghost use Rattle.g1_race.specs.Over.{Halt};
+ghost use Rattle.g1_race.specs.Over.{Pause};
 ghost use Rattle.g1_handles.specs.declared.code.Refusal.{Refusal};
 ghost use Rattle.g1_handles.specs.AtPause.{IsKept};
 ghost use Rattle.g1_handles.specs.HeapCalls.{IsCalled};
@@ -25,7 +25,7 @@ pub fn at_pause<A, F: FnOnce(&mut PausedHeap) -> Result<A, Refusal>>(
     words: (Global, F),
 ) -> (HeapHandle, Result<A, Refusal>)
     requires callable { F.IsAlwaysCallable words.1 }
-    requires kept { (old new : Halt) (r : Result A Refusal)
+    requires kept { (old new : Pause) (r : Result A Refusal)
         → FnOnceReturnsAtMut F.FnOnce words.1 old r new → IsKept old new }
     ensures { IsCalled (FnOnceReturnsAtMut F.FnOnce words.1) handle.value result.1 result.0.value }
 {
@@ -42,7 +42,7 @@ fn call_on<A, F: FnOnce(&mut PausedHeap) -> Result<A, Refusal>>(
     call: F,
 ) -> Result<A, Refusal>
     requires callable { F.IsAlwaysCallable call }
-    requires kept { (old new : Halt) (r : Result A Refusal)
+    requires kept { (old new : Pause) (r : Result A Refusal)
         → FnOnceReturnsAtMut F.FnOnce call old r new → IsKept old new }
     ensures { IsCalled (FnOnceReturnsAtMut F.FnOnce call) (Some heap.old) result (Some heap.new) }
 {

@@ -3,7 +3,7 @@
 ghost use Rattle.std.specs.Prelude.{◌≡◌, ◌≢◌, ◌<◌, ◌⊎◌, ℕ, true, false, IfOk, OnOk, IfErr, OnErr};
 ghost use Rattle.g1_layout.specs.Shape.{region_of};
 ghost use Rattle.g1_core.specs.Table.{Crosses};
-ghost use Rattle.g1_race.specs.Over.{halted};
+ghost use Rattle.g1_race.specs.Over.{table_at};
 ghost use Rattle.g1_handles.specs.AtPause.{IsKept, ClearsAt, Redirects, Wipes, Forgets, RefersOut};
 ghost use Rattle.g1_handles.specs.Codes.{cleared_of, IsClearWord};
 ghost use Rattle.g1_handles.specs.Lacks.{LacksRegion};
@@ -98,7 +98,7 @@ fn refers_out(heap: &mut PausedHeap, layout: Layout, region: Region) -> bool
     requires layout { layout ≡ heap.old.layout }
     requires region { region < layout.regions }
     ensures some { result ≡ true → RefersOut heap.old region }
-    ensures none { result ≡ false → (slot place : ℕ) → Crosses (halted heap.old) slot place
+    ensures none { result ≡ false → (slot place : ℕ) → Crosses (table_at heap.old) slot place
         → region_of layout slot ≢ region }
     ensures same { heap.new ≡ heap.old }
 {

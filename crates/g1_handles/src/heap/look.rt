@@ -5,12 +5,12 @@ ghost use Rattle.g1_handles.specs.Refusals.{SaysNoMember};
 
 use crate::any_handle::{AnyHandle, closed, into_box, opened};
 use crate::code::Refusal;
-use crate::member::{Member, Part};
+use crate::member::{Member, Role};
 use core::mem::replace;
 use std::alloc::Global;
 
 /// Checks that each handle has a member of a race with this many members.
-pub(crate) fn look_at<P: Part, H: AnyHandle<Value = Member<P>>>(
+pub(crate) fn look_at<P: Role, H: AnyHandle<Value = Member<P>>>(
     alloc: Global,
     handles: &mut [H],
     members: usize,
@@ -27,7 +27,7 @@ pub(crate) fn look_at<P: Part, H: AnyHandle<Value = Member<P>>>(
 }
 
 /// Checks the same of one handle.
-fn look_in<P: Part, H: AnyHandle<Value = Member<P>>>(
+fn look_in<P: Role, H: AnyHandle<Value = Member<P>>>(
     alloc: Global,
     handle: &mut H,
     members: usize,
@@ -45,12 +45,12 @@ fn look_in<P: Part, H: AnyHandle<Value = Member<P>>>(
     answer
 }
 
-fn look<P: Part>(member: &Member<P>, members: usize) -> Result<(), Refusal>
+fn look<P: Role>(member: &Member<P>, members: usize) -> Result<(), Refusal>
     ensures among { OnOk result (IsAmong members (Some member.now)) }
     ensures why { IfErr result (λ refusal. (refusal ≡ Refusal.OtherRace)
         ⊎ SaysNoMember (Some member.now) refusal) }
 {
-    if member.part.is_none() {
+    if member.role.is_none() {
         return Err(Refusal::NotOpen);
     }
     if member.race.members() != members {

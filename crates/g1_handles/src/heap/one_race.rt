@@ -12,7 +12,7 @@ ghost use Rattle.g1_handles.specs.Racing.{held_racers, held_sweepers};
 use crate::any_handle::{AnyHandle, closed, into_box, opened};
 use crate::member::racer_handle::RacerHandle;
 use crate::member::sweeper_handle::SweeperHandle;
-use crate::member::{Member, Part};
+use crate::member::{Member, Role};
 use core::mem::replace;
 use g1_race::Race;
 use std::alloc::Global;
@@ -37,7 +37,7 @@ pub(crate) fn share_of_race(
 }
 
 /// Whether each of these members is of the race of a share, and none is given twice.
-pub(crate) fn are_of<P: Part, H: AnyHandle<Value = Member<P>>>(
+pub(crate) fn are_of<P: Role, H: AnyHandle<Value = Member<P>>>(
     alloc: Global,
     share: &Arc<Race, Global>,
     handles: &mut [H],
@@ -59,7 +59,7 @@ pub(crate) fn are_of<P: Part, H: AnyHandle<Value = Member<P>>>(
 
 /// Returns the number of a handle's member among those of its kind, if it is of the race of a
 /// share.
-fn number_in<P: Part, H: AnyHandle<Value = Member<P>>>(
+fn number_in<P: Role, H: AnyHandle<Value = Member<P>>>(
     alloc: Global,
     share: &Arc<Race, Global>,
     handle: &mut H,

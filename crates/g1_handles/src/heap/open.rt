@@ -12,7 +12,7 @@ use crate::code::Refusal;
 use crate::heap::handle::HeapHandle;
 use crate::heap::racing_heap::{AtPause, RacingHeap, Readers, Room};
 use crate::member::counts::MemberCounts;
-use crate::member::{Member, Part};
+use crate::member::{Member, Role};
 use crate::one_core::open::Counts;
 use core::mem::replace_with;
 use g1_layout::{Layout, NoMemory};
@@ -99,7 +99,7 @@ fn idle_readers(alloc: Global, race: &Arc<Race, Global>, count: usize) -> Result
     let idle = waiting(alloc, race, count)?;
     let out = Room {
         count: 0,
-        parts: Vec::with_capacity(alloc, count)?,
+        roles: Vec::with_capacity(alloc, count)?,
         boxes: Vec::with_capacity(alloc, count)?,
     };
     Ok(Readers { idle, out })
@@ -107,7 +107,7 @@ fn idle_readers(alloc: Global, race: &Arc<Race, Global>, count: usize) -> Result
 
 /// As many members that wait, each in its box, and have counted nothing. The number of each is its
 /// place.
-fn waiting<P: Part>(
+fn waiting<P: Role>(
     alloc: Global,
     race: &Arc<Race, Global>,
     count: usize,
@@ -126,7 +126,7 @@ fn waiting<P: Part>(
         let member = Member {
             race,
             number,
-            part: None,
+            role: None,
             counts: MemberCounts::none(),
             apart: [0; 8],
         };

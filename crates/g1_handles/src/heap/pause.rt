@@ -8,7 +8,7 @@ ghost use Rattle.g1_handles.specs.Life.{OfPaused, OfRacing, IsFor, IsPauseOf, Is
 ghost use Rattle.g1_handles.specs.Life.{IsPauseRefused, AreOfHeap, AreLikeOf, AreFor, ComesIn};
 ghost use Rattle.g1_handles.specs.Life.{heap_race, heap_counts, held_counts, boxed_counts};
 ghost use Rattle.g1_handles.specs.Life.{waiting_counts};
-ghost use Rattle.g1_handles.specs.Racing.{held_racers, held_sweepers, part_in, AreClosed, IsOf};
+ghost use Rattle.g1_handles.specs.Racing.{held_racers, held_sweepers, role_in, AreClosed, IsOf};
 ghost use Rattle.g1_handles.specs.Racing.{counts_of};
 
 use crate::any_handle::{AnyHandle, closed, into_box, opened};
@@ -19,7 +19,7 @@ use crate::heap::one_race::share_of_race;
 use crate::heap::racing_heap::{AtPause, RacingHeap, UnderWay};
 use crate::member::racer_handle::RacerHandle;
 use crate::member::sweeper_handle::SweeperHandle;
-use crate::member::{Member, Part};
+use crate::member::{Member, Role};
 use core::mem::{replace, replace_with};
 use g1_race::{Paused, Race};
 use std::alloc::Global;
@@ -122,10 +122,10 @@ fn take_in(
     sweepers: &mut [SweeperHandle],
 )
     requires racers { (length racers.old ≡ under_way.old.racers.count)
-        × All (λ m. IsSome (part_in m)) (held_racers racers.old)
+        × All (λ m. IsSome (role_in m)) (held_racers racers.old)
         × All (IsOf (arc_value under_way.old.race)) (held_racers racers.old) }
     requires sweepers { (length sweepers.old ≡ under_way.old.sweepers.count)
-        × All (λ m. IsSome (part_in m)) (held_sweepers sweepers.old)
+        × All (λ m. IsSome (role_in m)) (held_sweepers sweepers.old)
         × All (IsOf (arc_value under_way.old.race)) (held_sweepers sweepers.old) }
     ensures came { ComesIn under_way.old under_way.new (held_racers racers.old)
         (held_sweepers sweepers.old) }
@@ -137,18 +137,18 @@ fn take_in(
         sweepers: sweeping,
         readers: _,
     } = under_way;
-    gather(alloc, racers, &mut racing.parts, &mut racing.boxes);
-    gather(alloc, sweepers, &mut sweeping.parts, &mut sweeping.boxes);
+    gather(alloc, racers, &mut racing.roles, &mut racing.boxes);
+    gather(alloc, sweepers, &mut sweeping.roles, &mut sweeping.boxes);
 }
 
 /// The heap is at a pause once its members are in.
 fn come_in(heap: RacingHeap, share: Arc<Race, Global>) -> (RacingHeap, ())
     requires { OfRacing (Some heap) (λ b. (arc_value share ≡ arc_value b.race)
-        × AreFor (arc_value b.race) b.racers.count b.racers.boxes b.racers.parts
-        × AreFor (arc_value b.race) b.sweepers.count b.sweepers.boxes b.sweepers.parts) }
+        × AreFor (arc_value b.race) b.racers.count b.racers.boxes b.racers.roles
+        × AreFor (arc_value b.race) b.sweepers.count b.sweepers.boxes b.sweepers.roles) }
     ensures paused { OfRacing (Some heap) (λ b. OfPaused (Some result.0) (IsPauseOf
-        (arc_value b.race) (map racer_view b.racers.parts.items)
-        (map sweeper_view b.sweepers.parts.items) (map racer_log b.racers.parts.items))) }
+        (arc_value b.race) (map racer_view b.racers.roles.items)
+        (map sweeper_view b.sweepers.roles.items) (map racer_log b.racers.roles.items))) }
     ensures members { OfRacing (Some heap) (λ b.
         IsFor (Some result.0) b.racers.count b.sweepers.count) }
     ensures race { heap_race (Some result.0) ≡ heap_race (Some heap) }
@@ -156,21 +156,21 @@ fn come_in(heap: RacingHeap, share: Arc<Race, Global>) -> (RacingHeap, ())
         heap_counts (Some result.0) ≡ waiting_counts b) }
 {
     match heap {
-        RacingHeap::Racing(under_way) => (RacingHeap::Paused(halt(under_way, share)), ()),
+        RacingHeap::Racing(under_way) => (RacingHeap::Paused(stopped(under_way, share)), ()),
         RacingHeap::Paused(_) | RacingHeap::Read(_) => unreachable!(),
     }
 }
 
-fn halt(under_way: UnderWay, share: Arc<Race, Global>) -> AtPause
+fn stopped(under_way: UnderWay, share: Arc<Race, Global>) -> AtPause
     requires share { arc_value share ≡ arc_value under_way.race }
     requires racers { AreFor (arc_value under_way.race) under_way.racers.count
-        under_way.racers.boxes under_way.racers.parts }
+        under_way.racers.boxes under_way.racers.roles }
     requires sweepers { AreFor (arc_value under_way.race) under_way.sweepers.count
-        under_way.sweepers.boxes under_way.sweepers.parts }
+        under_way.sweepers.boxes under_way.sweepers.roles }
     ensures paused { IsPauseOf (arc_value under_way.race)
-        (map racer_view under_way.racers.parts.items)
-        (map sweeper_view under_way.sweepers.parts.items)
-        (map racer_log under_way.racers.parts.items) result.pause }
+        (map racer_view under_way.racers.roles.items)
+        (map sweeper_view under_way.sweepers.roles.items)
+        (map racer_log under_way.racers.roles.items) result.pause }
     ensures members { (under_way.racers.count ≡ length result.pause.logs)
         × (under_way.sweepers.count ≡ result.pause.sweepers) }
     ensures race { result.race ≡ under_way.race }
@@ -183,7 +183,7 @@ fn halt(under_way: UnderWay, share: Arc<Race, Global>) -> AtPause
         sweepers,
         readers,
     } = under_way;
-    let pause = Paused::of(share, racers.parts, sweepers.parts);
+    let pause = Paused::of(share, racers.roles, sweepers.roles);
     AtPause {
         race,
         pause,
@@ -193,35 +193,35 @@ fn halt(under_way: UnderWay, share: Arc<Race, Global>) -> AtPause
     }
 }
 
-/// Takes the parts of these handles' members, and lets their boxes wait. The handles are closed
+/// Takes the roles of these handles' members, and lets their boxes wait. The handles are closed
 /// then.
-pub(crate) fn gather<P: Part, H: AnyHandle<Value = Member<P>>>(
+pub(crate) fn gather<P: Role, H: AnyHandle<Value = Member<P>>>(
     alloc: Global,
     handles: &mut [H],
-    parts: &mut Vec<P>,
+    roles: &mut Vec<P>,
     boxes: &mut Vec<Box<Member<P>>>,
 )
-    requires room { (length handles.old ≤ vec_capacity parts.old)
+    requires room { (length handles.old ≤ vec_capacity roles.old)
         × (length handles.old ≤ vec_capacity boxes.old) }
-    requires parts { All (λ m. IsSome (part_in m)) (map H.value handles.old) }
-    ensures room { (vec_capacity parts.new ≡ vec_capacity parts.old)
+    requires roles { All (λ m. IsSome (role_in m)) (map H.value handles.old) }
+    ensures room { (vec_capacity roles.new ≡ vec_capacity roles.old)
         × (vec_capacity boxes.new ≡ vec_capacity boxes.old) }
     ensures closed { AreClosed (map H.value handles.new) }
     ensures members { (race : Race) → All (IsOf race) (map H.value handles.old) →
-        AreFor race (length handles.old) boxes.new parts.new }
-    ensures parts { map Some parts.new.items ≡ map part_in (map H.value handles.old) }
+        AreFor race (length handles.old) boxes.new roles.new }
+    ensures roles { map Some roles.new.items ≡ map role_in (map H.value handles.old) }
     ensures counts { boxed_counts boxes.new ≡ map counts_of (map H.value handles.old) }
 {
-    parts.clear();
+    roles.clear();
     boxes.clear();
     for i in 0..handles.len() {
         let Some(mut member) = into_box(replace(&mut handles[i], closed(alloc))) else {
             unreachable!()
         };
-        let Some(part) = member.park() else {
+        let Some(role) = member.park() else {
             unreachable!()
         };
-        parts.push_reserved(part);
+        roles.push_reserved(role);
         boxes.push_reserved(member);
     }
 }

@@ -3,7 +3,7 @@
 ghost use Rattle.std.specs.Prelude.{◌≡◌, IfOk, IfErr};
 ghost use Rattle.g1_handles.specs.Codes.{reference_of};
 ghost use Rattle.g1_handles.specs.AtPause.{IsKept, SlotRefers, TellsPending, TellsStatus};
-ghost use Rattle.g1_race.specs.Over.{halted};
+ghost use Rattle.g1_race.specs.Over.{table_at};
 ghost use Rattle.g1_race.specs.Reading.{IsNextMember};
 ghost use Rattle.g1_handles.specs.Lacks.{LacksCard, LacksRegion, LacksSlot};
 
@@ -56,7 +56,7 @@ pub fn status_at(heap: &mut PausedHeap) -> Status
 #[tactic(auto, using(crate::proofs::Kept::kept_same))]
 pub fn next_member_at(heap: &mut PausedHeap, region: u32, from: u32) -> Result<u32, Refusal>
     ensures next { IfOk result (λ word.
-        IsNextMember (halted heap.old) region from (reference_of word)) }
+        IsNextMember (table_at heap.old) region from (reference_of word)) }
     ensures why { IfErr result (LacksRegion heap.old.layout region) }
     ensures same { heap.new ≡ heap.old }
     ensures kept { IsKept heap.old heap.new }

@@ -4,7 +4,7 @@ ghost use Rattle.std.specs.Prelude.{◌≡◌, ◌+◌, ◌≤◌, All, length, 
 ghost use Rattle.std.specs.Arc.{arc_value};
 ghost use Rattle.g1_race.specs.Members.{race_id, race_layout, race_shape};
 
-use crate::member::{Member, Part};
+use crate::member::{Member, Role};
 use g1_race::{Paused, Race, Racer, Reader, Reading, Sweeper};
 use std::alloc::Global;
 use std::sync::Arc;
@@ -57,19 +57,19 @@ pub struct Readers {
     pub(crate) idle: Vec<Box<Member<Reader>>>,
     pub(crate) out: Room<Reader>,
     ghost idle_room: { vec_len idle + out.count ≤ vec_capacity idle },
-    ghost part_room: { vec_len idle + out.count ≤ vec_capacity out.parts },
+    ghost role_room: { vec_len idle + out.count ≤ vec_capacity out.roles },
     ghost box_room: { vec_len idle + out.count ≤ vec_capacity out.boxes },
 }
 
 /// Room for the racers, the sweepers or the readers that are out, so that they are taken in without
 /// memory.
 #[derive(Drop)]
-pub struct Room<P: Part> {
+pub struct Room<P: Role> {
     pub(crate) count: usize,
     // Both are empty between two calls.
-    pub(crate) parts: Vec<P>,
+    pub(crate) roles: Vec<P>,
     pub(crate) boxes: Vec<Box<Member<P>>>,
-    ghost part_room: { count ≤ vec_capacity parts },
+    ghost role_room: { count ≤ vec_capacity roles },
     ghost box_room: { count ≤ vec_capacity boxes },
 }
 

@@ -4,7 +4,7 @@ ghost use Rattle.std.specs.Prelude.{vec_len, vec_capacity};
 ghost use Rattle.std.specs.Arc.{arc_value};
 ghost use Rattle.g1_race.specs.declared.race.Race.{Race};
 ghost use Rattle.g1_handles.specs.Life.{OfHeap, OfPaused, OfRead, AreFor};
-ghost use Rattle.g1_handles.specs.Racing.{held_readers, part_in, AreClosed, IsOf};
+ghost use Rattle.g1_handles.specs.Racing.{held_readers, role_in, AreClosed, IsOf};
 ghost use Rattle.g1_handles.specs.Readers.{AreReadersAt, IsLentHeap, IsReadBy, IsReadRefused};
 ghost use Rattle.g1_handles.specs.Readers.{IsLent, AreOut};
 
@@ -14,7 +14,7 @@ use crate::heap::handle::HeapHandle;
 use crate::heap::racing_heap::{AtPause, BeingRead, RacingHeap, Readers, Room};
 use crate::heap::resume::hand_out_to;
 use crate::member::reader_handle::ReaderHandle;
-use crate::member::{Member, Part};
+use crate::member::{Member, Role};
 use core::mem::{replace, replace_with};
 use std::alloc::Global;
 
@@ -104,16 +104,16 @@ fn lent(at: AtPause, count: usize) -> BeingRead
     let Readers { mut idle, out } = readers;
     let Room {
         count: _,
-        mut parts,
+        mut roles,
         mut boxes,
     } = out;
-    parts.clear();
+    roles.clear();
     boxes.clear();
     move_boxes(&mut idle, &mut boxes, count);
-    let reading = pause.read_by(&mut parts, count);
+    let reading = pause.read_by(&mut roles, count);
     let out = Room {
         count,
-        parts,
+        roles,
         boxes,
     };
     BeingRead {
@@ -126,7 +126,7 @@ fn lent(at: AtPause, count: usize) -> BeingRead
 }
 
 /// Moves this many boxes of members that wait from one list to another.
-pub(crate) fn move_boxes<P: Part>(
+pub(crate) fn move_boxes<P: Role>(
     from: &mut Vec<Box<Member<P>>>,
     to: &mut Vec<Box<Member<P>>>,
     count: usize,
@@ -153,16 +153,16 @@ pub(crate) fn move_boxes<P: Part>(
 /// Gives each handle a reader of a heap that has just been lent.
 fn hand_out_readers(being_read: &mut BeingRead, readers: &mut [ReaderHandle])
     requires { AreFor (arc_value being_read.old.race) (length readers.old)
-        being_read.old.readers.out.boxes being_read.old.readers.out.parts }
+        being_read.old.readers.out.boxes being_read.old.readers.out.roles }
     ensures same { (being_read.new.race ≡ being_read.old.race)
         × (being_read.new.reading ≡ being_read.old.reading)
         × (being_read.new.racers ≡ being_read.old.racers)
         × (being_read.new.sweepers ≡ being_read.old.sweepers)
         × (being_read.new.readers.out.count ≡ being_read.old.readers.out.count) }
-    ensures readers { map part_in (held_readers readers.new)
-        ≡ map Some being_read.old.readers.out.parts.items }
+    ensures readers { map role_in (held_readers readers.new)
+        ≡ map Some being_read.old.readers.out.roles.items }
     ensures race { All (IsOf (arc_value being_read.old.race)) (held_readers readers.new) }
 {
     let out = &mut being_read.readers.out;
-    hand_out_to(readers, &mut out.boxes, &mut out.parts);
+    hand_out_to(readers, &mut out.boxes, &mut out.roles);
 }

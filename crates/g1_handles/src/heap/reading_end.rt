@@ -2,7 +2,7 @@
 ghost use Rattle.std.specs.Prelude.{◌≡◌, Some, IfErr, OnOk, OnErr, IsSome, All, length};
 ghost use Rattle.std.specs.Arc.{arc_value};
 ghost use Rattle.g1_handles.specs.Life.{OfRead};
-ghost use Rattle.g1_handles.specs.Racing.{held_readers, part_in, AreClosed};
+ghost use Rattle.g1_handles.specs.Racing.{held_readers, role_in, AreClosed};
 ghost use Rattle.g1_handles.specs.Readers.{AreReadersAt, AreReadersOf, AreReadersLike, IsLentHeap};
 ghost use Rattle.g1_handles.specs.Readers.{IsReadBy, IsReadEndRefused, IsLent, AreOut};
 
@@ -88,7 +88,7 @@ fn end_read_of(
 /// Takes the readers of these handles in.
 fn take_in_readers(alloc: Global, being_read: &mut BeingRead, readers: &mut [ReaderHandle])
     requires count { length readers.old ≡ being_read.old.readers.out.count }
-    requires some { All (λ m. IsSome (part_in m)) (held_readers readers.old) }
+    requires some { All (λ m. IsSome (role_in m)) (held_readers readers.old) }
     requires readers { AreReadersAt (arc_value being_read.old.race) being_read.old.reading.pause
         (held_readers readers.old) }
     ensures same { (being_read.new.race ≡ being_read.old.race)
@@ -99,7 +99,7 @@ fn take_in_readers(alloc: Global, being_read: &mut BeingRead, readers: &mut [Rea
     ensures closed { AreClosed (held_readers readers.new) }
 {
     let out = &mut being_read.readers.out;
-    gather(alloc, readers, &mut out.parts, &mut out.boxes);
+    gather(alloc, readers, &mut out.roles, &mut out.boxes);
 }
 
 /// The heap is at its pause again once its readers are in.
@@ -127,14 +127,14 @@ fn given_back(being_read: BeingRead) -> AtPause
     let Readers { mut idle, out } = readers;
     let Room {
         count,
-        mut parts,
+        mut roles,
         mut boxes,
     } = out;
-    let pause = reading.pause(&mut parts);
+    let pause = reading.pause(&mut roles);
     move_boxes(&mut boxes, &mut idle, count);
     let out = Room {
         count: 0,
-        parts,
+        roles,
         boxes,
     };
     AtPause {

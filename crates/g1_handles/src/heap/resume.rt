@@ -6,7 +6,7 @@ ghost use Rattle.g1_race.specs.declared.race.Race.{Race};
 ghost use Rattle.g1_handles.specs.Life.{OfPaused, OfRacing, GoesOn, LetsGo, IsLetGo, IsFor};
 ghost use Rattle.g1_handles.specs.Life.{IsGoingRefused, AreFor, heap_race};
 ghost use Rattle.g1_handles.specs.Life.{heap_counts, held_counts, boxed_counts, waiting_counts};
-ghost use Rattle.g1_handles.specs.Racing.{held_racers, held_sweepers, part_in, AreClosed, IsOf};
+ghost use Rattle.g1_handles.specs.Racing.{held_racers, held_sweepers, role_in, AreClosed, IsOf};
 ghost use Rattle.g1_handles.specs.Racing.{counts_of};
 
 use crate::any_handle::{AnyHandle, are_closed, closed, into_box, opened};
@@ -15,7 +15,7 @@ use crate::heap::handle::HeapHandle;
 use crate::heap::racing_heap::{AtPause, RacingHeap, Room, UnderWay};
 use crate::member::racer_handle::RacerHandle;
 use crate::member::sweeper_handle::SweeperHandle;
-use crate::member::{Member, Part};
+use crate::member::{Member, Role};
 use core::mem::{replace, replace_with};
 use std::alloc::Global;
 
@@ -121,17 +121,17 @@ fn begin(at: AtPause) -> UnderWay
         sweepers,
         readers,
     } = at;
-    let (_share, racer_parts, sweeper_parts) = pause.resume();
+    let (_share, racer_roles, sweeper_roles) = pause.resume();
     UnderWay {
         race,
         racers: Room {
             count: racers.len(),
-            parts: racer_parts,
+            roles: racer_roles,
             boxes: racers,
         },
         sweepers: Room {
             count: sweepers.len(),
-            parts: sweeper_parts,
+            roles: sweeper_roles,
             boxes: sweepers,
         },
         readers,
@@ -141,16 +141,16 @@ fn begin(at: AtPause) -> UnderWay
 /// Gives each handle a member of a heap that has just been let go.
 fn hand_out(under_way: &mut UnderWay, racers: &mut [RacerHandle], sweepers: &mut [SweeperHandle])
     requires racers { AreFor (arc_value under_way.old.race) (length racers.old)
-        under_way.old.racers.boxes under_way.old.racers.parts }
+        under_way.old.racers.boxes under_way.old.racers.roles }
     requires sweepers { AreFor (arc_value under_way.old.race) (length sweepers.old)
-        under_way.old.sweepers.boxes under_way.old.sweepers.parts }
+        under_way.old.sweepers.boxes under_way.old.sweepers.roles }
     ensures same { (arc_value under_way.new.race ≡ arc_value under_way.old.race)
         × (under_way.new.racers.count ≡ under_way.old.racers.count)
         × (under_way.new.sweepers.count ≡ under_way.old.sweepers.count) }
-    ensures racers { map part_in (held_racers racers.new)
-        ≡ map Some under_way.old.racers.parts.items }
-    ensures sweepers { map part_in (held_sweepers sweepers.new)
-        ≡ map Some under_way.old.sweepers.parts.items }
+    ensures racers { map role_in (held_racers racers.new)
+        ≡ map Some under_way.old.racers.roles.items }
+    ensures sweepers { map role_in (held_sweepers sweepers.new)
+        ≡ map Some under_way.old.sweepers.roles.items }
     ensures counts { held_counts (held_racers racers.new) (held_sweepers sweepers.new)
         ≡ waiting_counts under_way.old }
     ensures race { All (IsOf (arc_value under_way.old.race)) (held_racers racers.new)
@@ -162,23 +162,23 @@ fn hand_out(under_way: &mut UnderWay, racers: &mut [RacerHandle], sweepers: &mut
         sweepers: sweeping,
         readers: _,
     } = under_way;
-    hand_out_to(racers, &mut racing.boxes, &mut racing.parts);
-    hand_out_to(sweepers, &mut sweeping.boxes, &mut sweeping.parts);
+    hand_out_to(racers, &mut racing.boxes, &mut racing.roles);
+    hand_out_to(sweepers, &mut sweeping.boxes, &mut sweeping.roles);
 }
 
-/// Gives each handle the part of its place, in the box of that place.
-pub(crate) fn hand_out_to<P: Part, H: AnyHandle<Value = Member<P>>>(
+/// Gives each handle the role of its place, in the box of that place.
+pub(crate) fn hand_out_to<P: Role, H: AnyHandle<Value = Member<P>>>(
     handles: &mut [H],
     boxes: &mut Vec<Box<Member<P>>>,
-    parts: &mut Vec<P>,
+    roles: &mut Vec<P>,
 )
-    requires { (race : Race) × AreFor race (length handles.old) boxes.old parts.old }
-    ensures parts { map part_in (map H.value handles.new) ≡ map Some parts.old.items }
+    requires { (race : Race) × AreFor race (length handles.old) boxes.old roles.old }
+    ensures roles { map role_in (map H.value handles.new) ≡ map Some roles.old.items }
     ensures counts { map counts_of (map H.value handles.new) ≡ boxed_counts boxes.old }
     ensures race { (race : Race) → All (λ m. arc_value m.value.race ≡ race) boxes.old.items →
         All (IsOf race) (map H.value handles.new) }
     ensures capacity { (vec_capacity boxes.new ≡ vec_capacity boxes.old)
-        × (vec_capacity parts.new ≡ vec_capacity parts.old) }
+        × (vec_capacity roles.new ≡ vec_capacity roles.old) }
 {
     let mut left = handles.len();
     while left > 0 {
@@ -186,10 +186,10 @@ pub(crate) fn hand_out_to<P: Part, H: AnyHandle<Value = Member<P>>>(
         let Some(mut member) = boxes.pop() else {
             unreachable!()
         };
-        let Some(part) = parts.pop() else {
+        let Some(role) = roles.pop() else {
             unreachable!()
         };
-        member.seat(part);
+        member.seat(role);
         handles[left] = opened(member);
     }
 }

@@ -3,7 +3,7 @@ ghost use Rattle.std.specs.Prelude.{◌≡◌, ◌+◌, ◌<◌, ◌≤◌, ◌+
 ghost use Rattle.std.specs.Prelude.{OnErr, length};
 ghost use Rattle.g1_layout.specs.Shape.{card_count};
 ghost use Rattle.g1_core.specs.Table.{AreMembers};
-ghost use Rattle.g1_race.specs.Over.{halted};
+ghost use Rattle.g1_race.specs.Over.{table_at};
 ghost use Rattle.g1_handles.specs.AtPause.{IsKept, DrainsAtPause, TellsMembers};
 ghost use Rattle.g1_handles.specs.HeapCalls.{IsCalled};
 ghost use Rattle.g1_handles.specs.Sets.{Tells, AreMembersBelow, IsSetCall};
@@ -123,7 +123,7 @@ fn members_at(heap: &mut PausedHeap, region: u32, cards: &mut [u32]) -> Result<T
 
 fn write_set(heap: &mut PausedHeap, region: Region, array: &mut [u32]) -> Told
     requires { region < heap.old.layout.regions }
-    ensures told { Tells (AreMembers (halted heap.old) region) array.old result array.new }
+    ensures told { Tells (AreMembers (table_at heap.old) region) array.old result array.new }
     ensures same { heap.new ≡ heap.old }
 {
     let _limit = heap.layout().card_count();
@@ -148,8 +148,8 @@ fn write_set(heap: &mut PausedHeap, region: Region, array: &mut [u32]) -> Told
 fn count_from(heap: &mut PausedHeap, region: Region, from: u32) -> u32
     requires region { region < heap.old.layout.regions }
     requires from { from ≤ card_count heap.old.layout }
-    ensures rest { (xs : List ℕ) → AreMembersBelow (halted heap.old) region from xs →
-        (ys : List ℕ) × AreMembers (halted heap.old) region (xs ++ ys) × (length ys ≡ result) }
+    ensures rest { (xs : List ℕ) → AreMembersBelow (table_at heap.old) region from xs →
+        (ys : List ℕ) × AreMembers (table_at heap.old) region (xs ++ ys) × (length ys ≡ result) }
     ensures few { from + result ≤ card_count heap.old.layout }
     ensures same { heap.new ≡ heap.old }
 {

@@ -42,7 +42,7 @@ pub fn store_all_by(member: &mut Member<Racer>, stores: &[Store]) -> Result<Race
     ensures why { IfErr result (SaysNoMember (Some member.old)) }
     ensures refused { OnErr result (member.new ≡ member.old) }
 {
-    let Some(racer) = &mut member.part else {
+    let Some(racer) = &mut member.role else {
         return Err(Refusal::NotOpen);
     };
     Ok(store_each(&member.race, racer, &mut member.counts.stores, stores))

@@ -88,7 +88,7 @@ pub fn store_counts_of(member: &Member<Racer>) -> Result<StoreCounts, Refusal>
         OfRacer (Some member.now) (λ a. counts ≡ a.counts)) }
     ensures why { IfErr result (SaysNoMember (Some member.now)) }
 {
-    match member.part {
+    match member.role {
         Some(_) => Ok(member.counts.stores),
         None => Err(Refusal::NotOpen),
     }
@@ -100,7 +100,7 @@ pub fn sweep_counts_of(member: &Member<Sweeper>) -> Result<SweepCounts, Refusal>
         OfSweeper (Some member.now) (λ a. counts ≡ a.counts)) }
     ensures why { IfErr result (SaysNoMember (Some member.now)) }
 {
-    match member.part {
+    match member.role {
         Some(_) => Ok(member.counts.sweeps),
         None => Err(Refusal::NotOpen),
     }

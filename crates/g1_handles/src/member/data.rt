@@ -24,7 +24,7 @@ pub fn store_data_by(member: &mut Member<Racer>, slot: u32, word: u64) -> Result
     ensures why { IfErr result (IsRaceDataRefused (Some member.old) slot word) }
     ensures refused { OnErr result (member.new ≡ member.old) }
 {
-    let Some(racer) = &mut member.part else {
+    let Some(racer) = &mut member.role else {
         return Err(Refusal::NotOpen);
     };
     let Some(slot) = member.race.layout().slot(slot) else {

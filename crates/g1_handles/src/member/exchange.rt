@@ -47,7 +47,7 @@ pub fn swap_by(member: &mut Member<Racer>, slot: u32, target: u32) -> Result<Swa
     ensures why { IfErr result (IsRaceStoreRefused (Some member.old) slot target) }
     ensures refused { OnErr result (member.new ≡ member.old) }
 {
-    let Some(racer) = &mut member.part else {
+    let Some(racer) = &mut member.role else {
         return Err(Refusal::NotOpen);
     };
     let (slot, target) = may_store(&member.race, racer, slot, target)?;
@@ -76,7 +76,7 @@ pub fn compare_exchange_by(
     ensures why { IfErr result (IsRaceExchangeRefused (Some member.old) slot expected target) }
     ensures refused { OnErr result (member.new ≡ member.old) }
 {
-    let Some(racer) = &mut member.part else {
+    let Some(racer) = &mut member.role else {
         return Err(Refusal::NotOpen);
     };
     let (slot, target) = may_store(&member.race, racer, slot, target)?;

@@ -7,7 +7,7 @@ ghost use Rattle.g1_handles.specs.Refusals.{SaysNoMember};
 
 use crate::any_handle::{closed, into_box, opened};
 use crate::code::Refusal;
-use crate::list::put;
+use crate::list::write_list;
 use crate::member::Member;
 use crate::member::racer_handle::RacerHandle;
 use core::mem::replace;
@@ -51,9 +51,9 @@ fn take_log_by(member: &mut Member<Racer>, cards: &mut [u32]) -> Result<u32, Ref
     ensures refused { OnErr result ((member.new ≡ member.old) × (cards.new ≡ cards.old)) }
     ensures written { IfOk result (λ count. IsWritten cards.old count cards.new) }
 {
-    let Some(racer) = &mut member.part else {
+    let Some(racer) = &mut member.role else {
         return Err(Refusal::NotOpen);
     };
     let log = racer.take_log();
-    Ok(put(log.as_slice(), cards))
+    Ok(write_list(log.as_slice(), cards))
 }

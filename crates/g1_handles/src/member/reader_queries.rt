@@ -19,7 +19,7 @@ pub fn target_by(member: &mut Member<Reader>, slot: u32) -> Result<u32, Refusal>
         (λ a. LacksSlot (reader_layout a) slot)) }
     ensures same { member.new ≡ member.old }
 {
-    let Some(reader) = &mut member.part else {
+    let Some(reader) = &mut member.role else {
         return Err(Refusal::NotOpen);
     };
     let layout = member.race.layout();
@@ -39,7 +39,7 @@ pub fn word_by(member: &mut Member<Reader>, slot: u32) -> Result<u64, Refusal>
         (λ a. LacksSlot (reader_layout a) slot)) }
     ensures same { member.new ≡ member.old }
 {
-    let Some(reader) = &mut member.part else {
+    let Some(reader) = &mut member.role else {
         return Err(Refusal::NotOpen);
     };
     let Some(slot) = member.race.layout().slot(slot) else {
@@ -57,7 +57,7 @@ pub fn is_pending_by(member: &mut Member<Reader>, card: u32) -> Result<bool, Ref
         (λ a. LacksCard (reader_layout a) card)) }
     ensures same { member.new ≡ member.old }
 {
-    let Some(reader) = &mut member.part else {
+    let Some(reader) = &mut member.role else {
         return Err(Refusal::NotOpen);
     };
     let Some(card) = member.race.layout().card(card) else {
@@ -75,7 +75,7 @@ pub fn has_by(member: &mut Member<Reader>, card: u32, region: u32) -> Result<boo
         (λ a. LacksPair (reader_layout a) card region)) }
     ensures same { member.new ≡ member.old }
 {
-    let Some(reader) = &mut member.part else {
+    let Some(reader) = &mut member.role else {
         return Err(Refusal::NotOpen);
     };
     let layout = member.race.layout();
@@ -98,7 +98,7 @@ pub fn next_member_by(member: &mut Member<Reader>, region: u32, from: u32) -> Re
         (λ a. LacksRegion (reader_layout a) region)) }
     ensures same { member.new ≡ member.old }
 {
-    let Some(reader) = &mut member.part else {
+    let Some(reader) = &mut member.role else {
         return Err(Refusal::NotOpen);
     };
     let layout = member.race.layout();

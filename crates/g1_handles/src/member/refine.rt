@@ -20,7 +20,7 @@ pub fn refine_by(member: &mut Member<Sweeper>, card: u32) -> Result<(), Refusal>
     ensures why { IfErr result (IsSweepRefused (Some member.old) card) }
     ensures refused { OnErr result (member.new ≡ member.old) }
 {
-    let Some(sweeper) = &mut member.part else {
+    let Some(sweeper) = &mut member.role else {
         return Err(Refusal::NotOpen);
     };
     let Some(card) = member.race.layout().card(card) else {

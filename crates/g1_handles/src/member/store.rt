@@ -24,7 +24,7 @@ pub fn store_by(member: &mut Member<Racer>, slot: u32, target: u32) -> Result<Ki
     ensures why { IfErr result (IsRaceStoreRefused (Some member.old) slot target) }
     ensures refused { OnErr result (member.new ≡ member.old) }
 {
-    let Some(racer) = &mut member.part else {
+    let Some(racer) = &mut member.role else {
         return Err(Refusal::NotOpen);
     };
     store_next(&member.race, racer, &mut member.counts.stores, slot, target)

@@ -26,7 +26,7 @@ pub fn swap_word_by(
     ensures why { IfErr result (IsSwapWordRefused (Some member.old) slot word) }
     ensures refused { OnErr result (member.new ≡ member.old) }
 {
-    let Some(racer) = &mut member.part else {
+    let Some(racer) = &mut member.role else {
         return Err(Refusal::NotOpen);
     };
     let slot = may_store_word(&member.race, racer, slot, word)?;
@@ -55,7 +55,7 @@ pub fn compare_exchange_word_by(
     ensures why { IfErr result (IsExchangeWordRefused (Some member.old) slot expected word) }
     ensures refused { OnErr result (member.new ≡ member.old) }
 {
-    let Some(racer) = &mut member.part else {
+    let Some(racer) = &mut member.role else {
         return Err(Refusal::NotOpen);
     };
     let slot = may_store_word(&member.race, racer, slot, word)?;

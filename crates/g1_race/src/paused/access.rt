@@ -9,7 +9,7 @@ ghost use Rattle.g1_core.specs.Run.{IsStep, kind_of, stored};
 ghost use Rattle.g1_core.specs.Calls.{target_entry, pending_entry, store_entry};
 ghost use Rattle.g1_race_words.specs.Rule.{IsBegun, started, crosses, word_count};
 ghost use Rattle.g1_race.specs.Race.{shape_of, word_of};
-ghost use Rattle.g1_race.specs.Over.{halted};
+ghost use Rattle.g1_race.specs.Over.{table_at};
 ghost use Rattle.g1_race.specs.Reading.{table_known};
 ghost use Rattle.g1_race.specs.Evacuating.{IsSameRace, SlotsBecome, WordsBecome, one_word};
 ghost use Rattle.g1_race.specs.Evacuating.{plain_reply};
@@ -23,16 +23,16 @@ use crate::paused::holds::Holds;
 use crate::race::Race;
 use crate::word::{refers_to, word_of};
 use g1_layout::{Card, Kind, Layout, Slot};
-use g1_race_words::Place;
+use g1_race_words::RaceSeat;
 
 impl<R: Holds> Paused<R> {
     /// Returns what a slot refers to, or `None` for null. Reads one word.
     pub fn target(&mut self, slot: Slot) -> Option<Slot>
         requires { slot < slot_count self.old.layout }
-        ensures target { result ≡ target_of (halted self.old) slot }
+        ensures target { result ≡ target_of (table_at self.old) slot }
         ensures within { IfSome result (λ place. place < slot_count self.old.layout) }
         ensures step { (caller : ℕ)
-            → IsStep (halted self.old) (target_entry caller slot result) (halted self.new) }
+            → IsStep (table_at self.old) (target_entry caller slot result) (table_at self.new) }
         ensures same { self.new ≡ self.old }
     {
         target_of(self.race.race(), &mut self.seat, slot)
@@ -41,9 +41,9 @@ impl<R: Holds> Paused<R> {
     /// Returns whether a card is pending: dirty, by a store or from the beginning. Reads one word.
     pub fn is_pending(&mut self, card: Card) -> bool
         requires { card < card_count self.old.layout }
-        ensures pending { result ≡ set.contains (halted self.old).pending card }
+        ensures pending { result ≡ set.contains (table_at self.old).pending card }
         ensures step { (caller : ℕ)
-            → IsStep (halted self.old) (pending_entry caller card result) (halted self.new) }
+            → IsStep (table_at self.old) (pending_entry caller card result) (table_at self.new) }
         ensures same { self.new ≡ self.old }
     {
         is_dirty(self.race.race(), &mut self.seat, card)
@@ -57,11 +57,11 @@ impl<R: Holds> Paused<R> {
         requires target { IfSome target (λ place. place < slot_count self.old.layout) }
         ensures race { IsSameRace self.old self.new }
         ensures words { SlotsBecome (one_word slot (word_of target)) self.old self.new }
-        ensures kind { result ≡ kind_of (halted self.old) slot target }
-        ensures table { halted self.new ≡ stored (halted self.old) slot target }
+        ensures kind { result ≡ kind_of (table_at self.old) slot target }
+        ensures table { table_at self.new ≡ stored (table_at self.old) slot target }
         ensures step { (caller : ℕ)
-            → IsStep (halted self.old) (store_entry caller slot target (plain_reply result))
-            (halted self.new) }
+            → IsStep (table_at self.old) (store_entry caller slot target (plain_reply result))
+            (table_at self.new) }
     {
         let race = self.race.race();
         let kind = kind_of(race, &mut self.seat, &slot, &target);
@@ -71,7 +71,7 @@ impl<R: Holds> Paused<R> {
 }
 
 // The kind of a store of `target` into `slot`.
-fn kind_of(race: &Race, seat: &mut Place, slot: &Slot, target: &Option<Slot>) -> Kind
+fn kind_of(race: &Race, seat: &mut RaceSeat, slot: &Slot, target: &Option<Slot>) -> Kind
     requires seat { IsReading race.now.table.table_id race.now.shape seat.old }
     requires slot { slot.now < slot_count race.now.layout }
     requires target { IfSome target.now (λ place. place < slot_count race.now.layout) }
@@ -91,7 +91,7 @@ fn kind_of(race: &Race, seat: &mut Place, slot: &Slot, target: &Option<Slot>) ->
 }
 
 // Makes a store of this kind.
-fn store_as(race: &Race, seat: &mut Place, slot: Slot, target: Option<Slot>, kind: Kind)
+fn store_as(race: &Race, seat: &mut RaceSeat, slot: Slot, target: Option<Slot>, kind: Kind)
     requires seat { IsPaused race.now.table.table_id race.now.shape seat.old }
     requires slot { slot < slot_count race.now.layout }
     requires target { IfSome target (λ place. place < slot_count race.now.layout) }
@@ -112,7 +112,7 @@ fn store_as(race: &Race, seat: &mut Place, slot: Slot, target: Option<Slot>, kin
 }
 
 // What the slot refers to.
-pub(crate) fn target_of(race: &Race, seat: &mut Place, slot: Slot) -> Option<Slot>
+pub(crate) fn target_of(race: &Race, seat: &mut RaceSeat, slot: Slot) -> Option<Slot>
     requires seat { IsReading race.now.table.table_id race.now.shape seat.old }
     requires slot { slot < slot_count race.now.layout }
     ensures target { result ≡ target_of (table_known race.now seat.old) slot }
@@ -124,7 +124,7 @@ pub(crate) fn target_of(race: &Race, seat: &mut Place, slot: Slot) -> Option<Slo
 }
 
 // Whether the card is dirty.
-pub(crate) fn is_dirty(race: &Race, seat: &mut Place, card: Card) -> bool
+pub(crate) fn is_dirty(race: &Race, seat: &mut RaceSeat, card: Card) -> bool
     requires seat { IsReading race.now.table.table_id race.now.shape seat.old }
     requires card { card < card_count race.now.layout }
     ensures dirty { result ≡ set.contains (table_known race.now seat.old).pending card }
@@ -134,7 +134,7 @@ pub(crate) fn is_dirty(race: &Race, seat: &mut Place, card: Card) -> bool
 }
 
 // Reads a word, which is what the seat knows it to be.
-pub(crate) fn see(race: &Race, seat: &mut Place, word: usize) -> u64
+pub(crate) fn see(race: &Race, seat: &mut RaceSeat, word: usize) -> u64
     requires seat { IsReading race.now.table.table_id race.now.shape seat.old }
     requires word { word < word_count race.now.shape }
     ensures word { get_elem? seat.old.me.0.began_words word ≡ some result }
@@ -144,7 +144,7 @@ pub(crate) fn see(race: &Race, seat: &mut Place, word: usize) -> u64
 }
 
 // Writes a word, where the words keep what each beginning has.
-pub(crate) fn put(race: &Race, seat: &mut Place, word: usize, new: u64)
+pub(crate) fn put(race: &Race, seat: &mut RaceSeat, word: usize, new: u64)
     requires seat { IsPaused race.now.table.table_id race.now.shape seat.old }
     requires word { word < word_count race.now.shape }
     requires begun { IsBegun (started race.now.shape
@@ -156,7 +156,7 @@ pub(crate) fn put(race: &Race, seat: &mut Place, word: usize, new: u64)
 }
 
 // Dirties a card, whose flag is set before.
-pub(crate) fn dirty(race: &Race, seat: &mut Place, card: usize)
+pub(crate) fn dirty(race: &Race, seat: &mut RaceSeat, card: usize)
     requires seat { IsPaused race.now.table.table_id race.now.shape seat.old }
     requires card { card < race.now.shape.cards }
     ensures seat { IsPaused race.now.table.table_id race.now.shape seat.new }

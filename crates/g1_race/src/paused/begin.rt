@@ -6,7 +6,7 @@ ghost use lib.ListN.{get_elem?};
 ghost use Rattle.g1_core.specs.Adoption.{IsPairOf};
 ghost use Rattle.g1_race_words.specs.Rule.{In, IsPair, IsOfCrossing, mark_word, null_of};
 ghost use Rattle.g1_race.specs.Race.{shape_of};
-ghost use Rattle.g1_race.specs.Over.{halted, start_at};
+ghost use Rattle.g1_race.specs.Over.{table_at, start_at};
 ghost use Rattle.g1_race.specs.Refining.{Notes};
 ghost use Rattle.g1_race.specs.Resumed.{AreCovered, AreMarked, ArePlaced, IsSame};
 ghost use Rattle.g1_race_words.specs.Seats.{IsPaused};
@@ -18,7 +18,7 @@ use crate::race::Race;
 use crate::word::word_of;
 use g1_core::Core;
 use g1_layout::{Card, NoMemory, Region};
-use g1_race_words::Place;
+use g1_race_words::RaceSeat;
 use std::alloc::Global;
 
 impl Paused {
@@ -40,7 +40,7 @@ impl Paused {
         ensures layout { IfOk result (λ p. p.layout ≡ core.old.state.table.layout) }
         ensures shape { IfOk result (λ p.
             p.shape ≡ shape_of core.old.state.table.layout (racers + sweepers)) }
-        ensures table { IfOk result (λ p. halted p ≡ core.old.state.table) }
+        ensures table { IfOk result (λ p. table_at p ≡ core.old.state.table) }
         ensures logs { IfOk result (λ p. p.logs ≡ replicate racers []) }
         ensures sweepers { IfOk result (λ p. p.sweepers ≡ sweepers) }
         ensures same { IsSame core.old core.new }
@@ -57,7 +57,7 @@ impl Paused {
         requires null { start_at self.old ≡ null_of self.old.shape }
         requires pairs { set.from_list pairs.now ≡ core.old.state.table.recorded }
         requires within { All (IsPairOf core.old.state.table.layout) pairs.now }
-        ensures table { halted self.new ≡ core.old.state.table }
+        ensures table { table_at self.new ≡ core.old.state.table }
         ensures rest { self.new ≡ record self.old { words = self.new.words } }
         ensures same { IsSame core.old core.new }
     {
@@ -69,7 +69,7 @@ impl Paused {
 }
 
 // Sets the bits of these pairs.
-fn place_pairs(race: &Race, seat: &mut Place, pairs: &[(Card, Region)])
+fn place_pairs(race: &Race, seat: &mut RaceSeat, pairs: &[(Card, Region)])
     requires seat { IsPaused race.now.table.table_id race.now.shape seat.old }
     requires pairs { (x : ℕ × ℕ) → In pairs.now x →
         IsPair race.now.shape x × IsOfCrossing race.now.shape x }
@@ -88,7 +88,7 @@ fn place_pairs(race: &Race, seat: &mut Place, pairs: &[(Card, Region)])
 }
 
 // Dirties the cards that are pending in the core.
-fn place_marks(race: &Race, seat: &mut Place, core: &Core)
+fn place_marks(race: &Race, seat: &mut RaceSeat, core: &Core)
     requires seat { IsPaused race.now.table.table_id race.now.shape seat.old }
     requires layout { race.now.layout ≡ core.now.state.table.layout }
     requires clean { (c : ℕ) → c < race.now.shape.cards →
@@ -108,7 +108,7 @@ fn place_marks(race: &Race, seat: &mut Place, core: &Core)
 }
 
 // Writes the core's references.
-fn place_slots(race: &Race, seat: &mut Place, core: &mut Core)
+fn place_slots(race: &Race, seat: &mut RaceSeat, core: &mut Core)
     requires seat { IsPaused race.now.table.table_id race.now.shape seat.old }
     requires layout { race.now.layout ≡ core.old.state.table.layout }
     requires null { (p : ℕ) → p < race.now.shape.slots →

@@ -6,7 +6,7 @@ ghost use lib.ListN.{get_elem?};
 ghost use Rattle.g1_core.specs.Run.{IsStep};
 ghost use Rattle.g1_core.specs.Calls.{clear_entry};
 ghost use Rattle.g1_race_words.specs.Rule.{IsWholeShape, crosses, mark_word, region_at};
-ghost use Rattle.g1_race.specs.Over.{halted};
+ghost use Rattle.g1_race.specs.Over.{table_at};
 ghost use Rattle.g1_race.specs.Clearing.{Into, IsLeastInto, IsLeastOfCard, IsEmptied};
 ghost use Rattle.g1_race.specs.Evacuating.{IsSameRace, SlotsBecome, same_word};
 ghost use Rattle.g1_race_words.specs.Seats.{IsPaused};
@@ -20,7 +20,7 @@ use crate::race::Race;
 use crate::word::is_reference;
 use g1_core::ClearReply;
 use g1_layout::Region;
-use g1_race_words::{Place, Shape};
+use g1_race_words::{RaceSeat, Shape};
 
 impl<R: Holds> Paused<R> {
     /// Empties the remembered set of a region, once no card is dirty and no slot outside the region
@@ -33,7 +33,7 @@ impl<R: Holds> Paused<R> {
         ensures race { IsSameRace self.old self.new }
         ensures words { SlotsBecome same_word self.old self.new }
         ensures step { (caller : ℕ)
-            → IsStep (halted self.old) (clear_entry caller region result) (halted self.new) }
+            → IsStep (table_at self.old) (clear_entry caller region result) (table_at self.new) }
         ensures refused { result ≢ ClearReply.Cleared → self.new ≡ self.old }
     {
         let race = self.race.race();
@@ -56,7 +56,7 @@ impl<R: Holds> Paused<R> {
 
 // The least slot outside the region that refers into it: on a card of the region's set, since no
 // card is dirty.
-fn entering(race: &Race, seat: &mut Place, region: usize) -> Option<usize>
+fn entering(race: &Race, seat: &mut RaceSeat, region: usize) -> Option<usize>
     requires seat { IsPaused race.now.table.table_id race.now.shape seat.old }
     requires region { region < race.now.shape.regions }
     requires clean { (c : ℕ) → c < race.now.shape.cards
@@ -75,7 +75,7 @@ fn entering(race: &Race, seat: &mut Place, region: usize) -> Option<usize>
 }
 
 // The least slot of the card that lies outside the region and refers into it.
-fn entering_on(race: &Race, seat: &mut Place, card: usize, region: usize) -> Option<usize>
+fn entering_on(race: &Race, seat: &mut RaceSeat, card: usize, region: usize) -> Option<usize>
     requires seat { IsPaused race.now.table.table_id race.now.shape seat.old }
     requires card { card < race.now.shape.cards }
     ensures least { IsLeastOfCard race.now.shape seat.old.me.0.began_words card region result }
@@ -108,7 +108,7 @@ pub(crate) fn enters(shape: Shape, slot: usize, word: u64, region: usize) -> boo
 }
 
 // Clears the bits of all pairs of the region, or in the row of flags all flags.
-pub(crate) fn empty_row(race: &Race, seat: &mut Place, region: usize)
+pub(crate) fn empty_row(race: &Race, seat: &mut RaceSeat, region: usize)
     requires seat { IsPaused race.now.table.table_id race.now.shape seat.old }
     requires region { region ≤ race.now.shape.regions }
     requires none { (p : ℕ) → Into race.now.shape seat.old.me.0.began_words region p → ⊥ }

@@ -4,7 +4,7 @@ ghost use Rattle.g1_layout.specs.Shape.{slot_count};
 ghost use Rattle.g1_core.specs.Table.{target_of};
 ghost use Rattle.g1_core.specs.Run.{stored};
 ghost use Rattle.g1_core.specs.Copying.{copied};
-ghost use Rattle.g1_race.specs.Over.{halted};
+ghost use Rattle.g1_race.specs.Over.{table_at};
 ghost use Rattle.g1_race.specs.Evacuating.{IsSameRace, SlotsBecome, copied_word, one_word};
 
 use crate::paused::Paused;
@@ -25,7 +25,7 @@ impl<R: Holds> Paused<R> {
         requires to { to + count ≤ slot_count self.old.layout }
         ensures race { IsSameRace self.old self.new }
         ensures words { SlotsBecome (copied_word self.old.words from to count) self.old self.new }
-        ensures table { halted self.new ≡ copied from to count (halted self.old) }
+        ensures table { table_at self.new ≡ copied from to count (table_at self.old) }
     {
         let layout = self.race.race().layout;
         // Where the ranges overlap, each slot is read before it is written.
@@ -46,8 +46,8 @@ impl<R: Holds> Paused<R> {
         ensures race { IsSameRace self.old self.new }
         ensures words { let word = slice_index self.old.words from in
             SlotsBecome (one_word to word) self.old self.new }
-        ensures table { halted self.new
-            ≡ stored (halted self.old) to (target_of (halted self.old) from) }
+        ensures table { table_at self.new
+            ≡ stored (table_at self.old) to (target_of (table_at self.old) from) }
     {
         let layout = self.race.race().layout;
         let word = self.word(from);

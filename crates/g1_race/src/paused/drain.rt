@@ -8,7 +8,7 @@ ghost use Rattle.g1_core.specs.Calls.{drain_cards, drain_entry, drain_refined};
 ghost use Rattle.g1_race_words.specs.Rule.{IsOfCrossing, IsWord, slot_card};
 ghost use Rattle.g1_race_words.specs.Steps.{pair_at};
 ghost use Rattle.g1_race.specs.Members.{racer_log};
-ghost use Rattle.g1_race.specs.Over.{halted};
+ghost use Rattle.g1_race.specs.Over.{table_at};
 ghost use Rattle.g1_race.specs.Refining.{Notes, RefinesCard, AreRefined, AreUnflagged};
 ghost use Rattle.g1_race.specs.Telling.{marked_cards};
 ghost use Rattle.g1_race.specs.Evacuating.{SlotsBecome, same_word, IsRefinedRace, AreAllRefined};
@@ -25,7 +25,7 @@ use crate::race::{Race, Racer};
 use crate::word::pair_of;
 use g1_core::{CardList, Drained};
 use g1_layout::{NoMemory, Region};
-use g1_race_words::Place;
+use g1_race_words::RaceSeat;
 use std::alloc::Global;
 
 impl<R: Holds> Paused<R> {
@@ -49,9 +49,9 @@ impl<R: Holds> Paused<R> {
         ensures ascending { IfOk result (λ answer.
             IsStrictlyIncreasing (drain_refined answer)) }
         ensures step { IfOk result (λ answer. (caller : ℕ)
-            → IsStep (halted self.old) (drain_entry caller region answer) (halted self.new)) }
+            → IsStep (table_at self.old) (drain_entry caller region answer) (table_at self.new)) }
         ensures exact { IfOk result (λ answer.
-            IsExactAtPause (halted self.old) region (drain_cards answer)) }
+            IsExactAtPause (table_at self.old) region (drain_cards answer)) }
         ensures err { OnErr result (self.new ≡ self.old) }
     {
         let refined = self.dirty_cards(alloc)?;
@@ -72,8 +72,8 @@ impl<R: Holds> Paused<R> {
         ensures words { SlotsBecome same_word self.old self.new }
         ensures bits { AreRefined self.old.shape self.old.words self.new.words
             self.old.shape.cards }
-        ensures refined { AreAllRefined (halted self.old)
-            (marked_cards self.old.shape self.old.words) (halted self.new) }
+        ensures refined { AreAllRefined (table_at self.old)
+            (marked_cards self.old.shape self.old.words) (table_at self.new) }
     {
         let race = self.race.race();
         refine_cards(race, &mut self.seat);
@@ -92,7 +92,7 @@ pub(crate) fn clear_logs(racers: &mut Vec<Racer>)
 }
 
 // Refines the dirty cards. No flag is set then.
-pub(crate) fn refine_cards(race: &Race, seat: &mut Place)
+pub(crate) fn refine_cards(race: &Race, seat: &mut RaceSeat)
     requires seat { IsPaused race.now.table.table_id race.now.shape seat.old }
     ensures seat { IsPaused race.now.table.table_id race.now.shape seat.new }
     ensures refined { AreRefined race.now.shape seat.old.me.0.began_words seat.new.me.0.began_words
@@ -108,7 +108,7 @@ pub(crate) fn refine_cards(race: &Race, seat: &mut Place)
 }
 
 // Records the pairs of the card's references, and cleans it.
-fn refine_card(race: &Race, seat: &mut Place, card: usize)
+fn refine_card(race: &Race, seat: &mut RaceSeat, card: usize)
     requires seat { IsPaused race.now.table.table_id race.now.shape seat.old }
     requires card { card < race.now.shape.cards }
     ensures seat { IsPaused race.now.table.table_id race.now.shape seat.new }
@@ -125,7 +125,7 @@ fn refine_card(race: &Race, seat: &mut Place, card: usize)
 }
 
 // Records the pair of the word of one of the card's slots, if it refers into another region.
-fn note_slot(race: &Race, seat: &mut Place, card: usize, slot: usize, word: u64)
+fn note_slot(race: &Race, seat: &mut RaceSeat, card: usize, slot: usize, word: u64)
     requires slot { slot < slot_count race.now.layout }
     requires card { card ≡ slot_card race.now.shape slot }
     requires word { IsWord race.now.shape word }
@@ -140,7 +140,7 @@ fn note_slot(race: &Race, seat: &mut Place, card: usize, slot: usize, word: u64)
 }
 
 // Makes sure that the bit of the pair is set, or in the row of flags the card's flag.
-pub(crate) fn set_bit(race: &Race, seat: &mut Place, card: usize, region: usize)
+pub(crate) fn set_bit(race: &Race, seat: &mut RaceSeat, card: usize, region: usize)
     requires seat { IsPaused race.now.table.table_id race.now.shape seat.old }
     requires card { card < race.now.shape.cards }
     requires row { region ≤ race.now.shape.regions }

@@ -5,7 +5,7 @@ ghost use lib.ListN.{get_elem?};
 ghost use Rattle.g1_layout.specs.Shape.{region_of};
 ghost use Rattle.g1_core.specs.Table.{Crosses};
 ghost use Rattle.g1_race_words.specs.Rule.{IsPair, slot_card, crosses, region_at};
-ghost use Rattle.g1_race.specs.Over.{halted};
+ghost use Rattle.g1_race.specs.Over.{table_at};
 ghost use Rattle.g1_race.specs.Clearing.{AreUnset};
 ghost use Rattle.g1_race.specs.Evacuating.{IsSameRace, SlotsBecome, same_word, forgotten};
 ghost use Rattle.g1_race_words.specs.Seats.{IsPaused};
@@ -17,7 +17,7 @@ use crate::paused::holds::Holds;
 use crate::paused::next::next_member;
 use crate::race::Race;
 use g1_layout::Region;
-use g1_race_words::Place;
+use g1_race_words::RaceSeat;
 
 impl<R: Holds> Paused<R> {
     /// Removes the region's cards from the remembered sets of all regions. No slot of the region
@@ -25,11 +25,11 @@ impl<R: Holds> Paused<R> {
     /// region until one is stored to. Takes no memory.
     pub fn forget(&mut self, region: Region)
         requires region { region < self.old.layout.regions }
-        requires closed { (slot place : ℕ) → Crosses (halted self.old) slot place
+        requires closed { (slot place : ℕ) → Crosses (table_at self.old) slot place
             → region_of self.old.layout slot ≢ region }
         ensures race { IsSameRace self.old self.new }
         ensures words { SlotsBecome same_word self.old self.new }
-        ensures table { halted self.new ≡ forgotten region (halted self.old) }
+        ensures table { table_at self.new ≡ forgotten region (table_at self.old) }
     {
         let race = self.race.race();
         let cards = race.shape.cards / race.shape.regions;
@@ -39,7 +39,7 @@ impl<R: Holds> Paused<R> {
 }
 
 // Clears the bits of the cards from one on, up to another, in the row of each region.
-fn forget_cards(race: &Race, seat: &mut Place, first: usize, end: usize)
+fn forget_cards(race: &Race, seat: &mut RaceSeat, first: usize, end: usize)
     requires seat { IsPaused race.now.table.table_id race.now.shape seat.old }
     requires within { (first ≤ end) × (end ≤ race.now.shape.cards) }
     requires closed { (p n : ℕ) → p < race.now.shape.slots
@@ -55,7 +55,7 @@ fn forget_cards(race: &Race, seat: &mut Place, first: usize, end: usize)
 }
 
 // Clears the bits of these cards in the row of a region.
-fn forget_row(race: &Race, seat: &mut Place, first: usize, end: usize, region: usize)
+fn forget_row(race: &Race, seat: &mut RaceSeat, first: usize, end: usize, region: usize)
     requires seat { IsPaused race.now.table.table_id race.now.shape seat.old }
     requires within { (first ≤ end) × (end ≤ race.now.shape.cards) }
     requires region { region < race.now.shape.regions }
@@ -77,7 +77,7 @@ fn forget_row(race: &Race, seat: &mut Place, first: usize, end: usize, region: u
 }
 
 // Clears the bit of a pair.
-fn clear_bit(race: &Race, seat: &mut Place, card: usize, region: usize)
+fn clear_bit(race: &Race, seat: &mut RaceSeat, card: usize, region: usize)
     requires seat { IsPaused race.now.table.table_id race.now.shape seat.old }
     requires pair { IsPair race.now.shape (card, region) }
     requires closed { (p n : ℕ) → p < race.now.shape.slots

@@ -7,7 +7,7 @@ ghost use Rattle.g1_core.specs.Table.{IsRecorded, AreMembers};
 ghost use Rattle.g1_core.specs.Run.{IsStep};
 ghost use Rattle.g1_core.specs.Calls.{members_entry, status_entry};
 ghost use Rattle.g1_race_words.specs.Rule.{HasBit, IsPair};
-ghost use Rattle.g1_race.specs.Over.{halted};
+ghost use Rattle.g1_race.specs.Over.{table_at};
 ghost use Rattle.g1_race.specs.Reading.{IsNextPending, IsNextMember, table_known};
 ghost use Rattle.g1_race.specs.Telling.{marked_cards, member_cards};
 ghost use Rattle.g1_race_words.specs.Readers.{IsReading};
@@ -23,13 +23,13 @@ use crate::paused::next::{
 use crate::race::Race;
 use g1_core::{CardList, Status};
 use g1_layout::{Card, NoMemory, Region};
-use g1_race_words::Place;
+use g1_race_words::RaceSeat;
 use std::alloc::Global;
 
 impl<R: Holds> Paused<R> {
     /// Returns whether a pair is recorded. Reads one word.
     pub fn has(&mut self, card: Card, region: Region) -> bool
-        ensures has { IsTrue result ↔ IsRecorded (halted self.old) card region }
+        ensures has { IsTrue result ↔ IsRecorded (table_at self.old) card region }
         ensures same { self.new ≡ self.old }
     {
         is_recorded(self.race.race(), &mut self.seat, card, region)
@@ -42,10 +42,10 @@ impl<R: Holds> Paused<R> {
     /// Returns `NoMemory` if the room for the list was refused.
     pub fn members(&mut self, alloc: Global, region: Region) -> Result<CardList, NoMemory>
         requires { region < self.old.layout.regions }
-        ensures members { IfOk result (λ cards. AreMembers (halted self.old) region cards) }
+        ensures members { IfOk result (λ cards. AreMembers (table_at self.old) region cards) }
         ensures few { IfOk result (λ cards. length cards ≤ card_count self.old.layout) }
         ensures step { IfOk result (λ cards. (caller : ℕ)
-            → IsStep (halted self.old) (members_entry caller region cards) (halted self.new)) }
+            → IsStep (table_at self.old) (members_entry caller region cards) (table_at self.new)) }
         ensures same { self.new ≡ self.old }
     {
         members_of(self.race.race(), &mut self.seat, alloc, region)
@@ -54,7 +54,7 @@ impl<R: Holds> Paused<R> {
     /// Returns how many cards are dirty. Reads a word for each 64 cards of the heap, and the marks
     /// of each eight cards of which one was dirtied since all were last refined at a pause.
     pub fn pending_count(&mut self) -> u32
-        ensures count { result ≡ set.len (halted self.old).pending }
+        ensures count { result ≡ set.len (table_at self.old).pending }
         ensures same { self.new ≡ self.old }
     {
         count_marked(self.race.race(), &mut self.seat) as u32
@@ -64,10 +64,10 @@ impl<R: Holds> Paused<R> {
     /// [`Paused::pending_count`] reads, for each region a word for each 64 cards of the heap, and
     /// one more word for each recorded pair.
     pub fn status(&mut self) -> Status
-        ensures pending { result.pending ≡ set.len (halted self.old).pending }
-        ensures recorded { result.recorded ≡ set.len (halted self.old).recorded }
+        ensures pending { result.pending ≡ set.len (table_at self.old).pending }
+        ensures recorded { result.recorded ≡ set.len (table_at self.old).recorded }
         ensures step { (caller : ℕ) →
-            IsStep (halted self.old) (status_entry caller result) (halted self.new) }
+            IsStep (table_at self.old) (status_entry caller result) (table_at self.new) }
         ensures same { self.new ≡ self.old }
     {
         let race = self.race.race();
@@ -84,7 +84,7 @@ impl<R: Holds> Paused<R> {
     /// A walk over all of them goes on from the number behind the card that it got, which may be no
     /// card's.
     pub fn next_dirty(&mut self, from: u32) -> Option<Card>
-        ensures dirty { IsNextPending (halted self.old) from result }
+        ensures dirty { IsNextPending (table_at self.old) from result }
         ensures same { self.new ≡ self.old }
     {
         next_dirty_from(self.race.race(), &mut self.seat, from)
@@ -95,7 +95,7 @@ impl<R: Holds> Paused<R> {
     /// that of [`Paused::next_dirty`] does.
     pub fn next_member(&mut self, region: Region, from: u32) -> Option<Card>
         requires { region < self.old.layout.regions }
-        ensures member { IsNextMember (halted self.old) region from result }
+        ensures member { IsNextMember (table_at self.old) region from result }
         ensures within { IfSome result (λ card. card < card_count self.old.layout) }
         ensures same { self.new ≡ self.old }
     {
@@ -132,7 +132,7 @@ impl<R: Holds> Paused<R> {
         requires empty { cards.old.items ≡ [] }
         requires room { length (member_cards self.old.shape self.old.words region)
             ≤ vec_capacity cards.old }
-        ensures members { AreMembers (halted self.old) region cards.new.items }
+        ensures members { AreMembers (table_at self.old) region cards.new.items }
         ensures few { length cards.new.items ≤ card_count self.old.layout }
         ensures same { self.new ≡ self.old }
     {
@@ -146,7 +146,7 @@ impl<R: Holds> Paused<R> {
 }
 
 // The least dirty card from one on.
-pub(crate) fn next_dirty_from(race: &Race, seat: &mut Place, from: u32) -> Option<Card>
+pub(crate) fn next_dirty_from(race: &Race, seat: &mut RaceSeat, from: u32) -> Option<Card>
     requires seat { IsReading race.now.table.table_id race.now.shape seat.old }
     ensures dirty { IsNextPending (table_known race.now seat.old) from result }
     ensures seat { (seat.new.table_id ≡ seat.old.table_id) × (seat.new.me ≡ seat.old.me) }
@@ -160,7 +160,7 @@ pub(crate) fn next_dirty_from(race: &Race, seat: &mut Place, from: u32) -> Optio
 // The least card from one on that is recorded for the region.
 pub(crate) fn next_member_from(
     race: &Race,
-    seat: &mut Place,
+    seat: &mut RaceSeat,
     region: Region,
     from: u32,
 ) -> Option<Card>
@@ -178,7 +178,7 @@ pub(crate) fn next_member_from(
 }
 
 // Whether the pair is recorded.
-pub(crate) fn is_recorded(race: &Race, seat: &mut Place, card: Card, region: Region) -> bool
+pub(crate) fn is_recorded(race: &Race, seat: &mut RaceSeat, card: Card, region: Region) -> bool
     requires seat { IsReading race.now.table.table_id race.now.shape seat.old }
     ensures recorded { IsTrue result ↔ IsRecorded (table_known race.now seat.old) card region }
     ensures seat { (seat.new.table_id ≡ seat.old.table_id) × (seat.new.me ≡ seat.old.me) }
@@ -196,7 +196,7 @@ pub(crate) fn is_recorded(race: &Race, seat: &mut Place, card: Card, region: Reg
 // The cards of the region's set.
 pub(crate) fn members_of(
     race: &Race,
-    seat: &mut Place,
+    seat: &mut RaceSeat,
     alloc: Global,
     region: Region,
 ) -> Result<CardList, NoMemory>
@@ -215,7 +215,7 @@ pub(crate) fn members_of(
 }
 
 // Whether the pair's bit is set.
-fn is_set(race: &Race, seat: &mut Place, card: usize, region: usize) -> bool
+fn is_set(race: &Race, seat: &mut RaceSeat, card: usize, region: usize) -> bool
     requires seat { IsReading race.now.table.table_id race.now.shape seat.old }
     requires pair { IsPair race.now.shape (card, region) }
     ensures set { IsTrue result ↔ HasBit race.now.shape seat.old.me.0.began_words (card, region) }

@@ -8,10 +8,10 @@ use crate::bits::bit_of;
 use crate::paused::access::see;
 use crate::race::Race;
 use g1_layout::Card;
-use g1_race_words::Place;
+use g1_race_words::RaceSeat;
 
 // The least dirty card from one on.
-pub(crate) fn next_marked(race: &Race, seat: &mut Place, from: usize) -> Option<usize>
+pub(crate) fn next_marked(race: &Race, seat: &mut RaceSeat, from: usize) -> Option<usize>
     requires { IsReading race.now.table.table_id race.now.shape seat.old }
     ensures next { IsNext (is_marked race.now.shape seat.old.me.0.began_words) race.now.shape.cards
         from result }
@@ -29,7 +29,7 @@ pub(crate) fn next_marked(race: &Race, seat: &mut Place, from: usize) -> Option<
 
 // A card from one on before which none is dirty: the first of the next eight that have their flag
 // set, or the card itself where it is not the first of its eight.
-fn next_flagged(race: &Race, seat: &mut Place, from: usize) -> Option<usize>
+fn next_flagged(race: &Race, seat: &mut RaceSeat, from: usize) -> Option<usize>
     requires { IsReading race.now.table.table_id race.now.shape seat.old }
     ensures next { let words = seat.old.me.0.began_words in
         SkipsNone (is_marked race.now.shape words) race.now.shape.cards from result }
@@ -49,7 +49,7 @@ fn next_flagged(race: &Race, seat: &mut Place, from: usize) -> Option<usize>
 // flag is set.
 pub(crate) fn next_member(
     race: &Race,
-    seat: &mut Place,
+    seat: &mut RaceSeat,
     from: usize,
     region: usize,
 ) -> Option<usize>
@@ -74,7 +74,7 @@ pub(crate) fn next_member(
 }
 
 // How many cards are dirty.
-pub(crate) fn count_marked(race: &Race, seat: &mut Place) -> usize
+pub(crate) fn count_marked(race: &Race, seat: &mut RaceSeat) -> usize
     requires { IsReading race.now.table.table_id race.now.shape seat.old }
     ensures count { result ≡ length (marked_cards race.now.shape seat.old.me.0.began_words) }
     ensures seat { (seat.new.table_id ≡ seat.old.table_id) × (seat.new.me ≡ seat.old.me) }
@@ -89,7 +89,7 @@ pub(crate) fn count_marked(race: &Race, seat: &mut Place) -> usize
 }
 
 // Lists the dirty cards.
-pub(crate) fn list_marked(race: &Race, seat: &mut Place, cards: &mut Vec<Card>)
+pub(crate) fn list_marked(race: &Race, seat: &mut RaceSeat, cards: &mut Vec<Card>)
     requires seat { IsReading race.now.table.table_id race.now.shape seat.old }
     requires empty { cards.old.items ≡ [] }
     requires room { length (marked_cards race.now.shape seat.old.me.0.began_words)
@@ -105,7 +105,7 @@ pub(crate) fn list_marked(race: &Race, seat: &mut Place, cards: &mut Vec<Card>)
 }
 
 // How many cards the region's set has.
-pub(crate) fn count_members(race: &Race, seat: &mut Place, region: usize) -> usize
+pub(crate) fn count_members(race: &Race, seat: &mut RaceSeat, region: usize) -> usize
     requires seat { IsReading race.now.table.table_id race.now.shape seat.old }
     requires region { region < race.now.shape.regions }
     ensures count { result ≡ length (member_cards race.now.shape seat.old.me.0.began_words region) }
@@ -121,7 +121,7 @@ pub(crate) fn count_members(race: &Race, seat: &mut Place, region: usize) -> usi
 }
 
 // How many pairs are recorded.
-pub(crate) fn count_pairs(race: &Race, seat: &mut Place) -> usize
+pub(crate) fn count_pairs(race: &Race, seat: &mut RaceSeat) -> usize
     requires { IsReading race.now.table.table_id race.now.shape seat.old }
     ensures count { let words = seat.old.me.0.began_words in
         result ≡ pair_count race.now.shape words race.now.shape.regions }
@@ -135,7 +135,7 @@ pub(crate) fn count_pairs(race: &Race, seat: &mut Place) -> usize
 }
 
 // Lists the cards of the region's set.
-pub(crate) fn list_members(race: &Race, seat: &mut Place, region: usize, cards: &mut Vec<Card>)
+pub(crate) fn list_members(race: &Race, seat: &mut RaceSeat, region: usize, cards: &mut Vec<Card>)
     requires seat { IsReading race.now.table.table_id race.now.shape seat.old }
     requires region { region < race.now.shape.regions }
     requires empty { cards.old.items ≡ [] }

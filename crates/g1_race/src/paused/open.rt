@@ -3,7 +3,7 @@ ghost use Rattle.std.specs.Prelude.{◌≡◌, ◌+◌, ◌≤◌, [], IfOk, rep
 ghost use Rattle.g1_core.specs.Table.{opening};
 ghost use Rattle.g1_race_words.specs.Rule.{IsWholeShape, null_of};
 ghost use Rattle.g1_race.specs.Race.{shape_of};
-ghost use Rattle.g1_race.specs.Over.{halted, start_at};
+ghost use Rattle.g1_race.specs.Over.{table_at, start_at};
 ghost use Rattle.g1_race.specs.Members.{race_layout, race_shape, racer_log, AreFreshRacers};
 ghost use Rattle.g1_race.specs.Members.{AreFreshSweepers, HaveBegun, HaveBegunWith};
 
@@ -32,7 +32,7 @@ impl Paused {
         ensures layout { IfOk result (λ p. p.layout ≡ layout) }
         ensures shape { IfOk result (λ p. p.shape ≡ shape_of layout (racers + sweepers)) }
         ensures words { IfOk result (λ p. start_at p ≡ null_of p.shape) }
-        ensures table { IfOk result (λ p. halted p ≡ opening layout) }
+        ensures table { IfOk result (λ p. table_at p ≡ opening layout) }
         ensures logs { IfOk result (λ p. p.logs ≡ replicate racers []) }
         ensures sweepers { IfOk result (λ p. p.sweepers ≡ sweepers) }
     {

@@ -3,14 +3,14 @@ ghost use Rattle.std.specs.Prelude.{◌≡◌, ◌+◌, ◌≤◌, All, vec_len,
 ghost use Rattle.g1_race_words.specs.Rule.{start_of};
 ghost use Rattle.g1_race_words.specs.Readers.{IsLent};
 ghost use Rattle.g1_race.specs.Members.{race_id, race_layout, race_words};
-ghost use Rattle.g1_race.specs.Over.{halted};
+ghost use Rattle.g1_race.specs.Over.{table_at};
 ghost use Rattle.g1_race.specs.Reading.{IsReaderOf, Known, known, table_read};
 
 use crate::paused::Paused;
 use crate::paused::holds::Holds;
 use crate::paused::reading::{Reader, Reading};
 use crate::race::Race;
-use g1_race_words::{Place, RaceTable};
+use g1_race_words::{RaceSeat, RaceTable};
 
 impl<R: Holds> Paused<R> {
     /// Returns how many readers a pause can have at most: as many as the race has racers and
@@ -61,7 +61,7 @@ impl<R: Holds> Reading<R> {
         ensures layout { race_layout result.now ≡ self.now.pause.layout }
         ensures words { race_words result.now ≡ self.now.pause.address }
         ensures table { (reader : Known) → IsReaderOf self.now reader →
-            table_read result.now reader ≡ halted self.now.pause }
+            table_read result.now reader ≡ table_at self.now.pause }
     {
         self.race.race()
     }
@@ -97,21 +97,26 @@ impl<R: Holds> Reading<R> {
 }
 
 // Splits off a seat for each reader.
-fn seat_readers(table: &RaceTable, chair: &mut Place, readers: &mut Vec<Reader>, count: usize)
-    requires seat { IsLent table.now.table_id table.now.shape chair.old }
-    requires weight { count ≤ chair.old.me.0.weight }
+fn seat_readers(
+    table: &RaceTable,
+    pause_seat: &mut RaceSeat,
+    readers: &mut Vec<Reader>,
+    count: usize,
+)
+    requires seat { IsLent table.now.table_id table.now.shape pause_seat.old }
+    requires weight { count ≤ pause_seat.old.me.0.weight }
     requires empty { vec_len readers.old ≡ 0 }
     requires room { count ≤ vec_capacity readers.old }
-    ensures seat { IsLent table.now.table_id table.now.shape chair.new }
-    ensures start { start_of chair.new.me.0 ≡ start_of chair.old.me.0 }
-    ensures weight { chair.new.me.0.weight + count ≡ chair.old.me.0.weight }
+    ensures seat { IsLent table.now.table_id table.now.shape pause_seat.new }
+    ensures start { start_of pause_seat.new.me.0 ≡ start_of pause_seat.old.me.0 }
+    ensures weight { pause_seat.new.me.0.weight + count ≡ pause_seat.old.me.0.weight }
     ensures count { vec_len readers.new ≡ count }
-    ensures readers { let begin = start_of chair.old.me.0 in
+    ensures readers { let begin = start_of pause_seat.old.me.0 in
         All (λ r. r ≡ known table.now.table_id begin) readers.new.items }
     ensures room { vec_capacity readers.old ≤ vec_capacity readers.new }
 {
     for _i in 0..count {
-        let seat = table.split_reader(chair);
+        let seat = table.split_reader(pause_seat);
         let Ok(()) = readers.push(Reader { seat }) else {
             unreachable!()
         };
@@ -119,18 +124,18 @@ fn seat_readers(table: &RaceTable, chair: &mut Place, readers: &mut Vec<Reader>,
 }
 
 // Joins the readers' seats to the one that they were split from.
-fn join_readers(table: &RaceTable, chair: &mut Place, readers: &mut Vec<Reader>)
-    requires seat { IsLent table.now.table_id table.now.shape chair.old }
-    requires readers { let begin = start_of chair.old.me.0 in
+fn join_readers(table: &RaceTable, pause_seat: &mut RaceSeat, readers: &mut Vec<Reader>)
+    requires seat { IsLent table.now.table_id table.now.shape pause_seat.old }
+    requires readers { let begin = start_of pause_seat.old.me.0 in
         All (λ r. r ≡ known table.now.table_id begin) readers.old.items }
-    ensures seat { IsLent table.now.table_id table.now.shape chair.new }
-    ensures start { start_of chair.new.me.0 ≡ start_of chair.old.me.0 }
-    ensures weight { chair.new.me.0.weight ≡ chair.old.me.0.weight + vec_len readers.old }
+    ensures seat { IsLent table.now.table_id table.now.shape pause_seat.new }
+    ensures start { start_of pause_seat.new.me.0 ≡ start_of pause_seat.old.me.0 }
+    ensures weight { pause_seat.new.me.0.weight ≡ pause_seat.old.me.0.weight + vec_len readers.old }
     ensures empty { vec_len readers.new ≡ 0 }
     ensures room { vec_capacity readers.new ≡ vec_capacity readers.old }
 {
     while let Some(reader) = readers.pop() {
         let Reader { seat } = reader;
-        table.join(chair, seat);
+        table.join(pause_seat, seat);
     }
 }

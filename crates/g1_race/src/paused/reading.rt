@@ -2,7 +2,7 @@
 
 use crate::paused::holds::Holds;
 use crate::race::{Race, Racer, Sweeper};
-use g1_race_words::Place;
+use g1_race_words::RaceSeat;
 use std::marker::Model;
 
 /// A race at a pause, while readers read it.
@@ -12,21 +12,21 @@ use std::marker::Model;
 #[derive(Drop)]
 pub struct Reading<R: Holds = Race> {
     pub(crate) race: R,
-    pub(crate) seat: Place,
+    pub(crate) seat: RaceSeat,
     pub(crate) racers: Vec<Racer>,
     pub(crate) sweepers: Vec<Sweeper>,
 }
 
 impl<R: Holds> Model for Reading<R> {
     ghost use Rattle.std.specs.Prelude.{◌≡◌, ◌+◌, ◌-◌, ◌≤◌, map, vec_len};
-    ghost use Rattle.g1_race.specs.Members.{halt_of, racer_log};
+    ghost use Rattle.g1_race.specs.Members.{at_pause_of, racer_log};
     ghost use Rattle.g1_race.specs.Reading.{Readable};
     ghost use Rattle.g1_race_words.specs.Readers.{IsLent};
 
     ghost Value = { Readable };
 
     ghost view = { λ a. record {
-      pause = halt_of (R.held a.race) a.seat.me.0.began_words
+      pause = at_pause_of (R.held a.race) a.seat.me.0.began_words
           (map racer_log a.racers.items) (vec_len a.sweepers);
       table_id = (R.held a.race).table.table_id;
       readers = (R.held a.race).shape.members - a.seat.me.0.weight;
@@ -45,7 +45,7 @@ impl<R: Holds> Model for Reading<R> {
 /// the identity of its table, and all the words there.
 #[derive(Drop)]
 pub struct Reader {
-    pub(crate) seat: Place,
+    pub(crate) seat: RaceSeat,
 }
 
 impl Model for Reader {

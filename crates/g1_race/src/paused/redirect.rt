@@ -10,7 +10,7 @@ ghost use Rattle.g1_core.specs.declared.reply.Redirected.TheVariants.{Moved};
 ghost use Rattle.std.specs.FinSet as set;
 ghost use Rattle.std.specs.List.Sorted.{IsStrictlyIncreasing};
 ghost use Rattle.g1_race_words.specs.Rule.{crosses, mark_word, region_at};
-ghost use Rattle.g1_race.specs.Over.{halted};
+ghost use Rattle.g1_race.specs.Over.{table_at};
 ghost use Rattle.g1_race.specs.Moving.{AreMoved, AreMovedAway, HasMoved, into_count, word_after};
 ghost use Rattle.g1_race.specs.Evacuating.{IsRefinedRace, IsSameRace, SlotsBecome};
 ghost use Rattle.g1_race.specs.Refining.{AreUnflagged};
@@ -26,7 +26,7 @@ use crate::paused::next::next_member;
 use crate::race::Race;
 use g1_core::{CardList, Redirected};
 use g1_layout::{NoMemory, Region};
-use g1_race_words::Place;
+use g1_race_words::RaceSeat;
 use std::alloc::Global;
 
 impl<R: Holds> Paused<R> {
@@ -59,7 +59,7 @@ impl<R: Holds> Paused<R> {
         ensures ascending { IfOk result (λ answer.
             IsStrictlyIncreasing (redirect_refined answer)) }
         ensures step { IfOk result (λ answer. (caller : ℕ) →
-            IsStep (halted self.old) (redirect_entry caller from to answer) (halted self.new)) }
+            IsStep (table_at self.old) (redirect_entry caller from to answer) (table_at self.new)) }
         ensures err { OnErr result (self.new ≡ self.old) }
     {
         let refined = CardList::of(self.dirty_cards(alloc)?);
@@ -77,8 +77,8 @@ impl<R: Holds> Paused<R> {
         ensures words { SlotsBecome (word_after self.old.shape from to) self.old self.new }
         ensures step { (caller : ℕ) →
             let refined = marked_cards self.old.shape self.old.words in
-            IsStep (halted self.old) (redirect_entry caller from to (Moved result refined))
-            (halted self.new) }
+            IsStep (table_at self.old) (redirect_entry caller from to (Moved result refined))
+            (table_at self.new) }
     {
         self.refine_all();
         self.move_all(from, to)
@@ -90,13 +90,13 @@ impl<R: Holds> Paused<R> {
         requires from { from < self.old.layout.regions }
         requires to { to < self.old.layout.regions }
         requires apart { from ≢ to }
-        requires clean { (halted self.old).pending ≡ set.empty }
+        requires clean { (table_at self.old).pending ≡ set.empty }
         ensures race { IsSameRace self.old self.new }
         ensures words { SlotsBecome (word_after self.old.shape from to) self.old self.new }
         ensures flags { AreUnflagged self.old.shape self.old.words →
             AreUnflagged self.new.shape self.new.words }
-        ensures moved { halted self.new ≡ moved from to (halted self.old) }
-        ensures count { result ≡ moved_count from (halted self.old) }
+        ensures moved { table_at self.new ≡ moved from to (table_at self.old) }
+        ensures count { result ≡ moved_count from (table_at self.old) }
     {
         let race = self.race.race();
         let (from, to) = (from.number() as usize, to.number() as usize);
@@ -106,7 +106,7 @@ impl<R: Holds> Paused<R> {
 
 // Moves the references into the region, empties its row of bits, and returns how many slots have
 // changed. No card is dirty.
-fn move_references(race: &Race, seat: &mut Place, from: usize, to: usize) -> u32
+fn move_references(race: &Race, seat: &mut RaceSeat, from: usize, to: usize) -> u32
     requires seat { IsPaused race.now.table.table_id race.now.shape seat.old }
     requires from { from < race.now.shape.regions }
     requires to { to < race.now.shape.regions }
@@ -130,7 +130,7 @@ fn move_references(race: &Race, seat: &mut Place, from: usize, to: usize) -> u32
 }
 
 // Moves the references into the region of a card's slots, and returns how many have changed.
-fn move_on(race: &Race, seat: &mut Place, card: usize, from: usize, to: usize) -> usize
+fn move_on(race: &Race, seat: &mut RaceSeat, card: usize, from: usize, to: usize) -> usize
     requires seat { IsPaused race.now.table.table_id race.now.shape seat.old }
     requires card { card < race.now.shape.cards }
     requires to { to < race.now.shape.regions }
@@ -156,7 +156,7 @@ fn move_on(race: &Race, seat: &mut Place, card: usize, from: usize, to: usize) -
 }
 
 // Moves the reference of a slot, which has this word, to the region.
-fn move_slot(race: &Race, seat: &mut Place, slot: usize, word: u64, to: usize)
+fn move_slot(race: &Race, seat: &mut RaceSeat, slot: usize, word: u64, to: usize)
     requires seat { IsPaused race.now.table.table_id race.now.shape seat.old }
     requires slot { slot < race.now.shape.slots }
     requires to { to < race.now.shape.regions }

@@ -2,9 +2,9 @@
 ghost use Rattle.std.specs.Prelude.{◌≡◌, ◌+◌, ◌-◌, ◌<◌, ◌≤◌, [], All, IfOk, IfErr, length, map};
 ghost use Rattle.std.specs.Prelude.{vec_len};
 ghost use Rattle.g1_race_words.specs.Rule.{beginning, start_of};
-ghost use Rattle.g1_race_words.specs.Steps.{chair};
+ghost use Rattle.g1_race_words.specs.Steps.{whole_seat};
 ghost use Rattle.g1_race.specs.Race.{shape_of};
-ghost use Rattle.g1_race.specs.Over.{halted, start_at};
+ghost use Rattle.g1_race.specs.Over.{table_at, start_at};
 ghost use Rattle.g1_race.specs.Drain.{began};
 ghost use Rattle.g1_race.specs.Resumed.{IsSame};
 ghost use Rattle.g1_race.specs.Members.{race_id, race_layout, race_shape, race_words, racer_log};
@@ -16,7 +16,7 @@ use crate::paused::holds::Holds;
 use crate::race::{Race, Racer, Sweeper};
 use g1_core::Core;
 use g1_layout::NoMemory;
-use g1_race_words::{Place, RaceTable};
+use g1_race_words::{RaceSeat, RaceTable};
 use std::alloc::Global;
 
 impl<R: Holds> Paused<R> {
@@ -34,7 +34,7 @@ impl<R: Holds> Paused<R> {
         ensures table { (race_id (R.held result.0)).0 ≡ self.table_id }
         ensures members { vec_len result.1 + vec_len result.2
             ≡ (race_shape (R.held result.0)).members }
-        ensures began { began self.layout (beginning (start_at self)) ≡ halted self }
+        ensures began { began self.layout (beginning (start_at self)) ≡ table_at self }
         ensures racers { (vec_len result.1 ≡ length self.logs)
             × All (IsNewRacer (race_id (R.held result.0)).0 (start_at self)) result.1.items }
         ensures logs { map racer_log result.1.items ≡ self.logs }
@@ -67,7 +67,7 @@ impl Race {
     /// Reads each slot once. Takes the memory of [`Paused::open`] and, during the call, that of the
     /// list of pairs. Returns `NoMemory` if memory was refused, with the core as it was, except for
     /// its count of reads.
-    pub fn resume(
+    pub fn from_core(
         alloc: Global,
         mut core: Core,
         racers: u32,
@@ -89,8 +89,8 @@ impl Race {
         }
     }
 
-    /// Opens a race as [`Race::resume`] does, and the core stays as it is, except for its count of
-    /// reads. Use it to keep the core until every later allocation has succeeded.
+    /// Opens a race as [`Race::from_core`] does, and the core stays as it is, except for its count
+    /// of reads. Use it to keep the core until every later allocation has succeeded.
     pub fn begin_from(
         alloc: Global,
         core: &mut Core,
@@ -113,48 +113,48 @@ impl Race {
 }
 
 // Splits off a seat for each racer. They keep their logs.
-fn seat_racers(table: &RaceTable, registrar: &mut Place, racers: &mut Vec<Racer>)
-    requires seat { registrar.old.table_id ≡ table.now.table_id }
-    requires view { registrar.old.me ≡ (
-      chair (start_of registrar.old.me.0)
-          registrar.old.me.0.weight,
+fn seat_racers(table: &RaceTable, pause_seat: &mut RaceSeat, racers: &mut Vec<Racer>)
+    requires seat { pause_seat.old.table_id ≡ table.now.table_id }
+    requires view { pause_seat.old.me ≡ (
+      whole_seat (start_of pause_seat.old.me.0)
+          pause_seat.old.me.0.weight,
       [],
     ) }
-    requires shape { registrar.old.me.0.shape ≡ table.now.shape }
-    requires weight { vec_len racers.old ≤ registrar.old.me.0.weight }
-    ensures seat { registrar.new.table_id ≡ registrar.old.table_id }
-    ensures view { registrar.new.me ≡ (
-      chair (start_of registrar.old.me.0)
-          (registrar.old.me.0.weight - vec_len racers.old),
+    requires shape { pause_seat.old.me.0.shape ≡ table.now.shape }
+    requires weight { vec_len racers.old ≤ pause_seat.old.me.0.weight }
+    ensures seat { pause_seat.new.table_id ≡ pause_seat.old.table_id }
+    ensures view { pause_seat.new.me ≡ (
+      whole_seat (start_of pause_seat.old.me.0)
+          (pause_seat.old.me.0.weight - vec_len racers.old),
       [],
     ) }
     ensures racers { (vec_len racers.new ≡ vec_len racers.old)
-        × All (IsNewRacer table.now.table_id (start_of registrar.old.me.0)) racers.new.items }
+        × All (IsNewRacer table.now.table_id (start_of pause_seat.old.me.0)) racers.new.items }
     ensures logs { map racer_log racers.new.items ≡ map racer_log racers.old.items }
 {
     for i in 0..racers.len() {
-        let seat = table.split_racer(registrar);
+        let seat = table.split_racer(pause_seat);
         let racer = &mut racers[i];
         racer.seat = seat;
     }
 }
 
 // Splits off a seat for each sweeper.
-fn seat_sweepers(table: &RaceTable, registrar: &mut Place, sweepers: &mut Vec<Sweeper>)
-    requires seat { registrar.old.table_id ≡ table.now.table_id }
-    requires view { registrar.old.me ≡ (
-      chair (start_of registrar.old.me.0)
-          registrar.old.me.0.weight,
+fn seat_sweepers(table: &RaceTable, pause_seat: &mut RaceSeat, sweepers: &mut Vec<Sweeper>)
+    requires seat { pause_seat.old.table_id ≡ table.now.table_id }
+    requires view { pause_seat.old.me ≡ (
+      whole_seat (start_of pause_seat.old.me.0)
+          pause_seat.old.me.0.weight,
       [],
     ) }
-    requires shape { registrar.old.me.0.shape ≡ table.now.shape }
-    requires weight { vec_len sweepers.old ≤ registrar.old.me.0.weight }
-    ensures seat { registrar.new.table_id ≡ registrar.old.table_id }
+    requires shape { pause_seat.old.me.0.shape ≡ table.now.shape }
+    requires weight { vec_len sweepers.old ≤ pause_seat.old.me.0.weight }
+    ensures seat { pause_seat.new.table_id ≡ pause_seat.old.table_id }
     ensures sweepers { (vec_len sweepers.new ≡ vec_len sweepers.old)
-        × All (IsNewSweeper table.now.table_id (start_of registrar.old.me.0)) sweepers.new.items }
+        × All (IsNewSweeper table.now.table_id (start_of pause_seat.old.me.0)) sweepers.new.items }
 {
     for i in 0..sweepers.len() {
-        let seat = table.split_sweeper(registrar);
+        let seat = table.split_sweeper(pause_seat);
         let sweeper = &mut sweepers[i];
         sweeper.seat = seat;
     }

@@ -3,7 +3,7 @@
 ghost use Rattle.std.specs.Prelude.{◌≡◌, ◌+◌, ◌<◌, ◌≤◌, ◌↔◌, IsTrue, IfSome, length, map};
 ghost use Rattle.g1_layout.specs.Shape.{slot_count};
 ghost use Rattle.g1_core.specs.Verify.{IsFirst, IsMissing, Differs};
-ghost use Rattle.g1_race.specs.Over.{halted};
+ghost use Rattle.g1_race.specs.Over.{table_at};
 
 use crate::paused::Paused;
 use crate::paused::copy::slot_behind;
@@ -21,7 +21,7 @@ impl<R: Holds> Paused<R> {
     /// each of which is read, and no memory.
     pub fn first_differing<M: Reference>(&mut self, first: Slot, memory: &[M]) -> Option<Slot>
         requires { first + length memory.now ≤ slot_count self.old.layout }
-        ensures first { IsFirst (Differs (halted self.old) first (map M.place memory.now)) first
+        ensures first { IsFirst (Differs (table_at self.old) first (map M.place memory.now)) first
             (length memory.now) result }
         ensures within { IfSome result (λ slot. slot < slot_count self.old.layout) }
         ensures same { self.new ≡ self.old }
@@ -46,7 +46,7 @@ impl<R: Holds> Paused<R> {
     /// slots, each of which is read, and no memory.
     pub fn first_missing(&mut self, first: Slot, count: u32) -> Option<Slot>
         requires { first + count ≤ slot_count self.old.layout }
-        ensures first { IsFirst (IsMissing (halted self.old)) first count result }
+        ensures first { IsFirst (IsMissing (table_at self.old)) first count result }
         ensures within { IfSome result (λ slot. slot < slot_count self.old.layout) }
         ensures same { self.new ≡ self.old }
     {
@@ -63,7 +63,7 @@ impl<R: Holds> Paused<R> {
     // Whether the slot refers into another region from a card that is neither dirty nor recorded.
     fn is_missing(&mut self, slot: Slot) -> bool
         requires { slot < slot_count self.old.layout }
-        ensures missing { IsTrue result ↔ IsMissing (halted self.old) slot }
+        ensures missing { IsTrue result ↔ IsMissing (table_at self.old) slot }
         ensures same { self.new ≡ self.old }
     {
         let Some(place) = self.target(slot) else {

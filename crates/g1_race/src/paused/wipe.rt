@@ -4,7 +4,7 @@ ghost use mathlib.Core.Option.{some};
 ghost use lib.ListN.{get_elem?};
 ghost use Rattle.g1_layout.specs.Shape.{region_of};
 ghost use Rattle.g1_core.specs.Table.{target_of};
-ghost use Rattle.g1_race.specs.Over.{halted, ended, table_of};
+ghost use Rattle.g1_race.specs.Over.{table_at, ended, table_of};
 ghost use Rattle.g1_race.specs.Evacuating.{IsSameRace, SlotsBecome, wiped, wiped_word};
 ghost use Rattle.g1_race_words.specs.Seats.{IsPaused};
 
@@ -13,7 +13,7 @@ use crate::paused::access::put;
 use crate::paused::holds::Holds;
 use crate::race::Race;
 use g1_layout::Region;
-use g1_race_words::Place;
+use g1_race_words::RaceSeat;
 
 impl<R: Holds> Paused<R> {
     /// Stores null into each slot of the region, ascending, also where it has data. Takes no
@@ -22,16 +22,16 @@ impl<R: Holds> Paused<R> {
         requires { region < self.old.layout.regions }
         ensures race { IsSameRace self.old self.new }
         ensures words { SlotsBecome (wiped_word self.old.shape region) self.old self.new }
-        ensures table { halted self.new ≡ wiped region (halted self.old) }
+        ensures table { table_at self.new ≡ wiped region (table_at self.old) }
         ensures null { (slot : ℕ) → region_of self.old.layout slot ≡ region
-            → target_of (halted self.new) slot ≡ None }
+            → target_of (table_at self.new) slot ≡ None }
     {
         wipe_slots(self.race.race(), &mut self.seat, region.number() as usize);
     }
 }
 
 // Stores null into each slot of the region.
-fn wipe_slots(race: &Race, seat: &mut Place, region: usize)
+fn wipe_slots(race: &Race, seat: &mut RaceSeat, region: usize)
     requires seat { IsPaused race.now.table.table_id race.now.shape seat.old }
     requires region { region < race.now.shape.regions }
     ensures seat { IsPaused race.now.table.table_id race.now.shape seat.new }

@@ -1,6 +1,6 @@
 //! How a race comes to a pause, and what holds then.
 ghost use Rattle.g1_core.specs.Table.{IsCovered};
-ghost use Rattle.g1_race.specs.Over.{halted, ended_of};
+ghost use Rattle.g1_race.specs.Over.{table_at, ended_of};
 ghost use Rattle.g1_core.specs.Adoption.{IsPairOf};
 ghost use Rattle.std.specs.Prelude.{◌≡◌, ℕ, ◌+◌, ◌<◌, ◌≤◌, ◌↔◌, [], ◌∷◌, All, Contains, map};
 ghost use Rattle.std.specs.Prelude.{vec_len};
@@ -12,7 +12,7 @@ ghost use Rattle.g1_race.specs.Members.{racer_log, RacerOf, SweeperOf};
 use crate::paused::Paused;
 use crate::paused::holds::Holds;
 use crate::race::{Race, Racer, Sweeper};
-use g1_race_words::{Place, RaceTable};
+use g1_race_words::{RaceSeat, RaceTable};
 use std::mem::replace;
 
 impl Race {
@@ -44,7 +44,7 @@ impl Race {
         ensures table { result.table_id ≡ (race_id self).0 }
         ensures within { (x : ℕ × ℕ) → Contains (ended_of result).pairs x →
             IsPairOf (race_layout self) x }
-        ensures cover { IsCovered (halted result) }
+        ensures cover { IsCovered (table_at result) }
         ensures pairs { let rs = map racer_view racers.items in
             let ws = map sweeper_view sweepers.items in
             (x : ℕ × ℕ) →
@@ -74,7 +74,7 @@ impl<R: Holds> Paused<R> {
         ensures table { result.table_id ≡ (race_id (R.held race)).0 }
         ensures within { (x : ℕ × ℕ) → Contains (ended_of result).pairs x →
             IsPairOf (race_layout (R.held race)) x }
-        ensures cover { IsCovered (halted result) }
+        ensures cover { IsCovered (table_at result) }
         ensures pairs { let rs = map racer_view racers.items in
             let ws = map sweeper_view sweepers.items in
             (x : ℕ × ℕ) →
@@ -99,16 +99,16 @@ impl<R: Holds> Paused<R> {
     }
 }
 
-// Joins the racers' seats to the registrar's, the last first. They keep their logs.
-fn join_racers(table: &RaceTable, registrar: &mut Place, racers: &mut Vec<Racer>)
+// Joins the racers' seats to the pause's own, the last first. They keep their logs.
+fn join_racers(table: &RaceTable, pause_seat: &mut RaceSeat, racers: &mut Vec<Racer>)
     requires some { 0 < table.now.shape.members }
-    requires seat { registrar.old.table_id ≡ table.now.table_id }
+    requires seat { pause_seat.old.table_id ≡ table.now.table_id }
     requires racers { All (RacerOf table.now.table_id table.now.shape) racers.old.items }
-    ensures seat { registrar.new.table_id ≡ registrar.old.table_id }
-    ensures view { registrar.new.me ≡ (
+    ensures seat { pause_seat.new.table_id ≡ pause_seat.old.table_id }
+    ensures view { pause_seat.new.me ≡ (
       collected (map racer_view racers.old.items)
-          registrar.old.me.0,
-      registrar.old.me.1,
+          pause_seat.old.me.0,
+      pause_seat.old.me.1,
     ) }
     ensures len { vec_len racers.new ≡ vec_len racers.old }
     ensures logs { map racer_log racers.new.items ≡ map racer_log racers.old.items }
@@ -118,20 +118,20 @@ fn join_racers(table: &RaceTable, registrar: &mut Place, racers: &mut Vec<Racer>
         left -= 1;
         let racer = &mut racers[left];
         let seat = replace(&mut racer.seat, table.spent());
-        table.join(registrar, seat);
+        table.join(pause_seat, seat);
     }
 }
 
-// Joins the sweepers' seats to the registrar's, the last first.
-fn join_sweepers(table: &RaceTable, registrar: &mut Place, sweepers: &mut Vec<Sweeper>)
+// Joins the sweepers' seats to the pause's own, the last first.
+fn join_sweepers(table: &RaceTable, pause_seat: &mut RaceSeat, sweepers: &mut Vec<Sweeper>)
     requires some { 0 < table.now.shape.members }
-    requires seat { registrar.old.table_id ≡ table.now.table_id }
+    requires seat { pause_seat.old.table_id ≡ table.now.table_id }
     requires sweepers { All (SweeperOf table.now.table_id table.now.shape) sweepers.old.items }
-    ensures seat { registrar.new.table_id ≡ registrar.old.table_id }
-    ensures view { registrar.new.me ≡ (
+    ensures seat { pause_seat.new.table_id ≡ pause_seat.old.table_id }
+    ensures view { pause_seat.new.me ≡ (
       collected (map sweeper_view sweepers.old.items)
-          registrar.old.me.0,
-      registrar.old.me.1,
+          pause_seat.old.me.0,
+      pause_seat.old.me.1,
     ) }
     ensures len { vec_len sweepers.new ≡ vec_len sweepers.old }
 {
@@ -140,6 +140,6 @@ fn join_sweepers(table: &RaceTable, registrar: &mut Place, sweepers: &mut Vec<Sw
         left -= 1;
         let sweeper = &mut sweepers[left];
         let seat = replace(&mut sweeper.seat, table.spent());
-        table.join(registrar, seat);
+        table.join(pause_seat, seat);
     }
 }

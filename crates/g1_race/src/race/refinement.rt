@@ -12,7 +12,7 @@ use crate::bits::bit_of;
 use crate::race::{Race, Sweeper};
 use crate::word::pair_of;
 use g1_layout::{Card, NoMemory};
-use g1_race_words::Place;
+use g1_race_words::RaceSeat;
 
 /// What a sweeper found as it refined a card.
 #[derive(Clone, Copy, Debug, PartialEq, Eq)]
@@ -67,7 +67,7 @@ impl Sweeper {
 
 // Cleans a card, and then reads its slots.
 #[inline(always)]
-fn sweep(race: &Race, seat: &mut Place, card: usize) -> Swept
+fn sweep(race: &Race, seat: &mut RaceSeat, card: usize) -> Swept
     requires seat { IsSweeperSeat race.now.table.table_id race.now.shape seat.old }
     requires card { card < race.now.shape.cards }
     ensures seat { IsSweeperSeat race.now.table.table_id race.now.shape seat.new }
@@ -99,7 +99,7 @@ fn sweep(race: &Race, seat: &mut Place, card: usize) -> Swept
 // Records the pair of the word of one of the card's slots, if it refers into another region.
 // Returns whether it does.
 #[inline(always)]
-fn note_slot(race: &Race, seat: &mut Place, card: usize, slot: usize, word: u64) -> bool
+fn note_slot(race: &Race, seat: &mut RaceSeat, card: usize, slot: usize, word: u64) -> bool
     requires slot { slot < slot_count race.now.layout }
     requires card { card ≡ slot_card race.now.shape slot }
     requires word { IsWord race.now.shape word }
@@ -116,7 +116,7 @@ fn note_slot(race: &Race, seat: &mut Place, card: usize, slot: usize, word: u64)
 }
 
 // Makes sure that the bit of the pair is set.
-fn record_pair(race: &Race, seat: &mut Place, card: usize, region: usize)
+fn record_pair(race: &Race, seat: &mut RaceSeat, card: usize, region: usize)
     requires pair { IsPair race.now.shape (card, region) }
     requires seat { Holding race.now.table.table_id race.now.shape (card, region) seat.old }
     ensures table { seat.new.table_id ≡ seat.old.table_id }

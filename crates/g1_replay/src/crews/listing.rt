@@ -10,7 +10,7 @@ ghost use Rattle.g1_replay.specs.Scripted.{no_memory_may, StopsReading};
 ghost use Rattle.g1_replay.specs.Scripts.{AreKept, AreScriptsOf, kept_nothing, kept_then};
 ghost use Rattle.g1_replay.specs.declared.stop.Stop.TheVariants.{NoMemory};
 
-use crate::lines::opening::read_heap;
+use crate::lines::opening::read_layout;
 use crate::lines::player::Player;
 use crate::lines::playing::play_lines;
 use crate::lines::source::Source;
@@ -107,7 +107,7 @@ pub(crate) fn read_crew<T: Wait, R: BufRead, W: Write>(
     ensures silent { Appends (W.contents output.old) (W.contents output.new) [] }
 {
     let mut scripts = Scripts::new(alloc, dialect.mutators)?;
-    let layout = read_heap(source, input)?;
+    let layout = read_layout(source, input)?;
     play_lines(rt, source, layout, dialect, input, &mut scripts, output)?;
     let Scripts { steps } = scripts;
     Ok((layout, steps))

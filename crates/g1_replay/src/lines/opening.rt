@@ -35,7 +35,7 @@ fn next_header<R: BufRead>(source: &mut Source, input: &mut R) -> Result<Option<
 ///
 /// On a fault, `source.number` is the faulty line. Nothing behind the header's
 /// line is read, and no read follows a failed one. It takes no memory.
-pub fn read_heap<R: BufRead>(source: &mut Source, input: &mut R) -> Result<Layout, Stop>
+pub fn read_layout<R: BufRead>(source: &mut Source, input: &mut R) -> Result<Layout, Stop>
     ensures read { (d : Dialect) → Reads d None source.old.number source.new.number
         (R.remaining input.old) (R.remaining input.new) (result_ok result) []
         (more_may_come result) }

@@ -6,7 +6,7 @@ ghost use Rattle.g1_replay.specs.Reading.{Reads};
 ghost use Rattle.g1_replay.specs.Scripted.{listed_none, listed_then, no_memory_may, StopsReading};
 ghost use Rattle.g1_replay.specs.declared.stop.Stop.TheVariants.{NoMemory};
 
-use crate::lines::opening::read_heap;
+use crate::lines::opening::read_layout;
 use crate::lines::player::Player;
 use crate::lines::playing::play_lines;
 use crate::lines::source::Source;
@@ -74,7 +74,7 @@ pub(crate) fn read_scripts<T: Wait, R: BufRead, W: Write>(
     ensures commands { IfOk result (λ p. All (IsCommandOf p.0 dialect.mutators) p.1.items) }
     ensures silent { Appends (W.contents output.old) (W.contents output.new) [] }
 {
-    let layout = read_heap(source, input)?;
+    let layout = read_layout(source, input)?;
     let mut listing = Listing {
         commands: Vec::new(alloc),
     };

@@ -7,7 +7,7 @@ ghost use Rattle.g1_replay.specs.Output.{IsWholeOutput, IsRefusedOutput};
 ghost use Rattle.g1_replay.specs.declared.stop.Stop.{Stop};
 
 use crate::end::End;
-use crate::lines::opening::read_heap;
+use crate::lines::opening::read_layout;
 use crate::lines::playing::play_lines;
 use crate::lines::source::Source;
 use crate::runs::machinery::Machinery;
@@ -38,7 +38,7 @@ fn play_trace<T: Wait, R: BufRead, W: Write>(
         source.new.number (R.remaining input.old) (R.remaining input.new) result text
         × Writes (W.contents output.old) (W.contents output.new) result text }
 {
-    let layout = read_heap(source, input)?;
+    let layout = read_layout(source, input)?;
     let mut machinery = Machinery::open(alloc, layout, options)?;
     let dialect = Dialect {
         mode: Mode::Run,

@@ -5,7 +5,7 @@ ghost use Rattle.std.specs.Prelude.{vec_capacity};
 ghost use Rattle.std.specs.List.{All};
 ghost use Rattle.std.specs.Vec.Iter.{into_iter_items, into_iter_len};
 ghost use Rattle.g1_log.specs.Ends.{capacity_of, IsNewTaker};
-ghost use Rattle.g1_shared.specs.Callers.{Standing, IsNewCaller};
+ghost use Rattle.g1_shared.specs.Callers.{CallerState, IsNewCaller};
 ghost use Rattle.g1_shared.specs.Counts.{AreNone, LeadsTo, kept_terms, shared_terms};
 ghost use Rattle.g1_history.specs.History.{made_of, stored_of, terms_of, table_in};
 ghost use Rattle.g1_steps.specs.Opening.{IsNewMutator, AreNewMutators};
@@ -49,7 +49,7 @@ impl<M: Terms, S: Ledger, H: Keeps> Shared<M, S, H> {
         requires callers { (M.terms.mutators ≤ callers) × (callers ≤ 12) }
         ensures callers { IfOk result (λ opened. vec_len opened.1 ≡ callers) }
         ensures each { IfOk result (λ opened.
-            (k : ℕ) (d : Standing) → k < callers
+            (k : ℕ) (d : CallerState) → k < callers
             → IsNewCaller opened.0 M.terms.settings.log M.terms.mutators k
             (slice_index_or opened.1.items k d)) }
         ensures capacity { IfOk result (λ opened. capacity_of opened.0 ≡ M.terms.settings.limit) }
@@ -149,7 +149,7 @@ fn callers_of<M: Terms, S: Ledger>(
     requires takers { (vec_len ends.1 ≡ count) × All (IsNewTaker line.now) ends.1.items }
     requires room { (vec_len room ≡ 0) × (count ≤ vec_capacity room) }
     ensures len { vec_len result ≡ count }
-    ensures each { (k : ℕ) (d : Standing) → k < count
+    ensures each { (k : ℕ) (d : CallerState) → k < count
         → IsNewCaller line.now config.now.log M.terms.mutators k (slice_index_or result.items k d) }
 {
     let mut all = room;

@@ -9,7 +9,7 @@ ghost use Rattle.g1_steps.specs.Rounds.{IsRound, round_size};
 ghost use Rattle.g1_shared.specs.Stores.{StoresBy};
 ghost use Rattle.g1_shared.specs.Counts.{CountsDid};
 ghost use Rattle.g1_shared.specs.Answers.{IsKindAt};
-ghost use Rattle.g1_shared.specs.Callers.{Standing, caller_mark, IsCallerOf, caller_log};
+ghost use Rattle.g1_shared.specs.Callers.{CallerState, caller_mark, IsCallerOf, caller_log};
 ghost use Rattle.g1_shared.specs.Callers.{taken_list, IsFlushAt, IsRefinementAt};
 ghost use Rattle.g1_shared.specs.Callers.{IsRoundAt, IsCallerAtPause};
 
@@ -183,12 +183,12 @@ impl<M: Terms, S: Ledger, H: Keeps> Shared<M, S, H> {
     /// With no callers it does nothing. It takes no lock and no memory.
     pub fn pause<R: Wait>(&self, rt: &R, callers: &mut [Caller<M, S>])
         requires mine { All (IsCallerOf self.now) callers.old }
-        ensures paused { (k : ℕ) (d : Standing) → k < length callers.old
+        ensures paused { (k : ℕ) (d : CallerState) → k < length callers.old
             → IsCallerAtPause (slice_index_or callers.old k d) (slice_index_or callers.new k d) }
-        ensures first { (d : Standing) → 0 < length callers.old
+        ensures first { (d : CallerState) → 0 < length callers.old
             → Empties (taken_list (slice_index_or callers.old 0 d)) (capacity_of self.now)
             (taken_list (slice_index_or callers.new 0 d)) }
-        ensures others { (k : ℕ) (d : Standing) → 1 ≤ k → k < length callers.old
+        ensures others { (k : ℕ) (d : CallerState) → 1 ≤ k → k < length callers.old
             → (slice_index_or callers.new k d).taker ≡ (slice_index_or callers.old k d).taker }
     {
         for at in 0..callers.len() {

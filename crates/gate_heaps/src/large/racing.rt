@@ -19,7 +19,7 @@ pub fn play<R: Print + AllocGlobal>(rt: &R, layout: Layout) -> Result<()> {
     let mut core = core_of(rt.alloc(), closed)?;
     println!(rt; "{} stores by a race", layout.card_count())?;
     pause(rt, &mut core)?;
-    let (race, racers, sweepers) = match Race::resume(rt.alloc(), core, 1, 1) {
+    let (race, racers, sweepers) = match Race::from_core(rt.alloc(), core, 1, 1) {
         Ok(members) => members,
         Err((_core, error)) => bail!("{error}"),
     };

@@ -1,7 +1,7 @@
 -- Each clause is that of the call on what the handle held.
 use Rattle.std.proofs.Common.{rules, refl}
 use Rattle.g1_handles.specs.Racing.{racing_in}
-use Rattle.g1_c.proofs.Calls.{if_2, not_0, not_above, part_made, part_refused, part_same, taken_2}
+use Rattle.g1_c.proofs.Calls.{if_2, not_0, not_above, role_made, role_refused, role_same, taken_2}
 use Rattle.g1_c.proofs.member.data.g1_race_store_data.Goals as goal
 
 pub returns-in-Err-clause-stored : goal.returns-in-Err-clause-stored
@@ -14,13 +14,13 @@ pub returns-in-Err-clause-none : goal.returns-in-Err-clause-none
 returns-in-Err-clause-none c refused = refl
 
 pub returns-in-Err-clause-why : goal.returns-in-Err-clause-why
-returns-in-Err-clause-why c refused = (c.in-Err.refusal, c.word.ensures.number, part_refused racing_in _ _ _ _ _ _ c.in-Err.ensures (λ _ _ c. search rules))
+returns-in-Err-clause-why c refused = (c.in-Err.refusal, c.word.ensures.number, role_refused racing_in _ _ _ _ _ _ c.in-Err.ensures (λ _ _ c. search rules))
 
 pub returns-in-Err-clause-refused : goal.returns-in-Err-clause-refused
-returns-in-Err-clause-refused c refused = part_same _ _ _ _ _ c.in-Err.ensures (λ _ _ c. search rules)
+returns-in-Err-clause-refused c refused = role_same _ _ _ _ _ c.in-Err.ensures (λ _ _ c. search rules)
 
 pub returns-in-Ok-clause-stored : goal.returns-in-Ok-clause-stored
-returns-in-Ok-clause-stored c done = part_made racing_in _ _ _ _ _ _ c.in-Ok.ensures (λ _ _ c. search rules)
+returns-in-Ok-clause-stored c done = role_made racing_in _ _ _ _ _ _ c.in-Ok.ensures (λ _ _ c. search rules)
 
 pub returns-in-Ok-clause-taken : goal.returns-in-Ok-clause-taken
 returns-in-Ok-clause-taken c = if_2 racing_in _ _ _ _ refl

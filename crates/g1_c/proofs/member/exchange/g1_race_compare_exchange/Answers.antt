@@ -1,7 +1,7 @@
 -- Each clause is that of the call on what the handle held.
 use Rattle.std.proofs.Common.{rules, refl, inl, inr}
 use Rattle.g1_handles.specs.Racing.{racing_in}
-use Rattle.g1_c.proofs.Calls.{not_0, not_2, not_upto_2, not_above, not_below_0, two_not_0, zero_not_2, of_kind, if_3, part_made, part_refused, part_same, taken_3}
+use Rattle.g1_c.proofs.Calls.{not_0, not_2, not_upto_2, not_above, not_below_0, two_not_0, zero_not_2, of_kind, if_3, role_made, role_refused, role_same, taken_3}
 use Rattle.g1_c.proofs.member.exchange.g1_race_compare_exchange.Goals as goal
 
 pub returns-in-Err-clause-stored : goal.returns-in-Err-clause-stored
@@ -26,16 +26,16 @@ pub returns-in-Err-clause-null : goal.returns-in-Err-clause-null
 returns-in-Err-clause-null c refused = refl
 
 pub returns-in-Err-clause-why : goal.returns-in-Err-clause-why
-returns-in-Err-clause-why c refused = (c.in-Err.refusal, c.word.ensures.number, part_refused racing_in _ _ _ _ _ _ c.in-Err.ensures (λ _ _ c. search rules))
+returns-in-Err-clause-why c refused = (c.in-Err.refusal, c.word.ensures.number, role_refused racing_in _ _ _ _ _ _ c.in-Err.ensures (λ _ _ c. search rules))
 
 pub returns-in-Err-clause-refused : goal.returns-in-Err-clause-refused
-returns-in-Err-clause-refused c refused = part_same _ _ _ _ _ c.in-Err.ensures (λ _ _ c. search rules)
+returns-in-Err-clause-refused c refused = role_same _ _ _ _ _ c.in-Err.ensures (λ _ _ c. search rules)
 
 pub returns-in-Ok-Differs-clause-stored : goal.returns-in-Ok-Differs-clause-stored
 returns-in-Ok-Differs-clause-stored c done = two_not_0 done
 
 pub returns-in-Ok-Differs-clause-differs : goal.returns-in-Ok-Differs-clause-differs
-returns-in-Ok-Differs-clause-differs c done = part_made racing_in _ _ _ _ _ _ (rw c.in-Ok-Differs.field-0-is at c.in-Ok-Differs.ensures) (λ _ _ c. search rules)
+returns-in-Ok-Differs-clause-differs c done = role_made racing_in _ _ _ _ _ _ (rw c.in-Ok-Differs.field-0-is at c.in-Ok-Differs.ensures) (λ _ _ c. search rules)
 
 pub returns-in-Ok-Differs-clause-done : goal.returns-in-Ok-Differs-clause-done
 returns-in-Ok-Differs-clause-done c done = inr refl
@@ -50,7 +50,7 @@ pub returns-in-Ok-Differs-clause-refused : goal.returns-in-Ok-Differs-clause-ref
 returns-in-Ok-Differs-clause-refused c refused = not_above 2 refused
 
 pub returns-in-Ok-Stored-clause-stored : goal.returns-in-Ok-Stored-clause-stored
-returns-in-Ok-Stored-clause-stored c done = of_kind racing_in _ _ _ _ c.in-Ok-Stored.stored c.kind_word.ensures (part_made racing_in _ _ _ _ _ _ (rw c.in-Ok-Stored.field-0-is at c.in-Ok-Stored.ensures) (λ _ _ c. search rules))
+returns-in-Ok-Stored-clause-stored c done = of_kind racing_in _ _ _ _ c.in-Ok-Stored.stored c.kind_word.ensures (role_made racing_in _ _ _ _ _ _ (rw c.in-Ok-Stored.field-0-is at c.in-Ok-Stored.ensures) (λ _ _ c. search rules))
 
 pub returns-in-Ok-Stored-clause-differs : goal.returns-in-Ok-Stored-clause-differs
 returns-in-Ok-Stored-clause-differs c done = zero_not_2 done

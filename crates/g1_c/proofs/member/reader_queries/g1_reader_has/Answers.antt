@@ -1,7 +1,7 @@
 -- Each clause is that of the call on what the handle held.
 use Rattle.std.proofs.Common.{rules, refl}
 use Rattle.g1_handles.specs.Readers.{reading_in}
-use Rattle.g1_c.proofs.Calls.{not_0, not_above, part_refused, part_same, part_seen}
+use Rattle.g1_c.proofs.Calls.{not_0, not_above, role_refused, role_same, role_seen}
 use Rattle.g1_c.proofs.member.reader_queries.g1_reader_has.Goals as goal
 
 pub returns-in-Err-clause-has : goal.returns-in-Err-clause-has
@@ -11,13 +11,13 @@ pub returns-in-Err-clause-none : goal.returns-in-Err-clause-none
 returns-in-Err-clause-none c refused = refl
 
 pub returns-in-Err-clause-why : goal.returns-in-Err-clause-why
-returns-in-Err-clause-why c refused = (c.in-Err.refusal, c.word.ensures.number, part_refused reading_in _ _ _ _ _ _ c.in-Err.ensures (λ _ _ c. search rules))
+returns-in-Err-clause-why c refused = (c.in-Err.refusal, c.word.ensures.number, role_refused reading_in _ _ _ _ _ _ c.in-Err.ensures (λ _ _ c. search rules))
 
 pub returns-in-Err-clause-same : goal.returns-in-Err-clause-same
-returns-in-Err-clause-same c = part_same _ _ _ _ _ c.in-Err.ensures (λ _ _ c. search rules)
+returns-in-Err-clause-same c = role_same _ _ _ _ _ c.in-Err.ensures (λ _ _ c. search rules)
 
 pub returns-in-Ok-clause-has : goal.returns-in-Ok-clause-has
-returns-in-Ok-clause-has c done = part_seen reading_in _ _ _ _ _ _ c.in-Ok.ensures (λ _ _ c. search rules)
+returns-in-Ok-clause-has c done = role_seen reading_in _ _ _ _ _ _ c.in-Ok.ensures (λ _ _ c. search rules)
 
 pub returns-in-Ok-clause-none : goal.returns-in-Ok-clause-none
 returns-in-Ok-clause-none c refused = not_above 0 refused
@@ -26,4 +26,4 @@ pub returns-in-Ok-clause-why : goal.returns-in-Ok-clause-why
 returns-in-Ok-clause-why c refused = not_above 0 refused
 
 pub returns-in-Ok-clause-same : goal.returns-in-Ok-clause-same
-returns-in-Ok-clause-same c = part_same _ _ _ _ _ c.in-Ok.ensures (λ _ _ c. search rules)
+returns-in-Ok-clause-same c = role_same _ _ _ _ _ c.in-Ok.ensures (λ _ _ c. search rules)

@@ -4,12 +4,12 @@ use Rattle.g1_handles.specs.Replies.{FitIn}
 use Rattle.g1_handles.proofs.VisitLemmas.{visit_so}
 use Rattle.g1_c.proofs.one_core.redirection.g1_redirect.Goals as goal
 
-pub put-requires : goal.put-requires
-put-requires c =
+pub write_list-requires : goal.write_list-requires
+write_list-requires c =
     let fits = visit_so _ (FitIn (length c.args.refined.now) c.in-Ok-Short.list) c.args.handle.now.value c.replace_with.new.dest.value _ (λ p q h. search rules) c.in-Ok-Short.ensures in
     search (rules, fits)
 
-pub put-requires-in-Ok-Moved : goal.put-requires-in-Ok-Moved
-put-requires-in-Ok-Moved c =
+pub write_list-requires-in-Ok-Moved : goal.write_list-requires-in-Ok-Moved
+write_list-requires-in-Ok-Moved c =
     let fits = visit_so _ (FitIn (length c.args.refined.now) c.in-Ok-Moved.list) c.args.handle.now.value c.replace_with.new.dest.value _ (λ p q h. search rules) c.in-Ok-Moved.ensures in
     search (rules, fits)

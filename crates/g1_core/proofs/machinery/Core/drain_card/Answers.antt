@@ -8,33 +8,33 @@ use Rattle.g1_core.proofs.ReferenceLemmas.{err_holds}
 use Rattle.g1_core.proofs.machinery.Core.drain_card.Goals as goal
 
 pub refine-requires-clause-card : goal.refine-requires-clause-card
-refine-requires-clause-card c = (dirty_inside c.self.inside.parts.heap c.self.inside.parts.sets c.self.inside.hot c.self.inside.parts.pending c.self.invariant c.args.card (subst (λ (m : Machine). is_dirty m.state c.args.card ≡ true) (sym c.self.view_is) c.requires)).0
+refine-requires-clause-card c = (dirty_inside c.self.inside.memory.heap c.self.inside.memory.sets c.self.inside.hot c.self.inside.memory.pending c.self.invariant c.args.card (subst (λ (m : Machine). is_dirty m.state c.args.card ≡ true) (sym c.self.view_is) c.requires)).0
 
 pub refine-requires-clause-some : goal.refine-requires-clause-some
-refine-requires-clause-some c = (dirty_inside c.self.inside.parts.heap c.self.inside.parts.sets c.self.inside.hot c.self.inside.parts.pending c.self.invariant c.args.card (subst (λ (m : Machine). is_dirty m.state c.args.card ≡ true) (sym c.self.view_is) c.requires)).1
+refine-requires-clause-some c = (dirty_inside c.self.inside.memory.heap c.self.inside.memory.sets c.self.inside.hot c.self.inside.memory.pending c.self.invariant c.args.card (subst (λ (m : Machine). is_dirty m.state c.args.card ≡ true) (sym c.self.view_is) c.requires)).1
 
 pub invariant_of-self-2 : goal.invariant_of-self-2
 invariant_of-self-2 c =
-    let t : IsDrainedTo c.self.inside.parts.heap c.self.inside.parts.sets c.self.inside.hot c.self.inside.config c.args.card c.refine.new.self.heap c.refine.new.self.sets c.self.inside.hot c.refine.new.self.pending =
-    card_drained c.self.inside.parts.heap c.self.inside.parts.sets c.self.inside.hot c.self.inside.parts.pending c.self.inside.config c.self.invariant c.refine.new.self.heap c.refine.new.self.sets c.refine.new.self.pending c.args.card
+    let t : IsDrainedTo c.self.inside.memory.heap c.self.inside.memory.sets c.self.inside.hot c.self.inside.config c.args.card c.refine.new.self.heap c.refine.new.self.sets c.self.inside.hot c.refine.new.self.pending =
+    card_drained c.self.inside.memory.heap c.self.inside.memory.sets c.self.inside.hot c.self.inside.memory.pending c.self.inside.config c.self.invariant c.refine.new.self.heap c.refine.new.self.sets c.refine.new.self.pending c.args.card
     c.in_ok-refine.ensures.cleaned c.in_ok-refine.ensures.pairs c.in_ok-refine.ensures.layout c.in_ok-refine.ensures.less
-    (mark_dirty c.self.inside.parts.heap c.self.inside.parts.sets.pairs c.self.inside.hot c.self.inside.parts.pending c.self.invariant.parts c.args.card (subst (λ (m : Machine). is_dirty m.state c.args.card ≡ true) (sym c.self.view_is) c.requires)) in
+    (mark_dirty c.self.inside.memory.heap c.self.inside.memory.sets.pairs c.self.inside.hot c.self.inside.memory.pending c.self.invariant.parts c.args.card (subst (λ (m : Machine). is_dirty m.state c.args.card ≡ true) (sym c.self.view_is) c.requires)) in
     t.core
 
 pub returns-clause-ok : goal.returns-clause-ok
 returns-clause-ok c =
-    let t : IsDrainedTo c.self.inside.parts.heap c.self.inside.parts.sets c.self.inside.hot c.self.inside.config c.args.card c.refine.new.self.heap c.refine.new.self.sets c.self.inside.hot c.refine.new.self.pending =
-    card_drained c.self.inside.parts.heap c.self.inside.parts.sets c.self.inside.hot c.self.inside.parts.pending c.self.inside.config c.self.invariant c.refine.new.self.heap c.refine.new.self.sets c.refine.new.self.pending c.args.card
+    let t : IsDrainedTo c.self.inside.memory.heap c.self.inside.memory.sets c.self.inside.hot c.self.inside.config c.args.card c.refine.new.self.heap c.refine.new.self.sets c.self.inside.hot c.refine.new.self.pending =
+    card_drained c.self.inside.memory.heap c.self.inside.memory.sets c.self.inside.hot c.self.inside.memory.pending c.self.inside.config c.self.invariant c.refine.new.self.heap c.refine.new.self.sets c.refine.new.self.pending c.args.card
     c.in_ok-refine.ensures.cleaned c.in_ok-refine.ensures.pairs c.in_ok-refine.ensures.layout c.in_ok-refine.ensures.less
-    (mark_dirty c.self.inside.parts.heap c.self.inside.parts.sets.pairs c.self.inside.hot c.self.inside.parts.pending c.self.invariant.parts c.args.card (subst (λ (m : Machine). is_dirty m.state c.args.card ≡ true) (sym c.self.view_is) c.requires)) in
+    (mark_dirty c.self.inside.memory.heap c.self.inside.memory.sets.pairs c.self.inside.hot c.self.inside.memory.pending c.self.invariant.parts c.args.card (subst (λ (m : Machine). is_dirty m.state c.args.card ≡ true) (sym c.self.view_is) c.requires)) in
     subst (λ (m : Machine). IsCardDrained m c.args.card m.state.ring (machine_from c.refine.new.self.heap c.refine.new.self.sets.pairs c.self.inside.hot c.self.inside.config)) c.self.view_is t.drained
 
 -- a refused record has only read the card
 pub invariant_of-self : goal.invariant_of-self
-invariant_of-self c = read_core c.self.inside.parts.heap c.self.inside.parts.sets c.self.inside.hot c.self.inside.parts.pending c.self.inside.config c.self.invariant c.refine.new.self.heap c.refine.new.self.sets c.refine.new.self.pending
+invariant_of-self c = read_core c.self.inside.memory.heap c.self.inside.memory.sets c.self.inside.hot c.self.inside.memory.pending c.self.inside.config c.self.invariant c.refine.new.self.heap c.refine.new.self.sets c.refine.new.self.pending
     c.in_err-refine.ensures.err.1 c.in_err-refine.ensures.err.0 c.in_err-refine.ensures.err.2
 
 pub returns-in_err-refine-clause-err : goal.returns-in_err-refine-clause-err
 returns-in_err-refine-clause-err c = err_holds c.from_residual.result (subst (λ (m : Machine). IsCardRead m (machine_from c.refine.new.self.heap c.refine.new.self.sets.pairs c.self.inside.hot c.self.inside.config)) c.self.view_is
-    (card_read c.self.inside.parts.heap c.self.inside.parts.sets c.self.inside.hot c.self.inside.parts.pending c.self.inside.config c.self.invariant c.refine.new.self.heap c.refine.new.self.sets c.refine.new.self.pending
+    (card_read c.self.inside.memory.heap c.self.inside.memory.sets c.self.inside.hot c.self.inside.memory.pending c.self.inside.config c.self.invariant c.refine.new.self.heap c.refine.new.self.sets c.refine.new.self.pending
     c.in_err-refine.ensures.err.1 c.in_err-refine.ensures.err.0 c.in_err-refine.ensures.err.2))

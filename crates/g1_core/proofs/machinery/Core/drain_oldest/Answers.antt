@@ -7,19 +7,19 @@ use Rattle.g1_core.proofs.ReferenceLemmas.{err_holds}
 use Rattle.g1_core.proofs.machinery.Core.drain_oldest.Goals as goal
 
 pub refine-requires-clause-some : goal.refine-requires-clause-some
-refine-requires-clause-some c = oldest_some c.self.inside.parts.heap c.self.inside.parts.sets c.self.inside.hot c.self.inside.parts.pending c.self.invariant c.in-Some.card c.in-Some.ensures.card
+refine-requires-clause-some c = oldest_some c.self.inside.memory.heap c.self.inside.memory.sets c.self.inside.hot c.self.inside.memory.pending c.self.invariant c.in-Some.card c.in-Some.ensures.card
 
 pub invariant_of-self-2 : goal.invariant_of-self-2
 invariant_of-self-2 c =
-    let t : IsDrainedTo c.self.inside.parts.heap c.self.inside.parts.sets c.self.inside.hot c.self.inside.config c.in-Some.card c.refine.new.self.heap c.refine.new.self.sets c.pop_oldest.new.self c.refine.new.self.pending =
-    oldest_drained c.self.inside.parts.heap c.self.inside.parts.sets c.self.inside.hot c.self.inside.parts.pending c.self.inside.config c.self.invariant c.refine.new.self.heap c.refine.new.self.sets c.refine.new.self.pending c.in-Some.card
+    let t : IsDrainedTo c.self.inside.memory.heap c.self.inside.memory.sets c.self.inside.hot c.self.inside.config c.in-Some.card c.refine.new.self.heap c.refine.new.self.sets c.pop_oldest.new.self c.refine.new.self.pending =
+    oldest_drained c.self.inside.memory.heap c.self.inside.memory.sets c.self.inside.hot c.self.inside.memory.pending c.self.inside.config c.self.invariant c.refine.new.self.heap c.refine.new.self.sets c.refine.new.self.pending c.in-Some.card
     c.in_ok-refine.ensures.cleaned c.in_ok-refine.ensures.pairs c.in_ok-refine.ensures.layout c.in_ok-refine.ensures.less c.pop_oldest.new.self c.pop_oldest.ensures.ring c.in-Some.ensures.card in
     t.core
 
 pub returns-clause-ok : goal.returns-clause-ok
 returns-clause-ok c =
-    let t : IsDrainedTo c.self.inside.parts.heap c.self.inside.parts.sets c.self.inside.hot c.self.inside.config c.in-Some.card c.refine.new.self.heap c.refine.new.self.sets (popped c.self.inside.hot) c.refine.new.self.pending =
-    oldest_drained c.self.inside.parts.heap c.self.inside.parts.sets c.self.inside.hot c.self.inside.parts.pending c.self.inside.config c.self.invariant c.refine.new.self.heap c.refine.new.self.sets c.refine.new.self.pending c.in-Some.card
+    let t : IsDrainedTo c.self.inside.memory.heap c.self.inside.memory.sets c.self.inside.hot c.self.inside.config c.in-Some.card c.refine.new.self.heap c.refine.new.self.sets (popped c.self.inside.hot) c.refine.new.self.pending =
+    oldest_drained c.self.inside.memory.heap c.self.inside.memory.sets c.self.inside.hot c.self.inside.memory.pending c.self.inside.config c.self.invariant c.refine.new.self.heap c.refine.new.self.sets c.refine.new.self.pending c.in-Some.card
     c.in_ok-refine.ensures.cleaned c.in_ok-refine.ensures.pairs c.in_ok-refine.ensures.layout c.in_ok-refine.ensures.less (popped c.self.inside.hot) (λ i. popped c.self.inside.hot) c.in-Some.ensures.card in
     let ring = c.pop_oldest.ensures.ring in
     subst (λ r. IsCardDrained c.args.self.now c.in-Some.card (popped c.args.self.now.state.ring) (machine_from c.refine.new.self.heap c.refine.new.self.sets.pairs r c.self.inside.config)) (sym ring)
@@ -27,10 +27,10 @@ returns-clause-ok c =
 
 -- a refused record has only read the card
 pub invariant_of-self : goal.invariant_of-self
-invariant_of-self c = read_core c.self.inside.parts.heap c.self.inside.parts.sets c.self.inside.hot c.self.inside.parts.pending c.self.inside.config c.self.invariant c.refine.new.self.heap c.refine.new.self.sets c.refine.new.self.pending
+invariant_of-self c = read_core c.self.inside.memory.heap c.self.inside.memory.sets c.self.inside.hot c.self.inside.memory.pending c.self.inside.config c.self.invariant c.refine.new.self.heap c.refine.new.self.sets c.refine.new.self.pending
     c.in_err-refine.ensures.err.1 c.in_err-refine.ensures.err.0 c.in_err-refine.ensures.err.2
 
 pub returns-in_err-refine-clause-err : goal.returns-in_err-refine-clause-err
 returns-in_err-refine-clause-err c = err_holds c.from_residual.result (subst (λ (m : Machine). IsCardRead m (machine_from c.refine.new.self.heap c.refine.new.self.sets.pairs c.self.inside.hot c.self.inside.config)) c.self.view_is
-    (card_read c.self.inside.parts.heap c.self.inside.parts.sets c.self.inside.hot c.self.inside.parts.pending c.self.inside.config c.self.invariant c.refine.new.self.heap c.refine.new.self.sets c.refine.new.self.pending
+    (card_read c.self.inside.memory.heap c.self.inside.memory.sets c.self.inside.hot c.self.inside.memory.pending c.self.inside.config c.self.invariant c.refine.new.self.heap c.refine.new.self.sets c.refine.new.self.pending
     c.in_err-refine.ensures.err.1 c.in_err-refine.ensures.err.0 c.in_err-refine.ensures.err.2))

@@ -17,6 +17,6 @@ pub returns-clause-did : goal.returns-clause-did
 returns-clause-did c = record {
   members = members_are c;
   within = members_inside c.args.self.now.state c.args.region c.of.result
-      (seen_sound c.self.inside.parts.heap c.self.inside.parts.sets c.self.inside.hot c.self.inside.parts.pending c.self.invariant c.self.inside.config c.args.self.now c.self.view_is) (members_are c);
+      (seen_sound c.self.inside.memory.heap c.self.inside.memory.sets c.self.inside.hot c.self.inside.memory.pending c.self.invariant c.self.inside.config c.args.self.now c.self.view_is) (members_are c);
   machine = refl;
 }

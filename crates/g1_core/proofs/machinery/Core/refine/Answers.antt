@@ -14,11 +14,11 @@ returns-in_default-clause-step c = λ caller. idle_step caller c.args.self.now.s
 
 pub returns-clause-step : goal.returns-clause-step
 returns-clause-step c = λ caller. turned_step caller c.args.self.now.state c.turn_all.new.self.state c.cards.result.now c.in_ok-reply.reply
-    (subst (λ (m : Machine). IsPlaced m.state) c.self.view_is (parts_placed c.self.inside.parts.heap c.self.inside.parts.sets.pairs c.self.inside.hot c.self.inside.parts.pending c.self.invariant.parts)) c.in_ok-reply.ensures.turned
+    (subst (λ (m : Machine). IsPlaced m.state) c.self.view_is (parts_placed c.self.inside.memory.heap c.self.inside.memory.sets.pairs c.self.inside.hot c.self.inside.memory.pending c.self.invariant.parts)) c.in_ok-reply.ensures.turned
 
 pub returns-in_default-clause-later : goal.returns-in_default-clause-later
 returns-in_default-clause-later c = same_later c.args.self.now c.args.self.now refl refl
-    (seen_sound c.self.inside.parts.heap c.self.inside.parts.sets c.self.inside.hot c.self.inside.parts.pending c.self.invariant c.self.inside.config c.args.self.now c.self.view_is) (omega arith)
+    (seen_sound c.self.inside.memory.heap c.self.inside.memory.sets c.self.inside.hot c.self.inside.memory.pending c.self.invariant c.self.inside.config c.args.self.now c.self.view_is) (omega arith)
 
 pub returns-in_default-clause-did : goal.returns-in_default-clause-did
 returns-in_default-clause-did c = rw c.in_default.is (idle_does c.args.self.now c.idle.result (record { taken = c.idle.ensures.none.0; refined = c.idle.ensures.refined; hot = c.idle.ensures.counts.0; skipped = c.idle.ensures.counts.1; left = c.idle.ensures.none.1; short = c.idle.ensures.short })
@@ -30,9 +30,9 @@ returns-clause-did c = rw (c.in-Some.is, sym c.cards.ensures.cards) (turned_does
 pub returns-clause-later : goal.returns-clause-later
 returns-clause-later c = step_later c.args.self.now c.turn_all.new.self (refine_entry 0 c.in_ok-reply.reply)
     (turned_step 0 c.args.self.now.state c.turn_all.new.self.state c.cards.result.now c.in_ok-reply.reply
-    (subst (λ (m : Machine). IsPlaced m.state) c.self.view_is (parts_placed c.self.inside.parts.heap c.self.inside.parts.sets.pairs c.self.inside.hot c.self.inside.parts.pending c.self.invariant.parts)) c.in_ok-reply.ensures.turned)
+    (subst (λ (m : Machine). IsPlaced m.state) c.self.view_is (parts_placed c.self.inside.memory.heap c.self.inside.memory.sets.pairs c.self.inside.hot c.self.inside.memory.pending c.self.invariant.parts)) c.in_ok-reply.ensures.turned)
     c.turn_all.ensures.settings c.layout-after.ensures.sound (reads_grow _ _ _ c.reads-reads.ensures.bound c.in_ok-reply.ensures.reads.reads)
 
 pub returns-in_err-reply-clause-later : goal.returns-in_err-reply-clause-later
 returns-in_err-reply-clause-later c = same_later c.args.self.now c.turn_all.new.self (ap (λ (m : Machine). m.state) c.in_err-reply.ensures.err) c.turn_all.ensures.settings
-    (seen_sound c.self.inside.parts.heap c.self.inside.parts.sets c.self.inside.hot c.self.inside.parts.pending c.self.invariant c.self.inside.config c.args.self.now c.self.view_is) (omega (arith, ap (λ (m : Machine). m.reads) c.in_err-reply.ensures.err))
+    (seen_sound c.self.inside.memory.heap c.self.inside.memory.sets c.self.inside.hot c.self.inside.memory.pending c.self.invariant c.self.inside.config c.args.self.now c.self.view_is) (omega (arith, ap (λ (m : Machine). m.reads) c.in_err-reply.ensures.err))

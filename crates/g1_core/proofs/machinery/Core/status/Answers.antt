@@ -9,7 +9,7 @@ use Rattle.g1_core.proofs.machinery.Core.status.Goals as goal
 -- each recorded card lies outside its region, so that all pairs are counted
 recorded_is : (c : goal.After-total) → c.total.result ≡ set.len c.args.self.now.state.table.recorded
 recorded_is c =
-    let outside : HasOnlyOutside c.self.inside.parts.sets.layout c.self.inside.parts.sets.pairs = subst (λ (l : Shape). HasOnlyOutside l c.self.inside.parts.sets.pairs) (sym c.self.invariant.layouts) (λ card region r. (c.self.invariant.parts.outside card region r).2) in
+    let outside : HasOnlyOutside c.self.inside.memory.sets.layout c.self.inside.memory.sets.pairs = subst (λ (l : Shape). HasOnlyOutside l c.self.inside.memory.sets.pairs) (sym c.self.invariant.layouts) (λ card region r. (c.self.invariant.parts.outside card region r).2) in
     c.total.ensures.outside outside ∙ ap (λ (m : Machine). set.len m.state.table.recorded) c.self.view_is
 
 pub returns-clause-did : goal.returns-clause-did

@@ -11,7 +11,7 @@ use Rattle.g1_core.proofs.SoundLemmas.{stored_later}
 use Rattle.g1_core.proofs.machinery.Core.store_unlogged.Goals as goal
 
 pub overflow_add-self : goal.overflow_add-self
-overflow_add-self c = omega (arith, few_cards c.self.inside.parts.heap c.self.inside.parts.sets c.self.inside.hot c.self.inside.parts.pending c.self.invariant)
+overflow_add-self c = omega (arith, few_cards c.self.inside.memory.heap c.self.inside.memory.sets c.self.inside.hot c.self.inside.memory.pending c.self.invariant)
 
 -- the card that a store dirties, if any
 pub returns-clause-some : goal.returns-clause-some
@@ -24,11 +24,11 @@ pub set_mark-requires : goal.set_mark-requires
 set_mark-requires c = subst (λ (l : Shape). c.in-Some.card < card_count l) (sym (ap (λ (h : Cells). h.layout) c.set.ensures ∙ ap (λ (m : Machine). m.state.table.layout) c.self.view_is)) (below c.kind-kind.result.1 c.in-Some.card (card_count c.args.self.now.state.table.layout) c.in-Some.is c.kind-kind.ensures.within)
 
 -- what a store leaves that is logged
-logged : (c : goal.After-self-1) → IsStored c.set_mark.new.self c.self.inside.parts.sets c.self.inside.hot (c.self.inside.parts.pending + 1) c.self.inside.config c.args.self.now c.args.slot c.args.target
+logged : (c : goal.After-self-1) → IsStored c.set_mark.new.self c.self.inside.memory.sets c.self.inside.hot (c.self.inside.memory.pending + 1) c.self.inside.config c.args.self.now c.args.slot c.args.target
 logged c =
     let its = returns-clause-some c in
-    logged_at c.self.inside.parts.heap c.self.inside.parts.sets c.self.inside.hot c.self.inside.parts.pending c.self.inside.config c.args.self.now c.self.invariant c.self.view_is
-    c.args.slot c.args.target c.kind-kind.result.0 c.kind-kind.ensures.kind c.requires.target c.set_mark.new.self (c.self.inside.parts.pending + 1) c.in-Some.card c.args.self.now.state.table.layout its.0
+    logged_at c.self.inside.memory.heap c.self.inside.memory.sets c.self.inside.hot c.self.inside.memory.pending c.self.inside.config c.args.self.now c.self.invariant c.self.view_is
+    c.args.slot c.args.target c.kind-kind.result.0 c.kind-kind.ensures.kind c.requires.target c.set_mark.new.self (c.self.inside.memory.pending + 1) c.in-Some.card c.args.self.now.state.table.layout its.0
     (sym (ap (λ (m : Machine). m.state.table.layout) c.self.view_is)) its.1 (below c.kind-kind.result.1 c.in-Some.card (card_count c.args.self.now.state.table.layout) c.in-Some.is c.kind-kind.ensures.within) refl (c.set_mark.ensures ∙ ap (λ (h : Cells). with_mark h c.in-Some.card Dirty) c.set.ensures)
 
 pub invariant_of-self-2 : goal.invariant_of-self-2
@@ -41,14 +41,14 @@ pub returns-clause-step : goal.returns-clause-step
 returns-clause-step c = λ caller. stored_step caller c.args.self.now.state.table _ c.args.slot c.args.target (unfilled c.kind-kind.result.0) (c.requires.slot, c.requires.target) c.kind-kind.ensures.kind refl (ap (λ (m : Machine). m.state.table) (logged c).machine)
 
 pub returns-clause-later : goal.returns-clause-later
-returns-clause-later c = stored_later c.set_mark.new.self c.self.inside.parts.sets c.self.inside.hot (c.self.inside.parts.pending + 1) c.self.inside.config c.args.self.now c.args.slot c.args.target (logged c)
+returns-clause-later c = stored_later c.set_mark.new.self c.self.inside.memory.sets c.self.inside.hot (c.self.inside.memory.pending + 1) c.self.inside.config c.args.self.now c.args.slot c.args.target (logged c)
 
 -- and one that is not
 pub returns-in_default-clause-none : goal.returns-in_default-clause-none
 returns-in_default-clause-none c = λ none. c.kind-kind.ensures.none (subst (λ (o : Option ℕ). IsNone o) (sym c.in_default.is) refl)
 
-plain : (c : goal.In_default) → IsStored c.set.new.self c.self.inside.parts.sets c.self.inside.hot c.self.inside.parts.pending c.self.inside.config c.args.self.now c.args.slot c.args.target
-plain c = plain_at c.self.inside.parts.heap c.self.inside.parts.sets c.self.inside.hot c.self.inside.parts.pending c.self.inside.config c.args.self.now c.self.invariant c.self.view_is
+plain : (c : goal.In_default) → IsStored c.set.new.self c.self.inside.memory.sets c.self.inside.hot c.self.inside.memory.pending c.self.inside.config c.args.self.now c.args.slot c.args.target
+plain c = plain_at c.self.inside.memory.heap c.self.inside.memory.sets c.self.inside.hot c.self.inside.memory.pending c.self.inside.config c.args.self.now c.self.invariant c.self.view_is
     c.args.slot c.args.target c.kind-kind.result.0 c.kind-kind.ensures.kind c.requires.target c.set.new.self (c.kind-kind.ensures.none (subst (λ (o : Option ℕ). IsNone o) (sym c.in_default.is) refl)) c.set.ensures
 
 pub invariant_of-self : goal.invariant_of-self
@@ -61,4 +61,4 @@ pub returns-in_default-clause-step : goal.returns-in_default-clause-step
 returns-in_default-clause-step c = λ caller. stored_step caller c.args.self.now.state.table _ c.args.slot c.args.target (unfilled c.kind-kind.result.0) (c.requires.slot, c.requires.target) c.kind-kind.ensures.kind refl (ap (λ (m : Machine). m.state.table) (plain c).machine)
 
 pub returns-in_default-clause-later : goal.returns-in_default-clause-later
-returns-in_default-clause-later c = stored_later c.set.new.self c.self.inside.parts.sets c.self.inside.hot c.self.inside.parts.pending c.self.inside.config c.args.self.now c.args.slot c.args.target (plain c)
+returns-in_default-clause-later c = stored_later c.set.new.self c.self.inside.memory.sets c.self.inside.hot c.self.inside.memory.pending c.self.inside.config c.args.self.now c.args.slot c.args.target (plain c)

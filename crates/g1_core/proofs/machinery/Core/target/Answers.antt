@@ -13,14 +13,14 @@ use Rattle.g1_core.proofs.machinery.Core.target.Goals as goal
 
 pub returns-clause-step : goal.returns-clause-step
 returns-clause-step c = λ caller.
-    let same : table_from c.get.new.self c.self.inside.parts.sets.pairs ≡ c.args.self.now.state.table = ap (λ (h : Cells). table_from h c.self.inside.parts.sets.pairs) c.get.ensures.reads ∙ ap (λ (m : Machine). m.state.table) c.self.view_is in
+    let same : table_from c.get.new.self c.self.inside.memory.sets.pairs ≡ c.args.self.now.state.table = ap (λ (h : Cells). table_from h c.self.inside.memory.sets.pairs) c.get.ensures.reads ∙ ap (λ (m : Machine). m.state.table) c.self.view_is in
     let is : c.get.result ≡ target_of c.args.self.now.state.table c.args.slot = c.get.ensures.target ∙ ap (λ (m : Machine). target_of m.state.table c.args.slot) c.self.view_is in
     subst (λ (t : Table). IsStep c.args.self.now.state.table (target_entry caller c.args.slot c.get.result) t) (sym same) (target_step caller c.args.self.now.state.table c.args.slot c.get.result c.requires is)
 
 pub returns-clause-later : goal.returns-clause-later
-returns-clause-later c = same_later c.args.self.now (machine_from c.get.new.self c.self.inside.parts.sets.pairs c.self.inside.hot c.self.inside.config)
-    (ap (λ (h : Cells). state_from h c.self.inside.parts.sets.pairs c.self.inside.hot) c.get.ensures.reads ∙ ap (λ (m : Machine). m.state) c.self.view_is) (ap (λ (m : Machine). m.settings) c.self.view_is)
-    (seen_sound c.self.inside.parts.heap c.self.inside.parts.sets c.self.inside.hot c.self.inside.parts.pending c.self.invariant c.self.inside.config c.args.self.now c.self.view_is)
+returns-clause-later c = same_later c.args.self.now (machine_from c.get.new.self c.self.inside.memory.sets.pairs c.self.inside.hot c.self.inside.config)
+    (ap (λ (h : Cells). state_from h c.self.inside.memory.sets.pairs c.self.inside.hot) c.get.ensures.reads ∙ ap (λ (m : Machine). m.state) c.self.view_is) (ap (λ (m : Machine). m.settings) c.self.view_is)
+    (seen_sound c.self.inside.memory.heap c.self.inside.memory.sets c.self.inside.hot c.self.inside.memory.pending c.self.invariant c.self.inside.config c.args.self.now c.self.view_is)
     (reads_grow c.args.self.now.reads 1 c.get.new.self.reads c.reads-reads.ensures.bound (ap (λ (h : Cells). h.reads) c.get.ensures.reads ∙ ap (λ (m : Machine). reads_after m.reads 1) c.self.view_is))
 
 pub returns-clause-did : goal.returns-clause-did
@@ -29,7 +29,7 @@ returns-clause-did c =
     record {
       answer = is;
       within = subst (λ (o : Option ℕ). IfSome o (λ place. place < slot_count c.args.self.now.state.table.layout)) (sym is) (target_inside c.args.self.now.state c.args.slot
-          (seen_sound c.self.inside.parts.heap c.self.inside.parts.sets c.self.inside.hot c.self.inside.parts.pending c.self.invariant c.self.inside.config c.args.self.now c.self.view_is) c.requires);
-      machine = ap (λ (h : Cells). machine_from h c.self.inside.parts.sets.pairs c.self.inside.hot c.self.inside.config) c.get.ensures.reads
+          (seen_sound c.self.inside.memory.heap c.self.inside.memory.sets c.self.inside.hot c.self.inside.memory.pending c.self.invariant c.self.inside.config c.args.self.now c.self.view_is) c.requires);
+      machine = ap (λ (h : Cells). machine_from h c.self.inside.memory.sets.pairs c.self.inside.hot c.self.inside.config) c.get.ensures.reads
           ∙ ap (λ (m : Machine). record { state = m.state; settings = m.settings; reads = reads_after m.reads 1 }) c.self.view_is;
     }

@@ -15,21 +15,21 @@ use Rattle.g1_core.proofs.ReadLemmas.{none_read, one_read}
 use Rattle.g1_core.proofs.machinery.Core.turn.Goals as goal
 
 pub returns-then-not-dirty-clause-offer : goal.returns-then-not-dirty-clause-offer
-returns-then-not-dirty-clause-offer c = none_offered c.self.inside.parts.heap c.self.inside.parts.sets c.self.inside.hot c.self.inside.parts.pending c.self.inside.config c.args.self.now c.self.invariant c.self.view_is c.args.card (λ e. true≢false (sym (c.is_dirty-dirty.ensures.dirty.1 e) ∙ c.if-not-dirty.true))
+returns-then-not-dirty-clause-offer c = none_offered c.self.inside.memory.heap c.self.inside.memory.sets c.self.inside.hot c.self.inside.memory.pending c.self.inside.config c.args.self.now c.self.invariant c.self.view_is c.args.card (λ e. true≢false (sym (c.is_dirty-dirty.ensures.dirty.1 e) ∙ c.if-not-dirty.true))
 
 pub returns-then-not-dirty-clause-state : goal.returns-then-not-dirty-clause-state
 returns-then-not-dirty-clause-state c = λ i. record { table = sym (refined_none c.args.self.now.state.table) i; ring = c.args.self.now.state.ring }
 
 pub refine-requires-clause-some : goal.refine-requires-clause-some
-refine-requires-clause-some c = dirty_pending c.self.inside.parts.heap c.self.inside.parts.sets c.self.inside.hot c.self.inside.parts.pending c.self.inside.config c.args.self.now c.self.invariant c.self.view_is c.args.card (c.is_dirty-dirty.ensures.dirty.0 c.if-not-dirty.false)
+refine-requires-clause-some c = dirty_pending c.self.inside.memory.heap c.self.inside.memory.sets c.self.inside.hot c.self.inside.memory.pending c.self.inside.config c.args.self.now c.self.invariant c.self.view_is c.args.card (c.is_dirty-dirty.ensures.dirty.0 c.if-not-dirty.false)
 
 pub refine-requires-in-Out-clause-some : goal.refine-requires-in-Out-clause-some
-refine-requires-in-Out-clause-some c = dirty_pending c.self.inside.parts.heap c.self.inside.parts.sets c.self.inside.hot c.self.inside.parts.pending c.self.inside.config c.args.self.now c.self.invariant c.self.view_is c.args.card (c.is_dirty-dirty.ensures.dirty.0 c.if-not-dirty.false)
+refine-requires-in-Out-clause-some c = dirty_pending c.self.inside.memory.heap c.self.inside.memory.sets c.self.inside.hot c.self.inside.memory.pending c.self.inside.config c.args.self.now c.self.invariant c.self.view_is c.args.card (c.is_dirty-dirty.ensures.dirty.0 c.if-not-dirty.false)
 
 -- what the turn of a dirty card leaves, by what the ring answers
 cold : (c : goal.After-offer) → IsTurnedTo c.args.self.now c.args.card (Some c.would-offer.result) c.refine.new.self.heap c.refine.new.self.sets c.offer.new.self c.refine.new.self.pending
-cold c = turned_cold c.self.inside.parts.heap c.self.inside.parts.sets c.self.inside.hot c.self.inside.parts.pending c.self.inside.config c.args.self.now c.self.invariant c.self.view_is c.args.card (c.is_dirty-dirty.ensures.dirty.0 c.if-not-dirty.false) c.would-offer.result c.would-offer.ensures.answer c.refine.new.self.heap c.refine.new.self.sets c.offer.new.self c.refine.new.self.pending c.offer.ensures.ring
-    c.self.inside.parts.heap.layout.slots c.in-Cold.is c.in_ok-refine-in-Cold.ensures.cleaned c.in_ok-refine-in-Cold.ensures.pairs c.in_ok-refine-in-Cold.ensures.layout c.in_ok-refine-in-Cold.ensures.less
+cold c = turned_cold c.self.inside.memory.heap c.self.inside.memory.sets c.self.inside.hot c.self.inside.memory.pending c.self.inside.config c.args.self.now c.self.invariant c.self.view_is c.args.card (c.is_dirty-dirty.ensures.dirty.0 c.if-not-dirty.false) c.would-offer.result c.would-offer.ensures.answer c.refine.new.self.heap c.refine.new.self.sets c.offer.new.self c.refine.new.self.pending c.offer.ensures.ring
+    c.self.inside.memory.heap.layout.slots c.in-Cold.is c.in_ok-refine-in-Cold.ensures.cleaned c.in_ok-refine-in-Cold.ensures.pairs c.in_ok-refine-in-Cold.ensures.layout c.in_ok-refine-in-Cold.ensures.less
 
 pub invariant_of-self-in-Cold : goal.invariant_of-self-in-Cold
 invariant_of-self-in-Cold c = (cold c).core
@@ -40,8 +40,8 @@ returns-in-Cold-clause-offer c = (cold c).offer
 pub returns-in-Cold-clause-state : goal.returns-in-Cold-clause-state
 returns-in-Cold-clause-state c = (cold c).state
 
-kept : (c : goal.After-offer-in-Kept) → IsTurnedTo c.args.self.now c.args.card (Some c.would-offer.result) c.set_mark.new.self c.self.inside.parts.sets c.offer-in-Kept.new.self c.self.inside.parts.pending
-kept c = turned_kept c.self.inside.parts.heap c.self.inside.parts.sets c.self.inside.hot c.self.inside.parts.pending c.self.inside.config c.args.self.now c.self.invariant c.self.view_is c.args.card (c.is_dirty-dirty.ensures.dirty.0 c.if-not-dirty.false) c.would-offer.result c.would-offer.ensures.answer c.set_mark.new.self c.self.inside.parts.sets c.offer-in-Kept.new.self c.self.inside.parts.pending c.offer-in-Kept.ensures.ring
+kept : (c : goal.After-offer-in-Kept) → IsTurnedTo c.args.self.now c.args.card (Some c.would-offer.result) c.set_mark.new.self c.self.inside.memory.sets c.offer-in-Kept.new.self c.self.inside.memory.pending
+kept c = turned_kept c.self.inside.memory.heap c.self.inside.memory.sets c.self.inside.hot c.self.inside.memory.pending c.self.inside.config c.args.self.now c.self.invariant c.self.view_is c.args.card (c.is_dirty-dirty.ensures.dirty.0 c.if-not-dirty.false) c.would-offer.result c.would-offer.ensures.answer c.set_mark.new.self c.self.inside.memory.sets c.offer-in-Kept.new.self c.self.inside.memory.pending c.offer-in-Kept.ensures.ring
     c.in-Kept.is c.set_mark.ensures refl refl
 
 pub invariant_of-self-in-Kept : goal.invariant_of-self-in-Kept
@@ -54,8 +54,8 @@ pub returns-in-Kept-clause-state : goal.returns-in-Kept-clause-state
 returns-in-Kept-clause-state c = (kept c).state
 
 out : (c : goal.After-offer-in-Out) → IsTurnedTo c.args.self.now c.args.card (Some (Out c.in-Out.oldest)) c.set_mark-in-Out.new.self c.refine-in-Out.new.self.sets c.offer-in-Out.new.self c.refine-in-Out.new.self.pending
-out c = turned_out c.self.inside.parts.heap c.self.inside.parts.sets c.self.inside.hot c.self.inside.parts.pending c.self.inside.config c.args.self.now c.self.invariant c.self.view_is c.args.card (c.is_dirty-dirty.ensures.dirty.0 c.if-not-dirty.false) (Out c.in-Out.oldest) (sym c.in-Out.is ∙ c.would-offer.ensures.answer) c.set_mark-in-Out.new.self c.refine-in-Out.new.self.sets c.offer-in-Out.new.self c.refine-in-Out.new.self.pending c.offer-in-Out.ensures.ring
-    c.self.inside.parts.heap.layout.slots c.in-Out.oldest refl (c.set_mark-in-Out.ensures ∙ ap (λ (h : Cells). with_mark h c.args.card Held) c.in_ok-refine-in-Out.ensures.cleaned) c.in_ok-refine-in-Out.ensures.pairs c.in_ok-refine-in-Out.ensures.layout c.in_ok-refine-in-Out.ensures.less
+out c = turned_out c.self.inside.memory.heap c.self.inside.memory.sets c.self.inside.hot c.self.inside.memory.pending c.self.inside.config c.args.self.now c.self.invariant c.self.view_is c.args.card (c.is_dirty-dirty.ensures.dirty.0 c.if-not-dirty.false) (Out c.in-Out.oldest) (sym c.in-Out.is ∙ c.would-offer.ensures.answer) c.set_mark-in-Out.new.self c.refine-in-Out.new.self.sets c.offer-in-Out.new.self c.refine-in-Out.new.self.pending c.offer-in-Out.ensures.ring
+    c.self.inside.memory.heap.layout.slots c.in-Out.oldest refl (c.set_mark-in-Out.ensures ∙ ap (λ (h : Cells). with_mark h c.args.card Held) c.in_ok-refine-in-Out.ensures.cleaned) c.in_ok-refine-in-Out.ensures.pairs c.in_ok-refine-in-Out.ensures.layout c.in_ok-refine-in-Out.ensures.less
 
 pub invariant_of-self-in-Out : goal.invariant_of-self-in-Out
 invariant_of-self-in-Out c = (out c).core
@@ -86,27 +86,27 @@ returns-in-Out-clause-reads c =
 
 -- a refused record has only read the card
 pub invariant_of-self : goal.invariant_of-self
-invariant_of-self c = read_core c.self.inside.parts.heap c.self.inside.parts.sets c.self.inside.hot c.self.inside.parts.pending c.self.inside.config c.self.invariant c.refine.new.self.heap c.refine.new.self.sets c.refine.new.self.pending
+invariant_of-self c = read_core c.self.inside.memory.heap c.self.inside.memory.sets c.self.inside.hot c.self.inside.memory.pending c.self.inside.config c.self.invariant c.refine.new.self.heap c.refine.new.self.sets c.refine.new.self.pending
     c.in_err-refine-in-Cold.ensures.err.1 c.in_err-refine-in-Cold.ensures.err.0 c.in_err-refine-in-Cold.ensures.err.2
 
 pub returns-in_err-refine-in-Cold-clause-err : goal.returns-in_err-refine-in-Cold-clause-err
-returns-in_err-refine-in-Cold-clause-err c = err_holds c.from_residual.result ((card_read c.self.inside.parts.heap c.self.inside.parts.sets c.self.inside.hot c.self.inside.parts.pending c.self.inside.config c.self.invariant c.refine.new.self.heap c.refine.new.self.sets c.refine.new.self.pending
+returns-in_err-refine-in-Cold-clause-err c = err_holds c.from_residual.result ((card_read c.self.inside.memory.heap c.self.inside.memory.sets c.self.inside.hot c.self.inside.memory.pending c.self.inside.config c.self.invariant c.refine.new.self.heap c.refine.new.self.sets c.refine.new.self.pending
     c.in_err-refine-in-Cold.ensures.err.1 c.in_err-refine-in-Cold.ensures.err.0 c.in_err-refine-in-Cold.ensures.err.2).state ∙ ap (λ (m : Machine). m.state) c.self.view_is)
 
 pub returns-in_err-refine-in-Cold-clause-tried : goal.returns-in_err-refine-in-Cold-clause-tried
-returns-in_err-refine-in-Cold-clause-tried c = err_holds c.from_residual.result ((card_read c.self.inside.parts.heap c.self.inside.parts.sets c.self.inside.hot c.self.inside.parts.pending c.self.inside.config c.self.invariant c.refine.new.self.heap c.refine.new.self.sets c.refine.new.self.pending
+returns-in_err-refine-in-Cold-clause-tried c = err_holds c.from_residual.result ((card_read c.self.inside.memory.heap c.self.inside.memory.sets c.self.inside.hot c.self.inside.memory.pending c.self.inside.config c.self.invariant c.refine.new.self.heap c.refine.new.self.sets c.refine.new.self.pending
     c.in_err-refine-in-Cold.ensures.err.1 c.in_err-refine-in-Cold.ensures.err.0 c.in_err-refine-in-Cold.ensures.err.2).reads ∙ ap (λ (m : Machine). reads_after m.reads m.state.table.layout.slots) c.self.view_is)
 
 pub invariant_of-self-in_err-refine-in-Out : goal.invariant_of-self-in_err-refine-in-Out
-invariant_of-self-in_err-refine-in-Out c = read_core c.self.inside.parts.heap c.self.inside.parts.sets c.self.inside.hot c.self.inside.parts.pending c.self.inside.config c.self.invariant c.refine-in-Out.new.self.heap c.refine-in-Out.new.self.sets c.refine-in-Out.new.self.pending
+invariant_of-self-in_err-refine-in-Out c = read_core c.self.inside.memory.heap c.self.inside.memory.sets c.self.inside.hot c.self.inside.memory.pending c.self.inside.config c.self.invariant c.refine-in-Out.new.self.heap c.refine-in-Out.new.self.sets c.refine-in-Out.new.self.pending
     c.in_err-refine-in-Out.ensures.err.1 c.in_err-refine-in-Out.ensures.err.0 c.in_err-refine-in-Out.ensures.err.2
 
 pub returns-in_err-refine-in-Out-clause-err : goal.returns-in_err-refine-in-Out-clause-err
-returns-in_err-refine-in-Out-clause-err c = err_holds c.from_residual-in_err-refine-in-Out.result ((card_read c.self.inside.parts.heap c.self.inside.parts.sets c.self.inside.hot c.self.inside.parts.pending c.self.inside.config c.self.invariant c.refine-in-Out.new.self.heap c.refine-in-Out.new.self.sets c.refine-in-Out.new.self.pending
+returns-in_err-refine-in-Out-clause-err c = err_holds c.from_residual-in_err-refine-in-Out.result ((card_read c.self.inside.memory.heap c.self.inside.memory.sets c.self.inside.hot c.self.inside.memory.pending c.self.inside.config c.self.invariant c.refine-in-Out.new.self.heap c.refine-in-Out.new.self.sets c.refine-in-Out.new.self.pending
     c.in_err-refine-in-Out.ensures.err.1 c.in_err-refine-in-Out.ensures.err.0 c.in_err-refine-in-Out.ensures.err.2).state ∙ ap (λ (m : Machine). m.state) c.self.view_is)
 
 pub returns-in_err-refine-in-Out-clause-tried : goal.returns-in_err-refine-in-Out-clause-tried
-returns-in_err-refine-in-Out-clause-tried c = err_holds c.from_residual-in_err-refine-in-Out.result ((card_read c.self.inside.parts.heap c.self.inside.parts.sets c.self.inside.hot c.self.inside.parts.pending c.self.inside.config c.self.invariant c.refine-in-Out.new.self.heap c.refine-in-Out.new.self.sets c.refine-in-Out.new.self.pending
+returns-in_err-refine-in-Out-clause-tried c = err_holds c.from_residual-in_err-refine-in-Out.result ((card_read c.self.inside.memory.heap c.self.inside.memory.sets c.self.inside.hot c.self.inside.memory.pending c.self.inside.config c.self.invariant c.refine-in-Out.new.self.heap c.refine-in-Out.new.self.sets c.refine-in-Out.new.self.pending
     c.in_err-refine-in-Out.ensures.err.1 c.in_err-refine-in-Out.ensures.err.0 c.in_err-refine-in-Out.ensures.err.2).reads ∙ ap (λ (m : Machine). reads_after m.reads m.state.table.layout.slots) c.self.view_is)
 
 -- the card is one of the heap, and does not stand in the ring
@@ -117,7 +117,7 @@ pub refine-requires-clause-card : goal.refine-requires-clause-card
 refine-requires-clause-card c = c.is_dirty-dirty.ensures.within c.if-not-dirty.false
 
 pub refine-requires-in-Out-clause-card : goal.refine-requires-in-Out-clause-card
-refine-requires-in-Out-clause-card c = out_within c.self.inside.parts.heap c.self.inside.parts.sets c.self.inside.hot c.self.inside.parts.pending c.self.inside.config c.args.self.now c.self.invariant c.self.view_is c.args.card (c.is_dirty-dirty.ensures.dirty.0 c.if-not-dirty.false) c.in-Out.oldest (sym c.would-offer.ensures.answer ∙ c.in-Out.is)
+refine-requires-in-Out-clause-card c = out_within c.self.inside.memory.heap c.self.inside.memory.sets c.self.inside.hot c.self.inside.memory.pending c.self.inside.config c.args.self.now c.self.invariant c.self.view_is c.args.card (c.is_dirty-dirty.ensures.dirty.0 c.if-not-dirty.false) c.in-Out.oldest (sym c.would-offer.ensures.answer ∙ c.in-Out.is)
 
 pub set_mark-requires : goal.set_mark-requires
 set_mark-requires c = c.is_dirty-dirty.ensures.within c.if-not-dirty.false
@@ -129,16 +129,16 @@ pub offer-requires-clause-within : goal.offer-requires-clause-within
 offer-requires-clause-within c = subst (λ (n : ℕ). c.args.card < n) (sym c.self.invariant.parts.counts) (c.is_dirty-dirty.ensures.within c.if-not-dirty.false)
 
 pub offer-requires-clause-absent : goal.offer-requires-clause-absent
-offer-requires-clause-absent c = apart c.self.inside.parts.heap c.self.inside.parts.sets c.self.inside.hot c.self.inside.parts.pending c.self.inside.config c.args.self.now c.self.invariant c.self.view_is c.args.card (c.is_dirty-dirty.ensures.dirty.0 c.if-not-dirty.false)
+offer-requires-clause-absent c = apart c.self.inside.memory.heap c.self.inside.memory.sets c.self.inside.hot c.self.inside.memory.pending c.self.inside.config c.args.self.now c.self.invariant c.self.view_is c.args.card (c.is_dirty-dirty.ensures.dirty.0 c.if-not-dirty.false)
 
 pub offer-requires-in-Kept-clause-within : goal.offer-requires-in-Kept-clause-within
 offer-requires-in-Kept-clause-within c = subst (λ (n : ℕ). c.args.card < n) (sym c.self.invariant.parts.counts) (c.is_dirty-dirty.ensures.within c.if-not-dirty.false)
 
 pub offer-requires-in-Kept-clause-absent : goal.offer-requires-in-Kept-clause-absent
-offer-requires-in-Kept-clause-absent c = apart c.self.inside.parts.heap c.self.inside.parts.sets c.self.inside.hot c.self.inside.parts.pending c.self.inside.config c.args.self.now c.self.invariant c.self.view_is c.args.card (c.is_dirty-dirty.ensures.dirty.0 c.if-not-dirty.false)
+offer-requires-in-Kept-clause-absent c = apart c.self.inside.memory.heap c.self.inside.memory.sets c.self.inside.hot c.self.inside.memory.pending c.self.inside.config c.args.self.now c.self.invariant c.self.view_is c.args.card (c.is_dirty-dirty.ensures.dirty.0 c.if-not-dirty.false)
 
 pub offer-requires-in-Out-clause-within : goal.offer-requires-in-Out-clause-within
 offer-requires-in-Out-clause-within c = subst (λ (n : ℕ). c.args.card < n) (sym c.self.invariant.parts.counts) (c.is_dirty-dirty.ensures.within c.if-not-dirty.false)
 
 pub offer-requires-in-Out-clause-absent : goal.offer-requires-in-Out-clause-absent
-offer-requires-in-Out-clause-absent c = apart c.self.inside.parts.heap c.self.inside.parts.sets c.self.inside.hot c.self.inside.parts.pending c.self.inside.config c.args.self.now c.self.invariant c.self.view_is c.args.card (c.is_dirty-dirty.ensures.dirty.0 c.if-not-dirty.false)
+offer-requires-in-Out-clause-absent c = apart c.self.inside.memory.heap c.self.inside.memory.sets c.self.inside.hot c.self.inside.memory.pending c.self.inside.config c.args.self.now c.self.invariant c.self.view_is c.args.card (c.is_dirty-dirty.ensures.dirty.0 c.if-not-dirty.false)

@@ -1,13 +1,13 @@
 -- The regions of these numbers.
 use Rattle.std.proofs.Common.{ℕ, subst}
-use Rattle.g1_race.specs.Over.{Halt}
+use Rattle.g1_race.specs.Over.{Pause}
 use Rattle.g1_handles.specs.AtPause.{Redirects}
 use Rattle.g1_handles.proofs.heap.evacuation.redirect_at.Goals as goal
 
 pub returns-clause-redirected : goal.returns-clause-redirected
 returns-clause-redirected c =
-    let old : Halt = c.args.heap.now in
-    let new : Halt = c.redirect_in_place.new.self in
+    let old : Pause = c.args.heap.now in
+    let new : Pause = c.redirect_in_place.new.self in
     let slots = c.redirect_in_place.result in
     subst (λ (to : ℕ). Redirects old c.args.from to slots new) c.in-Some-region.ensures.1
     (subst (λ (from : ℕ). Redirects old from c.in-Some-region.to slots new) c.in-Some.ensures.1

@@ -4,7 +4,7 @@ use Rattle.std.proofs.lemmas.Bool.{not-true, eqb-false}
 use Rattle.g1_layout.specs.Shape.{Shape, region_of}
 use Rattle.g1_layout.proofs.ShapeLemmas.{region_of-offset}
 use Rattle.g1_core.specs.Table.{target_of}
-use Rattle.g1_race.specs.Over.{Halt, halted}
+use Rattle.g1_race.specs.Over.{Pause, table_at}
 use Rattle.g1_handles.proofs.heap.evacuation.refers_out.Goals as goal
 
 pub returns-then-ne-clause-some : goal.returns-then-ne-clause-some
@@ -25,7 +25,7 @@ returns-then-ne-clause-some c = λ _.
       slot = slot;
       place = place;
       crosses = record {
-        refers = subst (λ (h : Halt). target_of (halted h) slot ≡ Some place) c.loop-i.invariant.0 (sym c.target.ensures.target ∙ c.in-Some-target.is);
+        refers = subst (λ (h : Pause). target_of (table_at h) slot ≡ Some place) c.loop-i.invariant.0 (sym c.target.ensures.target ∙ c.in-Some-target.is);
         across = λ e. other (c.region_of.ensures.quotient ∙ (sym (subst (λ (s : Shape). region_of s slot ≡ region_of s place) (sym c.requires.layout) e) ∙ inside));
       };
       inside = subst (λ (s : Shape). region_of s slot ≡ c.args.region) c.requires.layout inside;

@@ -2,10 +2,10 @@
 use Rattle.std.proofs.Common.{◌≡◌, ◌≢◌, ◌<◌, ◌≤◌, ◌+◌, ℕ}
 use Rattle.g1_layout.specs.Shape.{region_of}
 use Rattle.g1_core.specs.Table.{Crosses}
-use Rattle.g1_race.specs.Over.{halted}
+use Rattle.g1_race.specs.Over.{table_at}
 use Rattle.g1_handles.proofs.heap.evacuation.refers_out.Given as goal
 
 abbrev pub invariant-loop-i : goal.invariant-loop-i
 invariant-loop-i l =
     (l.heap ≡ l.initial.heap)
-    × ((slot place : ℕ) → l.first ≤ slot → slot < l.first + l.i → Crosses (halted l.initial.heap) slot place → region_of l.layout slot ≢ l.region)
+    × ((slot place : ℕ) → l.first ≤ slot → slot < l.first + l.i → Crosses (table_at l.initial.heap) slot place → region_of l.layout slot ≢ l.region)

@@ -1,4 +1,4 @@
--- The next handle gives its part, and its box waits.
+-- The next handle gives its role, and its box waits.
 use Rattle.std.proofs.Common.{◌≡◌, ◌<◌, Some, None, Box, All, length, slice_index_or, sym, ap, ◌∙◌, subst, arith}
 use Rattle.std.specs.Prelude.{IsSome}
 use Rattle.std.specs.Global.{Global}
@@ -7,8 +7,8 @@ use Rattle.std.proofs.lemmas.List.{length-set, get_or-set_other}
 use Rattle.std.proofs.lemmas.List.Elements.{All-push, All-map, AllWithin-more_set, All-from_all_within, AllWithin-upto}
 use Rattle.g1_race.specs.Members.{race_id}
 use Rattle.g1_handles.specs.declared.member.Member.{Member}
-use Rattle.g1_handles.specs.Racing.{counts_of, part_in, IsOf}
-use Rattle.g1_handles.proofs.MemberLemmas.{part_is_of, none_is_some}
+use Rattle.g1_handles.specs.Racing.{counts_of, role_in, IsOf}
+use Rattle.g1_handles.proofs.MemberLemmas.{role_is_of, none_is_some}
 use Rattle.g1_handles.proofs.Rows.{at_handle, view_next}
 use Rattle.g1_handles.proofs.heap.pause.gather.Goals as goal
 
@@ -24,27 +24,27 @@ loop-i-preserved g c =
     let here : n < length hs = omega (arith, c.loop-i-test.true, i.sized) in
     let member = c.deref_mut.result.now in
     let had : value (slice_index_or old n h) ≡ Some member =
-    sym (ap value (i.rest n h (omega arith))) ∙ (ap value (sym c.replace.ensures.value) ∙ (c.in-Some.ensures ∙ ap (λ (m : Member g.row.P.Denot g.P.Part). Some m) (sym c.deref_mut.ensures.value))) in
-    let part : member.part ≡ Some c.in-Some-park.part = sym c.park.ensures.part ∙ c.in-Some-park.is in
+    sym (ap value (i.rest n h (omega arith))) ∙ (ap value (sym c.replace.ensures.value) ∙ (c.in-Some.ensures ∙ ap (λ (m : Member g.row.P.Denot g.P.Role). Some m) (sym c.deref_mut.ensures.value))) in
+    let role : member.role ≡ Some c.in-Some-park.role = sym c.park.ensures.role ∙ c.in-Some-park.is in
     record {
       sized = length-set hs n _ ∙ i.sized;
-      part_count = omega (arith, i.part_count, c.push_reserved.ensures.len);
+      role_count = omega (arith, i.role_count, c.push_reserved.ensures.len);
       box_count = omega (arith, i.box_count, c.push_reserved-in-loop-i.ensures.len);
-      part_room = c.push_reserved.ensures.capacity ∙ i.part_room;
+      role_room = c.push_reserved.ensures.capacity ∙ i.role_room;
       box_room = c.push_reserved-in-loop-i.ensures.capacity ∙ i.box_room;
       closed = AllWithin-more_set hs n _ here (λ x. value x ≡ None) i.closed (ap value c.replace.ensures.after ∙ c.closed.ensures);
       rest = λ k d le. get_or-set_other hs n k _ d (omega (arith, le)) ∙ i.rest k d (omega (arith, le));
       of = λ race all.
-          let Q : g.row.P.Denot → Type 0 = λ p. g.P.Part.of p ≡ race_id race in
-          let of = part_is_of member _ race part (subst (IsOf race) had (at_handle value (IsOf race) old n h below all)) in
+          let Q : g.row.P.Denot → Type 0 = λ p. g.P.Role.of p ≡ race_id race in
+          let of = role_is_of member _ race role (subst (IsOf race) had (at_handle value (IsOf race) old n h below all)) in
           subst (All Q) (sym c.push_reserved.ensures.items) (All-push Q _ _ (i.of race all) of);
       waiting = λ race all.
-          let Q : Box (Member g.row.P.Denot g.P.Part) Global → Type 0 = λ m. arc_value m.value.race ≡ race in
+          let Q : Box (Member g.row.P.Denot g.P.Role) Global → Type 0 = λ m. arc_value m.value.race ≡ race in
           let of : arc_value member.race ≡ race = subst (IsOf race) had (at_handle value (IsOf race) old n h below all) in
           subst (All Q) (sym c.push_reserved-in-loop-i.ensures.items) (All-push Q _ _ (i.waiting race all) (c.park.ensures.race ∙ of));
-      counted = view_next value (λ (m : Box (Member g.row.P.Denot g.P.Part) Global). m.value.counts) counts_of _ _ _ old n h below c.push_reserved-in-loop-i.ensures.items i.counted
+      counted = view_next value (λ (m : Box (Member g.row.P.Denot g.P.Role) Global). m.value.counts) counts_of _ _ _ old n h below c.push_reserved-in-loop-i.ensures.items i.counted
           (c.park.ensures.counts ∙ sym (ap counts_of had));
-      given = view_next value (λ (p : g.row.P.Denot). Some p) part_in _ _ _ old n h below c.push_reserved.ensures.items i.given (sym (ap part_in had ∙ part));
+      given = view_next value (λ (p : g.row.P.Denot). Some p) role_in _ _ _ old n h below c.push_reserved.ensures.items i.given (sym (ap role_in had ∙ role));
     }
 
 pub returns-clause-closed : goal.returns-clause-closed
@@ -60,7 +60,7 @@ returns-clause-members g c race all =
     let i = c.loop-i.invariant in
     record {
       box_count = omega (arith, i.box_count, c.loop-i-test.false, c.loop-i.auto.i-end);
-      part_count = omega (arith, i.part_count, c.loop-i-test.false, c.loop-i.auto.i-end);
+      role_count = omega (arith, i.role_count, c.loop-i-test.false, c.loop-i.auto.i-end);
       waiting = i.waiting race all;
       of = i.of race all;
     }
@@ -72,9 +72,9 @@ unreachable-requires g c =
     let n = c.loop-i.i in
     let h = c.index-handles-i.result in
     let value = g.H.AnyHandle.value in
-    let has = at_handle value (λ m. IsSome (part_in m)) old n h (omega (arith, c.loop-i-test.true, i.sized)) c.requires.parts in
+    let has = at_handle value (λ m. IsSome (role_in m)) old n h (omega (arith, c.loop-i-test.true, i.sized)) c.requires.roles in
     let none = sym (ap value (i.rest n h (omega arith))) ∙ (ap value (sym c.replace.ensures.value) ∙ c.in_default.ensures) in
-    none_is_some _ has (ap part_in none)
+    none_is_some _ has (ap role_in none)
 
 pub unreachable-requires-in_default-park : goal.unreachable-requires-in_default-park
 unreachable-requires-in_default-park g c =
@@ -83,8 +83,8 @@ unreachable-requires-in_default-park g c =
     let n = c.loop-i.i in
     let h = c.index-handles-i.result in
     let value = g.H.AnyHandle.value in
-    let has = at_handle value (λ m. IsSome (part_in m)) old n h (omega (arith, c.loop-i-test.true, i.sized)) c.requires.parts in
+    let has = at_handle value (λ m. IsSome (role_in m)) old n h (omega (arith, c.loop-i-test.true, i.sized)) c.requires.roles in
     let member = c.deref_mut.result.now in
     let had : value (slice_index_or old n h) ≡ Some member =
-    sym (ap value (i.rest n h (omega arith))) ∙ (ap value (sym c.replace.ensures.value) ∙ (c.in-Some.ensures ∙ ap (λ (m : Member g.row.P.Denot g.P.Part). Some m) (sym c.deref_mut.ensures.value))) in
-    none_is_some _ has (ap part_in had ∙ (sym c.park.ensures.part ∙ c.in_default-park.is))
+    sym (ap value (i.rest n h (omega arith))) ∙ (ap value (sym c.replace.ensures.value) ∙ (c.in-Some.ensures ∙ ap (λ (m : Member g.row.P.Denot g.P.Role). Some m) (sym c.deref_mut.ensures.value))) in
+    none_is_some _ has (ap role_in had ∙ (sym c.park.ensures.role ∙ c.in_default-park.is))

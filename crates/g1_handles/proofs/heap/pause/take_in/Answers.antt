@@ -1,9 +1,9 @@
--- What is known of the parts is what was known of the handles.
+-- What is known of the roles is what was known of the handles.
 use Rattle.std.proofs.Common.{ℕ, refl, subst}
 use Rattle.std.specs.Arc.{arc_value}
 use Rattle.g1_race.specs.Members.{racer_view, sweeper_view, racer_log}
 use Rattle.g1_handles.specs.Life.{log_of, AreFor}
-use Rattle.g1_handles.specs.Racing.{held_racers, held_sweepers, part_in, part_view}
+use Rattle.g1_handles.specs.Racing.{held_racers, held_sweepers, role_in, role_view}
 use Rattle.g1_handles.proofs.MemberLemmas.{seen_alike}
 use Rattle.g1_handles.proofs.heap.pause.take_in.Goals as goal
 
@@ -17,10 +17,10 @@ returns-clause-came c =
       race = refl;
       racer_count = refl;
       sweeper_count = refl;
-      racers = subst (λ (n : ℕ). AreFor (arc_value c.args.under_way.now.race) n c.gather.new.boxes c.gather.new.parts) c.requires.racers.0 (came.members _ c.requires.racers.2);
-      sweepers = subst (λ (n : ℕ). AreFor (arc_value c.args.under_way.now.race) n c.gather-2.new.boxes c.gather-2.new.parts) c.requires.sweepers.0 (too.members _ c.requires.sweepers.2);
-      racer_views = seen_alike part_in racer_view (part_view racer_view) (λ r. refl) rs _ came.parts;
-      sweeper_views = seen_alike part_in sweeper_view (part_view sweeper_view) (λ w. refl) ss _ too.parts;
-      logs = seen_alike part_in racer_log log_of (λ r. refl) rs _ came.parts;
+      racers = subst (λ (n : ℕ). AreFor (arc_value c.args.under_way.now.race) n c.gather.new.boxes c.gather.new.roles) c.requires.racers.0 (came.members _ c.requires.racers.2);
+      sweepers = subst (λ (n : ℕ). AreFor (arc_value c.args.under_way.now.race) n c.gather-2.new.boxes c.gather-2.new.roles) c.requires.sweepers.0 (too.members _ c.requires.sweepers.2);
+      racer_views = seen_alike role_in racer_view (role_view racer_view) (λ r. refl) rs _ came.roles;
+      sweeper_views = seen_alike role_in sweeper_view (role_view sweeper_view) (λ w. refl) ss _ too.roles;
+      logs = seen_alike role_in racer_log log_of (λ r. refl) rs _ came.roles;
       counts = λ i. (came.counts i, too.counts i);
     }

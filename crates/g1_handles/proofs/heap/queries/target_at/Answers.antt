@@ -2,7 +2,7 @@
 use Rattle.std.proofs.Common.{ℕ, Option, sym, subst}
 use Rattle.g1_core.specs.Calls.{target_entry}
 use Rattle.g1_core.specs.Run.{IsStep}
-use Rattle.g1_race.specs.Over.{Halt, halted}
+use Rattle.g1_race.specs.Over.{Pause, table_at}
 use Rattle.g1_handles.specs.AtPause.{SlotRefers}
 use Rattle.g1_handles.specs.Codes.{reference_of}
 use Rattle.g1_handles.proofs.heap.queries.target_at.Goals as goal
@@ -14,5 +14,5 @@ returns-clause-target c =
     (subst (λ (target : Option ℕ). SlotRefers old c.in-Some.slot target) (sym c.word_of.ensures)
     (record {
       refers = c.target.ensures.target;
-      step = λ caller. subst (λ (h : Halt). IsStep (halted old) (target_entry caller c.in-Some.slot c.target.result) (halted h)) c.target.ensures.same (c.target.ensures.step caller);
+      step = λ caller. subst (λ (h : Pause). IsStep (table_at old) (target_entry caller c.in-Some.slot c.target.result) (table_at h)) c.target.ensures.same (c.target.ensures.step caller);
     }))

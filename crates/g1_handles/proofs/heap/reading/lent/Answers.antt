@@ -4,7 +4,7 @@ use Rattle.std.specs.Global.{Global}
 use Rattle.std.specs.Arc.{arc_value}
 use Rattle.std.proofs.lemmas.List.Elements.{All-nil}
 use Rattle.atomic_table.specs.Seated.{TableId}
-use Rattle.g1_race.specs.Over.{Halt, start_at}
+use Rattle.g1_race.specs.Over.{Pause, start_at}
 use Rattle.g1_race.specs.Reading.{Known}
 use Rattle.g1_handles.specs.Own.{ReaderMember}
 use Rattle.g1_handles.proofs.heap.reading.lent.Goals as goal
@@ -16,13 +16,13 @@ invariant_of-result-2 c =
     let Waits : Box ReaderMember Global → Type 0 = λ b. arc_value b.value.race ≡ arc_value at.race in
     let wait = c.move_boxes.ensures.race (arc_value at.race) at.readers_wait (subst (All Waits) (sym c.clear-2.ensures.items) (All-nil Waits)) in
     record {
-      id = at.id ∙ sym (ap (λ (p : Halt). (p.table_id, p.shape)) same);
-      laid = at.laid ∙ sym (ap (λ (p : Halt). p.layout) same);
-      racer_boxes = at.racer_boxes ∙ sym (ap (λ (p : Halt). length p.logs) same);
-      sweeper_boxes = at.sweeper_boxes ∙ sym (ap (λ (p : Halt). p.sweepers) same);
-      table = c.read_by-reading.ensures.table ∙ sym (ap (λ (p : Halt). p.table_id) same);
+      id = at.id ∙ sym (ap (λ (p : Pause). (p.table_id, p.shape)) same);
+      laid = at.laid ∙ sym (ap (λ (p : Pause). p.layout) same);
+      racer_boxes = at.racer_boxes ∙ sym (ap (λ (p : Pause). length p.logs) same);
+      sweeper_boxes = at.sweeper_boxes ∙ sym (ap (λ (p : Pause). p.sweepers) same);
+      table = c.read_by-reading.ensures.table ∙ sym (ap (λ (p : Pause). p.table_id) same);
       out = c.read_by-reading.ensures.count.0;
-      reader_boxes = c.move_boxes.ensures.from ∙ (at.reader_boxes ∙ sym (ap (λ (p : Halt). p.shape.members) same));
+      reader_boxes = c.move_boxes.ensures.from ∙ (at.reader_boxes ∙ sym (ap (λ (p : Pause). p.shape.members) same));
       racers_wait = at.racers_wait;
       sweepers_wait = at.sweepers_wait;
       readers_wait = wait.0;
@@ -38,12 +38,12 @@ returns-clause-out c =
       counted = refl;
       boxes = record {
         box_count = omega (arith, c.move_boxes.ensures.to, c.clear-2.ensures.len);
-        part_count = read.ensures.count.1;
+        role_count = read.ensures.count.1;
         waiting = wait.1;
         of = λ k d below.
             ap (λ (r : Known). (r.table_id, r.start.shape)) (read.ensures.readers k d below)
             ∙ (ap (λ (t : TableId). (t, (start_at read.result.pause).shape)) read.ensures.table
-            ∙ (ap (λ (p : Halt). (at.pause.table_id, p.shape)) read.ensures.pause ∙ sym at.id));
+            ∙ (ap (λ (p : Pause). (at.pause.table_id, p.shape)) read.ensures.pause ∙ sym at.id));
       };
       readers = read.ensures.readers;
     }

@@ -21,7 +21,7 @@ loop-i-preserved g c =
       from_room = c.pop.ensures.capacity ∙ i.from_room;
       to_room = c.push_reserved.ensures.capacity ∙ i.to_room;
       waiting = λ race from to.
-          let Q : Box (Member g.row.P.Denot g.P.Part) Global → Type 0 = λ b. arc_value b.value.race ≡ race in
+          let Q : Box (Member g.row.P.Denot g.P.Role) Global → Type 0 = λ b. arc_value b.value.race ≡ race in
           let all = i.waiting race from to in
           let of : Q m = subst Q (sym last) (all.0 (n - 1) m (omega (arith, some, c.loop-i.from.ok.0))) in (
             subst (All Q) (sym c.pop.ensures.rest) (All-take Q (n - 1) items all.0),

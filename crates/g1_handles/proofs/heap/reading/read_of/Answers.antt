@@ -4,7 +4,7 @@ use Rattle.std.specs.Prelude.{Option}
 use Rattle.std.specs.Arc.{arc_value}
 use Rattle.atomic_table.specs.Seated.{TableId}
 use Rattle.g1_race.specs.declared.race.Race.{Race}
-use Rattle.g1_race.specs.Over.{Halt, start_at}
+use Rattle.g1_race.specs.Over.{Pause, start_at}
 use Rattle.g1_race.specs.Reading.{known}
 use Rattle.g1_handles.specs.declared.heap.racing_heap.AtPause.{AtPause}
 use Rattle.g1_handles.specs.declared.heap.racing_heap.BeingRead.{BeingRead}
@@ -12,7 +12,7 @@ use Rattle.g1_handles.specs.declared.heap.racing_heap.RacingHeap.{RacingHeap}
 use Rattle.g1_handles.specs.declared.heap.racing_heap.RacingHeap.TheVariants as heap
 use Rattle.g1_handles.specs.Own.{ReaderMember}
 use Rattle.g1_handles.specs.Life.{OfHeap, OfPaused, OfRead}
-use Rattle.g1_handles.specs.Racing.{held_readers, part_in, IsOf}
+use Rattle.g1_handles.specs.Racing.{held_readers, role_in, IsOf}
 use Rattle.g1_handles.specs.Readers.{AreOut, AreReadersAt, IsLent, IsLentHeap}
 use Rattle.g1_handles.proofs.ReaderLemmas.{KnowsPause, handed_out}
 use Rattle.g1_handles.proofs.heap.reading.read_of.Goals as goal
@@ -25,12 +25,12 @@ read_out : (new : RacingHeap) (b : BeingRead) (n : ℕ) → OfRead (Some new) (A
 read_out new b n out is = subst (λ (h : RacingHeap). OfRead (Some h) (AreOut n)) is out
 
 readers_at : (a : AtPause) (b : BeingRead) (n : ℕ) (ms : List (Option ReaderMember)) → IsLent a b → AreOut n b
-    → map part_in ms ≡ map (λ r. Some r) b.readers.out.parts.items → All (IsOf (arc_value b.race)) ms → AreReadersAt (arc_value a.race) a.pause ms
+    → map role_in ms ≡ map (λ r. Some r) b.readers.out.roles.items → All (IsOf (arc_value b.race)) ms → AreReadersAt (arc_value a.race) a.pause ms
 readers_at a b n ms lent out is of =
-    let parts = b.readers.out.parts.items in
-    let known_there : All (KnowsPause b.reading.pause) parts = subst (λ (t : TableId). All (λ r. r ≡ known t (start_at b.reading.pause)) parts) b.table out.readers in
-    let know : All (KnowsPause a.pause) parts = subst (λ (p : Halt). All (KnowsPause p) parts) lent.pause known_there in
-    handed_out (arc_value a.race) a.pause ms parts a.id a.laid is know (subst (λ (race : Race). All (IsOf race) ms) (ap (λ r. arc_value r) lent.race) of)
+    let roles = b.readers.out.roles.items in
+    let known_there : All (KnowsPause b.reading.pause) roles = subst (λ (t : TableId). All (λ r. r ≡ known t (start_at b.reading.pause)) roles) b.table out.readers in
+    let know : All (KnowsPause a.pause) roles = subst (λ (p : Pause). All (KnowsPause p) roles) lent.pause known_there in
+    handed_out (arc_value a.race) a.pause ms roles a.id a.laid is know (subst (λ (race : Race). All (IsOf race) ms) (ap (λ r. arc_value r) lent.race) of)
 
 on_pause : (h : RacingHeap) (a : AtPause) (ms : List (Option ReaderMember)) → h ≡ heap.Paused a → AreReadersAt (arc_value a.race) a.pause ms
     → OfPaused (Some h) (λ p. OfHeap (Some h) (λ race. AreReadersAt race p ms))

@@ -18,6 +18,6 @@ returns-clause-out c =
     let came = c.gather.ensures in
     record {
       counted = refl;
-      boxes = subst (λ (n : ℕ). AreFor race n c.gather.new.boxes c.gather.new.parts) c.requires.count (came.members race (all_of_race race p ms c.requires.readers));
-      readers = subst (λ (t : TableId). All (λ r. r ≡ known t (start_at p)) c.gather.new.parts.items) (sym b.table) (all_know race p ms _ came.parts c.requires.readers);
+      boxes = subst (λ (n : ℕ). AreFor race n c.gather.new.boxes c.gather.new.roles) c.requires.count (came.members race (all_of_race race p ms c.requires.readers));
+      readers = subst (λ (t : TableId). All (λ r. r ≡ known t (start_at p)) c.gather.new.roles.items) (sym b.table) (all_know race p ms _ came.roles c.requires.readers);
     }

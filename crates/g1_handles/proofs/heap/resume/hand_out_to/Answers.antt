@@ -1,11 +1,11 @@
--- The next handle from the end has the part and the box that were last in the lists.
+-- The next handle from the end has the role and the box that were last in the lists.
 use Rattle.std.proofs.Common.{◌≡◌, ◌<◌, ◌-◌, Some, Box, length, slice_index_or, sym, ap, ◌∙◌, subst, arith}
 use Rattle.std.specs.Global.{Global}
 use Rattle.std.specs.Arc.{arc_value}
 use Rattle.std.proofs.lemmas.List.{length-set}
 use Rattle.g1_race.specs.Members.{race_id}
 use Rattle.g1_handles.specs.declared.member.Member.{Member}
-use Rattle.g1_handles.specs.Racing.{counts_of, part_in, IsOf}
+use Rattle.g1_handles.specs.Racing.{counts_of, role_in, IsOf}
 use Rattle.g1_handles.proofs.Seating.{WaitedAs, popped, still, placed, all_alike, all_found, all_of}
 use Rattle.g1_handles.proofs.heap.resume.hand_out_to.Goals as goal
 
@@ -15,16 +15,16 @@ seat-requires g c =
     let n = c.loop-left.left in
     let some : 0 < n = omega (arith, c.loop-left-test.true) in
     let m = c.in-Some.member in
-    let part = c.in-Some-pop.part in
+    let role = c.in-Some-pop.role in
     let box = popped c.args.boxes.now.items c.loop-left.boxes.items n _ m m some i.boxes i.box_rest (c.in-Some.ensures.value m (omega (arith, i.boxes))) in
-    let last = popped c.args.parts.now.items c.loop-left.parts.items n _ part part some i.parts i.part_rest (c.in-Some-pop.ensures.value part (omega (arith, i.parts))) in
+    let last = popped c.args.roles.now.items c.loop-left.roles.items n _ role role some i.roles i.role_rest (c.in-Some-pop.ensures.value role (omega (arith, i.roles))) in
     let race = c.requires.0 in
     let for = c.requires.1 in
-    let waiting : arc_value m.value.race ≡ race = subst (λ (b : Box (Member g.row.P.Denot g.P.Part) Global). arc_value b.value.race ≡ race) (sym box)
+    let waiting : arc_value m.value.race ≡ race = subst (λ (b : Box (Member g.row.P.Denot g.P.Role) Global). arc_value b.value.race ≡ race) (sym box)
     (for.waiting (n - 1) m (omega (arith, i.below, i.sized, for.box_count, c.args.boxes.now.ok.0))) in
-    let of : g.P.Part.of part ≡ race_id race = subst (λ (p : g.row.P.Denot). g.P.Part.of p ≡ race_id race) (sym last)
-    (for.of (n - 1) part (omega (arith, i.below, i.sized, for.part_count, c.args.parts.now.ok.0))) in
-    of ∙ ap race_id (sym (ap (λ (x : Member g.row.P.Denot g.P.Part). arc_value x.race) c.deref_mut.ensures.value ∙ waiting))
+    let of : g.P.Role.of role ≡ race_id race = subst (λ (p : g.row.P.Denot). g.P.Role.of p ≡ race_id race) (sym last)
+    (for.of (n - 1) role (omega (arith, i.below, i.sized, for.role_count, c.args.roles.now.ok.0))) in
+    of ∙ ap race_id (sym (ap (λ (x : Member g.row.P.Denot g.P.Role). arc_value x.race) c.deref_mut.ensures.value ∙ waiting))
 
 pub loop-left-preserved : goal.loop-left-preserved
 loop-left-preserved g c =
@@ -35,44 +35,44 @@ loop-left-preserved g c =
     let some : 0 < n = omega (arith, c.loop-left-test.true) in
     let here : n - 1 < length hs = omega (arith, i.below, some) in
     let m = c.in-Some.member in
-    let part = c.in-Some-pop.part in
+    let role = c.in-Some-pop.role in
     let h = c.opened.result in
     let seated = c.seat.ensures in
     let holds : value h ≡ Some c.seat.new.self = c.opened.ensures in
     let boxes = c.args.boxes.now.items in
-    let parts = c.args.parts.now.items in
+    let roles = c.args.roles.now.items in
     record {
       sized = length-set hs (n - 1) h ∙ i.sized;
       below = omega (arith, length-set hs (n - 1) h, i.below);
       boxes = omega (arith, i.boxes, c.in-Some.ensures.cases, c.in-Some.ensures.len);
-      parts = omega (arith, i.parts, c.in-Some-pop.ensures.cases, c.in-Some-pop.ensures.len);
+      roles = omega (arith, i.roles, c.in-Some-pop.ensures.cases, c.in-Some-pop.ensures.len);
       box_rest = still boxes c.loop-left.boxes.items _ n _ some i.boxes i.box_rest c.pop.ensures.rest;
-      part_rest = still parts c.loop-left.parts.items _ n _ some i.parts i.part_rest c.pop-in-loop-left.ensures.rest;
+      role_rest = still roles c.loop-left.roles.items _ n _ some i.roles i.role_rest c.pop-in-loop-left.ensures.rest;
       box_room = c.pop.ensures.capacity ∙ i.box_room;
-      part_room = c.pop-in-loop-left.ensures.capacity ∙ i.part_room;
-      given = λ k d x from below. placed (λ (y : g.row.H.Denot) j. part_in (value y) ≡ Some (slice_index_or parts j x)) hs n k h d some here from (subst (λ l. k < l) (length-set hs (n - 1) h) below)
-          (ap part_in holds ∙ (seated.part ∙ ap (λ (y : g.row.P.Denot). Some y) (popped parts c.loop-left.parts.items n _ part x some i.parts i.part_rest (c.in-Some-pop.ensures.value x (omega (arith, i.parts))))))
+      role_room = c.pop-in-loop-left.ensures.capacity ∙ i.role_room;
+      given = λ k d x from below. placed (λ (y : g.row.H.Denot) j. role_in (value y) ≡ Some (slice_index_or roles j x)) hs n k h d some here from (subst (λ l. k < l) (length-set hs (n - 1) h) below)
+          (ap role_in holds ∙ (seated.role ∙ ap (λ (y : g.row.P.Denot). Some y) (popped roles c.loop-left.roles.items n _ role x some i.roles i.role_rest (c.in-Some-pop.ensures.value x (omega (arith, i.roles))))))
           (λ after still_below. i.given k d x after still_below);
       waited = λ k d b from below. placed (λ (y : g.row.H.Denot) j. WaitedAs (slice_index_or boxes j b).value (value y)) hs n k h d some here from (subst (λ l. k < l) (length-set hs (n - 1) h) below)
-          (λ race is. subst (IsOf race) (sym holds) (seated.race ∙ (ap (λ (x : Member g.row.P.Denot g.P.Part). arc_value x.race) c.deref_mut.ensures.value ∙ (ap (λ (y : Box (Member g.row.P.Denot g.P.Part) Global). arc_value y.value.race) (popped boxes c.loop-left.boxes.items n _ m b some i.boxes i.box_rest (c.in-Some.ensures.value b (omega (arith, i.boxes)))) ∙ is))))
+          (λ race is. subst (IsOf race) (sym holds) (seated.race ∙ (ap (λ (x : Member g.row.P.Denot g.P.Role). arc_value x.race) c.deref_mut.ensures.value ∙ (ap (λ (y : Box (Member g.row.P.Denot g.P.Role) Global). arc_value y.value.race) (popped boxes c.loop-left.boxes.items n _ m b some i.boxes i.box_rest (c.in-Some.ensures.value b (omega (arith, i.boxes)))) ∙ is))))
           (λ after still_below. i.waited k d b after still_below);
       counted = λ k d b from below. placed (λ (y : g.row.H.Denot) j. counts_of (value y) ≡ (slice_index_or boxes j b).value.counts) hs n k h d some here from (subst (λ l. k < l) (length-set hs (n - 1) h) below)
-          (ap counts_of holds ∙ (seated.counts ∙ (ap (λ (x : Member g.row.P.Denot g.P.Part). x.counts) c.deref_mut.ensures.value ∙ ap (λ (y : Box (Member g.row.P.Denot g.P.Part) Global). y.value.counts) (popped boxes c.loop-left.boxes.items n _ m b some i.boxes i.box_rest (c.in-Some.ensures.value b (omega (arith, i.boxes)))))))
+          (ap counts_of holds ∙ (seated.counts ∙ (ap (λ (x : Member g.row.P.Denot g.P.Role). x.counts) c.deref_mut.ensures.value ∙ ap (λ (y : Box (Member g.row.P.Denot g.P.Role) Global). y.value.counts) (popped boxes c.loop-left.boxes.items n _ m b some i.boxes i.box_rest (c.in-Some.ensures.value b (omega (arith, i.boxes)))))))
           (λ after still_below. i.counted k d b after still_below);
     }
 
-pub returns-clause-parts : goal.returns-clause-parts
-returns-clause-parts g c =
+pub returns-clause-roles : goal.returns-clause-roles
+returns-clause-roles g c =
     let i = c.loop-left.invariant in
     let for = c.requires.1 in
-    all_found g.H.AnyHandle.value part_in c.loop-left.handles c.args.parts.now.items (omega (arith, i.sized, for.part_count, c.args.parts.now.ok.0))
+    all_found g.H.AnyHandle.value role_in c.loop-left.handles c.args.roles.now.items (omega (arith, i.sized, for.role_count, c.args.roles.now.ok.0))
     (λ k d p below. i.given k d p (omega (arith, c.loop-left-test.false)) below)
 
 pub returns-clause-counts : goal.returns-clause-counts
 returns-clause-counts g c =
     let i = c.loop-left.invariant in
     let for = c.requires.1 in
-    all_alike g.H.AnyHandle.value counts_of (λ (m : Box (Member g.row.P.Denot g.P.Part) Global). m.value.counts) c.loop-left.handles c.args.boxes.now.items (omega (arith, i.sized, for.box_count, c.args.boxes.now.ok.0))
+    all_alike g.H.AnyHandle.value counts_of (λ (m : Box (Member g.row.P.Denot g.P.Role) Global). m.value.counts) c.loop-left.handles c.args.boxes.now.items (omega (arith, i.sized, for.box_count, c.args.boxes.now.ok.0))
     (λ k d m below. i.counted k d m (omega (arith, c.loop-left-test.false)) below)
 
 pub returns-clause-race : goal.returns-clause-race

@@ -12,7 +12,7 @@ use Rattle.g1_handles.specs.declared.heap.racing_heap.RacingHeap.{RacingHeap}
 use Rattle.g1_handles.specs.declared.heap.racing_heap.RacingHeap.TheVariants as heap
 use Rattle.g1_handles.specs.Own.{RacerMember, SweeperMember}
 use Rattle.g1_handles.specs.Life.{OfPaused, GoesOn, LetsGo, IsLetGo, IsNewRacing, IsNewSweeping, boxed_counts, heap_counts, log_of}
-use Rattle.g1_handles.specs.Racing.{held_racers, held_sweepers, part_in, IsOf}
+use Rattle.g1_handles.specs.Racing.{held_racers, held_sweepers, role_in, IsOf}
 use Rattle.g1_handles.proofs.MemberLemmas.{found, seen_alike}
 use Rattle.g1_handles.proofs.heap.resume.resume_of.Goals as goal
 
@@ -20,27 +20,27 @@ also : {A : Type 0} (P : A → Type 0) (Q : Type 0) (o : Option A) → IsSomeAnd
 also P Q None is q = is
 also P Q (Some x) is q = (q, is)
 
-new_racer : (race : Race) (begin : Start) (m : Option RacerMember) → IsSomeAnd (part_in m) (IsNewRacer race.table.table_id begin) → IsOf race m
+new_racer : (race : Race) (begin : Start) (m : Option RacerMember) → IsSomeAnd (role_in m) (IsNewRacer race.table.table_id begin) → IsOf race m
     → IsNewRacing race begin m
 new_racer race begin None is of = is
-new_racer race begin (Some m) is of = also (IsNewRacer race.table.table_id begin) _ m.part is of
+new_racer race begin (Some m) is of = also (IsNewRacer race.table.table_id begin) _ m.role is of
 
-new_sweeper : (race : Race) (begin : Start) (m : Option SweeperMember) → IsSomeAnd (part_in m) (IsNewSweeper race.table.table_id begin) → IsOf race m
+new_sweeper : (race : Race) (begin : Start) (m : Option SweeperMember) → IsSomeAnd (role_in m) (IsNewSweeper race.table.table_id begin) → IsOf race m
     → IsNewSweeping race begin m
 new_sweeper race begin None is of = is
-new_sweeper race begin (Some m) is of = also (IsNewSweeper race.table.table_id begin) _ m.part is of
+new_sweeper race begin (Some m) is of = also (IsNewSweeper race.table.table_id begin) _ m.role is of
 
 goes_on : (a : AtPause) (b : UnderWay) (race : Race) (rs : List (Option RacerMember)) (ss : List (Option SweeperMember)) → LetsGo a b → arc_value b.race ≡ race
-    → map part_in rs ≡ map (λ r. Some r) b.racers.parts.items → map part_in ss ≡ map (λ w. Some w) b.sweepers.parts.items
+    → map role_in rs ≡ map (λ r. Some r) b.racers.roles.items → map role_in ss ≡ map (λ w. Some w) b.sweepers.roles.items
     → All (IsOf (arc_value b.race)) rs → All (IsOf (arc_value b.race)) ss → GoesOn a.pause race rs ss
 goes_on a b race rs ss go same racers sweepers of too =
     let begin = start_at a.pause in
     let here = arc_value b.race in
     subst (λ (r : Race). GoesOn a.pause r rs ss) same (record {
       began = go.began;
-      racing = λ k d below. new_racer here begin _ (found part_in (IsNewRacer here.table.table_id begin) rs _ racers go.racing k d below) (of k d below);
-      sweeping = λ k d below. new_sweeper here begin _ (found part_in (IsNewSweeper here.table.table_id begin) ss _ sweepers go.sweeping k d below) (too k d below);
-      logs = sym (seen_alike part_in racer_log log_of (λ r. refl) rs _ (sym racers)) ∙ go.logs;
+      racing = λ k d below. new_racer here begin _ (found role_in (IsNewRacer here.table.table_id begin) rs _ racers go.racing k d below) (of k d below);
+      sweeping = λ k d below. new_sweeper here begin _ (found role_in (IsNewSweeper here.table.table_id begin) ss _ sweepers go.sweeping k d below) (too k d below);
+      logs = sym (seen_alike role_in racer_log log_of (λ r. refl) rs _ (sym racers)) ∙ go.logs;
     })
 
 let_go : (old new : RacingHeap) (a : AtPause) (b : UnderWay) → IsLetGo old new → old ≡ heap.Paused a → new ≡ heap.Racing b → LetsGo a b

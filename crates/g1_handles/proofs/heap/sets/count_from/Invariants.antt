@@ -1,7 +1,7 @@
 -- The set's cards up to the next number are those up to the first one, and as many more.
 use Rattle.std.proofs.Common.{◌≡◌, ◌+◌, ◌-◌, ◌≤◌, ◌++◌, ℕ, List, length}
 use Rattle.g1_layout.specs.Shape.{card_count}
-use Rattle.g1_race.specs.Over.{halted}
+use Rattle.g1_race.specs.Over.{table_at}
 use Rattle.g1_handles.specs.Sets.{AreMembersBelow}
 use Rattle.g1_handles.proofs.heap.sets.count_from.Given as goal
 
@@ -10,8 +10,8 @@ invariant-loop-card l = record {
   same : l.heap ≡ l.fn.heap;
   within : l.next ≤ card_count l.fn.heap.layout;
   few : l.from + l.more ≤ l.next;
-  rest : (xs : List ℕ) → AreMembersBelow (halted l.fn.heap) l.region l.from xs →
-      (ys : List ℕ) × AreMembersBelow (halted l.fn.heap) l.region l.next (xs ++ ys) × (length ys ≡ l.more);
+  rest : (xs : List ℕ) → AreMembersBelow (table_at l.fn.heap) l.region l.from xs →
+      (ys : List ℕ) × AreMembersBelow (table_at l.fn.heap) l.region l.next (xs ++ ys) × (length ys ≡ l.more);
 }
 
 abbrev pub decreases-loop-card : goal.decreases-loop-card

@@ -2,7 +2,7 @@
 use Rattle.std.proofs.Common.{ℕ, ◌<◌, sym, subst}
 use Rattle.g1_layout.specs.Shape.{Shape}
 use Rattle.g1_core.specs.Table.{AreMembers}
-use Rattle.g1_race.specs.Over.{Halt, halted}
+use Rattle.g1_race.specs.Over.{Pause, table_at}
 use Rattle.g1_race.specs.Telling.{marked_cards}
 use Rattle.g1_race.proofs.PauseTable.{drain_step, exact_is}
 use Rattle.g1_handles.specs.AtPause.{DrainsAtPause}
@@ -11,20 +11,20 @@ use Rattle.g1_handles.proofs.heap.sets.drain_at.Goals as goal
 
 pub returns-clause-told : goal.returns-clause-told
 returns-clause-told c =
-    let old : Halt = c.args.heap.now in
-    let mid : Halt = c.refine_all.new.self in
+    let old : Pause = c.args.heap.now in
+    let mid : Pause = c.refine_all.new.self in
     let region = c.in-Some.region in
     let done = marked_cards old.shape old.words in
     let below = subst (λ (l : Shape). c.args.region < l.regions) c.layout.ensures c.in-Some.ensures.0 in
     let lt = subst (λ (r : ℕ). r < old.layout.regions) (sym c.in-Some.ensures.1) below in
-    tells_so (λ cs. AreMembers (halted mid) region cs) (DrainsAtPause old c.args.region c.write_set.new.heap) c.args.cards.now c.write_set.result c.write_set.new.array
+    tells_so (λ cs. AreMembers (table_at mid) region cs) (DrainsAtPause old c.args.region c.write_set.new.heap) c.args.cards.now c.write_set.result c.write_set.new.array
     (λ cs m. subst (λ (r : ℕ). DrainsAtPause old r c.write_set.new.heap cs) c.in-Some.ensures.1
-    (subst (λ (h : Halt). DrainsAtPause old region h cs) (sym c.write_set.ensures.same)
+    (subst (λ (h : Pause). DrainsAtPause old region h cs) (sym c.write_set.ensures.same)
     (record {
       race = c.refine_all.ensures.race;
       words = c.refine_all.ensures.words;
       done = done;
-      step = λ caller. drain_step (halted old) (halted mid) caller region cs done lt c.refine_all.ensures.refined m;
-      exact = exact_is (halted old) (halted mid) region cs done c.refine_all.ensures.refined m;
+      step = λ caller. drain_step (table_at old) (table_at mid) caller region cs done lt c.refine_all.ensures.refined m;
+      exact = exact_is (table_at old) (table_at mid) region cs done c.refine_all.ensures.refined m;
     })))
     c.write_set.ensures.told

@@ -3,17 +3,17 @@ use Rattle.std.proofs.Common.{ℕ, ◌<◌, sym, subst}
 use Rattle.g1_layout.specs.Shape.{Shape}
 use Rattle.g1_core.specs.Table.{AreMembers}
 use Rattle.g1_core.proofs.QueryLemmas.{members_step}
-use Rattle.g1_race.specs.Over.{Halt, halted}
+use Rattle.g1_race.specs.Over.{Pause, table_at}
 use Rattle.g1_handles.specs.AtPause.{TellsMembers}
 use Rattle.g1_handles.proofs.SetLemmas.{tells_so}
 use Rattle.g1_handles.proofs.heap.sets.members_at.Goals as goal
 
 pub returns-clause-told : goal.returns-clause-told
 returns-clause-told c =
-    let old : Halt = c.args.heap.now in
+    let old : Pause = c.args.heap.now in
     let region = c.in-Some.region in
     let below = subst (λ (l : Shape). c.args.region < l.regions) c.layout.ensures c.in-Some.ensures.0 in
     let lt = subst (λ (r : ℕ). r < old.layout.regions) (sym c.in-Some.ensures.1) below in
-    tells_so (λ cs. AreMembers (halted old) region cs) (TellsMembers old c.args.region) c.args.cards.now c.write_set.result c.write_set.new.array
-    (λ cs m. subst (λ (r : ℕ). TellsMembers old r cs) c.in-Some.ensures.1 (record { members = m; step = λ caller. members_step caller (halted old) region cs lt m }))
+    tells_so (λ cs. AreMembers (table_at old) region cs) (TellsMembers old c.args.region) c.args.cards.now c.write_set.result c.write_set.new.array
+    (λ cs m. subst (λ (r : ℕ). TellsMembers old r cs) c.in-Some.ensures.1 (record { members = m; step = λ caller. members_step caller (table_at old) region cs lt m }))
     c.write_set.ensures.told

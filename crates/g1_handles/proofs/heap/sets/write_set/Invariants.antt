@@ -1,7 +1,7 @@
 -- The front of the array has the set's cards up to the next number.
 use Rattle.std.proofs.Common.{◌≡◌, ◌-◌, ◌≤◌, ℕ, length, take, drop}
 use Rattle.g1_layout.specs.Shape.{card_count}
-use Rattle.g1_race.specs.Over.{halted}
+use Rattle.g1_race.specs.Over.{table_at}
 use Rattle.g1_handles.specs.Sets.{AreMembersBelow}
 use Rattle.g1_handles.proofs.heap.sets.write_set.Given as goal
 
@@ -12,7 +12,7 @@ invariant-loop-count l = record {
   within : l.from ≤ card_count l.fn.heap.layout;
   few : l.count ≤ l.from;
   room : l.count ≤ length l.fn.array;
-  members : AreMembersBelow (halted l.fn.heap) l.region l.from (take l.count l.array);
+  members : AreMembersBelow (table_at l.fn.heap) l.region l.from (take l.count l.array);
   rest : (k : ℕ) → l.count ≤ k → drop k l.array ≡ drop k l.fn.array;
 }
 

@@ -1,18 +1,18 @@
 -- What the pause finds is told by words, and the first search changes nothing.
 use Rattle.std.proofs.Common.{ℕ, Option, length, map, subst, sym}
 use Rattle.g1_core.specs.Verify.{IsFirst, IsMissing, Differs}
-use Rattle.g1_race.specs.Over.{Halt, halted}
+use Rattle.g1_race.specs.Over.{Pause, table_at}
 use Rattle.g1_handles.specs.Codes.{reference_of}
 use Rattle.g1_handles.proofs.heap.verify.verify_at.Goals as goal
 
 pub returns-clause-found : goal.returns-clause-found
 returns-clause-found c =
-    let t = halted c.args.heap.now in
+    let t = table_at c.args.heap.now in
     let memory = c.args.memory.now in
     let from = c.in-Some.ensures.1 in
     record {
       found = record {
         differs = subst (λ (x : ℕ × Option ℕ). IsFirst (Differs t x.0 (map reference_of memory)) x.0 (length memory) x.1) (λ i. (from i, sym c.word_of-differing.ensures i)) c.first_differing.ensures.first;
-        misses = subst (λ (x : Halt × (ℕ × Option ℕ)). IsFirst (IsMissing (halted x.0)) x.1.0 c.args.count x.1.1) (λ i. (c.first_differing.ensures.same i, (from i, sym c.word_of-missing.ensures i))) c.first_missing.ensures.first;
+        misses = subst (λ (x : Pause × (ℕ × Option ℕ)). IsFirst (IsMissing (table_at x.0)) x.1.0 c.args.count x.1.1) (λ i. (c.first_differing.ensures.same i, (from i, sym c.word_of-missing.ensures i))) c.first_missing.ensures.first;
       };
     }

@@ -3,7 +3,7 @@ use Rattle.g1_core.specs.declared.reply.ClearReply.TheVariants.{Cleared, Pending
 use Rattle.g1_core.specs.Run.{IsStep, IsFirstInto}
 use Rattle.g1_core.specs.Calls.{clear_entry}
 use Rattle.g1_race.specs.Telling.{is_marked, marked_cards}
-use Rattle.g1_race.specs.Over.{Halt, ended, table_of}
+use Rattle.g1_race.specs.Over.{Pause, ended, table_of}
 use Rattle.g1_race.specs.Evacuating.{WordsBecome, same_word}
 use Rattle.g1_race.specs.Clearing.{Into, IsLeastInto, IsEmptied}
 use Rattle.g1_race.proofs.Telling.{few}
@@ -28,7 +28,7 @@ returns-then-pending-gt0-clause-step g c = λ caller.
     let old = c.self.inside.seat.me.0.began_words in
     let begun = lent_begun c.race-race.ensures c.self.invariant.0.begun in
     let n = c.count_marked-pending.result in
-    let lt : c.args.region < l.regions = subst (λ (h : Halt). c.args.region < h.layout.regions) (sym (lent_view c.race-race.ensures c.self.view_is)) c.requires in
+    let lt : c.args.region < l.regions = subst (λ (h : Pause). c.args.region < h.layout.regions) (sym (lent_view c.race-race.ensures c.self.view_is)) c.requires in
     let e = clear_entry caller c.args.region (Pending n) in
     at_pause (λ t u. IsStep t e u) c.count_marked-pending.new.seat.me.0.began_words c.race-race.ensures c.self.view_is
     (subst (λ (ws : List ℕ). IsStep (table_of (ended l k old)) e (table_of (ended l k ws))) (sym (ap (λ m. m.0.began_words) c.count_marked-pending.ensures.seat.1))
@@ -52,7 +52,7 @@ returns-in-Some-clause-step g c = λ caller.
     let old = c.self.inside.seat.me.0.began_words in
     let begun = lent_begun c.race-race.ensures c.self.invariant.0.begun in
     let number = c.number-number.result in
-    let lt : c.args.region < l.regions = subst (λ (h : Halt). c.args.region < h.layout.regions) (sym (lent_view c.race-race.ensures c.self.view_is)) c.requires in
+    let lt : c.args.region < l.regions = subst (λ (h : Pause). c.args.region < h.layout.regions) (sym (lent_view c.race-race.ensures c.self.view_is)) c.requires in
     let none : length (marked_cards k old) ≡ 0 = omega (arith, c.count_marked-pending.ensures.count, c.if-pending-gt0.false) in
     let first = ap (λ m. m.0.began_words) c.count_marked-pending.ensures.seat.1 in
     let is : c.in-Some-slot.slot ≡ c.in-Some.slot = c.in-Some-slot.ensures.1 in
@@ -76,7 +76,7 @@ returns-clause-step g c = λ caller.
     let begun = lent_begun c.race-race.ensures c.self.invariant.0.begun in
     let number = c.number-number.result in
     let new = c.empty_row.new.seat.me.0.began_words in
-    let lt : c.args.region < l.regions = subst (λ (h : Halt). c.args.region < h.layout.regions) (sym (lent_view c.race-race.ensures c.self.view_is)) c.requires in
+    let lt : c.args.region < l.regions = subst (λ (h : Pause). c.args.region < h.layout.regions) (sym (lent_view c.race-race.ensures c.self.view_is)) c.requires in
     let none : length (marked_cards k old) ≡ 0 = omega (arith, c.count_marked-pending.ensures.count, c.if-pending-gt0.false) in
     let first = ap (λ m. m.0.began_words) c.count_marked-pending.ensures.seat.1 in
     let same = ap (λ m. m.0.began_words) (c.entering.ensures.seat.1 ∙ c.count_marked-pending.ensures.seat.1) in
@@ -89,13 +89,13 @@ returns-clause-step g c = λ caller.
 pub returns-then-pending-gt0-clause-words : goal.returns-then-pending-gt0-clause-words
 returns-then-pending-gt0-clause-words g c =
     let new = c.count_marked-pending.new.seat.me.0.began_words in
-    subst (λ (h : Halt). WordsBecome same_word h.shape h.words new) (lent_view c.race-race.ensures c.self.view_is)
+    subst (λ (h : Pause). WordsBecome same_word h.shape h.words new) (lent_view c.race-race.ensures c.self.view_is)
     (unchanged_words c.race-race.result.now.shape c.self.inside.seat.me.0.began_words new (ap (λ m. m.0.began_words) c.count_marked-pending.ensures.seat.1))
 
 pub returns-in-Some-clause-words : goal.returns-in-Some-clause-words
 returns-in-Some-clause-words g c =
     let new = c.entering.new.seat.me.0.began_words in
-    subst (λ (h : Halt). WordsBecome same_word h.shape h.words new) (lent_view c.race-race.ensures c.self.view_is)
+    subst (λ (h : Pause). WordsBecome same_word h.shape h.words new) (lent_view c.race-race.ensures c.self.view_is)
     (unchanged_words c.race-race.result.now.shape c.self.inside.seat.me.0.began_words new (ap (λ m. m.0.began_words) (c.entering.ensures.seat.1 ∙ c.count_marked-pending.ensures.seat.1)))
 
 pub returns-clause-words : goal.returns-clause-words
@@ -104,4 +104,4 @@ returns-clause-words g c =
     let new = c.empty_row.new.seat.me.0.began_words in
     let same = ap (λ m. m.0.began_words) (c.entering.ensures.seat.1 ∙ c.count_marked-pending.ensures.seat.1) in
     let emptied = subst (λ (ws : List ℕ). IsEmptied k ws new c.number-number.result k.row) same c.empty_row.ensures.emptied in
-    subst (λ (h : Halt). WordsBecome same_word h.shape h.words new) (lent_view c.race-race.ensures c.self.view_is) (front_words k c.self.inside.seat.me.0.began_words new emptied.front)
+    subst (λ (h : Pause). WordsBecome same_word h.shape h.words new) (lent_view c.race-race.ensures c.self.view_is) (front_words k c.self.inside.seat.me.0.began_words new emptied.front)

@@ -7,7 +7,7 @@ use Rattle.g1_core.specs.Run.{stored}
 use Rattle.g1_race_words.specs.declared.view.Shape.{Shape}
 use Rattle.g1_race_words.proofs.Plain.{read_is}
 use Rattle.g1_race.specs.Race.{shape_of, word_of}
-use Rattle.g1_race.specs.Over.{Halt, halted}
+use Rattle.g1_race.specs.Over.{Pause, table_at}
 use Rattle.g1_race.specs.Over as over
 use Rattle.g1_race.specs.Evacuating.{SlotsBecome, one_word}
 use Rattle.g1_race.proofs.Ends.{target_data, target_word}
@@ -15,16 +15,16 @@ use Rattle.g1_race.proofs.PauseStores.{slot_gives}
 use Rattle.g1_race.proofs.Held.{lent_view}
 use Rattle.g1_race.proofs.paused.Paused.copy_slot.Goals as goal
 
-abbrev IsLaid : Halt → Type 0
-IsLaid halt = halt.shape ≡ shape_of halt.layout halt.shape.members
+abbrev IsLaid : Pause → Type 0
+IsLaid pause = pause.shape ≡ shape_of pause.layout pause.shape.members
 
 -- what the slot refers to
-reads : (halt : Halt) → IsLaid halt → (slot word : ℕ) → slot < slot_count halt.layout → get_elem? halt.words slot ≡ some word → target_of (halted halt) slot ≡ over.target_of_word word
-reads halt laid slot word lt at = slot_gives halt.shape halt.layout halt.words slot word laid (let e : halt.shape.slots ≡ slot_count halt.layout = ap (λ (k : Shape). k.slots) laid in omega (arith, e, lt)) at
+reads : (pause : Pause) → IsLaid pause → (slot word : ℕ) → slot < slot_count pause.layout → get_elem? pause.words slot ≡ some word → target_of (table_at pause) slot ≡ over.target_of_word word
+reads pause laid slot word lt at = slot_gives pause.shape pause.layout pause.words slot word laid (let e : pause.shape.slots ≡ slot_count pause.layout = ap (λ (k : Shape). k.slots) laid in omega (arith, e, lt)) at
 
 -- the word that is stored is the slot's
-stores : (old read new : Halt) (to word stored : ℕ) → read ≡ old → stored ≡ word → SlotsBecome (one_word to stored) read new → SlotsBecome (one_word to word) old new
-stores old read new to word stored same is = subst (λ (x : Halt × ℕ). SlotsBecome (one_word to x.1) x.0 new) (λ i. (same i, is i))
+stores : (old read new : Pause) (to word stored : ℕ) → read ≡ old → stored ≡ word → SlotsBecome (one_word to stored) read new → SlotsBecome (one_word to word) old new
+stores old read new to word stored same is = subst (λ (x : Pause × ℕ). SlotsBecome (one_word to x.1) x.0 new) (λ i. (same i, is i))
 
 pub returns-then-word-clause-words : goal.returns-then-word-clause-words
 returns-then-word-clause-words g c =
@@ -34,13 +34,13 @@ returns-then-word-clause-words g c =
 pub returns-then-word-clause-table : goal.returns-then-word-clause-table
 returns-then-word-clause-table g c =
     let laid : IsLaid c.args.self.now = subst IsLaid (lent_view c.race.ensures c.self.view_is) c.race.result.now.laid in
-    let none : target_of (halted c.args.self.now) c.args.from ≡ None = reads c.args.self.now laid c.args.from c.word-word.result c.requires.from c.word-word.ensures.word ∙ target_data c.word-word.result (omega (arith, c.if-word.true)) in
-    c.store_data.ensures.table ∙ (λ i. stored (halted (c.word-word.ensures.same i)) c.args.to (sym none i))
+    let none : target_of (table_at c.args.self.now) c.args.from ≡ None = reads c.args.self.now laid c.args.from c.word-word.result c.requires.from c.word-word.ensures.word ∙ target_data c.word-word.result (omega (arith, c.if-word.true)) in
+    c.store_data.ensures.table ∙ (λ i. stored (table_at (c.word-word.ensures.same i)) c.args.to (sym none i))
 
 pub refers_to-target-requires-clause-word : goal.refers_to-target-requires-clause-word
 refers_to-target-requires-clause-word g c =
     let race = c.race.result.now in
-    let shape : c.args.self.now.shape.slots ≡ slot_count race.layout = ap (λ (h : Halt). h.shape.slots) (sym (lent_view c.race.ensures c.self.view_is)) ∙ ap (λ (k : Shape). k.slots) race.laid in
+    let shape : c.args.self.now.shape.slots ≡ slot_count race.layout = ap (λ (h : Pause). h.shape.slots) (sym (lent_view c.race.ensures c.self.view_is)) ∙ ap (λ (k : Shape). k.slots) race.laid in
     subst (λ (n : ℕ). (c.word-word.result ≤ n) ⊎ (2 ^ 32 ≤ c.word-word.result)) shape c.word-word.ensures.fits
 
 pub returns-clause-words : goal.returns-clause-words
@@ -52,5 +52,5 @@ returns-clause-words g c =
 pub returns-clause-table : goal.returns-clause-table
 returns-clause-table g c =
     let laid : IsLaid c.args.self.now = subst IsLaid (lent_view c.race.ensures c.self.view_is) c.race.result.now.laid in
-    let read : target_of (halted c.args.self.now) c.args.from ≡ c.refers_to-target.result = reads c.args.self.now laid c.args.from c.word-word.result c.requires.from c.word-word.ensures.word ∙ sym c.refers_to-target.ensures.target in
-    c.store.ensures.table ∙ (λ i. stored (halted (c.word-word.ensures.same i)) c.args.to (sym read i))
+    let read : target_of (table_at c.args.self.now) c.args.from ≡ c.refers_to-target.result = reads c.args.self.now laid c.args.from c.word-word.result c.requires.from c.word-word.ensures.word ∙ sym c.refers_to-target.ensures.target in
+    c.store.ensures.table ∙ (λ i. stored (table_at (c.word-word.ensures.same i)) c.args.to (sym read i))

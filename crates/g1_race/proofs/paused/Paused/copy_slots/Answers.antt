@@ -2,7 +2,7 @@ use Rattle.std.proofs.Common.{◌≡◌, ◌+◌, ◌-◌, ◌≤◌, ℕ, Bool,
 use Rattle.std.proofs.lemmas.Bool.{leb-false, leb-true}
 use Rattle.g1_layout.specs.Shape.{slot_count}
 use Rattle.g1_race_words.specs.declared.view.Shape.{Shape}
-use Rattle.g1_race.specs.Over.{Halt}
+use Rattle.g1_race.specs.Over.{Pause}
 use Rattle.g1_core.proofs.CopyLemmas.{copied_all, copied_on, first_of}
 use Rattle.g1_race.proofs.Copying.{Copied, CopiesOne, copied_down, copied_up}
 use Rattle.g1_race.proofs.Held.{lent_begun, lent_view}
@@ -12,11 +12,11 @@ use Rattle.g1_race.proofs.paused.Paused.copy_slots.Goals as goal
 pub loop-i-preserved : goal.loop-i-preserved
 loop-i-preserved g c =
     let race = c.race.result.now in
-    let old : Halt = c.args.self.now in
+    let old : Pause = c.args.self.now in
     let view = lent_view c.race.ensures c.self.view_is in
     let begun = lent_begun c.race.ensures c.self.invariant.0.begun in
-    let slots : old.shape.slots ≡ slot_count old.layout = ap (λ (h : Halt). h.shape.slots) (sym view) ∙ (ap (λ (k : Shape). k.slots) race.laid ∙ ap (λ (h : Halt). slot_count h.layout) view) in
-    let full : old.shape.slots ≤ length old.words = subst (λ (h : Halt). h.shape.slots ≤ length h.words) view (omega (arith, begun.sized)) in
+    let slots : old.shape.slots ≡ slot_count old.layout = ap (λ (h : Pause). h.shape.slots) (sym view) ∙ (ap (λ (k : Shape). k.slots) race.laid ∙ ap (λ (h : Pause). slot_count h.layout) view) in
+    let full : old.shape.slots ≤ length old.words = subst (λ (h : Pause). h.shape.slots ≤ length h.words) view (omega (arith, begun.sized)) in
     let upwards : Bool = leb c.number.result c.number-2.result in
     let next : ℕ = c.if-upwards.distance in
     let one : CopiesOne c.loop-i.self c.copy_slot.new.self (c.args.from + next) (c.args.to + next) =

@@ -1,10 +1,10 @@
 use Rattle.std.proofs.Common.{◌≡◌, ◌+◌, ◌<◌, ℕ, map}
 use Rattle.g1_core.specs.Verify.{Differs}
-use Rattle.g1_race.specs.Over.{halted}
+use Rattle.g1_race.specs.Over.{table_at}
 use Rattle.g1_race.proofs.paused.Paused.first_differing.Given as goal
 
 abbrev pub invariant-loop-i : goal.invariant-loop-i
 invariant-loop-i g l = record {
-  none : (k : ℕ) → k < l.i → Differs (halted l.fn.self) l.first (map g.M.Reference.place l.memory) (l.first + k) → ⊥;
+  none : (k : ℕ) → k < l.i → Differs (table_at l.fn.self) l.first (map g.M.Reference.place l.memory) (l.first + k) → ⊥;
   same : l.self ≡ l.fn.self;
 }

@@ -1,10 +1,10 @@
 use Rattle.std.proofs.Common.{◌≡◌, ◌+◌, ◌<◌, ℕ}
 use Rattle.g1_core.specs.Verify.{IsMissing}
-use Rattle.g1_race.specs.Over.{halted}
+use Rattle.g1_race.specs.Over.{table_at}
 use Rattle.g1_race.proofs.paused.Paused.first_missing.Given as goal
 
 abbrev pub invariant-loop-i : goal.invariant-loop-i
 invariant-loop-i g l = record {
-  none : (k : ℕ) → k < l.i → IsMissing (halted l.fn.self) (l.first + k) → ⊥;
+  none : (k : ℕ) → k < l.i → IsMissing (table_at l.fn.self) (l.first + k) → ⊥;
   same : l.self ≡ l.fn.self;
 }

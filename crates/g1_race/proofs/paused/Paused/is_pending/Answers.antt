@@ -4,15 +4,15 @@ use Rattle.g1_core.specs.Table.{Table}
 use Rattle.g1_core.specs.Run.{IsStep}
 use Rattle.g1_core.specs.Calls.{pending_entry}
 use Rattle.g1_core.proofs.QueryLemmas.{pending_step}
-use Rattle.g1_race.specs.Over.{Halt, ended, halted, table_of}
+use Rattle.g1_race.specs.Over.{Pause, ended, table_at, table_of}
 use Rattle.g1_race.proofs.Held.{lent_view}
 use Rattle.g1_race.proofs.paused.Paused.is_pending.Goals as goal
 
 pub returns-clause-pending : goal.returns-clause-pending
-returns-clause-pending g c = c.is_dirty.ensures.dirty ∙ ap (λ (h : Halt). set.contains (halted h).pending c.args.card) (lent_view c.race.ensures c.self.view_is)
+returns-clause-pending g c = c.is_dirty.ensures.dirty ∙ ap (λ (h : Pause). set.contains (table_at h).pending c.args.card) (lent_view c.race.ensures c.self.view_is)
 
 pub returns-clause-step : goal.returns-clause-step
 returns-clause-step g c = λ caller.
     let race = g.R.Holds.held c.self.inside.race in
-    let same = ap (λ (ws : List ℕ). table_of (ended race.layout race.shape ws)) (ap (λ m. m.0.began_words) c.is_dirty.ensures.seat.1) ∙ ap halted c.self.view_is in
-    subst (λ (t : Table). IsStep (halted c.args.self.now) (pending_entry caller c.args.card c.is_dirty.result) t) (sym same) (pending_step caller (halted c.args.self.now) c.args.card c.is_dirty.result c.requires (returns-clause-pending g c))
+    let same = ap (λ (ws : List ℕ). table_of (ended race.layout race.shape ws)) (ap (λ m. m.0.began_words) c.is_dirty.ensures.seat.1) ∙ ap table_at c.self.view_is in
+    subst (λ (t : Table). IsStep (table_at c.args.self.now) (pending_entry caller c.args.card c.is_dirty.result) t) (sym same) (pending_step caller (table_at c.args.self.now) c.args.card c.is_dirty.result c.requires (returns-clause-pending g c))

@@ -6,7 +6,7 @@ use Rattle.g1_core.specs.Table.{Table, AreMembers}
 use Rattle.g1_core.specs.Run.{IsStep}
 use Rattle.g1_core.specs.Calls.{members_entry}
 use Rattle.g1_core.proofs.QueryLemmas.{members_step}
-use Rattle.g1_race.specs.Over.{Halt, ended, halted, table_of}
+use Rattle.g1_race.specs.Over.{Pause, ended, table_at, table_of}
 use Rattle.g1_race.proofs.Held.{lent_view}
 use Rattle.g1_race.proofs.paused.Paused.members.Goals as goal
 
@@ -15,10 +15,10 @@ returns-clause-step g c =
     let race = g.R.Holds.held c.self.inside.race in
     let h = c.args.self.now in
     let region = c.args.region in
-    let same = ap (λ (ws : List ℕ). table_of (ended race.layout race.shape ws)) (ap (λ m. m.0.began_words) c.members_of.ensures.seat.1) ∙ ap halted c.self.view_is in
-    subst (λ (t : Table). IfOk c.members_of.result (λ cards. (caller : ℕ) → IsStep (halted h) (members_entry caller region cards) t)) (sym same)
-    (IfOk-weaker c.members_of.result _ _ (λ cards are caller. members_step caller (halted h) region cards c.requires (subst (λ (x : Halt). AreMembers (halted x) region cards) (lent_view c.race.ensures c.self.view_is) are)) c.members_of.ensures.members)
+    let same = ap (λ (ws : List ℕ). table_of (ended race.layout race.shape ws)) (ap (λ m. m.0.began_words) c.members_of.ensures.seat.1) ∙ ap table_at c.self.view_is in
+    subst (λ (t : Table). IfOk c.members_of.result (λ cards. (caller : ℕ) → IsStep (table_at h) (members_entry caller region cards) t)) (sym same)
+    (IfOk-weaker c.members_of.result _ _ (λ cards are caller. members_step caller (table_at h) region cards c.requires (subst (λ (x : Pause). AreMembers (table_at x) region cards) (lent_view c.race.ensures c.self.view_is) are)) c.members_of.ensures.members)
 
 pub returns-clause-few : goal.returns-clause-few
 returns-clause-few g c =
-    IfOk-weaker c.members_of.result _ _ (λ cards few. subst (λ (x : Halt). length cards ≤ card_count x.layout) (lent_view c.race.ensures c.self.view_is) few) c.members_of.ensures.few
+    IfOk-weaker c.members_of.result _ _ (λ cards few. subst (λ (x : Pause). length cards ≤ card_count x.layout) (lent_view c.race.ensures c.self.view_is) few) c.members_of.ensures.few

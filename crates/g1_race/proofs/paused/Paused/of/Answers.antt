@@ -2,7 +2,7 @@ use Rattle.std.proofs.Common.{◌≡◌, ◌+◌, length, All, [], map, sym, ap,
 use Rattle.g1_race_words.specs.declared.view.Shape.{Shape}
 use Rattle.g1_race.specs.declared.race.Race.{Race}
 use Rattle.g1_race_words.specs.Rule.{IsBegun, started, null_of}
-use Rattle.g1_race_words.specs.Steps.{iced, blank}
+use Rattle.g1_race_words.specs.Steps.{frozen_seat, blank}
 use Rattle.g1_race.specs.Race.{collected}
 use Rattle.g1_race.specs.Members.{racer_view, sweeper_view, RacerOf}
 use Rattle.g1_race.proofs.Ends.{begun_covered, pair_listed}
@@ -28,10 +28,10 @@ freeze-requires-clause-rest g c =
     let view = ap (λ me. me.0) (all_joined race.shape c.race.result.now.table.shape (map racer_view c.args.racers.items) (map sweeper_view c.args.sweepers.items) _ _ _ (ap (λ (r : Race). r.table.shape) c.race.ensures ∙ race.key_is) c.enter-seat.ensures.view c.join_racers.ensures.view c.join_sweepers.ensures.view) in
     at_rest race.table.table_id race.shape c.args.sweepers.items c.args.racers.items c.requires.sweepers c.requires.racers.1 _ view
 
-joined : (g : _) (c : goal.After-freeze g) → c.join_sweepers.new.registrar.me ≡ (collected (map sweeper_view c.args.sweepers.items) (collected (map racer_view c.args.racers.items) (blank (null_of (g.R.Holds.held c.args.race).shape) 0 [])), [])
+joined : (g : _) (c : goal.After-freeze g) → c.join_sweepers.new.pause_seat.me ≡ (collected (map sweeper_view c.args.sweepers.items) (collected (map racer_view c.args.racers.items) (blank (null_of (g.R.Holds.held c.args.race).shape) 0 [])), [])
 joined g c = all_joined (g.R.Holds.held c.args.race).shape c.race.result.now.table.shape (map racer_view c.args.racers.items) (map sweeper_view c.args.sweepers.items) _ _ _ (ap (λ (r : Race). r.table.shape) c.race.ensures ∙ (g.R.Holds.held c.args.race).key_is) c.enter-seat.ensures.view c.join_racers.ensures.view c.join_sweepers.ensures.view
 
-view_is : (g : _) (c : goal.After-freeze g) → c.join_sweepers.new.registrar.me.0 ≡ collected (map sweeper_view c.args.sweepers.items) (collected (map racer_view c.args.racers.items) (blank (null_of (g.R.Holds.held c.args.race).shape) 0 []))
+view_is : (g : _) (c : goal.After-freeze g) → c.join_sweepers.new.pause_seat.me.0 ≡ collected (map sweeper_view c.args.sweepers.items) (collected (map racer_view c.args.racers.items) (blank (null_of (g.R.Holds.held c.args.race).shape) 0 []))
 view_is g c = ap (λ me. me.0) (joined g c)
 
 count_is : (g : _) (c : goal.After-freeze g) → length c.args.racers.items + length c.args.sweepers.items ≡ (g.R.Holds.held c.args.race).shape.members
@@ -40,14 +40,14 @@ count_is g c = let e : length c.args.racers.items + length c.args.sweepers.items
 table_is : (g : _) (c : goal.After-freeze g) → c.freeze.new.seat.table_id ≡ (g.R.Holds.held c.args.race).table.table_id
 table_is g c = c.freeze.ensures.table ∙ (c.join_sweepers.ensures.seat ∙ (c.join_racers.ensures.seat ∙ (c.enter-seat.ensures.table ∙ ap (λ (r : Race). r.table.table_id) c.race.ensures)))
 
-me_is : (g : _) (c : goal.After-freeze g) → c.freeze.new.seat.me ≡ (iced (started c.join_sweepers.new.registrar.me.0.shape c.freeze.ensures.told.words) c.join_sweepers.new.registrar.me.0.weight, [])
-me_is g c = c.freeze.ensures.told.view ∙ ap (λ h. (iced (started c.join_sweepers.new.registrar.me.0.shape c.freeze.ensures.told.words) c.join_sweepers.new.registrar.me.0.weight, h)) (ap (λ me. me.1) (joined g c))
+me_is : (g : _) (c : goal.After-freeze g) → c.freeze.new.seat.me ≡ (frozen_seat (started c.join_sweepers.new.pause_seat.me.0.shape c.freeze.ensures.told.words) c.join_sweepers.new.pause_seat.me.0.weight, [])
+me_is g c = c.freeze.ensures.told.view ∙ ap (λ h. (frozen_seat (started c.join_sweepers.new.pause_seat.me.0.shape c.freeze.ensures.told.words) c.join_sweepers.new.pause_seat.me.0.weight, h)) (ap (λ me. me.1) (joined g c))
 
 pub invariant_of-result : goal.invariant_of-result
 invariant_of-result g c =
     let race = g.R.Holds.held c.args.race in
     let told = c.freeze.ensures.told in (
-      is_paused race.table.table_id race.shape c.args.sweepers.items c.args.racers.items c.requires.sweepers c.requires.racers.1 c.join_sweepers.new.registrar.me.0 (view_is g c) (count_is g c) race.some race.shaped c.freeze.new.seat told.words (me_is g c) (table_is g c) told.begun,
+      is_paused race.table.table_id race.shape c.args.sweepers.items c.args.racers.items c.requires.sweepers c.requires.racers.1 c.join_sweepers.new.pause_seat.me.0 (view_is g c) (count_is g c) race.some race.shaped c.freeze.new.seat told.words (me_is g c) (table_is g c) told.begun,
       omega (arith, c.join_racers.ensures.len, c.join_sweepers.ensures.len, c.requires.racers.0),
     )
 
@@ -58,13 +58,13 @@ pub returns-clause-over : goal.returns-clause-over
 returns-clause-over g c =
     let race = g.R.Holds.held c.args.race in
     let told = c.freeze.ensures.told in
-    is_over race.table.table_id race.shape c.args.sweepers.items c.args.racers.items c.requires.sweepers c.requires.racers.1 c.join_sweepers.new.registrar.me.0 (view_is g c) (count_is g c) race.some race.shaped c.freeze.new.seat told.words (me_is g c) told.views told.id told.raced told.mine
+    is_over race.table.table_id race.shape c.args.sweepers.items c.args.racers.items c.requires.sweepers c.requires.racers.1 c.join_sweepers.new.pause_seat.me.0 (view_is g c) (count_is g c) race.some race.shaped c.freeze.new.seat told.words (me_is g c) told.views told.id told.raced told.mine
 
 pub returns-clause-pairs : goal.returns-clause-pairs
 returns-clause-pairs g c x =
     let race = g.R.Holds.held c.args.race in
     let told = c.freeze.ensures.told in
-    same_pairs race.table.table_id race.shape c.args.sweepers.items c.args.racers.items c.requires.sweepers c.requires.racers.1 c.join_sweepers.new.registrar.me.0 (view_is g c) (count_is g c) race.some race.shaped c.freeze.new.seat told.words (me_is g c) told.views told.id told.raced told.mine x
+    same_pairs race.table.table_id race.shape c.args.sweepers.items c.args.racers.items c.requires.sweepers c.requires.racers.1 c.join_sweepers.new.pause_seat.me.0 (view_is g c) (count_is g c) race.some race.shaped c.freeze.new.seat told.words (me_is g c) told.views told.id told.raced told.mine x
 
 pub returns-clause-within : goal.returns-clause-within
 returns-clause-within g c x k = pair_listed (g.R.Holds.held c.args.race).shape (g.R.Holds.held c.args.race).layout c.freeze.new.seat.me.0.began_words (g.R.Holds.held c.args.race).laid (begun_is g c) x k

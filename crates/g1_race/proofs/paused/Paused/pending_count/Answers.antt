@@ -1,7 +1,7 @@
 use Rattle.std.proofs.Common.{ap, ◌∙◌, arith}
 use Rattle.std.specs.FinSet as set
 use Rattle.g1_race.specs.Telling.{is_marked}
-use Rattle.g1_race.specs.Over.{Halt, halted}
+use Rattle.g1_race.specs.Over.{Pause, table_at}
 use Rattle.g1_race.proofs.Telling.{few}
 use Rattle.g1_race.proofs.NextCards.{cards_fit}
 use Rattle.g1_race.proofs.PauseTable.{pending_len}
@@ -15,4 +15,4 @@ overflow_cast-result g c =
     omega (arith, a, c.count_marked.ensures.count, cards_fit race.shape race.shaped)
 
 pub returns-clause-count : goal.returns-clause-count
-returns-clause-count g c = c.count_marked.ensures.count ∙ (pending_len c.race.result.now.shape c.race.result.now.layout c.race.result.now.laid c.self.inside.seat.me.0.began_words (lent_begun c.race.ensures c.self.invariant.0.begun) ∙ ap (λ (h : Halt). set.len (halted h).pending) (lent_view c.race.ensures c.self.view_is))
+returns-clause-count g c = c.count_marked.ensures.count ∙ (pending_len c.race.result.now.shape c.race.result.now.layout c.race.result.now.laid c.self.inside.seat.me.0.began_words (lent_begun c.race.ensures c.self.invariant.0.begun) ∙ ap (λ (h : Pause). set.len (table_at h).pending) (lent_view c.race.ensures c.self.view_is))

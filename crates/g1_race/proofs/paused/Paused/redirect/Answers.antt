@@ -4,7 +4,7 @@ use Rattle.g1_core.specs.Run.{IsStep}
 use Rattle.g1_core.specs.Calls.{redirect_entry}
 use Rattle.g1_core.specs.declared.reply.Redirected.TheVariants.{Moved}
 use Rattle.g1_race.specs.Telling.{is_marked, marked_cards}
-use Rattle.g1_race.specs.Over.{Halt, halted}
+use Rattle.g1_race.specs.Over.{Pause, table_at}
 use Rattle.g1_race.proofs.Telling.{gathered}
 use Rattle.g1_race.proofs.paused.Paused.redirect.Goals as goal
 
@@ -17,5 +17,5 @@ pub returns-clause-step : goal.returns-clause-step
 returns-clause-step g c caller =
     let new = c.redirect_in_place-slots.new.self in
     let slots = c.redirect_in_place-slots.result in
-    let step = subst (λ (h : Halt). IsStep (halted h) (redirect_entry caller c.args.from c.args.to (Moved slots (marked_cards h.shape h.words))) (halted new)) c.dirty_cards.ensures.same (c.redirect_in_place-slots.ensures.step caller) in
-    subst (λ (cs : List ℕ). IsStep (halted c.args.self.now) (redirect_entry caller c.args.from c.args.to (Moved slots cs)) (halted new)) (sym (c.of-refined.ensures ∙ c.in_ok-dirty_cards.ensures.cards)) step
+    let step = subst (λ (h : Pause). IsStep (table_at h) (redirect_entry caller c.args.from c.args.to (Moved slots (marked_cards h.shape h.words))) (table_at new)) c.dirty_cards.ensures.same (c.redirect_in_place-slots.ensures.step caller) in
+    subst (λ (cs : List ℕ). IsStep (table_at c.args.self.now) (redirect_entry caller c.args.from c.args.to (Moved slots cs)) (table_at new)) (sym (c.of-refined.ensures ∙ c.in_ok-dirty_cards.ensures.cards)) step

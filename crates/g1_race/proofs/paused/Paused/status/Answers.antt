@@ -6,7 +6,7 @@ use Rattle.g1_core.specs.Run.{IsStep}
 use Rattle.g1_core.specs.Calls.{status_entry}
 use Rattle.g1_core.proofs.QueryLemmas.{status_step}
 use Rattle.g1_race.specs.Telling.{is_marked, pair_count}
-use Rattle.g1_race.specs.Over.{Halt, halted, ended, table_of}
+use Rattle.g1_race.specs.Over.{Pause, table_at, ended, table_of}
 use Rattle.g1_race.proofs.Telling.{few}
 use Rattle.g1_race.proofs.NextCards.{cards_fit}
 use Rattle.g1_race.proofs.PauseTable.{pending_len}
@@ -31,14 +31,14 @@ overflow_cast-recorded g c =
     omega (arith, counted_is g c, a)
 
 pub returns-clause-pending : goal.returns-clause-pending
-returns-clause-pending g c = c.count_marked-pending.ensures.count ∙ (pending_len c.race-race.result.now.shape c.race-race.result.now.layout c.race-race.result.now.laid c.self.inside.seat.me.0.began_words (lent_begun c.race-race.ensures c.self.invariant.0.begun) ∙ ap (λ (h : Halt). set.len (halted h).pending) (lent_view c.race-race.ensures c.self.view_is))
+returns-clause-pending g c = c.count_marked-pending.ensures.count ∙ (pending_len c.race-race.result.now.shape c.race-race.result.now.layout c.race-race.result.now.laid c.self.inside.seat.me.0.began_words (lent_begun c.race-race.ensures c.self.invariant.0.begun) ∙ ap (λ (h : Pause). set.len (table_at h).pending) (lent_view c.race-race.ensures c.self.view_is))
 
 pub returns-clause-recorded : goal.returns-clause-recorded
-returns-clause-recorded g c = counted_is g c ∙ (count_is c.race-race.result.now.shape c.race-race.result.now.layout c.race-race.result.now.laid c.self.inside.seat.me.0.began_words (lent_begun c.race-race.ensures c.self.invariant.0.begun) ∙ ap (λ (h : Halt). set.len (halted h).recorded) (lent_view c.race-race.ensures c.self.view_is))
+returns-clause-recorded g c = counted_is g c ∙ (count_is c.race-race.result.now.shape c.race-race.result.now.layout c.race-race.result.now.laid c.self.inside.seat.me.0.began_words (lent_begun c.race-race.ensures c.self.invariant.0.begun) ∙ ap (λ (h : Pause). set.len (table_at h).recorded) (lent_view c.race-race.ensures c.self.view_is))
 
 pub returns-clause-step : goal.returns-clause-step
 returns-clause-step g c = λ caller.
     let race = g.R.Holds.held c.self.inside.race in
     let status : Status = record { pending = c.count_marked-pending.result; recorded = c.count_pairs-recorded.result } in
-    let same = ap (λ (ws : List ℕ). table_of (ended race.layout race.shape ws)) (ap (λ m. m.0.began_words) (c.count_pairs-recorded.ensures.seat.1 ∙ c.count_marked-pending.ensures.seat.1)) ∙ ap halted c.self.view_is in
-    subst (λ (t : Table). IsStep (halted c.args.self.now) (status_entry caller status) t) (sym same) (status_step caller (halted c.args.self.now) status (returns-clause-pending g c) (returns-clause-recorded g c))
+    let same = ap (λ (ws : List ℕ). table_of (ended race.layout race.shape ws)) (ap (λ m. m.0.began_words) (c.count_pairs-recorded.ensures.seat.1 ∙ c.count_marked-pending.ensures.seat.1)) ∙ ap table_at c.self.view_is in
+    subst (λ (t : Table). IsStep (table_at c.args.self.now) (status_entry caller status) t) (sym same) (status_step caller (table_at c.args.self.now) status (returns-clause-pending g c) (returns-clause-recorded g c))

@@ -1,7 +1,7 @@
 use Rattle.std.proofs.Common.{◌≡◌, sym, ap, ◌∙◌}
 use Rattle.g1_core.specs.Table.{Table}
 use Rattle.g1_core.specs.Run.{kind_of, stored}
-use Rattle.g1_race.specs.Over.{ended, halted, table_of}
+use Rattle.g1_race.specs.Over.{ended, table_at, table_of}
 use Rattle.g1_race.proofs.Held.{held_table, lent_view}
 use Rattle.g1_race.proofs.PauseStores.{store_step}
 use Rattle.g1_race.proofs.paused.Paused.store.Goals as goal
@@ -9,8 +9,8 @@ use Rattle.g1_race.proofs.paused.Paused.store.Goals as goal
 pub returns-clause-step : goal.returns-clause-step
 returns-clause-step g c = λ caller.
     let race = c.race-race.result.now in
-    let was : table_of (ended race.layout race.shape c.self.inside.seat.me.0.began_words) ≡ halted c.args.self.now = ap halted (lent_view c.race-race.ensures c.self.view_is) in
-    let seen : table_of (ended race.layout race.shape c.kind_of-kind.new.seat.me.0.began_words) ≡ halted c.args.self.now = ap (λ m. table_of (ended race.layout race.shape m.0.began_words)) c.kind_of-kind.ensures.seat.1 ∙ was in
-    store_step (halted c.args.self.now) _ caller c.args.slot c.args.target c.kind_of-kind.result c.requires.slot c.requires.target
+    let was : table_of (ended race.layout race.shape c.self.inside.seat.me.0.began_words) ≡ table_at c.args.self.now = ap table_at (lent_view c.race-race.ensures c.self.view_is) in
+    let seen : table_of (ended race.layout race.shape c.kind_of-kind.new.seat.me.0.began_words) ≡ table_at c.args.self.now = ap (λ m. table_of (ended race.layout race.shape m.0.began_words)) c.kind_of-kind.ensures.seat.1 ∙ was in
+    store_step (table_at c.args.self.now) _ caller c.args.slot c.args.target c.kind_of-kind.result c.requires.slot c.requires.target
     (c.kind_of-kind.ensures.kind ∙ ap (λ (t : Table). kind_of t c.args.slot c.args.target) was)
     (sym (held_table c.store_as.new.seat.me.0.began_words c.race-race.ensures) ∙ (c.store_as.ensures.table ∙ ap (λ (t : Table). stored t c.args.slot c.args.target) seen))

@@ -8,7 +8,7 @@ use Rattle.g1_layout.specs.Shape as layout
 use Rattle.g1_core.specs.Run.{kind_of, stored}
 use Rattle.g1_race.specs.Race.{shape_of}
 use Rattle.g1_race.specs.Evacuating.{WordsBecome, one_word}
-use Rattle.g1_race.specs.Over.{Halt, ended, halted, table_of}
+use Rattle.g1_race.specs.Over.{Pause, ended, table_at, table_of}
 use Rattle.g1_race.proofs.AtPause.{begun_placed}
 use Rattle.g1_race.proofs.Ends.{target_data}
 use Rattle.g1_race.proofs.PauseStores.{kind_data, quiet_store, store_step}
@@ -22,7 +22,7 @@ put-requires-clause-begun g c =
     let race = c.race-race.result.now in
     let k = race.shape in
     let words = c.self.inside.seat.me.0.began_words in
-    let slots : k.slots ≡ slot_count c.args.self.now.layout = ap (λ (x : Shape). x.slots) race.laid ∙ ap (λ (x : Halt). slot_count x.layout) (lent_view c.race-race.ensures c.self.view_is) in
+    let slots : k.slots ≡ slot_count c.args.self.now.layout = ap (λ (x : Shape). x.slots) race.laid ∙ ap (λ (x : Pause). slot_count x.layout) (lent_view c.race-race.ensures c.self.view_is) in
     let lt : c.args.slot < k.slots = omega (arith, slots, c.requires.slot) in
     subst (λ (p : ℕ). IsBegun (started k (set words p c.args.word))) (sym c.number.ensures)
     (begun_placed k words c.args.slot c.args.word lt (inr c.requires.high) (λ cr. absurd (let no_one = data_crosses k c.args.slot c.args.word c.requires.high in cc (cr, no_one))) (lent_begun c.race-race.ensures c.self.invariant.0.begun))
@@ -31,35 +31,35 @@ pub returns-clause-words : goal.returns-clause-words
 returns-clause-words g c =
     let k = c.race-race.result.now.shape in
     let words = c.self.inside.seat.me.0.began_words in
-    subst (λ (h : Halt). WordsBecome (one_word c.args.slot c.args.word) h.shape h.words c.put.new.seat.me.0.began_words) (lent_view c.race-race.ensures c.self.view_is)
+    subst (λ (h : Pause). WordsBecome (one_word c.args.slot c.args.word) h.shape h.words c.put.new.seat.me.0.began_words) (lent_view c.race-race.ensures c.self.view_is)
     (put_words k words c.args.slot c.args.word _ (c.put.ensures.words ∙ (λ i. set words (c.number.ensures i) c.args.word)))
 
 -- the new kind and table
-data_stored : (k : Shape) (l : layout.Shape) (words after : List ℕ) (h : Halt) (p word : ℕ) → k ≡ shape_of l k.members → p < k.slots → 2 ^ 32 ≤ word
-    → table_of (ended l k words) ≡ halted h → after ≡ set words p word → IsBegun (started k words) → IsBegun (started k after)
-    → (Null ≡ kind_of (halted h) p None) × (table_of (ended l k after) ≡ stored (halted h) p None)
+data_stored : (k : Shape) (l : layout.Shape) (words after : List ℕ) (h : Pause) (p word : ℕ) → k ≡ shape_of l k.members → p < k.slots → 2 ^ 32 ≤ word
+    → table_of (ended l k words) ≡ table_at h → after ≡ set words p word → IsBegun (started k words) → IsBegun (started k after)
+    → (Null ≡ kind_of (table_at h) p None) × (table_of (ended l k after) ≡ stored (table_at h) p None)
 data_stored k l words after h p word laid lt high was is begun then_begun =
     let back = target_data word high in
     let kind = kind_data k l laid p lt None word back (table_of (ended l k words)) high in
-    quiet_store k l laid p lt None word back (halted h) words after was is begun then_begun Null kind (λ e. cc)
+    quiet_store k l laid p lt None word back (table_at h) words after was is begun then_begun Null kind (λ e. cc)
 
 pub returns-clause-table : goal.returns-clause-table
 returns-clause-table g c =
     let race = c.race-race.result.now in
     let k = race.shape in
     let words = c.self.inside.seat.me.0.began_words in
-    let slots : k.slots ≡ slot_count c.args.self.now.layout = ap (λ (x : Shape). x.slots) race.laid ∙ ap (λ (x : Halt). slot_count x.layout) (lent_view c.race-race.ensures c.self.view_is) in
+    let slots : k.slots ≡ slot_count c.args.self.now.layout = ap (λ (x : Shape). x.slots) race.laid ∙ ap (λ (x : Pause). slot_count x.layout) (lent_view c.race-race.ensures c.self.view_is) in
     let lt : c.args.slot < k.slots = omega (arith, slots, c.requires.slot) in
     let is = c.put.ensures.words ∙ (λ i. set words (c.number.ensures i) c.args.word) in
-    sym (held_table c.put.new.seat.me.0.began_words c.race-race.ensures) ∙ (data_stored k race.layout words _ c.args.self.now c.args.slot c.args.word race.laid lt c.requires.high (ap halted (lent_view c.race-race.ensures c.self.view_is)) is (lent_begun c.race-race.ensures c.self.invariant.0.begun) c.put.ensures.seat.begun).1
+    sym (held_table c.put.new.seat.me.0.began_words c.race-race.ensures) ∙ (data_stored k race.layout words _ c.args.self.now c.args.slot c.args.word race.laid lt c.requires.high (ap table_at (lent_view c.race-race.ensures c.self.view_is)) is (lent_begun c.race-race.ensures c.self.invariant.0.begun) c.put.ensures.seat.begun).1
 
 pub returns-clause-step : goal.returns-clause-step
 returns-clause-step g c = λ caller.
     let race = c.race-race.result.now in
     let k = race.shape in
     let words = c.self.inside.seat.me.0.began_words in
-    let slots : k.slots ≡ slot_count c.args.self.now.layout = ap (λ (x : Shape). x.slots) race.laid ∙ ap (λ (x : Halt). slot_count x.layout) (lent_view c.race-race.ensures c.self.view_is) in
+    let slots : k.slots ≡ slot_count c.args.self.now.layout = ap (λ (x : Shape). x.slots) race.laid ∙ ap (λ (x : Pause). slot_count x.layout) (lent_view c.race-race.ensures c.self.view_is) in
     let lt : c.args.slot < k.slots = omega (arith, slots, c.requires.slot) in
     let is = c.put.ensures.words ∙ (λ i. set words (c.number.ensures i) c.args.word) in
-    let r = data_stored k race.layout words _ c.args.self.now c.args.slot c.args.word race.laid lt c.requires.high (ap halted (lent_view c.race-race.ensures c.self.view_is)) is (lent_begun c.race-race.ensures c.self.invariant.0.begun) c.put.ensures.seat.begun in
-    store_step (halted c.args.self.now) _ caller c.args.slot None Null c.requires.slot tt r.0 (sym (held_table c.put.new.seat.me.0.began_words c.race-race.ensures) ∙ r.1)
+    let r = data_stored k race.layout words _ c.args.self.now c.args.slot c.args.word race.laid lt c.requires.high (ap table_at (lent_view c.race-race.ensures c.self.view_is)) is (lent_begun c.race-race.ensures c.self.invariant.0.begun) c.put.ensures.seat.begun in
+    store_step (table_at c.args.self.now) _ caller c.args.slot None Null c.requires.slot tt r.0 (sym (held_table c.put.new.seat.me.0.began_words c.race-race.ensures) ∙ r.1)

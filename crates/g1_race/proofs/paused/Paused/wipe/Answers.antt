@@ -3,7 +3,7 @@ use mathlib.Core.Option.{some}
 use lib.ListN.{get_elem?}
 use Rattle.g1_core.specs.Table.{Table, target_of}
 use Rattle.g1_race_words.specs.declared.view.Shape.{Shape}
-use Rattle.g1_race.specs.Over.{Halt, halted}
+use Rattle.g1_race.specs.Over.{Pause, table_at}
 use Rattle.g1_race.specs.Evacuating.{WordsBecome, wiped, wiped_word}
 use Rattle.g1_race.proofs.PauseStores.{slot_in, slot_gives}
 use Rattle.g1_race.proofs.SlotWords.{wiped_words}
@@ -11,15 +11,15 @@ use Rattle.g1_race.proofs.Held.{held_table, lent_view}
 use Rattle.g1_race.proofs.paused.Paused.wipe.Goals as goal
 
 pub returns-clause-table : goal.returns-clause-table
-returns-clause-table g c = sym (held_table _ c.race.ensures) ∙ (c.wipe_slots.ensures.table ∙ (λ i. wiped (c.number.ensures i) (halted ((lent_view c.race.ensures c.self.view_is) i))))
+returns-clause-table g c = sym (held_table _ c.race.ensures) ∙ (c.wipe_slots.ensures.table ∙ (λ i. wiped (c.number.ensures i) (table_at ((lent_view c.race.ensures c.self.view_is) i))))
 
 pub returns-clause-null : goal.returns-clause-null
 returns-clause-null g c =
     let race = c.race.result.now in
     let k = race.shape in
     let words = c.wipe_slots.new.seat.me.0.began_words in
-    let low : c.number.result < k.regions = omega (arith, c.requires, c.number.ensures, ap (λ (s : Shape). s.regions) race.laid, ap (λ (h : Halt). h.layout.regions) (lent_view c.race.ensures c.self.view_is)) in
-    let span : k.span ≡ c.args.self.now.layout.cards * c.args.self.now.layout.slots = ap (λ (s : Shape). s.span) race.laid ∙ ap (λ (h : Halt). h.layout.cards * h.layout.slots) (lent_view c.race.ensures c.self.view_is) in
+    let low : c.number.result < k.regions = omega (arith, c.requires, c.number.ensures, ap (λ (s : Shape). s.regions) race.laid, ap (λ (h : Pause). h.layout.regions) (lent_view c.race.ensures c.self.view_is)) in
+    let span : k.span ≡ c.args.self.now.layout.cards * c.args.self.now.layout.slots = ap (λ (s : Shape). s.span) race.laid ∙ ap (λ (h : Pause). h.layout.cards * h.layout.slots) (lent_view c.race.ensures c.self.view_is) in
     λ slot e.
     let on : slot / k.span ≡ c.number.result = ap (λ (s : ℕ). slot / s) span ∙ (e ∙ sym c.number.ensures) in
     let is : c.number.result * k.span + slot % k.span ≡ slot = ap (λ (r : ℕ). r * k.span + slot % k.span) (sym on) ∙ div-add-mod' slot k.span in
@@ -31,6 +31,6 @@ returns-clause-words g c =
     let k = c.race.result.now.shape in
     let old = c.self.inside.seat.me.0.began_words in
     let new = c.wipe_slots.new.seat.me.0.began_words in
-    subst (λ (h : Halt). WordsBecome (wiped_word h.shape c.args.region) h.shape h.words new) (lent_view c.race.ensures c.self.view_is)
+    subst (λ (h : Pause). WordsBecome (wiped_word h.shape c.args.region) h.shape h.words new) (lent_view c.race.ensures c.self.view_is)
     (subst (λ (r : ℕ). WordsBecome (wiped_word k r) k old new) c.number.ensures
     (wiped_words k old new c.number.result c.race.result.now.shaped.2 c.wipe_slots.ensures.null c.wipe_slots.ensures.other))

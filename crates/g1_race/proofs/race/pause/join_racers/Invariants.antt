@@ -6,9 +6,9 @@ use Rattle.g1_race.proofs.race.pause.join_racers.Given as goal
 
 abbrev pub invariant-loop-left : goal.invariant-loop-left
 invariant-loop-left l = record {
-  table : l.registrar.table_id ≡ l.fn.registrar.table_id;
-  hands : l.registrar.me.1 ≡ l.fn.registrar.me.1;
-  view : collected (map racer_view (take l.left l.fn.racers.items)) l.registrar.me.0 ≡ collected (map racer_view l.fn.racers.items) l.fn.registrar.me.0;
+  table : l.pause_seat.table_id ≡ l.fn.pause_seat.table_id;
+  hands : l.pause_seat.me.1 ≡ l.fn.pause_seat.me.1;
+  view : collected (map racer_view (take l.left l.fn.racers.items)) l.pause_seat.me.0 ≡ collected (map racer_view l.fn.racers.items) l.fn.pause_seat.me.0;
   len : vec_len l.racers ≡ vec_len l.fn.racers;
   low : l.left ≤ vec_len l.racers;
   rest : (k : ℕ) (d : Racer) → k < l.left → get_or l.racers.items k d ≡ get_or l.fn.racers.items k d;

@@ -6,9 +6,9 @@ use Rattle.g1_race.proofs.race.pause.join_sweepers.Given as goal
 
 abbrev pub invariant-loop-left : goal.invariant-loop-left
 invariant-loop-left l = record {
-  table : l.registrar.table_id ≡ l.fn.registrar.table_id;
-  hands : l.registrar.me.1 ≡ l.fn.registrar.me.1;
-  view : collected (map sweeper_view (take l.left l.fn.sweepers.items)) l.registrar.me.0 ≡ collected (map sweeper_view l.fn.sweepers.items) l.fn.registrar.me.0;
+  table : l.pause_seat.table_id ≡ l.fn.pause_seat.table_id;
+  hands : l.pause_seat.me.1 ≡ l.fn.pause_seat.me.1;
+  view : collected (map sweeper_view (take l.left l.fn.sweepers.items)) l.pause_seat.me.0 ≡ collected (map sweeper_view l.fn.sweepers.items) l.fn.pause_seat.me.0;
   len : vec_len l.sweepers ≡ vec_len l.fn.sweepers;
   low : l.left ≤ vec_len l.sweepers;
   rest : (k : ℕ) (d : Sweeper) → k < l.left → get_or l.sweepers.items k d ≡ get_or l.fn.sweepers.items k d;

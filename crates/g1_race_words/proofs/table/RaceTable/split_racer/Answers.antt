@@ -1,9 +1,9 @@
 use Rattle.std.proofs.Common.{◌≡◌}
-use Rattle.g1_race_words.specs.Seats.{IsChair}
+use Rattle.g1_race_words.specs.Seats.{IsWholeSeat}
 use Rattle.g1_race_words.proofs.Calls.{inside, split_racer_owed}
 use Rattle.g1_race_words.proofs.table.RaceTable.split_racer.Goals as goal
 
 pub split_seat-requires : goal.split_seat-requires
 split_seat-requires c =
-    let asked = inside (λ w s. (s.table_id ≡ w.table_id) × IsChair s.me.0) _ _ _ _ c.self.view_is c.chair.view_is (c.requires.table, c.requires.chair) in
-    split_racer_owed _ _ c.self.invariant.0 c.self.invariant.2 c.chair.inside.seat asked.0 asked.1
+    let asked = inside (λ w s. (s.table_id ≡ w.table_id) × IsWholeSeat s.me.0) _ _ _ _ c.self.view_is c.pause_seat.view_is (c.requires.table, c.requires.whole) in
+    split_racer_owed _ _ c.self.invariant.0 c.self.invariant.2 c.pause_seat.inside.seat asked.0 asked.1

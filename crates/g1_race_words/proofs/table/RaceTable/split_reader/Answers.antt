@@ -6,5 +6,5 @@ use Rattle.g1_race_words.proofs.table.RaceTable.split_reader.Goals as goal
 
 pub split_seat-requires : goal.split_seat-requires
 split_seat-requires c =
-    let asked = inside (λ w s. IsLent w.table_id w.shape s × (0 < s.me.0.weight)) _ _ _ _ c.self.view_is c.chair.view_is (c.requires.chair, c.requires.weight) in
-    split_reader_owed _ _ c.self.invariant.0 c.chair.inside.seat asked.0.table c.self.invariant.2 asked.0 asked.1
+    let asked = inside (λ w s. IsLent w.table_id w.shape s × (0 < s.me.0.weight)) _ _ _ _ c.self.view_is c.pause_seat.view_is (c.requires.whole, c.requires.weight) in
+    split_reader_owed _ _ c.self.invariant.0 c.pause_seat.inside.seat asked.0.table c.self.invariant.2 asked.0 asked.1

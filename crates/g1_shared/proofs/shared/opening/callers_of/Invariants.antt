@@ -2,7 +2,7 @@ use Rattle.std.proofs.Common.{◌≡◌, ℕ, ◌+◌, ◌-◌, ◌<◌, ◌≤�
 use Rattle.std.specs.Vec.Iter.{into_iter_items, into_iter_len}
 use Rattle.g1_log.specs.Ends.{IsNewTaker}
 use Rattle.g1_steps.specs.Opening.{AreNewMutators}
-use Rattle.g1_shared.specs.Callers.{Standing, IsNewCaller}
+use Rattle.g1_shared.specs.Callers.{CallerState, IsNewCaller}
 use Rattle.g1_shared.proofs.shared.opening.callers_of.Given as goal
 
 abbrev pub invariant-loop-number : goal.invariant-loop-number
@@ -12,4 +12,4 @@ invariant-loop-number g l =
     × (vec_len l.all ≡ l.number) × (l.count ≤ vec_capacity l.all)
     × (vec_len l.takers + l.number ≡ l.count) × All (IsNewTaker l.line) l.takers.items
     × (into_iter_len l.mutators ≡ g.M.Terms.terms.mutators - l.number) × AreNewMutators l.line l.config.log l.number (into_iter_items l.mutators)
-    × ((k : ℕ) (d : Standing) → k < l.number → IsNewCaller l.line l.config.log g.M.Terms.terms.mutators k (get_or l.all.items k d))
+    × ((k : ℕ) (d : CallerState) → k < l.number → IsNewCaller l.line l.config.log g.M.Terms.terms.mutators k (get_or l.all.items k d))

@@ -4,16 +4,16 @@ use denote.Struct.Owning.{shape, fields, to}
 use denote.Param.Send.{IsSend, AllSend, owning_send, struct_send, sendable}
 use Rattle.std_alloc.proofs.SendSync.{quiet}
 use Rattle.std.proofs.alloc.Global.TheSendSync as global
-use Rattle.g1_race.proofs.race.Racer.TheSendSync.{the_send as part}
+use Rattle.g1_race.proofs.race.Racer.TheSendSync.{the_send as role}
 use Rattle.g1_handles.proofs.member.Member.TheSendSync as member
-use Rattle.g1_handles.specs.contracts.member.RacerPart.TheImpl.{ghosts}
+use Rattle.g1_handles.specs.contracts.member.RacerRole.TheImpl.{ghosts}
 use Rattle.g1_handles.proofs.Sending.{keyless}
 use Rattle.g1_handles.specs.Own.{racer_row as R}
 use Rattle.g1_handles.specs.contracts.member.racer_handle.RacerHandle.{the_row, the_type}
 
 pub send : IsSend the_row
 send =
-    let home = member.the_send _ ghosts part in
+    let home = member.the_send _ ghosts role in
     let all : AllSend (fields the_type) = (search sendable, (global.the_field_send, tt)) in
     owning_send the_type all (λ d. keyless R home d.alloc d.at d.value)
     (λ k. quiet (to the_type) (exits_of k (fields the_type)) ((struct_send (shape the_type) all).leaving k))

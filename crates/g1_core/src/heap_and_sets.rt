@@ -13,7 +13,7 @@ use g1_sets::Sets;
 /// What stands for the plain table of a core: the heap with its card table, the remembered sets,
 /// and how many cards are pending.
 #[derive(Drop)]
-pub(crate) struct Parts {
+pub(crate) struct HeapAndSets {
     pub(crate) heap: Heap,
     pub(crate) sets: Sets,
     pub(crate) pending: u32,
@@ -21,7 +21,7 @@ pub(crate) struct Parts {
     pub(crate) targets: ArrayVec<Region, 64>,
 }
 
-impl Parts {
+impl HeapAndSets {
     /// Refines a card: its pairs are recorded and its mark is cleaned, or neither.
     #[inline(always)]
     pub(crate) fn refine(&mut self, card: Card) -> Result<(), NoMemory>

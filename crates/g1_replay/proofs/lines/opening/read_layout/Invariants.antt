@@ -2,7 +2,7 @@ use Rattle.std.proofs.Common.{[], None, true, ◌^◌, ◌-◌}
 use Rattle.std.specs.Prelude.{Ok}
 use Rattle.g1_trace.specs.declared.dialect.Dialect.{Dialect}
 use Rattle.g1_replay.specs.Reading.{Reads}
-use Rattle.g1_replay.proofs.lines.opening.read_heap.Given as goal
+use Rattle.g1_replay.proofs.lines.opening.read_layout.Given as goal
 
 -- what was passed over so far
 abbrev pub invariant-lines : goal.invariant-lines

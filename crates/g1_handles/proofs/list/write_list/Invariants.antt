@@ -1,6 +1,6 @@
 -- The first i places have the first i numbers, and the others are as they were.
 use Rattle.std.proofs.Common.{◌≡◌, length, take, drop}
-use Rattle.g1_handles.proofs.list.put.Given as goal
+use Rattle.g1_handles.proofs.list.write_list.Given as goal
 
 abbrev pub invariant-loop-i : goal.invariant-loop-i
 invariant-loop-i l = (length l.array ≡ length l.initial.array) × (take l.i l.array ≡ take l.i l.cards) × (drop l.i l.array ≡ drop l.i l.initial.array)

@@ -1,7 +1,7 @@
 use Rattle.std.proofs.Common.{None}
 use Rattle.std.proofs.lemmas.Result.{err_from_is_err_and}
 use Rattle.g1_replay.proofs.ReadingLemmas.{reads_then}
-use Rattle.g1_replay.proofs.lines.opening.read_heap.Goals as goal
+use Rattle.g1_replay.proofs.lines.opening.read_layout.Goals as goal
 
 pub returns-in_err-next_header-clause-read : goal.returns-in_err-next_header-clause-read
 returns-in_err-next_header-clause-read g c =

@@ -4,7 +4,7 @@ use Rattle.std.specs.FinSet as set
 use Rattle.g1_layout.specs.Shape.{Shape}
 use Rattle.g1_sets.specs.Pairs.{of_card}
 use Rattle.g1_core.proofs.GainLemmas.{gained_is, gained_nothing}
-use Rattle.g1_core.proofs.parts.Parts.record.Goals as goal
+use Rattle.g1_core.proofs.heap_and_sets.HeapAndSets.record.Goals as goal
 
 pub record-requires-clause-regions : goal.record-requires-clause-regions
 record-requires-clause-regions c =

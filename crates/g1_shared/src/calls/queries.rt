@@ -1,0 +1,160 @@
+//! Queries under the lock, and any call by its value.
+ghost use Rattle.std.specs.Prelude.{◌<◌, IfOk};
+ghost use Rattle.g1_layout.specs.Shape.{slot_count, card_count};
+ghost use Rattle.g1_core.specs.Calls.{target_entry, pending_entry, members_entry, status_entry};
+ghost use Rattle.g1_core.specs.Calls.{DoesTarget, DoesPending, DoesMembers, DoesStatus};
+ghost use Rattle.g1_history.specs.Asked.{IsAsked, MadeAsked};
+ghost use Rattle.g1_history.specs.History.{Made, RefusesBy};
+ghost use Rattle.g1_shared.specs.Callers.{CallsOnce};
+
+use crate::caller::Caller;
+use crate::calls::stores::raise_made;
+use crate::counted::Counted;
+use crate::ledgers::Terms;
+use crate::shared::Shared;
+use g1_core::{Call, CardList, Reply, Status};
+use g1_history::{Keeps, Refusal};
+use g1_layout::{Card, Region, Slot};
+use std::sync::Wait;
+use std::sync::ledger::Ledger;
+
+/// Each is the call of the book, by the number of its caller.
+#[tactic(auto, using(crate::proofs::CallLemmas::counted_call))]
+impl<M: Terms, S: Ledger, H: Keeps> Counted<M, S, H> {
+    /// Returns what a slot refers to, as `Book::target` does, for this caller.
+    pub fn target(&mut self, caller: &mut Caller<M, S>, slot: Slot) -> Result<Option<Slot>, Refusal>
+        requires { slot < slot_count M.terms.layout }
+        ensures made { IfOk result (λ target. Made H.KEEPS self.old
+            (target_entry caller.old.counts.number slot target) (DoesTarget slot target) self.new) }
+        ensures called { CallsOnce caller.old result caller.new }
+        ensures kept { RefusesBy H.KEEPS self.old result self.new }
+    {
+        let target = self.book.target(caller.counts.number(), slot)?;
+        raise_made(&self.book, &mut self.made, &mut caller.counts);
+        Ok(target)
+    }
+
+    /// Returns whether a card is pending, as `Book::is_pending` does, for this caller.
+    pub fn is_pending(&mut self, caller: &mut Caller<M, S>, card: Card) -> Result<bool, Refusal>
+        requires { card < card_count M.terms.layout }
+        ensures made { IfOk result (λ answer. Made H.KEEPS self.old
+            (pending_entry caller.old.counts.number card answer)
+            (DoesPending card answer) self.new) }
+        ensures called { CallsOnce caller.old result caller.new }
+        ensures kept { RefusesBy H.KEEPS self.old result self.new }
+    {
+        let answer = self.book.is_pending(caller.counts.number(), card)?;
+        raise_made(&self.book, &mut self.made, &mut caller.counts);
+        Ok(answer)
+    }
+
+    /// Returns the recorded remembered set of a region, as `Book::members` does, for this caller.
+    pub fn members(
+        &mut self,
+        caller: &mut Caller<M, S>,
+        region: Region,
+    ) -> Result<CardList, Refusal>
+        requires { region < M.terms.layout.regions }
+        ensures made { IfOk result (λ cards. Made H.KEEPS self.old
+            (members_entry caller.old.counts.number region cards)
+            (DoesMembers region cards) self.new) }
+        ensures called { CallsOnce caller.old result caller.new }
+        ensures kept { RefusesBy H.KEEPS self.old result self.new }
+    {
+        let cards = self.book.members(caller.counts.number(), region)?;
+        raise_made(&self.book, &mut self.made, &mut caller.counts);
+        Ok(cards)
+    }
+
+    /// Returns how much is pending and recorded, as `Book::status` does, for this caller.
+    pub fn status(&mut self, caller: &mut Caller<M, S>) -> Result<Status, Refusal>
+        ensures made { IfOk result (λ status. Made H.KEEPS self.old
+            (status_entry caller.old.counts.number status) (DoesStatus status) self.new) }
+        ensures called { CallsOnce caller.old result caller.new }
+        ensures kept { RefusesBy H.KEEPS self.old result self.new }
+    {
+        let status = self.book.status(caller.counts.number())?;
+        raise_made(&self.book, &mut self.made, &mut caller.counts);
+        Ok(status)
+    }
+
+    /// As the book's `ask`, for this caller.
+    pub fn ask(&mut self, caller: &mut Caller<M, S>, call: Call) -> Result<Reply, Refusal>
+        requires { IsAsked M.terms.layout call }
+        ensures made { IfOk result (λ reply.
+            MadeAsked H.KEEPS self.old caller.old.counts.number call reply self.new) }
+        ensures called { CallsOnce caller.old result caller.new }
+        ensures kept { RefusesBy H.KEEPS self.old result self.new }
+    {
+        let reply = self.book.ask(caller.counts.number(), call)?;
+        raise_made(&self.book, &mut self.made, &mut caller.counts);
+        Ok(reply)
+    }
+}
+
+/// Each call waits for the lock, makes the call of what is kept under it for the caller, and
+/// returns its reply. It counts as one call of that caller (over a book, as one entry), or is
+/// refused, which leaves the caller as it was. A clause can say no more of what was under the
+/// lock. The guard (`lock`) makes the same calls with their whole contracts.
+impl<M: Terms, S: Ledger, H: Keeps> Shared<M, S, H> {
+    /// Returns what a slot refers to, by a call under the lock (`Counted::target`).
+    pub fn target<R: Wait>(
+        &self,
+        rt: &R,
+        caller: &mut Caller<M, S>,
+        slot: Slot,
+    ) -> Result<Option<Slot>, Refusal>
+        requires { slot < slot_count M.terms.layout }
+        ensures called { CallsOnce caller.old result caller.new }
+    {
+        self.counted.lock(rt).target(caller, slot)
+    }
+
+    /// Returns whether a card is pending, by a call under the lock (`Counted::is_pending`).
+    pub fn is_pending<R: Wait>(
+        &self,
+        rt: &R,
+        caller: &mut Caller<M, S>,
+        card: Card,
+    ) -> Result<bool, Refusal>
+        requires { card < card_count M.terms.layout }
+        ensures called { CallsOnce caller.old result caller.new }
+    {
+        self.counted.lock(rt).is_pending(caller, card)
+    }
+
+    /// Returns the recorded remembered set of a region, by a call under the lock
+    /// (`Counted::members`).
+    pub fn members<R: Wait>(
+        &self,
+        rt: &R,
+        caller: &mut Caller<M, S>,
+        region: Region,
+    ) -> Result<CardList, Refusal>
+        requires { region < M.terms.layout.regions }
+        ensures called { CallsOnce caller.old result caller.new }
+    {
+        self.counted.lock(rt).members(caller, region)
+    }
+
+    /// Returns how much is pending and recorded, by a call under the lock (`Counted::status`).
+    pub fn status<R: Wait>(&self, rt: &R, caller: &mut Caller<M, S>) -> Result<Status, Refusal>
+        ensures called { CallsOnce caller.old result caller.new }
+    {
+        self.counted.lock(rt).status(caller)
+    }
+
+    /// Makes any call but a store and a refinement by its value, under the lock (`Counted::ask`):
+    /// `target` makes a `Call::Target`, and so on.
+    pub fn ask<R: Wait>(
+        &self,
+        rt: &R,
+        caller: &mut Caller<M, S>,
+        call: Call,
+    ) -> Result<Reply, Refusal>
+        requires { IsAsked M.terms.layout call }
+        ensures called { CallsOnce caller.old result caller.new }
+    {
+        self.counted.lock(rt).ask(caller, call)
+    }
+}

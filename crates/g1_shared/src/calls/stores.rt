@@ -1,0 +1,167 @@
+//! Stores and refinement under the lock. Those of a [`Shared`](crate::Shared) are steps of its
+//! callers, which take more than one call.
+ghost use Rattle.std.specs.Prelude.{◌≡◌, ◌+◌, ◌<◌, ◌^◌, IfOk, OnErr, OnOk, IfSome, IsNone};
+ghost use Rattle.std.specs.Prelude.{option_map};
+ghost use Rattle.g1_layout.specs.Shape.{slot_count, card_of};
+ghost use Rattle.g1_core.specs.Calls.{store_entry, refine_entry, IsLent, DoesStore, DoesRefine};
+ghost use Rattle.g1_history.specs.History.{Made, RefusesBy, made_of};
+ghost use Rattle.g1_shared.specs.Answers.{IsKindAt, IsReplyAt};
+ghost use Rattle.g1_shared.specs.Counts.{one_call, one_store};
+ghost use Rattle.g1_shared.specs.Callers.{CallsOnce, HandsOut};
+
+use crate::caller::{Caller, CallerCounts};
+use crate::counted::Counted;
+use crate::ledgers::{Terms, raise};
+use g1_core::{RefineReply, StoreReply};
+use g1_history::{Book, Keeps, Refusal};
+use g1_layout::Slot;
+use g1_log::{Buffer, Log};
+use g1_steps::Mutator;
+use std::sync::ledger;
+use std::sync::ledger::Ledger;
+
+/// Each is the call of the book, by the number of its caller.
+#[tactic(auto, using(crate::proofs::CallLemmas::counted_call, crate::proofs::KindLemmas::kind_at))]
+impl<M: Terms, S: Ledger, H: Keeps> Counted<M, S, H> {
+    /// Stores a reference, or null, with this caller's log, as `Book::store` does.
+    ///
+    /// The caller is a mutator. Each card of a buffer that is handed out stays pending until it is
+    /// refined.
+    pub fn store(
+        &mut self,
+        caller: &mut Caller<M, S>,
+        slot: Slot,
+        target: Option<Slot>,
+    ) -> Result<(StoreReply, Option<Buffer>), Refusal>
+        requires caller { caller.old.counts.number < M.terms.mutators }
+        requires slot { slot < slot_count M.terms.layout }
+        requires target { IfSome target (λ place. place < slot_count M.terms.layout) }
+        ensures made { IfOk result (λ answer. Made H.KEEPS self.old
+            (store_entry caller.old.counts.number slot target answer.0)
+            (DoesStore slot target answer.0) self.new) }
+        ensures buffer { IfOk result (λ answer.
+            HandsOut caller.old (card_of M.terms.layout slot) answer.0 answer.1 caller.new) }
+        ensures counts { OnOk result (caller.new.counts ≡ one_store caller.old.counts) }
+        ensures kept { RefusesBy H.KEEPS self.old result self.new }
+        ensures err { OnErr result (caller.new ≡ caller.old) }
+    {
+        let Some(mutator) = &mut caller.mutator else {
+            unreachable!()
+        };
+        self.store_of(&mut caller.counts, mutator, slot, target)
+    }
+
+    // A store with the log of a mutator, which is borrowed whole.
+    fn store_of(
+        &mut self,
+        counts: &mut CallerCounts<M, S>,
+        mutator: &mut Mutator,
+        slot: Slot,
+        target: Option<Slot>,
+    ) -> Result<(StoreReply, Option<Buffer>), Refusal>
+        requires caller { counts.old.number < M.terms.mutators }
+        requires places { (slot < slot_count M.terms.layout)
+            × IfSome target (λ place. place < slot_count M.terms.layout) }
+        ensures made { IfOk result (λ answer. Made H.KEEPS self.old
+            (store_entry counts.old.number slot target answer.0)
+            (DoesStore slot target answer.0) self.new) }
+        ensures lent { IfOk result (λ answer. IsLent (card_of M.terms.layout slot)
+            answer.0 mutator.old.log mutator.new.log answer.1) }
+        ensures sender { mutator.new.sender ≡ mutator.old.sender }
+        ensures counts { OnOk result (counts.new ≡ one_store counts.old) }
+        ensures kept { RefusesBy H.KEEPS self.old result self.new }
+        ensures err { OnErr result ((counts.new ≡ counts.old)
+            × (mutator.new.log ≡ mutator.old.log)) }
+    {
+        let mut completed = None;
+        let reply = self.store_by(counts, &mut mutator.log, &mut completed, slot, target)?;
+        Ok((reply, completed))
+    }
+
+    /// As the book's store, by these counts' caller, with the given log and the lent place.
+    #[inline(always)]
+    pub(crate) fn store_by(
+        &mut self,
+        counts: &mut CallerCounts<M, S>,
+        log: &mut Log,
+        completed: &mut Option<Buffer>,
+        slot: Slot,
+        target: Option<Slot>,
+    ) -> Result<StoreReply, Refusal>
+        requires caller { counts.old.number < M.terms.mutators }
+        requires empty { IsNone completed.old }
+        requires places { (slot < slot_count M.terms.layout)
+            × IfSome target (λ place. place < slot_count M.terms.layout) }
+        ensures made { IfOk result (λ reply. Made H.KEEPS self.old
+            (store_entry counts.old.number slot target reply)
+            (DoesStore slot target reply) self.new) }
+        ensures lent { IfOk result (λ reply.
+            IsLent (card_of M.terms.layout slot) reply log.old log.new completed.new
+            × IsKindAt M.terms.layout slot target reply.kind) }
+        ensures counts { OnOk result (counts.new ≡ one_store counts.old) }
+        ensures kept { RefusesBy H.KEEPS self.old result self.new }
+        ensures err { OnErr result ((counts.new ≡ counts.old) × (log.new ≡ log.old)
+            × (completed.new ≡ completed.old)) }
+    {
+        let reply = self
+            .book
+            .store_into(counts.number(), log, completed, slot, target)?;
+        let _layout = self.book.layout();
+        raise(&mut self.made, &mut counts.made_share, &mut counts.made);
+        raise(
+            &mut self.stored,
+            &mut counts.stored_share,
+            &mut counts.stored,
+        );
+        Ok(reply)
+    }
+
+    /// Refines a buffer for this caller, as `Book::refine` does.
+    pub fn refine(
+        &mut self,
+        caller: &mut Caller<M, S>,
+        buffer: Option<&Buffer>,
+    ) -> Result<RefineReply, Refusal>
+        ensures made { IfOk result (λ reply. Made H.KEEPS self.old
+            (refine_entry caller.old.counts.number reply)
+            (DoesRefine (option_map (λ b. b.now) buffer.entry) reply) self.new) }
+        ensures called { CallsOnce caller.old result caller.new }
+        ensures kept { RefusesBy H.KEEPS self.old result self.new }
+    {
+        self.refine_by(&mut caller.counts, buffer)
+    }
+
+    /// As the book's refinement, by these counts' caller.
+    pub(crate) fn refine_by(
+        &mut self,
+        counts: &mut CallerCounts<M, S>,
+        buffer: Option<&Buffer>,
+    ) -> Result<RefineReply, Refusal>
+        ensures made { IfOk result (λ reply. Made H.KEEPS self.old
+            (refine_entry counts.old.number reply)
+            (DoesRefine (option_map (λ b. b.now) buffer.entry) reply) self.new) }
+        ensures answer { IfOk result (λ reply.
+            IsReplyAt M.terms.layout (option_map (λ b. b.now) buffer.entry) reply) }
+        ensures counts { OnOk result (counts.new ≡ one_call counts.old) }
+        ensures kept { RefusesBy H.KEEPS self.old result self.new }
+        ensures err { OnErr result (counts.new ≡ counts.old) }
+    {
+        let reply = self.book.refine(counts.number(), buffer)?;
+        raise_made(&self.book, &mut self.made, counts);
+        Ok(reply)
+    }
+}
+
+// One more call in the total of all calls, and in the counts of the caller that made it.
+pub(super) fn raise_made<M: Terms, S: Ledger, H: Keeps>(
+    book: &Book<H>,
+    total: &mut ledger::Book<M>,
+    counts: &mut CallerCounts<M, S>,
+)
+    requires entered { made_of H.KEEPS book.now.entries book.now.totals ≡ total.old.total + 1 }
+    ensures total { total.new.total ≡ total.old.total + 1 }
+    ensures counts { counts.new ≡ one_call counts.old }
+{
+    let _layout = book.layout();
+    raise(total, &mut counts.made_share, &mut counts.made);
+}
