@@ -1,5 +1,5 @@
 -- What a clause of an exported call says once the call's result is known.
-use Rattle.std.proofs.Common.{◌≡◌, ◌<◌, ◌≤◌, ◌⊎◌, ℕ, arith, subst, MutBor}
+use Rattle.std.proofs.Common.{◌≡◌, ◌≤◌, ◌⊎◌, ℕ, arith, subst, MutBor}
 use Rattle.std.specs.Prelude.{Option, Some, None, Result, Ok, Err, IsSomeAnd, IfSome}
 use Rattle.std.specs.Fn.{FnOnceReturnsAtMut}
 use denote.Param.Members.{Once}
@@ -9,7 +9,8 @@ use Rattle.g1_handles.specs.declared.heap.racing_heap.RacingHeap.{RacingHeap}
 use Rattle.g1_handles.specs.declared.member.Role.{Ghosts}
 use Rattle.g1_handles.specs.declared.member.Member.{Member}
 use Rattle.g1_layout.specs.declared.kind.Kind.{Kind}
-use Rattle.g1_handles.specs.Codes.{OfKind, kind_word}
+use Rattle.g1_handles.specs.Codes.{OfKind, kind_word, refusal_word}
+use Rattle.g1_c.specs.Calls.{TellsRefusal}
 use Rattle.g1_handles.specs.Racing.{OfRole, IfRole}
 use Rattle.g1_handles.specs.Refusals.{SaysNoMember}
 use Rattle.g1_handles.specs.Visits.{IsVisit}
@@ -18,34 +19,17 @@ use Rattle.g1_handles.specs.HeapCalls.{IsCalled}
 use Rattle.g1_handles.proofs.VisitLemmas.{role_ok, role_of, role_why, role_if, visit_same}
 use Rattle.g1_handles.proofs.CalledLemmas.{called_ok, called_why, called_same}
 
--- the word of a refusal is none of what a call did
-pub not_0 : {A : Type 0} (r : ℕ) → 7 < r → r ≡ 0 → A
-not_0 r refused done = absurd (omega arith)
+module _ {V : Type 0} (most word : ℕ) (old new : Option V) (Untold : Type 0) (Why : Refusal → Type 0) where
+  -- what a call did is no refusal
+  pub tells_none : word ≤ most → TellsRefusal most word old new Untold Why
+  tells_none done = record {
+    untold = λ above. absurd (omega (arith, done, above));
+    why = λ above. absurd (omega (arith, done, above));
+    same = λ above. absurd (omega (arith, done, above));
+  }
 
-pub not_2 : {A : Type 0} (r : ℕ) → 7 < r → r ≡ 2 → A
-not_2 r refused done = absurd (omega arith)
-
-pub not_3 : {A : Type 0} (r : ℕ) → 7 < r → r ≡ 3 → A
-not_3 r refused done = absurd (omega arith)
-
-pub not_upto_2 : {A : Type 0} (r : ℕ) → 7 < r → r ≤ 2 → A
-not_upto_2 r refused done = absurd (omega arith)
-
-pub not_upto_3 : {A : Type 0} (r : ℕ) → 7 < r → r ≤ 3 → A
-not_upto_3 r refused done = absurd (omega arith)
-
--- and what a call did is no refusal
-pub not_above : {A : Type 0} (n : ℕ) → n < n → A
-not_above n above = absurd (omega arith)
-
-pub not_below_0 : {A : Type 0} (n : ℕ) → n < 0 → A
-not_below_0 n below = absurd (omega arith)
-
-pub two_not_0 : {A : Type 0} → ◌≡◌ {A = ℕ} 2 0 → A
-two_not_0 e = absurd (omega arith)
-
-pub zero_not_2 : {A : Type 0} → ◌≡◌ {A = ℕ} 0 2 → A
-zero_not_2 e = absurd (omega arith)
+  pub tells : (r : Refusal) → word ≡ refusal_word r → Untold → Why r → new ≡ old → TellsRefusal most word old new Untold Why
+  tells r is untold why same = record { untold = λ _. untold; why = λ _. (r, is, why); same = λ _. same }
 
 -- what is so of two values is so of what they equal
 moved : {V : Type 0} (P : V → V → Type 0) {p q x y : V} → p ≡ x → q ≡ y → P p q → P x y
@@ -54,10 +38,6 @@ moved P {p} {q} {x} {y} e f so = subst (λ v. P v y) e (subst (λ v. P p v) f so
 some_so : {A : Type 0} (P Q : A → Type 0) (o : Option A) → ((x : A) → P x → Q x) → IsSomeAnd o P → IsSomeAnd o Q
 some_so P Q None so is = is
 some_so P Q (Some x) so is = so x is
-
-if_all : {A : Type 0} (Q : A → Type 0) (o : Option A) → ((x : A) → Q x) → IfSome o Q
-if_all Q None so = tt
-if_all Q (Some x) so = so x
 
 if_so : {A : Type 0} (P Q : A → Type 0) (o : Option A) → ((x : A) → P x → Q x) → IfSome o P → IfSome o Q
 if_so P Q None so is = tt
@@ -74,19 +54,6 @@ module _ {P : Type 0} {g : Ghosts P} {T : Type 0} (seen : Member P g → P → T
   of_kind R old new word k is so =
       of_so (λ a. OfRole seen new (λ b. R k a b)) (λ a. OfRole seen new (λ b. OfKind word (λ kind. R kind a b))) old
       (λ a. of_so (λ b. R k a b) (λ b. OfKind word (λ kind. R kind a b)) new (λ b stores. (k, is, stores))) so
-
-  -- what was done was done whatever holds of the role
-  pub if_1 : (X : T → Type 0) (Z : Type 0) (m : Option (Member P g)) → Z → IfRole seen m (λ a. X a → Z)
-  if_1 X Z None z = tt
-  if_1 X Z (Some m) z = if_all (λ p. X (seen m p) → Z) m.role (λ p x. z)
-
-  pub if_2 : (X Y : T → Type 0) (Z : Type 0) (m : Option (Member P g)) → Z → IfRole seen m (λ a. X a → Y a → Z)
-  if_2 X Y Z None z = tt
-  if_2 X Y Z (Some m) z = if_all (λ p. X (seen m p) → Y (seen m p) → Z) m.role (λ p x y. z)
-
-  pub if_3 : (W X Y : T → Type 0) (Z : Type 0) (m : Option (Member P g)) → Z → IfRole seen m (λ a. W a → X a → Y a → Z)
-  if_3 W X Y Z None z = tt
-  if_3 W X Y Z (Some m) z = if_all (λ p. W (seen m p) → X (seen m p) → Y (seen m p) → Z) m.role (λ p w x y. z)
 
   if_role_so : (R Q : T → Type 0) (m : Option (Member P g)) → ((a : T) → R a → Q a) → IfRole seen m R → IfRole seen m Q
   if_role_so R Q None so is = tt

@@ -104,10 +104,6 @@ module _ (l : Shape) (refs : List (Option ℕ)) (from to : ℕ) where
       ∙ append_assoc before (changes_of l refs from to earlier) (cons_option o [])
       ∙ ap (λ (ys : List Change). before ++ ys) (ap (λ (ys : List Change). changes_of l refs from to earlier ++ ys) (sym (one_change slot o is)) ∙ sym (changes_both earlier (slot ∷ [])) ∙ ap (λ (ks : List ℕ). changes_of l refs from to ks) (sym range))
 
-  -- no card gains a reference at first, and one more card gains one or not
-  pub gaining_none : (gaining : List ℕ) → gaining ≡ [] → AreGaining l refs from to [] gaining
-  gaining_none gaining none = subst (λ (gs : List ℕ). AreGaining l refs from to [] gs) (sym none) (λ q. (λ c. absurd (omega (arith, c.1)), λ g. absurd (omega (arith, g.0.1))))
-
   pub gaining_push : (cards gaining : List ℕ) (card : ℕ) → AreGaining l refs from to cards gaining → 1 ≤ length (changes_of l refs from to (slots_of l card)) → region_of_card l card ≢ to → AreGaining l refs from to (cards ++ card ∷ []) (gaining ++ card ∷ [])
   gaining_push cards gaining card h some outside = λ q. (
     λ c. elim (Contains-append_cases gaining (card ∷ []) q c) [

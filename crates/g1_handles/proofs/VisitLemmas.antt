@@ -23,39 +23,12 @@ module _ {V A : Type 0} (Q : V → Result A Refusal → V → Type 0) where
   visited {old} {new} {p} {q} {lent} {r} is of later met =
       subst (λ v. IsVisit Q v r new) (sym (is ∙ ap (λ x. Some x) (sym of))) (subst (λ v. IsVisit Q (Some lent) r v) (sym later) met)
 
-  -- a call that answers was made on an open handle
-  pub visit_ok : (P : V → V → Type 0) (old new : Option V) (answer : A)
-      → ((p q : V) → Q p (Ok answer) q → P p q) → IsVisit Q old (Ok answer) new → Between old new P
-  visit_ok P None new answer so is = absurd (subst is_ok is.1 tt)
-  visit_ok P (Some p) None answer so is = is
-  visit_ok P (Some p) (Some q) answer so is = so p q is
-
-  pub visit_of : (P : V → Type 0) (old new : Option V) (answer : A)
-      → ((p q : V) → Q p (Ok answer) q → P p) → IsVisit Q old (Ok answer) new → OfOpen old P
-  visit_of P None new answer so is = absurd (subst is_ok is.1 tt)
-  visit_of P (Some p) None answer so is = absurd is
-  visit_of P (Some p) (Some q) answer so is = so p q is
-
   -- what follows from each call that answers is so
   pub visit_so : (P : Type 0) (old new : Option V) (answer : A)
       → ((p q : V) → Q p (Ok answer) q → P) → IsVisit Q old (Ok answer) new → P
   visit_so P None new answer so is = absurd (subst is_ok is.1 tt)
   visit_so P (Some p) None answer so is = absurd is
   visit_so P (Some p) (Some q) answer so is = so p q is
-
-  -- a call that is refused has a reason
-  pub visit_why : (Why : V → Refusal → Type 0) (old new : Option V) (r : Refusal)
-      → ((p q : V) → Q p (Err r) q → Why p r) → IsVisit Q old (Err r) new → IsCallRefused old Why r
-  visit_why Why None new r so is = inl (ap (err_of r) is.1, refl)
-  visit_why Why (Some p) None r so is = absurd is
-  visit_why Why (Some p) (Some q) r so is = inr (so p q is)
-
-  -- and what follows from each call is so of an open handle
-  pub visit_if : (P : V → Type 0) (old new : Option V) (r : Result A Refusal)
-      → ((p q : V) → Q p r q → P p) → IsVisit Q old r new → IfSome old P
-  visit_if P None new r so is = tt
-  visit_if P (Some p) None r so is = absurd is
-  visit_if P (Some p) (Some q) r so is = so p q is
 
   -- nothing has changed where the call keeps what it is made on
   pub visit_same : (old new : Option V) (r : Result A Refusal)

@@ -44,7 +44,7 @@ pub record SlotRefers (heap : Pause) (slot : ℕ) (target : Option ℕ) : Type 0
 pub record TellsPending (heap : Pause) (card : ℕ) (answer : Bool) : Type 0 where
   pub pending : answer ≡ set.contains (table_at heap).pending card
   pub step : (caller : ℕ)
-    → IsStep (table_at heap) (pending_entry caller card answer) (table_at heap)
+      → IsStep (table_at heap) (pending_entry caller card answer) (table_at heap)
 
 -- the status counts the pending cards and the recorded pairs
 pub record TellsStatus (heap : Pause) (status : Status) : Type 0 where
@@ -56,7 +56,7 @@ pub record TellsStatus (heap : Pause) (status : Status) : Type 0 where
 pub record TellsMembers (heap : Pause) (region : ℕ) (cards : List ℕ) : Type 0 where
   pub members : AreMembers (table_at heap) region cards
   pub step : (caller : ℕ)
-    → IsStep (table_at heap) (members_entry caller region cards) (table_at heap)
+      → IsStep (table_at heap) (members_entry caller region cards) (table_at heap)
 
 -- all is refined, and these cards are every one that holds into the region, and only such or
 -- recorded ones

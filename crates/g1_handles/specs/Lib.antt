@@ -18,3 +18,4 @@ pub mod Sets
 pub mod Verifying
 pub mod Copies
 pub mod Readers
+pub mod Phases

@@ -71,8 +71,3 @@ pub marked : (l : Shape) (words bytes : List ℕ) (reads card at byte : ℕ) (ma
 marked l words bytes reads card at byte mark c is e made =
     let marks : map mark_of (list_set bytes at byte) ≡ list_set (map mark_of bytes) card mark = map-set mark_of bytes at byte ∙ (λ i. list_set (map mark_of bytes) (e i) (made i)) in
     (λ i. record { layout = l; refs = map (ref_of l) words; marks = marks i; reads = reads }) ∙ ap (λ d. with_mark d card mark) is
-
--- a read of a slot
-pub read_ref : (l : Shape) (words bytes : List ℕ) (reads slot at : ℕ) (target : Option ℕ) (c : Cells) → ◌≡◌ {A = Cells} (record { layout = l; refs = map (ref_of l) words; marks = map mark_of bytes; reads = reads }) c → at ≡ slot → at < length words → SomeIff target (get_or words at 0 < slot_count l) (get_or words at 0) → target ≡ get_or c.refs slot None
-read_ref l words bytes reads slot at target c is e below h =
-    ref_of-slot l (get_or words at 0) target h ∙ sym (get_or-map (ref_of l) words at 0 None below) ∙ (λ i. get_or (is i).refs (e i) None)

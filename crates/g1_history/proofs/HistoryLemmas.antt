@@ -76,24 +76,9 @@ call_made keeps old m n mutators p q r e f did was step same entered called late
       did = does;
     })
 
--- a list is the same only where entries are kept
-pub copied_as : (keeps : Bool) (p : Past) (caller : ℕ) (call : Call) (reply reply' : Reply) (xs ys : List ℕ) → (keeps ≡ true → reply ≡ reply') → (keeps ≡ true → xs ≡ ys)
-    → past_with keeps p (record { caller = caller; call = call; reply = reply; refined = xs }) ≡ past_with keeps p (record { caller = caller; call = call; reply = reply'; refined = ys })
-copied_as true p caller call reply reply' xs ys replies lists = λ i. past_with true p (record { caller = caller; call = call; reply = replies refl i; refined = lists refl i })
-copied_as false p caller call reply reply' xs ys replies lists = refl
-
 -- a question leaves the core as it was
 pub same_later : (m : Machine) → IsSound m.state → IsLater m m
 same_later m sound = record { layout = refl; settings = refl; sound = sound; reads = omega arith }
-
--- as many calls were made as there may be at most
-pub kept_within : (keeps : Bool) (h : History) → IsKept keeps h → made_of keeps h.entries h.totals ≤ h.limit
-kept_within true h is = is.within
-kept_within false h is = is.within
-
-pub kept_shape : (keeps : Bool) (h : History) → IsKept keeps h → IsShape (layout_in h)
-kept_shape true h is = is.shape
-kept_shape false h is = is.shape
 
 -- cover holds after every history
 pub history_covered : (h : History) → IsHistory h → IsCovered (table_in h)

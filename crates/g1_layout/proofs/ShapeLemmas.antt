@@ -26,10 +26,6 @@ row_of_slot l slot shape = record { from = div-mul-le_self slot l.slots; below =
 pub row_of_card : (l : Shape) (card slot : ℕ) → IsShape l → card_of l slot ≡ card → IsInRow l card slot
 row_of_card l card slot shape e = subst (λ (c : ℕ). IsInRow l c slot) e (row_of_slot l slot shape)
 
--- the first slot of a card lies on it
-pub card_of-first : (l : Shape) (card : ℕ) → IsShape l → card_of l (card * l.slots) ≡ card
-card_of-first l card shape = card_of-in_row l card (card * l.slots) (record { from = omega arith; below = omega (arith, shape.slots_low) })
-
 -- a slot's region is its card's region
 pub region_of_slot : (l : Shape) (slot : ℕ) → region_of_card l (card_of l slot) ≡ region_of l slot
 region_of_slot l slot = div-div-eq-div-mul slot l.slots l.cards ∙ ap (λ (k : ℕ). slot / k) (mul_comm l.slots l.cards)
@@ -37,13 +33,6 @@ region_of_slot l slot = div-div-eq-div-mul slot l.slots l.cards ∙ ap (λ (k : 
 -- so the slots of a card lie in the card's region
 pub region_of-row : (l : Shape) (card k : ℕ) → k < l.slots → region_of l (card * l.slots + k) ≡ region_of_card l card
 region_of-row l card k less = sym (region_of_slot l (card * l.slots + k)) ∙ ap (region_of_card l) (card_of-row l card k less)
-
-pub region_of-first : (l : Shape) (card : ℕ) → IsShape l → region_of l (card * l.slots) ≡ region_of_card l card
-region_of-first l card shape = sym (region_of_slot l (card * l.slots)) ∙ ap (region_of_card l) (card_of-first l card shape)
-
--- a region's cards and slots are its own
-pub region_of_card-row : (l : Shape) (region k : ℕ) → k < l.cards → region_of_card l (region * l.cards + k) ≡ region
-region_of_card-row l region k less = div-mul-add region l.cards k less
 
 pub region_of-offset : (l : Shape) (region k : ℕ) → k < l.cards * l.slots → region_of l (region * (l.cards * l.slots) + k) ≡ region
 region_of-offset l region k less = div-mul-add region (l.cards * l.slots) k less
@@ -55,9 +44,6 @@ region_has_slots l shape = mul-le 1 1 l.cards l.slots shape.cards_low shape.slot
 -- numbers are in range
 pub card_of_below : (l : Shape) (slot : ℕ) → IsShape l → slot < slot_count l → card_of l slot < card_count l
 card_of_below l slot shape less = (div-lt_iff_lt-mul shape.slots_low).1 less
-
-pub region_of_card_below : (l : Shape) (card : ℕ) → IsShape l → card < card_count l → region_of_card l card < l.regions
-region_of_card_below l card shape less = (div-lt_iff_lt-mul shape.cards_low).1 less
 
 pub region_of_below : (l : Shape) (slot : ℕ) → IsShape l → slot < slot_count l → region_of l slot < l.regions
 region_of_below l slot shape less = (div-lt_iff_lt-mul (region_has_slots l shape)).1 (omega (arith, less, mul_assoc l.regions l.cards l.slots))
@@ -80,10 +66,6 @@ pub same_offset_below : (l : Shape) (place to : ℕ) → 0 < l.cards * l.slots �
 same_offset_below l place to some less =
     let rest : place % (l.cards * l.slots) < l.cards * l.slots = omega arith in
     omega (arith, rest, region_ends_within l to less)
-
--- how many cards there are
-pub card_count_le : (l : Shape) → IsShape l → card_count l ≤ slot_count l
-card_count_le l shape = omega (arith, mul-le-mul_left (card_count l) shape.slots_low)
 
 pub card_count_limit : (l : Shape) → IsShape l → card_count l ≤ 16777216
 card_count_limit l shape = mul-le l.regions l.cards 256 65536 shape.regions_high shape.cards_high

@@ -16,9 +16,6 @@ AreNewSenders-push line k (x ∷ xs) j s e h new =
     let d : j ≡ (k + 1) + length xs = omega arith in
     (h.0, AreNewSenders-push line (k + 1) xs j s d h.1 new)
 
-pub sender_view_new : (i : ℕ) (v : View) → new_sender i ≡ v → IsSenderView i v
-sender_view_new i v e = subst (IsSenderView i) e (record { sends = refl; takes = refl; makes = refl; right = omega arith; runs = refl; known = refl })
-
 pub is_new_sender : (line : Line) (k : ℕ) (s : Sender) → IsPassOf line.queue s.pass → view s.pass ≡ new_sender k → s.number ≡ k → IsNewSender line k s
 is_new_sender line k s pass e number = record {
   of = pass.0;
@@ -26,9 +23,6 @@ is_new_sender line k s pass e number = record {
   put = ap (λ (v : View). put_by v) e;
   right = ap (λ (v : View). v.rights) e;
 }
-
-pub is_new_taker : (line : Line) (t : Taker) → IsPassOf line.queue t.pass → view t.pass ≡ new_taker → IsNewTaker line t
-is_new_taker line t pass e = record { of = pass.0; taken = ap (λ (v : View). taken_by v) e }
 
 pub forks_sender : (port r n : ℕ) (v : View) → v ≡ maker r n → 1 < r → Forks IsLineState port v (sender_made v) (new_sender v.made)
 forks_sender port r n v e more = subst (λ u. Forks IsLineState port u (sender_made u) (new_sender u.made)) (sym e) (makes_sender port r n more)

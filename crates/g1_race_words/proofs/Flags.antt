@@ -37,15 +37,6 @@ flag_place c = omega arith
 pub flag_below : (k : Shape) (c : ℕ) → IsWholeShape k → c < k.cards → bit_word k (flag k c) < word_count k
 flag_below k c shaped lt = bit_below k (flag k c) shaped (flag_card k c lt) (omega arith)
 
--- a row is no longer than the bits of all pairs
-pub row_small : (k : Shape) → IsWholeShape k → k.row ≤ k.bits
-row_small k shaped =
-    let same : ℕ = k.regions * k.row in let all : ℕ = k.row * k.regions in let e : k.bits ≡ same = shaped.8 in
-    let some_region : 0 < k.regions = pick k.regions shaped.6 in let le : k.row ≤ all = le-mul_of_pos_right k.row some_region in omega arith
-  where
-    filled : 0 < k.slots
-    filled = subst (λ (n : ℕ). 0 < n) (sym shaped.0) (mul-pos shaped.5 shaped.1)
-
     pick : (r : ℕ) → k.slots ≡ r * k.span → 0 < r
     pick zero e = absurd (omega (arith, filled, e))
     pick (suc r) e = omega arith

@@ -74,9 +74,3 @@ module _ (k : Shape) (words : List ℕ) where
 
   pub set_listed : (x : ℕ × ℕ) → IsPair k x → HasBit k words x → Contains (pairs_up_to k words k.cards) x
   set_listed x pair b = in_contains (pairs_up_to k words k.cards) x (up_on k.cards x.0 x.1 pair.0 pair.1 b)
-
-  pub next_region : (c r : ℕ) (old new one : List (ℕ × ℕ)) → old ≡ pairs_up_to k words c ++ pairs_of_card k words c r → new ≡ old ++ one → one ≡ one_pair (c, r) → new ≡ pairs_up_to k words c ++ pairs_of_card k words c (r + 1)
-  next_region c r old new one e f g = f ∙ ((λ i. e i ++ g i) ∙ (append_assoc (pairs_up_to k words c) (pairs_of_card k words c r) (one_pair (c, r)) ∙ ap (λ (n : ℕ). pairs_up_to k words c ++ pairs_of_card k words c n) (let h : suc r ≡ r + 1 = omega arith in h)))
-
-  pub next_card : (c r : ℕ) (old : List (ℕ × ℕ)) → r ≡ k.regions → old ≡ pairs_up_to k words c ++ pairs_of_card k words c r → old ≡ pairs_up_to k words (c + 1)
-  next_card c r old all e = e ∙ (ap (λ (n : ℕ). pairs_up_to k words c ++ pairs_of_card k words c n) all ∙ ap (λ (n : ℕ). pairs_up_to k words n) (let h : suc c ≡ c + 1 = omega arith in h))

@@ -158,7 +158,3 @@ true_is false x y e = absurd (cc)
 pub false_is : {A : Type 0} (b : Bool) (x y : A) → b ≡ false → cond b x y ≡ y
 false_is true x y e = absurd (cc)
 false_is false x y e = refl
-
-pub empty_of_length : {A : Type 0} (l : List A) → length l ≡ 0 → l ≡ []
-empty_of_length [] e = refl
-empty_of_length (x ∷ xs) e = absurd (omega arith)

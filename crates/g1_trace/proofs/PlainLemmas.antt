@@ -94,21 +94,9 @@ number_apart bytes window rest end count room value shown within below few some 
     }
 
 -- digits are not the word `null`
-not_null : (word : List ℕ) (n : ℕ) → read_number word ≡ Ok n → bytes_eq word (codes "null") ≡ false
-not_null word n h = elim (cases_Bool (bytes_eq word (codes "null"))) [
-  | inl same ↦
-      let is : word ≡ codes "null" = (bytes_eq-Decides word (codes "null")).0 same in
-      let never : read_number (codes "null") ≡ Ok n = subst (λ (w : List ℕ). read_number w ≡ Ok n) is h in absurd (cc)
-  | inr other ↦ other
 ]
 
 -- a number or `null` in the last place
-pub target_number : (bytes rest : List ℕ) (n : ℕ) → IsNumberBefore 10 bytes n rest → IsTargetBefore bytes (Some n) rest
-target_number bytes rest n p = record {
-  word = p.word;
-  apart = p.apart;
-  solid = p.solid;
-  read = rw (not_null p.word n p.read, p.read) refl;
 }
 
 pub target_null : (bytes word rest : List ℕ) → bytes_eq word (codes "null\n") ≡ true → bytes ≡ word ++ rest → IsTargetBefore bytes None rest

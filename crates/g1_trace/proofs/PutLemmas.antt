@@ -12,10 +12,6 @@ keeps_appends None b p = tt
 keeps_appends (Some xs) None p = absurd p
 keeps_appends (Some xs) (Some ys) p = p ∙ sym (append-nil xs)
 
--- all of a text is a beginning of a longer one
-pub front_of_all : (a b : Option (List ℕ)) (x y : List ℕ) → Appends a b x → AppendsFront a b (x ++ y)
-front_of_all a b x y p = (x, y, p, refl)
-
 -- a beginning of a text is one of a longer one
 pub front_more : (a b : Option (List ℕ)) (x y : List ℕ) → AppendsFront a b x → AppendsFront a b (x ++ y)
 front_more a b x y p = (p.0, p.1 ++ y, p.2, ap (λ l. l ++ y) p.3 ∙ append_assoc p.0 p.1 y)

@@ -43,21 +43,6 @@ pub word_last : (line : List ℕ) → words_from [] line ≡ words_from (take (l
     → words_from [] line ≡ with_word (take (length line) line) (words_from [] (drop (length line) line))
 word_last line told = told ∙ rw drop-length refl
 
--- the first word, behind the spaces before it
-pub first_word : (line rest : List ℕ) (n m : ℕ) → rest ≡ drop n line → words_from [] (drop n line) ≡ words_from [] line → n < length line → get_or line n 0 ≢ 32
-    → words_from [] rest ≡ with_word (take m rest) (words_from [] (drop m rest)) → m ≤ length rest → (0 < length rest → get_or rest 0 0 ≢ 32 → 0 < m)
-    → words_from [] line ≡ take m rest ∷ words_from [] (drop m rest)
-first_word line rest n m e passed h ne told within some =
-    let long : 0 < length rest = rw e (simp length-drop (omega arith)) in
-    let first : get_or rest 0 0 ≡ get_or line n 0 = ap (λ l. get_or l 0 0) e ∙ get_or-drop n line 0 0 ∙ ap (λ k. get_or line k 0) (add-zero n) in
-    let more : 0 < length (take m rest) = simp length-take (omega (arith, some long (λ z. ne (sym first ∙ z)))) in
-    sym passed ∙ ap (words_from []) (sym e) ∙ told ∙ with_word_some _ _ more
-
--- two texts from a place on are the same where their bytes there are, and what is behind
-pub same_from : (xs ys : List ℕ) (i : ℕ) → i < length xs → i < length ys
-    → bytes_eq (drop i xs) (drop i ys) ≡ ((get_or xs i 0 == get_or ys i 0) && bytes_eq (drop (i + 1) xs) (drop (i + 1) ys))
-same_from xs ys i h g = rw (drop-cons xs i 0, drop-cons ys i 0, add-one) refl
-
 -- a digit behind others
 digits_push : (n : ℕ) (word : List ℕ) (b : ℕ) → read_digits n (word ++ b ∷ []) ≡ (read_digits n word >>= λ v. read_digits v (b ∷ []))
 digits_push n [] b = refl

@@ -1,8 +1,8 @@
 //! A range of slots of a heap at a pause is copied to another one.
-ghost use Rattle.std.specs.Prelude.{◌≡◌, ◌⊎◌, ◌+◌, ◌<◌, ◌≤◌};
+ghost use Rattle.std.specs.Prelude.{◌≡◌, ◌⊎◌, ◌+◌, ◌≤◌};
 ghost use Rattle.g1_layout.specs.Shape.{slot_count};
+ghost use Rattle.g1_c.specs.Calls.{TellsRefusal};
 ghost use Rattle.g1_handles.specs.AtPause.{Copies};
-ghost use Rattle.g1_handles.specs.Codes.{IsRefusal};
 ghost use Rattle.g1_handles.specs.HeapCalls.{IsHeapRefused};
 ghost use Rattle.g1_handles.specs.Life.{IsSameHeap, OfPaused};
 ghost use Rattle.g1_handles.specs.Lacks.{LacksSlots};
@@ -15,6 +15,7 @@ use g1_handles::heap::handle::HeapHandle;
 use std::alloc::Global;
 
 /// As in `g1.h`.
+#[tactic(auto, using(crate::proofs::Calls::tells_none))]
 #[unsafe(no_mangle)]
 pub extern "C" fn g1_heap_copy(
     alloc: Global,
@@ -27,9 +28,9 @@ pub extern "C" fn g1_heap_copy(
         Copies old from to count new) }
     ensures answered { OfPaused heap.old.value (λ old. (from + count ≤ slot_count old.layout)
         × (to + count ≤ slot_count old.layout)) → result ≡ 0 }
-    ensures why { 0 < result → IsRefusal result (IsHeapRefused heap.old.value (λ old r.
-        LacksSlots old.layout from count r ⊎ LacksSlots old.layout to count r)) }
-    ensures refused { 0 < result → heap.new.value ≡ heap.old.value }
+    ensures told { TellsRefusal 0 result heap.old.value heap.new.value (Unit {0})
+        (IsHeapRefused heap.old.value (λ old r. LacksSlots old.layout from count r
+        ⊎ LacksSlots old.layout to count r)) }
 {
     match replace_with(
         heap,

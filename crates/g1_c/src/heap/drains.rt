@@ -1,5 +1,6 @@
 //! Refinement and drains of a heap at a pause.
 ghost use Rattle.std.specs.Prelude.{◌≡◌, ◌≢◌, ◌<◌, take};
+ghost use Rattle.g1_c.specs.Calls.{TellsRefusal};
 ghost use Rattle.g1_handles.specs.AtPause.{DrainsAtPause, Refines};
 ghost use Rattle.g1_handles.specs.Arrays.{IsWritten};
 ghost use Rattle.g1_handles.specs.Codes.{IsRefusal};
@@ -51,12 +52,13 @@ pub extern "C" fn g1_heap_drain(
 }
 
 /// As in `g1.h`.
+#[tactic(auto, using(crate::proofs::Calls::tells_none))]
 #[unsafe(no_mangle)]
 pub extern "C" fn g1_heap_refine(alloc: Global, heap: &mut HeapHandle) -> u32
     ensures refined { result ≡ 0 → IsSameHeap heap.old.value heap.new.value (λ old new.
         Refines old new) }
-    ensures why { 0 < result → IsRefusal result (IsHeapRefused heap.old.value (λ old r. ⊥)) }
-    ensures refused { 0 < result → heap.new.value ≡ heap.old.value }
+    ensures told { TellsRefusal 0 result heap.old.value heap.new.value (Unit {0})
+        (IsHeapRefused heap.old.value (λ old r. ⊥)) }
 {
     match replace_with(
         heap,

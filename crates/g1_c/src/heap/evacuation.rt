@@ -1,6 +1,7 @@
 //! What follows an evacuation of a heap at a pause: references are moved or a remembered set is
 //! emptied, and a region is freed.
 ghost use Rattle.std.specs.Prelude.{◌≡◌, ◌≢◌, ◌⊎◌, ◌<◌};
+ghost use Rattle.g1_c.specs.Calls.{TellsRefusal};
 ghost use Rattle.g1_handles.specs.AtPause.{ClearsAt, Redirects, Wipes, Forgets, RefersOut};
 ghost use Rattle.g1_handles.specs.Codes.{IsRefusal};
 ghost use Rattle.g1_handles.specs.HeapCalls.{IsHeapRefused};
@@ -51,6 +52,7 @@ pub extern "C" fn g1_heap_clear(
 }
 
 /// As in `g1.h`.
+#[tactic(auto, using(crate::proofs::Calls::tells_none))]
 #[unsafe(no_mangle)]
 pub extern "C" fn g1_heap_redirect(
     alloc: Global,
@@ -61,11 +63,9 @@ pub extern "C" fn g1_heap_redirect(
 ) -> u32
     ensures redirected { result ≡ 0 → IsSameHeap heap.old.value heap.new.value (λ old new.
         Redirects old from to moved.new new) }
-    ensures none { 0 < result → moved.new ≡ 0 }
-    ensures why { 0 < result → IsRefusal result (IsHeapRefused heap.old.value (λ old r.
-        LacksRegion old.layout from r ⊎ LacksRegion old.layout to r
-        ⊎ ((r ≡ Refusal.SameRegion) × (from ≡ to)))) }
-    ensures refused { 0 < result → heap.new.value ≡ heap.old.value }
+    ensures told { TellsRefusal 0 result heap.old.value heap.new.value (moved.new ≡ 0)
+        (IsHeapRefused heap.old.value (λ old r. LacksRegion old.layout from r
+        ⊎ LacksRegion old.layout to r ⊎ ((r ≡ Refusal.SameRegion) × (from ≡ to)))) }
 {
     match replace_with(
         heap,
@@ -84,14 +84,14 @@ pub extern "C" fn g1_heap_redirect(
 }
 
 /// As in `g1.h`.
+#[tactic(auto, using(crate::proofs::Calls::tells_none))]
 #[unsafe(no_mangle)]
 pub extern "C" fn g1_heap_wipe(alloc: Global, heap: &mut HeapHandle, region: u32) -> u32
     ensures wiped { result ≡ 0 → IsSameHeap heap.old.value heap.new.value (λ old new.
         Wipes old region new) }
     ensures answered { OfPaused heap.old.value (λ old. region < old.layout.regions) → result ≡ 0 }
-    ensures why { 0 < result → IsRefusal result
+    ensures told { TellsRefusal 0 result heap.old.value heap.new.value (Unit {0})
         (IsHeapRefused heap.old.value (λ old. LacksRegion old.layout region)) }
-    ensures refused { 0 < result → heap.new.value ≡ heap.old.value }
 {
     match replace_with(
         heap,
@@ -104,14 +104,14 @@ pub extern "C" fn g1_heap_wipe(alloc: Global, heap: &mut HeapHandle, region: u32
 }
 
 /// As in `g1.h`.
+#[tactic(auto, using(crate::proofs::Calls::tells_none))]
 #[unsafe(no_mangle)]
 pub extern "C" fn g1_heap_forget(alloc: Global, heap: &mut HeapHandle, region: u32) -> u32
     ensures forgotten { result ≡ 0 → IsSameHeap heap.old.value heap.new.value (λ old new.
         Forgets old region new) }
-    ensures why { 0 < result → IsRefusal result (IsHeapRefused heap.old.value (λ old r.
-        LacksRegion old.layout region r
-        ⊎ ((r ≡ Refusal.StillReferenced) × RefersOut old region))) }
-    ensures refused { 0 < result → heap.new.value ≡ heap.old.value }
+    ensures told { TellsRefusal 0 result heap.old.value heap.new.value (Unit {0})
+        (IsHeapRefused heap.old.value (λ old r. LacksRegion old.layout region r ⊎
+        ((r ≡ Refusal.StillReferenced) × RefersOut old region))) }
 {
     match replace_with(
         heap,

@@ -1,13 +1,14 @@
 //! The life of a heap whose stores race: it begins at a pause, goes on, pauses again, and ends at a
 //! pause.
 ghost use Rattle.std.specs.Prelude.{◌≡◌, ◌<◌, None, length};
-ghost use Rattle.std.specs.Arc.{arc_value};
+ghost use Rattle.g1_c.specs.Calls.{TellsRefusal};
 ghost use Rattle.g1_handles.specs.Codes.{layout_of, IsRefusal};
-ghost use Rattle.g1_handles.specs.Life.{OfPaused, OfRacing, IsFor, IsNewHeap, IsOpeningRefused};
-ghost use Rattle.g1_handles.specs.Life.{IsGoingRefused, IsPausedWith, IsPauseRefused, IsEndRefused};
-ghost use Rattle.g1_handles.specs.Life.{AreLikeOf, AreOfHeap, GoesOn, heap_race};
-ghost use Rattle.g1_handles.specs.Life.{heap_counts, held_counts, HasCountedNothing};
-ghost use Rattle.g1_handles.specs.Racing.{held_racers, held_sweepers, AreClosed};
+ghost use Rattle.g1_handles.specs.Life.{OfPaused, IsFor, IsNewHeap, IsOpeningRefused};
+ghost use Rattle.g1_handles.specs.Life.{IsGoingRefused, IsPauseRefused, IsEndRefused};
+ghost use Rattle.g1_handles.specs.Life.{AreLikeOf, AreOfHeap};
+ghost use Rattle.g1_handles.specs.Life.{HasCountedNothing};
+ghost use Rattle.g1_handles.specs.Phases.{ComesToPause, Resumes};
+ghost use Rattle.g1_handles.specs.Racing.{held_racers, held_sweepers};
 
 use g1_handles::code::DONE;
 use g1_handles::heap::handle::HeapHandle;
@@ -20,6 +21,7 @@ use g1_handles::one_core::open::Counts;
 use std::alloc::Global;
 
 /// As in `g1.h`.
+#[tactic(auto, using(crate::proofs::Calls::tells_none))]
 #[unsafe(no_mangle)]
 pub extern "C" fn g1_heap_open(
     alloc: Global,
@@ -32,9 +34,8 @@ pub extern "C" fn g1_heap_open(
         OfPaused heap.new.value (IsNewHeap (layout_of counts.now) racers sweepers) }
     ensures counts { result ≡ 0 → HasCountedNothing heap.new.value }
     ensures closed { result ≡ 0 → heap.old.value ≡ None }
-    ensures why { 0 < result →
-        IsRefusal result (IsOpeningRefused heap.old.value (layout_of counts.now) racers sweepers) }
-    ensures refused { 0 < result → heap.new.value ≡ heap.old.value }
+    ensures told { TellsRefusal 0 result heap.old.value heap.new.value (Unit {0})
+        (IsOpeningRefused heap.old.value (layout_of counts.now) racers sweepers) }
 {
     match open_heap(alloc, heap, counts, racers, sweepers) {
         Ok(()) => DONE,
@@ -50,16 +51,9 @@ pub extern "C" fn g1_heap_resume(
     racers: &mut [RacerHandle],
     sweepers: &mut [SweeperHandle],
 ) -> u32
-    ensures resumed { result ≡ 0 → OfPaused heap.old.value (λ p.
-        OfRacing heap.new.value (λ b.
-        GoesOn p (arc_value b.race) (held_racers racers.new) (held_sweepers sweepers.new))) }
-    ensures same { result ≡ 0 → heap_race heap.new.value ≡ heap_race heap.old.value }
-    ensures counts { result ≡ 0 → held_counts (held_racers racers.new) (held_sweepers sweepers.new)
-        ≡ heap_counts heap.old.value }
-    ensures members { result ≡ 0 → IsFor heap.old.value (length racers.old) (length sweepers.old)
-        × IsFor heap.new.value (length racers.old) (length sweepers.old) }
-    ensures closed { result ≡ 0 → AreClosed (held_racers racers.old)
-        × AreClosed (held_sweepers sweepers.old) }
+    ensures resumed { result ≡ 0 → Resumes (length racers.old) (length sweepers.old)
+        heap.old.value heap.new.value (held_racers racers.old) (held_racers racers.new)
+        (held_sweepers sweepers.old) (held_sweepers sweepers.new) }
     ensures why { 0 < result →
         IsRefusal result (IsGoingRefused heap.old.value (held_racers racers.old)
         (held_sweepers sweepers.old)) }
@@ -88,17 +82,9 @@ pub extern "C" fn g1_heap_pause(
     requires one { IsFor heap.old.value (length racers.old) (length sweepers.old) →
         AreLikeOf heap.old.value (held_racers racers.old) (held_sweepers sweepers.old) →
         AreOfHeap heap.old.value (held_racers racers.old) (held_sweepers sweepers.old) }
-    ensures paused { result ≡ 0 → OfRacing heap.old.value (λ b. OfPaused heap.new.value
-        (IsPausedWith (arc_value b.race) (held_racers racers.old) (held_sweepers sweepers.old))) }
-    ensures same { result ≡ 0 → heap_race heap.new.value ≡ heap_race heap.old.value }
-    ensures counts { result ≡ 0 → heap_counts heap.new.value
-        ≡ held_counts (held_racers racers.old) (held_sweepers sweepers.old) }
-    ensures members { result ≡ 0 → IsFor heap.old.value (length racers.old) (length sweepers.old)
-        × IsFor heap.new.value (length racers.old) (length sweepers.old) }
-    ensures like { result ≡ 0 →
-        AreLikeOf heap.old.value (held_racers racers.old) (held_sweepers sweepers.old) }
-    ensures closed { result ≡ 0 → AreClosed (held_racers racers.new)
-        × AreClosed (held_sweepers sweepers.new) }
+    ensures paused { result ≡ 0 → ComesToPause (length racers.old) (length sweepers.old)
+        heap.old.value heap.new.value (held_racers racers.old) (held_racers racers.new)
+        (held_sweepers sweepers.old) (held_sweepers sweepers.new) }
     ensures why { 0 < result →
         IsRefusal result (IsPauseRefused heap.old.value (held_racers racers.old)
         (held_sweepers sweepers.old)) }

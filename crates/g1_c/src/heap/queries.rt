@@ -3,6 +3,7 @@
 ghost use Rattle.std.specs.Prelude.{◌≡◌, ◌≢◌, ◌<◌, ◌≤◌, ◌==◌, take};
 ghost use Rattle.g1_race.specs.Over.{table_at};
 ghost use Rattle.g1_race.specs.Reading.{IsNextMember};
+ghost use Rattle.g1_c.specs.Calls.{TellsRefusal};
 ghost use Rattle.g1_handles.specs.AtPause.{SlotRefers, TellsPending, TellsStatus, TellsMembers};
 ghost use Rattle.g1_handles.specs.Arrays.{IsWritten};
 ghost use Rattle.g1_handles.specs.Codes.{IsRefusal, reference_of};
@@ -21,6 +22,7 @@ use g1_handles::heap::sets::{Told, Which, set_of_heap};
 use std::alloc::Global;
 
 /// As in `g1.h`.
+#[tactic(auto, using(crate::proofs::Calls::tells_none))]
 #[unsafe(no_mangle)]
 pub extern "C" fn g1_heap_target(
     alloc: Global,
@@ -30,8 +32,7 @@ pub extern "C" fn g1_heap_target(
 ) -> u32
     ensures target { result ≡ 0 → IsSameHeap heap.old.value heap.new.value (λ old new.
         SlotRefers old slot (reference_of target.new)) }
-    ensures null { 0 < result → target.new ≡ 4294967295 }
-    ensures why { 0 < result → IsRefusal result
+    ensures told { TellsRefusal 0 result heap.old.value heap.new.value (target.new ≡ 4294967295)
         (IsHeapRefused heap.old.value (λ old. LacksSlot old.layout slot)) }
     ensures same { heap.new.value ≡ heap.old.value }
 {
@@ -52,6 +53,7 @@ pub extern "C" fn g1_heap_target(
 }
 
 /// As in `g1.h`.
+#[tactic(auto, using(crate::proofs::Calls::tells_none))]
 #[unsafe(no_mangle)]
 pub extern "C" fn g1_heap_is_pending(
     alloc: Global,
@@ -62,8 +64,7 @@ pub extern "C" fn g1_heap_is_pending(
     ensures pending { result ≡ 0 → IsSameHeap heap.old.value heap.new.value (λ old new.
         TellsPending old card (pending.new == 1)) }
     ensures word { pending.new ≤ 1 }
-    ensures none { 0 < result → pending.new ≡ 0 }
-    ensures why { 0 < result → IsRefusal result
+    ensures told { TellsRefusal 0 result heap.old.value heap.new.value (pending.new ≡ 0)
         (IsHeapRefused heap.old.value (λ old. LacksCard old.layout card)) }
     ensures same { heap.new.value ≡ heap.old.value }
 {
@@ -84,6 +85,7 @@ pub extern "C" fn g1_heap_is_pending(
 }
 
 /// As in `g1.h`.
+#[tactic(auto, using(crate::proofs::Calls::tells_none))]
 #[unsafe(no_mangle)]
 pub extern "C" fn g1_heap_status(alloc: Global, heap: &mut HeapHandle, totals: &mut Totals) -> u32
     ensures status { result ≡ 0 → IsSameHeap heap.old.value heap.new.value (λ old new.
@@ -91,8 +93,9 @@ pub extern "C" fn g1_heap_status(alloc: Global, heap: &mut HeapHandle, totals: &
           pending = totals.new.pending;
           recorded = totals.new.recorded;
         })) }
-    ensures none { 0 < result → (totals.new.pending ≡ 0) × (totals.new.recorded ≡ 0) }
-    ensures why { 0 < result → IsRefusal result (IsHeapRefused heap.old.value (λ old r. ⊥)) }
+    ensures told { TellsRefusal 0 result heap.old.value heap.new.value
+        ((totals.new.pending ≡ 0) × (totals.new.recorded ≡ 0)) (IsHeapRefused heap.old.value
+        (λ old r. ⊥)) }
     ensures same { heap.new.value ≡ heap.old.value }
 {
     match replace_with(
@@ -152,6 +155,7 @@ pub extern "C" fn g1_heap_members(
 }
 
 /// As in `g1.h`.
+#[tactic(auto, using(crate::proofs::Calls::tells_none))]
 #[unsafe(no_mangle)]
 pub extern "C" fn g1_heap_next_member(
     alloc: Global,
@@ -162,8 +166,7 @@ pub extern "C" fn g1_heap_next_member(
 ) -> u32
     ensures next { result ≡ 0 → IsSameHeap heap.old.value heap.new.value (λ old new.
         IsNextMember (table_at old) region from (reference_of card.new)) }
-    ensures null { 0 < result → card.new ≡ 4294967295 }
-    ensures why { 0 < result → IsRefusal result
+    ensures told { TellsRefusal 0 result heap.old.value heap.new.value (card.new ≡ 4294967295)
         (IsHeapRefused heap.old.value (λ old. LacksRegion old.layout region)) }
     ensures same { heap.new.value ≡ heap.old.value }
 {

@@ -1,9 +1,9 @@
 //! Several threads read a heap at a pause: how that begins and ends.
 ghost use Rattle.std.specs.Prelude.{◌≡◌, ◌<◌, length};
 ghost use Rattle.g1_handles.specs.Codes.{IsRefusal};
-ghost use Rattle.g1_handles.specs.Life.{OfHeap, OfPaused};
-ghost use Rattle.g1_handles.specs.Racing.{held_readers, AreClosed};
-ghost use Rattle.g1_handles.specs.Readers.{AreReadersAt, AreReadersOf, AreReadersLike, IsLentHeap};
+ghost use Rattle.g1_handles.specs.Phases.{BeginsReading, EndsReading};
+ghost use Rattle.g1_handles.specs.Racing.{held_readers};
+ghost use Rattle.g1_handles.specs.Readers.{AreReadersOf, AreReadersLike};
 ghost use Rattle.g1_handles.specs.Readers.{IsReadBy, IsReadRefused, IsReadEndRefused};
 
 use g1_handles::code::DONE;
@@ -20,11 +20,8 @@ pub extern "C" fn g1_heap_read(
     heap: &mut HeapHandle,
     readers: &mut [ReaderHandle],
 ) -> u32
-    ensures lent { result ≡ 0 → IsLentHeap heap.old.value heap.new.value }
-    ensures readers { result ≡ 0 → OfPaused heap.old.value (λ p. OfHeap heap.old.value (λ race.
-        AreReadersAt race p (held_readers readers.new))) }
-    ensures count { result ≡ 0 → IsReadBy heap.new.value (length readers.old) }
-    ensures closed { result ≡ 0 → AreClosed (held_readers readers.old) }
+    ensures lent { result ≡ 0 → BeginsReading (length readers.old)
+        heap.old.value heap.new.value (held_readers readers.old) (held_readers readers.new) }
     ensures why { 0 < result →
         IsRefusal result (IsReadRefused heap.old.value (held_readers readers.old)) }
     ensures refused { 0 < result → (heap.new.value ≡ heap.old.value)
@@ -51,10 +48,8 @@ pub extern "C" fn g1_heap_read_end(
     requires one { IsReadBy heap.old.value (length readers.old) →
         AreReadersLike heap.old.value (held_readers readers.old) →
         AreReadersOf heap.old.value (held_readers readers.old) }
-    ensures ended { result ≡ 0 → IsLentHeap heap.new.value heap.old.value }
-    ensures count { result ≡ 0 → IsReadBy heap.old.value (length readers.old) }
-    ensures like { result ≡ 0 → AreReadersLike heap.old.value (held_readers readers.old) }
-    ensures closed { result ≡ 0 → AreClosed (held_readers readers.new) }
+    ensures ended { result ≡ 0 → EndsReading (length readers.old)
+        heap.old.value heap.new.value (held_readers readers.old) (held_readers readers.new) }
     ensures why { 0 < result →
         IsRefusal result (IsReadEndRefused heap.old.value (held_readers readers.old)) }
     ensures refused { 0 < result → (heap.new.value ≡ heap.old.value)

@@ -1,8 +1,9 @@
 //! The collector's own stores into a heap at a pause.
-ghost use Rattle.std.specs.Prelude.{◌≡◌, ◌⊎◌, ◌<◌, ◌≤◌, length, take};
+ghost use Rattle.std.specs.Prelude.{◌≡◌, ◌⊎◌, ◌≤◌, length, take};
+ghost use Rattle.g1_c.specs.Calls.{TellsRefusal};
 ghost use Rattle.g1_handles.specs.AtPause.{StoresAt, StoresAllAt};
 ghost use Rattle.g1_handles.specs.Batch.{IsFaultAt};
-ghost use Rattle.g1_handles.specs.Codes.{IsRefusal, OfKind, reference_of};
+ghost use Rattle.g1_handles.specs.Codes.{OfKind, reference_of};
 ghost use Rattle.g1_handles.specs.HeapCalls.{IsHeapRefused};
 ghost use Rattle.g1_handles.specs.Life.{IsSameHeap, OfPaused};
 ghost use Rattle.g1_handles.specs.Lacks.{LacksPlace};
@@ -16,6 +17,7 @@ use g1_handles::one_core::batch::Store;
 use std::alloc::Global;
 
 /// As in `g1.h`.
+#[tactic(auto, using(crate::proofs::Calls::tells_none))]
 #[unsafe(no_mangle)]
 pub extern "C" fn g1_heap_store(
     alloc: Global,
@@ -26,10 +28,8 @@ pub extern "C" fn g1_heap_store(
 ) -> u32
     ensures stored { result ≡ 0 → IsSameHeap heap.old.value heap.new.value (λ old new.
         OfKind kind.new (λ k. StoresAt old slot (reference_of target) k new)) }
-    ensures none { 0 < result → kind.new ≡ 0 }
-    ensures why { 0 < result → IsRefusal result (IsHeapRefused heap.old.value (λ old.
-        LacksPlace old.layout slot target)) }
-    ensures refused { 0 < result → heap.new.value ≡ heap.old.value }
+    ensures told { TellsRefusal 0 result heap.old.value heap.new.value (kind.new ≡ 0)
+        (IsHeapRefused heap.old.value (λ old. LacksPlace old.layout slot target)) }
 {
     match replace_with(
         heap,
@@ -48,6 +48,7 @@ pub extern "C" fn g1_heap_store(
 }
 
 /// As in `g1.h`.
+#[tactic(auto, using(crate::proofs::Calls::tells_none))]
 #[unsafe(no_mangle)]
 pub extern "C" fn g1_heap_store_all(
     alloc: Global,
@@ -61,9 +62,8 @@ pub extern "C" fn g1_heap_store_all(
     ensures stopped { result ≡ 3 → OfPaused heap.old.value (λ old.
         IsFaultAt old.layout stores.now stored.new) }
     ensures done { result ≤ 3 → (result ≡ 0) ⊎ (result ≡ 3) }
-    ensures none { 3 < result → stored.new ≡ 0 }
-    ensures why { 3 < result → IsRefusal result (IsHeapRefused heap.old.value (λ old r. ⊥)) }
-    ensures refused { 3 < result → heap.new.value ≡ heap.old.value }
+    ensures told { TellsRefusal 3 result heap.old.value heap.new.value (stored.new ≡ 0)
+        (IsHeapRefused heap.old.value (λ old r. ⊥)) }
 {
     match replace_with(
         heap,

@@ -1,7 +1,7 @@
 //! Checks of a heap at a pause, for a debug build.
-ghost use Rattle.std.specs.Prelude.{◌≡◌, ◌+◌, ◌<◌, ◌≤◌, length};
+ghost use Rattle.std.specs.Prelude.{◌≡◌, ◌+◌, ◌≤◌, length};
 ghost use Rattle.g1_layout.specs.Shape.{slot_count};
-ghost use Rattle.g1_handles.specs.Codes.{IsRefusal};
+ghost use Rattle.g1_c.specs.Calls.{TellsRefusal};
 ghost use Rattle.g1_handles.specs.HeapCalls.{IsHeapRefused};
 ghost use Rattle.g1_handles.specs.Life.{IsSameHeap, OfPaused};
 ghost use Rattle.g1_handles.specs.Verifying.{FindsAt};
@@ -15,6 +15,7 @@ use g1_handles::heap::verify::verify_at;
 use std::alloc::Global;
 
 /// As in `g1.h`.
+#[tactic(auto, using(crate::proofs::Calls::tells_none))]
 #[unsafe(no_mangle)]
 pub extern "C" fn g1_heap_verify(
     alloc: Global,
@@ -29,9 +30,9 @@ pub extern "C" fn g1_heap_verify(
         FindsAt old first count references.now differing.new missing.new) }
     ensures answered { OfPaused heap.old.value (λ old. (first + count ≤ slot_count old.layout)
         × (first + length references.now ≤ slot_count old.layout)) → result ≡ 0 }
-    ensures none { 0 < result → (differing.new ≡ 4294967295) × (missing.new ≡ 4294967295) }
-    ensures why { 0 < result → IsRefusal result (IsHeapRefused heap.old.value (λ old.
-        LacksRanges old.layout first count first (length references.now))) }
+    ensures told { TellsRefusal 0 result heap.old.value heap.new.value
+        ((differing.new ≡ 4294967295) × (missing.new ≡ 4294967295)) (IsHeapRefused heap.old.value
+        (λ old. LacksRanges old.layout first count first (length references.now))) }
     ensures same { heap.new.value ≡ heap.old.value }
 {
     match replace_with(

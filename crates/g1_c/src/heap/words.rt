@@ -1,8 +1,8 @@
 //! The words of a heap: where they lie, and, at a pause, what a slot's is and a store of data.
 ghost use Rattle.std.specs.Prelude.{◌≡◌, ◌⊎◌, ◌<◌, ◌^◌};
 ghost use Rattle.g1_race.specs.Members.{race_words};
+ghost use Rattle.g1_c.specs.Calls.{TellsRefusal};
 ghost use Rattle.g1_handles.specs.AtPause.{HasWord, StoresDataAt};
-ghost use Rattle.g1_handles.specs.Codes.{IsRefusal};
 ghost use Rattle.g1_handles.specs.HeapCalls.{IsHeapRefused};
 ghost use Rattle.g1_handles.specs.Life.{IsSameHeap, OfHeap, SaysNoHeap};
 ghost use denote.RawPtr.{null_ptr};
@@ -17,11 +17,12 @@ use std::alloc::Global;
 use std::ptr::null;
 
 /// As in `g1.h`.
+#[tactic(auto, using(crate::proofs::Calls::tells_none))]
 #[unsafe(no_mangle)]
 pub extern "C" fn g1_heap_words(alloc: Global, heap: &mut HeapHandle, words: &mut *const u64) -> u32
     ensures words { result ≡ 0 → OfHeap heap.old.value (λ race. words.new ≡ race_words race) }
-    ensures none { 0 < result → words.new ≡ null_ptr }
-    ensures why { 0 < result → IsRefusal result (SaysNoHeap heap.old.value) }
+    ensures told { TellsRefusal 0 result heap.old.value heap.new.value (words.new ≡ null_ptr)
+        (SaysNoHeap heap.old.value) }
     ensures same { heap.new.value ≡ heap.old.value }
 {
     match replace_with(heap, alloc, words_in) {
@@ -37,6 +38,7 @@ pub extern "C" fn g1_heap_words(alloc: Global, heap: &mut HeapHandle, words: &mu
 }
 
 /// As in `g1.h`.
+#[tactic(auto, using(crate::proofs::Calls::tells_none))]
 #[unsafe(no_mangle)]
 pub extern "C" fn g1_heap_word(
     alloc: Global,
@@ -46,8 +48,7 @@ pub extern "C" fn g1_heap_word(
 ) -> u32
     ensures word { result ≡ 0 → IsSameHeap heap.old.value heap.new.value (λ old new.
         HasWord old slot word.new) }
-    ensures none { 0 < result → word.new ≡ 0 }
-    ensures why { 0 < result → IsRefusal result
+    ensures told { TellsRefusal 0 result heap.old.value heap.new.value (word.new ≡ 0)
         (IsHeapRefused heap.old.value (λ old. LacksSlot old.layout slot)) }
     ensures same { heap.new.value ≡ heap.old.value }
 {
@@ -68,6 +69,7 @@ pub extern "C" fn g1_heap_word(
 }
 
 /// As in `g1.h`.
+#[tactic(auto, using(crate::proofs::Calls::tells_none))]
 #[unsafe(no_mangle)]
 pub extern "C" fn g1_heap_store_data(
     alloc: Global,
@@ -77,9 +79,9 @@ pub extern "C" fn g1_heap_store_data(
 ) -> u32
     ensures stored { result ≡ 0 → IsSameHeap heap.old.value heap.new.value (λ old new.
         StoresDataAt old slot word new) }
-    ensures why { 0 < result → IsRefusal result (IsHeapRefused heap.old.value (λ old r.
-        LacksSlot old.layout slot r ⊎ ((r ≡ Refusal.BadWord) × (word < 2 ^ 32)))) }
-    ensures refused { 0 < result → heap.new.value ≡ heap.old.value }
+    ensures told { TellsRefusal 0 result heap.old.value heap.new.value (Unit {0})
+        (IsHeapRefused heap.old.value (λ old r. LacksSlot old.layout slot r ⊎ ((r ≡ Refusal.BadWord)
+        × (word < 2 ^ 32)))) }
 {
     match replace_with(
         heap,

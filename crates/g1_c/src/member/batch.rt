@@ -2,8 +2,8 @@
 ghost use Rattle.std.specs.Prelude.{◌≡◌, ◌⊎◌, ◌<◌, ◌≤◌, length, take};
 ghost use Rattle.arrayvec.specs.ArrayVec.{array_vec_len};
 ghost use Rattle.g1_race.specs.Members.{race_layout};
+ghost use Rattle.g1_c.specs.Calls.{TellsRefusal};
 ghost use Rattle.g1_handles.specs.Batch.{IsFaultAt};
-ghost use Rattle.g1_handles.specs.Codes.{IsRefusal};
 ghost use Rattle.g1_handles.specs.RaceStores.{StoresAll, CanStoreAll};
 ghost use Rattle.g1_handles.specs.Racing.{OfRacer, IfRacer, racer_race_of};
 ghost use Rattle.g1_handles.specs.Refusals.{SaysNoMember};
@@ -19,6 +19,7 @@ use g1_race::Racer;
 use std::alloc::Global;
 
 /// As in `g1.h`.
+#[tactic(auto, using(crate::proofs::Calls::tells_none))]
 #[unsafe(no_mangle)]
 pub extern "C" fn g1_race_store_all(
     alloc: Global,
@@ -35,9 +36,8 @@ pub extern "C" fn g1_race_store_all(
         × OfRacer racer.new.value (λ b. 256 ≤ array_vec_len b.racer.log) }
     ensures done { result ≤ 4 → (result ≡ 0) ⊎ (result ≡ 3) ⊎ (result ≡ 4) }
     ensures taken { IfRacer racer.old.value (λ a. CanStoreAll a stores.now → result ≡ 0) }
-    ensures none { 4 < result → stored.new ≡ 0 }
-    ensures why { 4 < result → IsRefusal result (SaysNoMember racer.old.value) }
-    ensures refused { 4 < result → racer.new.value ≡ racer.old.value }
+    ensures told { TellsRefusal 4 result racer.old.value racer.new.value (stored.new ≡ 0)
+        (SaysNoMember racer.old.value) }
 {
     match replace_with(
         racer,

@@ -1,8 +1,8 @@
 //! What a racer and a sweeper have done.
 ghost use Rattle.std.specs.Prelude.{◌≡◌, ◌<◌};
+ghost use Rattle.g1_c.specs.Calls.{TellsRefusal};
 ghost use Rattle.g1_handles.specs.Counting.{stored_of};
 ghost use Rattle.g1_handles.specs.Racing.{OfRacer, OfSweeper};
-ghost use Rattle.g1_handles.specs.Codes.{IsRefusal};
 ghost use Rattle.g1_handles.specs.Refusals.{SaysNoMember};
 
 use core::mem::replace_with;
@@ -17,6 +17,7 @@ use g1_race::{Racer, Sweeper};
 use std::alloc::Global;
 
 /// As in `g1.h`.
+#[tactic(auto, using(crate::proofs::Calls::tells_none))]
 #[unsafe(no_mangle)]
 pub extern "C" fn g1_racer_counts(
     alloc: Global,
@@ -31,9 +32,9 @@ pub extern "C" fn g1_racer_counts(
         × (same_region.new ≡ stored_of a.counts Kind.SameRegion)
         × (already_dirty.new ≡ stored_of a.counts Kind.AlreadyDirty)
         × (logged.new ≡ stored_of a.counts Kind.Logged)) }
-    ensures none { 0 < result → (null.new ≡ 0) × (same_region.new ≡ 0) × (already_dirty.new ≡ 0)
-        × (logged.new ≡ 0) }
-    ensures why { 0 < result → IsRefusal result (SaysNoMember racer.old.value) }
+    ensures told { TellsRefusal 0 result racer.old.value racer.new.value
+        ((null.new ≡ 0) × (same_region.new ≡ 0) × (already_dirty.new ≡ 0) × (logged.new ≡ 0))
+        (SaysNoMember racer.old.value) }
     ensures same { racer.new.value ≡ racer.old.value }
 {
     match replace_with(
@@ -56,6 +57,7 @@ pub extern "C" fn g1_racer_counts(
 }
 
 /// As in `g1.h`.
+#[tactic(auto, using(crate::proofs::Calls::tells_none))]
 #[unsafe(no_mangle)]
 pub extern "C" fn g1_sweeper_counts(
     alloc: Global,
@@ -67,8 +69,9 @@ pub extern "C" fn g1_sweeper_counts(
     ensures counts { result ≡ 0 → OfSweeper sweeper.old.value (λ a.
         (refined.new ≡ a.counts.refined) × (cleaned.new ≡ a.counts.cleaned)
         × (references.new ≡ a.counts.references)) }
-    ensures none { 0 < result → (refined.new ≡ 0) × (cleaned.new ≡ 0) × (references.new ≡ 0) }
-    ensures why { 0 < result → IsRefusal result (SaysNoMember sweeper.old.value) }
+    ensures told { TellsRefusal 0 result sweeper.old.value sweeper.new.value
+        ((refined.new ≡ 0) × (cleaned.new ≡ 0) × (references.new ≡ 0))
+        (SaysNoMember sweeper.old.value) }
     ensures same { sweeper.new.value ≡ sweeper.old.value }
 {
     match replace_with(

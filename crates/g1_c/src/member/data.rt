@@ -2,7 +2,7 @@
 ghost use Rattle.std.specs.Prelude.{◌≡◌, ◌<◌, ◌≤◌, ◌^◌};
 ghost use Rattle.g1_layout.specs.Shape.{slot_count};
 ghost use Rattle.g1_race.specs.Members.{race_layout};
-ghost use Rattle.g1_handles.specs.Codes.{IsRefusal};
+ghost use Rattle.g1_c.specs.Calls.{TellsRefusal};
 ghost use Rattle.g1_handles.specs.Racing.{OfRacer, IfRacer, StoresData, racer_race_of};
 ghost use Rattle.g1_handles.specs.Refusals.{IsRaceDataRefused};
 
@@ -16,6 +16,7 @@ use g1_race::Racer;
 use std::alloc::Global;
 
 /// As in `g1.h`.
+#[tactic(auto, using(crate::proofs::Calls::tells_none))]
 #[unsafe(no_mangle)]
 pub extern "C" fn g1_race_store_data(
     alloc: Global,
@@ -28,9 +29,8 @@ pub extern "C" fn g1_race_store_data(
         OfRacer racer.new.value (λ b. StoresData a slot word old.new b)) }
     ensures taken { IfRacer racer.old.value (λ a. slot < slot_count (race_layout (racer_race_of a))
         → 2 ^ 32 ≤ word → result ≡ 0) }
-    ensures none { 0 < result → old.new ≡ 0 }
-    ensures why { 0 < result → IsRefusal result (IsRaceDataRefused racer.old.value slot word) }
-    ensures refused { 0 < result → racer.new.value ≡ racer.old.value }
+    ensures told { TellsRefusal 0 result racer.old.value racer.new.value (old.new ≡ 0)
+        (IsRaceDataRefused racer.old.value slot word) }
 {
     match replace_with(
         racer,

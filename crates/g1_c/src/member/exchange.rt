@@ -2,7 +2,8 @@
 ghost use Rattle.std.specs.Prelude.{◌≡◌, ◌⊎◌, ◌<◌, ◌≤◌};
 ghost use Rattle.arrayvec.specs.ArrayVec.{array_vec_len};
 ghost use Rattle.g1_race.specs.Members.{race_layout};
-ghost use Rattle.g1_handles.specs.Codes.{IsRefusal, IsStoreOf, OfKind, reference_of};
+ghost use Rattle.g1_c.specs.Calls.{TellsRefusal};
+ghost use Rattle.g1_handles.specs.Codes.{IsStoreOf, OfKind, reference_of};
 ghost use Rattle.g1_handles.specs.RaceStores.{Swaps, Exchanges, FindsOther};
 ghost use Rattle.g1_handles.specs.Racing.{OfRacer, IfRacer, racer_race_of};
 ghost use Rattle.g1_handles.specs.Refusals.{IsRaceStoreRefused, IsRaceExchangeRefused};
@@ -17,6 +18,7 @@ use g1_race::Racer;
 use std::alloc::Global;
 
 /// As in `g1.h`.
+#[tactic(auto, using(crate::proofs::Calls::tells_none))]
 #[unsafe(no_mangle)]
 pub extern "C" fn g1_race_swap(
     alloc: Global,
@@ -31,10 +33,8 @@ pub extern "C" fn g1_race_swap(
         Swaps a slot (reference_of target) (reference_of old.new) k b))) }
     ensures taken { IfRacer racer.old.value (λ a. array_vec_len a.racer.log < 256
         → IsStoreOf (race_layout (racer_race_of a)) slot target → result ≡ 0) }
-    ensures none { 0 < result → (old.new ≡ 4294967295) × (kind.new ≡ 0) }
-    ensures why { 0 < result →
-        IsRefusal result (IsRaceStoreRefused racer.old.value slot target) }
-    ensures refused { 0 < result → racer.new.value ≡ racer.old.value }
+    ensures told { TellsRefusal 0 result racer.old.value racer.new.value
+        ((old.new ≡ 4294967295) × (kind.new ≡ 0)) (IsRaceStoreRefused racer.old.value slot target) }
 {
     match replace_with(
         racer,
@@ -58,6 +58,7 @@ pub extern "C" fn g1_race_swap(
 }
 
 /// As in `g1.h`.
+#[tactic(auto, using(crate::proofs::Calls::tells_none))]
 #[unsafe(no_mangle)]
 pub extern "C" fn g1_race_compare_exchange(
     alloc: Global,
@@ -80,10 +81,8 @@ pub extern "C" fn g1_race_compare_exchange(
         → IsStoreOf (race_layout (racer_race_of a)) slot expected
         → IsStoreOf (race_layout (racer_race_of a)) slot target → result ≤ 2) }
     ensures none { 0 < result → kind.new ≡ 0 }
-    ensures null { 2 < result → found.new ≡ 4294967295 }
-    ensures why { 2 < result →
-        IsRefusal result (IsRaceExchangeRefused racer.old.value slot expected target) }
-    ensures refused { 2 < result → racer.new.value ≡ racer.old.value }
+    ensures told { TellsRefusal 2 result racer.old.value racer.new.value (found.new ≡ 4294967295)
+        (IsRaceExchangeRefused racer.old.value slot expected target) }
 {
     *kind = 0;
     match replace_with(

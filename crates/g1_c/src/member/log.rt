@@ -1,8 +1,8 @@
 //! The log of a racer.
 ghost use Rattle.std.specs.Prelude.{◌≡◌, ◌⊎◌, ◌<◌, ◌≤◌, length, take};
+ghost use Rattle.g1_c.specs.Calls.{TellsRefusal};
 ghost use Rattle.g1_handles.specs.Racing.{OfRacer, IfRacer, TakesLog};
 ghost use Rattle.g1_handles.specs.Arrays.{IsWritten};
-ghost use Rattle.g1_handles.specs.Codes.{IsRefusal};
 ghost use Rattle.g1_handles.specs.Refusals.{SaysNoMember};
 
 use g1_handles::code::{DONE, Refusal};
@@ -11,6 +11,7 @@ use g1_handles::member::racer_handle::RacerHandle;
 use std::alloc::Global;
 
 /// As in `g1.h`.
+#[tactic(auto, using(crate::proofs::Calls::tells_none))]
 #[unsafe(no_mangle)]
 pub extern "C" fn g1_race_take_log(
     alloc: Global,
@@ -21,10 +22,9 @@ pub extern "C" fn g1_race_take_log(
     ensures log { result ≡ 0 → OfRacer racer.old.value (λ a.
         OfRacer racer.new.value (λ b. TakesLog a (take count.new cards.new) b)) }
     ensures taken { IfRacer racer.old.value (λ a. 256 ≤ length cards.old → result ≡ 0) }
-    ensures none { 0 < result → count.new ≡ 0 }
-    ensures why { 0 < result → IsRefusal result (λ refusal. SaysNoMember racer.old.value refusal
-        ⊎ ((refusal ≡ Refusal.NoRoom) × (length cards.old < 256))) }
-    ensures refused { 0 < result → racer.new.value ≡ racer.old.value }
+    ensures told { TellsRefusal 0 result racer.old.value racer.new.value (count.new ≡ 0)
+        (λ refusal. SaysNoMember racer.old.value refusal ⊎ ((refusal ≡ Refusal.NoRoom) ×
+        (length cards.old < 256))) }
     ensures written { IsWritten cards.old count.new cards.new }
 {
     match take_log(alloc, racer, cards) {

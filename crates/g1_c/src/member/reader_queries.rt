@@ -1,7 +1,8 @@
 //! Queries by a reader: what a slot refers to and its word, whether a card is pending, and what is
 //! recorded for a region.
 ghost use Rattle.std.specs.Prelude.{◌≡◌, ◌<◌, ◌≤◌, ◌==◌};
-ghost use Rattle.g1_handles.specs.Codes.{IsRefusal, reference_of};
+ghost use Rattle.g1_c.specs.Calls.{TellsRefusal};
+ghost use Rattle.g1_handles.specs.Codes.{reference_of};
 ghost use Rattle.g1_handles.specs.Readers.{OfReader, reader_layout, ReadsTarget, ReadsWord};
 ghost use Rattle.g1_handles.specs.Readers.{ReadsPair, ReadsPending, ReadsNext, IsReaderRefused};
 ghost use Rattle.g1_handles.specs.Lacks.{LacksCard, LacksPair, LacksRegion, LacksSlot};
@@ -18,6 +19,7 @@ use g1_race::Reader;
 use std::alloc::Global;
 
 /// As in `g1.h`.
+#[tactic(auto, using(crate::proofs::Calls::tells_none))]
 #[unsafe(no_mangle)]
 pub extern "C" fn g1_reader_target(
     alloc: Global,
@@ -27,10 +29,8 @@ pub extern "C" fn g1_reader_target(
 ) -> u32
     ensures target { result ≡ 0 →
         OfReader reader.old.value (λ a. ReadsTarget a slot (reference_of target.new)) }
-    ensures null { 0 < result → target.new ≡ 4294967295 }
-    ensures why { 0 < result →
-        IsRefusal result (IsReaderRefused reader.old.value
-        (λ a. LacksSlot (reader_layout a) slot)) }
+    ensures told { TellsRefusal 0 result reader.old.value reader.new.value (target.new ≡ 4294967295)
+        (IsReaderRefused reader.old.value (λ a. LacksSlot (reader_layout a) slot)) }
     ensures same { reader.new.value ≡ reader.old.value }
 {
     match replace_with(
@@ -50,6 +50,7 @@ pub extern "C" fn g1_reader_target(
 }
 
 /// As in `g1.h`.
+#[tactic(auto, using(crate::proofs::Calls::tells_none))]
 #[unsafe(no_mangle)]
 pub extern "C" fn g1_reader_word(
     alloc: Global,
@@ -58,10 +59,8 @@ pub extern "C" fn g1_reader_word(
     word: &mut u64,
 ) -> u32
     ensures word { result ≡ 0 → OfReader reader.old.value (λ a. ReadsWord a slot word.new) }
-    ensures none { 0 < result → word.new ≡ 0 }
-    ensures why { 0 < result →
-        IsRefusal result (IsReaderRefused reader.old.value
-        (λ a. LacksSlot (reader_layout a) slot)) }
+    ensures told { TellsRefusal 0 result reader.old.value reader.new.value (word.new ≡ 0)
+        (IsReaderRefused reader.old.value (λ a. LacksSlot (reader_layout a) slot)) }
     ensures same { reader.new.value ≡ reader.old.value }
 {
     match replace_with(
@@ -81,6 +80,7 @@ pub extern "C" fn g1_reader_word(
 }
 
 /// As in `g1.h`.
+#[tactic(auto, using(crate::proofs::Calls::tells_none))]
 #[unsafe(no_mangle)]
 pub extern "C" fn g1_reader_is_pending(
     alloc: Global,
@@ -91,10 +91,8 @@ pub extern "C" fn g1_reader_is_pending(
     ensures pending { result ≡ 0 →
         OfReader reader.old.value (λ a. ReadsPending a card (pending.new == 1)) }
     ensures word { pending.new ≤ 1 }
-    ensures none { 0 < result → pending.new ≡ 0 }
-    ensures why { 0 < result →
-        IsRefusal result (IsReaderRefused reader.old.value
-        (λ a. LacksCard (reader_layout a) card)) }
+    ensures told { TellsRefusal 0 result reader.old.value reader.new.value (pending.new ≡ 0)
+        (IsReaderRefused reader.old.value (λ a. LacksCard (reader_layout a) card)) }
     ensures same { reader.new.value ≡ reader.old.value }
 {
     match replace_with(
@@ -117,6 +115,7 @@ pub extern "C" fn g1_reader_is_pending(
 }
 
 /// As in `g1.h`.
+#[tactic(auto, using(crate::proofs::Calls::tells_none))]
 #[unsafe(no_mangle)]
 pub extern "C" fn g1_reader_has(
     alloc: Global,
@@ -128,10 +127,8 @@ pub extern "C" fn g1_reader_has(
     ensures has { result ≡ 0 →
         OfReader reader.old.value (λ a. ReadsPair a card region (has.new == 1)) }
     ensures word { has.new ≤ 1 }
-    ensures none { 0 < result → has.new ≡ 0 }
-    ensures why { 0 < result →
-        IsRefusal result (IsReaderRefused reader.old.value
-        (λ a. LacksPair (reader_layout a) card region)) }
+    ensures told { TellsRefusal 0 result reader.old.value reader.new.value (has.new ≡ 0)
+        (IsReaderRefused reader.old.value (λ a. LacksPair (reader_layout a) card region)) }
     ensures same { reader.new.value ≡ reader.old.value }
 {
     match replace_with(
@@ -154,6 +151,7 @@ pub extern "C" fn g1_reader_has(
 }
 
 /// As in `g1.h`.
+#[tactic(auto, using(crate::proofs::Calls::tells_none))]
 #[unsafe(no_mangle)]
 pub extern "C" fn g1_reader_next_member(
     alloc: Global,
@@ -164,10 +162,8 @@ pub extern "C" fn g1_reader_next_member(
 ) -> u32
     ensures next { result ≡ 0 →
         OfReader reader.old.value (λ a. ReadsNext a region from (reference_of card.new)) }
-    ensures null { 0 < result → card.new ≡ 4294967295 }
-    ensures why { 0 < result →
-        IsRefusal result (IsReaderRefused reader.old.value
-        (λ a. LacksRegion (reader_layout a) region)) }
+    ensures told { TellsRefusal 0 result reader.old.value reader.new.value (card.new ≡ 4294967295)
+        (IsReaderRefused reader.old.value (λ a. LacksRegion (reader_layout a) region)) }
     ensures same { reader.new.value ≡ reader.old.value }
 {
     match replace_with(

@@ -2,8 +2,8 @@
 ghost use Rattle.std.specs.Prelude.{◌≡◌, ◌<◌};
 ghost use Rattle.g1_layout.specs.Shape.{card_count};
 ghost use Rattle.g1_race.specs.Members.{race_layout};
+ghost use Rattle.g1_c.specs.Calls.{TellsRefusal};
 ghost use Rattle.g1_handles.specs.Racing.{OfSweeper, IfSweeper, Sweeps, sweeper_race_of};
-ghost use Rattle.g1_handles.specs.Codes.{IsRefusal};
 ghost use Rattle.g1_handles.specs.Refusals.{IsSweepRefused};
 
 use core::mem::replace_with;
@@ -16,14 +16,15 @@ use g1_race::Sweeper;
 use std::alloc::Global;
 
 /// As in `g1.h`.
+#[tactic(auto, using(crate::proofs::Calls::tells_none))]
 #[unsafe(no_mangle)]
 pub extern "C" fn g1_race_refine(alloc: Global, sweeper: &mut SweeperHandle, card: u32) -> u32
     ensures refined { result ≡ 0 → OfSweeper sweeper.old.value (λ a.
         OfSweeper sweeper.new.value (λ b. Sweeps a card b)) }
     ensures taken { IfSweeper sweeper.old.value (λ a.
         card < card_count (race_layout (sweeper_race_of a)) → result ≡ 0) }
-    ensures why { 0 < result → IsRefusal result (IsSweepRefused sweeper.old.value card) }
-    ensures refused { 0 < result → sweeper.new.value ≡ sweeper.old.value }
+    ensures told { TellsRefusal 0 result sweeper.old.value sweeper.new.value (Unit {0})
+        (IsSweepRefused sweeper.old.value card) }
 {
     match replace_with(
         sweeper,

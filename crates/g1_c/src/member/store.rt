@@ -2,7 +2,8 @@
 ghost use Rattle.std.specs.Prelude.{◌≡◌, ◌<◌};
 ghost use Rattle.arrayvec.specs.ArrayVec.{array_vec_len};
 ghost use Rattle.g1_race.specs.Members.{race_layout};
-ghost use Rattle.g1_handles.specs.Codes.{IsRefusal, IsStoreOf, OfKind, reference_of};
+ghost use Rattle.g1_c.specs.Calls.{TellsRefusal};
+ghost use Rattle.g1_handles.specs.Codes.{IsStoreOf, OfKind, reference_of};
 ghost use Rattle.g1_handles.specs.Racing.{OfRacer, IfRacer, Stores, racer_race_of};
 ghost use Rattle.g1_handles.specs.Refusals.{IsRaceStoreRefused};
 
@@ -16,6 +17,7 @@ use g1_race::Racer;
 use std::alloc::Global;
 
 /// As in `g1.h`.
+#[tactic(auto, using(crate::proofs::Calls::tells_none))]
 #[unsafe(no_mangle)]
 pub extern "C" fn g1_race_store(
     alloc: Global,
@@ -29,10 +31,8 @@ pub extern "C" fn g1_race_store(
         Stores a slot (reference_of target) k b))) }
     ensures taken { IfRacer racer.old.value (λ a. array_vec_len a.racer.log < 256
         → IsStoreOf (race_layout (racer_race_of a)) slot target → result ≡ 0) }
-    ensures none { 0 < result → kind.new ≡ 0 }
-    ensures why { 0 < result →
-        IsRefusal result (IsRaceStoreRefused racer.old.value slot target) }
-    ensures refused { 0 < result → racer.new.value ≡ racer.old.value }
+    ensures told { TellsRefusal 0 result racer.old.value racer.new.value (kind.new ≡ 0)
+        (IsRaceStoreRefused racer.old.value slot target) }
 {
     match replace_with(
         racer,

@@ -1,6 +1,7 @@
 //! Stores of words in a race: a slot may hold null, a reference or data.
 ghost use Rattle.std.specs.Prelude.{◌≡◌, ◌⊎◌, ◌<◌, ◌≤◌};
-ghost use Rattle.g1_handles.specs.Codes.{IsRefusal, OfKind};
+ghost use Rattle.g1_c.specs.Calls.{TellsRefusal};
+ghost use Rattle.g1_handles.specs.Codes.{OfKind};
 ghost use Rattle.g1_handles.specs.RaceWords.{SwapsWord, FindsOtherWord, CanStoreWord, MayHave};
 ghost use Rattle.g1_handles.specs.RaceWords.{IsSwapWordRefused, IsExchangeWordRefused};
 ghost use Rattle.g1_handles.specs.Racing.{OfRacer, IfRacer, racer_race_of};
@@ -15,6 +16,7 @@ use g1_race::Racer;
 use std::alloc::Global;
 
 /// As in `g1.h`.
+#[tactic(auto, using(crate::proofs::Calls::tells_none))]
 #[unsafe(no_mangle)]
 pub extern "C" fn g1_race_swap_word(
     alloc: Global,
@@ -28,9 +30,8 @@ pub extern "C" fn g1_race_swap_word(
         OfRacer racer.new.value (λ b. OfKind kind.new (λ k. SwapsWord a slot word old.new k b))) }
     ensures taken { IfRacer racer.old.value (λ a.
         CanStoreWord (racer_race_of a) a.racer slot word → result ≡ 0) }
-    ensures none { 0 < result → (old.new ≡ 0) × (kind.new ≡ 0) }
-    ensures why { 0 < result → IsRefusal result (IsSwapWordRefused racer.old.value slot word) }
-    ensures refused { 0 < result → racer.new.value ≡ racer.old.value }
+    ensures told { TellsRefusal 0 result racer.old.value racer.new.value
+        ((old.new ≡ 0) × (kind.new ≡ 0)) (IsSwapWordRefused racer.old.value slot word) }
 {
     match replace_with(
         racer,
@@ -54,6 +55,7 @@ pub extern "C" fn g1_race_swap_word(
 }
 
 /// As in `g1.h`.
+#[tactic(auto, using(crate::proofs::Calls::tells_none))]
 #[unsafe(no_mangle)]
 pub extern "C" fn g1_race_compare_exchange_word(
     alloc: Global,
@@ -74,10 +76,8 @@ pub extern "C" fn g1_race_compare_exchange_word(
     ensures taken { IfRacer racer.old.value (λ a. CanStoreWord (racer_race_of a) a.racer slot word
         → MayHave (racer_race_of a) expected → result ≤ 2) }
     ensures none { 0 < result → kind.new ≡ 0 }
-    ensures null { 2 < result → found.new ≡ 0 }
-    ensures why { 2 < result →
-        IsRefusal result (IsExchangeWordRefused racer.old.value slot expected word) }
-    ensures refused { 2 < result → racer.new.value ≡ racer.old.value }
+    ensures told { TellsRefusal 2 result racer.old.value racer.new.value (found.new ≡ 0)
+        (IsExchangeWordRefused racer.old.value slot expected word) }
 {
     *kind = 0;
     match replace_with(

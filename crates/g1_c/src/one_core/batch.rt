@@ -1,7 +1,8 @@
 //! Several stores by one call.
-ghost use Rattle.std.specs.Prelude.{◌≡◌, ◌⊎◌, ◌<◌, ◌≤◌, length, take, IfSome};
+ghost use Rattle.std.specs.Prelude.{◌≡◌, ◌⊎◌, ◌≤◌, length, take, IfSome};
+ghost use Rattle.g1_c.specs.Calls.{TellsRefusal};
 ghost use Rattle.g1_handles.specs.Arrays.{IsWritten};
-ghost use Rattle.g1_handles.specs.Codes.{Between, IsRefusal};
+ghost use Rattle.g1_handles.specs.Codes.{Between};
 ghost use Rattle.g1_handles.specs.Batch.{made_all, IsFaultAt};
 ghost use Rattle.g1_handles.specs.Refusals.{AreStoresRefused, IsCallRefused};
 
@@ -25,6 +26,7 @@ pub struct Batch {
 }
 
 /// As in `g1.h`.
+#[tactic(auto, using(crate::proofs::Calls::tells_none))]
 #[unsafe(no_mangle)]
 pub extern "C" fn g1_store_all(
     alloc: Global,
@@ -40,12 +42,9 @@ pub extern "C" fn g1_store_all(
     ensures stopped { result ≡ 3 → IfSome handle.old.value (λ old.
         IsFaultAt old.state.table.layout stores.now batch.new.stored) }
     ensures done { result ≤ 3 → (result ≡ 0) ⊎ (result ≡ 3) }
-    ensures why { 3 < result →
-        IsRefusal result
-        (IsCallRefused handle.old.value (λ old.
-        AreStoresRefused (length stores.now) (length cards.old))) }
-    ensures refused { 3 < result → handle.new.value ≡ handle.old.value }
-    ensures none { 3 < result → (batch.new.stored ≡ 0) × (batch.new.logged ≡ 0) }
+    ensures told { TellsRefusal 3 result handle.old.value handle.new.value
+        ((batch.new.stored ≡ 0) × (batch.new.logged ≡ 0)) (IsCallRefused handle.old.value
+        (λ old. AreStoresRefused (length stores.now) (length cards.old))) }
     ensures written { IsWritten cards.old batch.new.logged cards.new }
 {
     *batch = Batch {

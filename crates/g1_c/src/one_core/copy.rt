@@ -1,7 +1,8 @@
 //! A range of slots of a core is copied to another one.
-ghost use Rattle.std.specs.Prelude.{◌≡◌, ◌+◌, ◌<◌, ◌≤◌, IfSome};
+ghost use Rattle.std.specs.Prelude.{◌≡◌, ◌+◌, ◌≤◌, IfSome};
 ghost use Rattle.g1_layout.specs.Shape.{slot_count};
-ghost use Rattle.g1_handles.specs.Codes.{IsRefusal, Between};
+ghost use Rattle.g1_c.specs.Calls.{TellsRefusal};
+ghost use Rattle.g1_handles.specs.Codes.{Between};
 ghost use Rattle.g1_handles.specs.Copies.{CopiesSlots};
 ghost use Rattle.g1_handles.specs.Lacks.{LacksRanges};
 ghost use Rattle.g1_handles.specs.Refusals.{IsCallRefused};
@@ -15,6 +16,7 @@ use g1_handles::one_core::handle::Handle;
 use std::alloc::Global;
 
 /// As in `g1.h`.
+#[tactic(auto, using(crate::proofs::Calls::tells_none))]
 #[unsafe(no_mangle)]
 pub extern "C" fn g1_copy(alloc: Global, handle: &mut Handle, from: u32, to: u32, count: u32) -> u32
     ensures copied { result ≡ 0 → Between handle.old.value handle.new.value (λ old new.
@@ -22,9 +24,9 @@ pub extern "C" fn g1_copy(alloc: Global, handle: &mut Handle, from: u32, to: u32
     ensures answered { IfSome handle.old.value (λ old.
         from + count ≤ slot_count old.state.table.layout
         → to + count ≤ slot_count old.state.table.layout → result ≡ 0) }
-    ensures why { 0 < result → IsRefusal result (IsCallRefused handle.old.value (λ old.
-        LacksRanges old.state.table.layout from count to count)) }
-    ensures refused { 0 < result → handle.new.value ≡ handle.old.value }
+    ensures told { TellsRefusal 0 result handle.old.value handle.new.value (Unit {0})
+        (IsCallRefused handle.old.value
+        (λ old. LacksRanges old.state.table.layout from count to count)) }
 {
     match replace_with(
         handle,

@@ -1,6 +1,7 @@
 //! Opening and closing a handle.
 ghost use Rattle.std.specs.Prelude.{◌≡◌, ◌↔◌, ◌<◌, Some, None, IsSome};
 ghost use Rattle.g1_core.specs.Machine.{Machine, new_machine};
+ghost use Rattle.g1_c.specs.Calls.{TellsRefusal};
 ghost use Rattle.g1_handles.specs.Codes.{layout_of, settings_of, IsRefusal};
 ghost use Rattle.g1_handles.specs.Refusals.{IsOpenRefused, SaysNotOpen};
 
@@ -11,6 +12,7 @@ use g1_handles::one_core::open::{Counts, close_in, open_core};
 use std::alloc::Global;
 
 /// As in `g1.h`.
+#[tactic(auto, using(crate::proofs::Calls::tells_none))]
 #[unsafe(no_mangle)]
 pub extern "C" fn g1_open(
     alloc: Global,
@@ -22,10 +24,8 @@ pub extern "C" fn g1_open(
     ensures new { result ≡ 0 →
         handle.new.value ≡ Some (new_machine (layout_of counts.now) (settings_of hot ring)) }
     ensures closed { result ≡ 0 → handle.old.value ≡ None }
-    ensures why { 0 < result →
-        IsRefusal result
+    ensures told { TellsRefusal 0 result handle.old.value handle.new.value (Unit {0})
         (IsOpenRefused handle.old.value (layout_of counts.now) (settings_of hot ring)) }
-    ensures refused { 0 < result → handle.new.value ≡ handle.old.value }
 {
     match open_core(alloc, handle, counts, hot, ring) {
         Ok(()) => DONE,

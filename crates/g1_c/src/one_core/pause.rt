@@ -1,7 +1,8 @@
 //! The pause.
 ghost use Rattle.std.specs.Prelude.{◌≡◌, ◌<◌, length, take};
+ghost use Rattle.g1_c.specs.Calls.{TellsRefusal};
 ghost use Rattle.g1_handles.specs.Arrays.{IsWritten};
-ghost use Rattle.g1_handles.specs.Codes.{Between, IsRefusal};
+ghost use Rattle.g1_handles.specs.Codes.{Between};
 ghost use Rattle.g1_handles.specs.Refusals.{IsCallRefused, IsDrainRefused};
 ghost use Rattle.g1_handles.specs.Replies.{DrainsTo};
 
@@ -15,6 +16,7 @@ use g1_handles::one_core::pause::drain_in;
 use std::alloc::Global;
 
 /// As in `g1.h`.
+#[tactic(auto, using(crate::proofs::Calls::tells_none))]
 #[unsafe(no_mangle)]
 pub extern "C" fn g1_drain(
     alloc: Global,
@@ -31,12 +33,9 @@ pub extern "C" fn g1_drain(
     ensures short { result ≡ 1 → Between handle.old.value handle.new.value (λ old new.
         DrainsTo old region (Drained.Short (take refined_count.new refined.new)) new) }
     ensures none { 0 < result → count.new ≡ 0 }
-    ensures why { 1 < result →
-        IsRefusal result
+    ensures told { TellsRefusal 1 result handle.old.value handle.new.value (refined_count.new ≡ 0)
         (IsCallRefused handle.old.value (λ old. IsDrainRefused old.state.table.layout region
         (length cards.old) (length refined.old))) }
-    ensures empty { 1 < result → refined_count.new ≡ 0 }
-    ensures refused { 1 < result → handle.new.value ≡ handle.old.value }
     ensures cards { IsWritten cards.old count.new cards.new }
     ensures refined { IsWritten refined.old refined_count.new refined.new }
 {

@@ -1,7 +1,8 @@
 //! Queries: what a slot refers to, whether a card is pending, and how much is pending and recorded.
 ghost use Rattle.std.specs.Prelude.{◌≡◌, ◌<◌, ◌≤◌, ◌==◌, IfSome, IsSome};
 ghost use Rattle.g1_layout.specs.Shape.{slot_count, card_count};
-ghost use Rattle.g1_handles.specs.Codes.{Between, IsRefusal, OfOpen, reference_of};
+ghost use Rattle.g1_c.specs.Calls.{TellsRefusal};
+ghost use Rattle.g1_handles.specs.Codes.{Between, OfOpen, reference_of};
 ghost use Rattle.g1_handles.specs.Queries.{RefersTo, IsToldPending, HasStatus};
 ghost use Rattle.g1_handles.specs.Refusals.{IsCallRefused, SaysNotOpen};
 ghost use Rattle.g1_handles.specs.Lacks.{LacksCard, LacksSlot};
@@ -25,16 +26,15 @@ pub struct Totals {
 }
 
 /// As in `g1.h`.
+#[tactic(auto, using(crate::proofs::Calls::tells_none))]
 #[unsafe(no_mangle)]
 pub extern "C" fn g1_target(alloc: Global, handle: &mut Handle, slot: u32, target: &mut u32) -> u32
     ensures target { result ≡ 0 → Between handle.old.value handle.new.value (λ old new.
         RefersTo old slot (reference_of target.new) new) }
-    ensures null { 0 < result → target.new ≡ 4294967295 }
     ensures answered { IfSome handle.old.value (λ old. slot < slot_count old.state.table.layout
         → result ≡ 0) }
-    ensures why { 0 < result → IsRefusal result (IsCallRefused handle.old.value (λ old.
-        LacksSlot old.state.table.layout slot)) }
-    ensures refused { 0 < result → handle.new.value ≡ handle.old.value }
+    ensures told { TellsRefusal 0 result handle.old.value handle.new.value (target.new ≡ 4294967295)
+        (IsCallRefused handle.old.value (λ old. LacksSlot old.state.table.layout slot)) }
 {
     *target = NULL;
     match replace_with(
@@ -51,6 +51,7 @@ pub extern "C" fn g1_target(alloc: Global, handle: &mut Handle, slot: u32, targe
 }
 
 /// As in `g1.h`.
+#[tactic(auto, using(crate::proofs::Calls::tells_none))]
 #[unsafe(no_mangle)]
 pub extern "C" fn g1_is_pending(
     alloc: Global,
@@ -61,11 +62,10 @@ pub extern "C" fn g1_is_pending(
     ensures pending { result ≡ 0 → OfOpen handle.old.value (λ machine.
         IsToldPending machine card (pending.new == 1)) }
     ensures word { pending.new ≤ 1 }
-    ensures none { 0 < result → pending.new ≡ 0 }
     ensures answered { IfSome handle.old.value (λ machine.
         card < card_count machine.state.table.layout → result ≡ 0) }
-    ensures why { 0 < result → IsRefusal result (IsCallRefused handle.old.value (λ old.
-        LacksCard old.state.table.layout card)) }
+    ensures told { TellsRefusal 0 result handle.old.value handle.new.value (pending.new ≡ 0)
+        (IsCallRefused handle.old.value (λ old. LacksCard old.state.table.layout card)) }
     ensures same { handle.new.value ≡ handle.old.value }
 {
     match replace_with(
@@ -85,14 +85,15 @@ pub extern "C" fn g1_is_pending(
 }
 
 /// As in `g1.h`.
+#[tactic(auto, using(crate::proofs::Calls::tells_none))]
 #[unsafe(no_mangle)]
 pub extern "C" fn g1_status(alloc: Global, handle: &mut Handle, totals: &mut Totals) -> u32
     ensures totals { result ≡ 0 → OfOpen handle.old.value (λ machine.
         HasStatus machine
         (record { pending = totals.new.pending; recorded = totals.new.recorded })) }
-    ensures none { 0 < result → (totals.new.pending ≡ 0) × (totals.new.recorded ≡ 0) }
     ensures answered { IsSome handle.old.value → result ≡ 0 }
-    ensures why { 0 < result → IsRefusal result (SaysNotOpen handle.old.value) }
+    ensures told { TellsRefusal 0 result handle.old.value handle.new.value
+        ((totals.new.pending ≡ 0) × (totals.new.recorded ≡ 0)) (SaysNotOpen handle.old.value) }
     ensures same { handle.new.value ≡ handle.old.value }
 {
     *totals = Totals {

@@ -1,7 +1,8 @@
 //! Refinement.
-ghost use Rattle.std.specs.Prelude.{◌≡◌, ◌<◌, ◌≤◌, length, take};
+ghost use Rattle.std.specs.Prelude.{◌≡◌, ◌≤◌, length, take};
+ghost use Rattle.g1_c.specs.Calls.{TellsRefusal};
 ghost use Rattle.g1_handles.specs.Arrays.{IsWritten};
-ghost use Rattle.g1_handles.specs.Codes.{Between, IsRefusal};
+ghost use Rattle.g1_handles.specs.Codes.{Between};
 ghost use Rattle.g1_handles.specs.Refusals.{IsCallRefused, IsRefinementRefused};
 ghost use Rattle.g1_handles.specs.Replies.{RefinesTo, reply_of};
 
@@ -26,6 +27,7 @@ pub struct Tally {
 }
 
 /// As in `g1.h`.
+#[tactic(auto, using(crate::proofs::Calls::tells_none))]
 #[unsafe(no_mangle)]
 pub extern "C" fn g1_refine(
     alloc: Global,
@@ -37,12 +39,10 @@ pub extern "C" fn g1_refine(
     ensures refined { result ≤ 1 → Between handle.old.value handle.new.value (λ old new.
         RefinesTo old cards.now (reply_of result (take tally.new.refined refined.new) tally.new.hot
         tally.new.skipped) new) }
-    ensures why { 1 < result →
-        IsRefusal result (IsCallRefused handle.old.value (λ old.
-        IsRefinementRefused old.state.table.layout cards.now (length refined.old))) }
-    ensures refused { 1 < result → handle.new.value ≡ handle.old.value }
-    ensures none { 1 < result → (tally.new.refined ≡ 0) × (tally.new.hot ≡ 0)
-        × (tally.new.skipped ≡ 0) }
+    ensures told { TellsRefusal 1 result handle.old.value handle.new.value
+        ((tally.new.refined ≡ 0) × (tally.new.hot ≡ 0) × (tally.new.skipped ≡ 0))
+        (IsCallRefused handle.old.value (λ old. IsRefinementRefused old.state.table.layout cards.now
+        (length refined.old))) }
     ensures written { IsWritten refined.old tally.new.refined refined.new }
 {
     *tally = Tally {

@@ -1,7 +1,8 @@
 //! Stores.
-ghost use Rattle.std.specs.Prelude.{◌≡◌, ◌<◌, IfSome};
+ghost use Rattle.std.specs.Prelude.{◌≡◌, IfSome};
 ghost use Rattle.g1_core.specs.Run.{kind_of};
-ghost use Rattle.g1_handles.specs.Codes.{kind_word, reference_of, IsRefusal, IsStoreOf, Between};
+ghost use Rattle.g1_c.specs.Calls.{TellsRefusal};
+ghost use Rattle.g1_handles.specs.Codes.{kind_word, reference_of, IsStoreOf, Between};
 ghost use Rattle.g1_core.specs.Barrier.{stored_machine};
 ghost use Rattle.g1_handles.specs.Codes.{OfOpen};
 ghost use Rattle.g1_handles.specs.Lacks.{LacksPlace};
@@ -16,6 +17,7 @@ use g1_handles::one_core::store::store_in;
 use std::alloc::Global;
 
 /// As in `g1.h`.
+#[tactic(auto, using(crate::proofs::Calls::tells_none))]
 #[unsafe(no_mangle)]
 pub extern "C" fn g1_store(
     alloc: Global,
@@ -30,10 +32,8 @@ pub extern "C" fn g1_store(
         new ≡ stored_machine old slot (reference_of target)) }
     ensures taken { IfSome handle.old.value (λ old. IsStoreOf old.state.table.layout slot target
         → result ≡ 0) }
-    ensures none { 0 < result → kind.new ≡ 0 }
-    ensures why { 0 < result → IsRefusal result (IsCallRefused handle.old.value
-        (λ old. LacksPlace old.state.table.layout slot target)) }
-    ensures refused { 0 < result → handle.new.value ≡ handle.old.value }
+    ensures told { TellsRefusal 0 result handle.old.value handle.new.value (kind.new ≡ 0)
+        (IsCallRefused handle.old.value (λ old. LacksPlace old.state.table.layout slot target)) }
 {
     match replace_with(
         handle,

@@ -1,8 +1,9 @@
 //! Checks of a core for a debug build.
-ghost use Rattle.std.specs.Prelude.{◌≡◌, ◌+◌, ◌<◌, ◌≤◌, IfSome, length};
+ghost use Rattle.std.specs.Prelude.{◌≡◌, ◌+◌, ◌≤◌, IfSome, length};
 ghost use Rattle.g1_layout.specs.Shape.{slot_count};
 ghost use Rattle.g1_core.specs.Machine.{IsOnlyRead};
-ghost use Rattle.g1_handles.specs.Codes.{IsRefusal, Between};
+ghost use Rattle.g1_c.specs.Calls.{TellsRefusal};
+ghost use Rattle.g1_handles.specs.Codes.{Between};
 ghost use Rattle.g1_handles.specs.Verifying.{Finds};
 ghost use Rattle.g1_handles.specs.Lacks.{LacksRanges};
 ghost use Rattle.g1_handles.specs.Refusals.{IsCallRefused};
@@ -16,6 +17,7 @@ use g1_handles::one_core::verify::verify_in;
 use std::alloc::Global;
 
 /// As in `g1.h`.
+#[tactic(auto, using(crate::proofs::Calls::tells_none))]
 #[unsafe(no_mangle)]
 pub extern "C" fn g1_verify(
     alloc: Global,
@@ -32,11 +34,9 @@ pub extern "C" fn g1_verify(
     ensures answered { IfSome handle.old.value (λ old.
         first + count ≤ slot_count old.state.table.layout
         → first + length references.now ≤ slot_count old.state.table.layout → result ≡ 0) }
-    ensures none { 0 < result → (differing.new ≡ 4294967295) × (missing.new ≡ 4294967295) }
-    ensures why { 0 < result → IsRefusal result
-        (IsCallRefused handle.old.value (λ old.
-        LacksRanges old.state.table.layout first count first (length references.now))) }
-    ensures refused { 0 < result → handle.new.value ≡ handle.old.value }
+    ensures told { TellsRefusal 0 result handle.old.value handle.new.value
+        ((differing.new ≡ 4294967295) × (missing.new ≡ 4294967295)) (IsCallRefused handle.old.value
+        (λ old. LacksRanges old.state.table.layout first count first (length references.now))) }
 {
     match replace_with(
         handle,

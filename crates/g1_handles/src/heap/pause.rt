@@ -4,10 +4,11 @@ ghost use Rattle.std.specs.Prelude.{IsSome, length, map, vec_capacity};
 ghost use Rattle.std.specs.Arc.{arc_value};
 ghost use Rattle.g1_race.specs.declared.race.Race.{Race};
 ghost use Rattle.g1_race.specs.Members.{racer_view, sweeper_view, racer_log};
-ghost use Rattle.g1_handles.specs.Life.{OfPaused, OfRacing, IsFor, IsPauseOf, IsPausedWith};
+ghost use Rattle.g1_handles.specs.Life.{OfPaused, OfRacing, IsFor, IsPauseOf};
 ghost use Rattle.g1_handles.specs.Life.{IsPauseRefused, AreOfHeap, AreLikeOf, AreFor, ComesIn};
-ghost use Rattle.g1_handles.specs.Life.{heap_race, heap_counts, held_counts, boxed_counts};
+ghost use Rattle.g1_handles.specs.Life.{heap_race, heap_counts, boxed_counts};
 ghost use Rattle.g1_handles.specs.Life.{waiting_counts};
+ghost use Rattle.g1_handles.specs.Phases.{ComesToPause};
 ghost use Rattle.g1_handles.specs.Racing.{held_racers, held_sweepers, role_in, AreClosed, IsOf};
 ghost use Rattle.g1_handles.specs.Racing.{counts_of};
 
@@ -41,17 +42,9 @@ pub fn pause_heap(
     requires one { IsFor handle.old.value (length racers.old) (length sweepers.old) →
         AreLikeOf handle.old.value (held_racers racers.old) (held_sweepers sweepers.old) →
         AreOfHeap handle.old.value (held_racers racers.old) (held_sweepers sweepers.old) }
-    ensures paused { OnOk result (OfRacing handle.old.value (λ b. OfPaused handle.new.value
-        (IsPausedWith (arc_value b.race) (held_racers racers.old) (held_sweepers sweepers.old)))) }
-    ensures same { OnOk result (heap_race handle.new.value ≡ heap_race handle.old.value) }
-    ensures counts { OnOk result (heap_counts handle.new.value
-        ≡ held_counts (held_racers racers.old) (held_sweepers sweepers.old)) }
-    ensures members { OnOk result (IsFor handle.old.value (length racers.old) (length sweepers.old)
-        × IsFor handle.new.value (length racers.old) (length sweepers.old)) }
-    ensures like { OnOk result (AreLikeOf handle.old.value (held_racers racers.old)
-        (held_sweepers sweepers.old)) }
-    ensures closed { OnOk result (AreClosed (held_racers racers.new)
-        × AreClosed (held_sweepers sweepers.new)) }
+    ensures paused { OnOk result (ComesToPause (length racers.old) (length sweepers.old)
+        handle.old.value handle.new.value (held_racers racers.old) (held_racers racers.new)
+        (held_sweepers sweepers.old) (held_sweepers sweepers.new)) }
     ensures why { IfErr result (λ refusal.
         IsPauseRefused handle.old.value (held_racers racers.old)
         (held_sweepers sweepers.old) refusal) }
@@ -76,17 +69,9 @@ fn pause_of(
     requires one { IsFor (Some heap.old) (length racers.old) (length sweepers.old) →
         AreLikeOf (Some heap.old) (held_racers racers.old) (held_sweepers sweepers.old) →
         AreOfHeap (Some heap.old) (held_racers racers.old) (held_sweepers sweepers.old) }
-    ensures paused { OnOk result (OfRacing (Some heap.old) (λ b. OfPaused (Some heap.new)
-        (IsPausedWith (arc_value b.race) (held_racers racers.old) (held_sweepers sweepers.old)))) }
-    ensures same { OnOk result (heap_race (Some heap.new) ≡ heap_race (Some heap.old)) }
-    ensures counts { OnOk result (heap_counts (Some heap.new)
-        ≡ held_counts (held_racers racers.old) (held_sweepers sweepers.old)) }
-    ensures members { OnOk result (IsFor (Some heap.old) (length racers.old) (length sweepers.old)
-        × IsFor (Some heap.new) (length racers.old) (length sweepers.old)) }
-    ensures like { OnOk result (AreLikeOf (Some heap.old) (held_racers racers.old)
-        (held_sweepers sweepers.old)) }
-    ensures closed { OnOk result (AreClosed (held_racers racers.new)
-        × AreClosed (held_sweepers sweepers.new)) }
+    ensures paused { OnOk result (ComesToPause (length racers.old) (length sweepers.old)
+        (Some heap.old) (Some heap.new) (held_racers racers.old) (held_racers racers.new)
+        (held_sweepers sweepers.old) (held_sweepers sweepers.new)) }
     ensures why { IfErr result (λ refusal.
         IsPauseRefused (Some heap.old) (held_racers racers.old)
         (held_sweepers sweepers.old) refusal) }

@@ -3,9 +3,10 @@ ghost use Rattle.std.specs.Prelude.{◌≡◌, ◌+◌, ◌≤◌, Some, All, If
 ghost use Rattle.std.specs.Prelude.{vec_len, vec_capacity};
 ghost use Rattle.std.specs.Arc.{arc_value};
 ghost use Rattle.g1_race.specs.declared.race.Race.{Race};
-ghost use Rattle.g1_handles.specs.Life.{OfHeap, OfPaused, OfRead, AreFor};
-ghost use Rattle.g1_handles.specs.Racing.{held_readers, role_in, AreClosed, IsOf};
-ghost use Rattle.g1_handles.specs.Readers.{AreReadersAt, IsLentHeap, IsReadBy, IsReadRefused};
+ghost use Rattle.g1_handles.specs.Life.{OfPaused, OfRead, AreFor};
+ghost use Rattle.g1_handles.specs.Phases.{BeginsReading};
+ghost use Rattle.g1_handles.specs.Racing.{held_readers, role_in, IsOf};
+ghost use Rattle.g1_handles.specs.Readers.{IsLentHeap, IsReadRefused};
 ghost use Rattle.g1_handles.specs.Readers.{IsLent, AreOut};
 
 use crate::any_handle::{are_closed, closed, into_box, opened};
@@ -29,11 +30,8 @@ pub fn read_heap(
     handle: &mut HeapHandle,
     readers: &mut [ReaderHandle],
 ) -> Result<(), Refusal>
-    ensures lent { OnOk result (IsLentHeap handle.old.value handle.new.value) }
-    ensures readers { OnOk result (OfPaused handle.old.value (λ p. OfHeap handle.old.value (λ race.
-        AreReadersAt race p (held_readers readers.new)))) }
-    ensures count { OnOk result (IsReadBy handle.new.value (length readers.old)) }
-    ensures closed { OnOk result (AreClosed (held_readers readers.old)) }
+    ensures lent { OnOk result (BeginsReading (length readers.old) handle.old.value handle.new.value
+        (held_readers readers.old) (held_readers readers.new)) }
     ensures why { IfErr result (IsReadRefused handle.old.value (held_readers readers.old)) }
     ensures refused { OnErr result ((handle.new.value ≡ handle.old.value)
         × (held_readers readers.new ≡ held_readers readers.old)) }
@@ -51,11 +49,8 @@ fn read_of(
     heap: &mut RacingHeap,
     readers: &mut [ReaderHandle],
 ) -> Result<(), Refusal>
-    ensures lent { OnOk result (IsLentHeap (Some heap.old) (Some heap.new)) }
-    ensures readers { OnOk result (OfPaused (Some heap.old) (λ p. OfHeap (Some heap.old) (λ race.
-        AreReadersAt race p (held_readers readers.new)))) }
-    ensures count { OnOk result (IsReadBy (Some heap.new) (length readers.old)) }
-    ensures closed { OnOk result (AreClosed (held_readers readers.old)) }
+    ensures lent { OnOk result (BeginsReading (length readers.old) (Some heap.old) (Some heap.new)
+        (held_readers readers.old) (held_readers readers.new)) }
     ensures why { IfErr result (IsReadRefused (Some heap.old) (held_readers readers.old)) }
     ensures refused { OnErr result ((heap.new ≡ heap.old)
         × (held_readers readers.new ≡ held_readers readers.old)) }

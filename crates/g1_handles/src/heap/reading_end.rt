@@ -2,6 +2,7 @@
 ghost use Rattle.std.specs.Prelude.{◌≡◌, Some, IfErr, OnOk, OnErr, IsSome, All, length};
 ghost use Rattle.std.specs.Arc.{arc_value};
 ghost use Rattle.g1_handles.specs.Life.{OfRead};
+ghost use Rattle.g1_handles.specs.Phases.{EndsReading};
 ghost use Rattle.g1_handles.specs.Racing.{held_readers, role_in, AreClosed};
 ghost use Rattle.g1_handles.specs.Readers.{AreReadersAt, AreReadersOf, AreReadersLike, IsLentHeap};
 ghost use Rattle.g1_handles.specs.Readers.{IsReadBy, IsReadEndRefused, IsLent, AreOut};
@@ -33,10 +34,8 @@ pub fn end_read_of_heap(
     requires one { IsReadBy handle.old.value (length readers.old) →
         AreReadersLike handle.old.value (held_readers readers.old) →
         AreReadersOf handle.old.value (held_readers readers.old) }
-    ensures ended { OnOk result (IsLentHeap handle.new.value handle.old.value) }
-    ensures count { OnOk result (IsReadBy handle.old.value (length readers.old)) }
-    ensures like { OnOk result (AreReadersLike handle.old.value (held_readers readers.old)) }
-    ensures closed { OnOk result (AreClosed (held_readers readers.new)) }
+    ensures ended { OnOk result (EndsReading (length readers.old) handle.old.value handle.new.value
+        (held_readers readers.old) (held_readers readers.new)) }
     ensures why { IfErr result (IsReadEndRefused handle.old.value (held_readers readers.old)) }
     ensures refused { OnErr result ((handle.new.value ≡ handle.old.value)
         × (held_readers readers.new ≡ held_readers readers.old)) }
@@ -57,10 +56,8 @@ fn end_read_of(
     requires one { IsReadBy (Some heap.old) (length readers.old) →
         AreReadersLike (Some heap.old) (held_readers readers.old) →
         AreReadersOf (Some heap.old) (held_readers readers.old) }
-    ensures ended { OnOk result (IsLentHeap (Some heap.new) (Some heap.old)) }
-    ensures count { OnOk result (IsReadBy (Some heap.old) (length readers.old)) }
-    ensures like { OnOk result (AreReadersLike (Some heap.old) (held_readers readers.old)) }
-    ensures closed { OnOk result (AreClosed (held_readers readers.new)) }
+    ensures ended { OnOk result (EndsReading (length readers.old) (Some heap.old) (Some heap.new)
+        (held_readers readers.old) (held_readers readers.new)) }
     ensures why { IfErr result (IsReadEndRefused (Some heap.old) (held_readers readers.old)) }
     ensures refused { OnErr result ((heap.new ≡ heap.old)
         × (held_readers readers.new ≡ held_readers readers.old)) }

@@ -3,10 +3,11 @@ ghost use Rattle.std.specs.Prelude.{◌≡◌, Some, All, IfErr, OnOk, OnErr, le
 ghost use Rattle.std.specs.Prelude.{vec_capacity};
 ghost use Rattle.std.specs.Arc.{arc_value};
 ghost use Rattle.g1_race.specs.declared.race.Race.{Race};
-ghost use Rattle.g1_handles.specs.Life.{OfPaused, OfRacing, GoesOn, LetsGo, IsLetGo, IsFor};
-ghost use Rattle.g1_handles.specs.Life.{IsGoingRefused, AreFor, heap_race};
-ghost use Rattle.g1_handles.specs.Life.{heap_counts, held_counts, boxed_counts, waiting_counts};
-ghost use Rattle.g1_handles.specs.Racing.{held_racers, held_sweepers, role_in, AreClosed, IsOf};
+ghost use Rattle.g1_handles.specs.Life.{OfPaused, LetsGo, IsLetGo};
+ghost use Rattle.g1_handles.specs.Life.{IsGoingRefused, AreFor};
+ghost use Rattle.g1_handles.specs.Life.{held_counts, boxed_counts, waiting_counts};
+ghost use Rattle.g1_handles.specs.Phases.{Resumes};
+ghost use Rattle.g1_handles.specs.Racing.{held_racers, held_sweepers, role_in, IsOf};
 ghost use Rattle.g1_handles.specs.Racing.{counts_of};
 
 use crate::any_handle::{AnyHandle, are_closed, closed, into_box, opened};
@@ -32,16 +33,9 @@ pub fn resume_heap(
     racers: &mut [RacerHandle],
     sweepers: &mut [SweeperHandle],
 ) -> Result<(), Refusal>
-    ensures resumed { OnOk result (OfPaused handle.old.value (λ p.
-        OfRacing handle.new.value (λ b.
-        GoesOn p (arc_value b.race) (held_racers racers.new) (held_sweepers sweepers.new)))) }
-    ensures same { OnOk result (heap_race handle.new.value ≡ heap_race handle.old.value) }
-    ensures counts { OnOk result (held_counts (held_racers racers.new) (held_sweepers sweepers.new)
-        ≡ heap_counts handle.old.value) }
-    ensures members { OnOk result (IsFor handle.old.value (length racers.old) (length sweepers.old)
-        × IsFor handle.new.value (length racers.old) (length sweepers.old)) }
-    ensures closed { OnOk result (AreClosed (held_racers racers.old)
-        × AreClosed (held_sweepers sweepers.old)) }
+    ensures resumed { OnOk result (Resumes (length racers.old) (length sweepers.old)
+        handle.old.value handle.new.value (held_racers racers.old) (held_racers racers.new)
+        (held_sweepers sweepers.old) (held_sweepers sweepers.new)) }
     ensures why { IfErr result (λ refusal.
         IsGoingRefused handle.old.value (held_racers racers.old)
         (held_sweepers sweepers.old) refusal) }
@@ -63,16 +57,9 @@ fn resume_of(
     racers: &mut [RacerHandle],
     sweepers: &mut [SweeperHandle],
 ) -> Result<(), Refusal>
-    ensures resumed { OnOk result (OfPaused (Some heap.old) (λ p.
-        OfRacing (Some heap.new) (λ b.
-        GoesOn p (arc_value b.race) (held_racers racers.new) (held_sweepers sweepers.new)))) }
-    ensures same { OnOk result (heap_race (Some heap.new) ≡ heap_race (Some heap.old)) }
-    ensures counts { OnOk result (held_counts (held_racers racers.new) (held_sweepers sweepers.new)
-        ≡ heap_counts (Some heap.old)) }
-    ensures members { OnOk result (IsFor (Some heap.old) (length racers.old) (length sweepers.old)
-        × IsFor (Some heap.new) (length racers.old) (length sweepers.old)) }
-    ensures closed { OnOk result (AreClosed (held_racers racers.old)
-        × AreClosed (held_sweepers sweepers.old)) }
+    ensures resumed { OnOk result (Resumes (length racers.old) (length sweepers.old)
+        (Some heap.old) (Some heap.new) (held_racers racers.old) (held_racers racers.new)
+        (held_sweepers sweepers.old) (held_sweepers sweepers.new)) }
     ensures why { IfErr result (λ refusal.
         IsGoingRefused (Some heap.old) (held_racers racers.old)
         (held_sweepers sweepers.old) refusal) }

@@ -1,68 +1,17 @@
 -- Each clause is that of the call on what the handle held.
-use Rattle.std.proofs.Common.{rules, refl, inl, inr}
+use Rattle.std.proofs.Common.{rules, refl}
 use Rattle.g1_handles.specs.Racing.{racing_in}
-use Rattle.g1_c.proofs.Calls.{not_0, not_2, not_upto_2, not_above, not_below_0, two_not_0, zero_not_2, of_kind, if_3, role_made, role_refused, role_same, taken_3}
+use Rattle.g1_c.proofs.Calls.{of_kind, role_made, role_refused, role_same, taken_3, tells}
 use Rattle.g1_c.proofs.member.exchange.g1_race_compare_exchange.Goals as goal
-
-pub returns-in-Err-clause-stored : goal.returns-in-Err-clause-stored
-returns-in-Err-clause-stored c done = not_0 _ c.word.ensures.refused done
-
-pub returns-in-Err-clause-found : goal.returns-in-Err-clause-found
-returns-in-Err-clause-found c done = not_0 _ c.word.ensures.refused done
-
-pub returns-in-Err-clause-differs : goal.returns-in-Err-clause-differs
-returns-in-Err-clause-differs c done = not_2 _ c.word.ensures.refused done
-
-pub returns-in-Err-clause-done : goal.returns-in-Err-clause-done
-returns-in-Err-clause-done c done = not_upto_2 _ c.word.ensures.refused done
 
 pub returns-in-Err-clause-taken : goal.returns-in-Err-clause-taken
 returns-in-Err-clause-taken c = taken_3 racing_in _ _ _ _ _ _ _ _ _ c.in-Err.ensures (λ _ _ c. search rules)
 
-pub returns-in-Err-clause-none : goal.returns-in-Err-clause-none
-returns-in-Err-clause-none c refused = refl
-
-pub returns-in-Err-clause-null : goal.returns-in-Err-clause-null
-returns-in-Err-clause-null c refused = refl
-
-pub returns-in-Err-clause-why : goal.returns-in-Err-clause-why
-returns-in-Err-clause-why c refused = (c.in-Err.refusal, c.word.ensures.number, role_refused racing_in _ _ _ _ _ _ c.in-Err.ensures (λ _ _ c. search rules))
-
-pub returns-in-Err-clause-refused : goal.returns-in-Err-clause-refused
-returns-in-Err-clause-refused c refused = role_same _ _ _ _ _ c.in-Err.ensures (λ _ _ c. search rules)
-
-pub returns-in-Ok-Differs-clause-stored : goal.returns-in-Ok-Differs-clause-stored
-returns-in-Ok-Differs-clause-stored c done = two_not_0 done
+pub returns-in-Err-clause-told : goal.returns-in-Err-clause-told
+returns-in-Err-clause-told c = tells _ _ _ _ _ _ _ c.word.ensures.number refl (role_refused racing_in _ _ _ _ _ _ c.in-Err.ensures (λ _ _ c. search rules)) (role_same _ _ _ _ _ c.in-Err.ensures (λ _ _ c. search rules))
 
 pub returns-in-Ok-Differs-clause-differs : goal.returns-in-Ok-Differs-clause-differs
 returns-in-Ok-Differs-clause-differs c done = role_made racing_in _ _ _ _ _ _ (rw c.in-Ok-Differs.field-0-is at c.in-Ok-Differs.ensures) (λ _ _ c. search rules)
 
-pub returns-in-Ok-Differs-clause-done : goal.returns-in-Ok-Differs-clause-done
-returns-in-Ok-Differs-clause-done c done = inr refl
-
-pub returns-in-Ok-Differs-clause-taken : goal.returns-in-Ok-Differs-clause-taken
-returns-in-Ok-Differs-clause-taken c = if_3 racing_in _ _ _ _ _ (search rules)
-
-pub returns-in-Ok-Differs-clause-why : goal.returns-in-Ok-Differs-clause-why
-returns-in-Ok-Differs-clause-why c refused = not_above 2 refused
-
-pub returns-in-Ok-Differs-clause-refused : goal.returns-in-Ok-Differs-clause-refused
-returns-in-Ok-Differs-clause-refused c refused = not_above 2 refused
-
 pub returns-in-Ok-Stored-clause-stored : goal.returns-in-Ok-Stored-clause-stored
 returns-in-Ok-Stored-clause-stored c done = of_kind racing_in _ _ _ _ c.in-Ok-Stored.stored c.kind_word.ensures (role_made racing_in _ _ _ _ _ _ (rw c.in-Ok-Stored.field-0-is at c.in-Ok-Stored.ensures) (λ _ _ c. search rules))
-
-pub returns-in-Ok-Stored-clause-differs : goal.returns-in-Ok-Stored-clause-differs
-returns-in-Ok-Stored-clause-differs c done = zero_not_2 done
-
-pub returns-in-Ok-Stored-clause-done : goal.returns-in-Ok-Stored-clause-done
-returns-in-Ok-Stored-clause-done c done = inl refl
-
-pub returns-in-Ok-Stored-clause-taken : goal.returns-in-Ok-Stored-clause-taken
-returns-in-Ok-Stored-clause-taken c = if_3 racing_in _ _ _ _ _ (search rules)
-
-pub returns-in-Ok-Stored-clause-why : goal.returns-in-Ok-Stored-clause-why
-returns-in-Ok-Stored-clause-why c refused = not_below_0 2 refused
-
-pub returns-in-Ok-Stored-clause-refused : goal.returns-in-Ok-Stored-clause-refused
-returns-in-Ok-Stored-clause-refused c refused = not_below_0 2 refused

@@ -1,5 +1,5 @@
 -- The handles have readers of the pause, which the heap was lent to.
-use Rattle.std.proofs.Common.{◌≡◌, ℕ, List, Some, All, length, map, sym, ap, subst}
+use Rattle.std.proofs.Common.{rules, ◌≡◌, ℕ, List, Some, All, length, map, sym, ap, subst}
 use Rattle.std.specs.Prelude.{Option}
 use Rattle.std.specs.Arc.{arc_value}
 use Rattle.atomic_table.specs.Seated.{TableId}
@@ -36,12 +36,17 @@ on_pause : (h : RacingHeap) (a : AtPause) (ms : List (Option ReaderMember)) → 
     → OfPaused (Some h) (λ p. OfHeap (Some h) (λ race. AreReadersAt race p ms))
 on_pause h a ms e on = subst (λ (h : RacingHeap). OfPaused (Some h) (λ p. OfHeap (Some h) (λ race. AreReadersAt race p ms))) (sym e) on
 
-pub returns-clause-readers : goal.returns-clause-readers
-returns-clause-readers c =
+pub returns-clause-lent : goal.returns-clause-lent
+returns-clause-lent c =
     let a = c.in-Paused.at in
     let b = c.in-Read.being_read in
     let ms = held_readers c.hand_out_readers.new.readers in
     let n = length c.are_closed.new.handles in
     let out = read_out _ b n c.replace_with.ensures.1 c.in-Read.is in
-    on_pause _ a ms c.in-Paused.is
-    (readers_at a b n ms (lent _ _ a b c.replace_with.ensures.0 c.in-Paused.is c.in-Read.is) out c.hand_out_readers.ensures.readers c.hand_out_readers.ensures.race)
+    record {
+      lent = search rules;
+      readers_at = on_pause _ a ms c.in-Paused.is
+          (readers_at a b n ms (lent _ _ a b c.replace_with.ensures.0 c.in-Paused.is c.in-Read.is) out c.hand_out_readers.ensures.readers c.hand_out_readers.ensures.race);
+      count = search rules;
+      closed = search rules;
+    }

@@ -1,5 +1,5 @@
 -- The race goes on as the pause left it, with the members that are handed out.
-use Rattle.std.proofs.Common.{◌≡◌, List, Some, None, All, map, sym, ap, ◌∙◌, subst, refl}
+use Rattle.std.proofs.Common.{rules, ◌≡◌, List, Some, None, All, map, sym, ap, ◌∙◌, subst, refl}
 use Rattle.std.specs.Prelude.{Option, IsSomeAnd}
 use Rattle.std.specs.Arc.{arc_value}
 use Rattle.g1_race_words.specs.Begin.{Start}
@@ -50,13 +50,6 @@ on_pause : (h : RacingHeap) (a : AtPause) (race : Race) (rs : List (Option Racer
     → OfPaused (Some h) (λ p. GoesOn p race rs ss)
 on_pause h a race rs ss e on = subst (λ (h : RacingHeap). OfPaused (Some h) (λ p. GoesOn p race rs ss)) (sym e) on
 
-pub returns-clause-counts : goal.returns-clause-counts
-returns-clause-counts c =
-    let a = c.in-Paused.at in
-    let b = c.in-Racing.under_way in
-    let go = let_go _ _ a b c.replace_with.ensures c.in-Paused.is c.in-Racing.is in
-    c.hand_out.ensures.counts ∙ ((λ i. (boxed_counts (go.racers_waited i), boxed_counts (go.sweepers_waited i))) ∙ sym (ap (λ (h : RacingHeap). heap_counts (Some h)) c.in-Paused.is))
-
 pub returns-clause-resumed : goal.returns-clause-resumed
 returns-clause-resumed c =
     let a = c.in-Paused.at in
@@ -66,4 +59,10 @@ returns-clause-resumed c =
     let race = arc_value c.hand_out.new.under_way.race in
     let go = let_go _ _ a b c.replace_with.ensures c.in-Paused.is c.in-Racing.is in
     let on = goes_on a b race rs ss go (sym c.hand_out.ensures.same.0) c.hand_out.ensures.racers c.hand_out.ensures.sweepers c.hand_out.ensures.race.0 c.hand_out.ensures.race.1 in
-    on_pause _ a race rs ss c.in-Paused.is on
+    record {
+      resumed = on_pause _ a race rs ss c.in-Paused.is on;
+      race = search rules;
+      counts = c.hand_out.ensures.counts ∙ ((λ i. (boxed_counts (go.racers_waited i), boxed_counts (go.sweepers_waited i))) ∙ sym (ap (λ (h : RacingHeap). heap_counts (Some h)) c.in-Paused.is));
+      members = search rules;
+      closed = search rules;
+    }

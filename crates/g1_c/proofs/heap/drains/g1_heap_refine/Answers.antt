@@ -1,0 +1,7 @@
+-- Each clause is that of the call on the heap at its pause.
+use Rattle.std.proofs.Common.{rules}
+use Rattle.g1_c.proofs.Calls.{heap_refused, heap_same, tells}
+use Rattle.g1_c.proofs.heap.drains.g1_heap_refine.Goals as goal
+
+pub returns-in-Err-clause-told : goal.returns-in-Err-clause-told
+returns-in-Err-clause-told c = tells _ _ _ _ _ _ _ c.word.ensures.number tt (heap_refused _ _ _ _ _ _ c.in-Err.ensures (λ _ _ c. search rules)) (heap_same _ _ _ _ _ c.in-Err.ensures (λ _ _ c. search rules))

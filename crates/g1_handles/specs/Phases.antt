@@ -1,0 +1,48 @@
+-- How a heap goes from its race to a pause and back, and from a pause to a reading and back. Of the
+-- lists of handles the first is before the call, and the second after it.
+use Rattle.std.specs.Prelude.{◌≡◌, ℕ, List, Option}
+use Rattle.std.specs.Arc.{arc_value}
+use Rattle.g1_handles.specs.declared.heap.racing_heap.RacingHeap.{RacingHeap}
+use Rattle.g1_handles.specs.Own.{RacerMember, SweeperMember, ReaderMember}
+use Rattle.g1_handles.specs.Life.{OfHeap, OfPaused, OfRacing, IsFor, AreLikeOf, IsPausedWith}
+use Rattle.g1_handles.specs.Life.{GoesOn, heap_race, heap_counts, held_counts}
+use Rattle.g1_handles.specs.Racing.{AreClosed}
+use Rattle.g1_handles.specs.Readers.{AreReadersAt, AreReadersLike, IsLentHeap, IsReadBy}
+
+-- The race of the heap comes to a pause: all its members, as many racers and sweepers, were behind
+-- these handles, which are closed.
+pub record ComesToPause (racers sweepers : ℕ) (old new : Option RacingHeap)
+    (rs rs' : List (Option RacerMember)) (ss ss' : List (Option SweeperMember)) : Type 0 where
+  pub paused : OfRacing old (λ b. OfPaused new (IsPausedWith (arc_value b.race) rs ss))
+  pub race : heap_race new ≡ heap_race old
+  pub counts : heap_counts new ≡ held_counts rs ss
+  pub members : IsFor old racers sweepers × IsFor new racers sweepers
+  pub like : AreLikeOf old rs ss
+  pub closed : AreClosed rs' × AreClosed ss'
+
+-- The race goes on as the pause left it, with all its members behind these handles, which were
+-- closed.
+pub record Resumes (racers sweepers : ℕ) (old new : Option RacingHeap)
+    (rs rs' : List (Option RacerMember)) (ss ss' : List (Option SweeperMember)) : Type 0 where
+  pub resumed : OfPaused old (λ p. OfRacing new (λ b. GoesOn p (arc_value b.race) rs' ss'))
+  pub race : heap_race new ≡ heap_race old
+  pub counts : held_counts rs' ss' ≡ heap_counts old
+  pub members : IsFor old racers sweepers × IsFor new racers sweepers
+  pub closed : AreClosed rs × AreClosed ss
+
+-- As many readers read the pause, from behind these handles, which were closed.
+pub record BeginsReading (readers : ℕ) (old new : Option RacingHeap)
+    (rs rs' : List (Option ReaderMember)) : Type 0 where
+  pub lent : IsLentHeap old new
+  pub readers_at : OfPaused old (λ p. OfHeap old (λ race. AreReadersAt race p rs'))
+  pub count : IsReadBy new readers
+  pub closed : AreClosed rs
+
+-- The heap is at its pause again: all its readers, as many, were behind these handles, which are
+-- closed.
+pub record EndsReading (readers : ℕ) (old new : Option RacingHeap)
+    (rs rs' : List (Option ReaderMember)) : Type 0 where
+  pub ended : IsLentHeap new old
+  pub count : IsReadBy old readers
+  pub like : AreReadersLike old rs
+  pub closed : AreClosed rs'
