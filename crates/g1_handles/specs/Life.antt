@@ -240,7 +240,8 @@ abbrev pub IsGoingRefused : Option RacingHeap → List (Option RacerMember)
     → List (Option SweeperMember) → Refusal → Type 0
 IsGoingRefused h racers sweepers r =
     SaysNoHeap h r ⊎ SaysNotPaused h r
-    ⊎ ((r ≡ refusal.BadMembers) × (IsFor h (length racers) (length sweepers) → ⊥))
+    ⊎ ((r ≡ refusal.BadMembers) × OfPaused h (λ p. Unit {0})
+    × (IsFor h (length racers) (length sweepers) → ⊥))
     ⊎ ((r ≡ refusal.AlreadyOpen) × (AreClosed racers → AreClosed sweepers → ⊥))
 
 -- these members are of races with as many members as that of the heap
@@ -291,7 +292,8 @@ abbrev pub IsPauseRefused : Option RacingHeap → List (Option RacerMember)
     → List (Option SweeperMember) → Refusal → Type 0
 IsPauseRefused h racers sweepers r =
     SaysNoHeap h r ⊎ SaysNotRacing h r
-    ⊎ ((r ≡ refusal.BadMembers) × (IsFor h (length racers) (length sweepers) → ⊥))
+    ⊎ ((r ≡ refusal.BadMembers) × IsRacing h
+    × (IsFor h (length racers) (length sweepers) → ⊥))
     ⊎ Any (λ m. SaysNoMember m r) racers
     ⊎ Any (λ m. SaysNoMember m r) sweepers
     ⊎ (r ≡ refusal.OtherRace)

@@ -19,7 +19,8 @@ use Rattle.g1_handles.specs.declared.heap.racing_heap.BeingRead.{BeingRead}
 use Rattle.g1_handles.specs.declared.heap.racing_heap.RacingHeap.{RacingHeap}
 use Rattle.g1_handles.specs.declared.heap.racing_heap.RacingHeap.TheVariants as heap
 use Rattle.g1_handles.specs.Own.{ReaderMember}
-use Rattle.g1_handles.specs.Life.{OfPaused, OfRead, IsRacing, SaysNoHeap, SaysNotPaused, AreFor}
+use Rattle.g1_handles.specs.Life.{OfPaused, OfRead, IsRacing, IsRead, SaysNoHeap, SaysNotPaused}
+use Rattle.g1_handles.specs.Life.{AreFor}
 use Rattle.g1_handles.specs.Racing.{OfRole, AreClosed, IsAmong}
 use Rattle.g1_handles.specs.Refusals.{SaysNoMember, IsRoleRefused}
 
@@ -102,7 +103,8 @@ abbrev pub IsReadEndRefused : Option RacingHeap → List (Option ReaderMember) �
 IsReadEndRefused h readers r =
     SaysNoHeap h r
     ⊎ ((r ≡ refusal.NotPaused) × IsRacing h)
-    ⊎ ((r ≡ refusal.BadMembers) × (IsReadBy h (length readers) → ⊥))
+    ⊎ ((r ≡ refusal.BadMembers) × (OfPaused h (λ p. Unit {0}) ⊎ IsRead h)
+    × (IsReadBy h (length readers) → ⊥))
     ⊎ Any (λ m. SaysNoMember m r) readers
     ⊎ (r ≡ refusal.OtherRace)
 

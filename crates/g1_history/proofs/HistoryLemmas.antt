@@ -1,11 +1,10 @@
 -- A history goes on by a step.
-use Rattle.std.proofs.Common.{◌≡◌, ℕ, ◌+◌, ◌<◌, ◌≤◌, Bool, true, false, cond, List, [], ◌∷◌, ◌++◌, length, refl, sym, subst, ap, ◌∙◌, arith}
+use Rattle.std.proofs.Common.{◌≡◌, ℕ, ◌+◌, ◌<◌, ◌≤◌, Bool, true, false, cond, [], ◌∷◌, ◌++◌, length, refl, sym, subst, ap, ◌∙◌, arith}
 use Rattle.std.proofs.lemmas.List.{length-append}
 use Rattle.g1_layout.specs.Shape.{Shape, IsShape, card_count}
 use Rattle.g1_core.specs.Machine.{Machine, IsLater, IsSound}
 use Rattle.g1_core.specs.Table.{Table, opening, IsCovered}
 use Rattle.g1_core.specs.declared.entry.Entry.{Entry}
-use Rattle.g1_core.specs.declared.entry.Call.{Call}
 use Rattle.g1_core.specs.declared.entry.Reply.{Reply}
 use Rattle.g1_core.specs.Run.{IsStep, IsAllowed, IsPermitted, table_of_history, drained}
 use Rattle.g1_core.specs.declared.entry.Call.TheVariants as call

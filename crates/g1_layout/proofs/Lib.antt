@@ -1,3 +1,4 @@
 mod ReciprocalLemmas
 pub mod RegionSetLemmas
 pub mod ShapeLemmas
+pub mod SetLemmas

@@ -6,6 +6,8 @@ use Rattle.g1_core.specs.Table.{Table, IsPending, IsRecorded}
 use Rattle.g1_race_words.specs.declared.view.Shape.{Shape}
 use Rattle.g1_race_words.specs.declared.view.View.{View}
 use Rattle.g1_race_words.specs.Begin.{Start}
+use Rattle.g1_race_words.specs.Seats.{IsPaused}
+use Rattle.g1_race_words.specs.Readers.{IsReading}
 use Rattle.g1_race.specs.declared.race.Race.{Race}
 use Rattle.g1_race.specs.Over.{Pause, ended, start_at, table_of}
 
@@ -38,6 +40,17 @@ table_read race reader = table_of (ended race.layout race.shape reader.start.wor
 -- the same, as a seat at a pause knows it
 abbrev pub table_known : Race → Seat (Unit {0}) View → Table
 table_known race seat = table_of (ended race.layout race.shape seat.me.0.began_words)
+
+-- the seat of this race at its pause, one that may read what the pause has, and one that has read:
+-- it knows what it knew
+abbrev pub IsAtPause : Race → Seat (Unit {0}) View → Type 0
+IsAtPause race seat = IsPaused race.table.table_id race.shape seat
+
+abbrev pub MayRead : Race → Seat (Unit {0}) View → Type 0
+MayRead race seat = IsReading race.table.table_id race.shape seat
+
+abbrev pub IsSameSeat : Seat (Unit {0}) View → Seat (Unit {0}) View → Type 0
+IsSameSeat old new = (new.table_id ≡ old.table_id) × (new.me ≡ old.me)
 
 -- the least pending card from one on
 abbrev pub IsNextPending : Table → ℕ → Option ℕ → Type 0

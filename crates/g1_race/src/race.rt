@@ -12,7 +12,7 @@ mod exchange;
 mod pause;
 pub(crate) mod refinement;
 
-ghost use Rattle.std.specs.Prelude.{◌≡◌, ◌+◌, ◌<◌, []};
+ghost use Rattle.std.specs.Prelude.{◌≡◌, ◌<◌, []};
 ghost use Rattle.g1_race_words.specs.Rule.{IsWholeShape};
 ghost use Rattle.g1_race.specs.Race.{shape_of, IsRacing, IsSweeping};
 

@@ -1,6 +1,6 @@
 -- The cards' flags among the words.
-use Rattle.std.proofs.Common.{◌≡◌, ◌∙◌, ℕ, ◌+◌, ◌*◌, ◌/◌, ◌%◌, ◌<◌, ◌≤◌, zero, suc, List, length, set, sym, subst, arith}
-use Rattle.std.proofs.Math.Nat.{le-mul_of_pos_right, mul-pos, mul-suc}
+use Rattle.std.proofs.Common.{◌≡◌, ◌∙◌, ℕ, ◌+◌, ◌*◌, ◌/◌, ◌%◌, ◌<◌, ◌≤◌, suc, List, length, set, sym, subst, arith}
+use Rattle.std.proofs.Math.Nat.{mul-suc}
 use Rattle.std.proofs.lemmas.Nat.{mul-add-lt}
 use mathlib.Core.Option.{some, some-injective}
 use native.Mathlib.Decide.{ℕ_discrete}
@@ -36,10 +36,6 @@ flag_place c = omega arith
 
 pub flag_below : (k : Shape) (c : ℕ) → IsWholeShape k → c < k.cards → bit_word k (flag k c) < word_count k
 flag_below k c shaped lt = bit_below k (flag k c) shaped (flag_card k c lt) (omega arith)
-
-    pick : (r : ℕ) → k.slots ≡ r * k.span → 0 < r
-    pick zero e = absurd (omega (arith, filled, e))
-    pick (suc r) e = omega arith
 
 -- the words of slots and marks stay
 abbrev pub SameFront : Shape → List ℕ → List ℕ → Type 0

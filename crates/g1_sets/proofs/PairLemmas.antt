@@ -1,44 +1,17 @@
 -- The set of the pairs that the lists by region make up.
-use Rattle.std.proofs.Common.{◌≡◌, ◌⊎◌, inl, inr, ℕ, zero, suc, ◌<◌, ◌+◌, Bool, true, false, eqb, List, [], ◌∷◌, length, map, refl, sym, ap, ◌∙◌, subst, arith, Vec, Global}
+use Rattle.std.proofs.Common.{◌≡◌, ◌⊎◌, inl, inr, ℕ, zero, suc, ◌<◌, ◌+◌, true, false, eqb, List, [], ◌∷◌, length, map, refl, sym, ap, ◌∙◌, subst, arith, Vec, Global}
 use Rattle.std.specs.Prelude.{Contains, not, nat_eq, slice_set, replicate, Result, Ok, Err, IfOk}
-use Rattle.std.specs.declared.cmp.Ordering.TheVariants.{Equal}
-use Rattle.std.specs.Ordering.{nat_cmp}
-use Rattle.std.specs.Cmp.{IsTotalOrder, Equal-is}
 use Rattle.std.specs.FinSet as set
-use Rattle.std.proofs.lemmas.Cmp.{on_total, then_total, nat_cmp_total, eq_by_cmp_equiv}
-use Rattle.std.proofs.lemmas.Map.Lookups.{exact_pairs, exact_unsigned}
-use Rattle.std.proofs.lemmas.Map.Views.{Contains-from_any, list_any-from_Contains}
 use Rattle.std.proofs.lemmas.Bool.{cases_eq, or_cases, or_left, or_right, and_parts, and_from, eq-eqb, ne_eqb, not-true, true≢false}
 use Rattle.std.proofs.lemmas.List.Elements.{Contains-append_left, Contains-append_right, Contains-append_cases}
 use Rattle.std.specs.List.{list_any}
 use Rattle.g1_layout.specs.Shape.{Shape}
 use Rattle.g1_layout.specs.Sets.{pair_cmp, PairSet}
+pub use Rattle.g1_layout.proofs.SetLemmas.{pair_exact, same_bools, same_pairs, pair_total, in_pairs, to_pairs, of_card_from, of_card_to}
 use Rattle.g1_sets.specs.Pairs.{list_at, of_card, of_region, without, with_cards, pairs_from, pairs_of, Joins, AreCardsOf, AreLists, AreTied}
 use Rattle.g1_sets.specs.Ascending.{AreInOrder}
 use Rattle.g1_sets.proofs.ListLemmas.{joins_cases, joins_old, joins_new, list_at-set_same, list_at-set_other}
 use Rattle.g1_sets.proofs.CardLemmas.{in_list, to_list, Contains-with_cards, Contains-with_cards_old, Contains-with_cards_cases}
-
-pub pair_total : IsTotalOrder pair_cmp
-pair_total = then_total (on_total (λ (p : ℕ × ℕ). p.0) nat_cmp_total) (on_total (λ (p : ℕ × ℕ). p.1) nat_cmp_total)
-
-pair_exact : (a b : ℕ × ℕ) → pair_cmp a b ≡ Equal → a ≡ b
-pair_exact a b e = exact_pairs nat_cmp nat_cmp exact_unsigned exact_unsigned a b e
-
-pub same_bools : (a b : Bool) → (a ≡ true → b ≡ true) → (b ≡ true → a ≡ true) → a ≡ b
-same_bools true b f g = sym (f refl)
-same_bools false true f g = g refl
-same_bools false false f g = refl
-
--- two sets with the same members are equal
-same_pairs : (s t : PairSet) → ((p : ℕ × ℕ) → set.contains s p ≡ true → set.contains t p ≡ true) → ((p : ℕ × ℕ) → set.contains t p ≡ true → set.contains s p ≡ true) → s ≡ t
-same_pairs s t to from = set.same_set pair_total pair_exact s t (λ p. same_bools _ _ (to p) (from p))
-
--- a list's set has what the list has
-pub in_pairs : (ps : List (ℕ × ℕ)) (p : ℕ × ℕ) → set.contains (set.from_list {R = pair_cmp} ps) p ≡ true → Contains ps p
-in_pairs ps p h = Contains-from_any (λ x y e. pair_exact x y ((Equal-is (pair_cmp x y)).0 e)) p ps (sym (set.contains-from_list pair_total ps p) ∙ h)
-
-to_pairs : (ps : List (ℕ × ℕ)) (p : ℕ × ℕ) → Contains ps p → set.contains (set.from_list {R = pair_cmp} ps) p ≡ true
-to_pairs ps p h = set.contains-from_list pair_total ps p ∙ list_any-from_Contains (eq_by_cmp_equiv pair_total) p ps h
 
 -- the pairs of some cards with one region
 pub row_from : (cards : List ℕ) (region : ℕ) (p : ℕ × ℕ) → Contains (map (λ (c : ℕ). (c, region)) cards) p → Contains cards p.0 × (p.1 ≡ region)
@@ -53,21 +26,6 @@ row_to [] region card r at (k, lt, e) = absurd (omega (arith, lt))
 row_to (c ∷ cs) region card r at (zero, lt, e) = (0, omega arith, λ i. (e i, sym at i))
 row_to (c ∷ cs) region card r at (suc k, lt, e) =
     let rest : Contains {X = ℕ × ℕ} (map (λ (c : ℕ). (c, region)) cs) (card, r) = row_to cs region card r at (k, omega (arith, lt), e) in
-    (suc rest.0, omega (arith, rest.1), rest.2)
-
--- the pairs of one card with some regions
-of_card_from : (card : ℕ) (regions : List ℕ) (p : ℕ × ℕ) → Contains (map (λ (r : ℕ). (card, r)) regions) p → (p.0 ≡ card) × Contains regions p.1
-of_card_from card [] p (k, lt, e) = absurd (omega (arith, lt))
-of_card_from card (r ∷ rs) p (zero, lt, e) = (ap (λ (q : ℕ × ℕ). q.0) (sym e), (0, omega arith, ap (λ (q : ℕ × ℕ). q.1) e))
-of_card_from card (r ∷ rs) p (suc k, lt, e) =
-    let rest : (p.0 ≡ card) × Contains rs p.1 = of_card_from card rs p (k, omega (arith, lt), e) in
-    (rest.0, (suc rest.1.0, omega (arith, rest.1.1), rest.1.2))
-
-of_card_to : (card : ℕ) (regions : List ℕ) (p : ℕ × ℕ) → p.0 ≡ card → Contains regions p.1 → Contains (map (λ (r : ℕ). (card, r)) regions) p
-of_card_to card [] p on (k, lt, e) = absurd (omega (arith, lt))
-of_card_to card (r ∷ rs) p on (zero, lt, e) = (0, omega arith, (λ i. (sym on i, e i)))
-of_card_to card (r ∷ rs) p on (suc k, lt, e) =
-    let rest : Contains (map (λ (r : ℕ). (card, r)) rs) p = of_card_to card rs p on (k, omega (arith, lt), e) in
     (suc rest.0, omega (arith, rest.1), rest.2)
 
 -- the pairs of all lists

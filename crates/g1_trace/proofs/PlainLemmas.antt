@@ -1,5 +1,5 @@
 -- A line that is spelled plainly, word by word.
-use Rattle.std.proofs.Common.{inl, inr, ◌≡◌, ◌≢◌, ℕ, ◌==◌, ◌+◌, ◌-◌, ◌*◌, ◌<◌, ◌≤◌, List, [], ◌∷◌, ◌++◌, refl, length, take, drop, get_or, suc, add-one, codes, sym, ap, ◌∙◌, subst, arith, rules, nat_lt, append_assoc, append-nil, Option, Some, None, false}
+use Rattle.std.proofs.Common.{inl, inr, ◌≡◌, ◌≢◌, ℕ, ◌==◌, ◌+◌, ◌-◌, ◌*◌, ◌<◌, ◌≤◌, List, [], ◌∷◌, ◌++◌, refl, length, take, drop, get_or, suc, add-one, codes, sym, ap, ◌∙◌, arith, rules, nat_lt, append_assoc, append-nil, Option, Some, None, false}
 use Rattle.std.specs.Prelude.{Result, Ok, Err, true}
 use Rattle.std.specs.Result.{result_ok}
 use Rattle.std.specs.Char.{is_ascii_digit}
@@ -93,12 +93,7 @@ number_apart bytes window rest end count room value shown within below few some 
       read = number_read (take count bytes) value (omega arith) (omega arith) read;
     }
 
--- digits are not the word `null`
-]
-
 -- a number or `null` in the last place
-}
-
 pub target_null : (bytes word rest : List ℕ) → bytes_eq word (codes "null\n") ≡ true → bytes ≡ word ++ rest → IsTargetBefore bytes None rest
 target_null bytes word rest same apart = record {
   word = codes "null";

@@ -10,12 +10,10 @@ ghost use Rattle.g1_core.specs.Calls.{target_entry, pending_entry, store_entry};
 ghost use Rattle.g1_race_words.specs.Rule.{IsBegun, started, crosses, word_count};
 ghost use Rattle.g1_race.specs.Race.{shape_of, word_of};
 ghost use Rattle.g1_race.specs.Over.{table_at};
-ghost use Rattle.g1_race.specs.Reading.{table_known};
+ghost use Rattle.g1_race.specs.Reading.{table_known, IsAtPause, MayRead, IsSameSeat};
 ghost use Rattle.g1_race.specs.Evacuating.{IsSameRace, SlotsBecome, WordsBecome, one_word};
 ghost use Rattle.g1_race.specs.Evacuating.{plain_reply};
 ghost use Rattle.g1_race.specs.Refining.{IsDirtied};
-ghost use Rattle.g1_race_words.specs.Seats.{IsPaused};
-ghost use Rattle.g1_race_words.specs.Readers.{IsReading};
 
 use crate::paused::Paused;
 use crate::paused::drain::set_bit;
@@ -72,11 +70,11 @@ impl<R: Holds> Paused<R> {
 
 // The kind of a store of `target` into `slot`.
 fn kind_of(race: &Race, seat: &mut RaceSeat, slot: &Slot, target: &Option<Slot>) -> Kind
-    requires seat { IsReading race.now.table.table_id race.now.shape seat.old }
+    requires seat { MayRead race.now seat.old }
     requires slot { slot.now < slot_count race.now.layout }
     requires target { IfSome target.now (λ place. place < slot_count race.now.layout) }
     ensures kind { result ≡ kind_of (table_known race.now seat.old) slot.now target.now }
-    ensures seat { (seat.new.table_id ≡ seat.old.table_id) × (seat.new.me ≡ seat.old.me) }
+    ensures seat { IsSameSeat seat.old seat.new }
 {
     let Some(target) = target else {
         return Kind::Null;
@@ -92,11 +90,11 @@ fn kind_of(race: &Race, seat: &mut RaceSeat, slot: &Slot, target: &Option<Slot>)
 
 // Makes a store of this kind.
 fn store_as(race: &Race, seat: &mut RaceSeat, slot: Slot, target: Option<Slot>, kind: Kind)
-    requires seat { IsPaused race.now.table.table_id race.now.shape seat.old }
+    requires seat { IsAtPause race.now seat.old }
     requires slot { slot < slot_count race.now.layout }
     requires target { IfSome target (λ place. place < slot_count race.now.layout) }
     requires kind { kind ≡ kind_of (table_known race.now seat.old) slot target }
-    ensures seat { IsPaused race.now.table.table_id race.now.shape seat.new }
+    ensures seat { IsAtPause race.now seat.new }
     ensures words { WordsBecome (one_word slot (word_of target)) race.now.shape
         seat.old.me.0.began_words seat.new.me.0.began_words }
     ensures table { table_known race.now seat.new
@@ -113,11 +111,11 @@ fn store_as(race: &Race, seat: &mut RaceSeat, slot: Slot, target: Option<Slot>, 
 
 // What the slot refers to.
 pub(crate) fn target_of(race: &Race, seat: &mut RaceSeat, slot: Slot) -> Option<Slot>
-    requires seat { IsReading race.now.table.table_id race.now.shape seat.old }
+    requires seat { MayRead race.now seat.old }
     requires slot { slot < slot_count race.now.layout }
     ensures target { result ≡ target_of (table_known race.now seat.old) slot }
     ensures within { IfSome result (λ place. place < slot_count race.now.layout) }
-    ensures seat { (seat.new.table_id ≡ seat.old.table_id) × (seat.new.me ≡ seat.old.me) }
+    ensures seat { IsSameSeat seat.old seat.new }
 {
     let word = see(race, seat, slot.number() as usize);
     refers_to(race.layout, word)
@@ -125,31 +123,31 @@ pub(crate) fn target_of(race: &Race, seat: &mut RaceSeat, slot: Slot) -> Option<
 
 // Whether the card is dirty.
 pub(crate) fn is_dirty(race: &Race, seat: &mut RaceSeat, card: Card) -> bool
-    requires seat { IsReading race.now.table.table_id race.now.shape seat.old }
+    requires seat { MayRead race.now seat.old }
     requires card { card < card_count race.now.layout }
     ensures dirty { result ≡ set.contains (table_known race.now seat.old).pending card }
-    ensures seat { (seat.new.table_id ≡ seat.old.table_id) × (seat.new.me ≡ seat.old.me) }
+    ensures seat { IsSameSeat seat.old seat.new }
 {
     see(race, seat, race.shape.slots + card.number() as usize) == 1
 }
 
 // Reads a word, which is what the seat knows it to be.
 pub(crate) fn see(race: &Race, seat: &mut RaceSeat, word: usize) -> u64
-    requires seat { IsReading race.now.table.table_id race.now.shape seat.old }
+    requires seat { MayRead race.now seat.old }
     requires word { word < word_count race.now.shape }
     ensures word { get_elem? seat.old.me.0.began_words word ≡ some result }
-    ensures seat { (seat.new.table_id ≡ seat.old.table_id) × (seat.new.me ≡ seat.old.me) }
+    ensures seat { IsSameSeat seat.old seat.new }
 {
     race.table.see(seat, word)
 }
 
 // Writes a word, where the words keep what each beginning has.
 pub(crate) fn put(race: &Race, seat: &mut RaceSeat, word: usize, new: u64)
-    requires seat { IsPaused race.now.table.table_id race.now.shape seat.old }
+    requires seat { IsAtPause race.now seat.old }
     requires word { word < word_count race.now.shape }
     requires begun { IsBegun (started race.now.shape
         (slice_set seat.old.me.0.began_words word new)) }
-    ensures seat { IsPaused race.now.table.table_id race.now.shape seat.new }
+    ensures seat { IsAtPause race.now seat.new }
     ensures words { seat.new.me.0.began_words ≡ slice_set seat.old.me.0.began_words word new }
 {
     race.table.put(seat, word, new);
@@ -157,9 +155,9 @@ pub(crate) fn put(race: &Race, seat: &mut RaceSeat, word: usize, new: u64)
 
 // Dirties a card, whose flag is set before.
 pub(crate) fn dirty(race: &Race, seat: &mut RaceSeat, card: usize)
-    requires seat { IsPaused race.now.table.table_id race.now.shape seat.old }
+    requires seat { IsAtPause race.now seat.old }
     requires card { card < race.now.shape.cards }
-    ensures seat { IsPaused race.now.table.table_id race.now.shape seat.new }
+    ensures seat { IsAtPause race.now seat.new }
     ensures dirtied { IsDirtied race.now.shape seat.old.me.0.began_words
         seat.new.me.0.began_words card }
 {

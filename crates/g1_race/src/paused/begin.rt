@@ -9,7 +9,7 @@ ghost use Rattle.g1_race.specs.Race.{shape_of};
 ghost use Rattle.g1_race.specs.Over.{table_at, start_at};
 ghost use Rattle.g1_race.specs.Refining.{Notes};
 ghost use Rattle.g1_race.specs.Resumed.{AreCovered, AreMarked, ArePlaced, IsSame};
-ghost use Rattle.g1_race_words.specs.Seats.{IsPaused};
+ghost use Rattle.g1_race.specs.Reading.{IsAtPause};
 
 use crate::paused::Paused;
 use crate::paused::access::{dirty, put};
@@ -70,10 +70,10 @@ impl Paused {
 
 // Sets the bits of these pairs.
 fn place_pairs(race: &Race, seat: &mut RaceSeat, pairs: &[(Card, Region)])
-    requires seat { IsPaused race.now.table.table_id race.now.shape seat.old }
+    requires seat { IsAtPause race.now seat.old }
     requires pairs { (x : ℕ × ℕ) → In pairs.now x →
         IsPair race.now.shape x × IsOfCrossing race.now.shape x }
-    ensures seat { IsPaused race.now.table.table_id race.now.shape seat.new }
+    ensures seat { IsAtPause race.now seat.new }
     ensures notes { Notes race.now.shape seat.old.me.0.began_words seat.new.me.0.began_words
         pairs.now }
 {
@@ -89,11 +89,11 @@ fn place_pairs(race: &Race, seat: &mut RaceSeat, pairs: &[(Card, Region)])
 
 // Dirties the cards that are pending in the core.
 fn place_marks(race: &Race, seat: &mut RaceSeat, core: &Core)
-    requires seat { IsPaused race.now.table.table_id race.now.shape seat.old }
+    requires seat { IsAtPause race.now seat.old }
     requires layout { race.now.layout ≡ core.now.state.table.layout }
     requires clean { (c : ℕ) → c < race.now.shape.cards →
         get_elem? seat.old.me.0.began_words (mark_word race.now.shape c) ≡ some 0 }
-    ensures seat { IsPaused race.now.table.table_id race.now.shape seat.new }
+    ensures seat { IsAtPause race.now seat.new }
     ensures marks { AreMarked race.now.shape core.now.state.table seat.old.me.0.began_words
         seat.new.me.0.began_words race.now.shape.cards }
 {
@@ -109,12 +109,12 @@ fn place_marks(race: &Race, seat: &mut RaceSeat, core: &Core)
 
 // Writes the core's references.
 fn place_slots(race: &Race, seat: &mut RaceSeat, core: &mut Core)
-    requires seat { IsPaused race.now.table.table_id race.now.shape seat.old }
+    requires seat { IsAtPause race.now seat.old }
     requires layout { race.now.layout ≡ core.old.state.table.layout }
     requires null { (p : ℕ) → p < race.now.shape.slots →
         get_elem? seat.old.me.0.began_words p ≡ some 0 }
     requires covered { AreCovered race.now.shape core.old.state.table seat.old.me.0.began_words }
-    ensures seat { IsPaused race.now.table.table_id race.now.shape seat.new }
+    ensures seat { IsAtPause race.now seat.new }
     ensures slots { ArePlaced race.now.shape core.old.state.table seat.old.me.0.began_words
         seat.new.me.0.began_words race.now.shape.slots }
     ensures same { IsSame core.old core.new }

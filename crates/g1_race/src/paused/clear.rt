@@ -1,6 +1,6 @@
 //! The clear at a pause: it empties a region's remembered set, once no reference enters the region.
-ghost use Rattle.std.specs.Prelude.{◌≡◌, ◌≢◌, ℕ, ◌+◌, ◌*◌, ◌<◌, ◌≤◌, ◌↔◌, IsTrue, IfSome};
-ghost use Rattle.std.specs.Prelude.{option_map, true};
+ghost use Rattle.std.specs.Prelude.{◌≡◌, ◌≢◌, ℕ, ◌+◌, ◌*◌, ◌<◌, ◌≤◌, ◌↔◌, IsTrue};
+ghost use Rattle.std.specs.Prelude.{true};
 ghost use mathlib.Core.Option.{some};
 ghost use lib.ListN.{get_elem?};
 ghost use Rattle.g1_core.specs.Run.{IsStep};
@@ -9,7 +9,7 @@ ghost use Rattle.g1_race_words.specs.Rule.{IsWholeShape, crosses, mark_word, reg
 ghost use Rattle.g1_race.specs.Over.{table_at};
 ghost use Rattle.g1_race.specs.Clearing.{Into, IsLeastInto, IsLeastOfCard, IsEmptied};
 ghost use Rattle.g1_race.specs.Evacuating.{IsSameRace, SlotsBecome, same_word};
-ghost use Rattle.g1_race_words.specs.Seats.{IsPaused};
+ghost use Rattle.g1_race.specs.Reading.{IsAtPause, IsSameSeat};
 
 use crate::bits::bit_of;
 use crate::paused::Paused;
@@ -57,12 +57,12 @@ impl<R: Holds> Paused<R> {
 // The least slot outside the region that refers into it: on a card of the region's set, since no
 // card is dirty.
 fn entering(race: &Race, seat: &mut RaceSeat, region: usize) -> Option<usize>
-    requires seat { IsPaused race.now.table.table_id race.now.shape seat.old }
+    requires seat { IsAtPause race.now seat.old }
     requires region { region < race.now.shape.regions }
     requires clean { (c : ℕ) → c < race.now.shape.cards
         → get_elem? seat.old.me.0.began_words (mark_word race.now.shape c) ≡ some 1 → ⊥ }
     ensures least { IsLeastInto race.now.shape seat.old.me.0.began_words region result }
-    ensures seat { (seat.new.table_id ≡ seat.old.table_id) × (seat.new.me ≡ seat.old.me) }
+    ensures seat { IsSameSeat seat.old seat.new }
 {
     let mut from = 0;
     while let Some(card) = next_member(race, seat, from, region) {
@@ -76,10 +76,10 @@ fn entering(race: &Race, seat: &mut RaceSeat, region: usize) -> Option<usize>
 
 // The least slot of the card that lies outside the region and refers into it.
 fn entering_on(race: &Race, seat: &mut RaceSeat, card: usize, region: usize) -> Option<usize>
-    requires seat { IsPaused race.now.table.table_id race.now.shape seat.old }
+    requires seat { IsAtPause race.now seat.old }
     requires card { card < race.now.shape.cards }
     ensures least { IsLeastOfCard race.now.shape seat.old.me.0.began_words card region result }
-    ensures seat { (seat.new.table_id ≡ seat.old.table_id) × (seat.new.me ≡ seat.old.me) }
+    ensures seat { IsSameSeat seat.old seat.new }
 {
     let shape = race.shape;
     for i in 0..shape.size {
@@ -109,12 +109,12 @@ pub(crate) fn enters(shape: Shape, slot: usize, word: u64, region: usize) -> boo
 
 // Clears the bits of all pairs of the region, or in the row of flags all flags.
 pub(crate) fn empty_row(race: &Race, seat: &mut RaceSeat, region: usize)
-    requires seat { IsPaused race.now.table.table_id race.now.shape seat.old }
+    requires seat { IsAtPause race.now seat.old }
     requires region { region ≤ race.now.shape.regions }
     requires none { (p : ℕ) → Into race.now.shape seat.old.me.0.began_words region p → ⊥ }
     requires clean { region ≡ race.now.shape.regions → (c : ℕ) → c < race.now.shape.cards →
         get_elem? seat.old.me.0.began_words (mark_word race.now.shape c) ≡ some 1 → ⊥ }
-    ensures seat { IsPaused race.now.table.table_id race.now.shape seat.new }
+    ensures seat { IsAtPause race.now seat.new }
     ensures emptied { IsEmptied race.now.shape seat.old.me.0.began_words seat.new.me.0.began_words
         region race.now.shape.row }
 {

@@ -13,7 +13,7 @@ ghost use Rattle.g1_race.specs.Refining.{Notes, RefinesCard, AreRefined, AreUnfl
 ghost use Rattle.g1_race.specs.Telling.{marked_cards};
 ghost use Rattle.g1_race.specs.Evacuating.{SlotsBecome, same_word, IsRefinedRace, AreAllRefined};
 ghost use Rattle.g1_race.specs.Evacuating.{IsWhole, IsExactAtPause};
-ghost use Rattle.g1_race_words.specs.Seats.{IsPaused};
+ghost use Rattle.g1_race.specs.Reading.{IsAtPause};
 
 use crate::bits::bit_of;
 use crate::paused::Paused;
@@ -93,8 +93,8 @@ pub(crate) fn clear_logs(racers: &mut Vec<Racer>)
 
 // Refines the dirty cards. No flag is set then.
 pub(crate) fn refine_cards(race: &Race, seat: &mut RaceSeat)
-    requires seat { IsPaused race.now.table.table_id race.now.shape seat.old }
-    ensures seat { IsPaused race.now.table.table_id race.now.shape seat.new }
+    requires seat { IsAtPause race.now seat.old }
+    ensures seat { IsAtPause race.now seat.new }
     ensures refined { AreRefined race.now.shape seat.old.me.0.began_words seat.new.me.0.began_words
         race.now.shape.cards }
     ensures flags { AreUnflagged race.now.shape seat.new.me.0.began_words }
@@ -109,9 +109,9 @@ pub(crate) fn refine_cards(race: &Race, seat: &mut RaceSeat)
 
 // Records the pairs of the card's references, and cleans it.
 fn refine_card(race: &Race, seat: &mut RaceSeat, card: usize)
-    requires seat { IsPaused race.now.table.table_id race.now.shape seat.old }
+    requires seat { IsAtPause race.now seat.old }
     requires card { card < race.now.shape.cards }
-    ensures seat { IsPaused race.now.table.table_id race.now.shape seat.new }
+    ensures seat { IsAtPause race.now seat.new }
     ensures refined { RefinesCard race.now.shape seat.old.me.0.began_words
         seat.new.me.0.began_words card }
 {
@@ -129,8 +129,8 @@ fn note_slot(race: &Race, seat: &mut RaceSeat, card: usize, slot: usize, word: u
     requires slot { slot < slot_count race.now.layout }
     requires card { card ≡ slot_card race.now.shape slot }
     requires word { IsWord race.now.shape word }
-    requires seat { IsPaused race.now.table.table_id race.now.shape seat.old }
-    ensures seat { IsPaused race.now.table.table_id race.now.shape seat.new }
+    requires seat { IsAtPause race.now seat.old }
+    ensures seat { IsAtPause race.now seat.new }
     ensures notes { Notes race.now.shape seat.old.me.0.began_words seat.new.me.0.began_words
         (pair_at race.now.shape slot word) }
 {
@@ -141,12 +141,12 @@ fn note_slot(race: &Race, seat: &mut RaceSeat, card: usize, slot: usize, word: u
 
 // Makes sure that the bit of the pair is set, or in the row of flags the card's flag.
 pub(crate) fn set_bit(race: &Race, seat: &mut RaceSeat, card: usize, region: usize)
-    requires seat { IsPaused race.now.table.table_id race.now.shape seat.old }
+    requires seat { IsAtPause race.now seat.old }
     requires card { card < race.now.shape.cards }
     requires row { region ≤ race.now.shape.regions }
     requires proper { region < race.now.shape.regions →
         IsOfCrossing race.now.shape (card, region) }
-    ensures seat { IsPaused race.now.table.table_id race.now.shape seat.new }
+    ensures seat { IsAtPause race.now seat.new }
     ensures notes { Notes race.now.shape seat.old.me.0.began_words seat.new.me.0.began_words
         ((card, region) ∷ []) }
 {

@@ -8,7 +8,7 @@ ghost use Rattle.g1_race_words.specs.Rule.{IsPair, slot_card, crosses, region_at
 ghost use Rattle.g1_race.specs.Over.{table_at};
 ghost use Rattle.g1_race.specs.Clearing.{AreUnset};
 ghost use Rattle.g1_race.specs.Evacuating.{IsSameRace, SlotsBecome, same_word, forgotten};
-ghost use Rattle.g1_race_words.specs.Seats.{IsPaused};
+ghost use Rattle.g1_race.specs.Reading.{IsAtPause};
 
 use crate::bits::bit_of;
 use crate::paused::Paused;
@@ -40,12 +40,12 @@ impl<R: Holds> Paused<R> {
 
 // Clears the bits of the cards from one on, up to another, in the row of each region.
 fn forget_cards(race: &Race, seat: &mut RaceSeat, first: usize, end: usize)
-    requires seat { IsPaused race.now.table.table_id race.now.shape seat.old }
+    requires seat { IsAtPause race.now seat.old }
     requires within { (first ≤ end) × (end ≤ race.now.shape.cards) }
     requires closed { (p n : ℕ) → p < race.now.shape.slots
         → get_elem? seat.old.me.0.began_words p ≡ some n → crosses race.now.shape p n ≡ true
         → first ≤ slot_card race.now.shape p → slot_card race.now.shape p < end → ⊥ }
-    ensures seat { IsPaused race.now.table.table_id race.now.shape seat.new }
+    ensures seat { IsAtPause race.now seat.new }
     ensures unset { AreUnset race.now.shape seat.old.me.0.began_words seat.new.me.0.began_words
         (λ x. (first ≤ x.0) × (x.0 < end)) }
 {
@@ -56,13 +56,13 @@ fn forget_cards(race: &Race, seat: &mut RaceSeat, first: usize, end: usize)
 
 // Clears the bits of these cards in the row of a region.
 fn forget_row(race: &Race, seat: &mut RaceSeat, first: usize, end: usize, region: usize)
-    requires seat { IsPaused race.now.table.table_id race.now.shape seat.old }
+    requires seat { IsAtPause race.now seat.old }
     requires within { (first ≤ end) × (end ≤ race.now.shape.cards) }
     requires region { region < race.now.shape.regions }
     requires closed { (p n : ℕ) → p < race.now.shape.slots
         → get_elem? seat.old.me.0.began_words p ≡ some n → crosses race.now.shape p n ≡ true
         → first ≤ slot_card race.now.shape p → slot_card race.now.shape p < end → ⊥ }
-    ensures seat { IsPaused race.now.table.table_id race.now.shape seat.new }
+    ensures seat { IsAtPause race.now seat.new }
     ensures unset { AreUnset race.now.shape seat.old.me.0.began_words seat.new.me.0.began_words
         (λ x. (x.1 ≡ region) × (first ≤ x.0) × (x.0 < end)) }
 {
@@ -78,12 +78,12 @@ fn forget_row(race: &Race, seat: &mut RaceSeat, first: usize, end: usize, region
 
 // Clears the bit of a pair.
 fn clear_bit(race: &Race, seat: &mut RaceSeat, card: usize, region: usize)
-    requires seat { IsPaused race.now.table.table_id race.now.shape seat.old }
+    requires seat { IsAtPause race.now seat.old }
     requires pair { IsPair race.now.shape (card, region) }
     requires closed { (p n : ℕ) → p < race.now.shape.slots
         → get_elem? seat.old.me.0.began_words p ≡ some n → crosses race.now.shape p n ≡ true
         → card ≡ slot_card race.now.shape p → region ≡ region_at race.now.shape n → ⊥ }
-    ensures seat { IsPaused race.now.table.table_id race.now.shape seat.new }
+    ensures seat { IsAtPause race.now seat.new }
     ensures unset { AreUnset race.now.shape seat.old.me.0.began_words seat.new.me.0.began_words
         (λ x. x ≡ (card, region)) }
 {

@@ -9,8 +9,8 @@ ghost use Rattle.g1_core.specs.Calls.{members_entry, status_entry};
 ghost use Rattle.g1_race_words.specs.Rule.{HasBit, IsPair};
 ghost use Rattle.g1_race.specs.Over.{table_at};
 ghost use Rattle.g1_race.specs.Reading.{IsNextPending, IsNextMember, table_known};
+ghost use Rattle.g1_race.specs.Reading.{MayRead, IsSameSeat};
 ghost use Rattle.g1_race.specs.Telling.{marked_cards, member_cards};
-ghost use Rattle.g1_race_words.specs.Readers.{IsReading};
 
 use crate::bits::bit_of;
 use crate::paused::Paused;
@@ -147,9 +147,9 @@ impl<R: Holds> Paused<R> {
 
 // The least dirty card from one on.
 pub(crate) fn next_dirty_from(race: &Race, seat: &mut RaceSeat, from: u32) -> Option<Card>
-    requires seat { IsReading race.now.table.table_id race.now.shape seat.old }
+    requires seat { MayRead race.now seat.old }
     ensures dirty { IsNextPending (table_known race.now seat.old) from result }
-    ensures seat { (seat.new.table_id ≡ seat.old.table_id) × (seat.new.me ≡ seat.old.me) }
+    ensures seat { IsSameSeat seat.old seat.new }
 {
     let Some(card) = next_marked(race, seat, from as usize) else {
         return None;
@@ -164,11 +164,11 @@ pub(crate) fn next_member_from(
     region: Region,
     from: u32,
 ) -> Option<Card>
-    requires seat { IsReading race.now.table.table_id race.now.shape seat.old }
+    requires seat { MayRead race.now seat.old }
     requires region { region < race.now.layout.regions }
     ensures member { IsNextMember (table_known race.now seat.old) region from result }
     ensures within { IfSome result (λ card. card < card_count race.now.layout) }
-    ensures seat { (seat.new.table_id ≡ seat.old.table_id) × (seat.new.me ≡ seat.old.me) }
+    ensures seat { IsSameSeat seat.old seat.new }
 {
     let number = region.number() as usize;
     let Some(card) = next_member(race, seat, from as usize, number) else {
@@ -179,9 +179,9 @@ pub(crate) fn next_member_from(
 
 // Whether the pair is recorded.
 pub(crate) fn is_recorded(race: &Race, seat: &mut RaceSeat, card: Card, region: Region) -> bool
-    requires seat { IsReading race.now.table.table_id race.now.shape seat.old }
+    requires seat { MayRead race.now seat.old }
     ensures recorded { IsTrue result ↔ IsRecorded (table_known race.now seat.old) card region }
-    ensures seat { (seat.new.table_id ≡ seat.old.table_id) × (seat.new.me ≡ seat.old.me) }
+    ensures seat { IsSameSeat seat.old seat.new }
 {
     let (card, region) = (card.number() as usize, region.number() as usize);
     if card >= race.shape.cards {
@@ -200,12 +200,12 @@ pub(crate) fn members_of(
     alloc: Global,
     region: Region,
 ) -> Result<CardList, NoMemory>
-    requires seat { IsReading race.now.table.table_id race.now.shape seat.old }
+    requires seat { MayRead race.now seat.old }
     requires region { region < race.now.layout.regions }
     ensures members { IfOk result (λ cards.
         AreMembers (table_known race.now seat.old) region cards) }
     ensures few { IfOk result (λ cards. length cards ≤ card_count race.now.layout) }
-    ensures seat { (seat.new.table_id ≡ seat.old.table_id) × (seat.new.me ≡ seat.old.me) }
+    ensures seat { IsSameSeat seat.old seat.new }
 {
     let number = region.number() as usize;
     let count = count_members(race, seat, number);
@@ -216,10 +216,10 @@ pub(crate) fn members_of(
 
 // Whether the pair's bit is set.
 fn is_set(race: &Race, seat: &mut RaceSeat, card: usize, region: usize) -> bool
-    requires seat { IsReading race.now.table.table_id race.now.shape seat.old }
+    requires seat { MayRead race.now seat.old }
     requires pair { IsPair race.now.shape (card, region) }
     ensures set { IsTrue result ↔ HasBit race.now.shape seat.old.me.0.began_words (card, region) }
-    ensures seat { (seat.new.table_id ≡ seat.old.table_id) × (seat.new.me ≡ seat.old.me) }
+    ensures seat { IsSameSeat seat.old seat.new }
 {
     let (at, place) = bit_of(race.shape, card, region);
     (see(race, seat, at) >> place) & 1 == 1

@@ -1,8 +1,8 @@
 //! Where the next dirty card is, and the next card of a region's set.
-ghost use Rattle.std.specs.Prelude.{◌≡◌, ◌+◌, ◌*◌, ◌<◌, ◌≤◌, ℕ, [], length, vec_capacity};
+ghost use Rattle.std.specs.Prelude.{◌≡◌, ◌+◌, ◌*◌, ◌<◌, ◌≤◌, [], length, vec_capacity};
 ghost use Rattle.g1_race.specs.Telling.{IsNext, SkipsNone, is_marked, is_member, marked_cards};
 ghost use Rattle.g1_race.specs.Telling.{member_cards, pair_count};
-ghost use Rattle.g1_race_words.specs.Readers.{IsReading};
+ghost use Rattle.g1_race.specs.Reading.{MayRead, IsSameSeat};
 
 use crate::bits::bit_of;
 use crate::paused::access::see;
@@ -12,10 +12,10 @@ use g1_race_words::RaceSeat;
 
 // The least dirty card from one on.
 pub(crate) fn next_marked(race: &Race, seat: &mut RaceSeat, from: usize) -> Option<usize>
-    requires { IsReading race.now.table.table_id race.now.shape seat.old }
+    requires { MayRead race.now seat.old }
     ensures next { IsNext (is_marked race.now.shape seat.old.me.0.began_words) race.now.shape.cards
         from result }
-    ensures seat { (seat.new.table_id ≡ seat.old.table_id) × (seat.new.me ≡ seat.old.me) }
+    ensures seat { IsSameSeat seat.old seat.new }
 {
     let mut next = from;
     while let Some(card) = next_flagged(race, seat, next) {
@@ -30,10 +30,10 @@ pub(crate) fn next_marked(race: &Race, seat: &mut RaceSeat, from: usize) -> Opti
 // A card from one on before which none is dirty: the first of the next eight that have their flag
 // set, or the card itself where it is not the first of its eight.
 fn next_flagged(race: &Race, seat: &mut RaceSeat, from: usize) -> Option<usize>
-    requires { IsReading race.now.table.table_id race.now.shape seat.old }
+    requires { MayRead race.now seat.old }
     ensures next { let words = seat.old.me.0.began_words in
         SkipsNone (is_marked race.now.shape words) race.now.shape.cards from result }
-    ensures seat { (seat.new.table_id ≡ seat.old.table_id) × (seat.new.me ≡ seat.old.me) }
+    ensures seat { IsSameSeat seat.old seat.new }
 {
     if from % 8 == 0 {
         return next_member(race, seat, from, race.shape.regions);
@@ -53,11 +53,11 @@ pub(crate) fn next_member(
     from: usize,
     region: usize,
 ) -> Option<usize>
-    requires seat { IsReading race.now.table.table_id race.now.shape seat.old }
+    requires seat { MayRead race.now seat.old }
     requires region { region ≤ race.now.shape.regions }
     ensures next { IsNext (is_member race.now.shape seat.old.me.0.began_words region)
         race.now.shape.cards from result }
-    ensures seat { (seat.new.table_id ≡ seat.old.table_id) × (seat.new.me ≡ seat.old.me) }
+    ensures seat { IsSameSeat seat.old seat.new }
 {
     let cards = race.shape.cards;
     let mut card = from;
@@ -75,9 +75,9 @@ pub(crate) fn next_member(
 
 // How many cards are dirty.
 pub(crate) fn count_marked(race: &Race, seat: &mut RaceSeat) -> usize
-    requires { IsReading race.now.table.table_id race.now.shape seat.old }
+    requires { MayRead race.now seat.old }
     ensures count { result ≡ length (marked_cards race.now.shape seat.old.me.0.began_words) }
-    ensures seat { (seat.new.table_id ≡ seat.old.table_id) × (seat.new.me ≡ seat.old.me) }
+    ensures seat { IsSameSeat seat.old seat.new }
 {
     let mut count = 0;
     let mut from = 0;
@@ -90,12 +90,12 @@ pub(crate) fn count_marked(race: &Race, seat: &mut RaceSeat) -> usize
 
 // Lists the dirty cards.
 pub(crate) fn list_marked(race: &Race, seat: &mut RaceSeat, cards: &mut Vec<Card>)
-    requires seat { IsReading race.now.table.table_id race.now.shape seat.old }
+    requires seat { MayRead race.now seat.old }
     requires empty { cards.old.items ≡ [] }
     requires room { length (marked_cards race.now.shape seat.old.me.0.began_words)
         ≤ vec_capacity cards.old }
     ensures cards { cards.new.items ≡ marked_cards race.now.shape seat.old.me.0.began_words }
-    ensures seat { (seat.new.table_id ≡ seat.old.table_id) × (seat.new.me ≡ seat.old.me) }
+    ensures seat { IsSameSeat seat.old seat.new }
 {
     let mut from = 0;
     while let Some(card) = next_marked(race, seat, from) {
@@ -106,10 +106,10 @@ pub(crate) fn list_marked(race: &Race, seat: &mut RaceSeat, cards: &mut Vec<Card
 
 // How many cards the region's set has.
 pub(crate) fn count_members(race: &Race, seat: &mut RaceSeat, region: usize) -> usize
-    requires seat { IsReading race.now.table.table_id race.now.shape seat.old }
+    requires seat { MayRead race.now seat.old }
     requires region { region < race.now.shape.regions }
     ensures count { result ≡ length (member_cards race.now.shape seat.old.me.0.began_words region) }
-    ensures seat { (seat.new.table_id ≡ seat.old.table_id) × (seat.new.me ≡ seat.old.me) }
+    ensures seat { IsSameSeat seat.old seat.new }
 {
     let mut count = 0;
     let mut from = 0;
@@ -122,10 +122,10 @@ pub(crate) fn count_members(race: &Race, seat: &mut RaceSeat, region: usize) -> 
 
 // How many pairs are recorded.
 pub(crate) fn count_pairs(race: &Race, seat: &mut RaceSeat) -> usize
-    requires { IsReading race.now.table.table_id race.now.shape seat.old }
+    requires { MayRead race.now seat.old }
     ensures count { let words = seat.old.me.0.began_words in
         result ≡ pair_count race.now.shape words race.now.shape.regions }
-    ensures seat { (seat.new.table_id ≡ seat.old.table_id) × (seat.new.me ≡ seat.old.me) }
+    ensures seat { IsSameSeat seat.old seat.new }
 {
     let mut count = 0;
     for region in 0..race.shape.regions {
@@ -136,13 +136,13 @@ pub(crate) fn count_pairs(race: &Race, seat: &mut RaceSeat) -> usize
 
 // Lists the cards of the region's set.
 pub(crate) fn list_members(race: &Race, seat: &mut RaceSeat, region: usize, cards: &mut Vec<Card>)
-    requires seat { IsReading race.now.table.table_id race.now.shape seat.old }
+    requires seat { MayRead race.now seat.old }
     requires region { region < race.now.shape.regions }
     requires empty { cards.old.items ≡ [] }
     requires room { length (member_cards race.now.shape seat.old.me.0.began_words region)
         ≤ vec_capacity cards.old }
     ensures cards { cards.new.items ≡ member_cards race.now.shape seat.old.me.0.began_words region }
-    ensures seat { (seat.new.table_id ≡ seat.old.table_id) × (seat.new.me ≡ seat.old.me) }
+    ensures seat { IsSameSeat seat.old seat.new }
 {
     let mut from = 0;
     while let Some(card) = next_member(race, seat, from, region) {

@@ -15,7 +15,7 @@ ghost use Rattle.g1_race.specs.Moving.{AreMoved, AreMovedAway, HasMoved, into_co
 ghost use Rattle.g1_race.specs.Evacuating.{IsRefinedRace, IsSameRace, SlotsBecome};
 ghost use Rattle.g1_race.specs.Refining.{AreUnflagged};
 ghost use Rattle.g1_race.specs.Telling.{marked_cards};
-ghost use Rattle.g1_race_words.specs.Seats.{IsPaused};
+ghost use Rattle.g1_race.specs.Reading.{IsAtPause};
 
 use crate::paused::Paused;
 use crate::paused::access::{put, see};
@@ -107,13 +107,13 @@ impl<R: Holds> Paused<R> {
 // Moves the references into the region, empties its row of bits, and returns how many slots have
 // changed. No card is dirty.
 fn move_references(race: &Race, seat: &mut RaceSeat, from: usize, to: usize) -> u32
-    requires seat { IsPaused race.now.table.table_id race.now.shape seat.old }
+    requires seat { IsAtPause race.now seat.old }
     requires from { from < race.now.shape.regions }
     requires to { to < race.now.shape.regions }
     requires apart { from ≢ to }
     requires clean { (c : ℕ) → c < race.now.shape.cards →
         get_elem? seat.old.me.0.began_words (mark_word race.now.shape c) ≡ some 1 → ⊥ }
-    ensures seat { IsPaused race.now.table.table_id race.now.shape seat.new }
+    ensures seat { IsAtPause race.now seat.new }
     ensures moved { AreMovedAway race.now.shape seat.old.me.0.began_words
         seat.new.me.0.began_words from to }
     ensures count { let words = seat.old.me.0.began_words in
@@ -131,11 +131,11 @@ fn move_references(race: &Race, seat: &mut RaceSeat, from: usize, to: usize) -> 
 
 // Moves the references into the region of a card's slots, and returns how many have changed.
 fn move_on(race: &Race, seat: &mut RaceSeat, card: usize, from: usize, to: usize) -> usize
-    requires seat { IsPaused race.now.table.table_id race.now.shape seat.old }
+    requires seat { IsAtPause race.now seat.old }
     requires card { card < race.now.shape.cards }
     requires to { to < race.now.shape.regions }
     requires apart { from ≢ to }
-    ensures seat { IsPaused race.now.table.table_id race.now.shape seat.new }
+    ensures seat { IsAtPause race.now seat.new }
     ensures moved { AreMoved race.now.shape seat.old.me.0.began_words seat.new.me.0.began_words
         from to (card * race.now.shape.size) race.now.shape.size }
     ensures count { result ≡ into_count race.now.shape seat.old.me.0.began_words from
@@ -157,12 +157,12 @@ fn move_on(race: &Race, seat: &mut RaceSeat, card: usize, from: usize, to: usize
 
 // Moves the reference of a slot, which has this word, to the region.
 fn move_slot(race: &Race, seat: &mut RaceSeat, slot: usize, word: u64, to: usize)
-    requires seat { IsPaused race.now.table.table_id race.now.shape seat.old }
+    requires seat { IsAtPause race.now seat.old }
     requires slot { slot < race.now.shape.slots }
     requires to { to < race.now.shape.regions }
     requires word { get_elem? seat.old.me.0.began_words slot ≡ some word }
     requires across { crosses race.now.shape slot word ≡ true }
-    ensures seat { IsPaused race.now.table.table_id race.now.shape seat.new }
+    ensures seat { IsAtPause race.now seat.new }
     ensures moved { AreMoved race.now.shape seat.old.me.0.began_words seat.new.me.0.began_words
         (region_at race.now.shape word) to slot 1 }
 {

@@ -6,7 +6,7 @@ ghost use Rattle.g1_layout.specs.Shape.{region_of};
 ghost use Rattle.g1_core.specs.Table.{target_of};
 ghost use Rattle.g1_race.specs.Over.{table_at, ended, table_of};
 ghost use Rattle.g1_race.specs.Evacuating.{IsSameRace, SlotsBecome, wiped, wiped_word};
-ghost use Rattle.g1_race_words.specs.Seats.{IsPaused};
+ghost use Rattle.g1_race.specs.Reading.{IsAtPause};
 
 use crate::paused::Paused;
 use crate::paused::access::put;
@@ -32,9 +32,9 @@ impl<R: Holds> Paused<R> {
 
 // Stores null into each slot of the region.
 fn wipe_slots(race: &Race, seat: &mut RaceSeat, region: usize)
-    requires seat { IsPaused race.now.table.table_id race.now.shape seat.old }
+    requires seat { IsAtPause race.now seat.old }
     requires region { region < race.now.shape.regions }
-    ensures seat { IsPaused race.now.table.table_id race.now.shape seat.new }
+    ensures seat { IsAtPause race.now seat.new }
     ensures table { table_of (ended race.now.layout race.now.shape seat.new.me.0.began_words)
         ≡ wiped region (table_of (ended race.now.layout race.now.shape seat.old.me.0.began_words)) }
     ensures null { (i : ℕ) → i < race.now.shape.span

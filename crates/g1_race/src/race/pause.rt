@@ -2,7 +2,7 @@
 ghost use Rattle.g1_core.specs.Table.{IsCovered};
 ghost use Rattle.g1_race.specs.Over.{table_at, ended_of};
 ghost use Rattle.g1_core.specs.Adoption.{IsPairOf};
-ghost use Rattle.std.specs.Prelude.{◌≡◌, ℕ, ◌+◌, ◌<◌, ◌≤◌, ◌↔◌, [], ◌∷◌, All, Contains, map};
+ghost use Rattle.std.specs.Prelude.{◌≡◌, ℕ, ◌+◌, ◌<◌, ◌↔◌, [], All, Contains, map};
 ghost use Rattle.std.specs.Prelude.{vec_len};
 ghost use Rattle.g1_race.specs.Race.{IsOver, IsKnown, collected};
 ghost use Rattle.g1_race.specs.Members.{race_id, race_layout, race_shape, race_words, race_begun};

@@ -1,5 +1,5 @@
 //! Concurrent refinement, which races with stores.
-ghost use Rattle.std.specs.Prelude.{◌≡◌, ℕ, ◌+◌, ◌-◌, ◌*◌, ◌<◌, ◌≤◌, [], ◌∷◌, OnOk, OnErr};
+ghost use Rattle.std.specs.Prelude.{◌≡◌, ◌+◌, ◌-◌, ◌*◌, ◌<◌, [], ◌∷◌, OnOk, OnErr};
 ghost use Rattle.std.specs.Prelude.{length, if◌then◌else◌};
 ghost use Rattle.std.specs.Result.{IsOk};
 ghost use Rattle.g1_race_words.specs.Rule.{IsPair, IsWord, slot_card, start_of};

@@ -6,7 +6,7 @@ ghost use Rattle.g1_log.specs.Ends.{IsSenderOf, put_of, IsSameSender};
 ghost use Rattle.g1_steps.specs.Steps.{IsPassed, PutsBy, MayRefuse, nothing_flushed};
 
 use crate::calls::Calls;
-use crate::steps::place::Place;
+use crate::steps::place::BufferPlace;
 use g1_core::{CardList, Fill, StoreReply};
 use g1_history::Refusal;
 use g1_layout::Slot;
@@ -37,7 +37,7 @@ pub struct Mutator {
     pub log: Log,
     /// The mutator's end of the queue.
     pub sender: Sender,
-    place: Place,
+    place: BufferPlace,
 }
 
 impl Mutator {
@@ -52,7 +52,7 @@ impl Mutator {
         Mutator {
             log,
             sender,
-            place: Place::new(),
+            place: BufferPlace::new(),
         }
     }
 

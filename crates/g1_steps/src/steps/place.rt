@@ -5,11 +5,11 @@ use std::marker::Model;
 
 /// Where a completed buffer lies on its way from a log to the queue. Between two calls it is empty.
 #[derive(Drop)]
-pub struct Place {
+pub struct BufferPlace {
     pub(crate) buffer: Option<Buffer>,
 }
 
-impl Model for Place {
+impl Model for BufferPlace {
     ghost use Rattle.std.specs.Prelude.{IsNone};
 
     ghost Value = { Unit {0} };
@@ -19,9 +19,9 @@ impl Model for Place {
     ghost invariant = { λ p. IsNone p.buffer };
 }
 
-impl Place {
+impl BufferPlace {
     /// An empty place.
-    pub(crate) fn new() -> Place {
-        Place { buffer: None }
+    pub(crate) fn new() -> BufferPlace {
+        BufferPlace { buffer: None }
     }
 }
