@@ -1,5 +1,5 @@
 -- Cards that are told apart by a test.
-use Rattle.std.proofs.Common.{◌≡◌, ◌⊎◌, inl, inr, ℕ, zero, suc, ◌+◌, ◌<◌, ◌≤◌, cond, Bool, true, false, List, [], ◌∷◌, ◌++◌, length, Contains, Some, None, sym, ap, ◌∙◌, subst, arith}
+use Rattle.std.proofs.Common.{◌≡◌, ◌⊎◌, inl, inr, ℕ, zero, suc, ◌+◌, ◌<◌, ◌≤◌, cond, Bool, true, false, List, [], ◌∷◌, ◌++◌, length, Contains, Option, Some, None, sym, ap, ◌∙◌, subst, arith}
 use Rattle.std.proofs.lemmas.Bool.{cases_Bool, cases_lt}
 use Rattle.std.proofs.lemmas.List.{append-nil, length_push}
 use Rattle.std.specs.FinSet as set
@@ -118,6 +118,26 @@ module _ (test : ℕ → Bool) where
     | inl e ↦ ap (λ (l : List ℕ). set.len (set_of l)) (put_in n e) ∙ (ap set.len (same_one n) ∙ (one_more (set_of (cards_where test n)) n (new_one n) ∙ (ap (λ (x : ℕ). x + 1) (set_len n) ∙ sym (ap length (put_in n e) ∙ length_push (cards_where test n) n))))
     | inr e ↦ ap (λ (l : List ℕ). set.len (set_of l)) (left_out n e) ∙ (set_len n ∙ sym (ap length (left_out n e)))
   ]
+
+-- a walk from each card of the test to the next, whose reads find the words that it began with
+module _ (test : List ℕ → ℕ → Bool) {words read : List ℕ} (limit from : ℕ) (same : read ≡ words) where
+  of_first : (found : Option ℕ) → IsNext (test read) limit from found → IsNext (test words) limit from found
+  of_first found = subst (λ (l : List ℕ). IsNext (test l) limit from found) same
+
+  pub count_on : (card count : ℕ) → IsNext (test read) limit from (Some card) → count ≡ length (cards_where (test words) from) → count + 1 ≡ length (cards_where (test words) (card + 1))
+  count_on card count next counted = ap (λ (n : ℕ). n + 1) counted ∙ sym (one_counted (test words) limit from card (of_first (Some card) next))
+
+  pub count_end : (count : ℕ) → from ≤ limit → IsNext (test read) limit from None → count ≡ length (cards_where (test words) from) → count ≡ length (cards_where (test words) limit)
+  count_end count within next counted = counted ∙ ap (λ (l : List ℕ). length l) (sym (none_listed (test words) limit from within (of_first None next)))
+
+  pub room_on : (card : ℕ) (cards : List ℕ) → IsNext (test read) limit from (Some card) → cards ≡ cards_where (test words) from → length cards < length (cards_where (test words) limit)
+  room_on card cards next listed = subst (λ (l : List ℕ). length l < length (cards_where (test words) limit)) (sym listed) (room_for (test words) limit from card (of_first (Some card) next))
+
+  pub list_on : (card : ℕ) (cards : List ℕ) → IsNext (test read) limit from (Some card) → cards ≡ cards_where (test words) from → cards ++ card ∷ [] ≡ cards_where (test words) (card + 1)
+  list_on card cards next listed = ap (λ (l : List ℕ). l ++ card ∷ []) listed ∙ sym (next_listed (test words) limit from card (of_first (Some card) next))
+
+  pub list_end : (cards : List ℕ) → from ≤ limit → IsNext (test read) limit from None → cards ≡ cards_where (test words) from → cards ≡ cards_where (test words) limit
+  list_end cards within next listed = listed ∙ sym (none_listed (test words) limit from within (of_first None next))
 
 -- where each card of the test is one of two others
 pub at_most_both : (f g h : ℕ → Bool) (n : ℕ) → ((c : ℕ) → c < n → f c ≡ true → (g c ≡ true) ⊎ (h c ≡ true)) → length (cards_where f n) ≤ length (cards_where g n) + length (cards_where h n)
