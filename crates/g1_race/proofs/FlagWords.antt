@@ -1,6 +1,7 @@
 -- The cards' flags at a pause.
-use Rattle.std.proofs.Common.{◌≡◌, ℕ, zero, suc, ◌+◌, ◌*◌, ◌/◌, ◌%◌, ◌<◌, ◌≤◌, ◌++◌, List, [], ◌∷◌, Option, false, Some, None, refl, sym, ap, ◌∙◌, subst, inl, inr, ⊎_elim, arith, eq-eqb}
+use Rattle.std.proofs.Common.{◌≡◌, ◌≢◌, ℕ, zero, suc, ◌+◌, ◌*◌, ◌/◌, ◌%◌, ◌<◌, ◌≤◌, ◌++◌, List, [], ◌∷◌, Option, false, Some, None, refl, sym, ap, ◌∙◌, subst, inl, inr, ⊎_elim, arith, eq-eqb}
 use native.Mathlib.Decide.{ℕ_discrete}
+use mathlib.Core.Option.{some}
 use lib.ListN.{get_elem?}
 use Rattle.std.specs.Int.{bit_at}
 use Rattle.std.specs.List.{slice_index}
@@ -17,7 +18,7 @@ use Rattle.g1_race_words.proofs.Flags.{flag_card}
 use Rattle.g1_race_words.proofs.PairBits.{card_in_row}
 use Rattle.g1_race_words.proofs.Listing.{one_pair, pair_clear, pair_set}
 use Rattle.g1_race_words.proofs.Places.{take_at, take_same}
-use Rattle.g1_race.proofs.NextCards.{marked_word}
+use Rattle.g1_race.proofs.NextCards.{mark_is, mark_is_not, marked_word}
 
 -- a card whose flag is clear is clean
 unflagged_clean : (k : Shape) (words : List ℕ) (c : ℕ) → IsBegun (started k words) → c < k.cards → is_member k words k.regions (c / 8 * 8) ≡ false → is_marked k words c ≡ false
@@ -36,23 +37,28 @@ skips_none k words from (Some card) h first is = (is.0, is.1, λ c le lt. unflag
 abbrev NoneDirty : Shape → List ℕ → ℕ → ℕ → Type 0
 NoneDirty k words from end = (c : ℕ) → from ≤ c → c < end → c < k.cards → is_marked k words c ≡ false
 
-pub clean_before : (k : Shape) (words : List ℕ) (from next card : ℕ) → NoneDirty k words from next → SkipsNone (is_marked k words) k.cards next (Some card) → (c : ℕ) → from ≤ c → c < card → is_marked k words c ≡ false
-clean_before k words from next card none is c le lt = elim (cases_lt c next) [
-  | inl low ↦ none c le low (omega (arith, lt, is.1))
-  | inr high ↦ is.2 c high lt
-]
+module _ (k : Shape) {words read : List ℕ} (from next : ℕ) (same : read ≡ words) (none : NoneDirty k words from next) where
+  module _ (card n : ℕ) (skips : SkipsNone (is_marked k read) k.cards next (Some card)) (at : get_elem? read (mark_word k card) ≡ some n) where
+    before : (c : ℕ) → from ≤ c → c < card → is_marked k words c ≡ false
+    before c le lt = elim (cases_lt c next) [
+      | inl low ↦ none c le low (omega (arith, lt, skips.1))
+      | inr high ↦ ap (λ (l : List ℕ). is_marked k l c) (sym same) ∙ skips.2 c high lt
+    ]
 
-pub clean_past : (k : Shape) (words : List ℕ) (from next card : ℕ) → NoneDirty k words from next → SkipsNone (is_marked k words) k.cards next (Some card) → is_marked k words card ≡ false → NoneDirty k words from (card + 1)
-clean_past k words from next card none is clean c le lt below = elim (cases_lt c card) [
-  | inl low ↦ clean_before k words from next card none is c le low
-  | inr high ↦ subst (λ (x : ℕ). is_marked k words x ≡ false) (let e : card ≡ c = omega (arith, high, lt) in e) clean
-]
+    pub marked_next : from ≤ next → n ≡ 1 → IsNext (is_marked k words) k.cards from (Some card)
+    marked_next past one = (omega (arith, past, skips.0), skips.1, ap (λ (l : List ℕ). is_marked k l card) (sym same) ∙ mark_is k read card n at one, before)
 
-pub clean_after : (k : Shape) (words : List ℕ) (from next : ℕ) → NoneDirty k words from next → SkipsNone (is_marked k words) k.cards next None → IsNext (is_marked k words) k.cards from None
-clean_after k words from next none is c le lt = elim (cases_lt c next) [
-  | inl low ↦ none c le low lt
-  | inr high ↦ is c high lt
-]
+    pub clean_past : n ≢ 1 → NoneDirty k words from (card + 1)
+    clean_past ne c le lt below = elim (cases_lt c card) [
+      | inl low ↦ before c le low
+      | inr high ↦ subst (λ (x : ℕ). is_marked k words x ≡ false) (let e : card ≡ c = omega (arith, high, lt) in e) (ap (λ (l : List ℕ). is_marked k l card) (sym same) ∙ mark_is_not k read card n at ne)
+    ]
+
+  pub clean_after : SkipsNone (is_marked k read) k.cards next None → IsNext (is_marked k words) k.cards from None
+  clean_after skips c le lt = elim (cases_lt c next) [
+    | inl low ↦ none c le low lt
+    | inr high ↦ ap (λ (l : List ℕ). is_marked k l c) (sym same) ∙ skips c high lt
+  ]
 
 -- a flag is no pair's bit
 pub flag_only : (k : Shape) (old new : List ℕ) (c : ℕ) → Notes k old new (flag k c ∷ []) → (x : ℕ × ℕ) → IsPair k x → HasBit k new x → HasBit k old x

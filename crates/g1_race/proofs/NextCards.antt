@@ -1,5 +1,5 @@
 -- The next card of a row of bits, in a word that was read.
-use Rattle.std.proofs.Common.{◌≡◌, ◌≢◌, ℕ, ◌+◌, ◌-◌, ◌*◌, ◌/◌, ◌%◌, ◌^◌, ◌<◌, ◌≤◌, true, false, List, get_or, w64, refl, sym, ap, ◌∙◌, inl, inr, ⊎_elim, arith, eq-eqb, ne_eqb}
+use Rattle.std.proofs.Common.{◌≡◌, ◌≢◌, ℕ, ◌+◌, ◌-◌, ◌*◌, ◌/◌, ◌%◌, ◌^◌, ◌<◌, ◌≤◌, true, false, List, Some, None, get_or, w64, refl, sym, ap, ◌∙◌, inl, inr, ⊎_elim, arith, eq-eqb, ne_eqb}
 use mathlib.Core.Option.{some}
 use lib.ListN.{get_elem?}
 use Rattle.std.specs.Int.{bit_at, trailing_zeros}
@@ -9,7 +9,7 @@ use Rattle.std.proofs.lemmas.Nat.{pow-add}
 use Rattle.std.proofs.lemmas.Nat.Bits.{bit_at_above, bit_at-zero, bit_at-trailing_zeros}
 use Rattle.g1_race_words.specs.declared.view.Shape.{Shape}
 use Rattle.g1_race_words.specs.Rule.{IsBegun, IsWholeShape, bit_place, bit_word, mark_word, started}
-use Rattle.g1_race.specs.Telling.{is_marked, is_member}
+use Rattle.g1_race.specs.Telling.{IsNext, is_marked, is_member}
 use Rattle.g1_race_words.proofs.Places.{reads_as}
 
 -- a card whose mark was read
@@ -41,7 +41,9 @@ unmarked_word k words card e at = true≢false (sym (mark_is k words card 1 at r
 bit_after : (n p i : ℕ) → bit_at (n / 2 ^ p) i ≡ bit_at n (p + i)
 bit_after n p i = ap (λ (m : ℕ). m % 2) (div-div-eq-div-mul n (2 ^ p) (2 ^ i) ∙ ap (λ (m : ℕ). n / m) (sym (pow-add 2 p i)))
 
-module _ (k : Shape) (words : List ℕ) (card region at place found : ℕ) (e : at ≡ bit_word k (card, region)) (f : place ≡ bit_place k (card, region)) (there : get_elem? words at ≡ some found) where
+-- what a walk along a row knows that has found no card before this one, and reads its word
+module _ (k : Shape) {words read : List ℕ} (same : read ≡ words) (from card region at place found : ℕ) (e : at ≡ bit_word k (card, region)) (f : place ≡ bit_place k (card, region)) (there : get_elem? read at ≡ some found)
+    (none : (x : ℕ) → from ≤ x → x < card → is_member k words region x ≡ false) where
   abbrev rest : ℕ
   rest = found / 2 ^ place
 
@@ -51,15 +53,16 @@ module _ (k : Shape) (words : List ℕ) (card region at place found : ℕ) (e : 
       let q : x / 64 ≡ card / 64 = omega arith in
       let low : x % 64 ≡ place + i = omega arith in
       let word : bit_word k (x, region) ≡ at = ap (λ (m : ℕ). k.slots + k.cards + (region * k.row + m)) q ∙ sym e in
-      ap (λ (n : ℕ). bit_at n (x % 64)) (ap (λ (j : ℕ). get_or words j 0) word ∙ reads_as words at found 0 there) ∙ (ap (λ (j : ℕ). bit_at found j) low ∙ sym (bit_after found place i))
+      ap (λ (n : ℕ). bit_at n (x % 64)) (ap (λ (j : ℕ). get_or words j 0) word ∙ (ap (λ (l : List ℕ). get_or l at 0) (sym same) ∙ reads_as read at found 0 there)) ∙ (ap (λ (j : ℕ). bit_at found j) low ∙ sym (bit_after found place i))
 
   not_member : (i x : ℕ) → x ≡ card + i → place + i < 64 → bit_at rest i ≡ 0 → is_member k words region x ≡ false
   not_member i x is lt z = ne_eqb _ 1 (λ o. absurd (let a : 0 ≡ 1 = sym z ∙ (sym (member_bit i x is lt) ∙ o) in omega arith))
 
-  pub row_done : rest ≡ 0 → (x : ℕ) → card ≤ x → x < (card / 64 + 1) * 64 → is_member k words region x ≡ false
-  row_done none x le lt =
-      let p : place ≡ card % 64 = f in
-      not_member (x - card) x (omega arith) (omega arith) (ap (λ (n : ℕ). bit_at n (x - card)) none ∙ bit_at-zero (x - card))
+  pub none_of_word : rest ≡ 0 → (x : ℕ) → from ≤ x → x < (card / 64 + 1) * 64 → is_member k words region x ≡ false
+  none_of_word zero x low lt = let p : place ≡ card % 64 = f in elim (cases_lt x card) [
+    | inl before ↦ none x low before
+    | inr le ↦ not_member (x - card) x (omega arith) (omega arith) (ap (λ (n : ℕ). bit_at n (x - card)) zero ∙ bit_at-zero (x - card))
+  ]
 
   module _ (some_left : rest ≢ 0) (fits : found < 2 ^ 64) where
     abbrev tz : ℕ
@@ -77,11 +80,16 @@ module _ (k : Shape) (words : List ℕ) (card region at place found : ℕ) (e : 
       | inr high ↦ absurd (let z : 0 ≡ 1 = sym (bit_at_above found 64 (place + tz) fits high) ∙ (sym (bit_after found place tz) ∙ zeros.1) in omega arith)
     ]
 
-    pub next_is : is_member k words region (card + tz) ≡ true
-    next_is = eq-eqb _ 1 (member_bit tz (card + tz) refl inside ∙ zeros.1)
+    none_until : (x : ℕ) → from ≤ x → x < card + tz → is_member k words region x ≡ false
+    none_until x low lt = let t : ℕ = tz in let lt' : x < card + t = lt in let in' : place + t < 64 = inside in elim (cases_lt x card) [
+      | inl before ↦ none x low before
+      | inr le ↦
+          let small_i : x - card < t = omega arith in
+          not_member (x - card) x (omega arith) (let goal : place + (x - card) < 64 = omega arith in goal) (zeros.2 (x - card) small_i)
+    ]
 
-    pub none_before : (x : ℕ) → card ≤ x → x < card + tz → is_member k words region x ≡ false
-    none_before x le lt =
-        let t : ℕ = tz in let lt' : x < card + t = lt in let in' : place + t < 64 = inside in
-        let small_i : x - card < t = omega arith in
-        not_member (x - card) x (omega arith) (let goal : place + (x - card) < 64 = omega arith in goal) (zeros.2 (x - card) small_i)
+    pub next_found : (limit : ℕ) → from ≤ card → card + tz < limit → IsNext (is_member k words region) limit from (Some (card + tz))
+    next_found limit past lt = ((let t : ℕ = tz in let goal : from ≤ card + t = omega (arith, past) in goal), lt, eq-eqb _ 1 (member_bit tz (card + tz) refl inside ∙ zeros.1), none_until)
+
+    pub next_past : (limit : ℕ) → limit ≤ card + tz → IsNext (is_member k words region) limit from None
+    next_past limit le x low lt = none_until x low (let t : ℕ = tz in let le' : limit ≤ card + t = le in let goal : x < card + t = omega (arith, lt) in goal)
