@@ -1,5 +1,5 @@
 -- Tables some of whose pairs are gone, and that of a region that is forgotten.
-use Rattle.std.proofs.Common.{◌≡◌, ◌≢◌, ℕ, ◌+◌, ◌-◌, ◌*◌, ◌/◌, ◌%◌, div-add-mod', mod-lt, ◌<◌, ◌≤◌, not, eqb, ◌&&◌, Bool, true, false, List, sym, ap, ◌∙◌, inl, inr, arith, eq-eqb}
+use Rattle.std.proofs.Common.{◌≡◌, ◌≢◌, ℕ, ◌+◌, ◌-◌, ◌*◌, ◌/◌, ◌%◌, div-add-mod', mod-lt, ◌<◌, ◌≤◌, not, eqb, ◌&&◌, Bool, true, false, List, sym, ap, ◌∙◌, subst, inl, inr, arith, eq-eqb}
 use mathlib.Core.Option.{some}
 use lib.ListN.{get_elem?}
 use Rattle.std.specs.FinSet as fin
@@ -11,7 +11,7 @@ use Rattle.g1_layout.specs.Shape.{slot_count, region_of}
 use Rattle.g1_core.specs.Table.{Crosses}
 use Rattle.g1_core.proofs.SetLemmas.{pair_exact, same_pairs}
 use Rattle.g1_race_words.specs.declared.view.Shape.{Shape}
-use Rattle.g1_race_words.specs.Rule.{IsBegun, IsWholeShape, slot_card, crosses, front, pairs_up_to, started}
+use Rattle.g1_race_words.specs.Rule.{IsBegun, IsWholeShape, slot_card, crosses, pairs_up_to, started}
 use Rattle.g1_race.specs.Race.{shape_of}
 use Rattle.g1_race.specs.Over.{ended, refs_of, table_of}
 use Rattle.g1_race.specs.Clearing.{AreUnset}
@@ -44,7 +44,7 @@ retained_is k l laid old new keep b h g = λ i. record {
         set_recorded k l new laid h x s.0 (g.kept x s.0 (λ gone. true≢false (sym t.1 ∙ gone)) s.1))
 
 -- the cards of a region
-pub card_in : (n region c : ℕ) → 0 < n → c / n ≡ region → (region * n ≤ c) × (c < region * n + n)
+card_in : (n region c : ℕ) → 0 < n → c / n ≡ region → (region * n ≤ c) × (c < region * n + n)
 card_in n region c some_card e =
     let q : ℕ = c / n in
     let is : q * n + c % n ≡ c = div-add-mod' c n in
@@ -56,7 +56,7 @@ card_in n region c some_card e =
     let is' : z + r ≡ c = is in let same' : z ≡ y = same in
     ((let goal : y ≤ c = omega arith in goal), (let goal : c < y + n = omega arith in goal))
 
-pub in_card : (n region c : ℕ) → region * n ≤ c → c < region * n + n → c / n ≡ region
+in_card : (n region c : ℕ) → region * n ≤ c → c < region * n + n → c / n ≡ region
 in_card n region c le lt =
     let y : ℕ = region * n in
     let i : ℕ = c - y in
@@ -64,17 +64,9 @@ in_card n region c le lt =
     let low : i < n = (let a : y ≤ c = le in let b : c < y + n = lt in omega arith) in
     ap (λ (m : ℕ). m / n) (sym is) ∙ div-mul-add region n i low
 
-pub forgotten_is : (k : Shape) (l : layout.Shape) (laid : k ≡ shape_of l k.members) (old new : List ℕ) (region : ℕ) → 0 < l.cards → IsBegun (started k old) → IsBegun (started k new) → AreUnset k old new (λ x. (region * l.cards ≤ x.0) × (x.0 < region * l.cards + l.cards)) → table_of (ended l k new) ≡ forgotten region (table_of (ended l k old))
-forgotten_is k l laid old new region some_card b h g = retained_is k l laid old new (λ x. not (eqb (x.0 / l.cards) region)) b h (record {
-  front = g.front;
-  kept = λ x pair stays. g.kept x pair (λ gone. stays (ap not (eq-eqb (x.0 / l.cards) region (in_card l.cards region x.0 gone.0 gone.1))));
-  only = g.only;
-  clear = λ x pair gone. g.clear x pair (card_in l.cards region x.0 some_card (eqb-true (x.0 / l.cards) region (not-false _ gone)));
-})
-
 -- the cards of a region in whole numbers
 
-pub cards_in : (n region regions : ℕ) → 0 < n → region < regions → region * n + n ≤ regions * n
+cards_in : (n region regions : ℕ) → 0 < n → region < regions → region * n + n ≤ regions * n
 cards_in n region regions some_card lt =
     let y : ℕ = region * n in let all : ℕ = n * regions in let same : ℕ = regions * n in
     let a : y + (n - 1) < all = mul-add-lt region n (n - 1) regions lt (omega arith) in let e : all ≡ same = omega arith in
@@ -87,7 +79,7 @@ module _ (k : Shape) (l : layout.Shape) (laid : k ≡ shape_of l k.members) (sha
   regions_is : k.regions ≡ l.regions
   regions_is = ap (λ (s : Shape). s.regions) laid
 
-  pub some_cards : 0 < l.cards
+  some_cards : 0 < l.cards
   some_cards = elim (cases_lt 0 l.cards) [
     | inl lt ↦ lt
     | inr le ↦ absurd (
@@ -96,21 +88,33 @@ module _ (k : Shape) (l : layout.Shape) (laid : k ≡ shape_of l k.members) (sha
         let n : ℕ = l.regions * l.cards in let none' : n ≡ l.regions * 0 = none in let e : k.cards ≡ n = cards_is in let pos : 0 < k.cards = shaped.5 in omega arith)
   ]
 
-  pub cards_each : (region : ℕ) → region < k.regions → k.cards / k.regions ≡ l.cards
-  cards_each region lt = (λ i. cards_is i / regions_is i) ∙ mul-div_cancel_left l.cards (let e = regions_is in omega (arith, e, lt))
+  module _ (region : ℕ) (lt : region < k.regions) where
+    each : k.cards / k.regions ≡ l.cards
+    each = (λ i. cards_is i / regions_is i) ∙ mul-div_cancel_left l.cards (let e = regions_is in omega (arith, e, lt))
 
-  pub cards_within : (region : ℕ) → region < k.regions → region * l.cards + l.cards ≤ k.cards
-  cards_within region lt = let e = regions_is in let a = cards_in l.cards region l.regions some_cards (omega (arith, e, lt)) in
-      let y : ℕ = region * l.cards in let all : ℕ = l.regions * l.cards in let a' : y + l.cards ≤ all = a in let f : k.cards ≡ all = cards_is in let goal : y + l.cards ≤ k.cards = omega arith in goal
+    pub cards_within : region * (k.cards / k.regions) + k.cards / k.regions ≤ k.cards
+    cards_within = subst (λ (n : ℕ). region * n + n ≤ k.cards) (sym each) (let e = regions_is in let a = cards_in l.cards region l.regions some_cards (omega (arith, e, lt)) in
+        let y : ℕ = region * l.cards in let all : ℕ = l.regions * l.cards in let a' : y + l.cards ≤ all = a in let f : k.cards ≡ all = cards_is in let goal : y + l.cards ≤ k.cards = omega arith in goal)
 
-  -- no slot of the region refers out of it
-  pub closed_words : (words : List ℕ) (region : ℕ) → ((slot place : ℕ) → Crosses (table_of (ended l k words)) slot place → region_of l slot ≢ region)
-      → (p n : ℕ) → p < k.slots → get_elem? words p ≡ some n → crosses k p n ≡ true → region * l.cards ≤ slot_card k p → slot_card k p < region * l.cards + l.cards → ⊥
-  closed_words words region closed p n lt at cr le below =
-      let slots : k.slots ≡ slot_count l = ap (λ (s : Shape). s.slots) laid in
-      let span : k.span ≡ l.cards * l.slots = ap (λ (s : Shape). s.span) laid in
-      let card : slot_card k p ≡ layout.card_of l p = ap (λ (s : Shape). p / s.size) laid in
-      closed p (n - 1) (record {
-        refers = word_refers (ended l k words) p n (omega (arith, lt, slots)) (at_take words (k.slots + k.cards) p n (omega (arith, lt)) at) (crosses_reference k p n cr);
-        across = λ e. crosses_apart k p n cr (ap (λ (s : ℕ). p / s) span ∙ (e ∙ ap (λ (s : ℕ). (n - 1) / s) (sym span)));
-      }) (sym (region_of_quotient l p) ∙ (ap (λ (c : ℕ). c / l.cards) (sym card) ∙ in_card l.cards region (slot_card k p) le below))
+    -- no slot of the region refers out of it
+    pub closed_words : (words : List ℕ) → ((slot place : ℕ) → Crosses (table_of (ended l k words)) slot place → region_of l slot ≢ region)
+        → (p n : ℕ) → p < k.slots → get_elem? words p ≡ some n → crosses k p n ≡ true → region * (k.cards / k.regions) ≤ slot_card k p → slot_card k p < region * (k.cards / k.regions) + k.cards / k.regions → ⊥
+    closed_words words closed p n lt at cr le below =
+        let slots : k.slots ≡ slot_count l = ap (λ (s : Shape). s.slots) laid in
+        let span : k.span ≡ l.cards * l.slots = ap (λ (s : Shape). s.span) laid in
+        let card : slot_card k p ≡ layout.card_of l p = ap (λ (s : Shape). p / s.size) laid in
+        closed p (n - 1) (record {
+          refers = word_refers (ended l k words) p n (omega (arith, lt, slots)) (at_take words (k.slots + k.cards) p n (omega (arith, lt)) at) (crosses_reference k p n cr);
+          across = λ e. crosses_apart k p n cr (ap (λ (s : ℕ). p / s) span ∙ (e ∙ ap (λ (s : ℕ). (n - 1) / s) (sym span)));
+        }) (sym (region_of_quotient l p) ∙ (ap (λ (c : ℕ). c / l.cards) (sym card)
+        ∙ in_card l.cards region (slot_card k p) (subst (λ (m : ℕ). region * m ≤ slot_card k p) each le) (subst (λ (m : ℕ). slot_card k p < region * m + m) each below)))
+
+    pub forgotten_is : (old new : List ℕ) → IsBegun (started k old) → IsBegun (started k new) → AreUnset k old new (λ x. (region * (k.cards / k.regions) ≤ x.0) × (x.0 < region * (k.cards / k.regions) + k.cards / k.regions))
+        → table_of (ended l k new) ≡ forgotten region (table_of (ended l k old))
+    forgotten_is old new b h unset = let g = subst (λ (n : ℕ). AreUnset k old new (λ x. (region * n ≤ x.0) × (x.0 < region * n + n))) each unset in
+        retained_is k l laid old new (λ x. not (eqb (x.0 / l.cards) region)) b h (record {
+          front = g.front;
+          kept = λ x pair stays. g.kept x pair (λ gone. stays (ap not (eq-eqb (x.0 / l.cards) region (in_card l.cards region x.0 gone.0 gone.1))));
+          only = g.only;
+          clear = λ x pair gone. g.clear x pair (card_in l.cards region x.0 some_cards (eqb-true (x.0 / l.cards) region (not-false _ gone)));
+        })

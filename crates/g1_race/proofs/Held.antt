@@ -1,6 +1,7 @@
 -- What a pause lends is the race that it holds.
-use Rattle.std.proofs.Common.{◌≡◌, ℕ, List, sym, ap, ◌∙◌, subst}
+use Rattle.std.proofs.Common.{◌≡◌, ℕ, ◌<◌, List, sym, ap, ◌∙◌, subst, arith}
 use Rattle.g1_core.specs.Table.{Table}
+use Rattle.g1_race_words.specs.declared.view.Shape.{Shape}
 use Rattle.g1_race_words.specs.Rule.{IsBegun, started}
 use Rattle.g1_race.specs.declared.race.Race.{Race}
 use Rattle.g1_race.specs.Members.{at_pause_of}
@@ -11,6 +12,10 @@ lent_view {words = words} {logs = logs} {sweepers = sweepers} is view = ap (λ (
 
 pub lent_begun : {race held : Race} {words : List ℕ} → race ≡ held → IsBegun (started held.shape words) → IsBegun (started race.shape words)
 lent_begun {words = words} is = subst (λ (r : Race). IsBegun (started r.shape words)) (sym is)
+
+-- a region of the pause is one of the race, by its number
+pub lent_region : {race held : Race} {words : List ℕ} {logs : List (List ℕ)} {sweepers number region : ℕ} {pause : Pause} → race ≡ held → at_pause_of held words logs sweepers ≡ pause → number ≡ region → region < pause.layout.regions → number < race.shape.regions
+lent_region {race = race} is view same lt = omega (arith, ap (λ (s : Shape). s.regions) race.laid, ap (λ (h : Pause). h.layout.regions) (lent_view is view))
 
 pub held_table : {race held : Race} (words : List ℕ) → race ≡ held → table_of (ended race.layout race.shape words) ≡ table_of (ended held.layout held.shape words)
 held_table words = ap (λ (r : Race). table_of (ended r.layout r.shape words))
