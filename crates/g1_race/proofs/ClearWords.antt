@@ -1,5 +1,5 @@
 -- What a clear at a pause reads and does.
-use Rattle.std.proofs.Common.{◌≡◌, ◌≢◌, ℕ, ◌+◌, ◌-◌, ◌*◌, ◌/◌, ◌<◌, ◌≤◌, not, eqb, List, length, set, get_or, length-set, eq-eqb, Some, refl, sym, ap, ◌∙◌, subst, inl, inr, ⊎_elim, arith}
+use Rattle.std.proofs.Common.{◌≡◌, ◌≢◌, ℕ, ◌+◌, ◌-◌, ◌*◌, ◌/◌, ◌<◌, ◌≤◌, not, eqb, List, length, set, get_or, length-set, eq-eqb, Some, None, refl, sym, ap, ◌∙◌, subst, inl, inr, ⊎_elim, arith}
 use mathlib.Core.Option.{some}
 use native.Mathlib.Decide.{ℕ_discrete}
 use lib.ListN.{get_elem?}
@@ -11,17 +11,20 @@ use Rattle.std.specs.FinSet as fin
 use Rattle.atomic_table.proofs.Lists.{set_else}
 use Rattle.g1_layout.specs.Shape as layout
 use Rattle.g1_layout.specs.Shape.{slot_count}
-use Rattle.g1_core.specs.Table.{Enters}
-use Rattle.g1_core.specs.Run.{IsFirstInto}
+use Rattle.g1_core.specs.Table.{Enters, Table}
+use Rattle.g1_core.specs.Calls.{clear_entry}
 use Rattle.g1_race_words.specs.declared.view.Shape.{Shape}
 use Rattle.g1_race_words.specs.Rule.{IsBegun, IsMarked, IsWholeShape, HasBit, bit_word, bit_place, slot_card, flag, front, mark_word, word_count, region_at, started}
 use Rattle.g1_race.specs.Race.{shape_of}
 use Rattle.g1_race.specs.Over.{ended, table_of}
 use Rattle.g1_core.specs.declared.entry.Call.TheVariants.{Clear}
 use Rattle.g1_core.specs.declared.entry.Reply.TheVariants as reply
-use Rattle.g1_core.specs.declared.reply.ClearReply.TheVariants.{Cleared}
-use Rattle.g1_core.specs.Run.{settled}
+use Rattle.g1_core.specs.declared.reply.ClearReply.TheVariants.{Cleared, Pending, StillReferenced}
+use Rattle.g1_core.specs.Run.{IsStep, settled}
+use Rattle.g1_core.proofs.RefinedLemmas.{refined_none}
+use Rattle.g1_core.proofs.StoreLemmas.{none_refinable}
 use Rattle.g1_race.specs.Clearing.{Into, IsLeastInto, IsEmptied}
+use Rattle.g1_race.specs.Telling.{marked_cards}
 use Rattle.g1_race_words.proofs.AtBeginning.{no_bit}
 use Rattle.g1_race_words.proofs.Places.{at_take, at_untake, reads_as}
 use Rattle.g1_race_words.proofs.Crossing.{crosses_reference}
@@ -30,6 +33,7 @@ use Rattle.g1_race_words.proofs.Flags.{flag_card, word_in_row}
 use Rattle.g1_race.proofs.StoreCalls.{other_region}
 use Rattle.g1_race.proofs.Ends.{crosses_apart, word_back, word_refers}
 use Rattle.g1_race.proofs.ForgottenTable.{retained_is}
+use Rattle.g1_race.proofs.PauseTable.{none_pending, pending_len}
 
 -- a word of the region's row
 
@@ -117,7 +121,7 @@ into_back k old new region p same i = (i.0, i.1, (at_untake old (k.slots + k.car
 -- as a table
 
 module _ (k : Shape) (l : layout.Shape) (laid : k ≡ shape_of l k.members) where
-  pub enters_word : (words : List ℕ) (slot region : ℕ) → Enters (table_of (ended l k words)) slot region → Into k words region slot
+  enters_word : (words : List ℕ) (slot region : ℕ) → Enters (table_of (ended l k words)) slot region → Into k words region slot
   enters_word words slot region h =
       let e = ended l k words in
       let word = word_back e slot h.place h.refers in
@@ -134,7 +138,7 @@ module _ (k : Shape) (l : layout.Shape) (laid : k ≡ shape_of l k.members) wher
         ap (λ (m : ℕ). m / k.span) (let f : n - 1 ≡ h.place = omega (arith, is) in f) ∙ into,
       )
 
-  pub word_enters : (words : List ℕ) (slot region : ℕ) → Into k words region slot → Enters (table_of (ended l k words)) slot region
+  word_enters : (words : List ℕ) (slot region : ℕ) → Into k words region slot → Enters (table_of (ended l k words)) slot region
   word_enters words slot region i =
       let span : k.span ≡ l.cards * l.slots = ap (λ (s : Shape). s.span) laid in
       let slots : k.slots ≡ slot_count l = ap (λ (s : Shape). s.slots) laid in
@@ -145,13 +149,34 @@ module _ (k : Shape) (l : layout.Shape) (laid : k ≡ shape_of l k.members) wher
         outside = λ q. crosses_apart k slot i.0 i.3 (ap (λ (s : ℕ). slot / s) span ∙ (q ∙ sym i.4));
       }
 
-  pub first_into : (words : List ℕ) (slot region : ℕ) → IsLeastInto k words region (Some slot) → IsFirstInto (table_of (ended l k words)) region slot
-  first_into words slot region h = record { enters = word_enters words slot region h.0; least = λ other e. h.1 other (enters_word words other region e) }
+  -- what a clear answers
+  module _ (old read : List ℕ) (begun : IsBegun (started k old)) (same : read ≡ old) (caller region : ℕ) (lt : region < l.regions) (count : ℕ) (counted : count ≡ length (marked_cards k old)) where
+    abbrev t : Table
+    t = table_of (ended l k old)
 
-  pub cleared_is : (old new : List ℕ) (region : ℕ) → IsBegun (started k old) → IsBegun (started k new) → IsEmptied k old new region k.row → table_of (ended l k new) ≡ settled (Clear region) (reply.Clear Cleared) (table_of (ended l k old))
-  cleared_is old new region b h g = retained_is k l laid old new (λ x. not (eqb x.1 region)) b h (record {
-    front = g.front;
-    kept = λ x pair stays. g.kept x pair.0 (λ e. stays (ap not (eq-eqb x.1 region e)));
-    only = λ x pair. g.only x pair.0;
-    clear = λ x pair gone. g.clear x pair.0 (eqb-true x.1 region (not-false _ gone)) (in_row k x h.shaped pair);
-  })
+    pub clear_pending : 1 ≤ count → IsStep (table_of (ended l k old)) (clear_entry caller region (Pending count)) (table_of (ended l k read))
+    clear_pending some_card = subst (λ (ws : List ℕ). IsStep t (clear_entry caller region (Pending count)) (table_of (ended l k ws))) (sym same)
+        (record { allowed = record { numbers = lt; refines = none_refinable t; answers = (refl, counted ∙ pending_len k l laid old begun, some_card) }; after = sym (refined_none t) })
+
+    module _ (none : count ≤ 0) (number : ℕ) (is : number ≡ region) where
+      clean : t.pending ≡ fin.empty
+      clean = none_pending k l laid old begun (let n : ℕ = length (marked_cards k old) in let e : count ≡ n = counted in let goal : n ≡ 0 = omega (arith, none) in goal)
+
+      pub clear_refused : (slot named : ℕ) (new : List ℕ) → named ≡ slot → new ≡ read → IsLeastInto k read number (Some slot) → IsStep (table_of (ended l k old)) (clear_entry caller region (StillReferenced named)) (table_of (ended l k new))
+      clear_refused slot named new e then_same least =
+          let first : IsLeastInto k old region (Some named) = subst (λ (x : List ℕ × ℕ × ℕ). IsLeastInto k x.0 x.1 (Some x.2)) (λ i. (same i, is i, sym e i)) least in
+          subst (λ (ws : List ℕ). IsStep t (clear_entry caller region (StillReferenced named)) (table_of (ended l k ws))) (sym (then_same ∙ same))
+          (record { allowed = record { numbers = lt; refines = none_refinable t; answers = (refl, clean, record { enters = word_enters old named region first.0; least = λ other x. first.1 other (enters_word old other region x) }) }; after = sym (refined_none t) })
+
+      pub clear_granted : (between new : List ℕ) → between ≡ read → IsLeastInto k read number None → IsBegun (started k new) → IsEmptied k between new number k.row → IsStep (table_of (ended l k old)) (clear_entry caller region Cleared) (table_of (ended l k new))
+      clear_granted between new then_same never h emptied =
+          let g : IsEmptied k old new region k.row = subst (λ (x : List ℕ × ℕ). IsEmptied k x.0 new x.1 k.row) (λ i. ((then_same ∙ same) i, is i)) emptied in
+          let gone : table_of (ended l k new) ≡ settled (Clear region) (reply.Clear Cleared) t = retained_is k l laid old new (λ x. not (eqb x.1 region)) begun h (record {
+            front = g.front;
+            kept = λ x pair stays. g.kept x pair.0 (λ e. stays (ap not (eq-eqb x.1 region e)));
+            only = λ x pair. g.only x pair.0;
+            clear = λ x pair out. g.clear x pair.0 (eqb-true x.1 region (not-false _ out)) (in_row k x h.shaped pair);
+          }) in record {
+            allowed = record { numbers = lt; refines = none_refinable t; answers = (refl, clean, λ slot enters. never slot (subst (λ (x : List ℕ × ℕ). Into k x.0 x.1 slot) (λ i. (sym same i, sym is i)) (enters_word old slot region enters))) };
+            after = gone ∙ ap (settled (Clear region) (reply.Clear Cleared)) (sym (refined_none t));
+          }

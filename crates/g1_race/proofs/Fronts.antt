@@ -3,10 +3,7 @@ use Rattle.std.proofs.Common.{◌≡◌, ℕ, zero, suc, ◌+◌, ◌<◌, ◌�
 use mathlib.Core.Option.{some, some-ne-none, some-injective}
 use native.Mathlib.Decide.{ℕ_discrete}
 use lib.ListN.{get_elem?}
-use Rattle.g1_layout.specs.Shape as layout
-use Rattle.std.specs.FinSet as fin
 use Rattle.std.proofs.Common.{◌+◌}
-use Rattle.g1_core.specs.declared.entry.Reply.TheVariants as reply
 
 -- lists of which the first n items are the same
 pub take_same : {A : Type 0} (n : ℕ) (xs ys : List A) → ((p : ℕ) → p < n → get_elem? xs p ≡ get_elem? ys p) → take n xs ≡ take n ys

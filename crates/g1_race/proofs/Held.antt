@@ -13,9 +13,12 @@ lent_view {words = words} {logs = logs} {sweepers = sweepers} is view = ap (λ (
 pub lent_begun : {race held : Race} {words : List ℕ} → race ≡ held → IsBegun (started held.shape words) → IsBegun (started race.shape words)
 lent_begun {words = words} is = subst (λ (r : Race). IsBegun (started r.shape words)) (sym is)
 
--- a region of the pause is one of the race, by its number
+-- a region of the pause is one of the race, and so it is by its number
+pub lent_numbers : {race held : Race} {words : List ℕ} {logs : List (List ℕ)} {sweepers region : ℕ} {pause : Pause} → race ≡ held → at_pause_of held words logs sweepers ≡ pause → region < pause.layout.regions → region < race.layout.regions
+lent_numbers {region = region} is view = subst (λ (h : Pause). region < h.layout.regions) (sym (lent_view is view))
+
 pub lent_region : {race held : Race} {words : List ℕ} {logs : List (List ℕ)} {sweepers number region : ℕ} {pause : Pause} → race ≡ held → at_pause_of held words logs sweepers ≡ pause → number ≡ region → region < pause.layout.regions → number < race.shape.regions
-lent_region {race = race} is view same lt = omega (arith, ap (λ (s : Shape). s.regions) race.laid, ap (λ (h : Pause). h.layout.regions) (lent_view is view))
+lent_region {race = race} is view same lt = let low = lent_numbers is view lt in omega (arith, low, ap (λ (s : Shape). s.regions) race.laid)
 
 pub held_table : {race held : Race} (words : List ℕ) → race ≡ held → table_of (ended race.layout race.shape words) ≡ table_of (ended held.layout held.shape words)
 held_table words = ap (λ (r : Race). table_of (ended r.layout r.shape words))

@@ -1,14 +1,11 @@
 -- The least slot that refers into a region, slot by slot of a card.
-use Rattle.std.proofs.Common.{◌≡◌, ℕ, ◌+◌, ◌-◌, ◌*◌, ◌%◌, ◌<◌, ◌≤◌, true, List, div-add-mod', mod-lt, div-lt_iff_lt-mul, Some, sym, ap, ◌∙◌, subst, inl, inr, ⊎_elim, arith}
+use Rattle.std.proofs.Common.{◌≡◌, ℕ, ◌+◌, ◌*◌, ◌%◌, ◌<◌, ◌≤◌, true, List, div-add-mod', mod-lt, div-lt_iff_lt-mul, Some, sym, ap, ◌∙◌, subst, inl, inr, ⊎_elim, arith}
 use mathlib.Core.Option.{some, some-injective}
 use native.Mathlib.Decide.{ℕ_discrete}
 use lib.ListN.{get_elem?}
 use Rattle.std.proofs.lemmas.Bool.{cases_lt}
-use Rattle.std.specs.FinSet as fin
-use Rattle.g1_layout.specs.Shape as layout
 use Rattle.g1_race_words.specs.declared.view.Shape.{Shape}
 use Rattle.g1_race_words.specs.Rule.{IsBegun, IsMarked, HasBit, slot_card, crosses, mark_word, region_at, started}
-use Rattle.g1_core.specs.declared.entry.Reply.TheVariants as reply
 use Rattle.g1_race.specs.Clearing.{Into, IsLeastInto, IsLeastOfCard}
 use Rattle.g1_race_words.proofs.PairBits.{card_below}
 

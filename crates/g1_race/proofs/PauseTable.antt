@@ -10,14 +10,7 @@ use Rattle.std.proofs.lemmas.Bool.{and_parts, not-true, true≢false, eqb-true}
 use Rattle.std.proofs.Common.{Option, length, ◌+◌, eq-eqb}
 use Rattle.g1_layout.specs.Sets.{CardSet, set_of}
 use Rattle.g1_core.specs.Table.{Table, Holds, IsCovered, IsPending, IsRecorded, AreMembers, refined}
-use Rattle.g1_core.specs.declared.entry.Call.TheVariants.{Clear}
-use Rattle.g1_core.specs.declared.entry.Reply.TheVariants as reply
-use Rattle.g1_core.specs.declared.reply.ClearReply.TheVariants.{Cleared, Pending, StillReferenced}
-use Rattle.g1_core.specs.Table.{Enters}
-use Rattle.g1_core.specs.Calls.{clear_entry}
-use Rattle.g1_core.specs.Run.{IsFirstInto, IsStep, drained, settled}
-use Rattle.g1_core.proofs.RefinedLemmas.{refined_none}
-use Rattle.g1_core.proofs.StoreLemmas.{none_refinable}
+use Rattle.g1_core.specs.Run.{IsStep, drained}
 use Rattle.g1_core.proofs.AdoptionLemmas.{pending_flag}
 use Rattle.g1_core.proofs.MarkLemmas.{none_of}
 use Rattle.g1_core.proofs.SetLemmas.{All_by_member, same_cards, same_pairs, in_list as from_cards, in_set as in_cards}
@@ -175,15 +168,3 @@ drain_step old new caller region cards done lt a m = record {
   allowed = record { numbers = lt; refines = a.refinable; answers = subst (λ (t : Table). (t.pending ≡ fin.empty) × AreMembers t region cards) a.table (a.clean, m) };
   after = a.table;
 }
-
--- what a clear answers
-
-module _ (t : Table) (caller region : ℕ) (lt : region < t.layout.regions) where
-  pub clear_pending : (n : ℕ) → n ≡ fin.len t.pending → 1 ≤ n → IsStep t (clear_entry caller region (Pending n)) t
-  clear_pending n is some_card = record { allowed = record { numbers = lt; refines = none_refinable t; answers = (refl, is, some_card) }; after = sym (refined_none t) }
-
-  pub clear_refused : (slot : ℕ) → t.pending ≡ fin.empty → IsFirstInto t region slot → IsStep t (clear_entry caller region (StillReferenced slot)) t
-  clear_refused slot none first = record { allowed = record { numbers = lt; refines = none_refinable t; answers = (refl, none, first) }; after = sym (refined_none t) }
-
-  pub clear_granted : (new : Table) → t.pending ≡ fin.empty → ((slot : ℕ) → Enters t slot region → ⊥) → new ≡ settled (Clear region) (reply.Clear Cleared) t → IsStep t (clear_entry caller region Cleared) new
-  clear_granted new none never is = record { allowed = record { numbers = lt; refines = none_refinable t; answers = (refl, none, never) }; after = is ∙ ap (settled (Clear region) (reply.Clear Cleared)) (sym (refined_none t)) }
