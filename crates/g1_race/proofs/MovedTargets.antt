@@ -1,12 +1,10 @@
 -- The word of a slot after a redirect, as the target that a table has there.
 use Rattle.std.proofs.Common.{◌^◌, ◌≡◌, ◌≢◌, ℕ, zero, suc, ◌+◌, ◌-◌, ◌*◌, ◌/◌, ◌%◌, ◌<◌, cond, eqb, Bool, true, false, Option, Some, None, refl, sym, ap, ◌∙◌, subst, inl, inr, arith, eq-eqb, ne_eqb}
 use Rattle.std.specs.Prelude.{not}
-use Rattle.std.specs.FinSet as set
 use Rattle.std.proofs.lemmas.Bool.{and_from, and_parts, cases_Bool, cases_lt, eqb-false, eqb-true, not-true, true≢false}
 use Rattle.g1_layout.specs.Shape as layout
 use Rattle.g1_layout.specs.Shape.{region_of, same_offset}
 use Rattle.g1_core.specs.Table.{enters, moved_target}
-use Rattle.g1_core.specs.declared.entry.Reply.TheVariants as reply
 use Rattle.g1_core.proofs.SetLemmas.{same_bools}
 use Rattle.g1_race_words.specs.declared.view.Shape.{Shape}
 use Rattle.g1_race_words.specs.Rule.{IsReference, crosses, region_at}

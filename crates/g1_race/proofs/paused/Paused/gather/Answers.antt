@@ -6,7 +6,7 @@ use Rattle.g1_race.specs.Telling.{is_member, member_cards}
 use Rattle.g1_race.specs.Over.{Pause, table_at}
 use Rattle.g1_race.proofs.Telling.{few}
 use Rattle.g1_race.proofs.PauseTable.{members_are}
-use Rattle.g1_race.proofs.Held.{lent_begun, lent_view}
+use Rattle.g1_race.proofs.Held.{lent_begun, lent_region, lent_view}
 use Rattle.g1_race.proofs.paused.Paused.gather.Goals as goal
 
 pub list_members-requires-clause-room : goal.list_members-requires-clause-room
@@ -22,7 +22,7 @@ returns-clause-members g c =
     let l = race.layout in
     let words = c.self.inside.seat.me.0.began_words in
     let number = c.number.result in
-    let low : number < k.regions = omega (arith, c.requires.region, c.number.ensures, ap (λ (s : Shape). s.regions) race.laid, ap (λ (h : Pause). h.layout.regions) (lent_view c.race.ensures c.self.view_is)) in
+    let low : number < k.regions = lent_region c.race.ensures c.self.view_is c.number.ensures c.requires.region in
     subst (λ (cs : List ℕ). AreMembers (table_at c.args.self.now) c.args.region cs) (sym c.list_members.ensures.cards)
     (subst (λ (h : Pause). AreMembers (table_at h) c.args.region (member_cards k words number)) (lent_view c.race.ensures c.self.view_is)
     (members_are k l race.laid words c.args.region number (lent_begun c.race.ensures c.self.invariant.0.begun) c.number.ensures low))

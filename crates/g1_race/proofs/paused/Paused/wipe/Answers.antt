@@ -1,4 +1,4 @@
-use Rattle.std.proofs.Common.{◌≡◌, ℕ, ◌+◌, ◌*◌, ◌/◌, ◌%◌, ◌<◌, mod-lt, div-add-mod', sym, ap, ◌∙◌, subst, arith}
+use Rattle.std.proofs.Common.{◌≡◌, ℕ, ◌+◌, ◌*◌, ◌/◌, ◌%◌, ◌<◌, mod-lt, div-add-mod', sym, ap, ◌∙◌, subst}
 use mathlib.Core.Option.{some}
 use lib.ListN.{get_elem?}
 use Rattle.g1_core.specs.Table.{Table, target_of}
@@ -7,7 +7,7 @@ use Rattle.g1_race.specs.Over.{Pause, table_at}
 use Rattle.g1_race.specs.Evacuating.{WordsBecome, wiped, wiped_word}
 use Rattle.g1_race.proofs.PauseStores.{slot_in, slot_gives}
 use Rattle.g1_race.proofs.SlotWords.{wiped_words}
-use Rattle.g1_race.proofs.Held.{held_table, lent_view}
+use Rattle.g1_race.proofs.Held.{held_table, lent_region, lent_view}
 use Rattle.g1_race.proofs.paused.Paused.wipe.Goals as goal
 
 pub returns-clause-table : goal.returns-clause-table
@@ -18,7 +18,7 @@ returns-clause-null g c =
     let race = c.race.result.now in
     let k = race.shape in
     let words = c.wipe_slots.new.seat.me.0.began_words in
-    let low : c.number.result < k.regions = omega (arith, c.requires, c.number.ensures, ap (λ (s : Shape). s.regions) race.laid, ap (λ (h : Pause). h.layout.regions) (lent_view c.race.ensures c.self.view_is)) in
+    let low : c.number.result < k.regions = lent_region c.race.ensures c.self.view_is c.number.ensures c.requires in
     let span : k.span ≡ c.args.self.now.layout.cards * c.args.self.now.layout.slots = ap (λ (s : Shape). s.span) race.laid ∙ ap (λ (h : Pause). h.layout.cards * h.layout.slots) (lent_view c.race.ensures c.self.view_is) in
     λ slot e.
     let on : slot / k.span ≡ c.number.result = ap (λ (s : ℕ). slot / s) span ∙ (e ∙ sym c.number.ensures) in
