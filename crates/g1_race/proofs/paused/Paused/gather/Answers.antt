@@ -1,4 +1,5 @@
-use Rattle.std.proofs.Common.{◌≡◌, ◌<◌, ◌≤◌, List, ℕ, length, sym, ap, ◌∙◌, subst, arith}
+-- The list is that of the members of the race that was lent.
+use Rattle.std.proofs.Common.{List, ℕ, length, sym, ap, ◌∙◌, subst, arith}
 use Rattle.g1_layout.specs.Shape.{card_count}
 use Rattle.g1_core.specs.Table.{AreMembers}
 use Rattle.g1_race_words.specs.declared.view.Shape.{Shape}
@@ -18,21 +19,15 @@ list_members-requires-clause-room g c =
 pub returns-clause-members : goal.returns-clause-members
 returns-clause-members g c =
     let race = c.race.result.now in
-    let k = race.shape in
-    let l = race.layout in
     let words = c.self.inside.seat.me.0.began_words in
-    let number = c.number.result in
-    let low : number < k.regions = lent_region c.race.ensures c.self.view_is c.number.ensures c.requires.region in
     subst (λ (cs : List ℕ). AreMembers (table_at c.args.self.now) c.args.region cs) (sym c.list_members.ensures.cards)
-    (subst (λ (h : Pause). AreMembers (table_at h) c.args.region (member_cards k words number)) (lent_view c.race.ensures c.self.view_is)
-    (members_are k l race.laid words c.args.region number (lent_begun c.race.ensures c.self.invariant.0.begun) c.number.ensures low))
+    (subst (λ (h : Pause). AreMembers (table_at h) c.args.region (member_cards race.shape words c.number.result)) (lent_view c.race.ensures c.self.view_is)
+    (members_are race.shape race.layout race.laid words c.args.region c.number.result (lent_begun c.race.ensures c.self.invariant.0.begun) c.number.ensures (lent_region c.race.ensures c.self.view_is c.number.ensures c.requires.region)))
 
 pub returns-clause-few : goal.returns-clause-few
 returns-clause-few g c =
     let race = c.race.result.now in
-    let k = race.shape in
-    let words = c.self.inside.seat.me.0.began_words in
-    let number = c.number.result in
-    let cards : k.cards ≡ card_count race.layout = ap (λ (s : Shape). s.cards) race.laid in
-    subst (λ (h : Pause). length c.list_members.new.cards.items ≤ card_count h.layout) (lent_view c.race.ensures c.self.view_is)
-    (subst (λ (n : ℕ). length c.list_members.new.cards.items ≤ n) cards (subst (λ (cs : List ℕ). length cs ≤ k.cards) (sym c.list_members.ensures.cards) (few (is_member k words number) k.cards)))
+    let a = few (is_member race.shape c.self.inside.seat.me.0.began_words c.number.result) race.shape.cards in
+    let b = ap (λ (l : List ℕ). length l) c.list_members.ensures.cards in
+    let e = ap (λ (h : Pause). card_count h.layout) (lent_view c.race.ensures c.self.view_is) in
+    omega (arith, a, b, e, ap (λ (s : Shape). s.cards) race.laid)

@@ -1,5 +1,5 @@
 -- The count rises by one at each card that is found.
-use Rattle.std.proofs.Common.{ℕ, List, ◌+◌, ap, ◌∙◌, arith}
+use Rattle.std.proofs.Common.{ℕ, List, ap, ◌∙◌, arith}
 use Rattle.g1_race.specs.Telling.{is_member}
 use Rattle.g1_race.proofs.NextCards.{cards_fit}
 use Rattle.g1_race.proofs.Telling.{count_end, count_on, few}
