@@ -3,6 +3,7 @@ use Rattle.g1_race.specs.Clearing.{Into}
 use Rattle.g1_race.specs.Moving.{AreMoved, into_count}
 use Rattle.g1_race.proofs.AtPause.{paused_same}
 use Rattle.g1_race.proofs.MovedCards.{in_order, none_into, on_card, on_count, passed, passed_count}
+use Rattle.g1_race.proofs.paused.redirect.move_references.Goals.{In_default}
 use Rattle.g1_race.proofs.paused.redirect.move_references.Goals as goal
 
 pub loop-card-preserved : goal.loop-card-preserved
@@ -29,45 +30,31 @@ loop-card-preserved c =
       few = (let x : ℕ = c.loop-card.next * k.size in let y : ℕ = card * k.size in let o : x ≤ y = order in let f : c.loop-card.count ≤ x = i.few in let e : (card + 1) * k.size ≡ y + k.size = omega arith in omega (arith, c.move_on-count.ensures.few));
     }
 
-pub empty_row-requires-clause-none : goal.empty_row-requires-clause-none
-empty_row-requires-clause-none c =
+-- no card is left that holds into the region
+all : (c : In_default) → AreMoved c.args.race.now.shape c.args.seat.now.me.0.began_words c.loop-card.seat.me.0.began_words c.args.from c.args.to 0 c.args.race.now.shape.slots
+all c =
     let race = c.args.race.now in
-    let k = race.shape in
     let i = c.loop-card.invariant in
-    let old = c.args.seat.now.me.0.began_words in
-    let mid = c.loop-card.seat.me.0.began_words in
-    let from = c.args.from in
-    let to = c.args.to in
-    let same = ap (λ m. m.0.began_words) c.next_member.ensures.seat.1 in
-    let all : AreMoved k old mid from to 0 k.slots = subst (λ (n : ℕ). AreMoved k old mid from to 0 n) (sym race.shaped.0) (passed k old mid from to c.loop-card.next k.cards c.requires.seat.begun c.requires.apart i.within (omega arith) c.requires.clean i.moved c.in_default.ensures.next) in
-    λ p x. none_into k old mid from to p c.requires.seat.begun c.requires.apart all (subst (λ (ws : List ℕ). Into k ws from p) same x)
+    subst (λ (n : ℕ). AreMoved race.shape c.args.seat.now.me.0.began_words c.loop-card.seat.me.0.began_words c.args.from c.args.to 0 n) (sym race.shaped.0)
+    (passed race.shape c.args.seat.now.me.0.began_words c.loop-card.seat.me.0.began_words c.args.from c.args.to c.loop-card.next race.shape.cards c.requires.seat.begun c.requires.apart i.within (omega arith) c.requires.clean i.moved c.in_default.ensures.next)
+
+pub empty_row-requires-clause-none : goal.empty_row-requires-clause-none
+empty_row-requires-clause-none c = λ p x. none_into c.args.race.now.shape c.args.seat.now.me.0.began_words _ c.args.from c.args.to p c.requires.seat.begun c.requires.apart (all ((goal.at.empty_row-requires-clause-none c).In_default))
+    (subst (λ (ws : List ℕ). Into c.args.race.now.shape ws c.args.from p) (ap (λ m. m.0.began_words) c.next_member.ensures.seat.1) x)
 
 pub returns-clause-moved : goal.returns-clause-moved
 returns-clause-moved c =
     let race = c.args.race.now in
-    let k = race.shape in
-    let i = c.loop-card.invariant in
-    let old = c.args.seat.now.me.0.began_words in
-    let mid = c.loop-card.seat.me.0.began_words in
-    let from = c.args.from in
-    let to = c.args.to in
-    let same = ap (λ m. m.0.began_words) c.next_member.ensures.seat.1 in
-    let all : AreMoved k old mid from to 0 k.slots = subst (λ (n : ℕ). AreMoved k old mid from to 0 n) (sym race.shaped.0) (passed k old mid from to c.loop-card.next k.cards c.requires.seat.begun c.requires.apart i.within (omega arith) c.requires.clean i.moved c.in_default.ensures.next) in
     record {
       between = c.next_member.new.seat.me.0.began_words;
-      begun = (paused_same race.table.table_id k c.loop-card.seat c.next_member.new.seat c.next_member.ensures.seat.0 c.next_member.ensures.seat.1 i.seat).begun;
-      moved = subst (λ (ws : List ℕ). AreMoved k old ws from to 0 k.slots) (sym same) all;
+      begun = (paused_same race.table.table_id race.shape c.loop-card.seat c.next_member.new.seat c.next_member.ensures.seat.0 c.next_member.ensures.seat.1 c.loop-card.invariant.seat).begun;
+      moved = subst (λ (ws : List ℕ). AreMoved race.shape c.args.seat.now.me.0.began_words ws c.args.from c.args.to 0 race.shape.slots) (sym (ap (λ m. m.0.began_words) c.next_member.ensures.seat.1)) (all ((goal.at.returns-clause-moved c).In_default));
       emptied = c.empty_row.ensures.emptied;
     }
 
 pub returns-clause-count : goal.returns-clause-count
 returns-clause-count c =
     let race = c.args.race.now in
-    let k = race.shape in
     let i = c.loop-card.invariant in
-    let old = c.args.seat.now.me.0.began_words in
-    let mid = c.loop-card.seat.me.0.began_words in
-    let from = c.args.from in
-    let to = c.args.to in
-    let same = ap (λ m. m.0.began_words) c.next_member.ensures.seat.1 in
-    i.counted ∙ (sym (passed_count k old mid from to c.loop-card.next k.cards c.requires.seat.begun c.requires.apart i.within (omega arith) c.requires.clean i.moved c.in_default.ensures.next) ∙ ap (into_count k old from 0) (sym race.shaped.0))
+    i.counted ∙ (sym (passed_count race.shape c.args.seat.now.me.0.began_words c.loop-card.seat.me.0.began_words c.args.from c.args.to c.loop-card.next race.shape.cards c.requires.seat.begun c.requires.apart i.within (omega arith) c.requires.clean i.moved c.in_default.ensures.next)
+    ∙ ap (into_count race.shape c.args.seat.now.me.0.began_words c.args.from 0) (sym race.shaped.0))
