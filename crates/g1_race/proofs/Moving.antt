@@ -61,13 +61,13 @@ module _ (k : Shape) (old mid : List ℕ) (from to p n : ℕ) (b : IsBegun (star
   bits_back : (x : ℕ × ℕ) → HasBit k new x → HasBit k mid x
   bits_back x = bit_as k new mid x (λ y. sym (same_bits k mid p word (omega (arith, lt)) y))
 
-  pub begun_moved : IsBegun (started k (set mid p (moved_word k to n)))
+  begun_moved : IsBegun (started k (set mid p (moved_word k to n)))
   begun_moved = begun_placed k mid p word lt (inl (moved_fits k to n b.shaped low)) (λ cr. inl (subst (λ (r : ℕ). HasBit k mid (slot_card k p, r)) (sym (moved_region k to n b.shaped.2)) (notes.has (slot_card k p, to) (has (λ e. crosses_apart k p word cr (e ∙ sym (moved_region k to n b.shaped.2))))))) h
 
   same : (q : ℕ) → (p < k.slots) → q ≢ p → q < k.slots + k.cards → get_elem? new q ≡ get_elem? old q
   same q here ne below = set_else mid p q word ne ∙ notes.front q below
 
-  pub moved_one : AreMoved k old (set mid p (moved_word k to n)) from to p 1
+  moved_one : AreMoved k old (set mid p (moved_word k to n)) from to p 1
   moved_one = record {
     moved = λ q m le below inside there.
         let e : q ≡ p = omega (arith, le, below) in
@@ -82,6 +82,9 @@ module _ (k : Shape) (old mid : List ℕ) (from to p n : ℕ) (b : IsBegun (star
         let e : p ≡ q = omega (arith, le, below) in
         subst (λ (j : ℕ). HasBit k new (slot_card k j, to)) e (bits (slot_card k p, to) (notes.has (slot_card k p, to) (has (λ f. ne (ap (λ (j : ℕ). j / k.span) (sym e) ∙ f)))));
   }
+
+  pub moved_slot : IsBegun (started k (set mid p (moved_word k to n))) × AreMoved k old (set mid p (moved_word k to n)) from to p 1
+  moved_slot = (begun_moved, moved_one)
 
 -- several slots
 

@@ -1,67 +1,45 @@
-use Rattle.std.proofs.Common.{◌≡◌, ℕ, List, [], ◌∷◌, refl, sym, subst, inl, ⊎_elim}
-use Rattle.g1_race_words.specs.Rule.{slot_card, region_at}
-use Rattle.g1_race.specs.Moving.{AreMoved, moved_word}
+-- The slot's pair is recorded before its word is moved, unless the slot lies in the region that the reference goes to.
+use Rattle.std.proofs.Common.{◌≡◌, ◌≢◌, ℕ, ◌/◌, ◌<◌, List, [], ◌∷◌, set, true, refl, sym, subst, inl, ⊎_elim}
+use mathlib.Core.Option.{some}
+use lib.ListN.{get_elem?}
+use Rattle.g1_race_words.specs.declared.view.Shape.{Shape}
+use Rattle.g1_race_words.specs.Rule.{IsBegun, slot_card, crosses, region_at, started}
+use Rattle.g1_race.specs.Moving.{AreMoved, is_into, moved_word}
+use Rattle.g1_race.specs.Refining.{Notes}
 use Rattle.g1_race.proofs.PauseWords.{notes_same}
-use Rattle.g1_race.proofs.Moving.{begun_moved, moved_crosses, moved_fits, moved_one, moved_region}
+use Rattle.g1_race.proofs.Moving.{moved_crosses, moved_fits, moved_region, moved_slot}
 use Rattle.g1_race.proofs.MovedCards.{is_into_of}
 use Rattle.g1_race.proofs.paused.redirect.move_slot.Goals as goal
 
+module _ (k : Shape) (old : List ℕ) (p n to : ℕ) (begun : IsBegun (started k old)) (lt : p < k.slots) (low : to < k.regions) (at : get_elem? old p ≡ some n) (across : crosses k p n ≡ true) where
+  abbrev Moves : List ℕ → Type 0
+  Moves mid = IsBegun (started k (set mid p (moved_word k to n))) × AreMoved k old (set mid p (moved_word k to n)) (region_at k n) to p 1
+
+  into : is_into k (region_at k n) p n ≡ true
+  into = is_into_of k (region_at k n) p n across refl
+
+  inside : p / k.span ≡ to → Moves old
+  inside e = moved_slot k old old (region_at k n) to p n begun begun [] (notes_same k old old [] refl (λ x i. absurd i)) lt low at into (λ ne. absurd (ne e)) (λ x i. absurd i)
+
+  outside : p / k.span ≢ to → (mid : List ℕ) → IsBegun (started k mid) → Notes k old mid ((slot_card k p, to) ∷ []) → Moves mid
+  outside ne mid h notes = moved_slot k old mid (region_at k n) to p n begun h ((slot_card k p, to) ∷ []) notes lt low at into (λ e. inl refl) (λ x. ⊎_elim (λ (e : (slot_card k p, to) ≡ x). (ne, e)) (λ (z : ⊥). absurd z))
+
 pub put-requires-clause-begun : goal.put-requires-clause-begun
-put-requires-clause-begun c =
-    let k = c.args.race.now.shape in
-    let old = c.args.seat.now.me.0.began_words in
-    let p = c.args.slot in
-    let n = c.args.word in
-    let to = c.args.to in
-    let r = region_at k n in
-    let begun = c.requires.seat.begun in
-    let into = is_into_of k r p n c.requires.across refl in
-    begun_moved k old old r to p n begun begun [] (notes_same k old old [] refl (λ x i. absurd i)) c.requires.slot c.requires.to c.requires.word into (λ ne. absurd (ne c.if-slot-shape.true)) (λ x i. absurd i)
+put-requires-clause-begun c = (inside c.args.race.now.shape c.args.seat.now.me.0.began_words c.args.slot c.args.word c.args.to c.requires.seat.begun c.requires.slot c.requires.to c.requires.word c.requires.across c.if-slot-shape.true).0
 
 pub returns-then-slot-shape-clause-moved : goal.returns-then-slot-shape-clause-moved
-returns-then-slot-shape-clause-moved c =
-    let k = c.args.race.now.shape in
-    let old = c.args.seat.now.me.0.began_words in
-    let p = c.args.slot in
-    let n = c.args.word in
-    let to = c.args.to in
-    let r = region_at k n in
-    let begun = c.requires.seat.begun in
-    let into = is_into_of k r p n c.requires.across refl in
-    subst (λ (ws : List ℕ). AreMoved k old ws r to p 1) (sym c.put.ensures.words) (moved_one k old old r to p n begun begun [] (notes_same k old old [] refl (λ x i. absurd i)) c.requires.slot c.requires.to c.requires.word into (λ ne. absurd (ne c.if-slot-shape.true)) (λ x i. absurd i))
+returns-then-slot-shape-clause-moved c = subst (λ (ws : List ℕ). AreMoved c.args.race.now.shape c.args.seat.now.me.0.began_words ws (region_at c.args.race.now.shape c.args.word) c.args.to c.args.slot 1) (sym c.put.ensures.words)
+    (inside c.args.race.now.shape c.args.seat.now.me.0.began_words c.args.slot c.args.word c.args.to c.requires.seat.begun c.requires.slot c.requires.to c.requires.word c.requires.across c.if-slot-shape.true).1
 
 pub set_bit-requires-clause-proper : goal.set_bit-requires-clause-proper
 set_bit-requires-clause-proper c low =
     let k = c.args.race.now.shape in
-    let old = c.args.seat.now.me.0.began_words in
-    let p = c.args.slot in
-    let n = c.args.word in
-    let to = c.args.to in
-    let r = region_at k n in
-    let begun = c.requires.seat.begun in
-    let into = is_into_of k r p n c.requires.across refl in
-    (p, moved_word k to n, (c.requires.slot, moved_fits k to n begun.shaped c.requires.to, moved_crosses k to p n begun.shaped c.requires.to c.if-slot-shape.false), λ i. (slot_card k p, moved_region k to n begun.shaped.2 i))
+    let shaped = c.requires.seat.begun.shaped in
+    (c.args.slot, moved_word k c.args.to c.args.word, (c.requires.slot, moved_fits k c.args.to c.args.word shaped c.requires.to, moved_crosses k c.args.to c.args.slot c.args.word shaped c.requires.to c.if-slot-shape.false), λ i. (slot_card k c.args.slot, moved_region k c.args.to c.args.word shaped.2 i))
 
 pub put-requires-2-clause-begun : goal.put-requires-2-clause-begun
-put-requires-2-clause-begun c =
-    let k = c.args.race.now.shape in
-    let old = c.args.seat.now.me.0.began_words in
-    let p = c.args.slot in
-    let n = c.args.word in
-    let to = c.args.to in
-    let r = region_at k n in
-    let begun = c.requires.seat.begun in
-    let into = is_into_of k r p n c.requires.across refl in
-    begun_moved k old c.set_bit.new.seat.me.0.began_words r to p n begun c.set_bit.ensures.seat.begun ((slot_card k p, to) ∷ []) c.set_bit.ensures.notes c.requires.slot c.requires.to c.requires.word into (λ ne. inl refl) (λ x i. ⊎_elim (λ (e : (slot_card k p, to) ≡ x). (c.if-slot-shape.false, e)) (λ (z : ⊥). absurd z) i)
+put-requires-2-clause-begun c = (outside c.args.race.now.shape c.args.seat.now.me.0.began_words c.args.slot c.args.word c.args.to c.requires.seat.begun c.requires.slot c.requires.to c.requires.word c.requires.across c.if-slot-shape.false c.set_bit.new.seat.me.0.began_words c.set_bit.ensures.seat.begun c.set_bit.ensures.notes).0
 
 pub returns-clause-moved : goal.returns-clause-moved
-returns-clause-moved c =
-    let k = c.args.race.now.shape in
-    let old = c.args.seat.now.me.0.began_words in
-    let p = c.args.slot in
-    let n = c.args.word in
-    let to = c.args.to in
-    let r = region_at k n in
-    let begun = c.requires.seat.begun in
-    let into = is_into_of k r p n c.requires.across refl in
-    subst (λ (ws : List ℕ). AreMoved k old ws r to p 1) (sym c.put-2.ensures.words) (moved_one k old c.set_bit.new.seat.me.0.began_words r to p n begun c.set_bit.ensures.seat.begun ((slot_card k p, to) ∷ []) c.set_bit.ensures.notes c.requires.slot c.requires.to c.requires.word into (λ ne. inl refl) (λ x i. ⊎_elim (λ (e : (slot_card k p, to) ≡ x). (c.if-slot-shape.false, e)) (λ (z : ⊥). absurd z) i))
+returns-clause-moved c = subst (λ (ws : List ℕ). AreMoved c.args.race.now.shape c.args.seat.now.me.0.began_words ws (region_at c.args.race.now.shape c.args.word) c.args.to c.args.slot 1) (sym c.put-2.ensures.words)
+    (outside c.args.race.now.shape c.args.seat.now.me.0.began_words c.args.slot c.args.word c.args.to c.requires.seat.begun c.requires.slot c.requires.to c.requires.word c.requires.across c.if-slot-shape.false c.set_bit.new.seat.me.0.began_words c.set_bit.ensures.seat.begun c.set_bit.ensures.notes).1
