@@ -94,8 +94,8 @@ InRow region first end x = (x.1 ≡ region) × (first ≤ x.0) × (x.0 < end)
 pub row_none : (k : Shape) (old : List ℕ) (region first : ℕ) → AreUnset k old old (InRow region first first)
 row_none k old region first = record { front = refl; kept = λ x pair never b. b; only = λ x pair b. b; clear = λ x pair i b. absurd (let a : first ≤ x.0 = i.1 in let c : x.0 < first = i.2 in omega (arith, a, c)) }
 
-pub row_past : (k : Shape) (old mid : List ℕ) (region first from end : ℕ) → from ≤ end → ((c : ℕ) → from ≤ c → c < end → is_member k mid region c ≡ false) → AreUnset k old mid (InRow region first from) → AreUnset k old mid (InRow region first end)
-row_past k old mid region first from end le none h = record {
+pub row_past : (k : Shape) (old mid new : List ℕ) (region first from end : ℕ) → new ≡ mid → from ≤ end → ((c : ℕ) → from ≤ c → c < end → is_member k mid region c ≡ false) → AreUnset k old mid (InRow region first from) → AreUnset k old new (InRow region first end)
+row_past k old mid new region first from end same le none h = subst (λ (ws : List ℕ). AreUnset k old ws (InRow region first end)) (sym same) (record {
   front = h.front;
   kept = λ x pair never b. h.kept x pair (λ i. never (i.0, i.1, let a : x.0 < from = i.2 in omega (arith, a, le))) b;
   only = h.only;
@@ -103,7 +103,7 @@ row_past k old mid region first from end le none h = record {
     | inl low ↦ h.clear x pair (i.0, i.1, low) b
     | inr high ↦ absurd (true≢false (sym (eq-eqb _ 1 (subst (λ (r : ℕ). HasBit k mid (x.0, r)) i.0 b)) ∙ none x.0 high i.2))
   ];
-}
+})
 
 pub row_next : (k : Shape) (old mid new : List ℕ) (region first card : ℕ) → first ≤ card → AreUnset k old mid (InRow region first card) → AreUnset k mid new (λ x. x ≡ (card, region)) → AreUnset k old new (InRow region first (card + 1))
 row_next k old mid new region first card low h g = record {
