@@ -1,3 +1,4 @@
+-- The card's slots are noted one after another, and then its mark is cleared.
 use Rattle.std.proofs.Common.{◌≡◌, ℕ, suc, ◌+◌, ◌*◌, ◌<◌, ◌++◌, List, [], get_or, refl, sym, ap, ◌∙◌, subst, arith}
 use mathlib.Core.Option.{some}
 use lib.ListN.{get_elem?}
@@ -8,27 +9,23 @@ use Rattle.g1_race_words.proofs.Places.{reads_as}
 use Rattle.g1_race.proofs.SweepCalls.{slot_below}
 use Rattle.g1_race.proofs.AtPause.{paused_same}
 use Rattle.g1_race.proofs.PauseWords.{notes_same, notes_then, begun_cleaned, refined_is}
+use Rattle.g1_race.proofs.paused.drain.refine_card.Goals.{After-loop-i, In-loop-i}
 use Rattle.g1_race.proofs.paused.drain.refine_card.Goals as goal
 
 pub loop-i-init : goal.loop-i-init
 loop-i-init c = record { seat = c.requires.seat; notes = notes_same _ _ _ [] refl (λ x i. absurd i); below = omega arith }
 
+below : (c : In-loop-i) → c.args.card * c.args.race.now.shape.size + c.loop-i.i < c.args.race.now.shape.slots
+below c = slot_below c.args.race.now.shape c.args.card c.loop-i.i c.args.race.now.shaped c.requires.card c.loop-i-test.true
+
 pub see-word-requires-clause-word : goal.see-word-requires-clause-word
-see-word-requires-clause-word c =
-    let race = c.args.race.now in
-    let below = slot_below race.shape c.args.card c.loop-i.i race.shaped c.requires.card c.loop-i-test.true in
-    omega (arith, below)
+see-word-requires-clause-word c = let lt = below ((goal.at.see-word-requires-clause-word c).In-loop-i) in omega (arith, lt)
 
 pub note_slot-requires-clause-slot : goal.note_slot-requires-clause-slot
-note_slot-requires-clause-slot c =
-    let race = c.args.race.now in
-    subst (λ (n : ℕ). c.args.card * race.shape.size + c.loop-i.i < n) (ap (λ (k : Shape). k.slots) race.laid) (slot_below race.shape c.args.card c.loop-i.i race.shaped c.requires.card c.loop-i-test.true)
+note_slot-requires-clause-slot c = subst (λ (n : ℕ). c.args.card * c.args.race.now.shape.size + c.loop-i.i < n) (ap (λ (k : Shape). k.slots) c.args.race.now.laid) (below ((goal.at.note_slot-requires-clause-slot c).In-loop-i))
 
 pub note_slot-requires-clause-word : goal.note_slot-requires-clause-word
-note_slot-requires-clause-word c =
-    let race = c.args.race.now in
-    let below = slot_below race.shape c.args.card c.loop-i.i race.shaped c.requires.card c.loop-i-test.true in
-    c.loop-i.invariant.seat.begun.bounded (c.args.card * race.shape.size + c.loop-i.i) c.see-word.result below c.see-word.ensures.word
+note_slot-requires-clause-word c = c.loop-i.invariant.seat.begun.bounded (c.args.card * c.args.race.now.shape.size + c.loop-i.i) c.see-word.result (below ((goal.at.note_slot-requires-clause-word c).In-loop-i)) c.see-word.ensures.word
 
 pub note_slot-requires-clause-seat : goal.note_slot-requires-clause-seat
 note_slot-requires-clause-seat c = paused_same _ _ c.loop-i.seat c.see-word.new.seat c.see-word.ensures.seat.0 c.see-word.ensures.seat.1 c.loop-i.invariant.seat
@@ -42,9 +39,9 @@ loop-i-preserved c =
     let mid = c.loop-i.seat.me.0.began_words in
     let new = c.note_slot.new.seat.me.0.began_words in
     let p : ℕ = c.args.card * k.size + c.loop-i.i in
-    let below : p < k.slots = slot_below k c.args.card c.loop-i.i race.shaped c.requires.card c.loop-i-test.true in
+    let lt : p < k.slots = below ((goal.at.loop-i-preserved c).In-loop-i) in
     let same = ap (λ m. m.0.began_words) c.see-word.ensures.seat.1 in
-    let word : get_elem? old p ≡ some c.see-word.result = sym (i.notes.front p (omega (arith, below))) ∙ c.see-word.ensures.word in
+    let word : get_elem? old p ≡ some c.see-word.result = sym (i.notes.front p (omega (arith, lt))) ∙ c.see-word.ensures.word in
     let read : c.see-word.result ≡ get_or old p 0 = sym (reads_as old p c.see-word.result 0 word) in
     let step : Notes k mid new (pair_at k p c.see-word.result) = subst (λ (l : List ℕ). Notes k l new (pair_at k p c.see-word.result)) same c.note_slot.ensures.notes in
     record {
@@ -57,15 +54,13 @@ loop-i-preserved c =
 pub put-requires-clause-seat : goal.put-requires-clause-seat
 put-requires-clause-seat c = c.loop-i.invariant.seat
 
+-- all slots are noted
+noted : (c : After-loop-i) → Notes c.args.race.now.shape c.args.seat.now.me.0.began_words c.loop-i.seat.me.0.began_words (card_pairs c.args.race.now.shape c.args.seat.now.me.0.began_words c.args.card c.args.race.now.shape.size)
+noted c = subst (λ (n : ℕ). Notes c.args.race.now.shape c.args.seat.now.me.0.began_words c.loop-i.seat.me.0.began_words (card_pairs c.args.race.now.shape c.args.seat.now.me.0.began_words c.args.card n)) (let e : c.loop-i.i ≡ c.args.race.now.shape.size = omega (arith, c.loop-i.invariant.below, c.loop-i-test.false) in e) c.loop-i.invariant.notes
+
 pub put-requires-clause-begun : goal.put-requires-clause-begun
-put-requires-clause-begun c =
-    let i = c.loop-i.invariant in
-    let notes = subst (λ (n : ℕ). Notes c.args.race.now.shape c.args.seat.now.me.0.began_words c.loop-i.seat.me.0.began_words (card_pairs c.args.race.now.shape c.args.seat.now.me.0.began_words c.args.card n)) (let e : c.loop-i.i ≡ c.args.race.now.shape.size = omega (arith, i.below, c.loop-i-test.false) in e) i.notes in
-    begun_cleaned c.args.race.now.shape c.args.seat.now.me.0.began_words c.loop-i.seat.me.0.began_words c.args.card c.requires.seat.begun i.seat.begun c.requires.card notes
+put-requires-clause-begun c = begun_cleaned c.args.race.now.shape c.args.seat.now.me.0.began_words c.loop-i.seat.me.0.began_words c.args.card c.requires.seat.begun c.loop-i.invariant.seat.begun c.requires.card (noted ((goal.at.put-requires-clause-begun c).After-loop-i))
 
 pub returns-clause-refined : goal.returns-clause-refined
-returns-clause-refined c =
-    let i = c.loop-i.invariant in
-    let notes = subst (λ (n : ℕ). Notes c.args.race.now.shape c.args.seat.now.me.0.began_words c.loop-i.seat.me.0.began_words (card_pairs c.args.race.now.shape c.args.seat.now.me.0.began_words c.args.card n)) (let e : c.loop-i.i ≡ c.args.race.now.shape.size = omega (arith, i.below, c.loop-i-test.false) in e) i.notes in
-    subst (λ (l : List ℕ). RefinesCard c.args.race.now.shape c.args.seat.now.me.0.began_words l c.args.card) (sym c.put.ensures.words)
-    (refined_is c.args.race.now.shape c.args.seat.now.me.0.began_words c.loop-i.seat.me.0.began_words c.args.card c.requires.seat.begun i.seat.begun c.requires.card notes)
+returns-clause-refined c = subst (λ (l : List ℕ). RefinesCard c.args.race.now.shape c.args.seat.now.me.0.began_words l c.args.card) (sym c.put.ensures.words)
+    (refined_is c.args.race.now.shape c.args.seat.now.me.0.began_words c.loop-i.seat.me.0.began_words c.args.card c.requires.seat.begun c.loop-i.invariant.seat.begun c.requires.card (noted ((goal.at.returns-clause-refined c).After-loop-i)))

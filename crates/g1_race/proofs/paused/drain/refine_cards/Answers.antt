@@ -1,15 +1,17 @@
+-- The cards before the one that is looked at are refined, and at the end the flags are cleared.
 use Rattle.std.proofs.Common.{◌≡◌, ℕ, List, ap, subst, arith}
 use mathlib.Core.Option.{some}
 use lib.ListN.{get_elem?}
 use Rattle.g1_race_words.specs.Rule.{mark_word}
 use Rattle.g1_race.specs.Clearing.{IsEmptied}
-use Rattle.g1_race.specs.Refining.{RefinesCard}
+use Rattle.g1_race.specs.Refining.{AreRefined, RefinesCard}
 use Rattle.g1_race_words.proofs.AtBeginning.{never_both}
 use Rattle.g1_race.proofs.ClearWords.{none_behind}
 use Rattle.g1_race.proofs.AtPause.{paused_same}
 use Rattle.g1_race.proofs.NextCards.{marked_word, unmarked_word}
 use Rattle.g1_race.proofs.PauseWords.{refined_none, refined_next, refined_past}
 use Rattle.g1_race.proofs.FlagWords.{refined_emptied, unflagged}
+use Rattle.g1_race.proofs.paused.drain.refine_cards.Goals.{In_default}
 use Rattle.g1_race.proofs.paused.drain.refine_cards.Goals as goal
 
 pub loop-card-init : goal.loop-card-init
@@ -42,23 +44,24 @@ empty_row-requires-clause-seat c = paused_same _ _ c.loop-card.seat c.next_marke
 pub empty_row-requires-clause-none : goal.empty_row-requires-clause-none
 empty_row-requires-clause-none c p = none_behind c.args.race.now.shape c.next_marked.new.seat.me.0.began_words p (paused_same _ _ c.loop-card.seat c.next_marked.new.seat c.next_marked.ensures.seat.0 c.next_marked.ensures.seat.1 c.loop-card.invariant.seat).begun
 
+-- no card is left that is dirty
+all : (c : In_default) → AreRefined c.args.race.now.shape c.args.seat.now.me.0.began_words c.loop-card.seat.me.0.began_words c.args.race.now.shape.cards
+all c =
+    let k = c.args.race.now.shape in
+    let mid = c.loop-card.seat.me.0.began_words in
+    let i = c.loop-card.invariant in
+    refined_past k c.args.seat.now.me.0.began_words mid c.loop-card.from k.cards i.seat.begun i.within (λ d le lt below at. unmarked_word k mid d (c.in_default.ensures.next d le lt) at) i.refined
+
 pub empty_row-requires-clause-clean : goal.empty_row-requires-clause-clean
 empty_row-requires-clause-clean c e d lt at =
     let k = c.args.race.now.shape in
-    let i = c.loop-card.invariant in
-    let mid = c.loop-card.seat.me.0.began_words in
-    let refined = refined_past k c.args.seat.now.me.0.began_words mid c.loop-card.from k.cards i.seat.begun i.within (λ f le up below m. unmarked_word k mid f (c.in_default.ensures.next f le up) m) i.refined in
-    never_both mid (mark_word k d) (refined.clean d lt lt) (subst (λ (l : List ℕ). get_elem? l (mark_word k d) ≡ some 1) (ap (λ m. m.0.began_words) c.next_marked.ensures.seat.1) at)
+    never_both c.loop-card.seat.me.0.began_words (mark_word k d) ((all ((goal.at.empty_row-requires-clause-clean c).In_default)).clean d lt lt) (subst (λ (l : List ℕ). get_elem? l (mark_word k d) ≡ some 1) (ap (λ m. m.0.began_words) c.next_marked.ensures.seat.1) at)
 
 pub returns-clause-refined : goal.returns-clause-refined
 returns-clause-refined c =
     let k = c.args.race.now.shape in
-    let i = c.loop-card.invariant in
-    let old = c.args.seat.now.me.0.began_words in
-    let mid = c.loop-card.seat.me.0.began_words in
     let new = c.empty_row.new.seat.me.0.began_words in
-    let refined = refined_past k old mid c.loop-card.from k.cards i.seat.begun i.within (λ d le lt below at. unmarked_word k mid d (c.in_default.ensures.next d le lt) at) i.refined in
-    refined_emptied k old mid new k.cards refined (subst (λ (l : List ℕ). IsEmptied k l new k.regions k.row) (ap (λ m. m.0.began_words) c.next_marked.ensures.seat.1) c.empty_row.ensures.emptied)
+    refined_emptied k c.args.seat.now.me.0.began_words c.loop-card.seat.me.0.began_words new k.cards (all ((goal.at.returns-clause-refined c).In_default)) (subst (λ (l : List ℕ). IsEmptied k l new k.regions k.row) (ap (λ m. m.0.began_words) c.next_marked.ensures.seat.1) c.empty_row.ensures.emptied)
 
 pub returns-clause-flags : goal.returns-clause-flags
 returns-clause-flags c = unflagged c.args.race.now.shape c.next_marked.new.seat.me.0.began_words c.empty_row.new.seat.me.0.began_words c.args.race.now.shaped c.empty_row.ensures.emptied
