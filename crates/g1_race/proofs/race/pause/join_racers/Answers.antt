@@ -1,33 +1,16 @@
-use Rattle.std.proofs.Common.{◌≡◌, ◌-◌, ◌+◌, ◌<◌, length, get_or, map, take, ap, ◌∙◌, arith}
-use Rattle.std.proofs.lemmas.List.{get_or-set_other}
+-- The last racer's seat that is left is joined.
+use Rattle.std.proofs.Common.{◌-◌, ap, ◌∙◌, arith}
 use Rattle.std.proofs.Math.Seq.{map-set_same}
 use Rattle.atomic_table.specs.declared.shared.Seat.{Seat}
 use Rattle.g1_race_words.specs.declared.view.View.{View}
-use Rattle.g1_race_words.specs.Steps.{both}
-use Rattle.g1_race.specs.Race.{collected}
+use Rattle.g1_race.specs.declared.race.Racer.{Racer}
 use Rattle.g1_race.specs.Members.{racer_view, racer_log}
-use Rattle.g1_race.proofs.Collected.{collected_next}
+use Rattle.g1_race.proofs.Collected.{joined_next}
 use Rattle.g1_race.proofs.race.pause.join_racers.Goals as goal
 
 pub loop-left-preserved : goal.loop-left-preserved
-loop-left-preserved c =
-    let i = c.loop-left.invariant in
-    let j = c.join.ensures in
-    let n = c.loop-left.left - 1 in
-    let old = c.args.racers.now.items in
-    let racer = c.index_mut-racer.result.now in
-    let before = c.loop-left.pause_seat.me.0 in
-    let next : c.loop-left.left ≡ n + 1 = omega (arith, c.loop-left-test.true) in
-    let here : n < length old = omega (arith, next, i.low, i.len, c.args.racers.now.ok.0) in
-    let is : racer ≡ get_or old n racer = c.index_mut-racer.ensures.value ∙ i.rest n racer (omega (arith, next)) in
-    record {
-      table = j.table ∙ i.table;
-      hands = ap (λ me. me.1) j.view ∙ i.hands;
-      view = ap (λ me. collected (map racer_view (take n old)) me.0) j.view
-          ∙ (ap (λ (s : Seat (Unit {0}) View). collected (map racer_view (take n old)) (both before s.me.0)) c.replace-seat.ensures.value
-          ∙ (collected_next racer_view old n c.loop-left.left racer before next here is ∙ i.view));
-      len = i.len;
-      low = omega (arith, next, i.low);
-      rest = λ k d lt. get_or-set_other c.loop-left.racers.items n k _ d (omega (arith, lt)) ∙ i.rest k d (omega (arith, lt));
-      logs = map-set_same racer_log c.loop-left.racers.items n _ racer (ap racer_log c.index_mut-racer.ensures.value) ∙ i.logs;
-    }
+loop-left-preserved c = record {
+  joined = joined_next Racer racer_view c.args.racers.now.items c.loop-left.racers.items _ _ c.args.pause_seat.now c.loop-left.pause_seat c.join.new.seat c.loop-left.left c.index_mut-racer.result.now _ _ c.loop-left.invariant.joined (omega (arith, c.loop-left-test.true)) (omega (arith, c.args.racers.now.ok.0))
+      c.index_mut-racer.ensures.value (ap (λ (s : Seat (Unit {0}) View). s.me.0) c.replace-seat.ensures.value) c.join.ensures.table c.join.ensures.view;
+  logs = map-set_same racer_log c.loop-left.racers.items (c.loop-left.left - 1) _ c.index_mut-racer.result.now (ap racer_log c.index_mut-racer.ensures.value) ∙ c.loop-left.invariant.logs;
+}
