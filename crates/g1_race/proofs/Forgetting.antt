@@ -78,9 +78,9 @@ module _ (k : Shape) (words : List ℕ) (x : ℕ × ℕ) where
       clear = λ y py e b. same_place y (ap (bit_word k) e) (ap (bit_place k) e) b;
     }
 
--- the word as the call writes it
-pub without_found : (k : Shape) (words : List ℕ) (x : ℕ × ℕ) (at place found : ℕ) → at ≡ bit_word k x → place ≡ bit_place k x → get_elem? words at ≡ some found → set words at (bit_and found (bit_not w64 (1 * 2 ^ place % 2 ^ 64))) ≡ without k words x
-without_found k words x at place found e f here = λ i. set words (e i) (bit_and ((sym (reads_as words at found 0 here) ∙ ap (λ (j : ℕ). get_or words j 0) e) i) (bit_not w64 (1 * 2 ^ f i % 2 ^ 64)))
+-- the word as the call writes it, over the words that it read
+pub without_found : (k : Shape) (words seen : List ℕ) (x : ℕ × ℕ) (at place found : ℕ) → seen ≡ words → at ≡ bit_word k x → place ≡ bit_place k x → get_elem? words at ≡ some found → set seen at (bit_and found (bit_not w64 (1 * 2 ^ place % 2 ^ 64))) ≡ without k words x
+without_found k words seen x at place found same e f here = λ i. set (same i) (e i) (bit_and ((sym (reads_as words at found 0 here) ∙ ap (λ (j : ℕ). get_or words j 0) e) i) (bit_not w64 (1 * 2 ^ f i % 2 ^ 64)))
 
 -- a slot's word among words with the same front
 pub slot_back : (k : Shape) (old new : List ℕ) (p n : ℕ) → front k new ≡ front k old → p < k.slots → get_elem? new p ≡ some n → get_elem? old p ≡ some n

@@ -48,9 +48,9 @@ module _ (k : Shape) (words : List ℕ) (x : ℕ × ℕ) (h : IsBegun (started k
     only = λ y py b. ⊎_elim (λ (c : HasBit k words y). inl c) (λ (e : x ≡ y). inr (inl e)) (bits_back k words x short y h.shaped card py b);
   }
 
--- the word as the call writes it
-pub with_found : (k : Shape) (words : List ℕ) (x : ℕ × ℕ) (at place found : ℕ) → at ≡ bit_word k x → place ≡ bit_place k x → get_elem? words at ≡ some found → set words at (bit_or found (1 * 2 ^ place % 2 ^ 64)) ≡ with_pair k words x
-with_found k words x at place found e f there = λ i. set words (e i) (bit_or ((sym (reads_as words at found 0 there) ∙ ap (λ (j : ℕ). get_or words j 0) e) i) (1 * 2 ^ f i % 2 ^ 64))
+-- the word as the call writes it, over the words that it read
+pub with_found : (k : Shape) (words seen : List ℕ) (x : ℕ × ℕ) (at place found : ℕ) → seen ≡ words → at ≡ bit_word k x → place ≡ bit_place k x → get_elem? words at ≡ some found → set seen at (bit_or found (1 * 2 ^ place % 2 ^ 64)) ≡ with_pair k words x
+with_found k words seen x at place found same e f there = λ i. set (same i) (e i) (bit_or ((sym (reads_as words at found 0 there) ∙ ap (λ (j : ℕ). get_or words j 0) e) i) (1 * 2 ^ f i % 2 ^ 64))
 
 -- the bit as a word that was read has it
 pub bit_read : (k : Shape) (words : List ℕ) (x : ℕ × ℕ) (at place found : ℕ) → at ≡ bit_word k x → place ≡ bit_place k x → get_elem? words at ≡ some found → bit_at found place ≡ bit_at (get_or words (bit_word k x) 0) (bit_place k x)

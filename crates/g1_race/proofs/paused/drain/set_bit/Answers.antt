@@ -1,4 +1,5 @@
-use Rattle.std.proofs.Common.{◌≡◌, ℕ, ◌*◌, ◌%◌, ◌^◌, [], ◌∷◌, List, bit_or, slice_set, sym, ap, ◌∙◌, subst, ⊎_elim}
+-- The pair's bit is set in its word.
+use Rattle.std.proofs.Common.{◌≡◌, ℕ, [], ◌∷◌, List, sym, ap, ◌∙◌, subst, ⊎_elim}
 use Rattle.std.proofs.lemmas.Nat.Bits.{shr_and_one}
 use Rattle.g1_race_words.specs.Rule.{IsBegun, HasBit, started}
 use Rattle.g1_race.specs.Refining.{Notes}
@@ -14,19 +15,9 @@ returns-then-found-place-eq1-clause-notes c =
     notes_same k words c.see-found.new.seat.me.0.began_words (x ∷ []) (ap (λ m. m.0.began_words) c.see-found.ensures.seat.1) (λ y i. ⊎_elim (λ (e : x ≡ y). subst (HasBit k words) e set) (λ (n : ⊥). absurd n) i)
 
 pub put-requires-clause-begun : goal.put-requires-clause-begun
-put-requires-clause-begun c =
-    let k = c.args.race.now.shape in
-    let words = c.args.seat.now.me.0.began_words in
-    let x : ℕ × ℕ = (c.args.card, c.args.region) in
-    let is = ap (λ (l : List ℕ). slice_set l c.bit_of-at.result.0 (bit_or c.see-found.result (1 * 2 ^ c.bit_of-at.result.1 % 2 ^ 64))) (ap (λ m. m.0.began_words) c.see-found.ensures.seat.1)
-    ∙ with_found k words x c.bit_of-at.result.0 c.bit_of-at.result.1 c.see-found.result c.bit_of-at.ensures.word c.bit_of-at.ensures.place c.see-found.ensures.word in
-    subst (λ (l : List ℕ). IsBegun (started k l)) (sym is) (begun_bit k words x c.requires.seat.begun c.requires.card c.requires.row c.requires.proper)
+put-requires-clause-begun c = subst (λ (l : List ℕ). IsBegun (started c.args.race.now.shape l)) (sym (with_found c.args.race.now.shape c.args.seat.now.me.0.began_words _ (c.args.card, c.args.region) c.bit_of-at.result.0 c.bit_of-at.result.1 c.see-found.result (ap (λ m. m.0.began_words) c.see-found.ensures.seat.1) c.bit_of-at.ensures.word c.bit_of-at.ensures.place c.see-found.ensures.word))
+    (begun_bit c.args.race.now.shape c.args.seat.now.me.0.began_words (c.args.card, c.args.region) c.requires.seat.begun c.requires.card c.requires.row c.requires.proper)
 
 pub returns-clause-notes : goal.returns-clause-notes
-returns-clause-notes c =
-    let k = c.args.race.now.shape in
-    let words = c.args.seat.now.me.0.began_words in
-    let x : ℕ × ℕ = (c.args.card, c.args.region) in
-    let is = ap (λ (l : List ℕ). slice_set l c.bit_of-at.result.0 (bit_or c.see-found.result (1 * 2 ^ c.bit_of-at.result.1 % 2 ^ 64))) (ap (λ m. m.0.began_words) c.see-found.ensures.seat.1)
-    ∙ with_found k words x c.bit_of-at.result.0 c.bit_of-at.result.1 c.see-found.result c.bit_of-at.ensures.word c.bit_of-at.ensures.place c.see-found.ensures.word in
-    subst (λ (l : List ℕ). Notes k words l (x ∷ [])) (sym (c.put.ensures.words ∙ is)) (notes_bit k words x c.requires.seat.begun c.requires.card c.requires.row)
+returns-clause-notes c = subst (λ (l : List ℕ). Notes c.args.race.now.shape c.args.seat.now.me.0.began_words l ((c.args.card, c.args.region) ∷ [])) (sym (c.put.ensures.words ∙ with_found c.args.race.now.shape c.args.seat.now.me.0.began_words _ (c.args.card, c.args.region) c.bit_of-at.result.0 c.bit_of-at.result.1 c.see-found.result (ap (λ m. m.0.began_words) c.see-found.ensures.seat.1) c.bit_of-at.ensures.word c.bit_of-at.ensures.place c.see-found.ensures.word))
+    (notes_bit c.args.race.now.shape c.args.seat.now.me.0.began_words (c.args.card, c.args.region) c.requires.seat.begun c.requires.card c.requires.row)
