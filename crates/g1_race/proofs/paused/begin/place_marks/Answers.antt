@@ -1,3 +1,4 @@
+-- The cards before the one that is looked at are dirty where they are pending.
 use Rattle.std.proofs.Common.{◌+◌, ◌≤◌, ℕ, List, sym, ap, ◌∙◌, subst, arith}
 use Rattle.std.specs.FinSet as set_of
 use Rattle.atomic_table.specs.declared.shared.Seat.{Seat}
@@ -14,28 +15,23 @@ loop-number-init c = record { below = omega arith; seat = c.requires.seat; marks
 pub loop-number-preserved : goal.loop-number-preserved
 loop-number-preserved c =
     let k = c.args.race.now.shape in
-    let z = c.args.race.now.table.table_id in
     let t = c.args.core.now.state.table in
     let i = c.loop-number.invariant in
     let old = c.args.seat.now.me.0.began_words in
-    let mid = c.loop-number.seat.me.0.began_words in
     let n = c.loop-number.number in
-    let lt = c.loop-number-test.true in
     let flag = c.is_pending.ensures.did.pending ∙ ap (λ (x : ℕ). set_of.contains t.pending x) c.in-Some.ensures.1 in
+    let done = λ (s : Seat (Unit {0}) View). record { below : n + 1 ≤ k.cards; seat : IsPaused c.args.race.now.table.table_id k s; marks : AreMarked k t old s.me.0.began_words (n + 1) } in
     elim c.if-is_pending.branch [
-      | then-is_pending w ↦ subst (λ (s : Seat (Unit {0}) View). record { below : n + 1 ≤ k.cards; seat : IsPaused z k s; marks : AreMarked k t old s.me.0.began_words (n + 1) }) (sym w.seat-is)
-          (record {
-            below = omega (arith, lt);
-            seat = w.dirty.ensures.seat;
-            marks = let d = w.dirty.ensures.dirtied in subst (λ (l : List ℕ). AreMarked k t old l (n + 1)) (sym d.marked)
-                (marked_next k t old d.mid n lt (omega (arith, d.begun.sized)) (sym flag ∙ w.if-is_pending.true) (marked_flag k t old mid d.mid n n d.flagged i.marks));
-          })
-      | else-is_pending w ↦ subst (λ (s : Seat (Unit {0}) View). record { below : n + 1 ≤ k.cards; seat : IsPaused z k s; marks : AreMarked k t old s.me.0.began_words (n + 1) }) (sym w.seat-is)
-          (record {
-            below = omega (arith, lt);
-            seat = i.seat;
-            marks = marked_past k t old mid n lt (c.requires.clean n lt) (sym flag ∙ w.if-is_pending.false) i.marks;
-          })
+      | then-is_pending w ↦ let d = w.dirty.ensures.dirtied in subst done (sym w.seat-is) (record {
+        below = omega (arith, c.loop-number-test.true);
+        seat = w.dirty.ensures.seat;
+        marks = subst (λ (l : List ℕ). AreMarked k t old l (n + 1)) (sym d.marked) (marked_next k t old d.mid n c.loop-number-test.true (omega (arith, d.begun.sized)) (sym flag ∙ w.if-is_pending.true) (marked_flag k t old c.loop-number.seat.me.0.began_words d.mid n n d.flagged i.marks));
+      })
+      | else-is_pending w ↦ subst done (sym w.seat-is) (record {
+        below = omega (arith, c.loop-number-test.true);
+        seat = i.seat;
+        marks = marked_past k t old c.loop-number.seat.me.0.began_words n c.loop-number-test.true (c.requires.clean n c.loop-number-test.true) (sym flag ∙ w.if-is_pending.false) i.marks;
+      })
     ]
 
 pub returns-clause-marks : goal.returns-clause-marks

@@ -1,3 +1,4 @@
+-- The slots before the one that is looked at refer to what they refer to in the core.
 use Rattle.std.proofs.Common.{inl, ◌≡◌, ◌+◌, ◌≤◌, ℕ, List, refl, sym, ap, ◌∙◌, subst, arith}
 use Rattle.atomic_table.specs.declared.shared.Seat.{Seat}
 use Rattle.g1_race_words.specs.declared.view.View.{View}
@@ -11,11 +12,15 @@ use Rattle.g1_race_words.specs.Seats.{IsPaused}
 use Rattle.g1_race.proofs.AtPause.{begun_placed}
 use Rattle.g1_race.proofs.Placing.{placed_none, placed_next, placed_past, placed_less, covered_on}
 use Rattle.g1_race.proofs.CopiedTable.{word_bound}
-use Rattle.g1_race.proofs.paused.begin.place_slots.Goals.{then-word-ne0, else-word-ne0}
+use Rattle.g1_race.proofs.paused.begin.place_slots.Goals.{After-word_of-word, then-word-ne0, else-word-ne0}
 use Rattle.g1_race.proofs.paused.begin.place_slots.Goals as goal
 
 pub loop-number-init : goal.loop-number-init
 loop-number-init c = record { below = omega arith; seat = c.requires.seat; slots = placed_none _ _ _; same = record { state = refl; settings = refl } }
+
+-- the word is that of the slot's reference
+word : (c : After-word_of-word) → c.word_of-word.result ≡ word_of (target_of c.args.core.now.state.table c.loop-number.number)
+word c = c.word_of-word.ensures ∙ ap word_of (c.target.ensures.did.answer ∙ ((λ j. let q : State = c.loop-number.invariant.same.state j in target_of q.table c.in-Some.slot) ∙ ap (λ (p : ℕ). target_of c.args.core.now.state.table p) c.in-Some.ensures.1))
 
 pub put-requires-clause-begun : goal.put-requires-clause-begun
 put-requires-clause-begun c =
@@ -25,41 +30,38 @@ put-requires-clause-begun c =
     let i = c.loop-number.invariant in
     let n = c.loop-number.number in
     let lt = c.loop-number-test.true in
-    let same : c.target.new.self.state ≡ s = ap (λ (m : Machine). m.state) c.target.ensures.did.machine ∙ i.same.state in
-    let sound : IsSound s = subst IsSound same c.target.ensures.later.sound in
-    let word = c.word_of-word.ensures ∙ ap word_of (c.target.ensures.did.answer ∙ ((λ j. let q : State = i.same.state j in target_of q.table c.in-Some.slot) ∙ ap (λ (p : ℕ). target_of s.table p) c.in-Some.ensures.1)) in
+    let is = word ((goal.at.put-requires-clause-begun c).After-word_of-word) in
+    let sound : IsSound s = subst IsSound (ap (λ (m : Machine). m.state) c.target.ensures.did.machine ∙ i.same.state) c.target.ensures.later.sound in
     let slots : k.slots ≡ slot_count s.table.layout = ap (λ (x : Shape). x.slots) race.laid ∙ ap slot_count c.requires.layout in
     let bound : word_of (target_of s.table n) ≤ slot_count s.table.layout = word_bound s n sound (omega (arith, lt, slots)) in
-    begun_placed k c.loop-number.seat.me.0.began_words n c.word_of-word.result lt (inl (omega (arith, word, bound, slots)))
-    (covered_on k s.table c.args.seat.now.me.0.began_words c.loop-number.seat.me.0.began_words n race.shaped i.slots c.requires.covered n c.word_of-word.result lt word) i.seat.begun
+    begun_placed k c.loop-number.seat.me.0.began_words n c.word_of-word.result lt (inl (omega (arith, is, bound, slots)))
+    (covered_on k s.table c.args.seat.now.me.0.began_words c.loop-number.seat.me.0.began_words n race.shaped i.slots c.requires.covered n c.word_of-word.result lt is) i.seat.begun
 
 pub loop-number-preserved : goal.loop-number-preserved
 loop-number-preserved c =
-    let k = c.args.race.now.shape in
-    let z = c.args.race.now.table.table_id in
+    let race = c.args.race.now in
+    let k = race.shape in
     let t = c.args.core.now.state.table in
     let i = c.loop-number.invariant in
     let old = c.args.seat.now.me.0.began_words in
     let mid = c.loop-number.seat.me.0.began_words in
     let n = c.loop-number.number in
-    let lt = c.loop-number-test.true in
-    let word = c.word_of-word.ensures ∙ ap word_of (c.target.ensures.did.answer ∙ ((λ j. let q : State = i.same.state j in target_of q.table c.in-Some.slot) ∙ ap (λ (p : ℕ). target_of t p) c.in-Some.ensures.1)) in
+    let is = word ((goal.at.loop-number-preserved c).After-word_of-word) in
     let same : IsSame c.args.core.now c.target.new.self = record { state = ap (λ (m : Machine). m.state) c.target.ensures.did.machine ∙ i.same.state; settings = ap (λ (m : Machine). m.settings) c.target.ensures.did.machine ∙ i.same.settings } in
+    let done = λ (s : Seat (Unit {0}) View). record { below : n + 1 ≤ k.slots; seat : IsPaused race.table.table_id k s; slots : ArePlaced k t old s.me.0.began_words (n + 1); same : IsSame c.args.core.now c.target.new.self } in
     elim c.if-word-ne0.branch [
-      | then-word-ne0 w ↦ subst (λ (s : Seat (Unit {0}) View). record { below : n + 1 ≤ k.slots; seat : IsPaused z k s; slots : ArePlaced k t old s.me.0.began_words (n + 1); same : IsSame c.args.core.now c.target.new.self }) (sym w.seat-is)
-          (record {
-            below = omega (arith, lt);
-            seat = w.put.ensures.seat;
-            slots = subst (λ (l : List ℕ). ArePlaced k t old l (n + 1)) (sym w.put.ensures.words) (placed_next k t old mid n c.word_of-word.result lt (omega (arith, i.seat.begun.sized)) word i.slots);
-            same = same;
-          })
-      | else-word-ne0 w ↦ subst (λ (s : Seat (Unit {0}) View). record { below : n + 1 ≤ k.slots; seat : IsPaused z k s; slots : ArePlaced k t old s.me.0.began_words (n + 1); same : IsSame c.args.core.now c.target.new.self }) (sym w.seat-is)
-          (record {
-            below = omega (arith, lt);
-            seat = i.seat;
-            slots = placed_past k t old mid n c.word_of-word.result lt (c.requires.null n lt) word w.if-word-ne0.false i.slots;
-            same = same;
-          })
+      | then-word-ne0 w ↦ subst done (sym w.seat-is) (record {
+        below = omega (arith, c.loop-number-test.true);
+        seat = w.put.ensures.seat;
+        slots = subst (λ (l : List ℕ). ArePlaced k t old l (n + 1)) (sym w.put.ensures.words) (placed_next k t old mid n c.word_of-word.result c.loop-number-test.true (omega (arith, i.seat.begun.sized)) is i.slots);
+        same = same;
+      })
+      | else-word-ne0 w ↦ subst done (sym w.seat-is) (record {
+        below = omega (arith, c.loop-number-test.true);
+        seat = i.seat;
+        slots = placed_past k t old mid n c.word_of-word.result c.loop-number-test.true (c.requires.null n c.loop-number-test.true) is w.if-word-ne0.false i.slots;
+        same = same;
+      })
     ]
 
 pub returns-clause-slots : goal.returns-clause-slots

@@ -1,3 +1,4 @@
+-- The pairs, the marks and the slots become those of the core, one after another.
 use Rattle.std.proofs.Common.{◌≡◌, All, sym, ap, ◌∙◌, subst}
 use Rattle.g1_layout.specs.Shape as layout
 use Rattle.g1_core.specs.Adoption.{IsPairOf}
@@ -15,33 +16,24 @@ null_words h i e null = ap (λ (x : Pause). x.words) e ∙ (ap (λ (b : Start). 
 pub place_pairs-requires-clause-pairs : goal.place_pairs-requires-clause-pairs
 place_pairs-requires-clause-pairs c =
     let race = c.self.inside.race in
-    let lay : race.layout ≡ c.args.core.now.state.table.layout = ap (λ (h : Pause). h.layout) c.self.view_is ∙ c.requires.layout in
-    listed_cross race.layout race.shape c.args.pairs.now race.laid race.shaped (subst (λ (l : layout.Shape). All (IsPairOf l) c.args.pairs.now) (sym lay) c.requires.within)
+    listed_cross race.layout race.shape c.args.pairs.now race.laid race.shaped (subst (λ (l : layout.Shape). All (IsPairOf l) c.args.pairs.now) (sym (ap (λ (h : Pause). h.layout) c.self.view_is ∙ c.requires.layout)) c.requires.within)
 
 pub place_marks-requires-clause-clean : goal.place_marks-requires-clause-clean
 place_marks-requires-clause-clean c =
     let race = c.self.inside.race in
-    let lay : race.layout ≡ c.args.core.now.state.table.layout = ap (λ (h : Pause). h.layout) c.self.view_is ∙ c.requires.layout in
-    let null = null_words _ _ c.self.view_is c.requires.null in
-    clean_marks c.args.core.now.state race.layout race.shape c.self.inside.seat.me.0.began_words c.place_pairs.new.seat.me.0.began_words c.place_pairs.new.seat.me.0.began_words c.args.pairs.now lay race.laid c.layout-layout.ensures.sound race.shaped null c.requires.pairs c.place_pairs.ensures.notes
+    clean_marks c.args.core.now.state race.layout race.shape c.self.inside.seat.me.0.began_words c.place_pairs.new.seat.me.0.began_words c.place_pairs.new.seat.me.0.began_words c.args.pairs.now (ap (λ (h : Pause). h.layout) c.self.view_is ∙ c.requires.layout) race.laid c.layout-layout.ensures.sound race.shaped (null_words _ _ c.self.view_is c.requires.null) c.requires.pairs c.place_pairs.ensures.notes
 
 pub place_slots-requires-clause-null : goal.place_slots-requires-clause-null
 place_slots-requires-clause-null c =
     let race = c.self.inside.race in
-    let lay : race.layout ≡ c.args.core.now.state.table.layout = ap (λ (h : Pause). h.layout) c.self.view_is ∙ c.requires.layout in
-    let null = null_words _ _ c.self.view_is c.requires.null in
-    null_slots c.args.core.now.state race.layout race.shape c.self.inside.seat.me.0.began_words c.place_pairs.new.seat.me.0.began_words c.place_marks.new.seat.me.0.began_words c.args.pairs.now lay race.laid c.layout-layout.ensures.sound race.shaped null c.requires.pairs c.place_pairs.ensures.notes c.place_marks.ensures.marks
+    null_slots c.args.core.now.state race.layout race.shape c.self.inside.seat.me.0.began_words c.place_pairs.new.seat.me.0.began_words c.place_marks.new.seat.me.0.began_words c.args.pairs.now (ap (λ (h : Pause). h.layout) c.self.view_is ∙ c.requires.layout) race.laid c.layout-layout.ensures.sound race.shaped (null_words _ _ c.self.view_is c.requires.null) c.requires.pairs c.place_pairs.ensures.notes c.place_marks.ensures.marks
 
 pub place_slots-requires-clause-covered : goal.place_slots-requires-clause-covered
 place_slots-requires-clause-covered c =
     let race = c.self.inside.race in
-    let lay : race.layout ≡ c.args.core.now.state.table.layout = ap (λ (h : Pause). h.layout) c.self.view_is ∙ c.requires.layout in
-    let null = null_words _ _ c.self.view_is c.requires.null in
-    slots_covered c.args.core.now.state race.layout race.shape c.self.inside.seat.me.0.began_words c.place_pairs.new.seat.me.0.began_words c.place_marks.new.seat.me.0.began_words c.args.pairs.now lay race.laid c.layout-layout.ensures.sound race.shaped null c.requires.pairs c.place_pairs.ensures.notes c.place_marks.ensures.marks
+    slots_covered c.args.core.now.state race.layout race.shape c.self.inside.seat.me.0.began_words c.place_pairs.new.seat.me.0.began_words c.place_marks.new.seat.me.0.began_words c.args.pairs.now (ap (λ (h : Pause). h.layout) c.self.view_is ∙ c.requires.layout) race.laid c.layout-layout.ensures.sound race.shaped (null_words _ _ c.self.view_is c.requires.null) c.requires.pairs c.place_pairs.ensures.notes c.place_marks.ensures.marks
 
 pub returns-clause-table : goal.returns-clause-table
 returns-clause-table c =
     let race = c.self.inside.race in
-    let lay : race.layout ≡ c.args.core.now.state.table.layout = ap (λ (h : Pause). h.layout) c.self.view_is ∙ c.requires.layout in
-    let null = null_words _ _ c.self.view_is c.requires.null in
-    table_copied c.args.core.now.state race.layout race.shape c.self.inside.seat.me.0.began_words c.place_pairs.new.seat.me.0.began_words c.place_marks.new.seat.me.0.began_words c.args.pairs.now lay race.laid c.layout-layout.ensures.sound race.shaped null c.requires.pairs c.place_pairs.ensures.notes c.place_marks.ensures.marks c.place_slots.new.seat.me.0.began_words c.place_slots.ensures.seat.begun.sized c.place_slots.ensures.slots
+    table_copied c.args.core.now.state race.layout race.shape c.self.inside.seat.me.0.began_words c.place_pairs.new.seat.me.0.began_words c.place_marks.new.seat.me.0.began_words c.args.pairs.now (ap (λ (h : Pause). h.layout) c.self.view_is ∙ c.requires.layout) race.laid c.layout-layout.ensures.sound race.shaped (null_words _ _ c.self.view_is c.requires.null) c.requires.pairs c.place_pairs.ensures.notes c.place_marks.ensures.marks c.place_slots.new.seat.me.0.began_words c.place_slots.ensures.seat.begun.sized c.place_slots.ensures.slots
