@@ -1,5 +1,6 @@
 -- What a pause lends is the race that it holds.
 use Rattle.std.proofs.Common.{◌≡◌, ℕ, ◌<◌, List, sym, ap, ◌∙◌, subst, arith}
+use Rattle.g1_layout.specs.Shape.{slot_count}
 use Rattle.g1_core.specs.Table.{Table}
 use Rattle.g1_race_words.specs.declared.view.Shape.{Shape}
 use Rattle.g1_race_words.specs.Rule.{IsBegun, started}
@@ -20,8 +21,15 @@ lent_numbers {region = region} is view = subst (λ (h : Pause). region < h.layou
 pub lent_region : {race held : Race} {words : List ℕ} {logs : List (List ℕ)} {sweepers number region : ℕ} {pause : Pause} → race ≡ held → at_pause_of held words logs sweepers ≡ pause → number ≡ region → region < pause.layout.regions → number < race.shape.regions
 lent_region {race = race} is view same lt = let low = lent_numbers is view lt in omega (arith, low, ap (λ (s : Shape). s.regions) race.laid)
 
+pub lent_slot : {race held : Race} {words : List ℕ} {logs : List (List ℕ)} {sweepers slot : ℕ} {pause : Pause} → race ≡ held → at_pause_of held words logs sweepers ≡ pause → slot < slot_count pause.layout → slot < race.shape.slots
+lent_slot {race = race} is view lt = omega (arith, lt, ap (λ (s : Shape). s.slots) race.laid, ap (λ (h : Pause). slot_count h.layout) (lent_view is view))
+
 pub held_table : {race held : Race} (words : List ℕ) → race ≡ held → table_of (ended race.layout race.shape words) ≡ table_of (ended held.layout held.shape words)
 held_table words = ap (λ (r : Race). table_of (ended r.layout r.shape words))
+
+-- a call that only reads leaves the table
+pub read_table : (held : Race) {words new : List ℕ} {logs : List (List ℕ)} {sweepers : ℕ} {pause : Pause} → new ≡ words → at_pause_of held words logs sweepers ≡ pause → table_of (ended held.layout held.shape new) ≡ table_at pause
+read_table held same view = ap (λ (ws : List ℕ). table_of (ended held.layout held.shape ws)) same ∙ ap table_at view
 
 -- from the table of the race that was lent, before and after, to that of the pause
 pub at_pause : {race held : Race} {words : List ℕ} {logs : List (List ℕ)} {sweepers : ℕ} {pause : Pause} (change : Table → Table → Type 0) (new : List ℕ) → race ≡ held → at_pause_of held words logs sweepers ≡ pause

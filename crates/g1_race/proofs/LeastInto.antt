@@ -1,11 +1,12 @@
 -- The least slot that refers into a region, slot by slot of a card.
-use Rattle.std.proofs.Common.{◌≡◌, ℕ, ◌+◌, ◌*◌, ◌%◌, ◌<◌, ◌≤◌, true, List, div-add-mod', mod-lt, div-lt_iff_lt-mul, Some, sym, ap, ◌∙◌, subst, inl, inr, ⊎_elim, arith}
+use Rattle.std.proofs.Common.{◌≡◌, ℕ, ◌+◌, ◌*◌, ◌%◌, ◌<◌, ◌≤◌, true, false, List, div-add-mod', mod-lt, div-lt_iff_lt-mul, Some, None, eq-eqb, sym, ap, ◌∙◌, subst, inl, inr, ⊎_elim, arith}
 use mathlib.Core.Option.{some, some-injective}
 use native.Mathlib.Decide.{ℕ_discrete}
 use lib.ListN.{get_elem?}
-use Rattle.std.proofs.lemmas.Bool.{cases_lt}
+use Rattle.std.proofs.lemmas.Bool.{cases_lt, true≢false}
 use Rattle.g1_race_words.specs.declared.view.Shape.{Shape}
 use Rattle.g1_race_words.specs.Rule.{IsBegun, IsMarked, HasBit, slot_card, crosses, mark_word, region_at, started}
+use Rattle.g1_race.specs.Telling.{IsNext, is_member}
 use Rattle.g1_race.specs.Clearing.{Into, IsLeastInto, IsLeastOfCard}
 use Rattle.g1_race_words.proofs.PairBits.{card_below}
 
@@ -23,15 +24,35 @@ later k p q pos lt =
     let b : slot_card k q * k.size + q % k.size ≡ q = div-add-mod' q k.size in
     let x : ℕ = slot_card k q * k.size in let r : ℕ = q % k.size in let a' : p < x = a in let b' : x + r ≡ q = b in let goal : p < q = omega arith in goal
 
--- none on the cards below, and the least on this one
-pub least_found : (k : Shape) (words : List ℕ) (card region slot : ℕ) → 0 < k.size → ((p : ℕ) → slot_card k p < card → Into k words region p → ⊥) → IsLeastOfCard k words card region (Some slot) → IsLeastInto k words region (Some slot)
-least_found k words card region slot pos below h = (h.1, λ q i. pick q i (ℕ_discrete (slot_card k q) card))
-  where
-    pick : (q : ℕ) → Into k words region q → Dec (slot_card k q ≡ card) → slot ≤ q
-    pick q i (yes e) = h.2 q e i
-    pick q i (no ne) = elim (cases_lt (slot_card k q) card) [
-      | inl lt ↦ absurd (below q lt i)
-      | inr le ↦ let a : slot < q = later k slot q pos (let e : slot_card k slot ≡ card = h.0 in omega (arith, e, le, ne)) in omega (arith, a)
+-- where no card is dirty, each slot that refers into the region is on one of its members
+module _ (k : Shape) {words read : List ℕ} (same : read ≡ words) (region from : ℕ) (h : IsBegun (started k words)) (clean : (c : ℕ) → c < k.cards → get_elem? words (mark_word k c) ≡ some 1 → ⊥)
+    (none : (p : ℕ) → slot_card k p < from → Into k words region p → ⊥) where
+  none_until : (end : ℕ) → ((c : ℕ) → from ≤ c → c < end → is_member k read region c ≡ false) → (p : ℕ) → slot_card k p < end → Into k words region p → ⊥
+  none_until end no_member p lt x = elim (cases_lt (slot_card k p) from) [
+    | inl before ↦ none p before x
+    | inr le ↦ true≢false (sym (eq-eqb _ 1 (subst (λ (ws : List ℕ). HasBit k ws (slot_card k p, region)) (sym same) (into_bit k words region p h clean x))) ∙ no_member (slot_card k p) le lt)
+  ]
+
+  -- no member is left
+  pub none_left : IsNext (is_member k read region) k.cards from None → IsLeastInto k words region None
+  none_left next p x = none_until k.cards next p (card_below k p h.shaped x.1) x
+
+  module _ (card : ℕ) (next : IsNext (is_member k read region) k.cards from (Some card)) {seen : List ℕ} (still : seen ≡ read) where
+    -- the least on the next one
+    pub least_found : (slot : ℕ) → IsLeastOfCard k seen card region (Some slot) → IsLeastInto k words region (Some slot)
+    least_found slot there = let here = subst (λ (ws : List ℕ). IsLeastOfCard k ws card region (Some slot)) (still ∙ same) there in (here.1, λ q i. elim (cases_lt (slot_card k q) card) [
+      | inl lt ↦ absurd (none_until card next.3 q lt i)
+      | inr le ↦ elim (cases_lt card (slot_card k q)) [
+        | inl past ↦ let a : slot < q = later k slot q h.shaped.1 (let e : slot_card k slot ≡ card = here.0 in omega (arith, e, past)) in omega (arith, a)
+        | inr high ↦ here.2 q (let e : slot_card k q ≡ card = omega (arith, le, high) in e) i
+      ]
+    ])
+
+    -- none is on the next one
+    pub none_past : IsLeastOfCard k seen card region None → (p : ℕ) → slot_card k p < card + 1 → Into k words region p → ⊥
+    none_past there p lt x = let here = subst (λ (ws : List ℕ). IsLeastOfCard k ws card region None) (still ∙ same) there in elim (cases_lt (slot_card k p) card) [
+      | inl low ↦ none_until card next.3 p low x
+      | inr high ↦ here p (let e : slot_card k p ≡ card = omega (arith, high, lt) in e) x
     ]
 
 -- a slot by its card
@@ -58,7 +79,3 @@ none_next k words card region i r at never none j lt x = pick (ℕ_discrete j i)
 
 pub none_on : (k : Shape) (words : List ℕ) (card region i p : ℕ) → 0 < k.size → k.size ≤ i → ((j : ℕ) → j < i → Into k words region (card * k.size + j) → ⊥) → slot_card k p ≡ card → Into k words region p → ⊥
 none_on k words card region i p pos le none e x = none (p % k.size) (let m : p % k.size < k.size = mod-lt p pos in omega (arith, m, le)) (subst (Into k words region) (sym (by_card k p card e)) x)
-
--- card by card
-pub none_below_next : (k : Shape) (words : List ℕ) (card region : ℕ) → ((p : ℕ) → slot_card k p < card → Into k words region p → ⊥) → ((p : ℕ) → slot_card k p ≡ card → Into k words region p → ⊥) → (p : ℕ) → slot_card k p < card + 1 → Into k words region p → ⊥
-none_below_next k words card region below here p lt x = elim (cases_lt (slot_card k p) card) [ inl a ↦ below p a x | inr b ↦ here p (let e : slot_card k p ≡ card = omega (arith, b, lt) in e) x ]

@@ -1,11 +1,11 @@
-use Rattle.std.proofs.Common.{List, ℕ, sym, ap, ◌∙◌, subst}
+use Rattle.std.proofs.Common.{sym, ap, ◌∙◌, subst}
 use Rattle.std.specs.FinSet as set
 use Rattle.g1_core.specs.Table.{Table}
 use Rattle.g1_core.specs.Run.{IsStep}
 use Rattle.g1_core.specs.Calls.{pending_entry}
 use Rattle.g1_core.proofs.QueryLemmas.{pending_step}
-use Rattle.g1_race.specs.Over.{Pause, ended, table_at, table_of}
-use Rattle.g1_race.proofs.Held.{lent_view}
+use Rattle.g1_race.specs.Over.{Pause, table_at}
+use Rattle.g1_race.proofs.Held.{lent_view, read_table}
 use Rattle.g1_race.proofs.paused.Paused.is_pending.Goals as goal
 
 pub returns-clause-pending : goal.returns-clause-pending
@@ -13,6 +13,4 @@ returns-clause-pending g c = c.is_dirty.ensures.dirty ∙ ap (λ (h : Pause). se
 
 pub returns-clause-step : goal.returns-clause-step
 returns-clause-step g c = λ caller.
-    let race = g.R.Holds.held c.self.inside.race in
-    let same = ap (λ (ws : List ℕ). table_of (ended race.layout race.shape ws)) (ap (λ m. m.0.began_words) c.is_dirty.ensures.seat.1) ∙ ap table_at c.self.view_is in
-    subst (λ (t : Table). IsStep (table_at c.args.self.now) (pending_entry caller c.args.card c.is_dirty.result) t) (sym same) (pending_step caller (table_at c.args.self.now) c.args.card c.is_dirty.result c.requires (returns-clause-pending g c))
+    subst (λ (t : Table). IsStep (table_at c.args.self.now) (pending_entry caller c.args.card c.is_dirty.result) t) (sym (read_table (g.R.Holds.held c.self.inside.race) (ap (λ m. m.0.began_words) c.is_dirty.ensures.seat.1) c.self.view_is)) (pending_step caller (table_at c.args.self.now) c.args.card c.is_dirty.result c.requires (returns-clause-pending g c))

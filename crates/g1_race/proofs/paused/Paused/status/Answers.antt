@@ -6,12 +6,12 @@ use Rattle.g1_core.specs.Run.{IsStep}
 use Rattle.g1_core.specs.Calls.{status_entry}
 use Rattle.g1_core.proofs.QueryLemmas.{status_step}
 use Rattle.g1_race.specs.Telling.{is_marked, pair_count}
-use Rattle.g1_race.specs.Over.{Pause, table_at, ended, table_of}
+use Rattle.g1_race.specs.Over.{Pause, table_at}
 use Rattle.g1_race.proofs.Telling.{few}
 use Rattle.g1_race.proofs.NextCards.{cards_fit}
 use Rattle.g1_race.proofs.PauseTable.{pending_len}
 use Rattle.g1_race.proofs.Counting.{count_is, few_recorded}
-use Rattle.g1_race.proofs.Held.{lent_begun, lent_view}
+use Rattle.g1_race.proofs.Held.{lent_begun, lent_view, read_table}
 use Rattle.g1_race.proofs.paused.Paused.status.Goals as goal
 
 pub overflow_cast-pending : goal.overflow_cast-pending
@@ -38,7 +38,5 @@ returns-clause-recorded g c = counted_is g c ∙ (count_is c.race-race.result.no
 
 pub returns-clause-step : goal.returns-clause-step
 returns-clause-step g c = λ caller.
-    let race = g.R.Holds.held c.self.inside.race in
     let status : Status = record { pending = c.count_marked-pending.result; recorded = c.count_pairs-recorded.result } in
-    let same = ap (λ (ws : List ℕ). table_of (ended race.layout race.shape ws)) (ap (λ m. m.0.began_words) (c.count_pairs-recorded.ensures.seat.1 ∙ c.count_marked-pending.ensures.seat.1)) ∙ ap table_at c.self.view_is in
-    subst (λ (t : Table). IsStep (table_at c.args.self.now) (status_entry caller status) t) (sym same) (status_step caller (table_at c.args.self.now) status (returns-clause-pending g c) (returns-clause-recorded g c))
+    subst (λ (t : Table). IsStep (table_at c.args.self.now) (status_entry caller status) t) (sym (read_table (g.R.Holds.held c.self.inside.race) (ap (λ m. m.0.began_words) (c.count_pairs-recorded.ensures.seat.1 ∙ c.count_marked-pending.ensures.seat.1)) c.self.view_is)) (status_step caller (table_at c.args.self.now) status (returns-clause-pending g c) (returns-clause-recorded g c))

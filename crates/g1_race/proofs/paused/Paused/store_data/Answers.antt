@@ -1,5 +1,5 @@
 -- A store of data is one of null to the table.
-use Rattle.std.proofs.Common.{List, ◌≡◌, ◌<◌, ◌≤◌, ◌^◌, ℕ, None, set, sym, ap, ◌∙◌, subst, inr, arith}
+use Rattle.std.proofs.Common.{List, ◌≡◌, ◌<◌, ◌≤◌, ◌^◌, ℕ, None, set, sym, ap, ◌∙◌, subst, inr}
 use Rattle.g1_layout.specs.declared.kind.Kind.TheVariants.{Null}
 use Rattle.g1_layout.specs.Shape.{slot_count}
 use Rattle.g1_race_words.specs.declared.view.Shape.{Shape}
@@ -14,18 +14,15 @@ use Rattle.g1_race.proofs.Ends.{target_data}
 use Rattle.g1_race.proofs.PauseStores.{kind_data, quiet_store, store_step}
 use Rattle.g1_race.proofs.SlotWords.{put_words}
 use Rattle.g1_race.proofs.StoreCalls.{data_crosses}
-use Rattle.g1_race.proofs.Held.{held_table, lent_begun, lent_view}
+use Rattle.g1_race.proofs.Held.{held_table, lent_begun, lent_slot, lent_view}
 use Rattle.g1_race.proofs.paused.Paused.store_data.Goals as goal
 
 pub put-requires-clause-begun : goal.put-requires-clause-begun
 put-requires-clause-begun g c =
-    let race = c.race-race.result.now in
-    let k = race.shape in
+    let k = c.race-race.result.now.shape in
     let words = c.self.inside.seat.me.0.began_words in
-    let slots : k.slots ≡ slot_count c.args.self.now.layout = ap (λ (x : Shape). x.slots) race.laid ∙ ap (λ (x : Pause). slot_count x.layout) (lent_view c.race-race.ensures c.self.view_is) in
-    let lt : c.args.slot < k.slots = omega (arith, slots, c.requires.slot) in
     subst (λ (p : ℕ). IsBegun (started k (set words p c.args.word))) (sym c.number.ensures)
-    (begun_placed k words c.args.slot c.args.word lt (inr c.requires.high) (λ cr. absurd (let no_one = data_crosses k c.args.slot c.args.word c.requires.high in cc (cr, no_one))) (lent_begun c.race-race.ensures c.self.invariant.0.begun))
+    (begun_placed k words c.args.slot c.args.word (lent_slot c.race-race.ensures c.self.view_is c.requires.slot) (inr c.requires.high) (λ cr. absurd (let no_one = data_crosses k c.args.slot c.args.word c.requires.high in cc (cr, no_one))) (lent_begun c.race-race.ensures c.self.invariant.0.begun))
 
 pub returns-clause-words : goal.returns-clause-words
 returns-clause-words g c =
@@ -43,23 +40,12 @@ data_stored k l words after h p word laid lt high was is begun then_begun =
     let kind = kind_data k l laid p lt None word back (table_of (ended l k words)) high in
     quiet_store k l laid p lt None word back (table_at h) words after was is begun then_begun Null kind (λ e. cc)
 
+both : (g : _) (c : goal.After-put g) → (Null ≡ kind_of (table_at c.args.self.now) c.args.slot None) × (table_of (ended c.race-race.result.now.layout c.race-race.result.now.shape c.put.new.seat.me.0.began_words) ≡ stored (table_at c.args.self.now) c.args.slot None)
+both g c = data_stored c.race-race.result.now.shape c.race-race.result.now.layout c.self.inside.seat.me.0.began_words _ c.args.self.now c.args.slot c.args.word c.race-race.result.now.laid (lent_slot c.race-race.ensures c.self.view_is c.requires.slot) c.requires.high
+    (ap table_at (lent_view c.race-race.ensures c.self.view_is)) (c.put.ensures.words ∙ (λ i. set c.self.inside.seat.me.0.began_words (c.number.ensures i) c.args.word)) (lent_begun c.race-race.ensures c.self.invariant.0.begun) c.put.ensures.seat.begun
+
 pub returns-clause-table : goal.returns-clause-table
-returns-clause-table g c =
-    let race = c.race-race.result.now in
-    let k = race.shape in
-    let words = c.self.inside.seat.me.0.began_words in
-    let slots : k.slots ≡ slot_count c.args.self.now.layout = ap (λ (x : Shape). x.slots) race.laid ∙ ap (λ (x : Pause). slot_count x.layout) (lent_view c.race-race.ensures c.self.view_is) in
-    let lt : c.args.slot < k.slots = omega (arith, slots, c.requires.slot) in
-    let is = c.put.ensures.words ∙ (λ i. set words (c.number.ensures i) c.args.word) in
-    sym (held_table c.put.new.seat.me.0.began_words c.race-race.ensures) ∙ (data_stored k race.layout words _ c.args.self.now c.args.slot c.args.word race.laid lt c.requires.high (ap table_at (lent_view c.race-race.ensures c.self.view_is)) is (lent_begun c.race-race.ensures c.self.invariant.0.begun) c.put.ensures.seat.begun).1
+returns-clause-table g c = sym (held_table c.put.new.seat.me.0.began_words c.race-race.ensures) ∙ (both g c).1
 
 pub returns-clause-step : goal.returns-clause-step
-returns-clause-step g c = λ caller.
-    let race = c.race-race.result.now in
-    let k = race.shape in
-    let words = c.self.inside.seat.me.0.began_words in
-    let slots : k.slots ≡ slot_count c.args.self.now.layout = ap (λ (x : Shape). x.slots) race.laid ∙ ap (λ (x : Pause). slot_count x.layout) (lent_view c.race-race.ensures c.self.view_is) in
-    let lt : c.args.slot < k.slots = omega (arith, slots, c.requires.slot) in
-    let is = c.put.ensures.words ∙ (λ i. set words (c.number.ensures i) c.args.word) in
-    let r = data_stored k race.layout words _ c.args.self.now c.args.slot c.args.word race.laid lt c.requires.high (ap table_at (lent_view c.race-race.ensures c.self.view_is)) is (lent_begun c.race-race.ensures c.self.invariant.0.begun) c.put.ensures.seat.begun in
-    store_step (table_at c.args.self.now) _ caller c.args.slot None Null c.requires.slot tt r.0 (sym (held_table c.put.new.seat.me.0.began_words c.race-race.ensures) ∙ r.1)
+returns-clause-step g c = λ caller. store_step (table_at c.args.self.now) _ caller c.args.slot None Null c.requires.slot tt (both g c).0 (returns-clause-table g c)

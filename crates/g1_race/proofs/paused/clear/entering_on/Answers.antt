@@ -1,3 +1,4 @@
+-- No slot of the card before the one that is looked at refers into the region.
 use Rattle.std.proofs.Common.{◌≡◌, ℕ, ◌+◌, ◌*◌, List, ap, ◌∙◌, subst, arith}
 use mathlib.Core.Option.{some}
 use lib.ListN.{get_elem?}
@@ -19,19 +20,14 @@ returns-then-enters-clause-least c =
 
 pub loop-i-preserved : goal.loop-i-preserved
 loop-i-preserved c =
-    let race = c.args.race.now in
-    let k = race.shape in
+    let k = c.args.race.now.shape in
     let i = c.loop-i.invariant in
-    let words = c.args.seat.now.me.0.began_words in
     let word = subst (λ (l : List ℕ). get_elem? l (c.args.card * k.size + c.loop-i.i) ≡ some c.see-word.result) (ap (λ m. m.0.began_words) i.me) c.see-word.ensures.word in
     record {
       table = c.see-word.ensures.seat.0 ∙ i.table;
       me = c.see-word.ensures.seat.1 ∙ i.me;
-      none = none_next k words c.args.card c.args.region c.loop-i.i c.see-word.result word (λ b. absurd (let t = c.enters.ensures.1 b in let f = c.if-enters.false in cc (t, f))) i.none;
+      none = none_next k c.args.seat.now.me.0.began_words c.args.card c.args.region c.loop-i.i c.see-word.result word (λ b. absurd (let t = c.enters.ensures.1 b in let f = c.if-enters.false in cc (t, f))) i.none;
     }
 
 pub returns-clause-least : goal.returns-clause-least
-returns-clause-least c =
-    let race = c.args.race.now in
-    let i = c.loop-i.invariant in
-    λ p on x. none_on race.shape c.args.seat.now.me.0.began_words c.args.card c.args.region c.loop-i.i p race.shaped.1 (omega (arith, c.loop-i-test.false)) i.none on x
+returns-clause-least c = λ p on x. none_on c.args.race.now.shape c.args.seat.now.me.0.began_words c.args.card c.args.region c.loop-i.i p c.args.race.now.shaped.1 (omega (arith, c.loop-i-test.false)) c.loop-i.invariant.none on x
