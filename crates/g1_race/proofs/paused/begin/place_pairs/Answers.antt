@@ -1,14 +1,11 @@
-use Rattle.std.proofs.Common.{◌≡◌, ◌<◌, ℕ, [], ◌∷◌, List, length, get_or, take, refl, sym, ap, ◌∙◌, subst, arith}
+use Rattle.std.proofs.Common.{◌≡◌, ◌<◌, ℕ, [], ◌∷◌, List, length, get_or, take, sym, ap, ◌∙◌, subst, arith}
 use mathlib.Core.Option.{some}
 use lib.ListN.{get_elem?}
 use Rattle.g1_race_words.specs.Rule.{In, IsOfCrossing}
 use Rattle.g1_race.specs.Refining.{Notes}
 use Rattle.g1_race_words.proofs.Places.{at_read, contains_in, take_next, take_all}
-use Rattle.g1_race.proofs.PauseWords.{notes_same, notes_then}
+use Rattle.g1_race.proofs.PauseWords.{notes_then}
 use Rattle.g1_race.proofs.paused.begin.place_pairs.Goals as goal
-
-pub loop-pair-init : goal.loop-pair-init
-loop-pair-init c = record { seat = c.requires.seat; notes = notes_same _ _ _ [] refl (λ x i. absurd i) }
 
 item : (xs : List (ℕ × ℕ)) (i : ℕ) (x : ℕ × ℕ) → i < length xs → x ≡ get_or xs i x → get_elem? xs i ≡ some x
 item xs i x lt e = at_read xs i x lt ∙ ap (λ (y : ℕ × ℕ). some y) (sym e)

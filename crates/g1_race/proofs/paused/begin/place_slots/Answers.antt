@@ -1,5 +1,5 @@
 -- The slots before the one that is looked at refer to what they refer to in the core.
-use Rattle.std.proofs.Common.{inl, ◌≡◌, ◌+◌, ◌≤◌, ℕ, List, refl, sym, ap, ◌∙◌, subst, arith}
+use Rattle.std.proofs.Common.{inl, ◌≡◌, ◌+◌, ◌≤◌, ℕ, List, sym, ap, ◌∙◌, subst, arith}
 use Rattle.atomic_table.specs.declared.shared.Seat.{Seat}
 use Rattle.g1_race_words.specs.declared.view.View.{View}
 use Rattle.g1_layout.specs.Shape.{slot_count}
@@ -10,13 +10,10 @@ use Rattle.g1_race.specs.Race.{word_of}
 use Rattle.g1_race.specs.Resumed.{ArePlaced, IsSame}
 use Rattle.g1_race_words.specs.Seats.{IsPaused}
 use Rattle.g1_race.proofs.AtPause.{begun_placed}
-use Rattle.g1_race.proofs.Placing.{placed_none, placed_next, placed_past, placed_less, covered_on}
+use Rattle.g1_race.proofs.Placing.{placed_next, placed_past, placed_less, covered_on}
 use Rattle.g1_race.proofs.CopiedTable.{word_bound}
 use Rattle.g1_race.proofs.paused.begin.place_slots.Goals.{After-word_of-word, then-word-ne0, else-word-ne0}
 use Rattle.g1_race.proofs.paused.begin.place_slots.Goals as goal
-
-pub loop-number-init : goal.loop-number-init
-loop-number-init c = record { below = omega arith; seat = c.requires.seat; slots = placed_none _ _ _; same = record { state = refl; settings = refl } }
 
 -- the word is that of the slot's reference
 word : (c : After-word_of-word) → c.word_of-word.result ≡ word_of (target_of c.args.core.now.state.table c.loop-number.number)

@@ -1,5 +1,5 @@
 -- The card's slots are noted one after another, and then its mark is cleared.
-use Rattle.std.proofs.Common.{◌≡◌, ℕ, suc, ◌+◌, ◌*◌, ◌<◌, ◌++◌, List, [], get_or, refl, sym, ap, ◌∙◌, subst, arith}
+use Rattle.std.proofs.Common.{◌≡◌, ℕ, suc, ◌+◌, ◌*◌, ◌<◌, ◌++◌, List, get_or, sym, ap, ◌∙◌, subst, arith}
 use mathlib.Core.Option.{some}
 use lib.ListN.{get_elem?}
 use Rattle.g1_race_words.specs.declared.view.Shape.{Shape}
@@ -8,12 +8,9 @@ use Rattle.g1_race.specs.Refining.{Notes, RefinesCard, card_pairs}
 use Rattle.g1_race_words.proofs.Places.{reads_as}
 use Rattle.g1_race.proofs.SweepCalls.{slot_below}
 use Rattle.g1_race.proofs.AtPause.{paused_same}
-use Rattle.g1_race.proofs.PauseWords.{notes_same, notes_then, begun_cleaned, refined_is}
+use Rattle.g1_race.proofs.PauseWords.{notes_then, begun_cleaned, refined_is}
 use Rattle.g1_race.proofs.paused.drain.refine_card.Goals.{After-loop-i, In-loop-i}
 use Rattle.g1_race.proofs.paused.drain.refine_card.Goals as goal
-
-pub loop-i-init : goal.loop-i-init
-loop-i-init c = record { seat = c.requires.seat; notes = notes_same _ _ _ [] refl (λ x i. absurd i); below = omega arith }
 
 below : (c : In-loop-i) → c.args.card * c.args.race.now.shape.size + c.loop-i.i < c.args.race.now.shape.slots
 below c = slot_below c.args.race.now.shape c.args.card c.loop-i.i c.args.race.now.shaped c.requires.card c.loop-i-test.true
@@ -50,9 +47,6 @@ loop-i-preserved c =
           (notes_then k old mid new (card_pairs k old c.args.card c.loop-i.i) (pair_at k p c.see-word.result) i.notes step);
       below = omega (arith, c.loop-i-test.true);
     }
-
-pub put-requires-clause-seat : goal.put-requires-clause-seat
-put-requires-clause-seat c = c.loop-i.invariant.seat
 
 -- all slots are noted
 noted : (c : After-loop-i) → Notes c.args.race.now.shape c.args.seat.now.me.0.began_words c.loop-i.seat.me.0.began_words (card_pairs c.args.race.now.shape c.args.seat.now.me.0.began_words c.args.card c.args.race.now.shape.size)

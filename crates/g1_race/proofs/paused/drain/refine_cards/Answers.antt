@@ -9,13 +9,10 @@ use Rattle.g1_race_words.proofs.AtBeginning.{never_both}
 use Rattle.g1_race.proofs.ClearWords.{none_behind}
 use Rattle.g1_race.proofs.AtPause.{paused_same}
 use Rattle.g1_race.proofs.NextCards.{marked_word, unmarked_word}
-use Rattle.g1_race.proofs.PauseWords.{refined_none, refined_next, refined_past}
+use Rattle.g1_race.proofs.PauseWords.{refined_next, refined_past}
 use Rattle.g1_race.proofs.FlagWords.{refined_emptied, unflagged}
 use Rattle.g1_race.proofs.paused.drain.refine_cards.Goals.{In_default}
 use Rattle.g1_race.proofs.paused.drain.refine_cards.Goals as goal
-
-pub loop-card-init : goal.loop-card-init
-loop-card-init c = record { seat = c.requires.seat; within = omega arith; refined = refined_none _ _ }
 
 pub refine_card-requires-clause-seat : goal.refine_card-requires-clause-seat
 refine_card-requires-clause-seat c = paused_same _ _ c.loop-card.seat c.next_marked.new.seat c.next_marked.ensures.seat.0 c.next_marked.ensures.seat.1 c.loop-card.invariant.seat

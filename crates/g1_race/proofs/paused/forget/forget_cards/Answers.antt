@@ -1,12 +1,6 @@
 use Rattle.std.proofs.Common.{arith}
-use Rattle.g1_race.proofs.Forgetting.{rows_all, rows_next, rows_none, slot_back}
+use Rattle.g1_race.proofs.Forgetting.{rows_all, rows_next, slot_back}
 use Rattle.g1_race.proofs.paused.forget.forget_cards.Goals as goal
-
-pub loop-region-init : goal.loop-region-init
-loop-region-init c = record { seat = c.requires.seat; unset = rows_none _ _ _ _ }
-
-pub forget_row-requires-clause-seat : goal.forget_row-requires-clause-seat
-forget_row-requires-clause-seat c = c.loop-region.invariant.seat
 
 pub forget_row-requires-clause-closed : goal.forget_row-requires-clause-closed
 forget_row-requires-clause-closed c = λ p n lt at cr le below. c.requires.closed p n lt (slot_back c.args.race.now.shape c.args.seat.now.me.0.began_words c.loop-region.seat.me.0.began_words p n c.loop-region.invariant.unset.front lt at) cr le below
@@ -16,9 +10,6 @@ loop-region-preserved c = record {
   seat = c.forget_row.ensures.seat;
   unset = rows_next c.args.race.now.shape c.args.seat.now.me.0.began_words c.loop-region.seat.me.0.began_words c.forget_row.new.seat.me.0.began_words c.args.first c.args.end c.loop-region.region c.loop-region.invariant.unset c.forget_row.ensures.unset;
 }
-
-pub returns-clause-seat : goal.returns-clause-seat
-returns-clause-seat c = c.loop-region.invariant.seat
 
 pub returns-clause-unset : goal.returns-clause-unset
 returns-clause-unset c = rows_all c.args.race.now.shape c.args.seat.now.me.0.began_words c.loop-region.seat.me.0.began_words c.args.first c.args.end c.loop-region.region (omega (arith, c.loop-region-test.false)) c.loop-region.invariant.unset

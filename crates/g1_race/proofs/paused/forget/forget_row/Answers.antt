@@ -3,11 +3,8 @@ use Rattle.std.proofs.Common.{◌≡◌, ℕ, List, refl, ap, ◌∙◌, subst, 
 use Rattle.g1_race_words.specs.Rule.{front}
 use Rattle.g1_race.specs.Clearing.{AreUnset}
 use Rattle.g1_race.proofs.AtPause.{paused_same}
-use Rattle.g1_race.proofs.Forgetting.{row_next, row_none, row_past, slot_back}
+use Rattle.g1_race.proofs.Forgetting.{row_next, row_past, slot_back}
 use Rattle.g1_race.proofs.paused.forget.forget_row.Goals as goal
-
-pub loop-card-init : goal.loop-card-init
-loop-card-init c = record { seat = c.requires.seat; low = omega arith; within = c.requires.within.0; unset = row_none _ _ _ _ }
 
 pub returns-then-card-end-clause-seat : goal.returns-then-card-end-clause-seat
 returns-then-card-end-clause-seat c = paused_same _ _ c.loop-card.seat c.next_member.new.seat c.next_member.ensures.seat.0 c.next_member.ensures.seat.1 c.loop-card.invariant.seat
@@ -39,9 +36,6 @@ loop-card-preserved c =
       unset = row_next c.args.race.now.shape c.args.seat.now.me.0.began_words mid new c.args.region c.args.first c.in-Some.card (omega (arith, i.low, next.0)) (row_past c.args.race.now.shape c.args.seat.now.me.0.began_words mid mid c.args.region c.args.first c.loop-card.from c.in-Some.card refl next.0 next.3 i.unset)
           (subst (λ (ws : List ℕ). AreUnset c.args.race.now.shape ws new (λ x. x ≡ (c.in-Some.card, c.args.region))) (ap (λ m. m.0.began_words) c.next_member.ensures.seat.1) c.clear_bit.ensures.unset);
     }
-
-pub loop-card-smaller : goal.loop-card-smaller
-loop-card-smaller c = let next = c.in-Some.ensures.next in omega (arith, next.0, c.if-card-end.false)
 
 pub returns-clause-seat : goal.returns-clause-seat
 returns-clause-seat c = paused_same _ _ c.loop-card.seat c.next_member.new.seat c.next_member.ensures.seat.0 c.next_member.ensures.seat.1 c.loop-card.invariant.seat

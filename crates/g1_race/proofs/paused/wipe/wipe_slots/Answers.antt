@@ -16,12 +16,6 @@ out_of : (first i q : ℕ) → (q < first) ⊎ (first + (i + 1) ≤ q) → (q �
 out_of first i q (inl low) = ((λ e. absurd (omega (arith, low, e))), inl low)
 out_of first i q (inr high) = ((λ e. absurd (omega (arith, high, e))), inr (omega (arith, high)))
 
-pub loop-i-init : goal.loop-i-init
-loop-i-init c = record { seat = c.requires.seat; table = refl; null = λ j lt. absurd (omega (arith, lt)); other = λ p out. refl }
-
-pub put-requires-clause-seat : goal.put-requires-clause-seat
-put-requires-clause-seat c = c.loop-i.invariant.seat
-
 pub put-requires-clause-word : goal.put-requires-clause-word
 put-requires-clause-word c = let a = slot_in c.args.race.now.shape c.args.region c.loop-i.i c.args.race.now.shaped c.requires.region c.loop-i-test.true in omega (arith, a)
 
@@ -59,9 +53,6 @@ returns-clause-table c =
     let k = race.shape in
     let old = table_of (ended race.layout k c.args.seat.now.me.0.began_words) in
     c.loop-i.invariant.table ∙ ap (λ (n : ℕ). nulled (c.args.region * k.span) n old) (let e : c.loop-i.i ≡ k.span = omega (arith, c.loop-i-test.false) in e) ∙ ap (λ (s : Shape). nulled (c.args.region * s.span) s.span old) race.laid
-
-pub returns-clause-null : goal.returns-clause-null
-returns-clause-null c = λ j lt. c.loop-i.invariant.null j (omega (arith, lt, c.loop-i-test.false))
 
 pub returns-clause-other : goal.returns-clause-other
 returns-clause-other c =

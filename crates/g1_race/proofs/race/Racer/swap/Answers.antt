@@ -1,4 +1,4 @@
-use Rattle.std.proofs.Common.{◌≡◌, ap, arith, sym}
+use Rattle.std.proofs.Common.{◌≡◌, ap, arith}
 use Rattle.g1_layout.specs.Shape.{slot_count}
 use Rattle.g1_race_words.specs.declared.view.Shape.{Shape}
 use Rattle.g1_race.proofs.race.Racer.swap.Goals as goal
@@ -8,6 +8,3 @@ refers_to-requires-clause-low c =
     let race = c.args.race.now in
     let slots : race.shape.slots ≡ slot_count race.layout = ap (λ (k : Shape). k.slots) race.laid in
     omega (arith, slots, race.shaped.3)
-
-pub returns-clause-view : goal.returns-clause-view
-returns-clause-view c = record { old = c.write-kind.result.1; found = c.write-kind.ensures.found; refers = sym c.refers_to.ensures.target; view = c.write-kind.ensures.view }
