@@ -8,7 +8,6 @@ use Rattle.atomic_table.specs.Table.{Me}
 use Rattle.atomic_table.specs.declared.shared.Seat.{Seat}
 use Rattle.g1_race_words.specs.declared.view.Shape.{Shape}
 use Rattle.g1_race_words.specs.declared.view.View.{View}
-use Rattle.g1_race.specs.declared.race.Race.{Race}
 use Rattle.g1_race_words.specs.Rule.{IsWord, IsBegun, IsFlagged, IsMarked, HasBit, flag, mark_word, slot_card, region_at, crosses, started}
 use Rattle.g1_race_words.specs.Steps.{frozen_seat}
 use Rattle.g1_race_words.specs.Seats.{IsPaused}
@@ -17,10 +16,6 @@ use Rattle.g1_race_words.proofs.PairBits.{SameBits, same_bits, bit_as}
 use Rattle.g1_race_words.proofs.Flags.{are_flagged}
 use Rattle.g1_race_words.proofs.CoverStores.{mark_apart}
 use Rattle.g1_race_words.proofs.Unchanged.{bounded_same, bounded_wrote, same_slots_at_mark}
-
--- the table's shape is the race's
-pub paused_at : (race : Race) (s : Seat (Unit {0}) View) → IsPaused race.table.table_id race.shape s → IsPaused race.table.table_id race.table.shape s
-paused_at race s = subst (λ (k : Shape). IsPaused race.table.table_id k s) (sym race.key_is)
 
 -- what a race can begin with stays so where a card is dirtied, and where a slot is written whose card is dirty if it must be
 

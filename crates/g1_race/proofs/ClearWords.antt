@@ -112,9 +112,6 @@ emptied_past k old words region i found at none g = record { front = g.front; ke
 pub none_behind : (k : Shape) (words : List ℕ) (p : ℕ) → IsBegun (started k words) → Into k words k.regions p → ⊥
 none_behind k words p h i = absurd (let pair = crossing_pair k p i.0 h.shaped i.1 (h.bounded p i.0 i.1 i.2) i.3 in omega (arith, pair.1, i.4))
 
-pub emptied_none : (k : Shape) (old : List ℕ) (region : ℕ) → IsEmptied k old old region 0
-emptied_none k old region = record { front = refl; kept = λ x pair ne b. b; only = λ x pair b. b; clear = λ x pair e lt b. absurd (let n : ℕ = x.0 / 64 in let a : n < 0 = lt in omega (arith, a)) }
-
 pub into_back : (k : Shape) (old new : List ℕ) (region p : ℕ) → front k new ≡ front k old → Into k new region p → Into k old region p
 into_back k old new region p same i = (i.0, i.1, (at_untake old (k.slots + k.cards) p i.0 (subst (λ (l : List ℕ). get_elem? l p ≡ some i.0) same (at_take new (k.slots + k.cards) p i.0 (let lt : p < k.slots = i.1 in omega (arith, lt)) i.2))).1, i.3, i.4)
 

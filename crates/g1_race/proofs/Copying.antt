@@ -1,5 +1,5 @@
 -- A range of slots that is copied, slot by slot.
-use Rattle.std.proofs.Common.{◌≡◌, ◌≢◌, ◌⊎◌, ℕ, suc, ◌+◌, ◌-◌, ◌<◌, ◌≤◌, ◌&&◌, ltb, leb, eqb, get_or, length, List, refl, sym, ap, ◌∙◌, subst, inl, inr, arith, eq-eqb, ne_eqb}
+use Rattle.std.proofs.Common.{◌≡◌, ◌≢◌, ◌⊎◌, ℕ, suc, ◌+◌, ◌-◌, ◌<◌, ◌≤◌, ◌&&◌, ltb, leb, eqb, get_or, length, List, sym, ap, ◌∙◌, subst, inl, inr, arith, eq-eqb, ne_eqb}
 use mathlib.Core.Option.{some}
 use Rattle.std.proofs.lemmas.Bool.{and_from, and_left, and_right, cases_eq, cases_lt, le-leb, le-ltb, lt-leb, lt-ltb}
 use Rattle.g1_core.specs.Table.{target_of}
@@ -38,16 +38,6 @@ pub record CopiesOne (old new : Pause) (from to : ℕ) : Type 0 where
   pub race : IsSameRace old new
   pub words : SlotsBecome (one_word to (get_or old.words from 0)) old new
   pub table : table_at new ≡ stored (table_at old) to (target_of (table_at old) from)
-
-pub copied_none : (pause : Pause) (from to : ℕ) → Copied pause pause from to 0
-copied_none pause from to = record {
-  race = record { layout = refl; shape = refl; address = refl; table_id = refl; logs = refl; sweepers = refl };
-  words = λ p n lt at. at ∙ ap (λ (m : ℕ). some m) (sym (copied_out pause.words from to 0 p n (out p)));
-  table = refl;
-}
-  where
-    out : (p : ℕ) → (p < to) ⊎ (to + 0 ≤ p)
-    out p = elim (cases_lt p to) [ inl low ↦ inl low | inr high ↦ inr (omega (arith, high)) ]
 
 race_then : (old mid new : Pause) → IsSameRace old mid → IsSameRace mid new → IsSameRace old new
 race_then old mid new a b = record {

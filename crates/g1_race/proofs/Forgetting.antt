@@ -1,5 +1,5 @@
 -- Bits of pairs that are cleared, row by row.
-use Rattle.std.proofs.Common.{◌≡◌, ◌≢◌, ℕ, ◌+◌, ◌*◌, ◌/◌, ◌%◌, ◌^◌, ◌<◌, ◌≤◌, true, false, List, length, set, get_or, bit_and, w64, length-set, refl, sym, ap, ◌∙◌, subst, inl, inr, ⊎_elim, arith, eq-eqb}
+use Rattle.std.proofs.Common.{◌≡◌, ◌≢◌, ℕ, ◌+◌, ◌*◌, ◌/◌, ◌%◌, ◌^◌, ◌<◌, ◌≤◌, true, false, List, length, set, get_or, bit_and, w64, length-set, sym, ap, ◌∙◌, subst, inl, inr, ⊎_elim, arith, eq-eqb}
 use mathlib.Core.Option.{some}
 use lib.ListN.{get_elem?}
 use Rattle.std.specs.Int.{bit_at, bit_not}
@@ -91,9 +91,6 @@ slot_back k old new p n same lt at = (at_untake old (k.slots + k.cards) p n (sub
 abbrev pub InRow : ℕ → ℕ → ℕ → ℕ × ℕ → Type 0
 InRow region first end x = (x.1 ≡ region) × (first ≤ x.0) × (x.0 < end)
 
-pub row_none : (k : Shape) (old : List ℕ) (region first : ℕ) → AreUnset k old old (InRow region first first)
-row_none k old region first = record { front = refl; kept = λ x pair never b. b; only = λ x pair b. b; clear = λ x pair i b. absurd (let a : first ≤ x.0 = i.1 in let c : x.0 < first = i.2 in omega (arith, a, c)) }
-
 pub row_past : (k : Shape) (old mid new : List ℕ) (region first from end : ℕ) → new ≡ mid → from ≤ end → ((c : ℕ) → from ≤ c → c < end → is_member k mid region c ≡ false) → AreUnset k old mid (InRow region first from) → AreUnset k old new (InRow region first end)
 row_past k old mid new region first from end same le none h = subst (λ (ws : List ℕ). AreUnset k old ws (InRow region first end)) (sym same) (record {
   front = h.front;
@@ -121,9 +118,6 @@ row_next k old mid new region first card low h g = record {
 
 abbrev pub InRows : ℕ → ℕ → ℕ → ℕ × ℕ → Type 0
 InRows first end rows x = (first ≤ x.0) × (x.0 < end) × (x.1 < rows)
-
-pub rows_none : (k : Shape) (old : List ℕ) (first end : ℕ) → AreUnset k old old (InRows first end 0)
-rows_none k old first end = record { front = refl; kept = λ x pair never b. b; only = λ x pair b. b; clear = λ x pair i b. absurd (let c : x.1 < 0 = i.2 in omega (arith, c)) }
 
 pub rows_next : (k : Shape) (old mid new : List ℕ) (first end row : ℕ) → AreUnset k old mid (InRows first end row) → AreUnset k mid new (InRow row first end) → AreUnset k old new (InRows first end (row + 1))
 rows_next k old mid new first end row h g = record {

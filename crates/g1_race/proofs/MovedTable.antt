@@ -13,10 +13,6 @@ use Rattle.g1_layout.specs.Shape as layout
 use Rattle.g1_layout.specs.Shape.{slot_count, region_of}
 use Rattle.g1_layout.specs.Sets.{pair_cmp}
 use Rattle.g1_core.specs.Table.{Table, enters, moved_target, moved_pair, moved, moved_count}
-use Rattle.g1_core.specs.declared.entry.Call.TheVariants.{Redirect}
-use Rattle.g1_core.specs.declared.entry.Reply.TheVariants as reply
-use Rattle.g1_core.specs.Run.{IsStep}
-use Rattle.g1_race.specs.Evacuating.{AreAllRefined}
 use Rattle.g1_core.proofs.SetLemmas.{pair_total, pair_exact, listed, unlisted, Kept, from_kept, to_kept}
 use Rattle.g1_core.proofs.TableLemmas.{slot_of}
 use Rattle.g1_race_words.specs.declared.view.Shape.{Shape}
@@ -161,9 +157,3 @@ module _ (k : Shape) (l : layout.Shape) (laid : k ≡ shape_of l k.members) wher
 
     pub count_is : into_count k old from 0 k.slots ≡ moved_count from (table_of (ended l k old))
     count_is = ap (into_count k old from 0) (slots_are k l laid) ∙ (sym (counted (slot_count l) (omega arith)) ∙ ap (count_by (enters l from)) (take_all (enumerate_from 0 refs) (slot_count l) (omega (arith, length-enumerate_from 0 refs, refs_len old b))))
-
-pub redirect_step : (old clean new : Table) (caller from to slots : ℕ) (done : List ℕ) → from < old.layout.regions → to < old.layout.regions → (from ≡ to → ⊥) → AreAllRefined old done clean → new ≡ moved from to clean → slots ≡ moved_count from clean → IsStep old (record { caller = caller; call = Redirect from to; reply = reply.Moved slots; refined = done }) new
-redirect_step old clean new caller from to slots done low high apart all is count = record {
-  allowed = record { numbers = (low, high, apart); refines = all.refinable; answers = (sym (ap (λ (x : Table). x.pending) all.table) ∙ all.clean, count ∙ ap (moved_count from) all.table) };
-  after = is ∙ ap (moved from to) all.table;
-}

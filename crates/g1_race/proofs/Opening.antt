@@ -1,6 +1,5 @@
 -- A race over nulls begins with the opening table.
-use Rattle.std.proofs.Common.{◌≡◌, ℕ, zero, suc, ◌+◌, ◌≤◌, arith, eqb, List, [], ◌∷◌, map, take, drop, Option, None, Result, Ok, Err, refl, ap, ◌∙◌, replicate, ◌++◌}
-use Rattle.std.specs.Prelude.{IfOk}
+use Rattle.std.proofs.Common.{◌≡◌, ℕ, zero, suc, ◌+◌, ◌≤◌, arith, eqb, List, [], ◌∷◌, map, take, drop, Option, None, refl, ap, ◌∙◌, replicate, ◌++◌}
 use Rattle.std.specs.FinSet as set
 use Rattle.g1_heap.specs.declared.mark.Mark.{Mark}
 use Rattle.g1_heap.specs.declared.mark.Mark.TheVariants.{Clean}
@@ -17,10 +16,6 @@ use Rattle.g1_race.specs.Race.{shape_of}
 use Rattle.g1_race.specs.Members.{null_begun}
 use Rattle.g1_race_words.proofs.Listing.{pair_clear}
 use Rattle.g1_race_words.proofs.AtBeginning.{zeros, no_bit, zeros_read}
-
-pub both_ok : {A E : Type 0} {P Q R : A → Type 0} (x : Result A E) → IfOk x P → IfOk x Q → ((a : A) → P a → Q a → R a) → IfOk x R
-both_ok (Ok a) p q f = f a p q
-both_ok (Err e) p q f = tt
 
 null_refs : (n count : ℕ) → n ≤ count → map target_of_word (take n (zeros count)) ≡ replicate {A = Option ℕ} n None
 null_refs zero count le = refl

@@ -99,9 +99,6 @@ module _ (k : Shape) (l : layout.Shape) (laid : k ≡ shape_of l k.members) (p :
         (λ x pair b. set_recorded k l words laid h x pair (bit_as k new words x (λ y. sym (same_bits k words p n (omega (arith, lt)) y)) b))
         (λ x r. let s = recorded_set k l words laid h x r in (s.0, bit_as k words new x (same_bits k words p n (omega (arith, lt))) s.1))
 
-    pub null_table : target ≡ None → table_of (ended l k (set words p n)) ≡ stored (table_of (ended l k words)) p target
-    null_table e = quiet_table (ap (λ (o : Option ℕ). pending_after (kind_of t p o) t.pending (layout.card_of l p)) e)
-
     pub kind_table : (kind : Kind) → kind_of (table_of (ended l k words)) p target ≡ kind → (kind ≡ Logged → ⊥) → table_of (ended l k (set words p n)) ≡ stored (table_of (ended l k words)) p target
     kind_table kind is ne = quiet_table (ap (λ (x : Kind). pending_after x t.pending (layout.card_of l p)) is ∙ plain kind ne)
       where

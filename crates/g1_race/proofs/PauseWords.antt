@@ -167,9 +167,6 @@ module _ (k : Shape) (old mid : List ℕ) (c : ℕ) (was : IsBegun (started k ol
 
 -- one card after another
 
-pub refined_none : (k : Shape) (old : List ℕ) → AreRefined k old old 0
-refined_none k old = record { slots = λ p lt. refl; clean = λ c lt below. absurd (omega (arith, lt)); marks = λ c le below. refl; kept = λ x pair b. b; only = λ x pair b. inl b }
-
 began_back : (k : Shape) (old mid : List ℕ) (x : ℕ × ℕ) → ((p : ℕ) → p < k.slots → get_elem? mid p ≡ get_elem? old p) → BeganInto k mid x → BeganInto k old x
 began_back k old mid x same b = (b.0, b.1, sym (same b.0 b.3.0) ∙ b.2, b.3, b.4)
 

@@ -28,13 +28,7 @@ keeps_same k old new same = record { on = λ x b. bit_as k old new x same b; bac
 keeps_then : (k : Shape) (a b c : List ℕ) → KeepsBits k a b → KeepsBits k b c → KeepsBits k a c
 keeps_then k a b c h g = record { on = λ x t. g.on x (h.on x t); back = λ x pair t. h.back x pair (g.back x pair t) }
 
-keeps_here : (k : Shape) (a : List ℕ) → KeepsBits k a a
-keeps_here k a = record { on = λ x t. t; back = λ x pair t. t }
-
 -- marks
-
-pub marked_none : (k : Shape) (t : Table) (old : List ℕ) → AreMarked k t old old 0
-marked_none k t old = record { slots = λ p lt. refl; marks = λ c lt below. absurd (omega (arith, lt)); later = λ c le lt. refl; bits = keeps_here k old }
 
 -- the flag of a card is set
 pub marked_flag : (k : Shape) (t : Table) (old mid new : List ℕ) (n c : ℕ) → Notes k mid new (flag k c ∷ []) → AreMarked k t old mid n → AreMarked k t old new n
@@ -70,9 +64,6 @@ pub marked_less : (k : Shape) (t : Table) (old new : List ℕ) (n m : ℕ) → n
 marked_less k t old new n m e h = subst (λ (i : ℕ). AreMarked k t old new i) e h
 
 -- slots
-
-pub placed_none : (k : Shape) (t : Table) (old : List ℕ) → ArePlaced k t old old 0
-placed_none k t old = record { slots = λ p lt below. absurd (omega (arith, lt)); later = λ p le lt. refl; marks = λ c lt. refl; bits = keeps_here k old }
 
 -- a slot that refers
 pub placed_next : (k : Shape) (t : Table) (old mid : List ℕ) (n word : ℕ) → n < k.slots → k.slots ≤ length mid → word ≡ word_of (table.target_of t n) → ArePlaced k t old mid n → ArePlaced k t old (set mid n word) (n + 1)
