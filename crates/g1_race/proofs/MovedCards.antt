@@ -54,7 +54,7 @@ module _ (k : Shape) (old mid : List ℕ) (from to low high : ℕ) (begun : IsBe
   abbrev b : ℕ
   b = high * k.size
 
-  pub in_order : low * k.size ≤ high * k.size
+  in_order : low * k.size ≤ high * k.size
   in_order = let x : ℕ = k.size * low in let y : ℕ = k.size * high in let m : x ≤ y = mul-le-mul_left k.size le in let n : ℕ = a in let o : ℕ = b in let e : n ≡ x = omega arith in let f : o ≡ y = omega arith in omega arith
 
   all_slots : high * k.size ≤ k.slots
@@ -87,12 +87,7 @@ module _ (k : Shape) (old mid : List ℕ) (from to low high : ℕ) (begun : IsBe
       none_old p (get_or old p 0) l u lt (here p lt)) in
       ap (into_count k old from 0) e ∙ (count_more k old from 0 x (y - x) ∙ (let i : ℕ = into_count k old from 0 x in let j : ℕ = into_count k old from (0 + x) (y - x) in let z : j ≡ 0 = zero_more in let goal : i + j ≡ i = omega arith in goal))
 
-  -- and then the slots of the card
-  pub on_card : (new : List ℕ) → AreMoved k mid new from to (high * k.size) k.size → AreMoved k old new from to 0 ((high + 1) * k.size)
-  on_card new g = subst (λ (n : ℕ). AreMoved k old new from to 0 n) (let y : ℕ = high * k.size in let e : y + k.size ≡ (high + 1) * k.size = omega arith in e)
-      (moved_then k old mid new from to 0 (high * k.size) k.size apart begun passed (subst (λ (n : ℕ). AreMoved k mid new from to n k.size) (let y : ℕ = high * k.size in let e : y ≡ 0 + y = omega arith in e) g))
-
-  pub on_count : high < k.cards → into_count k old from 0 ((high + 1) * k.size) ≡ into_count k old from 0 (low * k.size) + into_count k mid from (high * k.size) k.size
+  on_count : high < k.cards → into_count k old from 0 ((high + 1) * k.size) ≡ into_count k old from 0 (low * k.size) + into_count k mid from (high * k.size) k.size
   on_count lt =
       let y : ℕ = high * k.size in
       let e : (high + 1) * k.size ≡ y + k.size = omega arith in
@@ -100,6 +95,18 @@ module _ (k : Shape) (old mid : List ℕ) (from to low high : ℕ) (begun : IsBe
       let fits : y + k.size ≤ k.slots = (let x : ℕ = k.size * (high + 1) in let c : ℕ = k.size * k.cards in let m : x ≤ c = mul-le-mul_left k.size (let q : high + 1 ≤ k.cards = omega (arith, lt) in q) in let d : ℕ = k.cards * k.size in let g : d ≡ c = omega arith in let s : k.slots ≡ d = begun.shaped.0 in let j : x ≡ y + k.size = omega arith in omega arith) in
       ap (into_count k old from 0) e ∙ (count_more k old from 0 y k.size ∙ (λ i. passed_count i + (ap (λ (n : ℕ). into_count k old from n k.size) f
       ∙ count_same k old mid from y k.size fits (λ p from_low below. let in_heap : p < k.slots = omega (arith, below, fits) in sym (reads_as mid p (get_or old p 0) 0 (passed.outside p in_heap (inr (let l : y ≤ p = from_low in let goal : 0 + y ≤ p = omega arith in goal)) ∙ here p in_heap)))) i))
+
+  -- and then the slots of the card, among words that a call read
+  pub on_card : (read new : List ℕ) (count more : ℕ) → read ≡ mid → high < k.cards → count ≡ into_count k old from 0 (low * k.size) → count ≤ low * k.size → AreMoved k read new from to (high * k.size) k.size → more ≡ into_count k read from (high * k.size) k.size → more ≤ k.size
+      → AreMoved k old new from to 0 ((high + 1) * k.size) × (count + more ≡ into_count k old from 0 ((high + 1) * k.size)) × (count + more ≤ (high + 1) * k.size)
+  on_card read new count more same lt counted few there then_counted then_few =
+      let y : ℕ = high * k.size in
+      let e : y + k.size ≡ (high + 1) * k.size = omega arith in
+      let f : y ≡ 0 + y = omega arith in (
+        subst (λ (n : ℕ). AreMoved k old new from to 0 n) e (moved_then k old mid new from to 0 (high * k.size) k.size apart begun passed (subst (λ (x : List ℕ × ℕ). AreMoved k x.0 new from to x.1 k.size) (λ i. (same i, f i)) there)),
+        (λ i. counted i + (then_counted ∙ ap (λ (ws : List ℕ). into_count k ws from (high * k.size) k.size) same) i) ∙ sym (on_count lt),
+        (let x : ℕ = low * k.size in let o : x ≤ y = in_order in let g : count ≤ x = few in omega (arith, e, then_few)),
+      )
 
 -- after all of them none is left
 

@@ -1,34 +1,20 @@
-use Rattle.std.proofs.Common.{◌≡◌, ℕ, ◌+◌, ◌*◌, ◌≤◌, List, sym, ap, ◌∙◌, subst, arith}
+-- The slots of the cards before the one that is looked at are moved.
+use Rattle.std.proofs.Common.{ℕ, List, sym, ap, ◌∙◌, subst, arith}
 use Rattle.g1_race.specs.Clearing.{Into}
 use Rattle.g1_race.specs.Moving.{AreMoved, into_count}
 use Rattle.g1_race.proofs.AtPause.{paused_same}
-use Rattle.g1_race.proofs.MovedCards.{in_order, none_into, on_card, on_count, passed, passed_count}
+use Rattle.g1_race.proofs.MovedCards.{none_into, on_card, passed, passed_count}
 use Rattle.g1_race.proofs.paused.redirect.move_references.Goals.{In_default}
 use Rattle.g1_race.proofs.paused.redirect.move_references.Goals as goal
 
 pub loop-card-preserved : goal.loop-card-preserved
 loop-card-preserved c =
-    let race = c.args.race.now in
-    let k = race.shape in
     let i = c.loop-card.invariant in
-    let old = c.args.seat.now.me.0.began_words in
-    let mid = c.loop-card.seat.me.0.began_words in
-    let from = c.args.from in
-    let to = c.args.to in
-    let same = ap (λ m. m.0.began_words) c.next_member.ensures.seat.1 in
-    let card = c.in-Some.card in
     let next = c.in-Some.ensures.next in
-    let new = c.move_on-count.new.seat.me.0.began_words in
-    let step : AreMoved k mid new from to (card * k.size) k.size = subst (λ (ws : List ℕ). AreMoved k ws new from to (card * k.size) k.size) same c.move_on-count.ensures.moved in
-    let counted : c.move_on-count.result ≡ into_count k mid from (card * k.size) k.size = subst (λ (ws : List ℕ). c.move_on-count.result ≡ into_count k ws from (card * k.size) k.size) same c.move_on-count.ensures.count in
-    let order = in_order k old mid from to c.loop-card.next card c.requires.seat.begun c.requires.apart next.0 (omega (arith, next.1)) c.requires.clean i.moved next.3 in
-    record {
-      seat = c.move_on-count.ensures.seat;
-      within = omega (arith, next.1);
-      moved = on_card k old mid from to c.loop-card.next card c.requires.seat.begun c.requires.apart next.0 (omega (arith, next.1)) c.requires.clean i.moved next.3 new step;
-      counted = (λ j. i.counted j + counted j) ∙ sym (on_count k old mid from to c.loop-card.next card c.requires.seat.begun c.requires.apart next.0 (omega (arith, next.1)) c.requires.clean i.moved next.3 next.1);
-      few = (let x : ℕ = c.loop-card.next * k.size in let y : ℕ = card * k.size in let o : x ≤ y = order in let f : c.loop-card.count ≤ x = i.few in let e : (card + 1) * k.size ≡ y + k.size = omega arith in omega (arith, c.move_on-count.ensures.few));
-    }
+    let moves = c.move_on-count.ensures in
+    let step = on_card c.args.race.now.shape c.args.seat.now.me.0.began_words c.loop-card.seat.me.0.began_words c.args.from c.args.to c.loop-card.next c.in-Some.card c.requires.seat.begun c.requires.apart next.0 (omega (arith, next.1)) c.requires.clean i.moved next.3
+    _ c.move_on-count.new.seat.me.0.began_words c.loop-card.count c.move_on-count.result (ap (λ m. m.0.began_words) c.next_member.ensures.seat.1) next.1 i.counted i.few moves.moved moves.count moves.few in
+    record { seat = moves.seat; within = omega (arith, next.1); moved = step.0; counted = step.1; few = step.2 }
 
 -- no card is left that holds into the region
 all : (c : In_default) → AreMoved c.args.race.now.shape c.args.seat.now.me.0.began_words c.loop-card.seat.me.0.began_words c.args.from c.args.to 0 c.args.race.now.shape.slots
