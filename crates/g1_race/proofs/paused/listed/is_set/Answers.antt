@@ -1,4 +1,5 @@
-use Rattle.std.proofs.Common.{ℕ, bit_and, ◌/◌, ◌^◌, sym, ◌∙◌, eq-eqb, ne_eqb}
+-- The bit is read in its word.
+use Rattle.std.proofs.Common.{bit_and, ◌/◌, ◌^◌, sym, ◌∙◌, eq-eqb, ne_eqb}
 use Rattle.std.proofs.lemmas.Nat.Bits.{shr_and_one}
 use native.Mathlib.Decide.{ℕ_discrete}
 use Rattle.g1_race.proofs.PauseWords.{bit_read}
@@ -8,7 +9,6 @@ pub returns-clause-set : goal.returns-clause-set
 returns-clause-set c =
     let k = c.args.race.now.shape in
     let words = c.args.seat.now.me.0.began_words in
-    let n : ℕ = bit_and (c.see.result / 2 ^ c.bit_of-at.result.1) 1 in
     let is = shr_and_one c.see.result c.bit_of-at.result.1 ∙ bit_read k words (c.args.card, c.args.region) c.bit_of-at.result.0 c.bit_of-at.result.1 c.see.result c.bit_of-at.ensures.word c.bit_of-at.ensures.place c.see.ensures.word in
     elim (ℕ_discrete (bit_and (c.see.result / 2 ^ c.bit_of-at.result.1) 1) 1) [
       | yes e ↦ (λ t. sym is ∙ e, λ b. eq-eqb _ 1 e)

@@ -1,29 +1,24 @@
-use Rattle.std.proofs.Common.{◌≡◌, ℕ, ◌+◌, List, length, sym, ap, ◌∙◌, subst, arith}
+-- The count is that of the regions before the one that is looked at.
+use Rattle.std.proofs.Common.{◌≡◌, ℕ, ◌+◌, List, length, sym, ap, ◌∙◌, arith}
 use Rattle.g1_race.specs.Telling.{member_cards, pair_count}
 use Rattle.g1_race.proofs.Counting.{counted, fits}
+use Rattle.g1_race.proofs.paused.next.count_pairs.Goals.{After-count_members-count}
 use Rattle.g1_race.proofs.paused.next.count_pairs.Goals as goal
+
+more : (c : After-count_members-count) → c.count_members-count.result ≡ length (member_cards c.args.race.now.shape c.args.seat.now.me.0.began_words c.loop-region.region)
+more c = c.count_members-count.ensures.count ∙ ap (λ (ws : List ℕ). length (member_cards c.args.race.now.shape ws c.loop-region.region)) (ap (λ m. m.0.began_words) c.loop-region.invariant.me)
 
 pub overflow_add-count : goal.overflow_add-count
 overflow_add-count c =
-    let k = c.args.race.now.shape in
-    let words = c.args.seat.now.me.0.began_words in
-    let i = c.loop-region.invariant in
     let r = c.loop-region.region in
-    let one = subst (λ (ws : List ℕ). c.count_members-count.result ≡ length (member_cards k ws r)) (ap (λ m. m.0.began_words) i.me) c.count_members-count.ensures.count in
-    omega (arith, i.counted, one, counted k words r, fits k words (r + 1) c.args.race.now.shaped (omega (arith, c.loop-region-test.true)))
+    omega (arith, c.loop-region.invariant.counted, more ((goal.at.overflow_add-count c).After-count_members-count), counted c.args.race.now.shape c.args.seat.now.me.0.began_words r, fits c.args.race.now.shape c.args.seat.now.me.0.began_words (r + 1) c.args.race.now.shaped (omega (arith, c.loop-region-test.true)))
 
 pub loop-region-preserved : goal.loop-region-preserved
-loop-region-preserved c =
-    let k = c.args.race.now.shape in
-    let words = c.args.seat.now.me.0.began_words in
-    let i = c.loop-region.invariant in
-    let r = c.loop-region.region in
-    let one = subst (λ (ws : List ℕ). c.count_members-count.result ≡ length (member_cards k ws r)) (ap (λ m. m.0.began_words) i.me) c.count_members-count.ensures.count in
-    record {
-      table = c.count_members-count.ensures.seat.0 ∙ i.table;
-      me = c.count_members-count.ensures.seat.1 ∙ i.me;
-      counted = (λ j. i.counted j + one j) ∙ sym (counted k words r);
-    }
+loop-region-preserved c = let i = c.loop-region.invariant in record {
+  table = c.count_members-count.ensures.seat.0 ∙ i.table;
+  me = c.count_members-count.ensures.seat.1 ∙ i.me;
+  counted = (λ j. i.counted j + more ((goal.at.loop-region-preserved c).After-count_members-count) j) ∙ sym (counted c.args.race.now.shape c.args.seat.now.me.0.began_words c.loop-region.region);
+}
 
 pub returns-clause-count : goal.returns-clause-count
 returns-clause-count c =
