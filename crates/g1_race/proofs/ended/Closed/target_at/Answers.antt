@@ -28,9 +28,3 @@ refers_to-requires-clause-word c =
     let slots : c.self.inside.shape.slots ≡ slot_count c.self.inside.layout = ap (λ (k : Shape). k.slots) inner.laid in
     let count : slot_count c.self.inside.layout ≡ slot_count c.args.self.now.layout = ap (λ (x : Ended). slot_count x.layout) c.self.view_is in
     subst (λ (n : ℕ). (c.word-word.result ≤ n) ⊎ (2 ^ 32 ≤ c.word-word.result)) slots (inner.begun.bounded c.args.slot c.word-word.result (subst (λ (n : ℕ). c.args.slot < n) (sym (slots ∙ count)) c.requires) c.word-word.ensures)
-
-pub refers_to-requires-clause-low : goal.refers_to-requires-clause-low
-refers_to-requires-clause-low c =
-    let inner = c.self.invariant.0 in
-    let slots : c.self.inside.shape.slots ≡ slot_count c.self.inside.layout = ap (λ (k : Shape). k.slots) inner.laid in
-    omega (arith, slots, inner.begun.shaped.3)

@@ -5,9 +5,6 @@ use Rattle.g1_race_words.specs.Rule.{pairs_of_card, pairs_up_to}
 use Rattle.g1_race.specs.Telling.{block_regions}
 use Rattle.g1_race.proofs.ended.pairs.list_pairs.Goals as goal
 
-pub note_regions-requires-clause-few : goal.note_regions-requires-clause-few
-note_regions-requires-clause-few c = omega (arith, c.counts-counts.ensures.shape.regions_high, ap (λ (s : Shape). s.regions) c.requires.laid)
-
 pub loop-card-preserved : goal.loop-card-preserved
 loop-card-preserved c =
     let k = c.args.shape in

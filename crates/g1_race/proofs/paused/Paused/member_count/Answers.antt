@@ -6,11 +6,6 @@ use Rattle.g1_race.proofs.NextCards.{cards_fit}
 use Rattle.g1_race.proofs.Held.{lent_view}
 use Rattle.g1_race.proofs.paused.Paused.member_count.Goals as goal
 
-pub returns-clause-count : goal.returns-clause-count
-returns-clause-count g c =
-    let k = c.race.result.now.shape in
-    c.count_members.ensures.count ∙ (ap (λ (r : ℕ). length (member_cards k c.self.inside.seat.me.0.began_words r)) c.number.ensures ∙ ap (λ (h : Pause). length (member_cards h.shape h.words c.args.region)) (lent_view c.race.ensures c.self.view_is))
-
 pub returns-clause-few : goal.returns-clause-few
 returns-clause-few g c =
     let race = c.race.result.now in

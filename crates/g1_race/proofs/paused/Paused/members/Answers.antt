@@ -16,7 +16,3 @@ returns-clause-step g c =
     let region = c.args.region in
     subst (λ (t : Table). IfOk c.members_of.result (λ cards. (caller : ℕ) → IsStep (table_at h) (members_entry caller region cards) t)) (sym (read_table (g.R.Holds.held c.self.inside.race) (ap (λ m. m.0.began_words) c.members_of.ensures.seat.1) c.self.view_is))
     (IfOk-weaker c.members_of.result _ _ (λ cards are caller. members_step caller (table_at h) region cards c.requires (subst (λ (x : Pause). AreMembers (table_at x) region cards) (lent_view c.race.ensures c.self.view_is) are)) c.members_of.ensures.members)
-
-pub returns-clause-few : goal.returns-clause-few
-returns-clause-few g c =
-    IfOk-weaker c.members_of.result _ _ (λ cards few. subst (λ (x : Pause). length cards ≤ card_count x.layout) (lent_view c.race.ensures c.self.view_is) few) c.members_of.ensures.few

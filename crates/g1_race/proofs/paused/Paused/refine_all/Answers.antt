@@ -21,11 +21,6 @@ returns-clause-refined g c =
     subst (λ (h : Pause). AreAllRefined (table_at h) (marked_cards h.shape h.words) (table_of (ended (g.R.Holds.held c.self.inside.race).layout (g.R.Holds.held c.self.inside.race).shape new))) (lent_view c.race-race.ensures c.self.view_is)
     (subst (λ (t : Table). AreAllRefined (table_of (ended race.layout k old)) (marked_cards k old) t) (held_table new c.race-race.ensures) all)
 
-pub returns-clause-bits : goal.returns-clause-bits
-returns-clause-bits g c =
-    let new = c.refine_cards.new.seat.me.0.began_words in
-    subst (λ (h : Pause). AreRefined h.shape h.words new h.shape.cards) (lent_view c.race-race.ensures c.self.view_is) c.refine_cards.ensures.refined
-
 pub returns-clause-race : goal.returns-clause-race
 returns-clause-race g c =
     let logs = emptied c.self.inside.racers.items c.clear_logs.new.racers.items c.clear_logs.ensures.logs in

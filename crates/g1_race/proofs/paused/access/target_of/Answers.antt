@@ -29,9 +29,3 @@ refers_to-requires-clause-word c =
     let slots : race.shape.slots ≡ slot_count race.layout = ap (λ (k : Shape). k.slots) race.laid in
     let fits = c.requires.seat.begun.bounded c.number.result c.see-word.result (omega (arith, slots, c.requires.slot, c.number.ensures)) c.see-word.ensures.word in
     subst (λ (n : ℕ). (c.see-word.result ≤ n) ⊎ (2 ^ 32 ≤ c.see-word.result)) slots fits
-
-pub refers_to-requires-clause-low : goal.refers_to-requires-clause-low
-refers_to-requires-clause-low c =
-    let race = c.args.race.now in
-    let slots : race.shape.slots ≡ slot_count race.layout = ap (λ (k : Shape). k.slots) race.laid in
-    omega (arith, slots, race.shaped.3)

@@ -30,6 +30,3 @@ loop-number-preserved c =
         marks = marked_past k t old c.loop-number.seat.me.0.began_words n c.loop-number-test.true (c.requires.clean n c.loop-number-test.true) (sym flag ∙ w.if-is_pending.false) i.marks;
       })
     ]
-
-pub returns-clause-marks : goal.returns-clause-marks
-returns-clause-marks c = marked_less _ _ _ _ c.loop-number.number _ (omega (arith, c.loop-number.invariant.below, c.loop-number-test.false)) c.loop-number.invariant.marks

@@ -60,6 +60,3 @@ loop-number-preserved c =
         same = same;
       })
     ]
-
-pub returns-clause-slots : goal.returns-clause-slots
-returns-clause-slots c = placed_less _ _ _ _ c.loop-number.number _ (omega (arith, c.loop-number.invariant.below, c.loop-number-test.false)) c.loop-number.invariant.slots

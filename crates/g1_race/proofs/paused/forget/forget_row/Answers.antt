@@ -37,9 +37,6 @@ loop-card-preserved c =
           (subst (λ (ws : List ℕ). AreUnset c.args.race.now.shape ws new (λ x. x ≡ (c.in-Some.card, c.args.region))) (ap (λ m. m.0.began_words) c.next_member.ensures.seat.1) c.clear_bit.ensures.unset);
     }
 
-pub returns-clause-seat : goal.returns-clause-seat
-returns-clause-seat c = paused_same _ _ c.loop-card.seat c.next_member.new.seat c.next_member.ensures.seat.0 c.next_member.ensures.seat.1 c.loop-card.invariant.seat
-
 pub returns-clause-unset : goal.returns-clause-unset
 returns-clause-unset c =
     let i = c.loop-card.invariant in

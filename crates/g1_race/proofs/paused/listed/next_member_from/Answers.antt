@@ -35,6 +35,3 @@ returns-clause-member c =
         | inr high ↦ omega (arith, high, is)
       ],
     )
-
-pub returns-clause-within : goal.returns-clause-within
-returns-clause-within c = omega (arith, c.in-Some.ensures.next.1, c.card_at.ensures, ap (λ (s : Shape). s.cards) c.args.race.now.laid)

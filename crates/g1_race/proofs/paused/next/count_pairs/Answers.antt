@@ -19,9 +19,3 @@ loop-region-preserved c = let i = c.loop-region.invariant in record {
   me = c.count_members-count.ensures.seat.1 ∙ i.me;
   counted = (λ j. i.counted j + more ((goal.at.loop-region-preserved c).After-count_members-count) j) ∙ sym (counted c.args.race.now.shape c.args.seat.now.me.0.began_words c.loop-region.region);
 }
-
-pub returns-clause-count : goal.returns-clause-count
-returns-clause-count c =
-    let k = c.args.race.now.shape in
-    let all : c.loop-region.region ≡ k.regions = omega (arith, c.loop-region-test.false) in
-    c.loop-region.invariant.counted ∙ ap (pair_count k c.args.seat.now.me.0.began_words) all

@@ -53,9 +53,3 @@ returns-clause-table c =
     let k = race.shape in
     let old = table_of (ended race.layout k c.args.seat.now.me.0.began_words) in
     c.loop-i.invariant.table ∙ ap (λ (n : ℕ). nulled (c.args.region * k.span) n old) (let e : c.loop-i.i ≡ k.span = omega (arith, c.loop-i-test.false) in e) ∙ ap (λ (s : Shape). nulled (c.args.region * s.span) s.span old) race.laid
-
-pub returns-clause-other : goal.returns-clause-other
-returns-clause-other c =
-    let first : ℕ = c.args.region * c.args.race.now.shape.span in
-    let whole : c.loop-i.i ≡ c.args.race.now.shape.span = omega (arith, c.loop-i-test.false) in
-    λ p out. c.loop-i.invariant.other p (subst (λ (n : ℕ). (p < first) ⊎ (first + n ≤ p)) (sym whole) out)
