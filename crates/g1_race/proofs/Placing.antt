@@ -60,9 +60,6 @@ marked_past k t old mid n lt zero_is is h = record { slots = h.slots; marks = λ
     pick c up below (yes e) = h.later c (omega (arith, e)) below ∙ (ap (λ (i : ℕ). get_elem? old (mark_word k i)) e ∙ (zero_is ∙ ap (λ (b : Bool). some (as_number b)) (sym (ap (set_of.contains t.pending) e ∙ is))))
     pick c up below (no ne) = h.marks c (omega (arith, up, ne)) below
 
-pub marked_less : (k : Shape) (t : Table) (old new : List ℕ) (n m : ℕ) → n ≡ m → AreMarked k t old new n → AreMarked k t old new m
-marked_less k t old new n m e h = subst (λ (i : ℕ). AreMarked k t old new i) e h
-
 -- slots
 
 -- a slot that refers
@@ -85,9 +82,6 @@ placed_past k t old mid n word lt zero_is is none h = record { slots = λ p up b
     pick : (p : ℕ) → p < n + 1 → p < k.slots → Dec (p ≡ n) → get_elem? mid p ≡ some (word_of (table.target_of t p))
     pick p up below (yes e) = h.later p (omega (arith, e)) below ∙ (ap (λ (i : ℕ). get_elem? old i) e ∙ (zero_is ∙ ap (λ (i : ℕ). some i) (sym none ∙ (is ∙ ap (λ (i : ℕ). word_of (table.target_of t i)) (sym e)))))
     pick p up below (no ne) = h.slots p (omega (arith, up, ne)) below
-
-pub placed_less : (k : Shape) (t : Table) (old new : List ℕ) (n m : ℕ) → n ≡ m → ArePlaced k t old new n → ArePlaced k t old new m
-placed_less k t old new n m e h = subst (λ (i : ℕ). ArePlaced k t old new i) e h
 
 -- a slot's reference is covered while others are placed
 pub covered_on : (k : Shape) (t : Table) (old mid : List ℕ) (n : ℕ) → IsWholeShape k → ArePlaced k t old mid n → AreCovered k t old → (p word : ℕ) → p < k.slots → word ≡ word_of (table.target_of t p) → crosses k p word ≡ true → HasBit k mid (slot_card k p, region_at k word) ⊎ IsMarked k mid p

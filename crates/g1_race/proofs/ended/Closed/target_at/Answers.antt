@@ -1,4 +1,4 @@
-use Rattle.std.proofs.Common.{◌^◌, ◌⊎◌, ◌≡◌, ◌<◌, ◌≤◌, ℕ, ◌+◌, List, Option, ap, sym, ◌∙◌, subst, arith}
+use Rattle.std.proofs.Common.{◌≡◌, ◌<◌, ℕ, ◌+◌, List, Option, ap, sym, ◌∙◌, subst, arith}
 use mathlib.Core.Option.{some}
 use lib.ListN.{get_elem?}
 use Rattle.g1_layout.specs.Shape.{slot_count}
@@ -21,10 +21,3 @@ pub returns-clause-refers : goal.returns-clause-refers
 returns-clause-refers c =
     let e = c.args.self.now in
     refs_here e c.args.slot c.word-word.result c.requires (at_word c.self.inside.layout c.self.inside.shape _ e c.args.slot c.word-word.result c.self.view_is c.self.invariant.0.laid c.requires c.word-word.ensures) ∙ ap (λ (t : Option ℕ). some t) (sym c.refers_to.ensures.target)
-
-pub refers_to-requires-clause-word : goal.refers_to-requires-clause-word
-refers_to-requires-clause-word c =
-    let inner = c.self.invariant.0 in
-    let slots : c.self.inside.shape.slots ≡ slot_count c.self.inside.layout = ap (λ (k : Shape). k.slots) inner.laid in
-    let count : slot_count c.self.inside.layout ≡ slot_count c.args.self.now.layout = ap (λ (x : Ended). slot_count x.layout) c.self.view_is in
-    subst (λ (n : ℕ). (c.word-word.result ≤ n) ⊎ (2 ^ 32 ≤ c.word-word.result)) slots (inner.begun.bounded c.args.slot c.word-word.result (subst (λ (n : ℕ). c.args.slot < n) (sym (slots ∙ count)) c.requires) c.word-word.ensures)

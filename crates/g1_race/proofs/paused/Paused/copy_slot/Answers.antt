@@ -1,4 +1,4 @@
-use Rattle.std.proofs.Common.{◌≡◌, ◌⊎◌, ◌^◌, ◌≤◌, ◌<◌, ℕ, None, sym, ap, ◌∙◌, subst, arith}
+use Rattle.std.proofs.Common.{◌≡◌, ◌^◌, ◌<◌, ℕ, None, sym, ap, ◌∙◌, subst, arith}
 use mathlib.Core.Option.{some}
 use lib.ListN.{get_elem?}
 use Rattle.g1_layout.specs.Shape.{slot_count}
@@ -36,12 +36,6 @@ returns-then-word-clause-table g c =
     let laid : IsLaid c.args.self.now = subst IsLaid (lent_view c.race.ensures c.self.view_is) c.race.result.now.laid in
     let none : target_of (table_at c.args.self.now) c.args.from ≡ None = reads c.args.self.now laid c.args.from c.word-word.result c.requires.from c.word-word.ensures.word ∙ target_data c.word-word.result (omega (arith, c.if-word.true)) in
     c.store_data.ensures.table ∙ (λ i. stored (table_at (c.word-word.ensures.same i)) c.args.to (sym none i))
-
-pub refers_to-target-requires-clause-word : goal.refers_to-target-requires-clause-word
-refers_to-target-requires-clause-word g c =
-    let race = c.race.result.now in
-    let shape : c.args.self.now.shape.slots ≡ slot_count race.layout = ap (λ (h : Pause). h.shape.slots) (sym (lent_view c.race.ensures c.self.view_is)) ∙ ap (λ (k : Shape). k.slots) race.laid in
-    subst (λ (n : ℕ). (c.word-word.result ≤ n) ⊎ (2 ^ 32 ≤ c.word-word.result)) shape c.word-word.ensures.fits
 
 pub returns-clause-words : goal.returns-clause-words
 returns-clause-words g c =

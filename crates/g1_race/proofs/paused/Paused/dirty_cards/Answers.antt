@@ -1,16 +1,8 @@
-use Rattle.std.proofs.Common.{List, ℕ, ap, ◌∙◌, arith, length}
-use Rattle.g1_race.specs.Telling.{is_marked, marked_cards}
-use Rattle.g1_race.specs.Over.{Pause}
+use Rattle.std.proofs.Common.{List, ℕ, ap, arith, length}
+use Rattle.g1_race.specs.Telling.{is_marked}
 use Rattle.g1_race.proofs.Telling.{few}
 use Rattle.g1_race.proofs.NextCards.{cards_fit}
-use Rattle.g1_race.proofs.Held.{lent_view}
 use Rattle.g1_race.proofs.paused.Paused.dirty_cards.Goals as goal
-
-pub returns-clause-cards : goal.returns-clause-cards
-returns-clause-cards g c =
-    let k = c.race-race.result.now.shape in
-    let same = ap (λ m. m.0.began_words) c.count_marked-count.ensures.seat.1 in
-    c.list_marked.ensures.cards ∙ (ap (marked_cards k) same ∙ ap (λ (h : Pause). marked_cards h.shape h.words) (lent_view c.race-race.ensures c.self.view_is))
 
 pub returns-clause-few : goal.returns-clause-few
 returns-clause-few g c =

@@ -1,9 +1,7 @@
-use Rattle.std.proofs.Common.{ℕ, length, ap, ◌∙◌, arith}
-use Rattle.g1_race.specs.Telling.{is_member, member_cards}
-use Rattle.g1_race.specs.Over.{Pause}
+use Rattle.std.proofs.Common.{arith}
+use Rattle.g1_race.specs.Telling.{is_member}
 use Rattle.g1_race.proofs.Telling.{few}
 use Rattle.g1_race.proofs.NextCards.{cards_fit}
-use Rattle.g1_race.proofs.Held.{lent_view}
 use Rattle.g1_race.proofs.paused.Paused.member_count.Goals as goal
 
 pub returns-clause-few : goal.returns-clause-few

@@ -2,7 +2,7 @@ use Rattle.std.proofs.Common.{ℕ, List, [], length, replicate, ap, ◌∙◌, s
 use Rattle.g1_core.specs.Table.{Table}
 use Rattle.g1_race.specs.declared.race.Race.{Race}
 use Rattle.g1_race.specs.Over.{Pause, ended, table_at, table_of}
-use Rattle.g1_race.specs.Refining.{AreRefined, AreUnflagged}
+use Rattle.g1_race.specs.Refining.{AreUnflagged}
 use Rattle.g1_race.specs.Evacuating.{WordsBecome, same_word, AreAllRefined}
 use Rattle.g1_race.specs.Telling.{marked_cards}
 use Rattle.g1_race.proofs.Logs.{emptied}

@@ -1,4 +1,4 @@
-use Rattle.std.proofs.Common.{◌^◌, ◌⊎◌, ◌≤◌, List, ◌≡◌, ◌+◌, ◌<◌, ℕ, Option, None, ap, sym, ◌∙◌, subst, arith}
+use Rattle.std.proofs.Common.{List, ◌≡◌, ◌+◌, ◌<◌, ℕ, Option, None, ap, sym, ◌∙◌, subst, arith}
 use mathlib.Core.Option.{some}
 use lib.ListN.{get_elem?}
 use Rattle.g1_layout.specs.Shape as layout
@@ -22,10 +22,3 @@ returns-clause-target c =
     let word = subst (λ (i : ℕ). get_elem? words i ≡ some c.see-word.result) c.number.ensures c.see-word.ensures.word in
     let there = front_word race.layout race.shape words c.args.slot c.see-word.result race.laid c.requires.slot word in
     sym (reads_as (refs_of e) c.args.slot c.refers_to.result None (refs_here e c.args.slot c.see-word.result c.requires.slot there ∙ ap (λ (t : Option ℕ). some t) (sym c.refers_to.ensures.target)))
-
-pub refers_to-requires-clause-word : goal.refers_to-requires-clause-word
-refers_to-requires-clause-word c =
-    let race = c.args.race.now in
-    let slots : race.shape.slots ≡ slot_count race.layout = ap (λ (k : Shape). k.slots) race.laid in
-    let fits = c.requires.seat.begun.bounded c.number.result c.see-word.result (omega (arith, slots, c.requires.slot, c.number.ensures)) c.see-word.ensures.word in
-    subst (λ (n : ℕ). (c.see-word.result ≤ n) ⊎ (2 ^ 32 ≤ c.see-word.result)) slots fits

@@ -5,7 +5,7 @@ use Rattle.atomic_table.specs.declared.shared.Seat.{Seat}
 use Rattle.g1_race_words.specs.declared.view.View.{View}
 use Rattle.g1_race.specs.Resumed.{AreMarked}
 use Rattle.g1_race_words.specs.Seats.{IsPaused}
-use Rattle.g1_race.proofs.Placing.{marked_flag, marked_next, marked_past, marked_less}
+use Rattle.g1_race.proofs.Placing.{marked_flag, marked_next, marked_past}
 use Rattle.g1_race.proofs.paused.begin.place_marks.Goals.{then-is_pending, else-is_pending}
 use Rattle.g1_race.proofs.paused.begin.place_marks.Goals as goal
 

@@ -10,7 +10,7 @@ use Rattle.g1_race.specs.Race.{word_of}
 use Rattle.g1_race.specs.Resumed.{ArePlaced, IsSame}
 use Rattle.g1_race_words.specs.Seats.{IsPaused}
 use Rattle.g1_race.proofs.AtPause.{begun_placed}
-use Rattle.g1_race.proofs.Placing.{placed_next, placed_past, placed_less, covered_on}
+use Rattle.g1_race.proofs.Placing.{placed_next, placed_past, covered_on}
 use Rattle.g1_race.proofs.CopiedTable.{word_bound}
 use Rattle.g1_race.proofs.paused.begin.place_slots.Goals.{After-word_of-word, then-word-ne0, else-word-ne0}
 use Rattle.g1_race.proofs.paused.begin.place_slots.Goals as goal

@@ -7,7 +7,6 @@ use Rattle.g1_race_words.specs.Steps.{pair_at}
 use Rattle.g1_race.specs.Refining.{Notes, RefinesCard, card_pairs}
 use Rattle.g1_race_words.proofs.Places.{reads_as}
 use Rattle.g1_race.proofs.SweepCalls.{slot_below}
-use Rattle.g1_race.proofs.AtPause.{paused_same}
 use Rattle.g1_race.proofs.PauseWords.{notes_then, begun_cleaned, refined_is}
 use Rattle.g1_race.proofs.paused.drain.refine_card.Goals.{After-loop-i, In-loop-i}
 use Rattle.g1_race.proofs.paused.drain.refine_card.Goals as goal
@@ -23,9 +22,6 @@ note_slot-requires-clause-slot c = subst (λ (n : ℕ). c.args.card * c.args.rac
 
 pub note_slot-requires-clause-word : goal.note_slot-requires-clause-word
 note_slot-requires-clause-word c = c.loop-i.invariant.seat.begun.bounded (c.args.card * c.args.race.now.shape.size + c.loop-i.i) c.see-word.result (below ((goal.at.note_slot-requires-clause-word c).In-loop-i)) c.see-word.ensures.word
-
-pub note_slot-requires-clause-seat : goal.note_slot-requires-clause-seat
-note_slot-requires-clause-seat c = paused_same _ _ c.loop-i.seat c.see-word.new.seat c.see-word.ensures.seat.0 c.see-word.ensures.seat.1 c.loop-i.invariant.seat
 
 pub loop-i-preserved : goal.loop-i-preserved
 loop-i-preserved c =

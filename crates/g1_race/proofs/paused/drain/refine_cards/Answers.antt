@@ -14,9 +14,6 @@ use Rattle.g1_race.proofs.FlagWords.{refined_emptied, unflagged}
 use Rattle.g1_race.proofs.paused.drain.refine_cards.Goals.{In_default}
 use Rattle.g1_race.proofs.paused.drain.refine_cards.Goals as goal
 
-pub refine_card-requires-clause-seat : goal.refine_card-requires-clause-seat
-refine_card-requires-clause-seat c = paused_same _ _ c.loop-card.seat c.next_marked.new.seat c.next_marked.ensures.seat.0 c.next_marked.ensures.seat.1 c.loop-card.invariant.seat
-
 pub loop-card-preserved : goal.loop-card-preserved
 loop-card-preserved c =
     let k = c.args.race.now.shape in
@@ -34,9 +31,6 @@ loop-card-preserved c =
           (refined_past k old mid c.loop-card.from n i.seat.begun next.0 (λ d le lt below at. unmarked_word k mid d (next.3 d le lt) at) i.refined)
           (subst (λ (l : List ℕ). RefinesCard k l new n) same c.refine_card.ensures.refined);
     }
-
-pub empty_row-requires-clause-seat : goal.empty_row-requires-clause-seat
-empty_row-requires-clause-seat c = paused_same _ _ c.loop-card.seat c.next_marked.new.seat c.next_marked.ensures.seat.0 c.next_marked.ensures.seat.1 c.loop-card.invariant.seat
 
 pub empty_row-requires-clause-none : goal.empty_row-requires-clause-none
 empty_row-requires-clause-none c p = none_behind c.args.race.now.shape c.next_marked.new.seat.me.0.began_words p (paused_same _ _ c.loop-card.seat c.next_marked.new.seat c.next_marked.ensures.seat.0 c.next_marked.ensures.seat.1 c.loop-card.invariant.seat).begun

@@ -2,20 +2,13 @@
 use Rattle.std.proofs.Common.{◌≡◌, ℕ, List, refl, ap, ◌∙◌, subst, arith}
 use Rattle.g1_race_words.specs.Rule.{front}
 use Rattle.g1_race.specs.Clearing.{AreUnset}
-use Rattle.g1_race.proofs.AtPause.{paused_same}
 use Rattle.g1_race.proofs.Forgetting.{row_next, row_past, slot_back}
 use Rattle.g1_race.proofs.paused.forget.forget_row.Goals as goal
-
-pub returns-then-card-end-clause-seat : goal.returns-then-card-end-clause-seat
-returns-then-card-end-clause-seat c = paused_same _ _ c.loop-card.seat c.next_member.new.seat c.next_member.ensures.seat.0 c.next_member.ensures.seat.1 c.loop-card.invariant.seat
 
 pub returns-then-card-end-clause-unset : goal.returns-then-card-end-clause-unset
 returns-then-card-end-clause-unset c =
     let i = c.loop-card.invariant in
     row_past c.args.race.now.shape c.args.seat.now.me.0.began_words c.loop-card.seat.me.0.began_words _ c.args.region c.args.first c.loop-card.from c.args.end (ap (λ m. m.0.began_words) c.next_member.ensures.seat.1) i.within (λ d le lt. c.in-Some.ensures.next.3 d le (omega (arith, lt, c.if-card-end.true))) i.unset
-
-pub clear_bit-requires-clause-seat : goal.clear_bit-requires-clause-seat
-clear_bit-requires-clause-seat c = paused_same _ _ c.loop-card.seat c.next_member.new.seat c.next_member.ensures.seat.0 c.next_member.ensures.seat.1 c.loop-card.invariant.seat
 
 pub clear_bit-requires-clause-closed : goal.clear_bit-requires-clause-closed
 clear_bit-requires-clause-closed c = λ p n lt at cr on into.

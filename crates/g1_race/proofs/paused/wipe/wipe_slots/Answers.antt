@@ -1,4 +1,4 @@
-use Rattle.std.proofs.Common.{sym, subst, inl, inr, ◌≢◌, ◌⊎◌, ◌≤◌, ◌≡◌, ℕ, suc, ◌+◌, ◌*◌, ◌<◌, List, set, None, refl, ap, ◌∙◌, arith}
+use Rattle.std.proofs.Common.{inl, inr, ◌≢◌, ◌⊎◌, ◌≤◌, ◌≡◌, ℕ, suc, ◌+◌, ◌*◌, ◌<◌, List, set, None, refl, ap, ◌∙◌, arith}
 use lib.ListN.{get_elem?}
 use Rattle.std.proofs.lemmas.Bool.{cases_eq}
 use Rattle.atomic_table.proofs.Lists.{set_else, set_here}
