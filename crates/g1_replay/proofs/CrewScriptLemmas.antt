@@ -1,8 +1,7 @@
 -- Scripts that are kept as their trace is read, and the jobs that take them.
 use Rattle.std.proofs.Common.{◌≡◌, ◌≢◌, ◌==◌, ◌<◌, ◌≤◌, ℕ, ◌+◌, List, [], ◌∷◌, ◌++◌, suc, add-one, add-zero, ◌-◌, length, get_or, set, drop, drop-cons, refl, sym, subst, ap, ◌∙◌, append-nil, inl, inr, Option, Some, None, true, false, nat_lt, Bool, arith, rules}
-use Rattle.std.specs.Prelude.{All, Ok, unwrap_or, if◌then◌else◌}
+use Rattle.std.specs.Prelude.{All, unwrap_or, if◌then◌else◌}
 use Rattle.std.specs.List.{filter_map, cons_option}
-use Rattle.std.specs.Io.KnownBytes.{Appends}
 use Rattle.std.proofs.lemmas.Bool.{cases_Bool, eq-eqb, eqb-true, ne_eqb, false≢true}
 use Rattle.std.proofs.lemmas.List.{get_or-set_same, get_or-set_other, length-set, length-drop}
 use Rattle.g1_layout.specs.Shape.{Shape, slot_count}
@@ -14,11 +13,9 @@ use Rattle.g1_steps.specs.declared.crew.desk.Script.TheVariants.{Mutate, Refine}
 use Rattle.g1_trace.specs.declared.command.Command.{Command}
 use Rattle.g1_trace.specs.declared.command.Command.TheVariants.{Store, Flush}
 use Rattle.g1_trace.specs.Grammar.{IsCommandOf}
-use Rattle.g1_trace.specs.declared.dialect.Dialect.{Dialect}
 use Rattle.g1_replay.specs.declared.crews.listing.Scripts.{Scripts}
 use Rattle.g1_replay.specs.RaceJobs.{AllFrom}
-use Rattle.g1_replay.specs.Reading.{Reads}
-use Rattle.g1_replay.specs.Scripts.{AreKept, AreScriptsOf, IsScriptAt, asked_in, step_for}
+use Rattle.g1_replay.specs.Scripts.{AreKept, IsScriptAt, asked_in, step_for}
 
 -- what a command asks of the mutator that it names, and of another
 own_at : (by : ℕ) (s : Step) → (if by == by then Some s else None) ≡ Some s
@@ -131,15 +128,3 @@ Unfilled s = ⊥
 
 pub kept_silent : (s t : Scripts) (cs : List Command) (text : List ℕ) → Kept s cs text t → text ≡ []
 kept_silent s t cs text h = h.1
-
--- scripts that had nothing have what was read
-pub scripts_kept : (d : Dialect) (n n' : ℕ) (l : Shape) (old new : Scripts) (rd rd' out out' : Option (List ℕ)) → All (λ script. script.items ≡ []) old.steps.items
-    → (cs : List Command) × (text : List ℕ) × Reads d None n n' rd rd' (Some l) cs (Ok false) × Kept old cs text new × Appends out out' []
-    → (cs : List Command) × Reads d None n n' rd rd' (Some l) cs (Ok false) × AreScriptsOf (λ script. script.items) cs new.steps.items
-scripts_kept d n n' l old new rd rd' out out' none r = (
-  r.0,
-  r.2,
-  λ k e below.
-      let within : k < length old.steps.items = subst (λ m. k < m) r.3.0.len below in
-      r.3.0.each k e within ∙ ap (λ (ss : List Step). ss ++ filter_map (step_for k) r.0) (none k e within),
-)

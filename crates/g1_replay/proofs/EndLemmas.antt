@@ -18,9 +18,9 @@ use Rattle.g1_replay.specs.declared.end.End.{End}
 use Rattle.g1_replay.specs.declared.end.End.TheVariants.{Whole, Refused, Stopped, ReadFailed as EndReadFailed, WriteFailed as EndWriteFailed}
 use Rattle.g1_replay.specs.declared.stop.Stop.{Stop}
 use Rattle.g1_replay.specs.declared.stop.Stop.TheVariants.{Fault, WriteFailed}
-use Rattle.g1_replay.specs.Output.{Told, IsEndWritten, ending_line, end_of, IsWholeOutput, IsRefusedOutput}
+use Rattle.g1_replay.specs.Output.{Tale, Told, IsEndWritten, IsReplayed, ending_line, end_of, IsWholeOutput, IsRefusedOutput}
 use Rattle.g1_replay.specs.Pieces.{entries_of}
-use Rattle.g1_replay.specs.Playing.{Writes}
+use Rattle.g1_replay.specs.Playing.{Writes, WritesSome}
 use Rattle.g1_replay.specs.Reading.{Reads, IsLeftToRead}
 use Rattle.g1_replay.proofs.ReadingLemmas.{left_none}
 
@@ -44,12 +44,23 @@ whole_ended out out1 out' (Ok done) n text ne w i = Appends-trans _ _ _ _ _ w i
 whole_ended out out1 out' (Err (Fault f)) n text ne w i = Appends-trans _ _ _ _ _ w i
 whole_ended out out1 out' (Err stop) n text ne w i = Appends-trans _ _ _ _ _ w i
 
-pub ended_then : (out out1 out' : Option (List ℕ)) (r : Result (Unit {0}) Stop) (n : ℕ) (text : List ℕ) (end : End) → Writes out out1 r text → IsEndWritten out1 out' r (ending_line n r) end → IsEndWritten out out' r (text ++ ending_line n r) end
+ended_then : (out out1 out' : Option (List ℕ)) (r : Result (Unit {0}) Stop) (n : ℕ) (text : List ℕ) (end : End) → Writes out out1 r text → IsEndWritten out1 out' r (ending_line n r) end → IsEndWritten out out' r (text ++ ending_line n r) end
 ended_then out out1 out' r n text EndWriteFailed w i = front_ended out out1 out' r n text w i
 ended_then out out1 out' r n text Whole w i = (i.0, whole_ended out out1 out' r n text (λ e. let bad : Whole ≡ EndWriteFailed = i.0 ∙ e in cc) w i.1)
 ended_then out out1 out' r n text Refused w i = (i.0, whole_ended out out1 out' r n text (λ e. let bad : Refused ≡ EndWriteFailed = i.0 ∙ e in cc) w i.1)
 ended_then out out1 out' r n text Stopped w i = (i.0, whole_ended out out1 out' r n text (λ e. let bad : Stopped ≡ EndWriteFailed = i.0 ∙ e in cc) w i.1)
 ended_then out out1 out' r n text EndReadFailed w i = (i.0, whole_ended out out1 out' r n text (λ e. let bad : EndReadFailed ≡ EndWriteFailed = i.0 ∙ e in cc) w i.1)
+
+-- what the end says of the whole output
+abbrev pub Says : Tale → End → (List ℕ → Option (List ℕ) → Option (List ℕ) → Type 0) → Type 0
+Says Tells said Is = (n : ℕ) (rd rd' out out' : Option (List ℕ)) (r : Result (Unit {0}) Stop) (text : List ℕ) (end : End) → Tells 1 n rd rd' r text → IsEndWritten out out' r (text ++ ending_line n r) end → end ≡ said → IfSome rd (λ bytes. Is bytes out out')
+
+pub replayed : (Tells : Tale) (IsWhole IsRefused : List ℕ → Option (List ℕ) → Option (List ℕ) → Type 0) → Says Tells Whole IsWhole → Says Tells Refused IsRefused → (first n : ℕ) (rd rd' out out1 out' : Option (List ℕ)) (r : Result (Unit {0}) Stop) (end : End) → first ≡ 1
+    → WritesSome (Tells first n rd rd') out out1 r → IsEndWritten out1 out' r (ending_line n r) end → IsReplayed Tells IsWhole IsRefused rd rd' out out' end
+replayed Tells IsWhole IsRefused whole refused first n rd rd' out out1 out' r end one t w =
+    let i = ended_then out out1 out' r n t.0 end t.2 w in
+    let told = subst (λ m. Tells m n rd rd' r t.0) one t.1 in
+    record { told = (n, r, t.0, told, i); whole = whole n rd rd' out out' r t.0 end told i; refused = refused n rd rd' out out' r t.0 end told i }
 
 -- what was read is all that there was
 all_consumed : (xs : List ℕ) (rd' : Option (List ℕ)) (front : List ℕ) → Consumes (Some xs) rd' front → (x : List ℕ) × IsLeftToRead rd' x × (xs ≡ front ++ x)

@@ -1,5 +1,5 @@
 -- A trace that is read to its end before its scripts are run: how it is read, what that comes to, and the whole output where it has a fault.
-use Rattle.std.proofs.Common.{◌≡◌, ℕ, List, [], ◌∷◌, ◌++◌, refl, sym, subst, ap, ◌∙◌, Option, Some, None, inl, inr, ◌⊎◌, true, false, arith}
+use Rattle.std.proofs.Common.{◌≡◌, ℕ, List, [], ◌∷◌, ◌++◌, refl, sym, subst, ap, ◌∙◌, Option, Some, None, inl, inr, ⊎_elim, ◌⊎◌, true, false, arith}
 use Rattle.std.specs.Prelude.{Bool, Result, Ok, Err, IfSome}
 use Rattle.std.specs.Io.KnownBytes.{Appends}
 use Rattle.std.proofs.KnownBytes.{Appends-nil, Consumes-nil}
@@ -62,28 +62,31 @@ head_stops d n n' rd rd' stop h read = record { heap = None; commands = []; ends
 -- what takes the commands of lines and writes nothing
 module _ {S : Type 0} (Did : S → List Command → List ℕ → S → Type 0) (Full : S → Type 0) (silent : (s t : S) (cs : List Command) (text : List ℕ) → Did s cs text t → text ≡ []) where
   -- a header, and then lines that were not read to their end
-  pub lines_stop : (d : Dialect) (n n1 n' : ℕ) (l : Shape) (old new : S) (rd rd1 rd' out out' : Option (List ℕ)) (stop : Stop) → IsReadStop stop ⊎ (stop ≡ NoMemory)
+  pub lines_stop : (Stops : Stop → Type 0) (only : (stop : Stop) → Stops stop → stop ≡ NoMemory) (d : Dialect) (n n1 n' : ℕ) (l : Shape) (old new : S) (rd rd1 rd' out out' : Option (List ℕ)) (stop : Stop) → IsReadStop stop ⊎ Stops stop
       → Reads d None n n1 rd rd1 (Some l) [] (Ok true) → Follows Did Full d l n1 n' old new rd1 rd' out out' (Err stop) → StopsReading d n n' rd rd' stop × Appends out out' []
-  lines_stop d n n1 n' l old new rd rd1 rd' out out' stop h head f = (
-    record {
-      heap = Some l;
-      commands = f.commands;
-      ends = list_end stop h;
-      read = reads_then d None (Some l) (Some l) n n1 n' rd rd1 rd' [] f.commands (Err stop) head f.read;
-    },
-    list_silent stop out out' h (subst (λ (x : List ℕ). Puts out out' (written_by {V = Bool} (Err stop)) x) (silent old new f.done.done f.done.text f.done.made) f.done.written),
-  )
+  lines_stop Stops only d n n1 n' l old new rd rd1 rd' out out' stop may head f =
+      let h : IsReadStop stop ⊎ (stop ≡ NoMemory) = ⊎_elim (λ (r : IsReadStop stop). inl r) (λ (s : Stops stop). inr (only stop s)) may in (
+        record {
+          heap = Some l;
+          commands = f.commands;
+          ends = list_end stop h;
+          read = reads_then d None (Some l) (Some l) n n1 n' rd rd1 rd' [] f.commands (Err stop) head f.read;
+        },
+        list_silent stop out out' h (subst (λ (x : List ℕ). Puts out out' (written_by {V = Bool} (Err stop)) x) (silent old new f.done.done f.done.text f.done.made) f.done.written),
+      )
 
   -- a header, and then lines that were
   pub lines_read : (d : Dialect) (n n1 n' : ℕ) (l : Shape) (old new : S) (rd rd1 rd' out out' : Option (List ℕ)) → Reads d None n n1 rd rd1 (Some l) [] (Ok true)
-      → Follows Did Full d l n1 n' old new rd1 rd' out out' (Ok false) → (cs : List Command) × (text : List ℕ) × Reads d None n n' rd rd' (Some l) cs (Ok false) × Did old cs text new × Appends out out' []
+      → Follows Did Full d l n1 n' old new rd1 rd' out out' (Ok false) → ((cs : List Command) × Reads d None n n' rd rd' (Some l) cs (Ok false) × Did old cs [] new) × Appends out out' []
   lines_read d n n1 n' l old new rd rd1 rd' out out' head f =
-      let same : f.commands ≡ f.done.done = all_done f.commands f.done.done f.done.undone f.done.all f.done.stopped in (
-        f.done.done,
-        f.done.text,
-        subst (λ (cs : List Command). Reads d None n n' rd rd' (Some l) cs (Ok false)) same (reads_then d None (Some l) (Some l) n n1 n' rd rd1 rd' [] f.commands (Ok false) head f.read),
-        f.done.made,
-        subst (λ (x : List ℕ). Appends out out' x) (silent old new f.done.done f.done.text f.done.made) f.done.written,
+      let same : f.commands ≡ f.done.done = all_done f.commands f.done.done f.done.undone f.done.all f.done.stopped in
+      let none = silent old new f.done.done f.done.text f.done.made in (
+        (
+          f.done.done,
+          subst (λ (cs : List Command). Reads d None n n' rd rd' (Some l) cs (Ok false)) same (reads_then d None (Some l) (Some l) n n1 n' rd rd1 rd' [] f.commands (Ok false) head f.read),
+          subst (λ (x : List ℕ). Did old f.done.done x new) none f.done.made,
+        ),
+        subst (λ (x : List ℕ). Appends out out' x) none f.done.written,
       )
 
   -- a command that was not kept
@@ -112,12 +115,12 @@ module _ {S : Type 0} (Did : S → List Command → List ℕ → S → Type 0) (
     written = Appends-nil out;
   }
 
--- the commands of a list are those that were read
-pub listed : (d : Dialect) (n n' : ℕ) (l : Shape) (old new : Listing) (rd rd' out out' : Option (List ℕ)) → old.commands.items ≡ []
-    → (cs : List Command) × (text : List ℕ) × Reads d None n n' rd rd' (Some l) cs (Ok false) × Lists old cs text new × Appends out out' [] → Reads d None n n' rd rd' (Some l) new.commands.items (Ok false)
-listed d n n' l old new rd rd' out out' none r =
-    let kept : r.0 ≡ new.commands.items = sym (r.3.0 ∙ ap (λ (cs : List Command). cs ++ r.0) none) in
-    subst (λ (cs : List Command). Reads d None n n' rd rd' (Some l) cs (Ok false)) kept r.2
+-- a listing of nothing has what was read
+pub listed : (d : Dialect) (n n' : ℕ) (l : Shape) (old new : Listing) (rd rd' : Option (List ℕ)) → old.commands.items ≡ []
+    → (cs : List Command) × Reads d None n n' rd rd' (Some l) cs (Ok false) × Lists old cs [] new → Reads d None n n' rd rd' (Some l) new.commands.items (Ok false)
+listed d n n' l old new rd rd' none r =
+    let kept : r.0 ≡ new.commands.items = sym (r.2.0 ∙ ap (λ (cs : List Command). cs ++ r.0) none) in
+    subst (λ (cs : List Command). Reads d None n n' rd rd' (Some l) cs (Ok false)) kept r.1
 
 pub lists_silent : (s t : Listing) (cs : List Command) (text : List ℕ) → Lists s cs text t → text ≡ []
 lists_silent s t cs text h = h.1

@@ -9,6 +9,8 @@ use Rattle.g1_core.specs.Run.{IsPermitted}
 use Rattle.g1_trace.specs.declared.command.Command.{Command}
 use Rattle.g1_trace.specs.declared.dialect.Dialect.{Dialect}
 use Rattle.g1_trace.specs.declared.fault.TraceFault.{TraceFault}
+use Rattle.g1_trace.specs.declared.mode.Mode.{Mode}
+use Rattle.g1_options.specs.declared.options.Options.{Options}
 use Rattle.g1_trace.specs.Bytes.{AppendsFront}
 use Rattle.g1_trace.specs.Text.{fault_line, no_memory_line, book_full_line, no_thread_line}
 use Rattle.g1_trace.specs.Text.{read_failed_line}
@@ -28,6 +30,15 @@ use Rattle.g1_replay.specs.Reading.{Reads}
 abbrev pub end_met : Result (Unit {0}) Stop → Result Bool Stop
 end_met (Ok done) = Ok false
 end_met (Err stop) = Err stop
+
+-- the dialect of a trace that is replayed so
+abbrev pub dialect_in : Mode → Options → Dialect
+dialect_in mode o = record { mode = mode; mutators = o.mutators }
+
+-- What is read and written of a trace, but for the line of its end: the number of the next line and
+-- what the reader has left, before and after, how that ends, and the text.
+abbrev pub Tale : Type 1
+Tale = ℕ → ℕ → Option (List ℕ) → Option (List ℕ) → Result (Unit {0}) Stop → List ℕ → Type 0
 
 -- what may end a part of a replay that starts no thread
 abbrev pub StartsNoThread : Result (Unit {0}) Stop → Type 0
@@ -79,6 +90,17 @@ abbrev pub IsEndWritten : Option (List ℕ) → Option (List ℕ) → Result (Un
     → Type 0
 IsEndWritten out out' r text EndWriteFailed = AppendsFront out out' text
 IsEndWritten out out' r text end = (end ≡ end_of r) × Appends out out' text
+
+-- A trace was replayed from its first line on, and this is its end. The text and the line of the end
+-- were written, and the whole output is known where the trace was done whole or has a fault.
+pub record IsReplayed (Tells : Tale)
+    (IsWhole IsRefused : List ℕ → Option (List ℕ) → Option (List ℕ) → Type 0)
+    (rd rd' out out' : Option (List ℕ)) (end : End) : Type 0 where
+  pub told : (number : ℕ) × (outcome : Result (Unit {0}) Stop) × (text : List ℕ)
+      × Tells 1 number rd rd' outcome text
+      × IsEndWritten out out' outcome (text ++ ending_line number outcome) end
+  pub whole : end ≡ Whole → IfSome rd (λ bytes. IsWhole bytes out out')
+  pub refused : end ≡ Refused → IfSome rd (λ bytes. IsRefused bytes out out')
 
 abbrev pub end_or_failed : {V E : Type 0} → Result V E → End → End
 end_or_failed (Ok v) end = end

@@ -72,6 +72,11 @@ abbrev pub Writes : {V : Type 0} → Option (List ℕ) → Option (List ℕ) →
     → Type 0
 Writes out out' r text = Puts out out' (written_by r) text
 
+-- A text of which this holds was written, or a beginning of it where a write failed.
+abbrev pub WritesSome : (Result (Unit {0}) Stop → List ℕ → Type 0) → Option (List ℕ)
+    → Option (List ℕ) → Result (Unit {0}) Stop → Type 0
+WritesSome Holds out out' r = (text : List ℕ) × Holds r text × Writes out out' r text
+
 -- The commands that were read and not done: the one that was refused for a full book, one at most
 -- for refused memory, and no other.
 abbrev pub IsUndone : {V : Type 0} → Result V Stop → List Command → Type 0

@@ -43,11 +43,6 @@ pub record AreKept {E : Type 0} (steps : E → List Step) (old : List E) (cs : L
       → steps (slice_index_or new k d)
       ≡ steps (slice_index_or old k d) ++ filter_map (step_for k) cs
 
--- For each mutator the calls that the commands ask of it, in their order.
-abbrev pub AreScriptsOf : {E : Type 0} → (E → List Step) → List Command → List E → Type 0
-AreScriptsOf {E} steps commands scripts = (k : ℕ) (d : E) → k < length scripts
-    → steps (slice_index_or scripts k d) ≡ filter_map (step_for k) commands
-
 -- The script of the caller of this number: that of its mutator, or rounds of refinement.
 abbrev pub IsScriptAt : {E : Type 0} → (E → List Step) → (rounds : ℕ) → List E → ℕ → Script → Type 0
 IsScriptAt {E} steps rounds scripts number (Mutate made) =

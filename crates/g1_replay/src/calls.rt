@@ -1,6 +1,6 @@
 //! The questions, drains, clears and redirects of a trace: each is one call of the first caller,
 //! and its line.
-ghost use Rattle.std.specs.Prelude.{◌∷◌, [], IfErr, codes};
+ghost use Rattle.std.specs.Prelude.{◌∷◌, [], IfErr};
 ghost use Rattle.g1_history.specs.History.{layout_in};
 ghost use Rattle.g1_trace.specs.Bytes.{Puts};
 ghost use Rattle.g1_trace.specs.Grammar.{IsCommandCall};

@@ -4,6 +4,7 @@
 //! - `opening` reads the lines up to the header, and `playing` those behind it: by `shown` what a
 //!   reader shows as a whole, and else by `next`.
 //! - `player` says what is done with the commands.
+//! - `whole` reads a trace to its end for a player that only keeps them.
 
 mod line;
 mod next;
@@ -12,3 +13,4 @@ pub(crate) mod player;
 pub(crate) mod playing;
 mod shown;
 pub(crate) mod source;
+pub(crate) mod whole;

@@ -1,10 +1,10 @@
 //! What a crew prints of its book: how many stores there were, and a drain of each region.
-ghost use Rattle.std.specs.Prelude.{◌≡◌, ℕ, List, count_by};
+ghost use Rattle.std.specs.Prelude.{◌≡◌, count_by};
 ghost use Rattle.g1_shared.specs.Counts.{is_store};
 ghost use Rattle.g1_history.specs.History.{IsHistory, layout_in};
 ghost use Rattle.g1_replay.specs.Crew.{CrewRan};
 ghost use Rattle.g1_replay.specs.Laws.{played_in, played_none, played_then};
-ghost use Rattle.g1_replay.specs.Playing.{HasPlayed, IsBookFull, MayStop, Writes};
+ghost use Rattle.g1_replay.specs.Playing.{HasPlayed, IsBookFull, MayStop, WritesSome};
 
 use crate::calls::play_call;
 use crate::drains::{Drains, put_drains};
@@ -36,8 +36,8 @@ impl Drains for Book {
 // How many stores there were, and the drains of all regions.
 fn put_book<W: Write>(book: &mut Book, stores: u64, output: &mut W) -> Result<(), Stop>
     requires { stores ≡ count_by is_store book.old.entries }
-    ensures { (text : List ℕ) × CrewRan (layout_in book.old) book.old.limit result text
-        × Writes (W.contents output.old) (W.contents output.new) result text }
+    ensures { WritesSome (CrewRan (layout_in book.old) book.old.limit) (W.contents output.old)
+        (W.contents output.new) result }
 {
     let layout = book.layout();
     let _before = book.entries();
@@ -71,8 +71,8 @@ pub(crate) fn put_crew<W: Write>(
 ) -> Result<(), Stop>
     requires limit { book.old.limit ≡ history }
     requires stores { stores ≡ count_by is_store book.old.entries }
-    ensures { (text : List ℕ) × CrewRan (layout_in book.old) history result text
-        × Writes (W.contents output.old) (W.contents output.new) result text }
+    ensures { WritesSome (CrewRan (layout_in book.old) history) (W.contents output.old)
+        (W.contents output.new) result }
 {
     match refused {
         Some(refusal) => Err(stop_of(book, refusal, history)),

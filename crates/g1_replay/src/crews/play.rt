@@ -1,20 +1,20 @@
 //! Reads a trace to its end, makes the calls of each mutator in a thread of its own, and prints the
 //! result.
-ghost use Rattle.std.specs.Prelude.{◌≡◌, ℕ, List, ◌++◌, true, vec_len, All, Result, IfSome};
+ghost use Rattle.std.specs.Prelude.{◌≡◌, true, vec_len, All};
 ghost use Rattle.g1_layout.specs.Shape.{slot_count};
 ghost use Rattle.g1_steps.specs.Ask.{StepFits};
 ghost use Rattle.g1_trace.specs.declared.mode.Mode.TheVariants.{Crew};
 ghost use Rattle.g1_replay.specs.Crew.{Crewed, IsWholeCrew, CrewRan};
-ghost use Rattle.g1_replay.specs.Output.{IsEndWritten, ending_line};
-ghost use Rattle.g1_replay.specs.Playing.{Writes};
+ghost use Rattle.g1_replay.specs.Output.{IsReplayed, dialect_in};
+ghost use Rattle.g1_replay.specs.Playing.{WritesSome};
 ghost use Rattle.g1_replay.specs.Scripted.{IsRefusedTrace};
-ghost use Rattle.g1_replay.specs.declared.stop.Stop.{Stop};
 
 use crate::crews::jobs::run_jobs;
-use crate::crews::listing::read_crew;
+use crate::crews::listing::Scripts;
 use crate::crews::output::put_crew;
 use crate::end::End;
 use crate::lines::source::Source;
+use crate::lines::whole::read_whole;
 use crate::runs::engine::put_end;
 use crate::stop::Stop;
 use g1_history::Book;
@@ -41,8 +41,8 @@ fn run_scripts<T: Threads + Wait + Sync, W: Write>(
     requires count { vec_len scripts ≡ options.now.mutators }
     requires fits { All (λ steps.
         All (StepFits (slot_count layout) true) steps.items) scripts.items }
-    ensures { (text : List ℕ) × CrewRan layout options.now.history result text
-        × Writes (W.contents output.old) (W.contents output.new) result text }
+    ensures { WritesSome (CrewRan layout options.now.history) (W.contents output.old)
+        (W.contents output.new) result }
 {
     let count = u64::from(options.mutators + options.refiners);
     let book = Book::open(
@@ -68,19 +68,18 @@ fn play_crew<T: Threads + Wait + Sync, R: BufRead, W: Write>(
     output: &mut W,
     options: &Options,
 ) -> Result<(), Stop>
-    ensures { (text : List ℕ) × Crewed (record {
-      mode = Crew;
-      mutators = options.now.mutators;
-    }) options.now.history source.old.number source.new.number
-        (R.remaining input.old) (R.remaining input.new) result text
-        × Writes (W.contents output.old) (W.contents output.new) result text }
+    ensures { WritesSome (Crewed (dialect_in Crew options.now) options.now.history
+        source.old.number source.new.number (R.remaining input.old) (R.remaining input.new))
+        (W.contents output.old) (W.contents output.new) result }
 {
     let dialect = Dialect {
         mode: Mode::Crew,
         mutators: options.mutators,
     };
-    let (layout, scripts) = read_crew(rt, alloc, source, dialect, input, output)?;
-    run_scripts(rt, alloc, layout, scripts, output, options)
+    let mut scripts = Scripts::new(alloc, options.mutators)?;
+    let layout = read_whole(rt, source, dialect, input, &mut scripts, output)?;
+    let Scripts { steps } = scripts;
+    run_scripts(rt, alloc, layout, steps, output, options)
 }
 
 /// Replays a trace by a crew: reads all of it, makes the calls of each mutator in a thread of its
@@ -109,30 +108,13 @@ pub fn crew<T: Threads + Wait + Sync, R: BufRead, W: Write>(
     output: &mut W,
     options: &Options,
 ) -> End
-    ensures told { (number : ℕ) × (outcome : Result (Unit {0}) Stop) × (text : List ℕ)
-        × Crewed (record {
-          mode = Crew;
-          mutators = options.now.mutators;
-        }) options.now.history 1 number (R.remaining input.old)
-        (R.remaining input.new) outcome text
-        × IsEndWritten (W.contents output.old) (W.contents output.new) outcome
-        (text ++ ending_line number outcome) result }
-    ensures whole { result ≡ End.Whole
-        → IfSome (R.remaining input.old) (λ bytes.
-        IsWholeCrew (record {
-          mode = Crew;
-          mutators = options.now.mutators;
-        }) options.now.history bytes (W.contents output.old)
-        (W.contents output.new)) }
-    ensures refused { result ≡ End.Refused
-        → IfSome (R.remaining input.old) (λ bytes.
-        IsRefusedTrace (record { mode = Crew; mutators = options.now.mutators }) bytes
-        (W.contents output.old) (W.contents output.new)) }
+    ensures { IsReplayed (Crewed (dialect_in Crew options.now) options.now.history)
+        (IsWholeCrew (dialect_in Crew options.now) options.now.history)
+        (IsRefusedTrace (dialect_in Crew options.now))
+        (R.remaining input.old) (R.remaining input.new)
+        (W.contents output.old) (W.contents output.new) result }
 {
-    let mut source = Source {
-        reads: 0,
-        number: 1,
-    };
+    let mut source = Source::start();
     let outcome = play_crew(rt, alloc, &mut source, input, output, options);
     put_end(output, source.number, outcome)
 }

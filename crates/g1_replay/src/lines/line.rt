@@ -1,6 +1,6 @@
 //! One line of a trace at a time, of at most 64 bytes before its line feed.
 
-ghost use Rattle.std.specs.Prelude.{◌≡◌, ℕ, List, [], ◌∷◌, ◌++◌, ◌≤◌, ◌<◌, ◌^◌, ◌+◌, length, Ok};
+ghost use Rattle.std.specs.Prelude.{◌≡◌, ℕ, List, [], ◌≤◌, ◌<◌, ◌^◌, ◌+◌, length, Ok};
 ghost use Rattle.std.specs.Prelude.{true, Option, IfErr};
 ghost use Rattle.std.specs.Io.KnownBytes.{Consumes};
 ghost use Rattle.g1_trace.specs.Words.{IsPart};

@@ -1,5 +1,5 @@
 //! What is done with the commands of a trace.
-ghost use Rattle.std.specs.Prelude.{◌≡◌, OnOk, IfErr, ◌∷◌, []};
+ghost use Rattle.std.specs.Prelude.{OnOk, IfErr, ◌∷◌, []};
 ghost use Rattle.g1_trace.specs.Grammar.{IsCommandOf};
 ghost use Rattle.g1_replay.specs.Playing.{Does, MayStop};
 ghost use Rattle.g1_replay.specs.Reading.{more_may_come};

@@ -1,6 +1,6 @@
 //! How far a replay has come in its input.
 
-ghost use Rattle.std.specs.Prelude.{◌≤◌, ◌+◌, ◌*◌, ◌^◌};
+ghost use Rattle.std.specs.Prelude.{◌≡◌, ◌≤◌, ◌+◌, ◌*◌, ◌^◌};
 
 /// How many reads of the input are made at most (docs/traces.md, Ends).
 pub const READ_LIMIT: u64 = 1 << 40;
@@ -18,4 +18,16 @@ pub struct Source {
     pub ghost limited: { reads ≤ 2 ^ 40 },
     /// A line has a byte, and a read takes at most 2^20 bytes.
     pub ghost counted: { number ≤ 2 ^ 20 * reads + 1 },
+}
+
+impl Source {
+    /// Nothing was read.
+    pub fn start() -> Source
+        ensures { result.number ≡ 1 }
+    {
+        Source {
+            reads: 0,
+            number: 1,
+        }
+    }
 }

@@ -1,6 +1,6 @@
 //! The members of a race: each racer with an end of the queue into which it puts its logs, each
 //! sweeper with one from which it takes them.
-ghost use Rattle.std.specs.Prelude.{◌≡◌, ◌+◌, ◌≤◌, ◌++◌, [], ◌∷◌, All, IfOk, OnOk, sum_by, vec_len};
+ghost use Rattle.std.specs.Prelude.{◌≡◌, ◌+◌, ◌++◌, [], ◌∷◌, All, IfOk, OnOk, sum_by, vec_len};
 ghost use Rattle.std.specs.List.{filter_map};
 ghost use Rattle.g1_log.specs.Ends.{sender_rights, taker_rights, IsSenderOf, IsTakerOf};
 ghost use Rattle.g1_race_words.specs.Rule.{null_of};

@@ -1,11 +1,11 @@
 //! What a race prints: how many stores were made, and a drain of each region of the core that the
 //! race has become.
-ghost use Rattle.std.specs.Prelude.{◌≡◌, ℕ, List, count_by};
+ghost use Rattle.std.specs.Prelude.{◌≡◌, ℕ, count_by};
 ghost use Rattle.g1_core.specs.Calls.{drain_reply};
 ghost use Rattle.g1_race.specs.Over.{Ended, table_of};
 ghost use Rattle.g1_replay.specs.CoreDrains.{core_drained_none, core_drained_then, core_drained_in};
 ghost use Rattle.g1_replay.specs.CoreDrains.{CoreDrained};
-ghost use Rattle.g1_replay.specs.Playing.{Writes};
+ghost use Rattle.g1_replay.specs.Playing.{WritesSome};
 ghost use Rattle.g1_replay.specs.Race.{is_store_command, RaceRan};
 ghost use Rattle.g1_replay.specs.RaceJobs.{IsTableLeftBy};
 
@@ -68,8 +68,8 @@ pub(crate) fn put_race<W: Write>(
 ) -> Result<(), Stop>
     ensures { (mutators : ℕ) (e : Ended) → core.old.state.table ≡ table_of e
         → IsTableLeftBy mutators commands.now e
-        → (text : List ℕ) × RaceRan mutators e.layout commands.now result text
-        × Writes (W.contents output.old) (W.contents output.new) result text }
+        → WritesSome (RaceRan mutators e.layout commands.now) (W.contents output.old)
+        (W.contents output.new) result }
 {
     let layout = core.layout();
     put_stores(output, count_stores(commands))?;

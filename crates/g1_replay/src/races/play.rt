@@ -1,18 +1,18 @@
 //! Reads a trace to its end, makes the stores of each mutator in a race, in a thread of its own,
 //! and prints the result.
-ghost use Rattle.std.specs.Prelude.{◌≡◌, ℕ, List, ◌++◌, All, Result, IfSome};
+ghost use Rattle.std.specs.Prelude.{All};
 ghost use Rattle.g1_trace.specs.Grammar.{IsCommandOf};
 ghost use Rattle.g1_trace.specs.declared.mode.Mode.TheVariants.{Race};
-ghost use Rattle.g1_replay.specs.Output.{IsEndWritten, ending_line};
-ghost use Rattle.g1_replay.specs.Playing.{Writes};
+ghost use Rattle.g1_replay.specs.Output.{IsReplayed, dialect_in};
+ghost use Rattle.g1_replay.specs.Playing.{WritesSome};
 ghost use Rattle.g1_replay.specs.Race.{IsWholeRace, RacedTrace, RaceRan};
 ghost use Rattle.g1_replay.specs.Scripted.{IsRefusedTrace};
-ghost use Rattle.g1_replay.specs.declared.stop.Stop.{Stop};
 
 use crate::end::End;
 use crate::lines::source::Source;
+use crate::lines::whole::read_whole;
 use crate::races::jobs::run_race;
-use crate::races::listing::read_scripts;
+use crate::races::listing::Listing;
 use crate::races::output::put_race;
 use crate::runs::engine::put_end;
 use crate::stop::Stop;
@@ -34,8 +34,8 @@ fn race_commands<T: Threads + Wait + Sync, W: Write>(
     options: &Options,
 ) -> Result<(), Stop>
     requires { All (IsCommandOf layout options.now.mutators) commands.now }
-    ensures { (text : List ℕ) × RaceRan options.now.mutators layout commands.now result text
-        × Writes (W.contents output.old) (W.contents output.new) result text }
+    ensures { WritesSome (RaceRan options.now.mutators layout commands.now)
+        (W.contents output.old) (W.contents output.new) result }
 {
     let closed = run_race(rt, alloc, layout, commands, options)?;
     let Ok(mut core) = closed.into_core(alloc, options.config) else {
@@ -53,19 +53,19 @@ fn play_race<T: Threads + Wait + Sync, R: BufRead, W: Write>(
     output: &mut W,
     options: &Options,
 ) -> Result<(), Stop>
-    ensures { (text : List ℕ) × RacedTrace (record {
-      mode = Race;
-      mutators = options.now.mutators;
-    }) source.old.number source.new.number
-        (R.remaining input.old) (R.remaining input.new) result text
-        × Writes (W.contents output.old) (W.contents output.new) result text }
+    ensures { WritesSome (RacedTrace (dialect_in Race options.now)
+        source.old.number source.new.number (R.remaining input.old) (R.remaining input.new))
+        (W.contents output.old) (W.contents output.new) result }
 {
     let dialect = Dialect {
         mode: Mode::Race,
         mutators: options.mutators,
     };
-    let (layout, commands) = read_scripts(rt, alloc, source, dialect, input, output)?;
-    race_commands(rt, alloc, layout, &commands, output, options)
+    let mut listing = Listing {
+        commands: Vec::new(alloc),
+    };
+    let layout = read_whole(rt, source, dialect, input, &mut listing, output)?;
+    race_commands(rt, alloc, layout, &listing.commands, output, options)
 }
 
 /// Replays a trace of stores by a race: reads all of it, and makes the stores of each mutator in a
@@ -101,24 +101,12 @@ pub fn race<T: Threads + Wait + Sync, R: BufRead, W: Write>(
     output: &mut W,
     options: &Options,
 ) -> End
-    ensures told { (number : ℕ) × (outcome : Result (Unit {0}) Stop) × (text : List ℕ)
-        × RacedTrace (record { mode = Race; mutators = options.now.mutators }) 1 number
-        (R.remaining input.old) (R.remaining input.new) outcome text
-        × IsEndWritten (W.contents output.old) (W.contents output.new) outcome
-        (text ++ ending_line number outcome) result }
-    ensures whole { result ≡ End.Whole
-        → IfSome (R.remaining input.old) (λ bytes.
-        IsWholeRace (record { mode = Race; mutators = options.now.mutators }) bytes
-        (W.contents output.old) (W.contents output.new)) }
-    ensures refused { result ≡ End.Refused
-        → IfSome (R.remaining input.old) (λ bytes.
-        IsRefusedTrace (record { mode = Race; mutators = options.now.mutators }) bytes
-        (W.contents output.old) (W.contents output.new)) }
+    ensures { IsReplayed (RacedTrace (dialect_in Race options.now))
+        (IsWholeRace (dialect_in Race options.now)) (IsRefusedTrace (dialect_in Race options.now))
+        (R.remaining input.old) (R.remaining input.new)
+        (W.contents output.old) (W.contents output.new) result }
 {
-    let mut source = Source {
-        reads: 0,
-        number: 1,
-    };
+    let mut source = Source::start();
     let outcome = play_race(rt, alloc, &mut source, input, output, options);
     put_end(output, source.number, outcome)
 }

@@ -1,10 +1,9 @@
 //! A replay by one thread: the header of its trace, its lines, and the line of its end.
-ghost use Rattle.std.specs.Prelude.{◌≡◌, ℕ, List, ◌++◌, Result, IfSome};
+ghost use Rattle.std.specs.Prelude.{◌≡◌};
 ghost use Rattle.g1_trace.specs.declared.mode.Mode.TheVariants.{Run};
-ghost use Rattle.g1_replay.specs.Playing.{Writes};
-ghost use Rattle.g1_replay.specs.Output.{Told, IsEndWritten, ending_line, end_or_failed};
-ghost use Rattle.g1_replay.specs.Output.{IsWholeOutput, IsRefusedOutput};
-ghost use Rattle.g1_replay.specs.declared.stop.Stop.{Stop};
+ghost use Rattle.g1_replay.specs.Playing.{WritesSome};
+ghost use Rattle.g1_replay.specs.Output.{Told, IsEndWritten, IsReplayed, dialect_in, ending_line};
+ghost use Rattle.g1_replay.specs.Output.{IsWholeOutput, IsRefusedOutput, end_or_failed};
 
 use crate::end::End;
 use crate::lines::opening::read_layout;
@@ -12,7 +11,6 @@ use crate::lines::playing::play_lines;
 use crate::lines::source::Source;
 use crate::runs::machinery::Machinery;
 use crate::stop::Stop;
-use g1_layout::Layout;
 use g1_options::Options;
 use g1_trace::{
     Dialect, Mode, WriteFailed, put_book_full, put_fault, put_no_memory, put_no_thread,
@@ -31,12 +29,9 @@ fn play_trace<T: Wait, R: BufRead, W: Write>(
     output: &mut W,
     options: &Options,
 ) -> Result<(), Stop>
-    ensures { (text : List ℕ) × Told (record {
-      mode = Run;
-      mutators = options.now.mutators;
-    }) options.now.config options.now.history source.old.number
-        source.new.number (R.remaining input.old) (R.remaining input.new) result text
-        × Writes (W.contents output.old) (W.contents output.new) result text }
+    ensures { WritesSome (Told (dialect_in Run options.now) options.now.config options.now.history
+        source.old.number source.new.number (R.remaining input.old) (R.remaining input.new))
+        (W.contents output.old) (W.contents output.new) result }
 {
     let layout = read_layout(source, input)?;
     let mut machinery = Machinery::open(alloc, layout, options)?;
@@ -100,33 +95,14 @@ pub fn run<T: Wait, R: BufRead, W: Write>(
     output: &mut W,
     options: &Options,
 ) -> End
-    ensures told { (number : ℕ) × (outcome : Result (Unit {0}) Stop) × (text : List ℕ)
-        × Told (record {
-          mode = Run;
-          mutators = options.now.mutators;
-        }) options.now.config options.now.history 1 number
-        (R.remaining input.old) (R.remaining input.new) outcome text
-        × IsEndWritten (W.contents output.old) (W.contents output.new) outcome
-        (text ++ ending_line number outcome) result }
-    ensures whole { result ≡ End.Whole
-        → IfSome (R.remaining input.old) (λ bytes.
-        IsWholeOutput (record {
-          mode = Run;
-          mutators = options.now.mutators;
-        }) options.now.config bytes (W.contents output.old)
-        (W.contents output.new)) }
-    ensures refused { result ≡ End.Refused
-        → IfSome (R.remaining input.old) (λ bytes.
-        IsRefusedOutput (record {
-          mode = Run;
-          mutators = options.now.mutators;
-        }) options.now.config bytes (W.contents output.old)
-        (W.contents output.new)) }
+    ensures { IsReplayed
+        (Told (dialect_in Run options.now) options.now.config options.now.history)
+        (IsWholeOutput (dialect_in Run options.now) options.now.config)
+        (IsRefusedOutput (dialect_in Run options.now) options.now.config)
+        (R.remaining input.old) (R.remaining input.new)
+        (W.contents output.old) (W.contents output.new) result }
 {
-    let mut source = Source {
-        reads: 0,
-        number: 1,
-    };
+    let mut source = Source::start();
     let outcome = play_trace(rt, alloc, &mut source, input, output, options);
     put_end(output, source.number, outcome)
 }

@@ -24,38 +24,31 @@ use Rattle.g1_replay.specs.declared.races.desk.Member.{Member}
 use Rattle.g1_replay.specs.Members.{member_rights}
 use Rattle.g1_replay.proofs.LeftLemmas.{table_left}
 use Rattle.g1_replay.proofs.PlacedLemmas.{racers_of, racers_begun_of, senders_of, sweepers_begun_of, sweepers_of, takers_of, sorted_length, sorted_rights}
-use Rattle.g1_replay.proofs.RanRaceLemmas.{are_run, each_own, every_own, views_of}
+use Rattle.g1_replay.proofs.RanRaceLemmas.{AreRun, are_run, each_own, every_own, views_of}
 use Rattle.g1_replay.proofs.races.jobs.run_race.Goals as goal
+use Rattle.g1_replay.proofs.races.jobs.run_race.Goals.{In_ok-returned}
+
+-- the jobs were run
+run : (g : _) (c : In_ok-returned g) → AreRun (λ d. d.member) c.in_ok-race.race c.in_ok-line.line c.args.options.now.mutators c.args.commands.now 0 c.in_ok-jobs.jobs.items c.in_ok-done.done.items
+run g c = are_run (λ d. d.member) c.in_ok-race.race c.in_ok-line.line c.args.options.now.mutators c.args.options.now.rounds c.args.commands.now 0 c.in_ok-jobs.jobs.items c.in_ok-done.done.items c.in_ok-jobs.ensures.jobs c.in_ok-done.ensures c.in_ok-returned.ensures.whole
 
 pub settle-requires-clause-senders : goal.settle-requires-clause-senders
 settle-requires-clause-senders g c =
-    let race = c.in_ok-race.race in
-    let line = c.in_ok-line.line in
-    let run = are_run (λ d. d.member) race line c.args.options.now.mutators c.args.options.now.rounds c.args.commands.now 0 c.in_ok-jobs.jobs.items c.in_ok-done.done.items c.in_ok-jobs.ensures.jobs c.in_ok-done.ensures c.in_ok-returned.ensures.whole in
-    subst (λ (xs : List Sender). All (IsSenderOf line) xs) (sym c.in_ok-returned.ensures.senders) (senders_of race line _ run.of)
+    subst (λ (xs : List Sender). All (IsSenderOf c.in_ok-line.line) xs) (sym c.in_ok-returned.ensures.senders) (senders_of c.in_ok-race.race c.in_ok-line.line _ (run g c).of)
 
 pub settle-requires-clause-takers : goal.settle-requires-clause-takers
 settle-requires-clause-takers g c =
-    let race = c.in_ok-race.race in
-    let line = c.in_ok-line.line in
-    let run = are_run (λ d. d.member) race line c.args.options.now.mutators c.args.options.now.rounds c.args.commands.now 0 c.in_ok-jobs.jobs.items c.in_ok-done.done.items c.in_ok-jobs.ensures.jobs c.in_ok-done.ensures c.in_ok-returned.ensures.whole in
-    subst (λ (xs : List Taker). All (IsTakerOf line) xs) (sym c.in_ok-returned.ensures.takers) (takers_of race line _ run.of)
+    subst (λ (xs : List Taker). All (IsTakerOf c.in_ok-line.line) xs) (sym c.in_ok-returned.ensures.takers) (takers_of c.in_ok-race.race c.in_ok-line.line _ (run g c).of)
 
 pub settle-requires-clause-all : goal.settle-requires-clause-all
 settle-requires-clause-all g c =
-    let race = c.in_ok-race.race in
-    let line = c.in_ok-line.line in
-    let run = are_run (λ d. d.member) race line c.args.options.now.mutators c.args.options.now.rounds c.args.commands.now 0 c.in_ok-jobs.jobs.items c.in_ok-done.done.items c.in_ok-jobs.ensures.jobs c.in_ok-done.ensures c.in_ok-returned.ensures.whole in
     let senders = ap (λ (xs : List Sender). sum_by sender_rights xs) c.in_ok-returned.ensures.senders in
     let takers = ap (λ (xs : List Taker). sum_by taker_rights xs) c.in_ok-returned.ensures.takers in
     let members = ap (λ (ms : List Member). sum_by member_rights ms) c.in_ok-jobs.ensures.members in
-    omega (arith, senders, takers, sorted_rights (map (λ job. job.desk.member) c.in_ok-done.done.items), run.rights, members, c.in_ok-members.ensures.rights, c.in_ok-line.ensures.all)
+    omega (arith, senders, takers, sorted_rights (map (λ job. job.desk.member) c.in_ok-done.done.items), (run g c).rights, members, c.in_ok-members.ensures.rights, c.in_ok-line.ensures.all)
 
 pub close-requires-clause-racers : goal.close-requires-clause-racers
 close-requires-clause-racers g c =
-    let race = c.in_ok-race.race in
-    let line = c.in_ok-line.line in
-    let run = are_run (λ d. d.member) race line c.args.options.now.mutators c.args.options.now.rounds c.args.commands.now 0 c.in_ok-jobs.jobs.items c.in_ok-done.done.items c.in_ok-jobs.ensures.jobs c.in_ok-done.ensures c.in_ok-returned.ensures.whole in
     let racers = ap (λ (xs : List Racer). length xs) c.in_ok-returned.ensures.racers in
     let sweepers = ap (λ (xs : List Sweeper). length xs) c.in_ok-returned.ensures.sweepers in
     let members = ap (λ (ms : List Member). length ms) c.in_ok-jobs.ensures.members in
@@ -65,7 +58,7 @@ close-requires-clause-racers g c =
         racers,
         sweepers,
         sorted_length (map (λ job. job.desk.member) c.in_ok-done.done.items),
-        run.len,
+        (run g (goal.at.close-requires-clause-racers g c).In_ok-returned).len,
         members,
         c.in_ok-members.ensures.len,
         c.in_ok-race.ensures.racers.0,
@@ -75,15 +68,12 @@ close-requires-clause-racers g c =
         c.in_ok-returned.returned.sweepers.ok.0,
         c.in_ok-members.members.ok.0,
       ),
-      subst (λ (xs : List Racer). All (λ r. racer_race r ≡ race_id race) xs) (sym c.in_ok-returned.ensures.racers) (racers_of race line _ run.of),
+      subst (λ (xs : List Racer). All (λ r. racer_race r ≡ race_id c.in_ok-race.race) xs) (sym c.in_ok-returned.ensures.racers) (racers_of c.in_ok-race.race c.in_ok-line.line _ (run g (goal.at.close-requires-clause-racers g c).In_ok-returned).of),
     )
 
 pub close-requires-clause-sweepers : goal.close-requires-clause-sweepers
 close-requires-clause-sweepers g c =
-    let race = c.in_ok-race.race in
-    let line = c.in_ok-line.line in
-    let run = are_run (λ d. d.member) race line c.args.options.now.mutators c.args.options.now.rounds c.args.commands.now 0 c.in_ok-jobs.jobs.items c.in_ok-done.done.items c.in_ok-jobs.ensures.jobs c.in_ok-done.ensures c.in_ok-returned.ensures.whole in
-    subst (λ (xs : List Sweeper). All (λ w. sweeper_race w ≡ race_id race) xs) (sym c.in_ok-returned.ensures.sweepers) (sweepers_of race line _ run.of)
+    subst (λ (xs : List Sweeper). All (λ w. sweeper_race w ≡ race_id c.in_ok-race.race) xs) (sym c.in_ok-returned.ensures.sweepers) (sweepers_of c.in_ok-race.race c.in_ok-line.line _ (run g (goal.at.close-requires-clause-sweepers g c).In_ok-returned).of)
 
 pub returns-clause-left : goal.returns-clause-left
 returns-clause-left g c =
@@ -97,7 +87,7 @@ returns-clause-left g c =
     let rs = c.in_ok-returned.returned.racers.items in
     let ws = c.in_ok-returned.returned.sweepers.items in
     let sweepers = map sweeper_view ws in
-    let run = are_run (λ d. d.member) race line mutators c.args.options.now.rounds commands 0 c.in_ok-jobs.jobs.items c.in_ok-done.done.items c.in_ok-jobs.ensures.jobs c.in_ok-done.ensures c.in_ok-returned.ensures.whole in
+    let run = run g (goal.at.returns-clause-left g c).In_ok-returned in
     let members = ap (λ (xs : List Member). length xs) c.in_ok-jobs.ensures.members in
     let laid = c.close.ensures.layout ∙ c.in_ok-race.ensures.layout in
     let racing = subst (λ (xs : List Racer). All (λ r. racer_start r ≡ null_of race.shape) xs) (sym c.in_ok-returned.ensures.racers) (racers_begun_of race line ms run.of) in

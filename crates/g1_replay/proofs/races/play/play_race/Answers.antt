@@ -1,7 +1,7 @@
 use Rattle.std.proofs.Common.{◌≡◌, rules}
 use Rattle.std.proofs.lemmas.Result.{err_from_is_err_and}
 use Rattle.g1_replay.specs.Race.{RaceRan}
-use Rattle.g1_replay.proofs.ScriptedLemmas.{scripts_unread, scripts_run}
+use Rattle.g1_replay.proofs.ScriptedLemmas.{scripts_unread, scripts_run, listed}
 use Rattle.g1_replay.proofs.races.play.play_race.Goals as goal
 
 pub returns-in_err-layout : goal.returns-in_err-layout
@@ -11,5 +11,6 @@ returns-in_err-layout g c =
 
 pub returns : goal.returns
 returns g c =
-    let same : c.deref.result.now ≡ c.in_ok-layout.commands.items = search rules in
-    scripts_run (RaceRan c.args.options.now.mutators) _ _ _ c.in_ok-layout.layout _ _ _ _ _ _ c.race_commands.result c.in_ok-layout.ensures.read c.in_ok-layout.ensures.silent (rw same at c.race_commands.ensures)
+    let same : c.deref.result.now ≡ c.read_whole.new.player.commands.items = search rules in
+    scripts_run (RaceRan c.args.options.now.mutators) _ _ _ c.in_ok-layout.layout _ _ _ _ _ _ c.race_commands.result
+    (listed _ _ _ c.in_ok-layout.layout (record { commands = c.new.result }) c.read_whole.new.player _ _ (search rules) c.in_ok-layout.ensures.read) c.in_ok-layout.ensures.silent (rw same at c.race_commands.ensures)

@@ -1,15 +1,14 @@
-use Rattle.g1_replay.specs.Race.{RaceRan}
-use Rattle.g1_replay.proofs.EndLemmas.{ended_then}
+use Rattle.g1_trace.specs.declared.mode.Mode.TheVariants.{Race}
+use Rattle.g1_replay.specs.Output.{dialect_in}
+use Rattle.g1_replay.specs.Race.{IsWholeRace, RacedTrace, RaceRan}
+use Rattle.g1_replay.specs.Scripted.{IsRefusedTrace}
+use Rattle.g1_replay.proofs.EndLemmas.{replayed}
 use Rattle.g1_replay.proofs.RaceLemmas.{race_ends, whole_race}
 use Rattle.g1_replay.proofs.ScriptedLemmas.{refused_trace}
 use Rattle.g1_replay.proofs.races.play.race.Goals as goal
 
 pub returns : goal.returns
 returns g c =
-    let t = c.play_race-outcome.ensures in
-    let i = ended_then _ _ _ c.play_race-outcome.result _ t.0 c.put_end.result t.2 c.put_end.ensures in
-    record {
-      told = (c.play_race-outcome.new.source.number, c.play_race-outcome.result, t.0, t.1, i);
-      whole = λ e. whole_race _ _ _ _ _ _ c.play_race-outcome.result t.0 c.put_end.result t.1 i e;
-      refused = λ e. refused_trace (RaceRan c.args.options.now.mutators) (race_ends c.args.options.now.mutators) _ _ _ _ _ _ c.play_race-outcome.result t.0 c.put_end.result t.1 i e;
-    }
+    let o = c.args.options.now in
+    let d = dialect_in Race o in
+    replayed (RacedTrace d) (IsWholeRace d) (IsRefusedTrace d) (whole_race d) (refused_trace (RaceRan o.mutators) (race_ends o.mutators) d) _ _ _ _ _ _ _ c.play_race-outcome.result _ c.start-source.ensures c.play_race-outcome.ensures c.put_end.ensures

@@ -1,8 +1,8 @@
-use Rattle.std.proofs.Common.{List, ℕ, ap, subst}
+use Rattle.std.proofs.Common.{ap, subst}
 use Rattle.std.proofs.lemmas.Result.{err_from_is_err_and}
 use Rattle.g1_layout.specs.Shape.{Shape}
 use Rattle.g1_core.specs.Machine.{Machine}
-use Rattle.g1_replay.specs.Playing.{Writes}
+use Rattle.g1_replay.specs.Playing.{WritesSome}
 use Rattle.g1_replay.specs.Race.{RaceRan}
 use Rattle.g1_replay.specs.declared.stop.Stop.TheVariants.{NoMemory}
 use Rattle.g1_replay.proofs.RaceLemmas.{race_stopped}
@@ -20,4 +20,4 @@ pub returns : goal.returns
 returns g c =
     let table = ap (λ (m : Machine). m.state.table) c.in-Ok.ensures.core in
     let done = c.put_race.ensures c.args.options.now.mutators c.in_ok-closed.closed table c.in_ok-closed.ensures.left in
-    subst (λ (l : Shape). (text : List ℕ) × RaceRan c.args.options.now.mutators l c.args.commands.now c.put_race.result text × Writes (g.W.Write.contents c.args.output.now) (g.W.Write.contents c.put_race.new.output) c.put_race.result text) c.in_ok-closed.ensures.layout done
+    subst (λ (l : Shape). WritesSome (RaceRan c.args.options.now.mutators l c.args.commands.now) (g.W.Write.contents c.args.output.now) (g.W.Write.contents c.put_race.new.output) c.put_race.result) c.in_ok-closed.ensures.layout done

@@ -1,0 +1,50 @@
+//! A trace that is read to its end before any of its commands is done.
+ghost use Rattle.std.specs.Prelude.{◌≡◌, ℕ, List, [], Ok, Some, None, false, IfOk, MatchResult};
+ghost use Rattle.std.specs.Io.KnownBytes.{Appends};
+ghost use Rattle.g1_layout.specs.Shape.{Shape};
+ghost use Rattle.g1_trace.specs.declared.command.Command.{Command};
+ghost use Rattle.g1_replay.specs.Reading.{Reads};
+ghost use Rattle.g1_replay.specs.Scripted.{StopsReading};
+ghost use Rattle.g1_replay.specs.declared.stop.Stop.{Stop as Stops};
+ghost use Rattle.g1_replay.specs.declared.stop.Stop.TheVariants.{NoMemory};
+
+use crate::lines::opening::read_layout;
+use crate::lines::player::Player;
+use crate::lines::playing::play_lines;
+use crate::lines::source::Source;
+use crate::stop::Stop;
+use g1_layout::Layout;
+use g1_trace::Dialect;
+use std::io::{BufRead, Write};
+use std::sync::Wait;
+
+/// Reads a trace to its end and returns its heap. `player` keeps the commands, and writes nothing.
+///
+/// On a fault, `source.number` is the faulty line. Returns `NoMemory` if a growth for the commands
+/// was refused.
+pub(crate) fn read_whole<T: Wait, P: Player, R: BufRead, W: Write>(
+    rt: &T,
+    source: &mut Source,
+    dialect: Dialect,
+    input: &mut R,
+    player: &mut P,
+    output: &mut W,
+) -> Result<Layout, Stop>
+    requires takes { (layout : Shape) → P.takes player.old layout dialect }
+    requires silent { (s t : P) (cs : List Command) (text : List ℕ) → P.did s cs text t
+        → text ≡ [] }
+    requires stops { (stop : Stops) → P.stops stop → stop ≡ NoMemory }
+    ensures read { MatchResult result
+        (λ layout. (commands : List Command)
+        × Reads dialect None source.old.number source.new.number (R.remaining input.old)
+        (R.remaining input.new) (Some layout) commands (Ok false)
+        × P.did player.old commands [] player.new)
+        (λ stop. StopsReading dialect source.old.number source.new.number (R.remaining input.old)
+        (R.remaining input.new) stop) }
+    ensures takes { IfOk result (λ layout. P.takes player.new layout dialect) }
+    ensures silent { Appends (W.contents output.old) (W.contents output.new) [] }
+{
+    let layout = read_layout(source, input)?;
+    play_lines(rt, source, layout, dialect, input, player, output)?;
+    Ok(layout)
+}
