@@ -1,6 +1,6 @@
 -- Lines that were played: one, and one after another.
-use Rattle.std.proofs.Common.{◌≡◌, ℕ, ◌+◌, List, [], ◌∷◌, ◌++◌, refl, sym, ap, subst, ◌∙◌, append_assoc, append-nil, take, drop, Option, Some, None, true, arith}
-use Rattle.std.specs.Prelude.{Bool, Result, Ok, Err, IfErr}
+use Rattle.std.proofs.Common.{◌≡◌, ℕ, ◌+◌, List, [], ◌∷◌, ◌++◌, refl, sym, ap, subst, ◌∙◌, append_assoc, append-nil, take, drop, length, ◌<◌, ◌≤◌, ◌⊎◌, Option, Some, None, true, arith}
+use Rattle.std.specs.Prelude.{Bool, Result, Ok, Err, IfErr, OnOk}
 use Rattle.std.specs.Io.KnownBytes.{Consumes}
 use Rattle.std.proofs.lemmas.List.{take-take, drop-take, take-append-drop}
 use Rattle.g1_layout.specs.Shape.{Shape}
@@ -9,7 +9,7 @@ use Rattle.g1_trace.specs.declared.dialect.Dialect.{Dialect}
 use Rattle.g1_trace.proofs.PutLemmas.{puts_none, puts_then}
 use Rattle.g1_replay.specs.declared.stop.Stop.{Stop}
 use Rattle.g1_replay.specs.declared.stop.Stop.TheVariants.{Fault, NoMemory, BookFull, NoThread, ReadFailed, WriteFailed}
-use Rattle.g1_replay.specs.Playing.{IsUndone, Does, MayStop, Follows, FollowsFront, written_by}
+use Rattle.g1_replay.specs.Playing.{IsUndone, Does, MayStop, Follows, FollowsFront, PlaysFirst, written_by}
 use Rattle.g1_replay.specs.Reading.{IsReadStop, Reads, more_may_come}
 use Rattle.g1_replay.proofs.ReadingLemmas.{reads_none, reads_then}
 
@@ -120,3 +120,8 @@ pub front_then : {S : Type 0} (did : S → List Command → List ℕ → S → T
 front_then did full then d l n n' n2 k m old mid new shown left out out' out2 r e p q = λ rd rd2 moved.
     let apart = consumes_apart rd rd2 (take k shown) (take m left) (subst (Consumes rd rd2) (sym (take_then k m shown) ∙ ap (λ w. take k shown ++ take m w) (sym e)) moved) in
     follows_then did full then d l n n' n2 old mid new rd apart.0 rd2 out out' out2 r (p rd apart.0 apart.1) (q apart.0 rd2 apart.2)
+
+-- a line that was there as a whole
+pub first_played : {S : Type 0} (did : S → List Command → List ℕ → S → Type 0) (full : S → Type 0) (Stops : Stop → Type 0) (Takes : S → Shape → Dialect → Type 0) (d : Dialect) (l : Shape) (n n' : ℕ) (old new : S) (bytes : List ℕ) (out out' : Option (List ℕ)) (k : ℕ) (r : Result (Unit {0}) Stop)
+    → FollowsFront did full d l n n' old new (take k bytes) out out' (more_may_come r) → (0 < k) × (k ≤ length bytes) → n' ≤ n + 1 → IfErr r (λ stop. IsReadStop stop ⊎ Stops stop) → OnOk r (Takes new l d) → PlaysFirst did full Stops Takes d l n n' old new bytes out out' (Some (k, r))
+first_played did full Stops Takes d l n n' old new bytes out out' k r followed within counted stops takes = record { followed = followed; within = within; counted = counted; stops = stops; takes = takes; none = λ e. cc }

@@ -1,7 +1,7 @@
 -- What is done with the commands of a trace, between two states of the reader, the writer and the
 -- one that plays.
 use Rattle.std.specs.Prelude.{◌≡◌, ◌≤◌, ℕ, List, [], ◌∷◌, ◌++◌, Bool, Result, Ok, Err, Option, Some}
-use Rattle.std.specs.Prelude.{length}
+use Rattle.std.specs.Prelude.{◌⊎◌, ◌<◌, ◌+◌, length, take, IfErr, IfSome, IsNone, OnOk}
 use Rattle.std.specs.Io.KnownBytes.{Consumes}
 use Rattle.g1_layout.specs.Shape.{Shape}
 use Rattle.g1_log.specs.declared.line.Line.{Line}
@@ -18,7 +18,7 @@ use Rattle.g1_replay.specs.declared.stop.Stop.{Stop}
 use Rattle.g1_replay.specs.declared.stop.Stop.TheVariants.{NoMemory, BookFull, WriteFailed}
 use Rattle.g1_replay.specs.Pieces.{Piece, IsLineOf, IsSetBy, AreSetBy, Walks, lines_of}
 use Rattle.g1_replay.specs.Pieces.{entries_of}
-use Rattle.g1_replay.specs.Reading.{Reads}
+use Rattle.g1_replay.specs.Reading.{IsReadStop, Reads, more_may_come}
 
 -- A new book over this layout, on the terms that the options say, whose machine is new.
 abbrev pub IsOpened : Shape → Options → History → Type 0
@@ -121,3 +121,17 @@ abbrev pub FollowsFront : {S : Type 0} → (S → List Command → List ℕ → 
 FollowsFront did full d l n n' old new bytes out out' r =
     (rd rd' : Option (List ℕ)) → Consumes rd rd' bytes
     → Follows did full d l n n' old new rd rd' out out' r
+
+-- The line that these bytes begin with was played, if it is there as a whole: the result says how
+-- many bytes it takes, and what stopped it. Otherwise nothing was done.
+pub record PlaysFirst {S : Type 0} (did : S → List Command → List ℕ → S → Type 0) (full : S
+    → Type 0) (Stops : Stop → Type 0) (Takes : S → Shape → Dialect → Type 0) (d : Dialect) (l : Shape)
+    (n n' : ℕ) (old new : S) (bytes : List ℕ) (out out' : Option (List ℕ))
+    (r : Option (ℕ × Result (Unit {0}) Stop)) : Type 0 where
+  pub followed : IfSome r (λ p. FollowsFront did full d l n n' old new (take p.0 bytes) out out'
+      (more_may_come p.1))
+  pub within : IfSome r (λ p. (0 < p.0) × (p.0 ≤ length bytes))
+  pub counted : n' ≤ n + 1
+  pub stops : IfSome r (λ p. IfErr p.1 (λ stop. IsReadStop stop ⊎ Stops stop))
+  pub takes : IfSome r (λ p. OnOk p.1 (Takes new l d))
+  pub none : IsNone r → (n' ≡ n) × (new ≡ old) × (out' ≡ out)

@@ -1,7 +1,7 @@
 //! The lines that a reader shows as a whole, read where they lie and played one after the other.
 ghost use Rattle.std.specs.Prelude.{◌≡◌, ◌<◌, ◌≤◌, ◌+◌, ◌^◌, ◌⊎◌, take, length};
 ghost use Rattle.std.specs.Prelude.{IfSome, IfErr, OnOk, IsNone};
-ghost use Rattle.g1_replay.specs.Playing.{FollowsFront};
+ghost use Rattle.g1_replay.specs.Playing.{FollowsFront, PlaysFirst};
 ghost use Rattle.g1_replay.specs.Reading.{IsReadStop, more_may_come};
 
 use crate::lines::line::{LINE_LIMIT, Part, part_of};
@@ -62,15 +62,8 @@ fn play_first<T: Wait, P: Player, W: Write>(
 ) -> Option<(usize, Result<(), Stop>)>
     requires takes { P.takes player.old layout.now dialect }
     requires room { number.old + 1 < 2 ^ 64 }
-    ensures followed { IfSome result (λ r. FollowsFront P.did P.full dialect layout.now
-        number.old number.new player.old player.new (take r.0 bytes.now)
-        (W.contents output.old) (W.contents output.new) (more_may_come r.1)) }
-    ensures within { IfSome result (λ r. (0 < r.0) × (r.0 ≤ length bytes.now)) }
-    ensures counted { number.new ≤ number.old + 1 }
-    ensures stops { IfSome result (λ r. IfErr r.1 (λ stop. IsReadStop stop ⊎ P.stops stop)) }
-    ensures takes { IfSome result (λ r. OnOk r.1 (P.takes player.new layout.now dialect)) }
-    ensures none { IsNone result → (number.new ≡ number.old) × (player.new ≡ player.old)
-        × (W.contents output.new ≡ W.contents output.old) }
+    ensures { PlaysFirst P.did P.full P.stops P.takes dialect layout.now number.old number.new
+        player.old player.new bytes.now (W.contents output.old) (W.contents output.new) result }
 {
     if let Some((store, count)) = read_store(*layout, dialect, bytes) {
         *number += 1;
@@ -93,15 +86,8 @@ fn play_other<T: Wait, P: Player, W: Write>(
 ) -> Option<(usize, Result<(), Stop>)>
     requires takes { P.takes player.old layout.now dialect }
     requires room { number.old + 1 < 2 ^ 64 }
-    ensures followed { IfSome result (λ r. FollowsFront P.did P.full dialect layout.now
-        number.old number.new player.old player.new (take r.0 bytes.now)
-        (W.contents output.old) (W.contents output.new) (more_may_come r.1)) }
-    ensures within { IfSome result (λ r. (0 < r.0) × (r.0 ≤ length bytes.now)) }
-    ensures counted { number.new ≤ number.old + 1 }
-    ensures stops { IfSome result (λ r. IfErr r.1 (λ stop. IsReadStop stop ⊎ P.stops stop)) }
-    ensures takes { IfSome result (λ r. OnOk r.1 (P.takes player.new layout.now dialect)) }
-    ensures none { IsNone result → (number.new ≡ number.old) × (player.new ≡ player.old)
-        × (W.contents output.new ≡ W.contents output.old) }
+    ensures { PlaysFirst P.did P.full P.stops P.takes dialect layout.now number.old number.new
+        player.old player.new bytes.now (W.contents output.old) (W.contents output.new) result }
 {
     let (Part::Whole, size, count) = part_of(bytes, LINE_LIMIT) else {
         return None;
