@@ -15,7 +15,7 @@ use Rattle.g1_trace.specs.Text.{fault_line}
 use Rattle.g1_trace.specs.Trace.{read_trace, before}
 use Rattle.g1_trace.proofs.PutLemmas.{front_then}
 use Rattle.g1_replay.specs.declared.end.End.{End}
-use Rattle.g1_replay.specs.declared.end.End.TheVariants.{Whole, Refused, Stopped, ReadFailed as EndReadFailed, WriteFailed as EndWriteFailed}
+use Rattle.g1_replay.specs.declared.end.End.TheVariants.{Whole, Refused, WriteFailed as EndWriteFailed}
 use Rattle.g1_replay.specs.declared.stop.Stop.{Stop}
 use Rattle.g1_replay.specs.declared.stop.Stop.TheVariants.{Fault, WriteFailed}
 use Rattle.g1_replay.specs.Output.{Tale, Told, IsEndWritten, IsReplayed, ending_line, end_of, IsWholeOutput, IsRefusedOutput}
@@ -46,10 +46,7 @@ whole_ended out out1 out' (Err stop) n text ne w i = Appends-trans _ _ _ _ _ w i
 
 ended_then : (out out1 out' : Option (List ℕ)) (r : Result (Unit {0}) Stop) (n : ℕ) (text : List ℕ) (end : End) → Writes out out1 r text → IsEndWritten out1 out' r (ending_line n r) end → IsEndWritten out out' r (text ++ ending_line n r) end
 ended_then out out1 out' r n text EndWriteFailed w i = front_ended out out1 out' r n text w i
-ended_then out out1 out' r n text Whole w i = (i.0, whole_ended out out1 out' r n text (λ e. let bad : Whole ≡ EndWriteFailed = i.0 ∙ e in cc) w i.1)
-ended_then out out1 out' r n text Refused w i = (i.0, whole_ended out out1 out' r n text (λ e. let bad : Refused ≡ EndWriteFailed = i.0 ∙ e in cc) w i.1)
-ended_then out out1 out' r n text Stopped w i = (i.0, whole_ended out out1 out' r n text (λ e. let bad : Stopped ≡ EndWriteFailed = i.0 ∙ e in cc) w i.1)
-ended_then out out1 out' r n text EndReadFailed w i = (i.0, whole_ended out out1 out' r n text (λ e. let bad : EndReadFailed ≡ EndWriteFailed = i.0 ∙ e in cc) w i.1)
+ended_then out out1 out' r n text end w i = (i.0, whole_ended out out1 out' r n text (λ e. let bad : end ≡ EndWriteFailed = i.0 ∙ e in cc) w i.1)
 
 -- what the end says of the whole output
 abbrev pub Says : Tale → End → (List ℕ → Option (List ℕ) → Option (List ℕ) → Type 0) → Type 0

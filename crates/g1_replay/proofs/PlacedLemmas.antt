@@ -52,28 +52,20 @@ pub sorted_all : {D B : Type 0} (member : D → Member) (kind : Member → Optio
 sorted_all member kind old all [] e was = sym (append-nil old) ∙ was
 sorted_all member kind old all (d ∷ ds) e was = absurd (omega (arith, e))
 
--- the kinds of members, sorted
-
-pub racers_of : (race : Race) (line : Line) (ms : List Member) → All (IsMemberOf race line) ms → All (λ r. racer_race r ≡ race_id race) (filter_map racer_in ms)
-racers_of race line [] all = All-nil (λ r. racer_race r ≡ race_id race)
-racers_of race line (Racing r s ∷ ms) all = All-cons (λ r. racer_race r ≡ race_id race) r (filter_map racer_in ms) (All-head (IsMemberOf race line) (Racing r s) ms all).0 (racers_of race line ms (All-tail (IsMemberOf race line) (Racing r s) ms all))
+-- the kinds of members, sorted: all are of the race, and began with nulls
+pub racers_of : (race : Race) (line : Line) (ms : List Member) → All (IsMemberOf race line) ms → All (λ r. (racer_race r ≡ race_id race) × (racer_start r ≡ null_of race.shape)) (filter_map racer_in ms)
+racers_of race line [] all = All-nil (λ r. (racer_race r ≡ race_id race) × (racer_start r ≡ null_of race.shape))
+racers_of race line (Racing r s ∷ ms) all =
+    let of = All-head (IsMemberOf race line) (Racing r s) ms all in
+    All-cons (λ r. (racer_race r ≡ race_id race) × (racer_start r ≡ null_of race.shape)) r (filter_map racer_in ms) (of.0, of.2) (racers_of race line ms (All-tail (IsMemberOf race line) (Racing r s) ms all))
 racers_of race line (Sweeping w t ∷ ms) all = racers_of race line ms (All-tail (IsMemberOf race line) (Sweeping w t) ms all)
 
-pub sweepers_of : (race : Race) (line : Line) (ms : List Member) → All (IsMemberOf race line) ms → All (λ w. sweeper_race w ≡ race_id race) (filter_map sweeper_in ms)
-sweepers_of race line [] all = All-nil (λ w. sweeper_race w ≡ race_id race)
+pub sweepers_of : (race : Race) (line : Line) (ms : List Member) → All (IsMemberOf race line) ms → All (λ w. (sweeper_race w ≡ race_id race) × (sweeper_start w ≡ null_of race.shape)) (filter_map sweeper_in ms)
+sweepers_of race line [] all = All-nil (λ w. (sweeper_race w ≡ race_id race) × (sweeper_start w ≡ null_of race.shape))
 sweepers_of race line (Racing r s ∷ ms) all = sweepers_of race line ms (All-tail (IsMemberOf race line) (Racing r s) ms all)
-sweepers_of race line (Sweeping w t ∷ ms) all = All-cons (λ w. sweeper_race w ≡ race_id race) w (filter_map sweeper_in ms) (All-head (IsMemberOf race line) (Sweeping w t) ms all).0 (sweepers_of race line ms (All-tail (IsMemberOf race line) (Sweeping w t) ms all))
-
--- they all began with nulls
-pub racers_begun_of : (race : Race) (line : Line) (ms : List Member) → All (IsMemberOf race line) ms → All (λ r. racer_start r ≡ null_of race.shape) (filter_map racer_in ms)
-racers_begun_of race line [] all = All-nil (λ r. racer_start r ≡ null_of race.shape)
-racers_begun_of race line (Racing r s ∷ ms) all = All-cons (λ r. racer_start r ≡ null_of race.shape) r (filter_map racer_in ms) (All-head (IsMemberOf race line) (Racing r s) ms all).2 (racers_begun_of race line ms (All-tail (IsMemberOf race line) (Racing r s) ms all))
-racers_begun_of race line (Sweeping w t ∷ ms) all = racers_begun_of race line ms (All-tail (IsMemberOf race line) (Sweeping w t) ms all)
-
-pub sweepers_begun_of : (race : Race) (line : Line) (ms : List Member) → All (IsMemberOf race line) ms → All (λ w. sweeper_start w ≡ null_of race.shape) (filter_map sweeper_in ms)
-sweepers_begun_of race line [] all = All-nil (λ w. sweeper_start w ≡ null_of race.shape)
-sweepers_begun_of race line (Racing r s ∷ ms) all = sweepers_begun_of race line ms (All-tail (IsMemberOf race line) (Racing r s) ms all)
-sweepers_begun_of race line (Sweeping w t ∷ ms) all = All-cons (λ w. sweeper_start w ≡ null_of race.shape) w (filter_map sweeper_in ms) (All-head (IsMemberOf race line) (Sweeping w t) ms all).2 (sweepers_begun_of race line ms (All-tail (IsMemberOf race line) (Sweeping w t) ms all))
+sweepers_of race line (Sweeping w t ∷ ms) all =
+    let of = All-head (IsMemberOf race line) (Sweeping w t) ms all in
+    All-cons (λ w. (sweeper_race w ≡ race_id race) × (sweeper_start w ≡ null_of race.shape)) w (filter_map sweeper_in ms) (of.0, of.2) (sweepers_of race line ms (All-tail (IsMemberOf race line) (Sweeping w t) ms all))
 
 pub senders_of : (race : Race) (line : Line) (ms : List Member) → All (IsMemberOf race line) ms → All (IsSenderOf line) (filter_map sender_in ms)
 senders_of race line [] all = All-nil (IsSenderOf line)

@@ -13,7 +13,7 @@ use Rattle.g1_trace.specs.declared.command.Command.{Command}
 use Rattle.g1_trace.specs.declared.dialect.Dialect.{Dialect}
 use Rattle.g1_options.specs.declared.options.Options.{Options}
 use Rattle.g1_replay.specs.declared.stop.Stop.{Stop}
-use Rattle.g1_replay.specs.declared.stop.Stop.TheVariants.{Fault, NoMemory, BookFull, NoThread, ReadFailed, WriteFailed}
+use Rattle.g1_replay.specs.declared.stop.Stop.TheVariants.{Fault, NoMemory, BookFull, NoThread, ReadFailed}
 use Rattle.g1_replay.specs.Output.{StartsNoThread, Told, end_met}
 use Rattle.g1_replay.specs.Pieces.{AreSetBy, entries_of}
 use Rattle.g1_replay.specs.Playing.{IsOpened, IsBookFull, IsUndone, HasPlayed, Follows, MayStop, Writes}
@@ -83,11 +83,7 @@ shape_kept l o book new es is g = ap (λ (t : Terms). t.layout) g.terms ∙ ap l
 undone_as : (r : Result (Unit {0}) Stop) (undone : List Command) → IsUndone (end_met r) undone → IsUndone r undone
 undone_as (Ok done) undone h = h
 undone_as (Err (Fault f)) undone h = h
-undone_as (Err NoMemory) undone h = h
-undone_as (Err BookFull) undone h = h
-undone_as (Err NoThread) undone h = h
-undone_as (Err ReadFailed) undone h = h
-undone_as (Err WriteFailed) undone h = h
+undone_as (Err stop) undone h = h
 
 pub full_as : (r : Result (Unit {0}) Stop) → r ≡ Err BookFull → end_met r ≡ Err BookFull
 full_as r e = ap end_met e
@@ -95,11 +91,7 @@ full_as r e = ap end_met e
 pub written_as : (out out' : Option (List ℕ)) (r : Result (Unit {0}) Stop) (text : List ℕ) → Writes out out' (end_met r) text → Writes out out' r text
 written_as out out' (Ok done) text w = w
 written_as out out' (Err (Fault f)) text w = w
-written_as out out' (Err NoMemory) text w = w
-written_as out out' (Err BookFull) text w = w
-written_as out out' (Err NoThread) text w = w
-written_as out out' (Err ReadFailed) text w = w
-written_as out out' (Err WriteFailed) text w = w
+written_as out out' (Err stop) text w = w
 
 -- neither a line nor a command starts a thread
 starts_none : (r : Result (Unit {0}) Stop) → IfErr r (λ stop. IsReadStop stop ⊎ MayStop stop) → StartsNoThread r

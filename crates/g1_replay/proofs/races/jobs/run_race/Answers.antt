@@ -23,7 +23,7 @@ use Rattle.g1_race.specs.Members.{null_begun, race_begun, race_id, racer_race, r
 use Rattle.g1_replay.specs.declared.races.desk.Member.{Member}
 use Rattle.g1_replay.specs.Members.{member_rights}
 use Rattle.g1_replay.proofs.LeftLemmas.{table_left}
-use Rattle.g1_replay.proofs.PlacedLemmas.{racers_of, racers_begun_of, senders_of, sweepers_begun_of, sweepers_of, takers_of, sorted_length, sorted_rights}
+use Rattle.g1_replay.proofs.PlacedLemmas.{racers_of, senders_of, sweepers_of, takers_of, sorted_length, sorted_rights}
 use Rattle.g1_replay.proofs.RanRaceLemmas.{AreRun, are_run, each_own, every_own, views_of}
 use Rattle.g1_replay.proofs.races.jobs.run_race.Goals as goal
 use Rattle.g1_replay.proofs.races.jobs.run_race.Goals.{In_ok-returned}
@@ -68,12 +68,12 @@ close-requires-clause-racers g c =
         c.in_ok-returned.returned.sweepers.ok.0,
         c.in_ok-members.members.ok.0,
       ),
-      subst (λ (xs : List Racer). All (λ r. racer_race r ≡ race_id c.in_ok-race.race) xs) (sym c.in_ok-returned.ensures.racers) (racers_of c.in_ok-race.race c.in_ok-line.line _ (run g (goal.at.close-requires-clause-racers g c).In_ok-returned).of),
+      subst (λ (xs : List Racer). All (λ r. racer_race r ≡ race_id c.in_ok-race.race) xs) (sym c.in_ok-returned.ensures.racers) (λ k d lt. (racers_of c.in_ok-race.race c.in_ok-line.line _ (run g (goal.at.close-requires-clause-racers g c).In_ok-returned).of k d lt).0),
     )
 
 pub close-requires-clause-sweepers : goal.close-requires-clause-sweepers
 close-requires-clause-sweepers g c =
-    subst (λ (xs : List Sweeper). All (λ w. sweeper_race w ≡ race_id c.in_ok-race.race) xs) (sym c.in_ok-returned.ensures.sweepers) (sweepers_of c.in_ok-race.race c.in_ok-line.line _ (run g (goal.at.close-requires-clause-sweepers g c).In_ok-returned).of)
+    subst (λ (xs : List Sweeper). All (λ w. sweeper_race w ≡ race_id c.in_ok-race.race) xs) (sym c.in_ok-returned.ensures.sweepers) (λ k d lt. (sweepers_of c.in_ok-race.race c.in_ok-line.line _ (run g (goal.at.close-requires-clause-sweepers g c).In_ok-returned).of k d lt).0)
 
 pub returns-clause-left : goal.returns-clause-left
 returns-clause-left g c =
@@ -90,8 +90,8 @@ returns-clause-left g c =
     let run = run g (goal.at.returns-clause-left g c).In_ok-returned in
     let members = ap (λ (xs : List Member). length xs) c.in_ok-jobs.ensures.members in
     let laid = c.close.ensures.layout ∙ c.in_ok-race.ensures.layout in
-    let racing = subst (λ (xs : List Racer). All (λ r. racer_start r ≡ null_of race.shape) xs) (sym c.in_ok-returned.ensures.racers) (racers_begun_of race line ms run.of) in
-    let sweeping = subst (λ (xs : List Sweeper). All (λ w. sweeper_start w ≡ null_of race.shape) xs) (sym c.in_ok-returned.ensures.sweepers) (sweepers_begun_of race line ms run.of) in
+    let racing = subst (λ (xs : List Racer). All (λ r. racer_start r ≡ null_of race.shape) xs) (sym c.in_ok-returned.ensures.racers) (λ k d lt. (racers_of race line ms run.of k d lt).1) in
+    let sweeping = subst (λ (xs : List Sweeper). All (λ w. sweeper_start w ≡ null_of race.shape) xs) (sym c.in_ok-returned.ensures.sweepers) (λ k d lt. (sweepers_of race line ms run.of k d lt).1) in
     let some : 0 < length rs + length ws = omega (arith, ap (λ (xs : List Racer). length xs) c.in_ok-returned.ensures.racers, ap (λ (xs : List Sweeper). length xs) c.in_ok-returned.ensures.sweepers, sorted_length ms, run.len, members, c.in_ok-members.ensures.len, c.in_ok-race.ensures.racers.0, c.in_ok-members.members.ok.0, c.args.options.now.mutators_in) in
     let begun : race_begun race (map racer_view rs) sweepers ≡ null_begun closed.layout count =
     begun_as race (null_of race.shape) rs ws racing sweeping refl some ∙ (ap (λ (k : Shape). beginning (null_of k)) (c.in_ok-race.ensures.shape ∙ ap (λ (l : layout.Shape). shape_of l count) (sym laid)) ∙ begins_null closed.layout count) in
