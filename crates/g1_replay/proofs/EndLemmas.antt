@@ -34,15 +34,11 @@ front_ended out out1 out' (Err WriteFailed) n text w i =
     let none : i.0 ≡ [] = nil_front i.0 i.1 i.3 in
     let same : w.0 ++ i.0 ≡ w.0 = ap (λ l. w.0 ++ l) none ∙ append-nil w.0 in
     (w.0, w.1, subst (λ (l : List ℕ). Appends out out' l) same (Appends-trans _ _ _ _ _ w.2 i.2), append-nil text ∙ w.3)
-front_ended out out1 out' (Ok done) n text w i = front_then _ _ _ _ _ w i
-front_ended out out1 out' (Err (Fault f)) n text w i = front_then _ _ _ _ _ w i
-front_ended out out1 out' (Err stop) n text w i = front_then _ _ _ _ _ w i
+front_ended out out1 out' r n text w i = front_then _ _ _ _ _ w i
 
 whole_ended : (out out1 out' : Option (List ℕ)) (r : Result (Unit {0}) Stop) (n : ℕ) (text : List ℕ) → (end_of r ≡ EndWriteFailed → ⊥) → Writes out out1 r text → Appends out1 out' (ending_line n r) → Appends out out' (text ++ ending_line n r)
 whole_ended out out1 out' (Err WriteFailed) n text ne w i = absurd (ne refl)
-whole_ended out out1 out' (Ok done) n text ne w i = Appends-trans _ _ _ _ _ w i
-whole_ended out out1 out' (Err (Fault f)) n text ne w i = Appends-trans _ _ _ _ _ w i
-whole_ended out out1 out' (Err stop) n text ne w i = Appends-trans _ _ _ _ _ w i
+whole_ended out out1 out' r n text ne w i = Appends-trans _ _ _ _ _ w i
 
 ended_then : (out out1 out' : Option (List ℕ)) (r : Result (Unit {0}) Stop) (n : ℕ) (text : List ℕ) (end : End) → Writes out out1 r text → IsEndWritten out1 out' r (ending_line n r) end → IsEndWritten out out' r (text ++ ending_line n r) end
 ended_then out out1 out' r n text EndWriteFailed w i = front_ended out out1 out' r n text w i

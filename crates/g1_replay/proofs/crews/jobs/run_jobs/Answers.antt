@@ -8,16 +8,6 @@ use Rattle.g1_replay.proofs.JobLemmas.{has_come}
 use Rattle.g1_replay.proofs.CrewScriptLemmas.{each_from, script_at_fits}
 use Rattle.g1_replay.proofs.crews.jobs.run_jobs.Goals as goal
 
-pub open-requires-clause-ledgers : goal.open-requires-clause-ledgers
-open-requires-clause-ledgers g c =
-    let stored = c.requires.stored in (c.requires.made, stored.0, stored.1, stored.2)
-
-pub open-requires-clause-terms : goal.open-requires-clause-terms
-open-requires-clause-terms g c = c.requires.terms
-
-pub open-requires-clause-empty : goal.open-requires-clause-empty
-open-requires-clause-empty g c = c.requires.empty
-
 pub jobs_of-requires : goal.jobs_of-requires
 jobs_of-requires g c = each_from _ 0 _ (λ k d lt.
     let new = c.in-Ok.ensures.each k d (omega (arith, lt, c.in-Ok.ensures.callers, c.in-Ok.callers.ok.0)) in
@@ -35,9 +25,6 @@ callers_of-callers-requires g c =
       c.in_ok-room.ensures.len,
       omega (arith, run, c.in_ok-room.ensures.capacity, c.in_ok-jobs.ensures.len, c.in-Ok.ensures.callers, c.in_ok-jobs.jobs.ok.0, c.in_ok-done.done.ok.0),
     )
-
-pub returns-clause-terms : goal.returns-clause-terms
-returns-clause-terms g c = c.finish-book.ensures.terms
 
 -- as many as the book has entries at most, which is far from what the sum has no room for
 pub returns-clause-stores : goal.returns-clause-stores

@@ -61,14 +61,5 @@ loop-member-init g c =
 pub returns-clause-members : goal.returns-clause-members
 returns-clause-members g c = all_moved _ (into_iter_items c.loop-member.member-iterator) _ (omega (arith, c.in-None.ensures.steps.0, c.loop-member.member-iterator.rest.ok.0)) c.loop-member.invariant.same
 
-pub returns-clause-jobs : goal.returns-clause-jobs
-returns-clause-jobs g c = c.loop-member.invariant.jobs
-
-pub returns-clause-fits : goal.returns-clause-fits
-returns-clause-fits g c = c.loop-member.invariant.fits
-
-pub new-requires-clause-fill : goal.new-requires-clause-fill
-new-requires-clause-fill g c = c.log.ensures.within
-
 pub new-requires-clause-empty : goal.new-requires-clause-empty
 new-requires-clause-empty g c = (all_from_rest (IsNewMember c.args.race.now c.args.line.now c.args.options.now.mutators) c.loop-member.number _ _ _ c.in-Some.ensures.steps.0 c.loop-member.invariant.rest).0.logged

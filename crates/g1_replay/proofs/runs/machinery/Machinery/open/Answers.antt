@@ -1,13 +1,9 @@
-use Rattle.std.proofs.Common.{ap, sym, ◌∙◌, arith}
-use Rattle.g1_history.specs.History.{History}
+use Rattle.std.proofs.Common.{sym, ◌∙◌, arith}
 use Rattle.g1_replay.proofs.TakenLemmas.{are_new_logs, are_senders}
 use Rattle.g1_replay.proofs.runs.machinery.Machinery.open.Goals as goal
 
 pub returns-clause-logs : goal.returns-clause-logs
 returns-clause-logs c = are_new_logs _ _ 0 _ c.in_ok-line.ensures.mutators.1
-
-pub returns-clause-line : goal.returns-clause-line
-returns-clause-line c = c.in_ok-line.ensures.capacity ∙ sym (ap (λ (h : History). h.machine.settings.limit) c.in_ok-book.ensures)
 
 pub invariant_of-result : goal.invariant_of-result
 invariant_of-result c =
