@@ -16,8 +16,7 @@ use Rattle.g1_options.specs.declared.options.Options.{Options}
 use Rattle.g1_trace.specs.Bytes.{Puts}
 use Rattle.g1_replay.specs.declared.stop.Stop.{Stop}
 use Rattle.g1_replay.specs.declared.stop.Stop.TheVariants.{NoMemory, BookFull, WriteFailed}
-use Rattle.g1_replay.specs.Pieces.{Piece, IsLineOf, IsSetBy, AreSetBy, Walks, lines_of}
-use Rattle.g1_replay.specs.Pieces.{entries_of}
+use Rattle.g1_replay.specs.Pieces.{Piece, IsLineOf, IsSetBy, AreSetBy, Walks, lines_of, entries_of}
 use Rattle.g1_replay.specs.Reading.{IsReadStop, Reads, more_may_come}
 
 -- A new book over this layout, on the terms that the options say, whose machine is new.

@@ -1,6 +1,5 @@
 //! The scripts of a crew, kept as its trace is read.
-ghost use Rattle.std.specs.Prelude.{◌≡◌, [], refl, true, Ok, Some, All, IfOk};
-ghost use Rattle.std.specs.Prelude.{vec_len};
+ghost use Rattle.std.specs.Prelude.{◌≡◌, [], refl, true, Ok, Some, All, IfOk, vec_len};
 ghost use Rattle.g1_layout.specs.Shape.{slot_count};
 ghost use Rattle.g1_steps.specs.Ask.{StepFits};
 ghost use Rattle.g1_replay.specs.Scripted.{no_memory_may};

@@ -1,6 +1,5 @@
 //! The lines that a reader shows as a whole, read where they lie and played one after the other.
-ghost use Rattle.std.specs.Prelude.{◌<◌, ◌≤◌, ◌+◌, ◌^◌, ◌⊎◌, take, length};
-ghost use Rattle.std.specs.Prelude.{IfErr, OnOk};
+ghost use Rattle.std.specs.Prelude.{◌<◌, ◌≤◌, ◌+◌, ◌^◌, ◌⊎◌, take, length, IfErr, OnOk};
 ghost use Rattle.g1_replay.specs.Playing.{FollowsFront, PlaysFirst};
 ghost use Rattle.g1_replay.specs.Reading.{IsReadStop, more_may_come};
 

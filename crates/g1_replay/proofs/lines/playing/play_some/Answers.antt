@@ -1,4 +1,4 @@
-use Rattle.std.proofs.Common.{[], subst, sym, arith, rules}
+use Rattle.std.proofs.Common.{[], take, subst, sym, arith, rules}
 use Rattle.std.specs.Io.BufRead.{FillKeeps}
 use Rattle.std.specs.Io.KnownBytes.{Consumes}
 use Rattle.std.proofs.BufReadLemmas.{Consumes_shown}
@@ -8,6 +8,7 @@ use Rattle.g1_replay.specs.declared.stop.Stop.TheVariants.{ReadFailed}
 use Rattle.g1_replay.proofs.PlayingLemmas.{follows_then, line_unread}
 use Rattle.g1_replay.proofs.ReadingLemmas.{line_stopped}
 use Rattle.g1_replay.proofs.lines.playing.play_some.Goals as goal
+use Rattle.g1_replay.proofs.lines.playing.play_some.Goals.{After-consume}
 
 pub returns-then-source-ge-READ_LIMIT-clause-followed : goal.returns-then-source-ge-READ_LIMIT-clause-followed
 returns-then-source-ge-READ_LIMIT-clause-followed g c =
@@ -18,24 +19,23 @@ returns-in-Err-clause-followed g c =
     let kept : Consumes (g.R.Read.remaining c.args.input.now) (g.R.Read.remaining c.fill_buf.follows.lender-at-none) [] = search rules in
     line_unread g.P.Player.did g.P.Player.full _ _ _ _ _ _ _ _ ReadFailed (g.met.P.Player.none _) tt (line_stopped _ _ _ _ _ ReadFailed [] (kept, tt, omega arith))
 
-pub returns-in_err-played-clause-followed : goal.returns-in_err-played-clause-followed
-returns-in_err-played-clause-followed g c =
+-- what was played was taken
+moved : (g : _) (c : After-consume g) → Consumes (g.R.Read.remaining c.args.input.now) (g.R.Read.remaining c.consume.new.self) (take c.play_shown-taken.result.0 c.front_of-front.result.now)
+moved g c =
     let rested = c.fill_buf.follows.lender-at-none in
     let filled = subst (FillKeeps _ (g.R.Read.remaining rested) (g.R.BufRead.consumable_len rested)) c.in-Ok.is c.fill_buf.follows.holds-at-none in
     let moved = Consumes_shown _ _ _ _ c.in-Ok.shown.now c.play_shown-taken.result.0 (omega (arith, c.play_shown-taken.ensures.within, c.front_of-front.ensures.within.0)) c.in-Ok.ensures.front c.in-Ok.ensures.end filled.0 filled.1 c.consume.ensures.bytes in
+    subst (Consumes _ _) (sym (c.front_of-front.ensures.front _ c.play_shown-taken.ensures.within)) moved.0
+
+pub returns-in_err-played-clause-followed : goal.returns-in_err-played-clause-followed
+returns-in_err-played-clause-followed g c =
     let p = err_from_is_err_and c.from_residual.result c.from_residual.ensures.1 in
-    rw (p.1, p.2) (rw c.in_err-played.was at (c.play_shown-taken.ensures.followed _ _ (subst (Consumes _ _) (sym (c.front_of-front.ensures.front _ c.play_shown-taken.ensures.within)) moved.0)))
+    rw (p.1, p.2) (rw c.in_err-played.was at (c.play_shown-taken.ensures.followed _ _ (moved g (goal.at.returns-in_err-played-clause-followed g c).After-consume)))
 
 pub returns-then-taken-gt0-clause-followed : goal.returns-then-taken-gt0-clause-followed
 returns-then-taken-gt0-clause-followed g c =
-    let rested = c.fill_buf.follows.lender-at-none in
-    let filled = subst (FillKeeps _ (g.R.Read.remaining rested) (g.R.BufRead.consumable_len rested)) c.in-Ok.is c.fill_buf.follows.holds-at-none in
-    let moved = Consumes_shown _ _ _ _ c.in-Ok.shown.now c.play_shown-taken.result.0 (omega (arith, c.play_shown-taken.ensures.within, c.front_of-front.ensures.within.0)) c.in-Ok.ensures.front c.in-Ok.ensures.end filled.0 filled.1 c.consume.ensures.bytes in
-    rw c.in_ok-played.was at (c.play_shown-taken.ensures.followed _ _ (subst (Consumes _ _) (sym (c.front_of-front.ensures.front _ c.play_shown-taken.ensures.within)) moved.0))
+    rw c.in_ok-played.was at (c.play_shown-taken.ensures.followed _ _ (moved g (goal.at.returns-then-taken-gt0-clause-followed g c).After-consume))
 
 pub returns-clause-followed : goal.returns-clause-followed
 returns-clause-followed g c =
-    let rested = c.fill_buf.follows.lender-at-none in
-    let filled = subst (FillKeeps _ (g.R.Read.remaining rested) (g.R.BufRead.consumable_len rested)) c.in-Ok.is c.fill_buf.follows.holds-at-none in
-    let moved = Consumes_shown _ _ _ _ c.in-Ok.shown.now c.play_shown-taken.result.0 (omega (arith, c.play_shown-taken.ensures.within, c.front_of-front.ensures.within.0)) c.in-Ok.ensures.front c.in-Ok.ensures.end filled.0 filled.1 c.consume.ensures.bytes in
-    follows_then g.P.Player.did g.P.Player.full g.met.P.Player.then _ _ _ _ _ _ _ _ _ _ _ _ _ _ _ (rw c.in_ok-played.was at (c.play_shown-taken.ensures.followed _ _ (subst (Consumes _ _) (sym (c.front_of-front.ensures.front _ c.play_shown-taken.ensures.within)) moved.0))) c.play_line.ensures.followed
+    follows_then g.P.Player.did g.P.Player.full g.met.P.Player.then _ _ _ _ _ _ _ _ _ _ _ _ _ _ _ (rw c.in_ok-played.was at (c.play_shown-taken.ensures.followed _ _ (moved g (goal.at.returns-clause-followed g c).After-consume))) c.play_line.ensures.followed

@@ -1,54 +1,51 @@
-use Rattle.std.proofs.Common.{◌≡◌, ◌<◌, ℕ, List, [], ◌∷◌, ◌++◌, All, length, refl, sym, subst, ap, ◌∙◌, append-nil, true, Some, arith}
+use Rattle.std.proofs.Common.{◌<◌, List, [], ◌∷◌, ◌++◌, All, length, refl, sym, subst, ap, ◌∙◌, append-nil, true, arith}
 use Rattle.std.proofs.lemmas.List.Elements.{All-push, All-set}
 use Rattle.std.proofs.lemmas.Result.{err_from_is_err_and}
 use Rattle.g1_layout.specs.Shape.{slot_count}
 use Rattle.g1_steps.specs.Ask.{StepFits}
 use Rattle.g1_steps.specs.declared.crew.desk.Step.{Step}
-use Rattle.g1_replay.specs.Scripts.{asked_in}
 use Rattle.g1_replay.proofs.CrewScriptLemmas.{Kept, Unfilled, kept_silent, kept_at, kept_none, nothing_own, one_own, asked_none, asked_own, asked_other, asked_fits}
 use Rattle.g1_replay.proofs.ScriptedLemmas.{is_kept, not_kept}
 use Rattle.g1_replay.proofs.crews.listing.ScriptsPlayer.play.Goals as goal
+use Rattle.g1_replay.proofs.crews.listing.ScriptsPlayer.play.Goals.{In-Some}
 
 pub returns-in_default-clause-played : goal.returns-in_default-clause-played
 returns-in_default-clause-played g c =
     is_kept Kept Unfilled kept_silent c.args.self.now c.args.self.now c.args.command _
     (kept_none (λ script. script.items) c.args.self.now.steps.items (c.args.command ∷ []) (λ k. nothing_own k c.args.command (asked_none c.args.command k (sym c.in_default.ensures))), refl)
 
+-- the call is of one of the mutators, and fits the heap
+fits : (g : _) (c : In-Some g) → (c.in-Some.by < length c.args.self.now.steps.items) × StepFits (slot_count c.args._layout) true c.in-Some.step
+fits g c =
+    let fits = asked_fits c.args._layout c.args._dialect.mutators c.args.command (c.in-Some.by, c.in-Some.step) c.requires.command (sym c.in-Some.ensures) in
+    (omega (arith, fits.0, c.requires.takes.0, c.args.self.now.steps.ok.0), fits.1)
+
 pub returns-in_err-reserve-clause-played : goal.returns-in_err-reserve-clause-played
 returns-in_err-reserve-clause-played g c =
     let p = err_from_is_err_and c.from_residual.result c.from_residual.ensures.1 in
-    let a : ℕ × Step = (c.in-Some.by, c.in-Some.step) in
-    let asks : asked_in c.args.command ≡ Some a = sym c.in-Some.ensures in
-    let fits = asked_fits c.args._layout c.args._dialect.mutators c.args.command a c.requires.command asks in
-    let below : c.in-Some.by < length c.args.self.now.steps.items = omega (arith, fits.0, c.requires.takes.0, c.args.self.now.steps.ok.0) in
+    let fits = fits g (goal.at.returns-in_err-reserve-clause-played g c).In-Some in
     rw (p.1, p.2) (not_kept Kept Unfilled kept_silent c.args.self.now _ c.args.command _ (
-      kept_at (λ script. script.items) c.args.self.now.steps.items c.in-Some.by c.reserve.new.self c.index_mut-script.result.now [] [] below c.index_mut-script.ensures.value
+      kept_at (λ script. script.items) c.args.self.now.steps.items c.in-Some.by c.reserve.new.self c.index_mut-script.result.now [] [] fits.0 c.index_mut-script.ensures.value
           (c.reserve.ensures.items ∙ sym (append-nil c.index_mut-script.result.now.items)) refl (λ k other. refl),
       refl,
     ))
 
 pub returns-clause-played : goal.returns-clause-played
 returns-clause-played g c =
-    let a : ℕ × Step = (c.in-Some.by, c.in-Some.step) in
-    let asks : asked_in c.args.command ≡ Some a = sym c.in-Some.ensures in
-    let fits = asked_fits c.args._layout c.args._dialect.mutators c.args.command a c.requires.command asks in
-    let below : c.in-Some.by < length c.args.self.now.steps.items = omega (arith, fits.0, c.requires.takes.0, c.args.self.now.steps.ok.0) in
+    let fits = fits g (goal.at.returns-clause-played g c).In-Some in
     is_kept Kept Unfilled kept_silent c.args.self.now _ c.args.command _ (
-      kept_at (λ script. script.items) c.args.self.now.steps.items c.in-Some.by c.push_reserved.new.self c.index_mut-script.result.now (c.args.command ∷ []) (c.in-Some.step ∷ []) below c.index_mut-script.ensures.value
+      kept_at (λ script. script.items) c.args.self.now.steps.items c.in-Some.by c.push_reserved.new.self c.index_mut-script.result.now (c.args.command ∷ []) (c.in-Some.step ∷ []) fits.0 c.index_mut-script.ensures.value
           (c.push_reserved.ensures.items ∙ ap (λ (ss : List Step). ss ++ c.in-Some.step ∷ []) c.reserve.ensures.items)
-          (one_own c.in-Some.by c.args.command c.in-Some.step (asked_own c.args.command a asks))
-          (λ k other. nothing_own k c.args.command (asked_other c.args.command a k asks other)),
+          (one_own c.in-Some.by c.args.command c.in-Some.step (asked_own c.args.command _ (sym c.in-Some.ensures)))
+          (λ k other. nothing_own k c.args.command (asked_other c.args.command _ k (sym c.in-Some.ensures) other)),
       refl,
     )
 
 pub returns-clause-takes : goal.returns-clause-takes
 returns-clause-takes g c =
-    let a : ℕ × Step = (c.in-Some.by, c.in-Some.step) in
-    let asks : asked_in c.args.command ≡ Some a = sym c.in-Some.ensures in
-    let fits = asked_fits c.args._layout c.args._dialect.mutators c.args.command a c.requires.command asks in
-    let below : c.in-Some.by < length c.args.self.now.steps.items = omega (arith, fits.0, c.requires.takes.0, c.args.self.now.steps.ok.0) in
+    let fits = fits g (goal.at.returns-clause-takes g c).In-Some in
     let Fits : Step → Type 0 = StepFits (slot_count c.args._layout) true in
-    let was = c.requires.takes.1 c.in-Some.by c.index_mut-script.result.now below in
+    let was = c.requires.takes.1 c.in-Some.by c.index_mut-script.result.now fits.0 in
     let grown = c.push_reserved.ensures.items ∙ ap (λ (ss : List Step). ss ++ c.in-Some.step ∷ []) (c.reserve.ensures.items ∙ ap (λ script. script.items) c.index_mut-script.ensures.value) in (
       c.requires.takes.0,
       All-set (λ script. All Fits script.items) c.args.self.now.steps.items c.in-Some.by c.push_reserved.new.self
