@@ -48,6 +48,20 @@ ended_then out out1 out' r n text end w i = (i.0, whole_ended out out1 out' r n 
 abbrev pub Says : Tale → End → (List ℕ → Option (List ℕ) → Option (List ℕ) → Type 0) → Type 0
 Says Tells said Is = (n : ℕ) (rd rd' out out' : Option (List ℕ)) (r : Result (Unit {0}) Stop) (text : List ℕ) (end : End) → Tells 1 n rd rd' r text → IsEndWritten out out' r (text ++ ending_line n r) end → end ≡ said → IfSome rd (λ bytes. Is bytes out out')
 
+pub says_whole : (Tells : Tale) (Is : List ℕ → Option (List ℕ) → Option (List ℕ) → Type 0) → ((n : ℕ) (xs : List ℕ) (rd' out out' : Option (List ℕ)) (text : List ℕ) → Tells 1 n (Some xs) rd' (Ok tt) text → Appends out out' text → Is xs out out') → Says Tells Whole Is
+says_whole Tells Is whole n None rd' out out' r text end t i e = tt
+says_whole Tells Is whole n (Some xs) rd' out out' (Ok done) text Whole t i e = whole n xs rd' out out' text t (subst (λ (w : List ℕ). Appends out out' w) (append-nil text) i.1)
+says_whole Tells Is whole n (Some xs) rd' out out' (Err (Fault f)) text Whole t i e = cc
+says_whole Tells Is whole n (Some xs) rd' out out' (Err stop) text Whole t i e = cc
+says_whole Tells Is whole n (Some xs) rd' out out' r text end t i e = cc
+
+pub says_refused : (Tells : Tale) (Is : List ℕ → Option (List ℕ) → Option (List ℕ) → Type 0) → ((n : ℕ) (xs : List ℕ) (rd' out out' : Option (List ℕ)) (f : TraceFault) (text : List ℕ) → Tells 1 n (Some xs) rd' (Err (Fault f)) text → Appends out out' (text ++ fault_line n f) → Is xs out out') → Says Tells Refused Is
+says_refused Tells Is refused n None rd' out out' r text end t i e = tt
+says_refused Tells Is refused n (Some xs) rd' out out' (Err (Fault f)) text Refused t i e = refused n xs rd' out out' f text t i.1
+says_refused Tells Is refused n (Some xs) rd' out out' (Ok done) text Refused t i e = cc
+says_refused Tells Is refused n (Some xs) rd' out out' (Err stop) text Refused t i e = cc
+says_refused Tells Is refused n (Some xs) rd' out out' r text end t i e = cc
+
 pub replayed : (Tells : Tale) (IsWhole IsRefused : List ℕ → Option (List ℕ) → Option (List ℕ) → Type 0) → Says Tells Whole IsWhole → Says Tells Refused IsRefused → (first n : ℕ) (rd rd' out out1 out' : Option (List ℕ)) (r : Result (Unit {0}) Stop) (end : End) → first ≡ 1
     → WritesSome (Tells first n rd rd') out out1 r → IsEndWritten out1 out' r (ending_line n r) end → IsReplayed Tells IsWhole IsRefused rd rd' out out' end
 replayed Tells IsWhole IsRefused whole refused first n rd rd' out out1 out' r end one t w =
@@ -80,14 +94,12 @@ faulty_trace d xs rd' n heap cs f t =
 pub all_done : (cs done undone : List Command) → cs ≡ done ++ undone → undone ≡ [] → cs ≡ done
 all_done cs done undone e none = e ∙ ap (λ w. done ++ w) none ∙ append-nil done
 
-pub whole_output : (d : Dialect) (s : Settings) (history n : ℕ) (rd rd' out out' : Option (List ℕ)) (r : Result (Unit {0}) Stop) (text : List ℕ) (end : End) → Told d s history 1 n rd rd' r text
-    → IsEndWritten out out' r (text ++ ending_line n r) end → end ≡ Whole → IfSome rd (λ bytes. IsWholeOutput d s bytes out out')
-whole_output d s history n None rd' out out' r text end t i e = tt
-whole_output d s history n (Some xs) rd' out out' (Ok done) text Whole t i e = whole t.heap t refl
+pub whole_output : (d : Dialect) (s : Settings) (history : ℕ) → Says (Told d s history) Whole (IsWholeOutput d s)
+whole_output d s history = says_whole (Told d s history) (IsWholeOutput d s) (λ n xs rd' out out' text t w. whole n xs rd' out out' text w t.heap t refl)
   where
-    whole : (heap : Option Shape) (t : Told d s history 1 n (Some xs) rd' (Ok done) text) → t.heap ≡ heap → IsWholeOutput d s xs out out'
-    whole None t is = let none = subst (λ (h : Option Shape). IsSome h) is t.read.met.2 in cc
-    whole (Some l) t is = record {
+    whole : (n : ℕ) (xs : List ℕ) (rd' out out' : Option (List ℕ)) (text : List ℕ) → Appends out out' text → (heap : Option Shape) (t : Told d s history 1 n (Some xs) rd' (Ok tt) text) → t.heap ≡ heap → IsWholeOutput d s xs out out'
+    whole n xs rd' out out' text w None t is = let none = subst (λ (h : Option Shape). IsSome h) is t.read.met.2 in cc
+    whole n xs rd' out out' text w (Some l) t is = record {
       layout = l;
       commands = t.done;
       pieces = t.pieces;
@@ -95,16 +107,12 @@ whole_output d s history n (Some xs) rd' out out' (Ok done) text Whole t i e = w
       walked = t.walked;
       set = t.set;
       permitted = subst (λ (h : Option Shape). IfSome h (λ l. IsPermitted (opening l) (entries_of t.pieces))) is t.permitted;
-      written = subst (λ (w : List ℕ). Appends out out' w) (append-nil text ∙ t.said) i.1;
+      written = subst (λ (w : List ℕ). Appends out out' w) t.said w;
     }
-whole_output d s history n (Some xs) rd' out out' (Err (Fault f)) text Whole t i e = cc
-whole_output d s history n (Some xs) rd' out out' (Err stop) text Whole t i e = cc
-whole_output d s history n (Some xs) rd' out out' r text end t i e = cc
 
-pub refused_output : (d : Dialect) (s : Settings) (history n : ℕ) (rd rd' out out' : Option (List ℕ)) (r : Result (Unit {0}) Stop) (text : List ℕ) (end : End) → Told d s history 1 n rd rd' r text
-    → IsEndWritten out out' r (text ++ ending_line n r) end → end ≡ Refused → IfSome rd (λ bytes. IsRefusedOutput d s bytes out out')
-refused_output d s history n None rd' out out' r text end t i e = tt
-refused_output d s history n (Some xs) rd' out out' (Err (Fault f)) text Refused t i e =
+pub refused_output : (d : Dialect) (s : Settings) (history : ℕ) → Says (Told d s history) Refused (IsRefusedOutput d s)
+refused_output d s history = says_refused (Told d s history) (IsRefusedOutput d s) (
+    λ n xs rd' out out' f text t w.
     let same : t.commands ≡ t.done = all_done t.commands t.done t.undone t.all t.stopped in
     record {
       heap = t.heap;
@@ -117,8 +125,6 @@ refused_output d s history n (Some xs) rd' out out' (Err (Fault f)) text Refused
       walked = t.walked;
       set = t.set;
       permitted = t.permitted;
-      written = subst (λ (w : List ℕ). Appends out out' w) (ap (λ w. w ++ fault_line n f) t.said) i.1;
+      written = subst (λ (w : List ℕ). Appends out out' w) (ap (λ w. w ++ fault_line n f) t.said) w;
     }
-refused_output d s history n (Some xs) rd' out out' (Ok done) text Refused t i e = cc
-refused_output d s history n (Some xs) rd' out out' (Err stop) text Refused t i e = cc
-refused_output d s history n (Some xs) rd' out out' r text end t i e = cc
+    )

@@ -1,6 +1,6 @@
 -- What a race writes, and the whole output where its end says what it is.
-use Rattle.std.proofs.Common.{◌≡◌, ℕ, List, [], ◌++◌, refl, subst, ap, ◌∙◌, append-nil, Option, Some, None, inl, inr}
-use Rattle.std.specs.Prelude.{Result, Ok, Err, IfErr, IfSome, count_by}
+use Rattle.std.proofs.Common.{◌≡◌, ℕ, List, [], ◌++◌, refl, subst, ap, Option, Some, inl, inr}
+use Rattle.std.specs.Prelude.{Result, Ok, Err, IfErr, count_by}
 use Rattle.std.specs.Io.KnownBytes.{Appends}
 use Rattle.g1_layout.specs.Shape.{Shape}
 use Rattle.g1_core.specs.declared.reply.Drained.{Drained}
@@ -12,19 +12,17 @@ use Rattle.g1_trace.specs.declared.dialect.Dialect.{Dialect}
 use Rattle.g1_trace.specs.Bytes.{AppendsFront}
 use Rattle.g1_trace.specs.Text.{stores_text}
 use Rattle.g1_trace.proofs.PutLemmas.{front_more, puts_none, puts_then}
-use Rattle.g1_replay.specs.declared.end.End.{End}
 use Rattle.g1_replay.specs.declared.end.End.TheVariants.{Whole}
 use Rattle.g1_replay.specs.declared.stop.Stop.{Stop}
 use Rattle.g1_replay.specs.declared.stop.Stop.TheVariants.{Fault, NoMemory, BookFull, NoThread, WriteFailed}
 use Rattle.g1_replay.specs.CoreDrains.{AreDrains, CoreDrained}
 use Rattle.g1_replay.specs.Drains.{drains, HasDrained}
-use Rattle.g1_replay.specs.Output.{IsEndWritten, ending_line}
 use Rattle.g1_replay.specs.Playing.{MayStop, Writes, written_by}
 use Rattle.g1_replay.specs.Race.{HasRaced, IsRaceEnd, IsRaceText, IsWholeRace, RacedTrace, RaceRan, drained_text, is_store_command}
 use Rattle.g1_replay.specs.RaceJobs.{IsTableLeftBy}
 use Rattle.g1_replay.specs.Scripted.{IsRunEnd, IsUnstarted}
 use Rattle.g1_replay.proofs.CoreDrainLemmas.{are_exact, from_itself}
-use Rattle.g1_replay.proofs.EndLemmas.{whole_trace}
+use Rattle.g1_replay.proofs.EndLemmas.{Says, says_whole, whole_trace}
 use Rattle.g1_replay.proofs.RanLemmas.{drains_alone}
 
 unstarted_race : (stop : Stop) → IsUnstarted stop → IsRaceEnd (Err stop)
@@ -85,20 +83,18 @@ whole_text : (l : Shape) (mutators : ℕ) (commands : List Command) (text : List
 whole_text l mutators commands text (inl s) = let bad = s.1 in cc
 whole_text l mutators commands text (inr s) = (s.1, subst (λ k. HasRaced l mutators commands k s.1) (s.4 refl) s.2, s.5)
 
-pub whole_race : (d : Dialect) (n : ℕ) (rd rd' out out' : Option (List ℕ)) (r : Result (Unit {0}) Stop) (text : List ℕ) (end : End) → RacedTrace d 1 n rd rd' r text
-    → IsEndWritten out out' r (text ++ ending_line n r) end → end ≡ Whole → IfSome rd (λ bytes. IsWholeRace d bytes out out')
-whole_race d n None rd' out out' r text end t i e = tt
-whole_race d n (Some xs) rd' out out' (Ok done) text Whole (inl t) i e = absurd t.ends
-whole_race d n (Some xs) rd' out out' (Ok tt) text Whole (inr t) i e =
-    let said = whole_text t.layout d.mutators t.commands text t.ran.1 in
-    record {
-      layout = t.layout;
-      commands = t.commands;
-      answers = said.0;
-      trace = whole_trace d xs rd' n (Some t.layout) t.commands t.read;
-      raced = said.1;
-      written = subst (λ (w : List ℕ). Appends out out' w) (append-nil text ∙ said.2) i.1;
-    }
-whole_race d n (Some xs) rd' out out' (Err (Fault f)) text Whole t i e = cc
-whole_race d n (Some xs) rd' out out' (Err stop) text Whole t i e = cc
-whole_race d n (Some xs) rd' out out' r text end t i e = cc
+pub whole_race : (d : Dialect) → Says (RacedTrace d) Whole (IsWholeRace d)
+whole_race d = says_whole (RacedTrace d) (IsWholeRace d) whole
+  where
+    whole : (n : ℕ) (xs : List ℕ) (rd' out out' : Option (List ℕ)) (text : List ℕ) → RacedTrace d 1 n (Some xs) rd' (Ok tt) text → Appends out out' text → IsWholeRace d xs out out'
+    whole n xs rd' out out' text (inl t) w = absurd t.ends
+    whole n xs rd' out out' text (inr t) w =
+        let said = whole_text t.layout d.mutators t.commands text t.ran.1 in
+        record {
+          layout = t.layout;
+          commands = t.commands;
+          answers = said.0;
+          trace = whole_trace d xs rd' n (Some t.layout) t.commands t.read;
+          raced = said.1;
+          written = subst (λ (w : List ℕ). Appends out out' w) said.2 w;
+        }

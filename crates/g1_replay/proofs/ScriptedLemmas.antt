@@ -1,24 +1,23 @@
 -- A trace that is read to its end before its scripts are run: how it is read, what that comes to, and the whole output where it has a fault.
 use Rattle.std.proofs.Common.{◌≡◌, ℕ, List, [], ◌∷◌, ◌++◌, refl, sym, subst, ap, ◌∙◌, Option, Some, None, inl, inr, ⊎_elim, ◌⊎◌, true, false, arith}
-use Rattle.std.specs.Prelude.{Bool, Result, Ok, Err, IfSome}
+use Rattle.std.specs.Prelude.{Bool, Result, Ok, Err}
 use Rattle.std.specs.Io.KnownBytes.{Appends}
 use Rattle.std.proofs.KnownBytes.{Appends-nil, Consumes-nil}
 use Rattle.g1_layout.specs.Shape.{Shape}
 use Rattle.g1_trace.specs.declared.command.Command.{Command}
 use Rattle.g1_trace.specs.declared.dialect.Dialect.{Dialect}
+use Rattle.g1_trace.specs.declared.fault.TraceFault.{TraceFault}
 use Rattle.g1_trace.specs.Bytes.{Puts}
 use Rattle.g1_trace.specs.Text.{fault_line}
 use Rattle.g1_trace.proofs.PutLemmas.{puts_then}
-use Rattle.g1_replay.specs.declared.end.End.{End}
 use Rattle.g1_replay.specs.declared.end.End.TheVariants.{Refused}
 use Rattle.g1_replay.specs.declared.races.listing.Listing.{Listing}
 use Rattle.g1_replay.specs.declared.stop.Stop.{Stop}
 use Rattle.g1_replay.specs.declared.stop.Stop.TheVariants.{Fault, NoMemory, ReadFailed}
-use Rattle.g1_replay.specs.Output.{IsEndWritten, ending_line}
 use Rattle.g1_replay.specs.Playing.{Does, Follows, Writes, written_by}
 use Rattle.g1_replay.specs.Reading.{IsReadStop, Reads}
-use Rattle.g1_replay.specs.Scripted.{IsUnread, IsRunEnd, IsRefusedTrace, Outcome, Scripted, StopsReading}
-use Rattle.g1_replay.proofs.EndLemmas.{all_done, faulty_trace}
+use Rattle.g1_replay.specs.Scripted.{IsUnread, IsRunEnd, IsRefusedTrace, Outcome, Scripted, WasUnread}
+use Rattle.g1_replay.proofs.EndLemmas.{Says, all_done, faulty_trace, says_refused}
 use Rattle.g1_replay.proofs.ReadingLemmas.{reads_then}
 
 -- what a list of commands did with some of them
@@ -52,18 +51,18 @@ list_silent stop out out' (inl h) w = read_silent stop out out' h w
 list_silent stop out out' (inr e) w = let at : WrittenAt out out' NoMemory = subst (λ s. WrittenAt out out' s) e w in at
 
 -- memory was refused before anything was read
-pub stops_unread : (d : Dialect) (n : ℕ) (rd : Option (List ℕ)) → StopsReading d n n rd rd NoMemory
-stops_unread d n rd = record { heap = None; commands = []; ends = tt; read = record { lines = []; rest = []; consumed = Consumes-nil rd; passed = λ x. refl; met = refl } }
+pub stops_unread : (d : Dialect) (n : ℕ) (rd : Option (List ℕ)) → WasUnread d n n rd rd (Err NoMemory) []
+stops_unread d n rd = record { heap = None; commands = []; ends = tt; read = record { lines = []; rest = []; consumed = Consumes-nil rd; passed = λ x. refl; met = refl }; silent = refl }
 
 -- a trace without a header
-pub head_stops : (d : Dialect) (n n' : ℕ) (rd rd' : Option (List ℕ)) (stop : Stop) → IsReadStop stop → Reads d None n n' rd rd' None [] (Err stop) → StopsReading d n n' rd rd' stop
-head_stops d n n' rd rd' stop h read = record { heap = None; commands = []; ends = read_end stop h; read = read }
+pub head_stops : (d : Dialect) (n n' : ℕ) (rd rd' : Option (List ℕ)) (stop : Stop) → IsReadStop stop → Reads d None n n' rd rd' None [] (Err stop) → WasUnread d n n' rd rd' (Err stop) []
+head_stops d n n' rd rd' stop h read = record { heap = None; commands = []; ends = read_end stop h; read = read; silent = refl }
 
 -- what takes the commands of lines and writes nothing
 module _ {S : Type 0} (Did : S → List Command → List ℕ → S → Type 0) (Full : S → Type 0) (silent : (s t : S) (cs : List Command) (text : List ℕ) → Did s cs text t → text ≡ []) where
   -- a header, and then lines that were not read to their end
   pub lines_stop : (Stops : Stop → Type 0) (only : (stop : Stop) → Stops stop → stop ≡ NoMemory) (d : Dialect) (n n1 n' : ℕ) (l : Shape) (old new : S) (rd rd1 rd' out out' : Option (List ℕ)) (stop : Stop) → IsReadStop stop ⊎ Stops stop
-      → Reads d None n n1 rd rd1 (Some l) [] (Ok true) → Follows Did Full d l n1 n' old new rd1 rd' out out' (Err stop) → StopsReading d n n' rd rd' stop × Appends out out' []
+      → Reads d None n n1 rd rd1 (Some l) [] (Ok true) → Follows Did Full d l n1 n' old new rd1 rd' out out' (Err stop) → WasUnread d n n' rd rd' (Err stop) [] × Appends out out' []
   lines_stop Stops only d n n1 n' l old new rd rd1 rd' out out' stop may head f =
       let h : IsReadStop stop ⊎ (stop ≡ NoMemory) = ⊎_elim (λ (r : IsReadStop stop). inl r) (λ (s : Stops stop). inr (only stop s)) may in (
         record {
@@ -71,6 +70,7 @@ module _ {S : Type 0} (Did : S → List Command → List ℕ → S → Type 0) (
           commands = f.commands;
           ends = list_end stop h;
           read = reads_then d None (Some l) (Some l) n n1 n' rd rd1 rd' [] f.commands (Err stop) head f.read;
+          silent = refl;
         },
         list_silent stop out out' h (subst (λ (x : List ℕ). Puts out out' (written_by {V = Bool} (Err stop)) x) (silent old new f.done.done f.done.text f.done.made) f.done.written),
       )
@@ -130,28 +130,26 @@ puts_silent a b (Ok v) w = w
 puts_silent a b (Err v) w = ([], [], w, refl)
 
 -- a trace that was not read to its end
-pub scripts_unread : (Ran : Outcome) (d : Dialect) (n n' : ℕ) (rd rd' out out' : Option (List ℕ)) (stop : Stop) → StopsReading d n n' rd rd' stop → Appends out out' []
+pub scripts_unread : (Ran : Outcome) (d : Dialect) (n n' : ℕ) (rd rd' out out' : Option (List ℕ)) (stop : Stop) → WasUnread d n n' rd rd' (Err stop) [] → Appends out out' []
     → (text : List ℕ) × Scripted Ran d n n' rd rd' (Err stop) text × Writes {V = Unit {0}} out out' (Err stop) text
 scripts_unread Ran d n n' rd rd' out out' stop s w =
-    ([], inl (record { heap = s.heap; commands = s.commands; ends = s.ends; read = s.read; silent = refl }), puts_silent out out' (written_by {V = Unit {0}} (Err stop)) w)
+    ([], inl s, puts_silent out out' (written_by {V = Unit {0}} (Err stop)) w)
 
 -- a trace that was read to its end, and what its scripts came to
 pub scripts_run : (Ran : Outcome) (d : Dialect) (n n' : ℕ) (l : Shape) (cs : List Command) (rd rd' out mid_out out' : Option (List ℕ)) (r : Result (Unit {0}) Stop) → Reads d None n n' rd rd' (Some l) cs (Ok false) → Appends out mid_out []
     → (text : List ℕ) × Ran l cs r text × Writes mid_out out' r text → (text : List ℕ) × Scripted Ran d n n' rd rd' r text × Writes out out' r text
 scripts_run Ran d n n' l cs rd rd' out mid_out out' r read w t = (t.0, inr (record { layout = l; commands = cs; read = read; ran = t.1 }), puts_then out mid_out out' (written_by r) [] t.0 w t.2)
 
-pub refused_trace : (Ran : Outcome) → ((l : Shape) (cs : List Command) (r : Result (Unit {0}) Stop) (text : List ℕ) → Ran l cs r text → IsRunEnd r) → (d : Dialect) (n : ℕ) (rd rd' out out' : Option (List ℕ)) (r : Result (Unit {0}) Stop) (text : List ℕ) (end : End)
-    → Scripted Ran d 1 n rd rd' r text → IsEndWritten out out' r (text ++ ending_line n r) end → end ≡ Refused → IfSome rd (λ bytes. IsRefusedTrace d bytes out out')
-refused_trace Ran ends d n None rd' out out' r text end t i e = tt
-refused_trace Ran ends d n (Some xs) rd' out out' (Err (Fault f)) text Refused (inl t) i e = record {
-  heap = t.heap;
-  commands = t.commands;
-  number = n;
-  fault = f;
-  trace = faulty_trace d xs rd' n t.heap t.commands f t.read;
-  written = subst (λ (w : List ℕ). Appends out out' w) (ap (λ w. w ++ fault_line n f) t.silent) i.1;
-}
-refused_trace Ran ends d n (Some xs) rd' out out' (Err (Fault f)) text Refused (inr t) i e = absurd (ends t.layout t.commands (Err (Fault f)) text t.ran)
-refused_trace Ran ends d n (Some xs) rd' out out' (Ok done) text Refused t i e = cc
-refused_trace Ran ends d n (Some xs) rd' out out' (Err stop) text Refused t i e = cc
-refused_trace Ran ends d n (Some xs) rd' out out' r text end t i e = cc
+pub refused_trace : (Ran : Outcome) → ((l : Shape) (cs : List Command) (r : Result (Unit {0}) Stop) (text : List ℕ) → Ran l cs r text → IsRunEnd r) → (d : Dialect) → Says (Scripted Ran d) Refused (IsRefusedTrace d)
+refused_trace Ran ends d = says_refused (Scripted Ran d) (IsRefusedTrace d) refused
+  where
+    refused : (n : ℕ) (xs : List ℕ) (rd' out out' : Option (List ℕ)) (f : TraceFault) (text : List ℕ) → Scripted Ran d 1 n (Some xs) rd' (Err (Fault f)) text → Appends out out' (text ++ fault_line n f) → IsRefusedTrace d xs out out'
+    refused n xs rd' out out' f text (inl t) w = record {
+      heap = t.heap;
+      commands = t.commands;
+      number = n;
+      fault = f;
+      trace = faulty_trace d xs rd' n t.heap t.commands f t.read;
+      written = subst (λ (w : List ℕ). Appends out out' w) (ap (λ w. w ++ fault_line n f) t.silent) w;
+    }
+    refused n xs rd' out out' f text (inr t) w = absurd (ends t.layout t.commands (Err (Fault f)) text t.ran)

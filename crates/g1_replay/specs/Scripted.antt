@@ -34,14 +34,6 @@ IsUnstarted NoMemory = Unit {0}
 IsUnstarted NoThread = Unit {0}
 IsUnstarted stop = ⊥
 
--- The trace was not read to its end, and this stopped it.
-pub record StopsReading (d : Dialect) (n n' : ℕ) (rd rd' : Option (List ℕ))
-    (stop : Stop) : Type 0 where
-  pub heap : Option Shape
-  pub commands : List Command
-  pub ends : IsUnread (Err stop)
-  pub read : Reads d None n n' rd rd' heap commands (Err stop)
-
 -- The trace was not read to its end, and nothing was run and nothing written.
 pub record WasUnread (d : Dialect) (n n' : ℕ) (rd rd' : Option (List ℕ))
     (r : Result (Unit {0}) Stop) (text : List ℕ) : Type 0 where

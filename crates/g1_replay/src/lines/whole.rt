@@ -1,10 +1,10 @@
 //! A trace that is read to its end before any of its commands is done.
-ghost use Rattle.std.specs.Prelude.{◌≡◌, ℕ, List, [], Ok, Some, None, false, IfOk, MatchResult};
+ghost use Rattle.std.specs.Prelude.{◌≡◌, ℕ, List, [], Ok, Err, Some, None, false, IfOk, MatchResult};
 ghost use Rattle.std.specs.Io.KnownBytes.{Appends};
 ghost use Rattle.g1_layout.specs.Shape.{Shape};
 ghost use Rattle.g1_trace.specs.declared.command.Command.{Command};
 ghost use Rattle.g1_replay.specs.Reading.{Reads};
-ghost use Rattle.g1_replay.specs.Scripted.{StopsReading};
+ghost use Rattle.g1_replay.specs.Scripted.{WasUnread};
 ghost use Rattle.g1_replay.specs.declared.stop.Stop.{Stop as Stops};
 ghost use Rattle.g1_replay.specs.declared.stop.Stop.TheVariants.{NoMemory};
 
@@ -39,8 +39,8 @@ pub(crate) fn read_whole<T: Wait, P: Player, R: BufRead, W: Write>(
         × Reads dialect None source.old.number source.new.number (R.remaining input.old)
         (R.remaining input.new) (Some layout) commands (Ok false)
         × P.did player.old commands [] player.new)
-        (λ stop. StopsReading dialect source.old.number source.new.number (R.remaining input.old)
-        (R.remaining input.new) stop) }
+        (λ stop. WasUnread dialect source.old.number source.new.number (R.remaining input.old)
+        (R.remaining input.new) (Err stop) []) }
     ensures takes { IfOk result (λ layout. P.takes player.new layout dialect) }
     ensures silent { Appends (W.contents output.old) (W.contents output.new) [] }
 {
