@@ -91,8 +91,8 @@ abbrev pub IsEndWritten : Option (List ℕ) → Option (List ℕ) → Result (Un
 IsEndWritten out out' r text EndWriteFailed = AppendsFront out out' text
 IsEndWritten out out' r text end = (end ≡ end_of r) × Appends out out' text
 
--- A trace was replayed from its first line on, and this is its end. The text and the line of the end
--- were written, and the whole output is known where the trace was done whole or has a fault.
+-- A trace was replayed from its first line on, and this is its end. The text and the line of the
+-- end were written, and the whole output is known where the trace was done whole or has a fault.
 pub record IsReplayed (Tells : Tale)
     (IsWhole IsRefused : List ℕ → Option (List ℕ) → Option (List ℕ) → Type 0)
     (rd rd' out out' : Option (List ℕ)) (end : End) : Type 0 where

@@ -123,9 +123,9 @@ FollowsFront did full d l n n' old new bytes out out' r =
 
 -- The line that these bytes begin with was played, if it is there as a whole: the result says how
 -- many bytes it takes, and what stopped it. Otherwise nothing was done.
-pub record PlaysFirst {S : Type 0} (did : S → List Command → List ℕ → S → Type 0) (full : S
-    → Type 0) (Stops : Stop → Type 0) (Takes : S → Shape → Dialect → Type 0) (d : Dialect) (l : Shape)
-    (n n' : ℕ) (old new : S) (bytes : List ℕ) (out out' : Option (List ℕ))
+pub record PlaysFirst {S : Type 0} (did : S → List Command → List ℕ → S → Type 0)
+    (full : S → Type 0) (Stops : Stop → Type 0) (Takes : S → Shape → Dialect → Type 0)
+    (d : Dialect) (l : Shape) (n n' : ℕ) (old new : S) (bytes : List ℕ) (out out' : Option (List ℕ))
     (r : Option (ℕ × Result (Unit {0}) Stop)) : Type 0 where
   pub followed : IfSome r (λ p. FollowsFront did full d l n n' old new (take p.0 bytes) out out'
       (more_may_come p.1))

@@ -1,5 +1,6 @@
 //! A trace that is read to its end before any of its commands is done.
-ghost use Rattle.std.specs.Prelude.{◌≡◌, ℕ, List, [], Ok, Err, Some, None, false, IfOk, MatchResult};
+ghost use Rattle.std.specs.Prelude.{◌≡◌, ℕ, List, [], Ok, Err, Some, None, false, IfOk};
+ghost use Rattle.std.specs.Prelude.{MatchResult};
 ghost use Rattle.std.specs.Io.KnownBytes.{Appends};
 ghost use Rattle.g1_layout.specs.Shape.{Shape};
 ghost use Rattle.g1_trace.specs.declared.command.Command.{Command};

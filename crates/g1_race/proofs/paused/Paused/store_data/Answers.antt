@@ -1,7 +1,6 @@
 -- A store of data is one of null to the table.
 use Rattle.std.proofs.Common.{List, ◌≡◌, ◌<◌, ◌≤◌, ◌^◌, ℕ, None, set, sym, ap, ◌∙◌, subst, inr}
 use Rattle.g1_layout.specs.declared.kind.Kind.TheVariants.{Null}
-use Rattle.g1_layout.specs.Shape.{slot_count}
 use Rattle.g1_race_words.specs.declared.view.Shape.{Shape}
 use Rattle.g1_race_words.specs.Rule.{IsBegun, started}
 use Rattle.g1_layout.specs.Shape as layout
