@@ -67,7 +67,9 @@ def split(text, at):
 
 
 def equated(clause):
-    """What a clause is an equation of: `result`, or `self.new`; nothing if it is none."""
+    """What a clause is an equation of, also for each value of a name: `result`, or `self.new`;
+    nothing if it is none."""
+    clause = re.sub(r"^\(\w+ : \w+\) → ", "", clause)
     parts = split(clause, "×")
     if len(parts) > 1:
         found = [equated(it) for it in parts]
