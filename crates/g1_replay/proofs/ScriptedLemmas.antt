@@ -37,6 +37,19 @@ list_end : (stop : Stop) → IsReadStop stop ⊎ (stop ≡ NoMemory) → IsUnrea
 list_end stop (inl h) = read_end stop h
 list_end stop (inr e) = subst (λ s. IsUnread (Err s)) (sym e) tt
 
+-- what is written where reading was stopped
+abbrev WrittenAt : Option (List ℕ) → Option (List ℕ) → Stop → Type 0
+WrittenAt out out' stop = Puts out out' (written_by {V = Bool} (Err stop)) []
+
+read_silent : (stop : Stop) (out out' : Option (List ℕ)) → IsReadStop stop → WrittenAt out out' stop → Appends out out' []
+read_silent (Fault f) out out' h w = w
+read_silent ReadFailed out out' h w = w
+read_silent stop out out' h w = absurd h
+
+list_silent : (stop : Stop) (out out' : Option (List ℕ)) → IsReadStop stop ⊎ (stop ≡ NoMemory) → WrittenAt out out' stop → Appends out out' []
+list_silent stop out out' (inl h) w = read_silent stop out out' h w
+list_silent stop out out' (inr e) w = let at : WrittenAt out out' NoMemory = subst (λ s. WrittenAt out out' s) e w in at
+
 -- memory was refused before anything was read
 pub stops_unread : (d : Dialect) (n : ℕ) (rd : Option (List ℕ)) → WasUnread d n n rd rd (Err NoMemory) []
 stops_unread d n rd = record { heap = None; commands = []; ends = tt; read = record { lines = []; rest = []; consumed = Consumes-nil rd; passed = λ x. refl; met = refl }; silent = refl }
