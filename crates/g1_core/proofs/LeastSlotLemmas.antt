@@ -71,7 +71,6 @@ pub record IsLeastFrom (t : Table) (cards : List ℕ) (region past : ℕ) (least
   pub found : IsFoundFrom t region past least
 
 module _ (t : Table) (shape : IsShape t.layout) (region : ℕ) where
-
   -- of all the cards it is the least slot
   pub from_all : (cards : List ℕ) (past : ℕ) (least : Option ℕ) → length t.refs ≡ slot_count t.layout → IsLeastFrom t cards region past least → IsLeastOn t cards region least
   from_all cards past None many h = λ slot on e.

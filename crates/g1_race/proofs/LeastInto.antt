@@ -40,13 +40,16 @@ module _ (k : Shape) {words read : List ℕ} (same : read ≡ words) (region fro
   module _ (card : ℕ) (next : IsNext (is_member k read region) k.cards from (Some card)) {seen : List ℕ} (still : seen ≡ read) where
     -- the least on the next one
     pub least_found : (slot : ℕ) → IsLeastOfCard k seen card region (Some slot) → IsLeastInto k words region (Some slot)
-    least_found slot there = let here = subst (λ (ws : List ℕ). IsLeastOfCard k ws card region (Some slot)) (still ∙ same) there in (here.1, λ q i. elim (cases_lt (slot_card k q) card) [
-      | inl lt ↦ absurd (none_until card next.3 q lt i)
-      | inr le ↦ elim (cases_lt card (slot_card k q)) [
-        | inl past ↦ let a : slot < q = later k slot q h.shaped.1 (let e : slot_card k slot ≡ card = here.0 in omega (arith, e, past)) in omega (arith, a)
-        | inr high ↦ here.2 q (let e : slot_card k q ≡ card = omega (arith, le, high) in e) i
-      ]
-    ])
+    least_found slot there = let here = subst (λ (ws : List ℕ). IsLeastOfCard k ws card region (Some slot)) (still ∙ same) there in (
+      here.1,
+      λ q i. elim (cases_lt (slot_card k q) card) [
+        | inl lt ↦ absurd (none_until card next.3 q lt i)
+        | inr le ↦ elim (cases_lt card (slot_card k q)) [
+          | inl past ↦ let a : slot < q = later k slot q h.shaped.1 (let e : slot_card k slot ≡ card = here.0 in omega (arith, e, past)) in omega (arith, a)
+          | inr high ↦ here.2 q (let e : slot_card k q ≡ card = omega (arith, le, high) in e) i
+        ]
+      ],
+    )
 
     -- none is on the next one
     pub none_past : IsLeastOfCard k seen card region None → (p : ℕ) → slot_card k p < card + 1 → Into k words region p → ⊥
